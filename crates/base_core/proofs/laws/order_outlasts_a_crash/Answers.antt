@@ -1,0 +1,5 @@
+use Rattle.base_core.proofs.Left.{order_lasts}
+use Rattle.base_core.proofs.laws.order_outlasts_a_crash.Goals as goal
+
+pub returns : goal.returns
+returns c = order_lasts

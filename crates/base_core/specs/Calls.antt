@@ -1,0 +1,30 @@
+-- What a call on a tree says of the tree's history and counts.
+use Rattle.std.specs.Prelude.{◌≡◌, ◌⊎◌, ℕ, List, [], ◌∷◌, Result, OnOk, OnErr}
+use Rattle.base_core.specs.Tree.{TreeState}
+use Rattle.base_core.specs.Faults.{Counts, GoesOn, HasCause, risen}
+
+-- A history is the list of a tree's states so far, the newest first. It is empty where the tree tells nothing.
+
+-- if the tree tells a history, P holds of its newest state
+abbrev pub OnTold : List TreeState → (TreeState → Type 0) → Type 0
+OnTold [] P = Unit {0}
+OnTold (v ∷ earlier) P = P v
+
+-- the tree tells a history, and P holds of its newest state
+abbrev pub HasNow : List TreeState → (TreeState → Type 0) → Type 0
+HasNow [] P = ⊥
+HasNow (v ∷ earlier) P = P v
+
+-- a call that succeeds adds the state `done`; one that fails adds the state `failed`, or none
+pub record Moves {T E : Type 0} (done failed : TreeState → TreeState) (old new : List TreeState) (result : Result T E) : Type 0 where
+  pub untold : old ≡ [] → new ≡ []
+  pub ok : OnOk result (OnTold old (λ v. new ≡ done v ∷ old))
+  pub err : OnErr result (OnTold old (λ v. (new ≡ old) ⊎ (new ≡ failed v ∷ old)))
+
+-- no count falls, an error has its cause, a call that succeeds was no misuse, and just the misuses are counted as such
+pub record Counted {T E : Type 0} (can : TreeState → Type 0) (told : List TreeState) (before now : Counts) (result : Result T E) : Type 0 where
+  pub goes_on : GoesOn before now
+  pub cause : OnErr result (HasCause before now)
+  pub allowed : OnOk result (OnTold told can)
+  pub proper : OnTold told (λ v. can v → now.misuses ≡ before.misuses)
+  pub misuse : OnTold told (λ v. (can v → ⊥) → now.misuses ≡ risen before.misuses)

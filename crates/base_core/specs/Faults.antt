@@ -1,0 +1,37 @@
+-- The counts of a tree or a sink: u64 numbers that never fall, and stay at their last value.
+use Rattle.std.specs.Prelude.{◌⊎◌, ◌≤◌, ℕ, ◌+◌, ◌-◌, ◌^◌, min, Bool, IsTrue, Result, OnErr}
+
+pub record Counts : Type 0 where
+  -- calls that failed
+  pub faults : ℕ
+  -- calls that had to fail; a sink has none
+  pub misuses : ℕ
+  -- calls that failed for want of the object's own memory
+  pub wants : ℕ
+  -- whether a call may yet fail for another reason
+  pub fallible : Bool
+
+-- one more
+abbrev pub risen : ℕ → ℕ
+risen n = min (n + 1) (2 ^ 64 - 1)
+
+-- it rose, or stands at its last value
+abbrev pub Rose : ℕ → ℕ → Type 0
+Rose before now = risen before ≤ now
+
+-- no count fell
+pub record GoesOn (before now : Counts) : Type 0 where
+  pub faults : before.faults ≤ now.faults
+  pub misuses : before.misuses ≤ now.misuses
+  pub wants : before.wants ≤ now.wants
+  pub fallible : IsTrue now.fallible → IsTrue before.fallible
+
+-- a failure is counted, and has its reason
+pub record HasCause (before now : Counts) : Type 0 where
+  pub fault : Rose before.faults now.faults
+  pub reason : IsTrue before.fallible ⊎ (Rose before.misuses now.misuses ⊎ Rose before.wants now.wants)
+
+-- no count falls, and each error has its cause
+pub record FailsWithCause {T E : Type 0} (before now : Counts) (result : Result T E) : Type 0 where
+  pub goes_on : GoesOn before now
+  pub cause : OnErr result (HasCause before now)

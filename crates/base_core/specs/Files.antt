@@ -1,0 +1,40 @@
+-- Files by their names, and maps from names.
+use Rattle.std.specs.Prelude.{◌≡◌, ℕ, Bool, true, if◌then◌else◌, List, ◌++◌, ◌∷◌, Option, Some, None, IsSome}
+use Rattle.std.specs.Str.{bytes_eq}
+use Rattle.std.specs.List.{list_any}
+
+-- the bytes under each name, or none where the name is absent
+abbrev pub Files : Type 0
+Files = List ℕ → Option (List ℕ)
+
+-- the number of the file that each name leads to
+abbrev pub NameMap : Type 0
+NameMap = List ℕ → Option ℕ
+
+-- the map with this at a name
+abbrev pub put : {X : Type 0} → (List ℕ → Option X) → List ℕ → X → List ℕ → Option X
+put map name x q = if bytes_eq q name then Some x else map q
+
+-- the map with nothing at a name
+abbrev pub drop_name : {X : Type 0} → (List ℕ → Option X) → List ℕ → List ℕ → Option X
+drop_name map name q = if bytes_eq q name then None else map q
+
+-- the map in which `to` has this, and `from` nothing
+abbrev pub move_name : {X : Type 0} → (List ℕ → Option X) → List ℕ → List ℕ → X → List ℕ → Option X
+move_name map from to x = put (drop_name map from) to x
+
+-- the map with no names
+abbrev pub no_names : {X : Type 0} → List ℕ → Option X
+no_names q = None
+
+-- only names of a list are present
+abbrev pub IsWithin : {X : Type 0} → List (List ℕ) → (List ℕ → Option X) → Type 0
+IsWithin names map = (q : List ℕ) → IsSome (map q) → list_any (bytes_eq q) names ≡ true
+
+-- the first name and a slash begin the second
+abbrev pub IsFolderOf : List ℕ → List ℕ → Type 0
+IsFolderOf folder name = (rest : List ℕ) × (name ≡ folder ++ 47 ∷ rest)
+
+-- no present name is a folder of another
+abbrev pub IsFolderLike : {X : Type 0} → (List ℕ → Option X) → Type 0
+IsFolderLike map = (p q : List ℕ) → IsFolderOf p q → IsSome (map p) → IsSome (map q) → ⊥

@@ -1,0 +1,9 @@
+pub mod Name
+pub mod Files
+pub mod Tree
+pub mod Faults
+pub mod Calls
+pub mod Crash
+pub mod Listed
+pub mod Sink
+pub mod Read

@@ -1,0 +1,21 @@
+-- The listing of a folder.
+use Rattle.std.specs.Prelude.{◌≡◌, ◌↔◌, ℕ, List, Option, IsSome, AllPairs, Contains}
+use Rattle.std.specs.Ordering.{nat_cmp}
+use Rattle.std.specs.Cmp.Lexicographic.{slice_cmp}
+use Rattle.std.specs.declared.cmp.Ordering.TheVariants.{Less}
+use Rattle.base_core.specs.Files.{IsFolderOf}
+use Rattle.base_core.specs.Tree.{TreeState}
+
+-- names in byte order, each once
+abbrev pub IsRising : List (List ℕ) → Type 0
+IsRising names = AllPairs (λ a b. slice_cmp nat_cmp a b ≡ Less) names
+
+-- just the present names, in byte order
+pub record IsNamesOf {X : Type 0} (map : List ℕ → Option X) (names : List (List ℕ)) : Type 0 where
+  pub rising : IsRising names
+  pub each : (q : List ℕ) → Contains names q ↔ IsSome (map q)
+
+-- just the present names below a folder, at any depth, in byte order
+pub record IsListOf (folder : List ℕ) (v : TreeState) (names : List (List ℕ)) : Type 0 where
+  pub rising : IsRising names
+  pub each : (q : List ℕ) → Contains names q ↔ (IsSome (v.names q) × IsFolderOf folder q)

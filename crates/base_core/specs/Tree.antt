@@ -1,0 +1,112 @@
+-- A tree of files at one moment, what each call makes of it, and where a call is a misuse.
+use Rattle.std.specs.Prelude.{◌≡◌, ◌⊎◌, ◌≢◌, ◌≤◌, ◌<◌, ℕ, ◌+◌, Bool, true, false, if◌then◌else◌, ◌==◌, List, [], ◌∷◌, ◌++◌, Option, Some, None, IsSome, length}
+use Rattle.base_core.specs.Files.{Files, NameMap, put, drop_name, move_name, IsFolderLike, IsWithin}
+
+-- a file: its bytes as read, and whether a crash leaves just these
+pub record File : Type 0 where
+  pub bytes : List ℕ
+  pub synced : Bool
+
+-- the files by number and how many were made; the names as read, and the maps of names before, since the names were last synced, the newest first
+pub record TreeState : Type 0 where
+  pub files : ℕ → File
+  pub made : ℕ
+  pub names : NameMap
+  pub older : List NameMap
+
+-- the bytes under a number, if there is one
+abbrev pub bytes_at : (ℕ → File) → Option ℕ → Option (List ℕ)
+bytes_at files None = None
+bytes_at files (Some n) = Some (files n).bytes
+
+-- the files by one map of names
+abbrev pub files_by : TreeState → NameMap → Files
+files_by v map q = bytes_at v.files (map q)
+
+-- the files as read
+abbrev pub files_of : TreeState → Files
+files_of v = files_by v v.names
+
+-- ---- what the calls make of it
+
+abbrev pub set_file : (ℕ → File) → ℕ → File → ℕ → File
+set_file files n file k = if k == n then file else files k
+
+abbrev pub change_at : (File → File) → TreeState → Option ℕ → TreeState
+change_at change v None = v
+change_at change v (Some n) = record v { files = set_file v.files n (change (v.files n)) }
+
+-- one more map of names
+abbrev pub with_names : TreeState → NameMap → TreeState
+with_names v names = record v { names = names; older = v.names ∷ v.older }
+
+abbrev pub after_create : List ℕ → TreeState → TreeState
+after_create name v = record {
+  files = set_file v.files v.made (record { bytes = []; synced = false });
+  made = v.made + 1;
+  names = put v.names name v.made;
+  older = v.names ∷ v.older;
+}
+
+abbrev pub after_append : List ℕ → List ℕ → TreeState → TreeState
+after_append name piece v = change_at (λ f. record { bytes = f.bytes ++ piece; synced = false }) v (v.names name)
+
+-- one that failed may have left the file unsynced
+abbrev pub after_failed_append : List ℕ → TreeState → TreeState
+after_failed_append name v = change_at (λ f. record { bytes = f.bytes; synced = false }) v (v.names name)
+
+abbrev pub after_sync : List ℕ → TreeState → TreeState
+after_sync name v = change_at (λ f. record { bytes = f.bytes; synced = true }) v (v.names name)
+
+abbrev pub move_at : List ℕ → List ℕ → TreeState → Option ℕ → TreeState
+move_at from to v None = v
+move_at from to v (Some n) = with_names v (move_name v.names from to n)
+
+abbrev pub after_rename : List ℕ → List ℕ → TreeState → TreeState
+after_rename from to v = move_at from to v (v.names from)
+
+abbrev pub remove_at : List ℕ → TreeState → Option ℕ → TreeState
+remove_at name v None = v
+remove_at name v (Some n) = with_names v (drop_name v.names name)
+
+abbrev pub after_remove : List ℕ → TreeState → TreeState
+after_remove name v = remove_at name v (v.names name)
+
+abbrev pub after_sync_names : TreeState → TreeState
+after_sync_names v = record v { older = [] }
+
+-- ---- where a call is no misuse
+
+abbrev pub Anywhere : TreeState → Type 0
+Anywhere v = Unit {0}
+
+abbrev pub HasName : List ℕ → TreeState → Type 0
+HasName name v = IsSome (v.names name)
+
+-- the file is there, and has so many bytes from this place on
+abbrev pub CanRead : List ℕ → ℕ → ℕ → TreeState → Type 0
+CanRead name at len v = (bytes : List ℕ) × (files_of v name ≡ Some bytes) × (at + len ≤ length bytes)
+
+pub record CanCreate (name : List ℕ) (v : TreeState) : Type 0 where
+  pub absent : v.names name ≡ None
+  pub folders : IsFolderLike (put v.names name v.made)
+
+pub record CanRename (from to : List ℕ) (v : TreeState) : Type 0 where
+  pub present : IsSome (v.names from)
+  pub apart : from ≢ to
+  pub folders : IsFolderLike (put (drop_name v.names from) to 0)
+
+-- ---- the maps of names
+
+abbrev pub IsAmong : NameMap → List NameMap → Type 0
+IsAmong map [] = ⊥
+IsAmong map (x ∷ xs) = (map ≡ x) ⊎ IsAmong map xs
+
+-- one of the maps that a crash may leave: the one as read, or one since the names were last synced
+abbrev pub IsMapOf : TreeState → NameMap → Type 0
+IsMapOf v map = IsAmong map (v.names ∷ v.older)
+
+-- each map has finitely many names, and each number that it leads to was made
+pub record IsWhole (v : TreeState) : Type 0 where
+  pub finite : (map : NameMap) → IsMapOf v map → (names : List (List ℕ)) × IsWithin names map
+  pub made : (map : NameMap) → IsMapOf v map → (q : List ℕ) (n : ℕ) → map q ≡ Some n → n < v.made

@@ -1,0 +1,29 @@
+//! The base of every other room: names, texts and words; the traits of the outside, `Tree` and `Sink`, with what
+//! their calls mean; whole reads and writes; and the causes for which a container is refused.
+//!
+//! Bytes come in and leave as `Name`, `Text`, `Words` or `Names`. The contracts cite `Name` (what a name is),
+//! `Tree`, `Calls` and `Crash` (the states of a tree and what a crash leaves of it), `Faults` (the counts) and
+//! `Sink` of `specs/`.
+#![tactic(auto)]
+
+mod cause;
+mod laws;
+mod name;
+mod sink;
+mod text;
+mod tree;
+mod whole;
+
+pub use cause::{Cause, Digest};
+pub use laws::{
+    a_crash_leaves_order, a_crash_may_leave_the_files_as_read, a_crash_settles,
+    order_outlasts_a_crash,
+};
+pub use name::{Name, Names};
+pub use sink::{Sink, SinkFault};
+pub use text::{Text, Words};
+pub use tree::{Disk, Tree, TreeFault};
+pub use whole::{read_all, write_all};
+
+#[cfg(test)]
+mod tests;

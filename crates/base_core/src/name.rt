@@ -1,0 +1,146 @@
+ghost use Rattle.std.specs.Prelude.{◌≡◌, ◌<◌, ◌==◌, ◌++◌, ◌∷◌, [], length, slice_get, Some, IfOk, IfSome, OnOk, OnErr, is_some};
+ghost use Rattle.std.specs.List.{list_all};
+ghost use Rattle.std.specs.Str.{is_utf8};
+ghost use Rattle.base_core.specs.Name.{IsName, is_name, is_part, parts_of};
+
+use std::alloc::{AllocError, Global};
+use std::marker::Model;
+use std::str;
+
+/// A path seen as its bytes: UTF-8, 1 to 1,024 bytes, parts separated by `/`, no part empty, `.` or `..`, no zero
+/// byte. It is relative to the root that a tree stands for.
+#[derive(Drop)]
+pub struct Name {
+    bytes: Vec<u8>,
+}
+
+impl Model for Name {
+    ghost use Rattle.std.specs.Prelude.{ℕ, List};
+    ghost use Rattle.base_core.specs.Name.{IsName};
+
+    ghost Value = { List ℕ };
+
+    ghost view = { λ name. name.bytes.items };
+
+    ghost invariant = { λ name. IsName name.bytes.items };
+}
+
+impl Name {
+    /// The name that the bytes are. None comes exactly where they are no name.
+    pub fn read(alloc: Global, bytes: &[u8]) -> Result<Option<Name>, AllocError>
+        ensures when { IfOk result (λ found. is_some found ≡ is_name bytes.now) }
+        ensures value { IfOk result (λ found. IfSome found (λ name. name ≡ bytes.now)) }
+    {
+        if !is_name(bytes) {
+            return Ok(None);
+        }
+        let bytes = Vec::from_slice(alloc, bytes)?;
+        Ok(Some(Name { bytes }))
+    }
+
+    /// The bytes of the name.
+    pub fn as_bytes(&self) -> &[u8]
+        ensures value { result.now ≡ self.now }
+        ensures name { IsName self.now }
+    {
+        &self.bytes
+    }
+
+    /// An equal name.
+    pub fn copy(&self, alloc: Global) -> Result<Name, AllocError>
+        ensures { IfOk result (λ name. name ≡ self.now) }
+    {
+        let bytes = Vec::from_slice(alloc, &self.bytes)?;
+        Ok(Name { bytes })
+    }
+}
+
+#[tactic(auto, unfolding(crate::specs::Name::is_name))]
+fn is_name(bytes: &[u8]) -> bool
+    ensures { result ≡ is_name bytes.now }
+{
+    if bytes.is_empty() || bytes.len() > 1024 {
+        return false;
+    }
+    if bytes.contains(&0) || !is_text(bytes) {
+        return false;
+    }
+    has_parts(bytes)
+}
+
+fn has_parts(bytes: &[u8]) -> bool
+    ensures { result ≡ list_all is_part (parts_of bytes.now) }
+{
+    bytes.split(|b| *b == b'/').all(|part| is_part(part))
+}
+
+fn is_text(bytes: &[u8]) -> bool
+    ensures { result ≡ is_utf8 bytes.now }
+{
+    match str::from_utf8(bytes) {
+        Ok(_) => true,
+        Err(_) => false,
+    }
+}
+
+fn is_part(part: &[u8]) -> bool
+    ensures { result ≡ is_part part.now }
+{
+    !part.is_empty() && part != b".".as_slice() && part != b"..".as_slice()
+}
+
+/// A list of names.
+#[derive(Drop)]
+pub struct Names {
+    names: Vec<Name>,
+}
+
+impl Model for Names {
+    ghost use Rattle.std.specs.Prelude.{ℕ, List};
+
+    ghost Value = { List (List ℕ) };
+
+    ghost view = { λ names. names.names.items };
+}
+
+impl Names {
+    /// No names.
+    pub fn new(alloc: Global) -> Names
+        ensures { result ≡ [] }
+    {
+        Names {
+            names: Vec::new(alloc),
+        }
+    }
+
+    /// Adds a name at the end. A refused push drops it and leaves the list as it was.
+    pub fn push(&mut self, name: Name) -> Result<(), AllocError>
+        ensures ok { OnOk result (self.new ≡ self.old ++ name ∷ []) }
+        ensures err { OnErr result (self.new ≡ self.old) }
+    {
+        self.names.push(name)?;
+        Ok(())
+    }
+
+    /// How many names there are.
+    pub fn len(&self) -> usize
+        ensures { result ≡ length self.now }
+    {
+        self.names.len()
+    }
+
+    /// Whether there is no name.
+    pub fn is_empty(&self) -> bool
+        ensures { result ≡ (length self.now == 0) }
+    {
+        self.names.is_empty()
+    }
+
+    /// The name at a place, counted from 0.
+    pub fn get(&self, i: usize) -> &Name
+        requires { i < length self.now }
+        ensures { slice_get self.now i ≡ Some result.now }
+    {
+        &self.names[i]
+    }
+}

@@ -1,0 +1,26 @@
+ghost use Rattle.std.specs.Prelude.{◌≡◌, ◌<◌, ◌^◌, List, ℕ, Option, take, IfOk, OnErr};
+ghost use Rattle.base_core.specs.Faults.{Counts, FailsWithCause};
+ghost use Rattle.base_core.specs.Sink.{Adds, IsTaken};
+
+use thiserror::Error;
+
+/// A sink failed.
+#[derive(Clone, Copy, Debug, PartialEq, Eq, Error)]
+#[error("the sink failed")]
+pub struct SinkFault;
+
+/// What takes bytes at its end.
+pub trait Sink {
+    /// The bytes written, where the sink tells them.
+    ghost bytes: { Self → Option (List ℕ) };
+
+    /// How often a write failed.
+    ghost counts: { Self → Counts };
+
+    /// Takes a front of the piece, at least one byte where there is one.
+    fn write(&mut self, piece: &[u8]) -> Result<usize, SinkFault>
+        ensures taken { IfOk result (λ n. IsTaken n piece.now) }
+        ensures added { IfOk result (λ n. Adds (bytes self.old) (bytes self.new) (take n piece.now)) }
+        ensures unchanged { OnErr result (bytes self.new ≡ bytes self.old) }
+        ensures cause { FailsWithCause (counts self.old) (counts self.new) result };
+}

@@ -1,0 +1,99 @@
+ghost use Rattle.std.specs.Prelude.{◌≡◌, ◌<◌, [], ◌∷◌, ◌++◌, length, IfOk, OnOk, OnErr, slice_get, Some, ◌==◌};
+
+use std::alloc::{AllocError, Global};
+use std::marker::Model;
+
+/// An owned byte text.
+#[derive(Drop)]
+pub struct Text {
+    bytes: Vec<u8>,
+}
+
+impl Model for Text {
+    ghost use Rattle.std.specs.Prelude.{ℕ, List};
+
+    ghost Value = { List ℕ };
+
+    ghost view = { λ text. text.bytes.items };
+}
+
+impl Text {
+    /// A copy of the bytes.
+    pub fn of(alloc: Global, bytes: &[u8]) -> Result<Text, AllocError>
+        ensures { IfOk result (λ text. text ≡ bytes.now) }
+    {
+        let bytes = Vec::from_slice(alloc, bytes)?;
+        Ok(Text { bytes })
+    }
+
+    /// The bytes of the text.
+    pub fn as_bytes(&self) -> &[u8]
+        ensures { result.now ≡ self.now }
+    {
+        &self.bytes
+    }
+}
+
+/// The words of a command line, without the program's name: at most 4,294,967,294, so that places, counted from 1,
+/// and the place behind the last one are u32 numbers.
+#[derive(Drop)]
+pub struct Words {
+    alloc: Global,
+    words: Vec<Text>,
+}
+
+impl Model for Words {
+    ghost use Rattle.std.specs.Prelude.{ℕ, List, length, ◌<◌};
+
+    ghost Value = { List (List ℕ) };
+
+    ghost view = { λ words. words.words.items };
+
+    ghost invariant = { λ words. length words.words.items < 4294967295 };
+}
+
+impl Words {
+    /// No words.
+    pub fn new(alloc: Global) -> Words
+        ensures { result ≡ [] }
+    {
+        Words {
+            alloc,
+            words: Vec::new(alloc),
+        }
+    }
+
+    /// Adds a copy of the word. A refused push changes nothing.
+    pub fn push(&mut self, word: &[u8]) -> Result<(), AllocError>
+        requires { length self.old < 4294967294 }
+        ensures ok { OnOk result (self.new ≡ self.old ++ word.now ∷ []) }
+        ensures err { OnErr result (self.new ≡ self.old) }
+    {
+        let text = Text::of(self.alloc, word)?;
+        self.words.push(text)?;
+        Ok(())
+    }
+
+    /// How many words there are.
+    pub fn len(&self) -> usize
+        ensures value { result ≡ length self.now }
+        ensures small { result < 4294967295 }
+    {
+        self.words.len()
+    }
+
+    /// Whether there is no word.
+    pub fn is_empty(&self) -> bool
+        ensures { result ≡ (length self.now == 0) }
+    {
+        self.words.is_empty()
+    }
+
+    /// The word at a place, counted from 0.
+    pub fn word(&self, i: usize) -> &[u8]
+        requires { i < length self.now }
+        ensures { slice_get self.now i ≡ Some result.now }
+    {
+        self.words[i].as_bytes()
+    }
+}
