@@ -1,5 +1,5 @@
 -- What a crash leaves.
-use Rattle.std.proofs.Common.{◌≡◌, ◌⊎◌, inl, inr, ℕ, Bool, true, List, [], ◌∷◌, Option, None, Some, refl, sym, ap, subst, ◌∙◌}
+use Rattle.std.proofs.Common.{◌≡◌, inl, inr, ℕ, Bool, true, List, [], ◌∷◌, Option, None, Some, refl, sym, ap, ◌∙◌}
 use Rattle.base_core.specs.Files.{Files, NameMap}
 use Rattle.base_core.specs.Tree.{TreeState, File, IsAmong, IsMapOf, bytes_at, files_by, files_of}
 use Rattle.base_core.specs.Crash.{MayLeave, IsImageBy, IsImage, IsCrashOf, IsOrderly}
