@@ -1,0 +1,7 @@
+pub mod Choices
+pub mod Sound
+pub mod Again
+pub mod Runs
+pub mod Calls
+pub mod WholeFiles
+mod Rows

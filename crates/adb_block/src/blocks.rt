@@ -1,0 +1,117 @@
+ghost use Rattle.std.specs.Prelude.{◌≡◌, ◌↔◌, [], drop, IfOk, IfErr, IfSome, IfNone, IsNone, OnErr};
+ghost use Rattle.adb_block.specs.Header.{header_of};
+ghost use Rattle.adb_block.specs.Standing.{start_of, next_offset};
+ghost use Rattle.adb_block.specs.Reading.{blocks_of, rest_of, reading_of};
+
+use crate::block::{Block, BlockKind};
+use crate::frame::frame_at;
+use crate::header::read_header;
+use base_core::Cause;
+use std::marker::Model;
+
+/// The blocks of a file, from the front. Contracts see where the reader stands: `Standing` of `specs/`.
+#[derive(Drop)]
+pub struct Blocks<'a> {
+    bytes: &'a [u8],
+    schema: u32,
+    last: Option<BlockKind>,
+    at: usize,
+}
+
+impl<'a> Model for Blocks<'a> {
+    ghost use Rattle.std.specs.Prelude.{◌≤◌, ◌+◌, length, drop};
+    ghost use Rattle.adb_block.specs.Standing.{Standing};
+
+    ghost Value = { Standing };
+
+    ghost view = { λ b. record { schema = b.schema; last = b.last; at = b.at; left = drop b.at b.bytes.now } };
+
+    ghost invariant = { λ b. b.at ≤ length b.bytes.now + 8 };
+}
+
+impl<'a> Blocks<'a> {
+    ghost use Rattle.adb_block.specs.Reader.{Continues, IsStep, Advances, Ends, IsRead, IsRest, IsWhole};
+
+    /// Reads the header of a file (apk-v3(5)): the four bytes `ADB.` and the schema. The first failed test is told:
+    /// fewer than 4 bytes are truncated at 0, `ADBd` and `ADBc` begin a compressed file, anything else than `ADB.` is no
+    /// container, and fewer than 8 bytes are truncated at 0.
+    #[tactic(auto, unfolding(crate::specs::Reading::blocks_of))]
+    pub fn new(bytes: &'a [u8]) -> Result<Blocks<'a>, Cause>
+        ensures ok { IfOk result (λ blocks. header_of bytes.entry.now ≡ Ok blocks.schema) }
+        ensures start { IfOk result (λ blocks. blocks ≡ start_of blocks.schema bytes.entry.now) }
+        ensures cause { IfErr result (λ cause. header_of bytes.entry.now ≡ Err cause) }
+        // What a caller's loop over all blocks begins with.
+        ensures rest { IsWhole (blocks_of bytes.entry.now) result }
+    {
+        let schema = read_header(bytes)?;
+        Ok(Blocks {
+            bytes,
+            schema,
+            last: None,
+            at: 8,
+        })
+    }
+
+    /// The schema in the file's header.
+    pub fn schema(&self) -> u32
+        ensures { result ≡ self.now.schema }
+    {
+        self.schema
+    }
+
+    /// The next block, or None exactly at the end. Else the first failed test is told, with the block's offset: the file
+    /// has no block, or its header is not whole (truncated); its type is unknown or stands where it may not (block
+    /// order); its raw size is below its header's or past the file's end, or an ADB payload has fewer than 8 bytes
+    /// (truncated). After an error the reader stands where it stood, so the same error comes again.
+    pub fn next(&mut self) -> Result<Option<Block<'a>>, Cause>
+        // The blocks of the grammar and no others.
+        ensures blocks { Continues self.old result self.new }
+        // The first failed test, or the block that passed them all.
+        ensures exact { IsStep self.old result self.new }
+
+        // A block as the file has it, or None exactly where nothing is left.
+        ensures found { IfOk result (λ found. IfSome found (λ block. Advances self.old block self.new)) }
+        ensures end { IfOk result (λ found. IsNone found ↔ (self.old.left ≡ [])) }
+
+        ensures none { IfOk result (λ found. IfNone found (Ends self.old self.new)) }
+        ensures err { OnErr result (self.new ≡ self.old) }
+
+        // What a caller's loop over all blocks goes on with.
+        ensures reading { IsRead (reading_of self.old) result (reading_of self.new) }
+        ensures rest { IsRest (rest_of self.old) result (rest_of self.new) }
+    {
+        let at = self.at as u64;
+        let left = left_from(self.bytes, self.at);
+        match frame_at(self.last, at, left) {
+            Err(cause) => Err(cause),
+            Ok(None) => Ok(None),
+            Ok(Some(frame)) => {
+                self.at += frame.size;
+                self.last = Some(frame.kind);
+                Ok(Some(Block {
+                    kind: frame.kind,
+                    payload: frame.payload,
+                    at,
+                }))
+            }
+        }
+    }
+
+    /// The offset of the next block, or None exactly where that is at or past the file's end.
+    pub fn next_at(&self) -> Option<u64>
+        ensures { result ≡ next_offset self.now }
+    {
+        if self.at < self.bytes.len() {
+            Some(self.at as u64)
+        } else {
+            None
+        }
+    }
+}
+
+/// The bytes from an offset on.
+fn left_from(bytes: &[u8], at: usize) -> &[u8]
+    ensures { result.now ≡ drop at bytes.now }
+{
+    if at < bytes.len() { &bytes[at..] } else { &[] }
+}

@@ -1,0 +1,20 @@
+//! The blocks of an ADB container (apk-v3(5)), one after the other, lent from the file's bytes. No memory is taken.
+//!
+//! The bytes of a file come in; `Blocks` gives its schema and its blocks, or the first test that failed. The contracts
+//! cite `Container` (the grammar of whole files), `Header` and `Framing` (the tests in their order), `Standing` (where a
+//! reader stands) and `Reading` (all that is read from there) of `specs/`.
+#![tactic(auto)]
+
+mod block;
+mod blocks;
+mod frame;
+mod header;
+mod laws;
+mod number;
+
+pub use block::{Block, BlockKind};
+pub use blocks::Blocks;
+pub use laws::{a_container_has_one_reading, what_is_read_is_spelled, what_is_spelled_is_read};
+
+#[cfg(test)]
+mod tests;

@@ -1,0 +1,4 @@
+pub mod Words
+pub mod Found
+pub mod Normal
+pub mod Worked

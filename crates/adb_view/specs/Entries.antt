@@ -1,0 +1,12 @@
+-- What the two views of a run show: the words of its entries.
+use Rattle.std.specs.Prelude.{ℕ, ◌/◌, List, length}
+use Rattle.adb_view.specs.Bytes.{words}
+use Rattle.adb_view.specs.declared.run.Arr.{Arr}
+use Rattle.adb_view.specs.declared.run.Obj.{Obj}
+
+abbrev pub array_entries : Arr → List ℕ
+array_entries array = words (length array.bytes.now / 4) array.bytes.now
+
+-- those past its fields too
+abbrev pub object_entries : {N : ℕ} → Obj N → List ℕ
+object_entries object = array_entries object.entries

@@ -1,0 +1,17 @@
+-- A call's answer, seen by a view, is what a definition gives.
+use Rattle.std.specs.Prelude.{◌≡◌, Result, Ok, Err, Option, Some, None}
+use Rattle.base_core.specs.declared.cause.Cause.{Cause}
+
+abbrev pub Gives : {X Y : Type 0} → (X → Y) → Result X Cause → Result Y Cause → Type 0
+Gives view (Ok x) answer = answer ≡ Ok (view x)
+Gives view (Err c) answer = answer ≡ Err c
+
+-- the same of an Option
+abbrev pub Finds : {X Y : Type 0} → (X → Y) → Option X → Option Y → Type 0
+Finds view (Some x) answer = answer ≡ Some (view x)
+Finds view None answer = answer ≡ None
+
+-- the cause of a refusal, if the answer is one
+abbrev pub cause_of : {A : Type 0} → Result A Cause → Option Cause
+cause_of (Ok x) = None
+cause_of (Err c) = Some c

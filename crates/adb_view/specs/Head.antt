@@ -1,0 +1,15 @@
+-- The eight bytes before the values: the compatibility version, three bytes that nobody looks at, and the root's word.
+use Rattle.std.specs.Prelude.{ℕ, List, length, take, drop, slice_index, Option, Some, None, nat_lt, ◌==◌, if◌then◌else◌}
+use Rattle.std.specs.Int.{w32, from_le_bytes}
+use Rattle.base_core.specs.declared.cause.Cause.{Cause}
+use Rattle.base_core.specs.declared.cause.Cause.TheVariants.{Truncated, CompatVersion}
+
+-- the first fault of a payload's head
+abbrev pub head_fault : List ℕ → Option Cause
+head_fault payload =
+    if nat_lt (length payload) 8 then Some (Truncated 0)
+    else if slice_index payload 0 == 0 then None
+    else Some CompatVersion
+
+abbrev pub root_of : List ℕ → ℕ
+root_of payload = from_le_bytes w32 (take 4 (drop 4 payload))

@@ -1,0 +1,9 @@
+pub mod Bytes
+pub mod Readers
+pub mod Head
+pub mod Plain
+pub mod Visits
+pub mod Gives
+pub mod Adb
+pub mod Entries
+pub mod Width

@@ -1,0 +1,111 @@
+-- Plain values, the shapes that tables of fields give them, and the plain value of a word.
+use Rattle.std.specs.Prelude.{◌≡◌, ◌≢◌, ℕ, ◌<◌, ◌^◌, List, [], ◌∷◌, Option, Some, None, option_map, option_and_then, Result, Ok, Err, ◌==◌, if◌then◌else◌}
+use Rattle.adb_view.specs.Readers.{int_of, blob_of, run_of, ARRAY, OBJECT}
+use Rattle.adb_view.specs.Head.{root_of}
+use Rattle.base_core.specs.declared.cause.Cause.{Cause}
+
+mutual
+  pub data Plain : Type 0 where
+    null : Plain
+    int : ℕ → Plain
+    blob : List ℕ → Plain
+    arr : Plains → Plain
+    obj : Plains → Plain
+
+  pub data Plains : Type 0 where
+    none : Plains
+    more : Plain → Plains → Plains
+
+-- What a field may hold. An object has its schema's number, and a name and a shape for each field.
+mutual
+  pub data Shape : Type 0 where
+    number : Shape
+    text : Shape
+    hash : Shape
+    array : Shape → Shape
+    object : ℕ → Fields → Shape
+
+  pub data Fields : Type 0 where
+    no_fields : Fields
+    field : List ℕ → Shape → Fields → Fields
+
+-- ---- an empty blob or array, and an object without a value, are Null
+
+abbrev pub blob_value : List ℕ → Plain
+blob_value [] = null
+blob_value (b ∷ bs) = blob (b ∷ bs)
+
+abbrev pub arr_value : Plains → Plain
+arr_value none = null
+arr_value (more v vs) = arr (more v vs)
+
+abbrev pub obj_of : Plains → Plain
+obj_of none = null
+obj_of (more v vs) = obj (more v vs)
+
+-- a value in front, but no Null that would stand last
+abbrev pub keep : Plain → Plains → Plains
+keep null none = none
+keep null (more v vs) = more null (more v vs)
+keep (int n) vs = more (int n) vs
+keep (blob b) vs = more (blob b) vs
+keep (arr us) vs = more (arr us) vs
+keep (obj us) vs = more (obj us) vs
+
+-- without the Nulls that stand last
+abbrev pub trimmed : Plains → Plains
+trimmed none = none
+trimmed (more v vs) = keep v (trimmed vs)
+
+abbrev pub obj_value : Plains → Plain
+obj_value vs = obj_of (trimmed vs)
+
+-- ---- the plain value of a word under a shape
+
+-- Null stands for NULL, whatever the shape
+abbrev pub unless_null : ℕ → Option Plain → Option Plain
+unless_null word v = if word == 0 then Some null else v
+
+abbrev pub found : {A B : Type 0} → (A → Option B) → Result A Cause → Option B
+found f (Ok x) = f x
+found f (Err c) = None
+
+abbrev pub then_more : Option Plain → Option Plains → Option Plains
+then_more v vs = option_and_then (λ v. option_map (more v) vs) v
+
+abbrev pub each_plain : (ℕ → Option Plain) → List ℕ → Option Plains
+each_plain f [] = Some none
+each_plain f (w ∷ ws) = then_more (f w) (each_plain f ws)
+
+unfoldable mutual
+  pub plain_of : List ℕ → Shape → ℕ → Option Plain
+  plain_of p number w = unless_null w (found (λ n. Some (int n)) (int_of p w))
+  plain_of p text w = unless_null w (found (λ b. Some (blob_value b)) (blob_of p w))
+  plain_of p hash w = unless_null w (found (λ b. Some (blob_value b)) (blob_of p w))
+  plain_of p (array s) w = unless_null w (found (λ ws. option_map arr_value (each_plain (plain_of p s) ws)) (run_of ARRAY p w))
+  plain_of p (object schema fs) w = unless_null w (found (λ ws. option_map obj_value (plains_of p fs ws)) (run_of OBJECT p w))
+
+  -- entries past the fields are not looked at
+  pub plains_of : List ℕ → Fields → List ℕ → Option Plains
+  plains_of p no_fields ws = Some none
+  plains_of p (field name s fs) [] = Some none
+  plains_of p (field name s fs) (w ∷ ws) = then_more (plain_of p s w) (plains_of p fs ws)
+
+-- the plain value of a payload, whose root has this shape
+abbrev pub value_of : List ℕ → Shape → Option Plain
+value_of p s = plain_of p s (root_of p)
+
+-- ---- normal values
+
+-- integers below 2 ^ 64, no empty blob or list, and no Null that stands last in an object
+unfoldable mutual
+  pub IsNormal : Plain → Type 0
+  IsNormal null = Unit {0}
+  IsNormal (int n) = n < 2 ^ 64
+  IsNormal (blob b) = b ≢ []
+  IsNormal (arr vs) = (vs ≢ none) × AreNormal vs
+  IsNormal (obj vs) = (vs ≢ none) × (trimmed vs ≡ vs) × AreNormal vs
+
+  pub AreNormal : Plains → Type 0
+  AreNormal none = Unit {0}
+  AreNormal (more v vs) = IsNormal v × AreNormal vs

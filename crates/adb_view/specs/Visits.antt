@@ -1,0 +1,44 @@
+-- The words that a walk over a value visits, and whether each can be read.
+use Rattle.std.specs.Prelude.{ℕ, Bool, is_none, List, [], ◌∷◌, ◌++◌, Option, Result, Ok, Err}
+use Rattle.adb_view.specs.Plain.{Shape, number, text, hash, array, object, Fields, no_fields, field}
+use Rattle.adb_view.specs.Readers.{int_of, blob_of, run_of, ARRAY, OBJECT}
+use Rattle.adb_view.specs.Gives.{cause_of}
+use Rattle.base_core.specs.declared.cause.Cause.{Cause}
+
+pub record Visit : Type 0 where
+  pub shape : Shape
+  pub word : ℕ
+
+-- the entries below a word; a faulty word has none
+abbrev pub or_empty : Result (List ℕ) Cause → List ℕ
+or_empty (Ok ws) = ws
+or_empty (Err c) = []
+
+abbrev pub each_visit : (ℕ → List Visit) → List ℕ → List Visit
+each_visit f [] = []
+each_visit f (w ∷ ws) = f w ++ each_visit f ws
+
+-- depth first: a word, then its entries in order; of an object those that have a field
+unfoldable mutual
+  pub visits : List ℕ → Shape → ℕ → List Visit
+  visits p number w = record { shape = number; word = w } ∷ []
+  visits p text w = record { shape = text; word = w } ∷ []
+  visits p hash w = record { shape = hash; word = w } ∷ []
+  visits p (array s) w = record { shape = array s; word = w } ∷ each_visit (visits p s) (or_empty (run_of ARRAY p w))
+  visits p (object schema fs) w = record { shape = object schema fs; word = w } ∷ field_visits p fs (or_empty (run_of OBJECT p w))
+
+  pub field_visits : List ℕ → Fields → List ℕ → List Visit
+  field_visits p no_fields ws = []
+  field_visits p (field name s fs) [] = []
+  field_visits p (field name s fs) (w ∷ ws) = visits p s w ++ field_visits p fs ws
+
+-- why the reader of this shape refuses the word, if it does
+abbrev pub fault_at : List ℕ → Shape → ℕ → Option Cause
+fault_at p number w = cause_of (int_of p w)
+fault_at p text w = cause_of (blob_of p w)
+fault_at p hash w = cause_of (blob_of p w)
+fault_at p (array s) w = cause_of (run_of ARRAY p w)
+fault_at p (object schema fs) w = cause_of (run_of OBJECT p w)
+
+abbrev pub is_sound_visit : List ℕ → Visit → Bool
+is_sound_visit p v = is_none (fault_at p v.shape v.word)

@@ -1,0 +1,11 @@
+-- The widths of the numbers in a payload.
+use Rattle.std.specs.Int.{w8, w16, w32, w64}
+use Rattle.std.specs.Int as I
+use Rattle.adb_view.specs.declared.bytes.Width.{Width}
+use Rattle.adb_view.specs.declared.bytes.Width.TheVariants.{One, Two, Four, Eight}
+
+abbrev pub width_of : Width → I.Width
+width_of One = w8
+width_of Two = w16
+width_of Four = w32
+width_of Eight = w64

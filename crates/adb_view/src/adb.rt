@@ -1,0 +1,124 @@
+ghost use Rattle.std.specs.Prelude.{◌≡◌, ◌≤◌, length, IfOk};
+ghost use Rattle.adb_view.specs.Head.{head_fault, root_of};
+ghost use Rattle.adb_view.specs.Readers.{int_of, blob_of, run_of, ARRAY, OBJECT};
+ghost use Rattle.adb_view.specs.Gives.{Gives, cause_of};
+
+use crate::bytes::{Width, counted, number};
+use crate::run::{Arr, Obj};
+use crate::val::{Val, kind};
+use base_core::Cause;
+
+/// The bytes before the values.
+const HEAD: usize = 8;
+
+/// An ADB payload (apk-v3(5)) whose head has been tested.
+#[derive(Clone, Copy)]
+pub struct Adb<'a> {
+    payload: &'a [u8],
+    ghost whole: { 8 ≤ length payload.now },
+}
+
+impl<'a> Adb<'a> {
+    ghost use Rattle.adb_view.specs.Adb.{payload_of};
+    ghost use Rattle.adb_view.specs.Entries.{array_entries, object_entries};
+
+    /// Tests the payload's head: it has at least 8 bytes, and the compatibility version 0.
+    ///
+    /// # Errors
+    ///
+    /// `Truncated` at 0 where there are fewer than 8 bytes, else `CompatVersion` where the first is not 0.
+    pub fn new(payload: &'a [u8]) -> Result<Adb<'a>, Cause>
+        ensures exact { cause_of result ≡ head_fault payload.now }
+        ensures lent { IfOk result (λ adb. payload_of adb ≡ payload.now) }
+    {
+        if payload.len() < HEAD {
+            return Err(Cause::Truncated { at: 0 });
+        }
+        if payload[0] != 0 {
+            return Err(Cause::CompatVersion);
+        }
+        Ok(Adb { payload })
+    }
+
+    /// The whole payload, the head with it.
+    pub fn payload(&self) -> &'a [u8]
+        ensures { result.now ≡ payload_of self.now }
+    {
+        self.payload
+    }
+
+    /// The root value.
+    pub fn root(&self) -> Val
+        ensures { result ≡ root_of (payload_of self.now) }
+    {
+        let payload = self.payload;
+        Val::of(u32::from_le_bytes([payload[4], payload[5], payload[6], payload[7]]))
+    }
+
+    /// The integer that the value is; NULL is 0.
+    ///
+    /// # Errors
+    ///
+    /// `WrongKind` where it is no integer, else `Outside` where its bytes leave the payload.
+    #[tactic(auto, unfolding(crate::specs::Readers::int_of))]
+    pub fn int(&self, v: Val) -> Result<u64, Cause>
+        ensures { result ≡ int_of (payload_of self.now) v }
+    {
+        if v.is_null() {
+            return Ok(0);
+        }
+        let word = v.word();
+        let found = match v.kind() {
+            kind::INT => Some(u64::from(v.low())),
+            kind::INT_32 => number(self.payload, v.low() as usize, Width::Four),
+            kind::INT_64 => number(self.payload, v.low() as usize, Width::Eight),
+            _ => return Err(Cause::WrongKind { word }),
+        };
+        found.ok_or(Cause::Outside { word })
+    }
+
+    /// The bytes of the blob that the value is, as they stand in the payload; NULL is empty.
+    ///
+    /// # Errors
+    ///
+    /// `WrongKind` where it is no blob, else `Outside` where its bytes leave the payload.
+    #[tactic(auto, unfolding(crate::specs::Readers::blob_of))]
+    pub fn blob(&self, v: Val) -> Result<&'a [u8], Cause>
+        ensures { Gives (λ bytes. bytes.now) result (blob_of (payload_of self.now) v) }
+    {
+        if v.is_null() {
+            return Ok(&[]);
+        }
+        let word = v.word();
+        let width = match v.kind() {
+            kind::BLOB_8 => Width::One,
+            kind::BLOB_16 => Width::Two,
+            kind::BLOB_32 => Width::Four,
+            _ => return Err(Cause::WrongKind { word }),
+        };
+        counted(self.payload, v.low() as usize, width).ok_or(Cause::Outside { word })
+    }
+
+    /// The array that the value is; NULL has no entries.
+    ///
+    /// # Errors
+    ///
+    /// `WrongKind` where it is no array, else `Outside` where its run leaves the payload or counts no word.
+    pub fn arr(&self, v: Val) -> Result<Arr<'a>, Cause>
+        ensures { Gives array_entries result (run_of ARRAY (payload_of self.now) v) }
+    {
+        Arr::read(self.payload, kind::ARRAY, v)
+    }
+
+    /// The object that the value is, to be read by N fields; NULL has no entries.
+    ///
+    /// # Errors
+    ///
+    /// `WrongKind` where it is no object, else `Outside` where its run leaves the payload or counts no word.
+    pub fn obj<const N: usize>(&self, v: Val) -> Result<Obj<'a, N>, Cause>
+        ensures { Gives object_entries result (run_of OBJECT (payload_of self.now) v) }
+    {
+        let entries = Arr::read(self.payload, kind::OBJECT, v)?;
+        Ok(Obj::of(entries))
+    }
+}

@@ -1,0 +1,21 @@
+//! The values of an ADB payload (apk-v3(5)), read where they stand.
+//!
+//! A payload's bytes and a value's word go in; integers, slices of the payload and views of its arrays and objects
+//! come out. Nothing is copied and no memory is taken. The contracts cite `Head` (the bytes before the values),
+//! `Readers` (what a word means), `Plain` (plain values and the shapes of fields) and `Visits` (the words below a
+//! word) of `specs/`.
+#![tactic(auto)]
+
+mod adb;
+mod bytes;
+mod laws;
+mod run;
+mod val;
+
+pub use adb::Adb;
+pub use laws::{value_is_found_where_visits_are_sound, values_are_normal};
+pub use run::{Arr, Obj};
+pub use val::Val;
+
+#[cfg(test)]
+mod tests;

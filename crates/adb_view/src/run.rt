@@ -1,0 +1,97 @@
+ghost use Rattle.std.specs.Prelude.{◌≡◌, ◌≤◌, ◌<◌, ◌-◌, ◌*◌, ◌^◌, ◌==◌, length};
+ghost use Rattle.adb_view.specs.Readers.{run_of, entry_at};
+ghost use Rattle.adb_view.specs.Gives.{Gives};
+
+use crate::bytes::{run, word_at};
+use crate::val::Val;
+use base_core::Cause;
+
+/// The entries of an array, as their words stand in the payload.
+#[derive(Clone, Copy)]
+pub struct Arr<'a> {
+    bytes: &'a [u8],
+    ghost counted: { length bytes.now < 4 * (2 ^ 32 - 1) },
+}
+
+#[tactic(auto, using(crate::proofs::Words::word_count))]
+impl<'a> Arr<'a> {
+    ghost use Rattle.adb_view.specs.Entries.{array_entries};
+
+    /// The entries of a run of this kind; NULL has none.
+    #[tactic(auto, unfolding(crate::specs::Readers::run_of, crate::specs::Bytes::words))]
+    pub(crate) fn read(payload: &'a [u8], kind: u32, v: Val) -> Result<Arr<'a>, Cause>
+        ensures { Gives array_entries result (run_of kind payload.now v) }
+    {
+        if v.is_null() {
+            return Ok(Arr { bytes: &[] });
+        }
+        let word = v.word();
+        if v.kind() != kind {
+            return Err(Cause::WrongKind { word });
+        }
+        match run(payload, v.low() as usize) {
+            Some(bytes) => Ok(Arr { bytes }),
+            None => Err(Cause::Outside { word }),
+        }
+    }
+
+    /// How many entries there are: fewer than 2^32 - 1, since a run counts its words in 32 bits.
+    pub fn len(&self) -> usize
+        ensures value { result ≡ length (array_entries self.now) }
+        ensures small { result < 2 ^ 32 - 1 }
+    {
+        self.bytes.len() / 4
+    }
+
+    /// Whether there is no entry.
+    pub fn is_empty(&self) -> bool
+        ensures { result ≡ (length (array_entries self.now) == 0) }
+    {
+        self.len() == 0
+    }
+
+    /// The entry at a place, counted from 1.
+    pub fn get(&self, i: usize) -> Val
+        requires from { 1 ≤ i }
+        requires to { i ≤ length (array_entries self.now) }
+        ensures { result ≡ entry_at (array_entries self.now) i }
+    {
+        Val::of(word_at(self.bytes, i - 1))
+    }
+}
+
+/// The entries of an object, to be read by N fields.
+#[derive(Clone, Copy)]
+pub struct Obj<'a, const N: usize> {
+    entries: Arr<'a>,
+}
+
+impl<'a, const N: usize> Obj<'a, N> {
+    ghost use Rattle.adb_view.specs.Entries.{array_entries, object_entries};
+
+    pub(crate) fn of(entries: Arr<'a>) -> Obj<'a, N>
+        ensures { object_entries result ≡ array_entries entries.entry }
+    {
+        Obj { entries }
+    }
+
+    /// The entry of a field, counted from 1; NULL past the last entry.
+    pub fn field(&self, i: usize) -> Val
+        requires from { 1 ≤ i }
+        requires to { i ≤ N }
+        ensures { result ≡ entry_at (object_entries self.now) i }
+    {
+        if i <= self.entries.len() {
+            self.entries.get(i)
+        } else {
+            Val::of(0)
+        }
+    }
+
+    /// All its entries, those past its fields too.
+    pub fn entries(&self) -> Arr<'a>
+        ensures { array_entries result ≡ object_entries self.now }
+    {
+        self.entries
+    }
+}
