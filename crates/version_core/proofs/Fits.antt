@@ -1,0 +1,76 @@
+-- A token that fits one that is not the last is not the last either.
+use Rattle.std.proofs.Common.{◌≡◌, ℕ, Bool, true, false, ◌&&◌, ◌||◌, cond, eqb, List, [], ◌∷◌, refl, ap, sym, ◌∙◌, nat_cmp}
+use Rattle.std.specs.Ordering.{ordering_then, is_eq}
+use Rattle.std.specs.declared.cmp.Ordering.{Ordering}
+use Rattle.std.specs.declared.cmp.Ordering.TheVariants.{Less, Equal, Greater}
+use Rattle.std.proofs.lemmas.Bool.{false≢true}
+use Rattle.std.proofs.lemmas.Cmp.{ranked}
+use Rattle.version_core.specs.declared.token.Class.{Class}
+use Rattle.version_core.specs.declared.token.Class.TheVariants.{Stray, PreRelease, End, Revision, Hash, SuffixNumber, Suffix, Letter, ZeroComponent, Component}
+use Rattle.version_core.specs.Token.{Token}
+use Rattle.version_core.specs.Order.{all_fit, begins_with, class_rank, fits, is_last, is_zero_component, token_cmp}
+
+abbrev is_last_rank : ℕ → Bool
+is_last_rank rank = eqb rank 2 || eqb rank 0
+
+is_last_rank-class_rank : (class : Class) → is_last_rank (class_rank class) ≡ is_last class
+is_last_rank-class_rank Stray = refl
+is_last_rank-class_rank PreRelease = refl
+is_last_rank-class_rank End = refl
+is_last_rank-class_rank Revision = refl
+is_last_rank-class_rank Hash = refl
+is_last_rank-class_rank SuffixNumber = refl
+is_last_rank-class_rank Suffix = refl
+is_last_rank-class_rank Letter = refl
+is_last_rank-class_rank ZeroComponent = refl
+is_last_rank-class_rank Component = refl
+
+first_equal : (o p : Ordering) → is_eq (ordering_then o p) ≡ true → o ≡ Equal
+first_equal Less p h = absurd (false≢true h)
+first_equal Equal p h = refl
+first_equal Greater p h = absurd (false≢true h)
+
+nat_cmp-Equal : (m n : ℕ) → nat_cmp m n ≡ Equal → m ≡ n
+nat_cmp-Equal m n h = ranked m n Equal (sym h)
+
+equal_tokens : (f w : Token) → is_eq (token_cmp f w) ≡ true → is_last f.class ≡ is_last w.class
+equal_tokens f w h =
+    sym (is_last_rank-class_rank f.class)
+    ∙ ap is_last_rank (nat_cmp-Equal (class_rank f.class) (class_rank w.class) (first_equal _ _ h))
+    ∙ is_last_rank-class_rank w.class
+
+zero_is_not_last : (class : Class) → is_zero_component class ≡ true → is_last class ≡ false
+zero_is_not_last ZeroComponent h = refl
+zero_is_not_last Stray h = absurd (false≢true h)
+zero_is_not_last PreRelease h = absurd (false≢true h)
+zero_is_not_last End h = absurd (false≢true h)
+zero_is_not_last Revision h = absurd (false≢true h)
+zero_is_not_last Hash h = absurd (false≢true h)
+zero_is_not_last SuffixNumber h = absurd (false≢true h)
+zero_is_not_last Suffix h = absurd (false≢true h)
+zero_is_not_last Letter h = absurd (false≢true h)
+zero_is_not_last Component h = absurd (false≢true h)
+
+fits_by : (a b c : Bool) (w f : Class) → (a ≡ true → is_last f ≡ false) → (c ≡ true → is_last f ≡ false) → cond a b c ≡ true → is_last f ≡ false
+fits_by true b c w f g k h = g refl
+fits_by false b c w f g k h = k h
+
+both : (a b : Bool) → (a && b) ≡ true → b ≡ true
+both true b h = h
+both false b h = absurd (false≢true h)
+
+pub fits_not_last : (w f : Token) → is_last w.class ≡ false → fits w f ≡ true → is_last f.class ≡ false
+unfolding fits
+fits_not_last w f last h =
+    fits_by (is_zero_component w.class && is_zero_component f.class) (begins_with w.text f.text) (is_eq (token_cmp f w)) w.class f.class
+    (λ z. zero_is_not_last f.class (both _ _ z)) (λ e. equal_tokens f w e ∙ last) h
+
+all_fit-step : (w f : Token) (ws fs : List Token) → is_last w.class ≡ false → fits w f ≡ true → all_fit (w ∷ ws) (f ∷ cond (is_last f.class) [] fs) ≡ all_fit ws fs
+all_fit-step w f ws fs last h = rw (fits_not_last w f last h, last, h) refl
+
+-- behind two tokens that fit, the others decide
+pub all_fit_behind : (wanted found : List Token) (w f : Token) (ws fs : List Token) → wanted ≡ w ∷ cond (is_last w.class) [] ws → found ≡ f ∷ cond (is_last f.class) [] fs → is_last w.class ≡ false → fits w f ≡ true → all_fit wanted found ≡ all_fit ws fs
+all_fit_behind wanted found w f ws fs first second last h =
+    (λ i. all_fit (first i) (second i))
+    ∙ ap (λ b. all_fit (w ∷ cond b [] ws) (f ∷ cond (is_last f.class) [] fs)) last
+    ∙ all_fit-step w f ws fs last h

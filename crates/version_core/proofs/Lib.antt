@@ -1,0 +1,10 @@
+pub mod Digits
+pub mod Fits
+pub mod Lexemes
+pub mod OrderLaws
+pub mod Orders
+pub mod ReadBack
+pub mod Rows
+pub mod Runs
+pub mod Spelled
+pub mod Walk

@@ -1,0 +1,9 @@
+use Rattle.std.proofs.Common.{◌≡◌, take}
+use Rattle.std.specs.Str.Parse.{AllDigits, digits_value}
+use Rattle.version_core.proofs.lexeme.value_of.Given as goal
+
+abbrev pub invariant-loop-digit : goal.invariant-loop-digit
+invariant-loop-digit l = record {
+  value : l.number ≡ digits_value 10 (take l.digit-index l.digits);
+  all : AllDigits 10 (take l.digit-index l.digits);
+}

@@ -1,0 +1,119 @@
+-- The grammar of a version, after apk-package(5): `number{.number}{letter}{_suffix{number}}{~hash}{-r#}`,
+-- as the parts of a version and how they are spelled.
+use Rattle.std.specs.Prelude.{◌≡◌, ℕ, Bool, true, ◌&&◌, nat_lt, List, [], ◌∷◌, ◌++◌, length, Option, Some, None, is_some, if◌then◌else◌}
+use Rattle.std.specs.Char.{is_ascii_digit, is_ascii_lowercase}
+use Rattle.std.specs.List.{list_all}
+use Rattle.std.specs.Str.Parse.{digits_value}
+use Rattle.version_core.specs.declared.token.Class.TheVariants.{End, Revision, Hash, SuffixNumber, Letter, ZeroComponent, Component}
+use Rattle.version_core.specs.Token.{Token, bare, numbered, worded, begins_with_zero, is_hex_digit, is_number, suffix_lexeme, suffix_rank}
+
+-- a suffix, and the digits of its number where it has one
+pub record SuffixPart : Type 0 where
+  pub name : List ℕ
+  pub number : Option (List ℕ)
+
+-- the parts of a version: the digits of its components, and what may follow them
+pub record Parts : Type 0 where
+  pub first : List ℕ
+  pub later : List (List ℕ)
+  pub letter : Option ℕ
+  pub suffixes : List SuffixPart
+  pub hash : Option (List ℕ)
+  pub revision : Option (List ℕ)
+
+-- whether a part that may be left out passes a test where it stands
+abbrev pub if_some : {X : Type 0} → (X → Bool) → Option X → Bool
+if_some test None = true
+if_some test (Some x) = test x
+
+-- 1 to 18 digits
+abbrev pub is_numeral : List ℕ → Bool
+is_numeral digits = is_number digits && list_all is_ascii_digit digits
+
+-- one or more lower-case hexadecimal digits
+abbrev pub is_hash_text : List ℕ → Bool
+is_hash_text digits = nat_lt 0 (length digits) && list_all is_hex_digit digits
+
+abbrev pub is_suffix_part : SuffixPart → Bool
+is_suffix_part suffix = is_some (suffix_rank suffix.name) && if_some is_numeral suffix.number
+
+abbrev pub are_parts : Parts → Bool
+are_parts parts =
+    is_numeral parts.first && (list_all is_numeral parts.later && (if_some is_ascii_lowercase parts.letter
+    && (list_all is_suffix_part parts.suffixes && (if_some is_hash_text parts.hash && if_some is_numeral parts.revision))))
+
+-- `.` before each later component
+abbrev pub later_text : List (List ℕ) → List ℕ
+later_text [] = []
+later_text (digits ∷ later) = 46 ∷ (digits ++ later_text later)
+
+abbrev pub letter_text : Option ℕ → List ℕ
+letter_text None = []
+letter_text (Some letter) = letter ∷ []
+
+abbrev pub number_text : Option (List ℕ) → List ℕ
+number_text None = []
+number_text (Some digits) = digits
+
+-- `_` before each suffix
+abbrev pub suffixes_text : List SuffixPart → List ℕ
+suffixes_text [] = []
+suffixes_text (suffix ∷ rest) = 95 ∷ (suffix.name ++ (number_text suffix.number ++ suffixes_text rest))
+
+-- `~` before the hash
+abbrev pub hash_text : Option (List ℕ) → List ℕ
+hash_text None = []
+hash_text (Some digits) = 126 ∷ digits
+
+-- `-r` before the revision
+abbrev pub revision_text : Option (List ℕ) → List ℕ
+revision_text None = []
+revision_text (Some digits) = 45 ∷ 114 ∷ digits
+
+-- the text of a version
+abbrev pub spelling : Parts → List ℕ
+spelling parts =
+    parts.first ++ (later_text parts.later ++ (letter_text parts.letter ++ (suffixes_text parts.suffixes
+    ++ (hash_text parts.hash ++ revision_text parts.revision))))
+
+-- a component behind the first is a text where it begins with 0
+abbrev pub component_token : List ℕ → Token
+component_token digits =
+    if begins_with_zero digits then worded ZeroComponent digits else numbered Component (digits_value 10 digits)
+
+abbrev pub later_tokens : List (List ℕ) → List Token
+later_tokens [] = []
+later_tokens (digits ∷ later) = component_token digits ∷ later_tokens later
+
+abbrev pub letter_tokens : Option ℕ → List Token
+letter_tokens None = []
+letter_tokens (Some letter) = numbered Letter letter ∷ []
+
+abbrev pub number_tokens : Option (List ℕ) → List Token
+number_tokens None = []
+number_tokens (Some digits) = numbered SuffixNumber (digits_value 10 digits) ∷ []
+
+abbrev pub suffix_tokens : List SuffixPart → List Token
+suffix_tokens [] = []
+suffix_tokens (suffix ∷ rest) =
+    (suffix_lexeme suffix.name).token ∷ (number_tokens suffix.number ++ suffix_tokens rest)
+
+abbrev pub hash_tokens : Option (List ℕ) → List Token
+hash_tokens None = []
+hash_tokens (Some digits) = worded Hash digits ∷ []
+
+abbrev pub revision_tokens : Option (List ℕ) → List Token
+revision_tokens None = []
+revision_tokens (Some digits) = numbered Revision (digits_value 10 digits) ∷ []
+
+-- the tokens of a version
+abbrev pub tokens_of : Parts → List Token
+tokens_of parts =
+    numbered Component (digits_value 10 parts.first) ∷ (later_tokens parts.later ++ (letter_tokens parts.letter
+    ++ (suffix_tokens parts.suffixes ++ (hash_tokens parts.hash ++ (revision_tokens parts.revision ++ bare End ∷ [])))))
+
+-- parts of the grammar that are spelled as the text
+pub record IsSpelled (text : List ℕ) : Type 0 where
+  pub parts : Parts
+  pub sound : are_parts parts ≡ true
+  pub whole : spelling parts ≡ text

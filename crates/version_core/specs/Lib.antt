@@ -1,0 +1,5 @@
+pub mod Token
+pub mod Order
+pub mod Grammar
+pub mod Op
+pub mod Reading

@@ -1,0 +1,279 @@
+ghost use Rattle.std.specs.Prelude.{◌≡◌, ◌≤◌, ◌<◌, false, length, drop, position, not};
+ghost use Rattle.std.specs.Char.{is_ascii_digit, is_ascii_lowercase};
+ghost use Rattle.std.specs.Ordering.{nat_cmp};
+ghost use Rattle.std.specs.Cmp.Lexicographic.{slice_cmp};
+ghost use Rattle.std.specs.Str.Parse.{digits_value};
+ghost use Rattle.version_core.specs.Token.{begins_with_zero, component_lexeme, digits_at, hash_lexeme, hex_digits_at, is_hex_digit, lexeme, lexeme_at, next_lexeme, number_lexeme, numbered, revision_lexeme, stray, suffix_class, suffix_lexeme, suffix_rank, word_at, worded};
+ghost use Rattle.version_core.specs.Reading.{AreDigits, hex_digit_at, is_hash, lexeme_view, plain_view};
+
+use crate::token::{Class, TokenAt};
+use std::cmp::Ordering;
+
+/// How many digits a number may have.
+const MOST_DIGITS: usize = 18;
+
+/// A token, and how many bytes its reader passes over at once: all of them, but of a hash only the
+/// mark.
+#[derive(Clone, Copy)]
+pub struct Lexeme<'a> {
+    pub token: TokenAt<'a>,
+    pub advance: usize,
+}
+
+fn numbered<'a>(class: Class, number: u64, advance: usize) -> Lexeme<'a>
+    ensures token { plain_view result ≡ lexeme (numbered class number) advance }
+    ensures class { result.token.class ≡ class }
+{
+    let token = TokenAt {
+        class,
+        number,
+        text: &[],
+    };
+    Lexeme { token, advance }
+}
+
+fn worded(class: Class, text: &[u8], advance: usize) -> Lexeme<'_>
+    ensures token { plain_view result ≡ lexeme (worded class (hex_digits_at text.now)) advance }
+    ensures class { result.token.class ≡ class }
+    ensures text { result.token.text.now ≡ text.now }
+{
+    let token = TokenAt {
+        class,
+        number: 0,
+        text,
+    };
+    Lexeme { token, advance }
+}
+
+fn stray<'a>() -> Lexeme<'a>
+    ensures token { plain_view result ≡ stray }
+    ensures class { result.token.class ≡ Class.Stray }
+{
+    numbered(Class::Stray, 0, 0)
+}
+
+/// The token that begins a text: at the front the first component, else by the token before it.
+pub fn lexeme_at<'a>(last: Option<Class>, text: &'a [u8]) -> Lexeme<'a>
+    ensures { lexeme_view text.entry.now result ≡ lexeme_at last text.entry.now }
+{
+    match last {
+        None => number(Class::Component, 0, digits_at(text)),
+        Some(last) => next_lexeme(last, text),
+    }
+}
+
+#[tactic(auto, unfolding(crate::specs::Token::next_lexeme))]
+fn next_lexeme<'a>(last: Class, text: &'a [u8]) -> Lexeme<'a>
+    ensures { lexeme_view text.entry.now result ≡ next_lexeme last text.entry.now }
+{
+    let Some((mark, rest)) = text.split_first() else {
+        return numbered(Class::End, 0, 0);
+    };
+    match *mark {
+        b'.' if last.is_component() => component(digits_at(rest)),
+        b'a'..=b'z' if last.is_component() => numbered(Class::Letter, u64::from(*mark), 1),
+        b'_' if last.is_before_hash() => suffix(word_at(rest)),
+        b'0'..=b'9' if last.is_suffix() => number(Class::SuffixNumber, 0, digits_at(text)),
+        b'~' if last.is_before_hash() => hash(text),
+        b'-' if last.is_before_revision() => revision(rest),
+        _ => stray(),
+    }
+}
+
+// A number behind its mark, which has so many bytes.
+#[tactic(auto, unfolding(crate::specs::Token::number_lexeme))]
+fn number(class: Class, mark: usize, digits: &[u8]) -> Lexeme<'_>
+    requires digits { AreDigits digits.now }
+    requires small { mark ≤ 2 }
+    requires plain { is_hash class ≡ false }
+    ensures token { plain_view result ≡ number_lexeme class mark digits.now }
+    ensures plain { is_hash result.token.class ≡ false }
+{
+    if digits.is_empty() || digits.len() > MOST_DIGITS {
+        return stray();
+    }
+    numbered(class, value_of(digits), mark + digits.len())
+}
+
+// A component behind the first: a text where it begins with 0, else a number.
+#[tactic(auto, using(crate::proofs::Lexemes::component_lexeme_zero), unfolding(crate::specs::Token::component_lexeme))]
+fn component(digits: &[u8]) -> Lexeme<'_>
+    requires { AreDigits digits.now }
+    ensures token { plain_view result ≡ component_lexeme digits.now }
+    ensures plain { is_hash result.token.class ≡ false }
+{
+    if begins_with_zero(digits) && digits.len() <= MOST_DIGITS {
+        return worded(Class::ZeroComponent, digits, 1 + digits.len());
+    }
+    number(Class::Component, 1, digits)
+}
+
+fn begins_with_zero(digits: &[u8]) -> bool
+    ensures { result ≡ begins_with_zero digits.now }
+{
+    matches!(digits, [b'0', ..])
+}
+
+fn suffix(word: &[u8]) -> Lexeme<'_>
+    ensures token { plain_view result ≡ suffix_lexeme word.now }
+    ensures plain { is_hash result.token.class ≡ false }
+{
+    match suffix_rank(word) {
+        Some(rank) => numbered(suffix_class(rank), rank, 1 + word.len()),
+        None => stray(),
+    }
+}
+
+// The place of a suffix among all of them.
+#[tactic(auto, unfolding(crate::specs::Token::suffix_rank))]
+fn suffix_rank(word: &[u8]) -> Option<u64>
+    ensures { result ≡ suffix_rank word.now }
+{
+    match word {
+        b"alpha" => Some(0),
+        b"beta" => Some(1),
+        b"pre" => Some(2),
+        b"rc" => Some(3),
+        b"cvs" => Some(4),
+        b"svn" => Some(5),
+        b"git" => Some(6),
+        b"hg" => Some(7),
+        b"p" => Some(8),
+        _ => None,
+    }
+}
+
+// The first four make pre-releases.
+fn suffix_class(rank: u64) -> Class
+    ensures { result ≡ suffix_class rank }
+{
+    if rank < 4 {
+        Class::PreRelease
+    } else {
+        Class::Suffix
+    }
+}
+
+// A text that begins with the mark of a hash.
+#[tactic(auto, unfolding(crate::specs::Token::hash_lexeme))]
+fn hash(text: &[u8]) -> Lexeme<'_>
+    requires { 0 < length text.now }
+    ensures { lexeme_view text.now result ≡ hash_lexeme (hex_digits_at (drop 1 text.now)) }
+{
+    let digits = behind(text, 1);
+    if hex_digit_at(digits, 0).is_none() {
+        return stray();
+    }
+    worded(Class::Hash, digits, 1)
+}
+
+// Behind the `-` of a revision.
+#[tactic(auto, unfolding(crate::specs::Token::revision_lexeme))]
+fn revision(text: &[u8]) -> Lexeme<'_>
+    ensures token { plain_view result ≡ revision_lexeme text.now }
+    ensures plain { is_hash result.token.class ≡ false }
+{
+    match text.split_first() {
+        Some((b'r', rest)) => number(Class::Revision, 2, digits_at(rest)),
+        _ => stray(),
+    }
+}
+
+// The number that the digits represent.
+fn value_of(digits: &[u8]) -> u64
+    requires digits { AreDigits digits.now }
+    requires few { length digits.now ≤ 18 }
+    ensures { result ≡ digits_value 10 digits.now }
+{
+    let mut number = 0;
+    for digit in digits {
+        number = number * 10 + u64::from(*digit - b'0');
+    }
+    number
+}
+
+#[tactic(auto, using(crate::proofs::Runs::run_at))]
+fn digits_at(text: &[u8]) -> &[u8]
+    ensures front { result.now ≡ digits_at text.now }
+    ensures digits { AreDigits result.now }
+{
+    match digits_end(text) {
+        Some(len) => &text[..len],
+        None => text,
+    }
+}
+
+fn digits_end(text: &[u8]) -> Option<usize>
+    ensures { result ≡ position (λ b. not (is_ascii_digit b)) text.now }
+{
+    text.iter().position(|byte| !byte.is_ascii_digit())
+}
+
+#[tactic(auto, using(crate::proofs::Runs::run_at))]
+fn word_at(text: &[u8]) -> &[u8]
+    ensures { result.now ≡ word_at text.now }
+{
+    match word_end(text) {
+        Some(len) => &text[..len],
+        None => text,
+    }
+}
+
+fn word_end(text: &[u8]) -> Option<usize>
+    ensures { result ≡ position (λ b. not (is_ascii_lowercase b)) text.now }
+{
+    text.iter().position(|byte| !byte.is_ascii_lowercase())
+}
+
+/// The hexadecimal digits that a text begins with.
+#[tactic(auto, using(crate::proofs::Runs::run_at))]
+pub fn hex_digits_at(text: &[u8]) -> &[u8]
+    ensures { result.now ≡ hex_digits_at text.now }
+{
+    match hex_digits_end(text) {
+        Some(len) => &text[..len],
+        None => text,
+    }
+}
+
+fn hex_digits_end(text: &[u8]) -> Option<usize>
+    ensures { result ≡ position (λ b. not (is_hex_digit b)) text.now }
+{
+    text.iter().position(|byte| !is_hex_digit(*byte))
+}
+
+fn is_hex_digit(byte: u8) -> bool
+    ensures { result ≡ is_hex_digit byte }
+{
+    matches!(byte, b'0'..=b'9' | b'a'..=b'f')
+}
+
+/// The order of the hexadecimal digits that two texts begin with. It reads neither further than to
+/// the first place at which they differ.
+pub fn compare_hex_digits(left: &[u8], right: &[u8]) -> Ordering
+    ensures { result ≡ slice_cmp nat_cmp (hex_digits_at left.now) (hex_digits_at right.now) }
+{
+    let mut at = 0;
+    loop {
+        let ours = hex_digit_at(left, at);
+        let order = ours.cmp(&hex_digit_at(right, at));
+        if order.is_ne() || ours.is_none() {
+            return order;
+        }
+        at += 1;
+    }
+}
+
+fn hex_digit_at(text: &[u8], at: usize) -> Option<u8>
+    ensures { result ≡ hex_digit_at text.now at }
+{
+    text.get(at).copied().filter(|byte| is_hex_digit(*byte))
+}
+
+/// What stands behind the first bytes of a text.
+pub fn behind(text: &[u8], count: usize) -> &[u8]
+    requires { count ≤ length text.now }
+    ensures { result.now ≡ drop count text.now }
+{
+    &text[count..]
+}

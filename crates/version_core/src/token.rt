@@ -1,0 +1,142 @@
+ghost use Rattle.std.specs.Prelude.{◌≡◌, ◌<◌, false, [], ◌∷◌, drop, if◌then◌else◌};
+ghost use Rattle.version_core.specs.Token.{is_before_hash, is_before_revision, is_component, is_suffix};
+ghost use Rattle.version_core.specs.Order.{class_rank, fits, is_last, token_cmp, tokens};
+ghost use Rattle.version_core.specs.Reading.{bytes_left, token_view, tokens_left, unread};
+
+use crate::lexeme::{behind, compare_hex_digits, hex_digits_at, lexeme_at};
+use std::cmp::Ordering;
+
+/// The kinds of tokens, from the least to the greatest. `Stray` is what stands outside the grammar.
+#[derive(Clone, Copy, Debug, PartialEq, Eq)]
+pub enum Class {
+    Stray,
+    PreRelease,
+    End,
+    Revision,
+    Hash,
+    SuffixNumber,
+    Suffix,
+    Letter,
+    ZeroComponent,
+    Component,
+}
+
+impl Class {
+    fn rank(self) -> u8
+        ensures { result ≡ class_rank self }
+    {
+        self as u8
+    }
+
+    /// Whether no token comes behind one of this class.
+    pub fn is_last(self) -> bool
+        ensures { result ≡ is_last self }
+    {
+        matches!(self, Class::End | Class::Stray)
+    }
+
+    pub fn is_component(self) -> bool
+        ensures { result ≡ is_component self }
+    {
+        matches!(self, Class::ZeroComponent | Class::Component)
+    }
+
+    pub fn is_suffix(self) -> bool
+        ensures { result ≡ is_suffix self }
+    {
+        matches!(self, Class::PreRelease | Class::Suffix)
+    }
+
+    pub fn is_before_hash(self) -> bool
+        ensures { result ≡ is_before_hash self }
+    {
+        match self {
+            Class::Letter | Class::SuffixNumber => true,
+            class => class.is_component() || class.is_suffix(),
+        }
+    }
+
+    pub fn is_before_revision(self) -> bool
+        ensures { result ≡ is_before_revision self }
+    {
+        match self {
+            Class::Hash => true,
+            class => class.is_before_hash(),
+        }
+    }
+}
+
+/// A token of a version: its class, and its value, a number or a text. The text goes up to the
+/// first byte that is no hexadecimal digit, so that a hash is not read to its end before it is
+/// compared.
+#[derive(Clone, Copy)]
+pub struct TokenAt<'a> {
+    pub class: Class,
+    pub number: u64,
+    pub text: &'a [u8],
+}
+
+impl TokenAt<'_> {
+    /// The order of two tokens, in the time that the shorter takes.
+    pub fn compare(&self, other: &TokenAt<'_>) -> Ordering
+        ensures { result ≡ token_cmp (token_view self.now) (token_view other.now) }
+    {
+        let by_class = self.class.rank().cmp(&other.class.rank());
+        let by_number = self.number.cmp(&other.number);
+        let by_text = compare_hex_digits(self.text, other.text);
+        by_class.then(by_number).then(by_text)
+    }
+
+    /// Whether a token may stand where a fuzzy match wants this one.
+    #[tactic(auto, unfolding(crate::specs::Order::fits))]
+    pub fn fits(&self, found: &TokenAt<'_>) -> bool
+        ensures { result ≡ fits (token_view self.now) (token_view found.now) }
+    {
+        if self.class == Class::ZeroComponent && found.class == Class::ZeroComponent {
+            hex_digits_at(found.text).starts_with(hex_digits_at(self.text))
+        } else {
+            found.compare(self).is_eq()
+        }
+    }
+}
+
+/// The tokens of a text, read from the front.
+#[derive(Clone, Copy)]
+pub struct Tokens<'a> {
+    rest: &'a [u8],
+    last: Option<Class>,
+}
+
+impl<'a> Tokens<'a> {
+    #[tactic(auto, unfolding(crate::specs::Order::tokens))]
+    pub fn of(text: &'a [u8]) -> Tokens<'a>
+        ensures { tokens_left result ≡ tokens text.entry.now }
+    {
+        Tokens {
+            rest: text,
+            last: None,
+        }
+    }
+
+    /// Takes the next token.
+    pub fn next(&mut self) -> TokenAt<'a>
+        ensures tokens { tokens_left self.old ≡ token_view result ∷ (if is_last result.class then [] else tokens_left self.new) }
+        ensures shorter { is_last result.class ≡ false → bytes_left self.new < bytes_left self.old }
+    {
+        let rest = self.unread();
+        let lexeme = lexeme_at(self.last, rest);
+        self.rest = behind(rest, lexeme.advance);
+        self.last = Some(lexeme.token.class);
+        lexeme.token
+    }
+
+    // What is left behind the token before.
+    fn unread(&self) -> &'a [u8]
+        ensures { result.now ≡ drop (unread self.now.last self.now.rest.now) self.now.rest.now }
+    {
+        match self.last {
+            Some(Class::Hash) => behind(self.rest, hex_digits_at(self.rest).len()),
+            _ => self.rest,
+        }
+    }
+}

@@ -1,0 +1,122 @@
+ghost use Rattle.std.specs.Prelude.{◌≡◌, IfSome, IsTrue, is_some};
+ghost use Rattle.version_core.specs.Order.{all_fit, is_fuzzy_match, is_version, matches, tokens, version_cmp};
+
+use crate::op::Op;
+use crate::token::{Class, Tokens};
+use std::cmp::Ordering;
+use std::marker::Model;
+
+/// A version, seen as its text (apk-package(5)).
+#[derive(Drop)]
+pub struct Version<'a> {
+    text: &'a [u8],
+}
+
+impl<'a> Model for Version<'a> {
+    ghost use Rattle.std.specs.Prelude.{ℕ, List, IsTrue};
+    ghost use Rattle.version_core.specs.Order.{is_version};
+
+    ghost Value = { List ℕ };
+
+    ghost view = { λ version. version.text.now };
+
+    ghost invariant = { λ version. IsTrue (is_version version.text.now) };
+}
+
+impl<'a> Version<'a> {
+    /// The version that the text is. None comes exactly where it is none.
+    pub fn read(text: &'a [u8]) -> Option<Version<'a>>
+        ensures when { is_some result ≡ is_version text.entry.now }
+        ensures value { IfSome result (λ version. version ≡ text.entry.now) }
+    {
+        if is_version(text) {
+            Some(Version { text })
+        } else {
+            None
+        }
+    }
+
+    /// The text that it was read from.
+    pub fn text(&self) -> &'a [u8]
+        ensures value { result.now ≡ self.now }
+        ensures version { IsTrue (is_version self.now) }
+    {
+        self.text
+    }
+
+    /// The order of two versions: the first tokens that differ decide. Versions that are equal here
+    /// may have different texts, as `01` and `1`. It takes time in proportion to the shorter text.
+    pub fn compare(&self, other: &Version<'_>) -> Ordering
+        ensures { result ≡ version_cmp self.now other.now }
+    {
+        compare(self.text, other.text)
+    }
+
+    /// Whether one of the operator's bits holds for this version against the wanted one. An
+    /// operator without bits matches nothing. It takes time in proportion to the shorter text.
+    #[tactic(auto, unfolding(crate::specs::Order::matches))]
+    pub fn matches(&self, op: Op, wanted: &Version<'_>) -> bool
+        ensures { result ≡ matches op self.now wanted.now }
+    {
+        let order = self.compare(wanted);
+        if op.has_bit(1) && order.is_eq() {
+            return true;
+        }
+        if op.has_bit(2) && order.is_lt() {
+            return true;
+        }
+        if op.has_bit(4) && order.is_gt() {
+            return true;
+        }
+        op.has_bit(8) && is_fuzzy_match(self.text, wanted.text)
+    }
+}
+
+#[tactic(auto, unfolding(crate::specs::Order::is_version))]
+fn is_version(text: &[u8]) -> bool
+    ensures { result ≡ is_version text.now }
+{
+    let mut tokens = Tokens::of(text);
+    loop {
+        match tokens.next().class {
+            Class::End => return true,
+            Class::Stray => return false,
+            _ => {}
+        }
+    }
+}
+
+#[tactic(auto, unfolding(crate::specs::Order::version_cmp))]
+fn compare(left: &[u8], right: &[u8]) -> Ordering
+    ensures { result ≡ version_cmp left.now right.now }
+{
+    let mut left_tokens = Tokens::of(left);
+    let mut right_tokens = Tokens::of(right);
+    loop {
+        let token = left_tokens.next();
+        let order = token.compare(&right_tokens.next());
+        if order.is_ne() || token.class.is_last() {
+            return order;
+        }
+    }
+}
+
+#[tactic(auto, unfolding(crate::specs::Order::is_fuzzy_match))]
+fn is_fuzzy_match(found: &[u8], wanted: &[u8]) -> bool
+    ensures { result ≡ is_fuzzy_match found.now wanted.now }
+{
+    let mut found_tokens = Tokens::of(found);
+    let mut wanted_tokens = Tokens::of(wanted);
+    loop {
+        let token = wanted_tokens.next();
+        if token.class.is_last() {
+            return true;
+        }
+        if !token.fits(&found_tokens.next()) {
+            return false;
+        }
+    }
+}
+
+#[cfg(test)]
+mod tests;
