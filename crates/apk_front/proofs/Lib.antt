@@ -1,0 +1,4 @@
+pub mod Fronts
+pub mod Counting
+pub mod Lines
+pub mod Judged

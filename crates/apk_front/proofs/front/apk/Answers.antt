@@ -1,0 +1,16 @@
+use Rattle.apk_front.proofs.Judged.{answered, completed, answered_by_words, caused}
+use Rattle.apk_front.proofs.front.apk.Goals as goal
+
+pub returns-clause-stated : goal.returns-clause-stated
+returns-clause-stated g c = answered _ _ _ _ c.judge-judged.result _ _ _ c.judge-judged.ensures.found c.judge-judged.ensures.same c.judge-judged.ensures.disk c.show.ensures.shown
+
+pub returns-clause-complete : goal.returns-clause-complete
+returns-clause-complete g c =
+    completed _ _ (g.T.Tree.history c.judge-judged.new.tree) _ _ _ _ _
+    (answered _ _ _ _ c.judge-judged.result _ _ _ c.judge-judged.ensures.found c.judge-judged.ensures.same c.judge-judged.ensures.disk c.show.ensures.shown)
+
+pub returns-clause-every_tree : goal.returns-clause-every_tree
+returns-clause-every_tree g c = answered_by_words _ c.judge-judged.result _ _ _ c.judge-judged.ensures.usage c.show.ensures.shown
+
+pub returns-clause-causes : goal.returns-clause-causes
+returns-clause-causes g c = caused _ c.judge-judged.result _ _ _ c.judge-judged.ensures.disk c.show.ensures.shown

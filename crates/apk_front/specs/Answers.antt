@@ -1,0 +1,88 @@
+-- What a run of the top call answers, and leaves of its two sinks.
+use Rattle.std.specs.Prelude.{◌≡◌, ◌≢◌, ◌⊎◌, ℕ, List, [], Option, Some, None}
+use Rattle.base_core.specs.Calls.{HasNow}
+use Rattle.base_core.specs.Faults.{Counts, HasCause, Rose}
+use Rattle.base_core.specs.Files.{Files}
+use Rattle.base_core.specs.Tree.{TreeState, files_of}
+use Rattle.apk_front.specs.Outcome.{Outcome, IsOutcome}
+use Rattle.apk_front.specs.Sinks.{Sinking, Gets, GetsSome, Failed}
+use Rattle.apk_front.specs.Texts.{tree_line, memory_line}
+use Rattle.apk_front.specs.declared.answer.Answer.{Answer}
+use Rattle.apk_front.specs.declared.answer.Answer.TheVariants.{Ok, Refused, TreeFault, OutFault, Memory}
+use Rattle.apk_front.specs.declared.answer.Refusal.{Refusal}
+
+-- the answer of an outcome
+abbrev pub answer_by : Option Refusal → Answer
+answer_by None = Ok
+answer_by (Some refusal) = Refused refusal
+
+abbrev pub answer_of : Outcome → Answer
+answer_of outcome = answer_by outcome.refusal
+
+-- the exit status of an answer
+abbrev pub status_of : Answer → ℕ
+status_of Ok = 0
+status_of (Refused refusal) = 1
+status_of TreeFault = 2
+status_of OutFault = 3
+status_of Memory = 4
+
+-- a line, or a front of it where the sink failed
+abbrev pub GetsLine : Sinking → List ℕ → Type 0
+GetsLine sink line = Gets sink line ⊎ (GetsSome sink line × Failed sink)
+
+-- it had something to get, and failed
+pub record FailedAt (sink : Sinking) (bytes : List ℕ) : Type 0 where
+  pub some : bytes ≢ []
+  pub failed : Failed sink
+
+-- the answer and all bytes are those of an outcome
+pub record IsStated (outcome : Outcome) (answer : Answer) (out err : Sinking) : Type 0 where
+  pub same : answer ≡ answer_of outcome
+  pub out_gets : Gets out outcome.out
+  pub err_gets : Gets err outcome.err
+
+-- a sink failed in place of an outcome's answer
+pub record IsOutFault (outcome : Outcome) (out err : Sinking) : Type 0 where
+  pub cause : FailedAt out outcome.out ⊎ FailedAt err outcome.err
+  pub out_gets : GetsSome out outcome.out
+  pub err_gets : GetsSome err outcome.err
+
+-- a fault in place of every outcome: only its line on err
+pub record IsFault (line : List ℕ) (out err : Sinking) : Type 0 where
+  pub out_gets : Gets out []
+  pub err_gets : GetsLine err line
+
+-- The answer to these words over these files: an outcome's answer with its bytes and what it leaves; a fault that had its cause; or want of memory.
+abbrev pub IsAnswer : List (List ℕ) → Files → (Outcome → Type 0) → Type 0 → Answer → Sinking → Sinking → Type 0
+IsAnswer words files Leaves tree_failed Ok out err = (outcome : Outcome) × IsOutcome words files outcome × IsStated outcome Ok out err × Leaves outcome
+IsAnswer words files Leaves tree_failed (Refused refusal) out err = (outcome : Outcome) × IsOutcome words files outcome × IsStated outcome (Refused refusal) out err × Leaves outcome
+IsAnswer words files Leaves tree_failed OutFault out err = (outcome : Outcome) × IsOutcome words files outcome × IsOutFault outcome out err × Leaves outcome
+IsAnswer words files Leaves tree_failed TreeFault out err = tree_failed × IsFault tree_line out err
+IsAnswer words files Leaves tree_failed Memory out err = IsFault memory_line out err
+
+-- where the outcome is no refusal, the files as read are then its files
+abbrev pub LeavesFiles : List TreeState → Outcome → Type 0
+LeavesFiles now outcome = outcome.refusal ≡ None → HasNow now (λ w. files_of w ≡ outcome.files)
+
+-- nothing is said of what it leaves
+abbrev pub LeavesAny : Outcome → Type 0
+LeavesAny outcome = Unit {0}
+
+-- each fault has its cause, and only its line is printed; so it is for want of memory
+abbrev pub HasCauses : Answer → Type 0 → Sinking → Sinking → Type 0
+HasCauses Ok tree_failed out err = Unit {0}
+HasCauses (Refused refusal) tree_failed out err = Unit {0}
+HasCauses TreeFault tree_failed out err = tree_failed × IsFault tree_line out err
+HasCauses OutFault tree_failed out err = Failed out ⊎ Failed err
+HasCauses Memory tree_failed out err = IsFault memory_line out err
+
+-- no count rose: neither the tree's, nor a sink's
+pub record IsFaultless (before after : Counts) (out err : Sinking) : Type 0 where
+  pub tree : ¬ Rose before.faults after.faults
+  pub out_sink : ¬ Rose out.before.faults out.after.faults
+  pub err_sink : ¬ Rose err.before.faults err.after.faults
+
+-- the answer is the outcome's, unless memory ran out
+abbrev pub IsComplete : List (List ℕ) → Files → Answer → Type 0
+IsComplete words files answer = (answer ≡ Memory) ⊎ ((outcome : Outcome) × IsOutcome words files outcome × (answer ≡ answer_of outcome))

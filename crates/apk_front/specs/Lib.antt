@@ -1,0 +1,9 @@
+pub mod Command
+pub mod Texts
+pub mod Outcome
+pub mod Sinks
+pub mod Answers
+pub mod Parts
+pub mod Errors
+pub mod Shown
+pub mod InMemory

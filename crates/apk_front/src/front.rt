@@ -1,0 +1,57 @@
+ghost use Rattle.std.specs.Prelude.{◌≡◌, IsTrue};
+ghost use Rattle.apk_front.specs.Answers.{IsAnswer, LeavesFiles, LeavesAny, HasCauses, IsFaultless, IsComplete};
+ghost use Rattle.apk_front.specs.Command.{command_of, reads_only, rests_on_words};
+ghost use Rattle.apk_front.specs.Sinks.{sinking};
+ghost use Rattle.base_core.specs.Calls.{OnTold};
+ghost use Rattle.base_core.specs.Faults.{GoesOn, HasCause};
+ghost use Rattle.base_core.specs.Files.{no_names};
+ghost use Rattle.base_core.specs.Tree.{files_of};
+
+use crate::answer::Answer;
+use crate::judge::judge;
+use crate::show::show;
+use base_core::{Sink, Tree, Words};
+use std::alloc::Global;
+
+/// Runs a command line, without the program's name, on a tree of files and two sinks, as apk(8) describes it.
+///
+/// What a command answers, prints and leaves is told by `Outcome`. A fault of the tree or of a sink, and want of
+/// memory, are answered in its place.
+pub fn apk<T: Tree, O: Sink, E: Sink>(
+    alloc: Global,
+    words: &Words,
+    tree: &mut T,
+    out: &mut O,
+    err: &mut E,
+) -> Answer
+    // Where the tree tells its files: the answer and the bytes of the two sinks are those of the outcome, or a fault
+    // with its cause or want of memory stands in their place; and what is left are the outcome's files.
+    ensures stated { OnTold (T.history tree.old) (λ v. IsAnswer words.now (files_of v) (LeavesFiles (T.history tree.new))
+        (HasCause (T.counts tree.old) (T.counts tree.new)) result
+        (sinking O.bytes O.counts out.old out.new) (sinking E.bytes E.counts err.old err.new)) }
+
+    // Where no count rose, the answer is the outcome's, or memory ran out.
+    ensures complete { OnTold (T.history tree.old) (λ v.
+        IsFaultless (T.counts tree.old) (T.counts tree.new) (sinking O.bytes O.counts out.old out.new) (sinking E.bytes E.counts err.old err.new)
+        → IsComplete words.now (files_of v) result) }
+
+    // For every tree, also one that tells nothing: where the outcome rests on the words alone it is the answer, and
+    // the tree never fails.
+    ensures every_tree { IsTrue (rests_on_words (command_of words.now)) → IsAnswer words.now no_names LeavesAny ⊥ result
+        (sinking O.bytes O.counts out.old out.new) (sinking E.bytes E.counts err.old err.new) }
+
+    // For every tree and sink: each fault has its cause and prints just its line, and no count falls.
+    ensures causes { HasCauses result (HasCause (T.counts tree.old) (T.counts tree.new))
+        (sinking O.bytes O.counts out.old out.new) (sinking E.bytes E.counts err.old err.new) }
+    ensures tree_goes_on { GoesOn (T.counts tree.old) (T.counts tree.new) }
+    ensures out_goes_on { GoesOn (O.counts out.old) (O.counts out.new) }
+    ensures err_goes_on { GoesOn (E.counts err.old) (E.counts err.new) }
+
+    // A command that only reads leaves the tree as it is, and makes no misuse of it.
+    ensures same { IsTrue (reads_only (command_of words.now)) → T.history tree.new ≡ T.history tree.old }
+    ensures proper { OnTold (T.history tree.old) (λ v. IsTrue (reads_only (command_of words.now))
+        → (T.counts tree.new).misuses ≡ (T.counts tree.old).misuses) }
+{
+    let judged = judge(alloc, words, tree);
+    show(judged, out, err)
+}

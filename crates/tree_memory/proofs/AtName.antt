@@ -1,0 +1,40 @@
+-- What a map has at one name, and at the others.
+use Rattle.std.proofs.Common.{◌≡◌, ◌⊎◌, ◌≢◌, inl, inr, ⊎_elim, ℕ, Bool, true, false, cond, List, Option, Some, IsSome, refl, sym, ap, subst}
+use Rattle.std.specs.Str.{bytes_eq}
+use Rattle.std.proofs.lemmas.Slice.Eq.{bytes_eq-Decides}
+use Rattle.base_core.specs.Files.{put}
+
+by_test : (b : Bool) (P : Type 0) → (b ≡ true → P) × (P → b ≡ true) → P ⊎ (b ≡ false)
+by_test true P d = inl (d.0 refl)
+by_test false P d = inr refl
+
+-- a name is another one, or their test fails
+pub name_cases : (q name : List ℕ) → (q ≡ name) ⊎ (bytes_eq q name ≡ false)
+name_cases q name = by_test (bytes_eq q name) (q ≡ name) (bytes_eq-Decides q name)
+
+pub same_name : (q name : List ℕ) → q ≡ name → bytes_eq q name ≡ true
+same_name q name = (bytes_eq-Decides q name).1
+
+pub is_name : (q name : List ℕ) → bytes_eq q name ≡ true → q ≡ name
+is_name q name = (bytes_eq-Decides q name).0
+
+off_by_test : (b : Bool) (P : Type 0) → (b ≡ true → P) → (P → ⊥) → b ≡ false
+off_by_test true P d = λ off. absurd (off (d refl))
+off_by_test false P d = λ off. refl
+
+pub other_name : (q name : List ℕ) → q ≢ name → bytes_eq q name ≡ false
+other_name q name = off_by_test (bytes_eq q name) (q ≡ name) (bytes_eq-Decides q name).0
+
+pub off_name : (q name : List ℕ) → bytes_eq q name ≡ false → q ≢ name
+off_name q name off is = let same = same_name q name is in absurd (cc (same, off))
+
+pub put-at : {X : Type 0} (map : List ℕ → Option X) (name : List ℕ) (x : X) (q : List ℕ) → q ≡ name → put map name x q ≡ Some x
+put-at map name x q is = ap (λ b. cond b (Some x) (map q)) (same_name q name is)
+
+pub put-off : {X : Type 0} (map : List ℕ → Option X) (name : List ℕ) (x : X) (q : List ℕ) → q ≢ name → put map name x q ≡ map q
+put-off map name x q ne = ap (λ b. cond b (Some x) (map q)) (other_name q name ne)
+
+-- what was present is so with one name more
+pub some_put : {X : Type 0} (map : List ℕ → Option X) (name : List ℕ) (x : X) (q : List ℕ) → IsSome (map q) → IsSome (put map name x q)
+some_put map name x q some =
+    ⊎_elim (λ is. subst IsSome (sym (put-at map name x q is)) refl) (λ off. subst IsSome (sym (put-off map name x q (off_name q name off))) some) (name_cases q name)

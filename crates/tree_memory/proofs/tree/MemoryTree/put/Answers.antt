@@ -1,0 +1,15 @@
+use Rattle.std.proofs.Common.{ap, ◌∙◌}
+use Rattle.std.proofs.lemmas.Result.{on_ok_weaker}
+use Rattle.base_core.specs.Tree.{files_of}
+use Rattle.tree_memory.specs.Changes.{contents_of}
+use Rattle.tree_memory.specs.WholeLaw.{whole_state}
+use Rattle.tree_memory.specs.Memory.{state_of}
+use Rattle.tree_memory.proofs.Keeping.{read-after_put, newest}
+use Rattle.tree_memory.proofs.tree.MemoryTree.put.Goals as goal
+
+pub returns-clause-files : goal.returns-clause-files
+returns-clause-files c =
+    let store = c.args.self.now.store in
+    on_ok_weaker c.put.result
+    (λ is. ap files_of (ap newest is) ∙ read-after_put c.args.name.now c.args.bytes.now (state_of c.args.self.now) (whole_state (contents_of store.files.items) store.changes.items))
+    c.put.ensures.ok

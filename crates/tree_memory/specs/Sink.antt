@@ -1,0 +1,42 @@
+-- A sink in memory, and what a write makes of it.
+use Rattle.std.specs.Prelude.{◌≡◌, ◌⊎◌, ℕ, ◌-◌, ◌<◌, min, List, [], ◌++◌, length, take, Option, Some, None, is_some}
+use Rattle.std.specs.Option.{option_map}
+use Rattle.base_core.specs.Faults.{Counts, risen}
+
+-- its bytes, how many more it takes, where that is planned, and how often it failed, also for want of its own memory
+pub record SinkState : Type 0 where
+  pub bytes : List ℕ
+  pub room : Option ℕ
+  pub faults : ℕ
+  pub wants : ℕ
+
+abbrev pub new_sink : SinkState
+new_sink = record { bytes = []; room = None; faults = 0; wants = 0 }
+
+-- only a planned end can fail it, beside want of memory
+abbrev pub sink_counts : SinkState → Counts
+sink_counts sink = record { faults = sink.faults; misuses = 0; wants = sink.wants; fallible = is_some sink.room }
+
+-- how much of so many bytes fits
+abbrev pub fitting : Option ℕ → ℕ → ℕ
+fitting None len = len
+fitting (Some room) len = min len room
+
+-- all of the piece that fits is taken
+pub record Takes (old : SinkState) (piece : List ℕ) (n : ℕ) (new : SinkState) : Type 0 where
+  pub taken : n ≡ fitting old.room (length piece)
+  pub left : new ≡ record old { bytes = old.bytes ++ take n piece; room = option_map (λ room. room - n) old.room }
+
+-- a write of some bytes where no room is left
+pub record IsFull (old : SinkState) (piece : List ℕ) (new : SinkState) : Type 0 where
+  pub some : 0 < length piece
+  pub full : old.room ≡ Some 0
+  pub counted : new ≡ record old { faults = risen old.faults }
+
+-- a write of some bytes for which there was no memory
+pub record IsWanting (old : SinkState) (piece : List ℕ) (new : SinkState) : Type 0 where
+  pub some : 0 < fitting old.room (length piece)
+  pub counted : new ≡ record old { faults = risen old.faults; wants = risen old.wants }
+
+abbrev pub Refuses : SinkState → List ℕ → SinkState → Type 0
+Refuses old piece new = IsFull old piece new ⊎ IsWanting old piece new

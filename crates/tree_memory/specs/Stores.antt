@@ -1,0 +1,13 @@
+-- The states that a store tells.
+use Rattle.std.specs.Prelude.{List, [], ◌∷◌}
+use Rattle.base_core.specs.Tree.{TreeState}
+use Rattle.tree_memory.specs.Changes.{empty_state, contents_of, state_on, earlier_on}
+use Rattle.tree_memory.specs.declared.store.Store.{Store}
+
+-- the newest state
+abbrev pub store_state : Store → TreeState
+store_state store = state_on (contents_of store.files.items) empty_state store.changes.items
+
+-- the states so far, the newest first
+abbrev pub store_history : Store → List TreeState
+store_history store = store_state store ∷ earlier_on (contents_of store.files.items) empty_state [] store.changes.items

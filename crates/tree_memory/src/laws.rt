@@ -1,0 +1,17 @@
+//! What a fault means where no failure is planned.
+ghost use Rattle.std.specs.Prelude.{◌≡◌, ◌⊎◌, [], None};
+ghost use Rattle.base_core.specs.Faults.{HasCause, Rose};
+ghost use Rattle.tree_memory.specs.Memory.{plan_of, counts_of};
+ghost use Rattle.tree_memory.specs.Sink.{SinkState, sink_counts};
+ghost use Rattle.tree_memory.specs.declared.tree.MemoryTree.{MemoryTree};
+
+/// Where no failure of a tree in memory is planned, a fault is a misuse, or comes for want of its own memory.
+pub fn an_unplanned_fault_has_its_reason()
+    ensures { (before now : MemoryTree) → plan_of before ≡ [] → HasCause (counts_of before) (counts_of now)
+        → Rose (counts_of before).misuses (counts_of now).misuses ⊎ Rose (counts_of before).wants (counts_of now).wants }
+{}
+
+/// Where no end of a sink in memory is planned, a fault comes for want of its own memory.
+pub fn an_endless_sink_fails_for_want_of_memory()
+    ensures { (before now : SinkState) → before.room ≡ None → HasCause (sink_counts before) (sink_counts now) → Rose before.wants now.wants }
+{}

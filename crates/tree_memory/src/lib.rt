@@ -1,0 +1,21 @@
+//! A tree and a sink in memory, which tell all that they hold. Tests and generated runs work on them: they are
+//! filled by hand, fail where it is planned, and are read back.
+//!
+//! Names and bytes come in and are lent. The contracts cite `Memory` (the states of a tree, its counts and its plan),
+//! `Changes` (what a put makes of a state), `Plans` (which calls are to fail) and `Sink` (the sink) of `specs/`.
+#![tactic(auto)]
+
+mod changes;
+mod laws;
+mod sink;
+mod store;
+mod table;
+mod tally;
+mod tree;
+
+pub use laws::{an_endless_sink_fails_for_want_of_memory, an_unplanned_fault_has_its_reason};
+pub use sink::MemorySink;
+pub use tree::MemoryTree;
+
+#[cfg(test)]
+mod tests;

@@ -1,0 +1,120 @@
+ghost use Rattle.std.specs.Prelude.{◌≡◌, ◌≤◌, List, Option, Some, take, IfOk, OnErr};
+ghost use Rattle.base_core.specs.Faults.{FailsWithCause, risen};
+ghost use Rattle.base_core.specs.Sink.{Adds, IsTaken};
+ghost use Rattle.tree_memory.specs.Sink.{SinkState, new_sink, sink_counts, fitting, Takes, Refuses};
+
+use base_core::{Sink, SinkFault};
+use std::alloc::Global;
+use std::marker::Model;
+
+/// A sink in memory. It tells all: its bytes, how many more it takes, and its counts.
+#[derive(Drop)]
+pub struct MemorySink {
+    bytes: Vec<u8>,
+    // How many more bytes it takes, where its end is planned.
+    room: Option<usize>,
+    faults: u64,
+    wants: u64,
+}
+
+impl Model for MemorySink {
+    ghost use Rattle.tree_memory.specs.Sink.{SinkState};
+
+    ghost Value = { SinkState };
+
+    ghost view = { λ sink. record { bytes = sink.bytes.items; room = sink.room; faults = sink.faults; wants = sink.wants } };
+}
+
+impl MemorySink {
+    /// An empty sink, with no faults and no planned end.
+    pub fn new(alloc: Global) -> MemorySink
+        ensures { result ≡ new_sink }
+    {
+        MemorySink {
+            bytes: Vec::new(alloc),
+            room: None,
+            faults: 0,
+            wants: 0,
+        }
+    }
+
+    /// All bytes that were written.
+    pub fn bytes(&self) -> &[u8]
+        ensures { result.now ≡ self.now.bytes }
+    {
+        &self.bytes
+    }
+
+    /// Takes so many more bytes, and then fails each write of some.
+    pub fn fail_after(&mut self, n: usize)
+        ensures { self.new ≡ record self.old { room = Some n } }
+    {
+        self.room = Some(n);
+    }
+
+    /// How many writes failed for want of the sink's own memory.
+    pub fn wants(&self) -> u64
+        ensures { result ≡ self.now.wants }
+    {
+        self.wants
+    }
+
+    fn fault(&mut self) -> SinkFault
+        ensures is { self.new ≡ record self.old { faults = risen self.old.faults } }
+        ensures later { self.old.faults ≤ self.new.faults }
+    {
+        self.faults = self.faults.saturating_add(1);
+        SinkFault
+    }
+
+    fn want(&mut self) -> SinkFault
+        ensures is { self.new ≡ record self.old { faults = risen self.old.faults; wants = risen self.old.wants } }
+        ensures later { self.old.faults ≤ self.new.faults }
+        ensures more { self.old.wants ≤ self.new.wants }
+    {
+        self.wants = self.wants.saturating_add(1);
+        self.fault()
+    }
+}
+
+// How many of so many bytes fit.
+fn fitting(room: Option<usize>, len: usize) -> usize
+    ensures { result ≡ fitting room len }
+{
+    match room {
+        None => len,
+        Some(room) => len.min(room),
+    }
+}
+
+impl Sink for MemorySink {
+    ghost bytes = { λ sink. Some sink.bytes };
+
+    ghost counts = { λ sink. sink_counts sink };
+
+    fn write(&mut self, piece: &[u8]) -> Result<usize, SinkFault>
+        ensures taken { IfOk result (λ n. IsTaken n piece.now) }
+        ensures added { IfOk result (λ n. Adds (Some self.old.bytes) (Some self.new.bytes) (take n piece.now)) }
+        ensures unchanged { OnErr result (Some self.new.bytes ≡ Some self.old.bytes) }
+        ensures cause { FailsWithCause (sink_counts self.old) (sink_counts self.new) result }
+
+        // It takes all that fits, and fails only where nothing does, or for want of its own memory.
+        ensures ok { IfOk result (λ n. Takes self.old piece.now n self.new) }
+        ensures err { OnErr result (Refuses self.old piece.now self.new) }
+    {
+        if piece.is_empty() {
+            return Ok(0);
+        }
+        let n = fitting(self.room, piece.len());
+        if n == 0 {
+            return Err(self.fault());
+        }
+        if self.bytes.extend_from_slice(&piece[..n]).is_err() {
+            return Err(self.want());
+        }
+        if let Some(room) = self.room {
+            self.room = Some(room - n);
+        }
+        Ok(n)
+    }
+}
