@@ -1,0 +1,14 @@
+pub mod Prefixes
+pub mod Worlds
+pub mod Places
+pub mod ByName
+pub mod Lines
+pub mod RepositoryLines
+pub mod VersionBytes
+pub mod Operators
+pub mod Spelled
+pub mod ReadOut
+pub mod WorldText
+pub mod Values
+pub mod WorldWords
+pub mod RepositoryTexts

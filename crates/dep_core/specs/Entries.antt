@@ -1,0 +1,32 @@
+-- The world of a text, apart from how it is read.
+use Rattle.std.specs.Prelude.{◌≡◌, ℕ, ◌+◌, ◌<◌, Bool, true, false, not, ◌&&◌, List, [], ◌∷◌, length, map, take, Some, is_ok}
+use Rattle.std.specs.List.{flat_map}
+use Rattle.std.specs.List.Sorted.{IsPermutation}
+use Rattle.dep_core.specs.Dependency.{Dependency}
+use Rattle.dep_core.specs.Reading.{dependency_of}
+use Rattle.dep_core.specs.World.{IsWorld, has_name, lines_of, with_lines, words_of}
+
+-- the words of all lines
+abbrev pub words_in : List ℕ → List (List ℕ)
+words_in text = flat_map words_of (lines_of text)
+
+-- whether no name stands twice
+abbrev pub are_apart : List Dependency → Bool
+are_apart [] = true
+are_apart (d ∷ rest) = not (has_name d.name rest) && are_apart rest
+
+-- each word is a dependency, no name stands twice, and the world has just these dependencies, in order of their names
+pub record IsWorldOf (text : List ℕ) (world : List Dependency) : Type 0 where
+  pub entries : List Dependency
+  pub read : map dependency_of (words_in text) ≡ map Some entries
+  pub apart : are_apart entries ≡ true
+  pub same : IsPermutation entries world
+  pub in_order : IsWorld world
+
+-- the first line with which the lines so far are no world any more
+pub record IsFirstBadLine (text : List ℕ) (line : ℕ) : Type 0 where
+  pub before : ℕ
+  pub number : line ≡ before + 1
+  pub within : before < length (lines_of text)
+  pub good_before : is_ok (with_lines [] 1 (take before (lines_of text))) ≡ true
+  pub bad_with : is_ok (with_lines [] 1 (take (before + 1) (lines_of text))) ≡ false

@@ -1,0 +1,17 @@
+-- What the refusals of the readers say.
+use Rattle.std.specs.Prelude.{◌≡◌, ℕ, List, Result, Err}
+use Rattle.dep_core.specs.declared.world.WorldFault.{WorldFault}
+use Rattle.dep_core.specs.declared.world.WorldFault.TheVariants.{Bad as BadWorld, Memory as WorldMemory}
+use Rattle.dep_core.specs.declared.repos.ReposFault.{ReposFault}
+use Rattle.dep_core.specs.declared.repos.ReposFault.TheVariants.{Bad as BadRepos, Memory as ReposMemory}
+use Rattle.dep_core.specs.Dependency.{Dependency}
+use Rattle.dep_core.specs.Repositories.{Repository}
+
+-- a bad line is the first one; want of memory says nothing of the text
+abbrev pub IsWorldFault : WorldFault → Result (List Dependency) ℕ → Type 0
+IsWorldFault (BadWorld line) read = read ≡ Err line
+IsWorldFault WorldMemory read = Unit {0}
+
+abbrev pub IsReposFault : ReposFault → Result (List Repository) ℕ → Type 0
+IsReposFault (BadRepos line) read = read ≡ Err line
+IsReposFault ReposMemory read = Unit {0}

@@ -1,0 +1,11 @@
+pub mod Dependency
+pub mod Reading
+pub mod Spelling
+pub mod Value
+pub mod Seen
+pub mod World
+pub mod Repositories
+pub mod Faults
+pub mod Found
+pub mod Entries
+pub mod RepositoryText

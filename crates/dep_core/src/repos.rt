@@ -1,0 +1,205 @@
+ghost use Rattle.std.specs.Prelude.{◌≡◌, ◌<◌, ◌==◌, ◌++◌, length, slice_get, Some, None, if◌then◌else◌, IfOk, IfErr, option_copied};
+ghost use Rattle.std.specs.Option.{option_map};
+ghost use Rattle.dep_core.specs.Repositories.{at_path, begins_with_blank, is_comment, repositories_of, repositories_on, repository_of, tagged_repository, trimmed, without_blanks_behind, without_slash};
+ghost use Rattle.dep_core.specs.Faults.{IsReposFault};
+
+use crate::names::is_tag;
+use crate::runs::{blank_len, is_blank, tag_len};
+use base_core::{Name, Text};
+use std::alloc::{AllocError, Global};
+use std::marker::Model;
+
+/// Why repositories are not read.
+#[derive(Clone, Copy, Debug, PartialEq, Eq)]
+pub enum ReposFault {
+    /// The first line, counted from 1, that names no index.
+    Bad { line: u64 },
+    /// There was no memory.
+    Memory,
+}
+
+impl From<AllocError> for ReposFault {
+    ghost use Rattle.std.specs.Prelude.{◌≡◌};
+    ghost use Rattle.dep_core.specs.declared.repos.ReposFault.TheVariants.{Memory};
+
+    ghost from_gives = { λ _ fault. fault ≡ Memory };
+
+    fn from(_: AllocError) -> ReposFault {
+        ReposFault::Memory
+    }
+}
+
+// The file of an index, and its tag.
+#[derive(Drop)]
+struct Repo {
+    tag: Option<Text>,
+    path: Name,
+}
+
+impl Model for Repo {
+    ghost use Rattle.dep_core.specs.Repositories.{Repository, repository};
+
+    ghost Value = { Repository };
+
+    ghost view = { λ repo. repository repo.tag repo.path };
+}
+
+/// Where indexes lie, in the order of the lines, some under a tag.
+#[derive(Drop)]
+pub struct Repos {
+    repos: Vec<Repo>,
+}
+
+impl Model for Repos {
+    ghost use Rattle.std.specs.Prelude.{List};
+    ghost use Rattle.dep_core.specs.Repositories.{Repository};
+
+    ghost Value = { List Repository };
+
+    ghost view = { λ repos. repos.repos.items };
+}
+
+impl Repos {
+    /// The repositories that a text names, a path on each line, or `@`, a tag, spaces or tabs and a path. Lines that
+    /// are empty or begin with `#` are passed over, as are spaces and tabs at both ends of a line. One leading `/` of
+    /// a path is dropped, and the rest must be a name.
+    pub fn read(alloc: Global, bytes: &[u8]) -> Result<Repos, ReposFault>
+        ensures ok { IfOk result (λ repos. repositories_of bytes.now ≡ Ok repos) }
+        ensures bad { IfErr result (λ fault. IsReposFault fault (repositories_of bytes.now)) }
+    {
+        let mut repos = Vec::new(alloc);
+        let mut line = 0;
+        for text in bytes.split(|byte| *byte == b'\n') {
+            line += 1;
+            if !add_line(alloc, &mut repos, text)? {
+                return Err(ReposFault::Bad { line });
+            }
+        }
+        Ok(Repos { repos })
+    }
+
+    /// How many there are.
+    pub fn len(&self) -> usize
+        ensures { result ≡ length self.now }
+    {
+        self.repos.len()
+    }
+
+    /// Whether there is none.
+    pub fn is_empty(&self) -> bool
+        ensures { result ≡ (length self.now == 0) }
+    {
+        self.repos.is_empty()
+    }
+
+    /// The path at a place, counted from 0.
+    pub fn path(&self, i: usize) -> &Name
+        requires { i < length self.now }
+        ensures { option_map (λ repo. repo.path) (slice_get self.now i) ≡ Some result.now }
+    {
+        &self.repos[i].path
+    }
+
+    /// The tag at a place, counted from 0.
+    pub fn tag(&self, i: usize) -> Option<&[u8]>
+        requires { i < length self.now }
+        ensures { option_map (λ repo. repo.tag) (slice_get self.now i) ≡ Some (option_copied result) }
+    {
+        self.repos[i].tag.as_ref().map(|tag| tag.as_bytes())
+    }
+}
+
+// Adds what a line names, and tells whether the line is good.
+fn add_line(alloc: Global, repos: &mut Vec<Repo>, line: &[u8]) -> Result<bool, AllocError>
+    ensures { IfOk result (λ good. option_map (λ found. repos.old.items ++ found) (repositories_on line.now) ≡ (if good then Some repos.new.items else None)) }
+{
+    let line = trimmed(line);
+    if is_comment(line) {
+        return Ok(true);
+    }
+    let Some(repo) = read_repo(alloc, line)? else {
+        return Ok(false);
+    };
+    repos.push(repo)?;
+    Ok(true)
+}
+
+// Without spaces and tabs at both ends.
+fn trimmed(text: &[u8]) -> &[u8]
+    ensures { result.now ≡ trimmed text.now }
+{
+    without_blanks_behind(&text[blank_len(text)..])
+}
+
+fn without_blanks_behind(text: &[u8]) -> &[u8]
+    ensures { result.now ≡ without_blanks_behind text.now }
+{
+    let mut end = text.len();
+    while end > 0 && is_blank(text[end - 1]) {
+        end -= 1;
+    }
+    &text[..end]
+}
+
+// Whether a line without blanks at its ends is passed over.
+fn is_comment(text: &[u8]) -> bool
+    ensures { result ≡ is_comment text.now }
+{
+    match text.first() {
+        Some(byte) => *byte == b'#',
+        None => true,
+    }
+}
+
+#[tactic(auto, unfolding(crate::specs::Repositories::repository_of))]
+fn read_repo(alloc: Global, text: &[u8]) -> Result<Option<Repo>, AllocError>
+    ensures { IfOk result (λ found. found ≡ repository_of text.now) }
+{
+    match text.split_first() {
+        Some((b'@', rest)) => read_tagged(alloc, rest),
+        Some(_) => at_path(alloc, None, text),
+        None => Ok(None),
+    }
+}
+
+#[tactic(auto, unfolding(crate::specs::Repositories::tagged_repository))]
+fn read_tagged(alloc: Global, text: &[u8]) -> Result<Option<Repo>, AllocError>
+    ensures { IfOk result (λ found. found ≡ tagged_repository text.now) }
+{
+    let (tag, rest) = text.split_at(tag_len(text));
+    if !is_tag(tag) || !begins_with_blank(rest) {
+        return Ok(None);
+    }
+    at_path(alloc, Some(tag), &rest[blank_len(rest)..])
+}
+
+fn begins_with_blank(text: &[u8]) -> bool
+    ensures { result ≡ begins_with_blank text.now }
+{
+    match text.first() {
+        Some(byte) => is_blank(*byte),
+        None => false,
+    }
+}
+
+fn at_path(alloc: Global, tag: Option<&[u8]>, path: &[u8]) -> Result<Option<Repo>, AllocError>
+    ensures { IfOk result (λ found. found ≡ at_path (option_copied tag.entry) path.now) }
+{
+    let Some(path) = Name::read(alloc, without_slash(path))? else {
+        return Ok(None);
+    };
+    let tag = match tag {
+        Some(tag) => Some(Text::of(alloc, tag)?),
+        None => None,
+    };
+    Ok(Some(Repo { tag, path }))
+}
+
+fn without_slash(path: &[u8]) -> &[u8]
+    ensures { result.now ≡ without_slash path.now }
+{
+    match path.split_first() {
+        Some((b'/', rest)) => rest,
+        _ => path,
+    }
+}
