@@ -33,8 +33,11 @@ impl<W: Write + Drop> Sink for HostSink<W> {
     ghost counts = { λ sink. host_counts sink.faults };
 
     fn write(&mut self, piece: &[u8]) -> Result<usize, SinkFault> {
+        if piece.is_empty() {
+            return Ok(0);
+        }
         match self.inner.write(piece) {
-            Ok(n) if n > 0 || piece.is_empty() => Ok(n),
+            Ok(n) if n > 0 => Ok(n),
             _ => Err(self.fault()),
         }
     }

@@ -1,5 +1,5 @@
 -- The counts of several calls.
-use Rattle.std.proofs.Common.{◌≤◌, ◌⊎◌, inl, inr, ℕ, ◌+◌, ◌-◌, ◌^◌, min, Result, Ok, Err, arith}
+use Rattle.std.proofs.Common.{◌≡◌, ◌∙◌, ◌≤◌, ◌⊎◌, inl, inr, ℕ, ◌+◌, ◌-◌, ◌^◌, min, Result, Ok, Err, arith}
 use Rattle.base_core.specs.Faults.{Counts, GoesOn, HasCause, FailsWithCause, Rose, risen}
 
 pub goes_on_twice : (a b c : Counts) → GoesOn a b → GoesOn b c → GoesOn a c
@@ -24,6 +24,6 @@ cause_later a b c h k = record {
 }
 
 -- a call that fails, behind calls that did not
-pub fails_after : {T E : Type 0} (a b c : Counts) (result : Result T E) → GoesOn a b → FailsWithCause b c result → FailsWithCause a c result
-fails_after a b c (Ok x) h k = record { goes_on = goes_on_twice a b c h k.goes_on; cause = tt }
-fails_after a b c (Err e) h k = record { goes_on = goes_on_twice a b c h k.goes_on; cause = cause_later a b c h k.cause }
+pub fails_after : {T E : Type 0} (a b c : Counts) (result : Result T E) → GoesOn a b → b.misuses ≡ a.misuses → FailsWithCause b c result → FailsWithCause a c result
+fails_after a b c (Ok x) h same k = record { goes_on = goes_on_twice a b c h k.goes_on; cause = tt; proper = k.proper ∙ same }
+fails_after a b c (Err e) h same k = record { goes_on = goes_on_twice a b c h k.goes_on; cause = cause_later a b c h k.cause; proper = k.proper ∙ same }

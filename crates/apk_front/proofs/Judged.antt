@@ -8,8 +8,13 @@ use Rattle.base_core.specs.declared.tree.TreeFault.{TreeFault}
 use Rattle.base_core.specs.declared.tree.TreeFault.TheVariants.{Disk, Memory as NoMemory}
 use Rattle.apk_front.specs.Answers.{IsAnswer, LeavesFiles, LeavesAny, HasCauses, IsFaultless, IsComplete, FailedAt}
 use Rattle.apk_front.specs.Command.{command_of, rests_on_words}
-use Rattle.apk_front.specs.Outcome.{Outcome, IsOutcome, outcome_of}
-use Rattle.apk_front.specs.Shown.{shown, IsTold, IsShown}
+use Rattle.apk_front.specs.Outcome.{Outcome, IsOutcome, outcome_of, refused, by, run_of}
+use Rattle.apk_front.specs.Shown.{shown, IsTold, IsShown, IsFaultOf}
+use Rattle.apk_front.specs.declared.answer.Refusal.{Refusal}
+use Rattle.apk_front.specs.declared.answer.Refusal.TheVariants.{Usage}
+use Rattle.apk_front.specs.declared.command.Command.{Command}
+use Rattle.apk_front.specs.declared.command.CommandFault.{CommandFault}
+use Rattle.apk_front.specs.declared.command.CommandFault.TheVariants.{Usage as WrongWord}
 use Rattle.apk_front.specs.Sinks.{Sinking, Failed}
 use Rattle.apk_front.specs.declared.answer.Answer.{Answer}
 use Rattle.apk_front.specs.declared.answer.Answer.TheVariants.{Ok as Good, Refused, TreeFault as TreeFailed, OutFault, Memory}
@@ -84,6 +89,19 @@ answered_by_words words (Ok verdict) answer out err usage is_shown rests =
 answered_by_words words (Err Disk) answer out err usage is_shown rests = absurd (let e : Disk ≡ NoMemory = usage rests in cc)
 answered_by_words words (Err NoMemory) answer out err usage is_shown rests =
     subst (λ (a : Answer). IsAnswer words no_names LeavesAny ⊥ a out err) (sym is_shown.0) is_shown.1
+
+pub usage_over : (words : List (List ℕ)) (place : ℕ) (fault : CommandFault) → fault ≡ WrongWord place → IsFaultOf (command_of words) fault → refused no_names (Usage place) ≡ outcome_of words no_names
+usage_over words place fault is of = let read : command_of words ≡ Err (Usage place) = subst (IsFaultOf (command_of words)) is of in sym (ap (λ (r : Result Command Refusal). by no_names r (run_of no_names)) read)
+
+pub answered_by_some : (words : List (List ℕ)) (tree_failed : Type 0) (judged : Judged) (answer : Answer) (out err : Sinking)
+    → IfOk judged (λ verdict. (files : Files) × (shown files verdict ≡ outcome_of words files)) → (IsErrOf judged Disk → tree_failed) → IsShown judged answer out err
+    → (files : Files) × IsAnswer words files LeavesAny tree_failed answer out err
+answered_by_some words tree_failed (Ok verdict) answer out err some disk is_shown =
+    (some.0, told_answer words some.0 LeavesAny tree_failed (shown some.0 verdict) answer out err some.1 tt (is_shown some.0))
+answered_by_some words tree_failed (Err Disk) answer out err some disk is_shown =
+    (no_names, subst (λ (a : Answer). IsAnswer words no_names LeavesAny tree_failed a out err) (sym is_shown.0) (disk refl, is_shown.1))
+answered_by_some words tree_failed (Err NoMemory) answer out err some disk is_shown =
+    (no_names, subst (λ (a : Answer). IsAnswer words no_names LeavesAny tree_failed a out err) (sym is_shown.0) is_shown.1)
 
 -- ---- causes
 

@@ -2,3 +2,4 @@ pub mod Fronts
 pub mod Counting
 pub mod Lines
 pub mod Judged
+pub mod Unplanned

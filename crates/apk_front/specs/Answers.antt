@@ -1,5 +1,5 @@
 -- What a run of the top call answers, and leaves of its two sinks.
-use Rattle.std.specs.Prelude.{◌≡◌, ◌≢◌, ◌⊎◌, ℕ, List, [], Option, Some, None}
+use Rattle.std.specs.Prelude.{◌≡◌, ◌≢◌, ◌⊎◌, ◌<◌, ℕ, ◌-◌, ◌^◌, false, List, [], Option, Some, None}
 use Rattle.base_core.specs.Calls.{HasNow}
 use Rattle.base_core.specs.Faults.{Counts, HasCause, Rose}
 use Rattle.base_core.specs.Files.{Files}
@@ -86,3 +86,16 @@ pub record IsFaultless (before after : Counts) (out err : Sinking) : Type 0 wher
 -- the answer is the outcome's, unless memory ran out
 abbrev pub IsComplete : List (List ℕ) → Files → Answer → Type 0
 IsComplete words files answer = (answer ≡ Memory) ⊎ ((outcome : Outcome) × IsOutcome words files outcome × (answer ≡ answer_of outcome))
+
+-- no failure is planned, and the count of misuses is below its last value
+pub record IsUnplanned (counts : Counts) : Type 0 where
+  pub unplanned : counts.fallible ≡ false
+  pub below : counts.misuses < 2 ^ 64 - 1
+
+-- The answer, all bytes and the files are the outcome's, or memory ran out: the run's, or the own memory of the tree or of a sink.
+abbrev pub IsOutcomeUnlessMemory : List (List ℕ) → Files → (Outcome → Type 0) → Answer → Counts → Counts → Sinking → Sinking → Type 0
+IsOutcomeUnlessMemory words files Leaves Ok before after out err = (outcome : Outcome) × IsOutcome words files outcome × IsStated outcome Ok out err × Leaves outcome
+IsOutcomeUnlessMemory words files Leaves (Refused refusal) before after out err = (outcome : Outcome) × IsOutcome words files outcome × IsStated outcome (Refused refusal) out err × Leaves outcome
+IsOutcomeUnlessMemory words files Leaves TreeFault before after out err = Rose before.wants after.wants
+IsOutcomeUnlessMemory words files Leaves OutFault before after out err = Rose out.before.wants out.after.wants ⊎ Rose err.before.wants err.after.wants
+IsOutcomeUnlessMemory words files Leaves Memory before after out err = Unit {0}

@@ -6,4 +6,3 @@ pub mod Answers
 pub mod Parts
 pub mod Errors
 pub mod Shown
-pub mod InMemory

@@ -1,6 +1,6 @@
 -- What a call makes of a sink.
-use Rattle.std.specs.Prelude.{ℕ, List, Option, Result, OnOk, OnErr}
-use Rattle.base_core.specs.Faults.{Counts, HasCause, FailsWithCause}
+use Rattle.std.specs.Prelude.{◌≡◌, ℕ, List, Option, Result, OnOk, OnErr}
+use Rattle.base_core.specs.Faults.{Counts, GoesOn, HasCause, FailsWithCause}
 use Rattle.base_core.specs.Sink.{Adds, AddsSome}
 
 -- what a sink told before a call and tells after it
@@ -28,3 +28,8 @@ pub record Writes {T E : Type 0} (bytes : List ℕ) (sink : Sinking) (result : R
   pub ok : OnOk result (Gets sink bytes)
   pub err : OnErr result (GetsSome sink bytes)
   pub cause : FailsWithCause sink.before sink.after result
+
+-- its counts go on, and it was not misused
+pub record KeepsCount (sink : Sinking) : Type 0 where
+  pub goes_on : GoesOn sink.before sink.after
+  pub proper : sink.after.misuses ≡ sink.before.misuses

@@ -1,10 +1,10 @@
 ghost use Rattle.std.specs.Prelude.{◌≡◌, IsTrue};
-ghost use Rattle.apk_front.specs.Answers.{IsAnswer, LeavesFiles, LeavesAny, HasCauses, IsFaultless, IsComplete};
+ghost use Rattle.apk_front.specs.Answers.{IsAnswer, LeavesFiles, LeavesAny, HasCauses, IsFaultless, IsComplete, IsUnplanned, IsOutcomeUnlessMemory};
 ghost use Rattle.apk_front.specs.Command.{command_of, reads_only, rests_on_words};
-ghost use Rattle.apk_front.specs.Sinks.{sinking};
+ghost use Rattle.apk_front.specs.Sinks.{sinking, KeepsCount};
 ghost use Rattle.base_core.specs.Calls.{OnTold};
 ghost use Rattle.base_core.specs.Faults.{GoesOn, HasCause};
-ghost use Rattle.base_core.specs.Files.{no_names};
+ghost use Rattle.base_core.specs.Files.{Files, no_names};
 ghost use Rattle.base_core.specs.Tree.{files_of};
 
 use crate::answer::Answer;
@@ -40,17 +40,32 @@ pub fn apk<T: Tree, O: Sink, E: Sink>(
     ensures every_tree { IsTrue (rests_on_words (command_of words.now)) → IsAnswer words.now no_names LeavesAny ⊥ result
         (sinking O.bytes O.counts out.old out.new) (sinking E.bytes E.counts err.old err.new) }
 
-    // For every tree and sink: each fault has its cause and prints just its line, and no count falls.
+    // For every tree, also one that tells nothing: the answer and the bytes are those over some files.
+    ensures some_files { (files : Files) × IsAnswer words.now files LeavesAny (HasCause (T.counts tree.old) (T.counts tree.new)) result
+        (sinking O.bytes O.counts out.old out.new) (sinking E.bytes E.counts err.old err.new) }
+
+    // For every tree and sink: each fault has its cause, a fault of the tree and want of memory print just their line,
+    // and the counts go on.
     ensures causes { HasCauses result (HasCause (T.counts tree.old) (T.counts tree.new))
         (sinking O.bytes O.counts out.old out.new) (sinking E.bytes E.counts err.old err.new) }
-    ensures tree_goes_on { GoesOn (T.counts tree.old) (T.counts tree.new) }
-    ensures out_goes_on { GoesOn (O.counts out.old) (O.counts out.new) }
-    ensures err_goes_on { GoesOn (E.counts err.old) (E.counts err.new) }
+    ensures tree_counts { GoesOn (T.counts tree.old) (T.counts tree.new) }
+    ensures out_counts { KeepsCount (sinking O.bytes O.counts out.old out.new) }
+    ensures err_counts { KeepsCount (sinking E.bytes E.counts err.old err.new) }
+
+    // Where the outcome rests on the words alone, no call is made on the tree.
+    ensures untouched { IsTrue (rests_on_words (command_of words.now)) → tree.new ≡ tree.old }
 
     // A command that only reads leaves the tree as it is, and makes no misuse of it.
     ensures same { IsTrue (reads_only (command_of words.now)) → T.history tree.new ≡ T.history tree.old }
     ensures proper { OnTold (T.history tree.old) (λ v. IsTrue (reads_only (command_of words.now))
         → (T.counts tree.new).misuses ≡ (T.counts tree.old).misuses) }
+
+    // Where no failure is planned of the tree and the sinks, such a command ends as its outcome says, unless memory ran
+    // out: the run's, or the own memory of one of the three.
+    ensures unless_memory { OnTold (T.history tree.old) (λ v. IsTrue (reads_only (command_of words.now))
+        → IsUnplanned (T.counts tree.old) → IsUnplanned (O.counts out.old) → IsUnplanned (E.counts err.old)
+        → IsOutcomeUnlessMemory words.now (files_of v) (LeavesFiles (T.history tree.new)) result (T.counts tree.old) (T.counts tree.new)
+        (sinking O.bytes O.counts out.old out.new) (sinking E.bytes E.counts err.old err.new)) }
 {
     let judged = judge(alloc, words, tree);
     show(judged, out, err)

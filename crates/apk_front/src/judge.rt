@@ -33,6 +33,8 @@ pub(crate) fn judge<T: Tree>(
     tree: &mut T,
 ) -> Result<Verdict, TreeFault>
     ensures found { IfOk result (λ verdict. OnTold (T.history tree.old) (λ v. shown (files_of v) verdict ≡ outcome_of words.now (files_of v))) }
+    ensures some_files { IfOk result (λ verdict. (files : Files) × (shown files verdict ≡ outcome_of words.now files)) }
+    ensures untouched { IsErr (command_of words.now) → tree.new ≡ tree.old }
     ensures usage { IsErr (command_of words.now) → MatchResult result (λ verdict. (files : Files) → shown files verdict ≡ outcome_of words.now files) (λ fault. fault ≡ TreeFault.Memory) }
     ensures same { T.history tree.new ≡ T.history tree.old }
     ensures goes_on { GoesOn (T.counts tree.old) (T.counts tree.new) }
@@ -49,6 +51,7 @@ pub(crate) fn judge<T: Tree>(
 // Reads a file and tests it.
 fn verify<T: Tree>(alloc: Global, file: Name, tree: &mut T) -> Result<Verdict, TreeFault>
     ensures found { IfOk result (λ verdict. OnTold (T.history tree.old) (λ v. shown (files_of v) verdict ≡ verify_bytes (files_of v) file (files_of v file))) }
+    ensures some_files { IfOk result (λ verdict. (files : Files) × (shown files verdict ≡ verify_bytes files file (files file))) }
     ensures same { T.history tree.new ≡ T.history tree.old }
     ensures goes_on { GoesOn (T.counts tree.old) (T.counts tree.new) }
     ensures disk { IsErrOf result TreeFault.Disk → HasCause (T.counts tree.old) (T.counts tree.new) }

@@ -10,13 +10,11 @@ mod command;
 mod error;
 mod front;
 mod judge;
-mod memory;
 mod parts;
 mod show;
 
 pub use answer::{Answer, Refusal, status};
 pub use front::apk;
-pub use memory::apk_in_memory;
 
 #[cfg(test)]
 mod tests;

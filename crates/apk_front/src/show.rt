@@ -3,9 +3,8 @@ ghost use Rattle.std.specs.Prelude.{◌≡◌};
 ghost use Rattle.apk_front.specs.Answers.{IsFault, GetsLine};
 ghost use Rattle.apk_front.specs.Outcome.{reported, refused};
 ghost use Rattle.apk_front.specs.Shown.{IsShown, IsTold, shown};
-ghost use Rattle.apk_front.specs.Sinks.{sinking};
+ghost use Rattle.apk_front.specs.Sinks.{sinking, KeepsCount};
 ghost use Rattle.apk_front.specs.Texts.{verified_line, tree_line, memory_line};
-ghost use Rattle.base_core.specs.Faults.{GoesOn};
 ghost use Rattle.base_core.specs.Files.{Files};
 
 use crate::answer::{Answer, Refusal};
@@ -21,16 +20,16 @@ pub(crate) fn show<O: Sink, E: Sink>(
     err: &mut E,
 ) -> Answer
     ensures shown { IsShown judged result (sinking O.bytes O.counts out.old out.new) (sinking E.bytes E.counts err.old err.new) }
-    ensures out_goes_on { GoesOn (O.counts out.old) (O.counts out.new) }
-    ensures err_goes_on { GoesOn (E.counts err.old) (E.counts err.new) }
+    ensures out_counts { KeepsCount (sinking O.bytes O.counts out.old out.new) }
+    ensures err_counts { KeepsCount (sinking E.bytes E.counts err.old err.new) }
 {
     print(&judged, out, err)
 }
 
 fn print<O: Sink, E: Sink>(judged: &Result<Verdict, TreeFault>, out: &mut O, err: &mut E) -> Answer
     ensures shown { IsShown judged.now result (sinking O.bytes O.counts out.old out.new) (sinking E.bytes E.counts err.old err.new) }
-    ensures out_goes_on { GoesOn (O.counts out.old) (O.counts out.new) }
-    ensures err_goes_on { GoesOn (E.counts err.old) (E.counts err.new) }
+    ensures out_counts { KeepsCount (sinking O.bytes O.counts out.old out.new) }
+    ensures err_counts { KeepsCount (sinking E.bytes E.counts err.old err.new) }
 {
     match judged {
         Ok(verdict) => print_verdict(verdict, out, err),
@@ -47,8 +46,8 @@ fn print<O: Sink, E: Sink>(judged: &Result<Verdict, TreeFault>, out: &mut O, err
 
 fn print_verdict<O: Sink, E: Sink>(verdict: &Verdict, out: &mut O, err: &mut E) -> Answer
     ensures told { (files : Files) → IsTold (shown files verdict.now) result (sinking O.bytes O.counts out.old out.new) (sinking E.bytes E.counts err.old err.new) }
-    ensures out_goes_on { GoesOn (O.counts out.old) (O.counts out.new) }
-    ensures err_goes_on { GoesOn (E.counts err.old) (E.counts err.new) }
+    ensures out_counts { KeepsCount (sinking O.bytes O.counts out.old out.new) }
+    ensures err_counts { KeepsCount (sinking E.bytes E.counts err.old err.new) }
 {
     match verdict {
         Verdict::Verified(file) => report(file, out, err),
@@ -58,8 +57,8 @@ fn print_verdict<O: Sink, E: Sink>(verdict: &Verdict, out: &mut O, err: &mut E) 
 
 fn report<O: Sink, E: Sink>(file: &Name, out: &mut O, _err: &mut E) -> Answer
     ensures told { (files : Files) → IsTold (reported files (verified_line file.now)) result (sinking O.bytes O.counts out.old out.new) (sinking E.bytes E.counts _err.old _err.new) }
-    ensures out_goes_on { GoesOn (O.counts out.old) (O.counts out.new) }
-    ensures err_goes_on { GoesOn (E.counts _err.old) (E.counts _err.new) }
+    ensures out_counts { KeepsCount (sinking O.bytes O.counts out.old out.new) }
+    ensures err_counts { KeepsCount (sinking E.bytes E.counts _err.old _err.new) }
 {
     match write_parts(&[file.as_bytes(), b": OK\n"], out) {
         Ok(()) => Answer::Ok,
@@ -69,8 +68,8 @@ fn report<O: Sink, E: Sink>(file: &Name, out: &mut O, _err: &mut E) -> Answer
 
 fn refuse<O: Sink, E: Sink>(refusal: &Refusal, _out: &mut O, err: &mut E) -> Answer
     ensures told { (files : Files) → IsTold (refused files refusal.now) result (sinking O.bytes O.counts _out.old _out.new) (sinking E.bytes E.counts err.old err.new) }
-    ensures out_goes_on { GoesOn (O.counts _out.old) (O.counts _out.new) }
-    ensures err_goes_on { GoesOn (E.counts err.old) (E.counts err.new) }
+    ensures out_counts { KeepsCount (sinking O.bytes O.counts _out.old _out.new) }
+    ensures err_counts { KeepsCount (sinking E.bytes E.counts err.old err.new) }
 {
     match write_error(refusal, err) {
         Ok(()) => Answer::Refused(*refusal),
@@ -81,7 +80,7 @@ fn refuse<O: Sink, E: Sink>(refusal: &Refusal, _out: &mut O, err: &mut E) -> Ans
 // A fault's line; a fault of the sink changes nothing in the answer.
 fn fail<E: Sink>(line: &[u8], err: &mut E)
     ensures line { GetsLine (sinking E.bytes E.counts err.old err.new) line.now }
-    ensures goes_on { GoesOn (E.counts err.old) (E.counts err.new) }
+    ensures counts { KeepsCount (sinking E.bytes E.counts err.old err.new) }
 {
     let _ = write_all(err, line);
 }

@@ -327,7 +327,7 @@ fn check(alloc: Global, rt: &impl Abort, row: &Row) -> Result<(), Fail> {
     let words = words_of(alloc, row.words)?;
     let mut out = MemorySink::new(alloc);
     let mut err = MemorySink::new(alloc);
-    let answer = apk_in_memory(alloc, &words, &mut tree, &mut out, &mut err);
+    let answer = apk(alloc, &words, &mut tree, &mut out, &mut err);
     let wanted = match row.refusal {
         None => Answer::Ok,
         Some(refusal) => Answer::Refused(refusal),
@@ -337,6 +337,11 @@ fn check(alloc: Global, rt: &impl Abort, row: &Row) -> Result<(), Fail> {
     assert_eq!(rt; err.bytes(), row.err);
     assert_eq!(rt; tree.faults(), 0);
     assert_eq!(rt; tree.wants(), 0);
+    assert_eq!(rt; out.wants(), 0);
+    assert_eq!(rt; err.wants(), 0);
+    if let Some(Refusal::Usage { .. }) = row.refusal {
+        assert_eq!(rt; tree.calls(), 0);
+    }
     Ok(())
 }
 

@@ -41,8 +41,8 @@ impl From<AllocError> for TreeFault {
     }
 }
 
-/// A tree of files under names. No name of it is a folder of another. Each call answers `Disk` only where the tree's
-/// count of faults rose in it, also where the tree tells nothing else.
+/// A tree of files under names. A call that would make one name a folder of another is a misuse. Each call answers
+/// `Disk` only where the tree's count of faults rose in it, also where the tree tells nothing else.
 pub trait Tree {
     /// The states so far, the newest first. It is empty for a tree that tells nothing.
     ghost history: { Self → List TreeState };

@@ -1,5 +1,5 @@
 -- What the counts of a sink in memory say of each refused write.
-use Rattle.std.proofs.Common.{◌≡◌, inl, inr, ℕ, ◌≤◌, List, Err, ap, arith, is_some}
+use Rattle.std.proofs.Common.{◌≡◌, inl, inr, ℕ, ◌≤◌, List, Err, ap, arith, is_some, refl}
 use Rattle.base_core.specs.Faults.{FailsWithCause, risen}
 use Rattle.tree_memory.specs.Sink.{SinkState, sink_counts, IsFull, IsWanting}
 
@@ -10,6 +10,7 @@ full_cause old new piece e full later =
     let wants : new.wants ≡ old.wants = ap (λ (s : SinkState). s.wants) full.counted in record {
       goes_on = record { faults = later; misuses = omega arith; wants = omega (arith, wants); fallible = λ _. ap is_some full.full };
       cause = record { fault = omega (arith, faults); reason = inl (ap is_some full.full) };
+      proper = refl;
     }
 
 pub want_cause : {T E : Type 0} (old new : SinkState) (piece : List ℕ) (e : E) → IsWanting old piece new → old.faults ≤ new.faults → old.wants ≤ new.wants → FailsWithCause {T = T} (sink_counts old) (sink_counts new) (Err e)
@@ -19,4 +20,5 @@ want_cause old new piece e want later more =
     let wants : new.wants ≡ risen old.wants = ap (λ (s : SinkState). s.wants) want.counted in record {
       goes_on = record { faults = later; misuses = omega arith; wants = more; fallible = λ may. cc (may, ap is_some room) };
       cause = record { fault = omega (arith, faults); reason = inr (inr (omega (arith, wants))) };
+      proper = refl;
     }

@@ -1,4 +1,4 @@
-ghost use Rattle.std.specs.Prelude.{◌≡◌, ◌≤◌, List, Option, Some, take, IfOk, OnErr};
+ghost use Rattle.std.specs.Prelude.{◌≡◌, ◌≤◌, List, Option, Some, take, IfOk, OnErr, [], IsOk};
 ghost use Rattle.base_core.specs.Faults.{FailsWithCause, risen};
 ghost use Rattle.base_core.specs.Sink.{Adds, IsTaken};
 ghost use Rattle.tree_memory.specs.Sink.{SinkState, new_sink, sink_counts, fitting, Takes, Refuses};
@@ -94,6 +94,7 @@ impl Sink for MemorySink {
 
     fn write(&mut self, piece: &[u8]) -> Result<usize, SinkFault>
         ensures taken { IfOk result (λ n. IsTaken n piece.now) }
+        ensures empty { piece.now ≡ [] → IsOk result }
         ensures added { IfOk result (λ n. Adds (Some self.old.bytes) (Some self.new.bytes) (take n piece.now)) }
         ensures unchanged { OnErr result (Some self.new.bytes ≡ Some self.old.bytes) }
         ensures cause { FailsWithCause (sink_counts self.old) (sink_counts self.new) result }

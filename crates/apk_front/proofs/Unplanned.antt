@@ -1,0 +1,46 @@
+-- Where no failure is planned, only want of memory stands in the place of an outcome.
+use Rattle.std.proofs.Common.{◌≡◌, ◌⊎◌, inl, inr, ℕ, ◌<◌, ◌-◌, ◌^◌, Bool, true, false, IsTrue, List, [], ◌∷◌, Option, Some, None, Result, Ok, Err, refl, sym, ap, ◌∙◌, arith}
+use Rattle.base_core.specs.Calls.{OnTold}
+use Rattle.base_core.specs.Faults.{Counts, HasCause, Rose}
+use Rattle.base_core.specs.Files.{Files}
+use Rattle.base_core.specs.Tree.{TreeState, files_of}
+use Rattle.apk_front.specs.Answers.{IsAnswer, LeavesFiles, FailedAt, IsUnplanned, IsOutcomeUnlessMemory}
+use Rattle.apk_front.specs.Outcome.{Outcome}
+use Rattle.apk_front.specs.Sinks.{Sinking, KeepsCount}
+use Rattle.apk_front.specs.declared.answer.Answer.{Answer}
+use Rattle.apk_front.specs.declared.answer.Answer.TheVariants.{Ok as Good, Refused, TreeFault, OutFault, Memory}
+
+not_risen : (m n : ℕ) → n ≡ m → m < 2 ^ 64 - 1 → Rose m n → ⊥
+not_risen m n same below rose = omega arith
+
+wanted : (before after : Counts) → IsUnplanned before → after.misuses ≡ before.misuses → HasCause before after → Rose before.wants after.wants
+wanted before after unplanned same cause = elim cause.reason [
+  | inl fallible ↦ let planned : true ≡ false = sym fallible ∙ unplanned.unplanned in absurd (cc)
+  | inr (inl misuse) ↦ absurd (not_risen before.misuses after.misuses same unplanned.below misuse)
+  | inr (inr want) ↦ want
+]
+
+sink_wanted : (o : Outcome) (out err : Sinking) → IsUnplanned out.before → IsUnplanned err.before → KeepsCount out → KeepsCount err → FailedAt out o.out ⊎ FailedAt err o.err
+    → Rose out.before.wants out.after.wants ⊎ Rose err.before.wants err.after.wants
+sink_wanted o out err calm_out calm_err keeps_out keeps_err (inl failed) = inl (wanted out.before out.after calm_out keeps_out.proper failed.failed)
+sink_wanted o out err calm_out calm_err keeps_out keeps_err (inr failed) = inr (wanted err.before err.after calm_err keeps_err.proper failed.failed)
+
+ends_as_stated : (words : List (List ℕ)) (files : Files) (Leaves : Outcome → Type 0) (before after : Counts) (answer : Answer) (out err : Sinking)
+    → IsAnswer words files Leaves (HasCause before after) answer out err → after.misuses ≡ before.misuses → KeepsCount out → KeepsCount err
+    → IsUnplanned before → IsUnplanned out.before → IsUnplanned err.before
+    → IsOutcomeUnlessMemory words files Leaves answer before after out err
+ends_as_stated words files Leaves before after Good out err stated same keeps_out keeps_err calm calm_out calm_err = stated
+ends_as_stated words files Leaves before after (Refused refusal) out err stated same keeps_out keeps_err calm calm_out calm_err = stated
+ends_as_stated words files Leaves before after TreeFault out err (cause, fault) same keeps_out keeps_err calm calm_out calm_err = wanted before after calm same cause
+ends_as_stated words files Leaves before after OutFault out err (o, is, fault, leaves) same keeps_out keeps_err calm calm_out calm_err = sink_wanted o out err calm_out calm_err keeps_out keeps_err fault.cause
+ends_as_stated words files Leaves before after Memory out err fault same keeps_out keeps_err calm calm_out calm_err = tt
+
+pub ends_unless_memory : (reads : Bool) (words : List (List ℕ)) (old now : List TreeState) (before after : Counts) (answer : Answer) (out err : Sinking)
+    → OnTold old (λ v. IsAnswer words (files_of v) (LeavesFiles now) (HasCause before after) answer out err)
+    → OnTold old (λ v. after.misuses ≡ before.misuses)
+    → KeepsCount out → KeepsCount err
+    → OnTold old (λ v. IsTrue reads → IsUnplanned before → IsUnplanned out.before → IsUnplanned err.before
+    → IsOutcomeUnlessMemory words (files_of v) (LeavesFiles now) answer before after out err)
+ends_unless_memory reads words [] now before after answer out err stated proper keeps_out keeps_err = tt
+ends_unless_memory reads words (v ∷ rest) now before after answer out err stated proper keeps_out keeps_err = λ only calm calm_out calm_err.
+    ends_as_stated words (files_of v) (LeavesFiles now) before after answer out err stated proper keeps_out keeps_err calm calm_out calm_err
