@@ -4,14 +4,18 @@ ghost use Rattle.dep_core.specs.Dependency.{dependency_by, is_dependency};
 
 use version_core::{Op, Version};
 
-/// A dependency: what a package needs, or with `conflict` what it excludes (apk-package(5), "depend"). Without version
-/// `op` is the operator `=`. A tag stands in world only (apk-world(5)).
+/// A dependency: what a package needs, or what it excludes (apk-package(5), "depend").
 #[derive(Drop)]
 pub struct Dep<'a> {
+    /// The name, of 1 to 255 bytes.
     pub name: &'a [u8],
+    /// The version that is wanted. Without one, any version is taken.
     pub version: Option<Version<'a>>,
+    /// How a version is to compare with the wanted one: `=` where none is wanted.
     pub op: Op,
+    /// Whether it excludes what meets it.
     pub conflict: bool,
+    /// The tag of the repositories that may serve it; it stands in world only (apk-world(5)).
     pub tag: Option<&'a [u8]>,
     pub ghost in_grammar: { IsTrue (is_dependency (dependency_by name.now version op conflict (option_copied tag))) },
 }

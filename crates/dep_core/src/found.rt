@@ -1,5 +1,4 @@
-ghost use Rattle.std.specs.Prelude.{◌≡◌, ◌==◌, [], Some, None, not, if◌then◌else◌, length, IfOk, OnOk};
-ghost use Rattle.std.specs.List.{filter};
+ghost use Rattle.std.specs.Prelude.{◌≡◌, [], Some, None, not, if◌then◌else◌, IfOk, OnOk};
 ghost use Rattle.std.specs.Option.{option_and_then};
 ghost use Rattle.dep_core.specs.Reading.{dependency_of};
 ghost use Rattle.dep_core.specs.Seen.{dependency};
@@ -47,7 +46,8 @@ impl<'a> Found<'a> {
 
     /// Adds the entries of a line, and tells whether each of its words is a dependency of a new name.
     pub fn add_line(&mut self, line: &'a [u8]) -> Result<bool, AllocError>
-        ensures { IfOk result (λ good. with_words self.old (words_of line.entry.now) ≡ (if good then Some self.new else None)) }
+        ensures { IfOk result (λ good.
+            with_words self.old (words_of line.entry.now) ≡ (if good then Some self.new else None)) }
     {
         for word in line.split(|byte| is_blank(*byte)) {
             if word.is_empty() {
@@ -62,7 +62,9 @@ impl<'a> Found<'a> {
 
     // Adds the entry that a word is, and tells whether it is a dependency of a new name.
     fn add_word(&mut self, word: &'a [u8]) -> Result<bool, AllocError>
-        ensures { IfOk result (λ good. option_and_then (with_new self.old) (dependency_of word.entry.now) ≡ (if good then Some self.new else None)) }
+        ensures { IfOk result (λ good.
+            option_and_then (with_new self.old) (dependency_of word.entry.now)
+            ≡ (if good then Some self.new else None)) }
     {
         match read_dep(word) {
             Some(dep) => self.add(&dep),

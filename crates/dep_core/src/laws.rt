@@ -33,7 +33,9 @@ pub fn texts_are_read_back()
 
 /// The value of a dependency without tag is read as that dependency.
 pub fn values_are_read_back()
-    ensures { (d : Dependency) → IsDependency d → d.tag ≡ None → (let v = dep_value d in dependency_of_value v.name v.version (unwrap_or v.matching 0) ≡ Some d) }
+    ensures { (d : Dependency) → IsDependency d → d.tag ≡ None →
+        (let v = dep_value d in
+        dependency_of_value v.name v.version (unwrap_or v.matching 0) ≡ Some d) }
 {
     read_is_spelled();
 }
@@ -52,7 +54,9 @@ pub fn worlds_hold_their_words()
 
 /// A text whose words are dependencies of different names is a world.
 pub fn words_apart_are_a_world()
-    ensures { (text : List ℕ) (entries : List Dependency) → map dependency_of (words_in text) ≡ map Some entries → IsTrue (are_apart entries) → IsTrue (is_ok (world_of text)) }
+    ensures { (text : List ℕ) (entries : List Dependency) →
+        map dependency_of (words_in text) ≡ map Some entries → IsTrue (are_apart entries) →
+        IsTrue (is_ok (world_of text)) }
 {}
 
 /// The bad line that is told is the first one.
@@ -62,5 +66,6 @@ pub fn first_bad_line_is_told()
 
 /// The text of repositories is read as these repositories.
 pub fn repositories_are_read_back()
-    ensures { (found : List Repository) → IsTrue (list_all is_line_repository found) → repositories_of (repositories_text found) ≡ Ok found }
+    ensures { (found : List Repository) → IsTrue (list_all is_line_repository found) →
+        repositories_of (repositories_text found) ≡ Ok found }
 {}

@@ -4,7 +4,8 @@
 //!
 //! Bytes come in; `Dep`, `World` and `Repos` go out, and texts of them. A `Dep` borrows and takes no memory. The
 //! contracts cite `specs/`: `Dependency` (the parts, the grammar, the text), `Reading`, `Value`, `Seen` (what a `Dep`
-//! stands for), `World` and `Repositories`. `Spelling` says once more which texts a dependency has.
+//! stands for), `World` and `Repositories`. `Spelling`, `Entries` and `RepositoryText` say the same apart from how a
+//! text is read, and the functions of `laws` join the two.
 #![tactic(auto)]
 
 mod dep;

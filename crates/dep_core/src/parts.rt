@@ -1,4 +1,4 @@
-ghost use Rattle.std.specs.Prelude.{◌≡◌, Some, IsTrue, is_some};
+ghost use Rattle.std.specs.Prelude.{◌≡◌, IsTrue, is_some};
 ghost use Rattle.dep_core.specs.Dependency.{is_dep_name, is_tag, operator_text};
 ghost use Rattle.dep_core.specs.Reading.{any_version, with_limit, with_tag};
 ghost use Rattle.dep_core.specs.Seen.{dependency};

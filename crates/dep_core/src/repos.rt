@@ -111,7 +111,9 @@ impl Repos {
 
 // Adds what a line names, and tells whether the line is good.
 fn add_line(alloc: Global, repos: &mut Vec<Repo>, line: &[u8]) -> Result<bool, AllocError>
-    ensures { IfOk result (λ good. option_map (λ found. repos.old.items ++ found) (repositories_on line.now) ≡ (if good then Some repos.new.items else None)) }
+    ensures { IfOk result (λ good.
+        option_map (λ found. repos.old.items ++ found) (repositories_on line.now)
+        ≡ (if good then Some repos.new.items else None)) }
 {
     let line = trimmed(line);
     if is_comment(line) {

@@ -1,6 +1,5 @@
-ghost use Rattle.std.specs.Prelude.{◌≡◌, ◌%◌, ◌<◌, IfSome, IsTrue, is_some};
+ghost use Rattle.std.specs.Prelude.{◌≡◌, IfSome, IsTrue, is_some};
 ghost use Rattle.std.specs.Option.{option_map};
-ghost use Rattle.version_core.specs.Op.{is_op};
 ghost use Rattle.dep_core.specs.Dependency.{operator_text};
 ghost use Rattle.dep_core.specs.Seen.{dependency};
 ghost use Rattle.dep_core.specs.Value.{bits_of, dependency_of_value};

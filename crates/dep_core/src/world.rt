@@ -1,6 +1,6 @@
 ghost use Rattle.std.specs.Prelude.{◌≡◌, ◌<◌, ◌==◌, Some, length, slice_get, IfOk, IfErr, OnOk, OnErr};
 ghost use Rattle.dep_core.specs.Seen.{dependency};
-ghost use Rattle.dep_core.specs.World.{has_name, with_entry, without, world_of, world_text};
+ghost use Rattle.dep_core.specs.World.{IsWorld, has_name, with_entry, without, world_of, world_text};
 ghost use Rattle.dep_core.specs.Faults.{IsWorldFault};
 
 use crate::dep::Dep;
@@ -56,6 +56,7 @@ impl World {
     pub fn read(alloc: Global, bytes: &[u8]) -> Result<World, WorldFault>
         ensures ok { IfOk result (λ world. world_of bytes.now ≡ Ok world) }
         ensures bad { IfErr result (λ fault. IsWorldFault fault (world_of bytes.now)) }
+        ensures world { IfOk result (λ world. IsWorld world) }
     {
         let mut found = Found::new(alloc);
         let mut line = 0;
@@ -88,7 +89,8 @@ impl World {
 
     /// A line for each entry, which are read as this world.
     pub fn text(&self, alloc: Global) -> Result<Text, AllocError>
-        ensures { IfOk result (λ text. text ≡ world_text self.now) }
+        ensures text { IfOk result (λ text. text ≡ world_text self.now) }
+        ensures world { IsWorld self.now }
     {
         let mut text = Vec::new(alloc);
         for entry in &self.entries {
@@ -100,7 +102,8 @@ impl World {
 
     /// How many entries there are.
     pub fn len(&self) -> usize
-        ensures { result ≡ length self.now }
+        ensures value { result ≡ length self.now }
+        ensures world { IsWorld self.now }
     {
         self.entries.len()
     }
