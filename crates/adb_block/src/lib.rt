@@ -2,7 +2,7 @@
 //!
 //! The bytes of a file come in; `Blocks` gives its schema and its blocks, or the first test that failed. The contracts
 //! cite `Container` (the grammar of whole files), `Header` and `Framing` (the tests in their order), `Standing` (where a
-//! reader stands) and `Reading` (all that is read from there) of `specs/`.
+//! reader stands), `Reading` (all that is read from there) and `Reader` (what a call answers) of `specs/`.
 #![tactic(auto)]
 
 mod block;

@@ -24,6 +24,5 @@ cause_later a b c h k = record {
 }
 
 -- a call that fails, behind calls that did not
-pub fails_after : {T E : Type 0} (a b c : Counts) (result : Result T E) → GoesOn a b → b.misuses ≡ a.misuses → FailsWithCause b c result → FailsWithCause a c result
-fails_after a b c (Ok x) h same k = record { goes_on = goes_on_twice a b c h k.goes_on; cause = tt; proper = k.proper ∙ same }
-fails_after a b c (Err e) h same k = record { goes_on = goes_on_twice a b c h k.goes_on; cause = cause_later a b c h k.cause; proper = k.proper ∙ same }
+pub fails_after : {T E : Type 0} (a b c : Counts) (e : E) → GoesOn a b → b.misuses ≡ a.misuses → FailsWithCause {T = T} b c (Err e) → FailsWithCause {T = T} a c (Err e)
+fails_after a b c e h same k = record { goes_on = goes_on_twice a b c h k.goes_on; cause = cause_later a b c h k.cause; kept = tt; proper = k.proper ∙ same }

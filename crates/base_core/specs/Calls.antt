@@ -21,10 +21,11 @@ pub record Moves {T E : Type 0} (done failed : TreeState → TreeState) (old new
   pub ok : OnOk result (OnTold old (λ v. new ≡ done v ∷ old))
   pub err : OnErr result (OnTold old (λ v. (new ≡ old) ⊎ (new ≡ failed v ∷ old)))
 
--- no count falls, an error has its cause, a call that succeeds was no misuse, and just the misuses are counted as such
+-- no count falls, an error has its cause, a call that succeeds is no fault and was no misuse, and just the misuses are counted as such
 pub record Counted {T E : Type 0} (can : TreeState → Type 0) (told : List TreeState) (before now : Counts) (result : Result T E) : Type 0 where
   pub goes_on : GoesOn before now
   pub cause : OnErr result (HasCause before now)
+  pub kept : OnOk result (now.faults ≡ before.faults)
   pub allowed : OnOk result (OnTold told can)
   pub proper : OnTold told (λ v. can v → now.misuses ≡ before.misuses)
   pub misuse : OnTold told (λ v. (can v → ⊥) → now.misuses ≡ risen before.misuses)

@@ -1,5 +1,5 @@
 -- The counts of a tree or a sink: u64 numbers that never fall, and stay at their last value.
-use Rattle.std.specs.Prelude.{◌≡◌, ◌⊎◌, ◌≤◌, ℕ, ◌+◌, ◌-◌, ◌^◌, min, Bool, IsTrue, Result, OnErr}
+use Rattle.std.specs.Prelude.{◌≡◌, ◌⊎◌, ◌≤◌, ℕ, ◌+◌, ◌-◌, ◌^◌, min, Bool, IsTrue, Result, OnOk, OnErr}
 
 pub record Counts : Type 0 where
   -- calls that failed
@@ -31,8 +31,9 @@ pub record HasCause (before now : Counts) : Type 0 where
   pub fault : Rose before.faults now.faults
   pub reason : IsTrue before.fallible ⊎ (Rose before.misuses now.misuses ⊎ Rose before.wants now.wants)
 
--- what a sink's counts say of a call: none falls, each error has its cause, and a sink is never misused
+-- what a sink's counts say of a call: none falls, an error has its cause, a call that succeeds is no fault, and a sink is never misused
 pub record FailsWithCause {T E : Type 0} (before now : Counts) (result : Result T E) : Type 0 where
   pub goes_on : GoesOn before now
   pub cause : OnErr result (HasCause before now)
+  pub kept : OnOk result (now.faults ≡ before.faults)
   pub proper : now.misuses ≡ before.misuses

@@ -20,6 +20,8 @@ pub fn read_all<T: Tree>(
     ensures same { T.history tree.new ≡ T.history tree.old }
     ensures goes_on { GoesOn (T.counts tree.old) (T.counts tree.new) }
     ensures disk { IsErrOf result TreeFault.Disk → HasCause (T.counts tree.old) (T.counts tree.new) }
+    ensures kept { OnOk result ((T.counts tree.new).faults ≡ (T.counts tree.old).faults) }
+    ensures memory { IsErrOf result TreeFault.Memory → (T.counts tree.new).faults ≡ (T.counts tree.old).faults }
     ensures proper { OnTold (T.history tree.old) (λ v. (T.counts tree.new).misuses ≡ (T.counts tree.old).misuses) }
 {
     let Some(size) = tree.size(name)? else {

@@ -50,6 +50,7 @@ module _ (can : TreeState → Type 0) (v : TreeState) (earlier : List TreeState)
       fallible = λ f. more_is_more plan (subst (λ (p : List ℕ). has_more p ≡ true) nearer f);
     };
     cause = tt;
+    kept = ap (λ (u : Tally). u.faults) (is ∙ called);
     allowed = can_do;
     proper = λ _. ap (λ (u : Tally). u.misuses) (is ∙ called);
     misuse = λ cannot. absurd (cannot can_do);
@@ -67,6 +68,7 @@ module _ (can : TreeState → Type 0) (v : TreeState) (earlier : List TreeState)
           fallible = λ f. more_is_more plan (subst (λ (p : List ℕ). has_more p ≡ true) nearer f);
         };
         cause = record { fault = omega (arith, ap (λ (u : Tally). u.faults) is ∙ ap risen f); reason = inr (inl (omega (arith, misuses))) };
+        kept = tt;
         allowed = tt;
         proper = λ can_do. absurd (cannot can_do);
         misuse = λ _. misuses;
@@ -83,6 +85,7 @@ module _ (can : TreeState → Type 0) (v : TreeState) (earlier : List TreeState)
           fallible = λ f. more_is_more plan (subst (λ (p : List ℕ). has_more p ≡ true) nearer f);
         };
         cause = record { fault = omega (arith, ap (λ (u : Tally). u.faults) is ∙ ap risen f); reason = inl (next_is_more plan next) };
+        kept = tt;
         allowed = tt;
         proper = λ _. misuses;
         misuse = λ cannot. absurd (cannot can_do);

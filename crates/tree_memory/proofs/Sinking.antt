@@ -10,6 +10,7 @@ full_cause old new piece e full later =
     let wants : new.wants ≡ old.wants = ap (λ (s : SinkState). s.wants) full.counted in record {
       goes_on = record { faults = later; misuses = omega arith; wants = omega (arith, wants); fallible = λ _. ap is_some full.full };
       cause = record { fault = omega (arith, faults); reason = inl (ap is_some full.full) };
+      kept = tt;
       proper = refl;
     }
 
@@ -20,5 +21,6 @@ want_cause old new piece e want later more =
     let wants : new.wants ≡ risen old.wants = ap (λ (s : SinkState). s.wants) want.counted in record {
       goes_on = record { faults = later; misuses = omega arith; wants = more; fallible = λ may. cc (may, ap is_some room) };
       cause = record { fault = omega (arith, faults); reason = inr (inr (omega (arith, wants))) };
+      kept = tt;
       proper = refl;
     }

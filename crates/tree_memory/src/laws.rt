@@ -1,13 +1,14 @@
 //! What a fault means where no failure is planned.
-ghost use Rattle.std.specs.Prelude.{◌≡◌, ◌⊎◌, [], None};
+ghost use Rattle.std.specs.Prelude.{◌≡◌, ◌⊎◌, false, None};
 ghost use Rattle.base_core.specs.Faults.{HasCause, Rose};
 ghost use Rattle.tree_memory.specs.Memory.{plan_of, counts_of};
+ghost use Rattle.tree_memory.specs.Plans.{has_more};
 ghost use Rattle.tree_memory.specs.Sink.{SinkState, sink_counts};
 ghost use Rattle.tree_memory.specs.declared.tree.MemoryTree.{MemoryTree};
 
 /// Where no failure of a tree in memory is planned, a fault is a misuse, or comes for want of its own memory.
 pub fn an_unplanned_fault_has_its_reason()
-    ensures { (before now : MemoryTree) → plan_of before ≡ [] → HasCause (counts_of before) (counts_of now)
+    ensures { (before now : MemoryTree) → has_more (plan_of before) ≡ false → HasCause (counts_of before) (counts_of now)
         → Rose (counts_of before).misuses (counts_of now).misuses ⊎ Rose (counts_of before).wants (counts_of now).wants }
 {}
 

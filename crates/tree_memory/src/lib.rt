@@ -2,7 +2,8 @@
 //! filled by hand, fail where it is planned, and are read back.
 //!
 //! Names and bytes come in and are lent. The contracts cite `Memory` (the states of a tree, its counts and its plan),
-//! `Changes` (what a put makes of a state), `Plans` (which calls are to fail) and `Sink` (the sink) of `specs/`.
+//! `Changes` (what a put makes of a state), `Kept` (where a file may be put), `Plans` (which calls are to fail) and `Sink`
+//! (the sink) of `specs/`.
 #![tactic(auto)]
 
 mod changes;

@@ -17,5 +17,6 @@ pub loop-part-preserved : goal.loop-part-preserved
 loop-part-preserved g c = record {
   written = added-more _ _ _ _ c.loop-part.part-index _ c.loop-part-test.true c.loop-part.invariant.written c.in_ok-write_all.ensures.ok;
   goes_on = goes_on_twice _ _ _ c.loop-part.invariant.goes_on c.write_all.ensures.cause.goes_on;
+  kept = c.in_ok-write_all.ensures.cause.kept ∙ c.loop-part.invariant.kept;
   proper = c.write_all.ensures.cause.proper ∙ c.loop-part.invariant.proper;
 }

@@ -6,5 +6,6 @@ pub loop-rest-preserved : goal.loop-rest-preserved
 loop-rest-preserved g c = record {
   written = rw take-behind (one_more _ _ _ _ _ _ c.loop-rest.invariant.written c.in_ok-taken.ensures.added);
   goes_on = goes_on_twice _ _ _ c.loop-rest.invariant.goes_on c.write.ensures.cause.goes_on;
+  kept = c.in_ok-taken.ensures.cause.kept ∙ c.loop-rest.invariant.kept;
   proper = c.write.ensures.cause.proper ∙ c.loop-rest.invariant.proper;
 }

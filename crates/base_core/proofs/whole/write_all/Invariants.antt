@@ -7,6 +7,7 @@ abbrev pub invariant-loop-rest : goal.invariant-loop-rest
 invariant-loop-rest g l = record {
   written : IsUnderWay (g.S.Sink.bytes l.initial.sink) (g.S.Sink.bytes l.sink) l.bytes l.rest;
   goes_on : GoesOn (g.S.Sink.counts l.initial.sink) (g.S.Sink.counts l.sink);
+  kept : (g.S.Sink.counts l.sink).faults ≡ (g.S.Sink.counts l.initial.sink).faults;
   proper : (g.S.Sink.counts l.sink).misuses ≡ (g.S.Sink.counts l.initial.sink).misuses;
 }
 
