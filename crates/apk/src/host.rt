@@ -18,7 +18,9 @@ pub struct HostTree<'a, R: Files> {
 }
 
 impl<'a, R: Files> HostTree<'a, R> {
-    pub fn new(rt: &'a R) -> HostTree<'a, R> {
+    pub fn new(rt: &'a R) -> HostTree<'a, R>
+        ensures { result.faults ≡ 0 }
+    {
         HostTree { rt, faults: 0 }
     }
 

@@ -14,7 +14,9 @@ pub struct HostSink<W: Write + Drop> {
 }
 
 impl<W: Write + Drop> HostSink<W> {
-    pub fn new(inner: W) -> HostSink<W> {
+    pub fn new(inner: W) -> HostSink<W>
+        ensures { result.faults ≡ 0 }
+    {
         HostSink { inner, faults: 0 }
     }
 
