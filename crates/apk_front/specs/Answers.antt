@@ -69,7 +69,7 @@ LeavesFiles now outcome = outcome.refusal ≡ None → HasNow now (λ w. files_o
 abbrev pub LeavesAny : Outcome → Type 0
 LeavesAny outcome = Unit {0}
 
--- each fault has its cause, and only its line is printed; so it is for want of memory
+-- each fault has its cause; a fault of the tree, and want of memory, print just their line
 abbrev pub HasCauses : Answer → Type 0 → Sinking → Sinking → Type 0
 HasCauses Ok tree_failed out err = Unit {0}
 HasCauses (Refused refusal) tree_failed out err = Unit {0}

@@ -1,7 +1,6 @@
 -- What the parts of the code hand on.
-use Rattle.std.specs.Prelude.{◌≡◌, ℕ, List, Option, Some, None, Result, Ok, Err}
+use Rattle.std.specs.Prelude.{◌≡◌, ℕ, List, Result, Ok, Err}
 use Rattle.base_core.specs.Files.{Files}
-use Rattle.base_core.specs.declared.cause.Cause.{Cause}
 use Rattle.base_core.specs.declared.tree.TreeFault.{TreeFault}
 use Rattle.base_core.specs.declared.tree.TreeFault.TheVariants.{Disk, Memory as NoMemory}
 use Rattle.apk_front.specs.Answers.{IsStated, IsOutFault, IsFault}
@@ -22,11 +21,6 @@ use Rattle.apk_front.specs.declared.judge.Verdict.TheVariants.{Verified, Refused
 abbrev pub IsFaultOf : Result Command Refusal → CommandFault → Type 0
 IsFaultOf read (WrongWord place) = read ≡ Err (Usage place)
 IsFaultOf read OutOfMemory = Unit {0}
-
--- the cause of a refusal, if the answer is one
-abbrev pub cause_of : {A : Type 0} → Result A Cause → Option Cause
-cause_of (Ok x) = None
-cause_of (Err cause) = Some cause
 
 -- a verdict as an outcome
 abbrev pub shown : Files → Verdict → Outcome

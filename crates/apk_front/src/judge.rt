@@ -1,9 +1,10 @@
 // A command line judged: its words are read and its files are tested.
 ghost use Rattle.std.specs.Prelude.{◌≡◌, IfOk, IsErr, IsErrOf, MatchResult, OnOk};
 ghost use Rattle.adb_block.specs.Reading.{reading_of};
+ghost use Rattle.adb_view.specs.Gives.{cause_of};
 ghost use Rattle.apk_front.specs.Command.{command_of};
 ghost use Rattle.apk_front.specs.Outcome.{container_fault, framing_fault, outcome_of, verify_bytes};
-ghost use Rattle.apk_front.specs.Shown.{cause_of, shown};
+ghost use Rattle.apk_front.specs.Shown.{shown};
 ghost use Rattle.base_core.specs.Calls.{OnTold};
 ghost use Rattle.base_core.specs.Faults.{GoesOn, HasCause};
 ghost use Rattle.base_core.specs.Files.{Files};
