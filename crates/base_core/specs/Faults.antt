@@ -31,6 +31,11 @@ pub record HasCause (before now : Counts) : Type 0 where
   pub fault : Rose before.faults now.faults
   pub reason : IsTrue before.fallible ⊎ (Rose before.misuses now.misuses ⊎ Rose before.wants now.wants)
 
+-- no fault was counted
+pub record IsNoFault (before now : Counts) : Type 0 where
+  pub faults : now.faults ≡ before.faults
+  pub wants : now.wants ≡ before.wants
+
 -- what a sink's counts say of a call: none falls, an error has its cause, a call that succeeds is no fault, and a sink is never misused
 pub record FailsWithCause {T E : Type 0} (before now : Counts) (result : Result T E) : Type 0 where
   pub goes_on : GoesOn before now

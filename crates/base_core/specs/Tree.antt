@@ -75,6 +75,10 @@ after_remove name v = remove_at name v (v.names name)
 abbrev pub after_sync_names : TreeState → TreeState
 after_sync_names v = record v { older = [] }
 
+-- a call that failed and made nothing of it
+abbrev pub unchanged : TreeState → TreeState
+unchanged v = v
+
 -- ---- where a call is no misuse
 
 abbrev pub Anywhere : TreeState → Type 0

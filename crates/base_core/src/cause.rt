@@ -14,13 +14,55 @@ pub enum Cause {
     /// The container is compressed.
     Compressed,
     /// The header, or the block at this offset, is not whole.
-    Truncated { at: u64 },
+    Truncated {
+        at: u64,
+    },
     /// The block at this offset has an unknown type, or stands where its type may not.
-    BlockOrder { at: u64 },
+    BlockOrder {
+        at: u64,
+    },
     /// The payload's compatibility version is not 0.
     CompatVersion,
     /// The value's range leaves the payload.
-    Outside { word: u32 },
+    Outside {
+        word: u32,
+    },
     /// The value is of another kind than asked for.
-    WrongKind { word: u32 },
+    WrongKind {
+        word: u32,
+    },
+    /// The container has this schema, and not one that is asked for.
+    WrongSchema {
+        found: u32,
+    },
+    /// The payload has at least this many values, which are too many.
+    TooLarge {
+        count: u32,
+    },
+    /// A field's value is outside its grammar. `place` is 100 times the schema's number plus the field's number.
+    BadText {
+        place: u16,
+    },
+    /// A name stands twice, at two positions that count from 1. `place` is as in `BadText`.
+    Repeated {
+        place: u16,
+        first: u32,
+        second: u32,
+    },
+    /// The contents of one file stand where those of another have to. Both are told by the positions of the folder and
+    /// of the file in it, which count from 1; (0, 0) is none.
+    DataOrder {
+        expected: (u32, u32),
+        found: (u32, u32),
+    },
+    /// The contents of a file have another length in bytes than its entry says.
+    DataSize {
+        wanted: u64,
+        found: u64,
+    },
+    /// The contents of a file have another digest than its entry says.
+    HashDiffers {
+        wanted: Digest,
+        found: Digest,
+    },
 }

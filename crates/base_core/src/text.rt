@@ -26,6 +26,13 @@ impl Text {
         Ok(Text { bytes })
     }
 
+    /// The bytes as a text, without a copy.
+    pub fn from_vec(bytes: Vec<u8>) -> Text
+        ensures { result ≡ bytes.items }
+    {
+        Text { bytes }
+    }
+
     /// The bytes of the text.
     pub fn as_bytes(&self) -> &[u8]
         ensures { result.now ≡ self.now }

@@ -1,12 +1,13 @@
-ghost use Rattle.std.specs.Prelude.{◌≡◌, List, Option, length, take, drop, IfOk, OnOk, IfSome, All};
+ghost use Rattle.std.specs.Prelude.{◌≡◌, List, Option, length, take, drop, IfOk, OnOk, IfSome, IsErrOf, All};
 ghost use Rattle.std.specs.Option.{option_map};
-ghost use Rattle.base_core.specs.Tree.{TreeState, files_of, Anywhere, CanRead, IsWhole};
-ghost use Rattle.base_core.specs.Faults.{Counts};
-ghost use Rattle.base_core.specs.Calls.{Counted, OnTold};
+ghost use Rattle.base_core.specs.Tree.{TreeState, files_of, after_create, after_append, after_failed_append, after_sync, after_rename, after_remove, after_sync_names, unchanged, Anywhere, HasName, CanRead, CanCreate, CanRename, IsWhole};
+ghost use Rattle.base_core.specs.Faults.{Counts, GoesOn, HasCause, IsNoFault};
+ghost use Rattle.base_core.specs.Calls.{Counted, Moves, OnTold};
+ghost use Rattle.base_core.specs.Listed.{IsListOf};
 ghost use Rattle.base_core.specs.declared.tree.TreeFault.TheVariants.{Memory, Disk as DiskFault};
 
-use crate::name::Name;
-use std::alloc::AllocError;
+use crate::name::{Name, Names};
+use std::alloc::{AllocError, Global};
 use thiserror::Error;
 
 /// A tree failed.
@@ -63,6 +64,49 @@ pub trait Tree {
         ensures counts { Counted (CanRead name.now at (length into.old)) (history self.old) (counts self.old) (counts self.new) result }
         ensures value { OnOk result (OnTold (history self.old) (λ v. IfSome (files_of v name.now) (λ bytes.
             into.new ≡ take (length into.old) (drop at bytes)))) };
+
+    /// Makes an empty file, which is not synced. A name that is present, or that would make one name a folder of
+    /// another, is a misuse, and a fault.
+    fn create(&mut self, name: &Name) -> Result<(), Disk>
+        ensures moves { Moves (after_create name.now) (after_create name.now) (history self.old) (history self.new) result }
+        ensures counts { Counted (CanCreate name.now) (history self.old) (counts self.old) (counts self.new) result };
+
+    /// Adds a piece at the file's end. The file is not synced any more, and where the call fails it may not be either.
+    /// An absent name is a misuse, and a fault.
+    fn append(&mut self, name: &Name, piece: &[u8]) -> Result<(), Disk>
+        ensures moves { Moves (after_append name.now piece.now) (after_failed_append name.now) (history self.old) (history self.new) result }
+        ensures counts { Counted (HasName name.now) (history self.old) (counts self.old) (counts self.new) result };
+
+    /// Makes a crash leave the file's bytes as they are. An absent name is a misuse, and a fault.
+    fn sync(&mut self, name: &Name) -> Result<(), Disk>
+        ensures moves { Moves (after_sync name.now) unchanged (history self.old) (history self.new) result }
+        ensures counts { Counted (HasName name.now) (history self.old) (counts self.old) (counts self.new) result };
+
+    /// Lets `to` lead to the file of `from`, and `from` to none, in one step; what `to` led to is gone. An absent
+    /// `from`, the same name twice, or a `to` that would make one name a folder of another is a misuse, and a fault.
+    fn rename(&mut self, from: &Name, to: &Name) -> Result<(), Disk>
+        ensures moves { Moves (after_rename from.now to.now) (after_rename from.now to.now) (history self.old) (history self.new) result }
+        ensures counts { Counted (CanRename from.now to.now) (history self.old) (counts self.old) (counts self.new) result };
+
+    /// Takes a name away. An absent name is no fault, and nothing changes.
+    fn remove(&mut self, name: &Name) -> Result<(), Disk>
+        ensures moves { Moves (after_remove name.now) (after_remove name.now) (history self.old) (history self.new) result }
+        ensures counts { Counted Anywhere (history self.old) (counts self.old) (counts self.new) result };
+
+    /// Makes every later crash leave the names as they are now, or as they are made later.
+    fn sync_names(&mut self) -> Result<(), Disk>
+        ensures moves { Moves after_sync_names unchanged (history self.old) (history self.new) result }
+        ensures counts { Counted Anywhere (history self.old) (counts self.old) (counts self.new) result };
+
+    /// All names below a folder, at any depth, in byte order. Want of memory is no fault of the tree.
+    fn list(&mut self, alloc: Global, folder: &Name) -> Result<Names, TreeFault>
+        ensures same { history self.new ≡ history self.old }
+        ensures goes_on { GoesOn (counts self.old) (counts self.new) }
+        ensures disk { IsErrOf result DiskFault → HasCause (counts self.old) (counts self.new) }
+        ensures kept { OnOk result (IsNoFault (counts self.old) (counts self.new)) }
+        ensures memory { IsErrOf result Memory → IsNoFault (counts self.old) (counts self.new) }
+        ensures proper { (counts self.new).misuses ≡ (counts self.old).misuses }
+        ensures value { IfOk result (λ names. OnTold (history self.old) (λ v. IsListOf folder.now v names)) };
 
     /// Each state that is told has finitely many names, and led to no file that was never made.
     ghost whole: { (tree : Self) → All IsWhole (history tree) };
