@@ -1,2 +1,4 @@
 pub mod Added
 pub mod Left
+pub mod Rising
+pub mod OneList

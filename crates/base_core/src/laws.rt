@@ -1,8 +1,9 @@
-//! What follows from the definitions of a crash, for every state of a tree.
+//! What follows from the definitions of a crash and of a listing, for every state of a tree.
 ghost use Rattle.std.specs.Prelude.{◌≡◌, ℕ, List, Option, Bool, true};
 ghost use Rattle.base_core.specs.Crash.{IsImage, IsImageBy, IsCrashOf, IsOrderly};
-ghost use Rattle.base_core.specs.Files.{Files, NameMap};
-ghost use Rattle.base_core.specs.Tree.{TreeState, IsMapOf, files_of, files_by};
+ghost use Rattle.base_core.specs.Files.{Files, NameMap, IsWithin};
+ghost use Rattle.base_core.specs.Listed.{IsNamesOf, IsListOf};
+ghost use Rattle.base_core.specs.Tree.{TreeState, IsMapOf, IsWhole, files_of, files_by};
 
 /// The files as read are among what a crash may leave.
 pub fn a_crash_may_leave_the_files_as_read()
@@ -24,4 +25,27 @@ pub fn order_outlasts_a_crash()
     ensures { (rests_on : Files → List ℕ → Bool) (v : TreeState) → IsOrderly (λ files q. rests_on files q ≡ true) v
         → (map : NameMap) → IsMapOf v map → (image : Files) → IsImageBy v map image
         → (q : List ℕ) → rests_on (files_by v map) q ≡ true → image q ≡ files_by v map q }
+{}
+
+/// Each folder of a whole state has a listing, and no second one.
+pub fn a_folder_has_one_listing()
+    ensures exists { (v : TreeState) → IsWhole v → (folder : List ℕ) → (names : List (List ℕ)) × IsListOf folder v names }
+    ensures one { (v : TreeState) (folder : List ℕ) (a b : List (List ℕ)) → IsListOf folder v a → IsListOf folder v b → a ≡ b }
+{}
+
+/// A map with finitely many names has a list of them, and no second one. Each map of a whole state is such a map.
+pub fn a_map_has_one_list_of_names()
+    ensures exists { (map : NameMap) (within : List (List ℕ)) → IsWithin within map → (names : List (List ℕ)) × IsNamesOf map names }
+    ensures one { (map : NameMap) (a b : List (List ℕ)) → IsNamesOf map a → IsNamesOf map b → a ≡ b }
+{}
+
+/// Files under finitely many names have a list of their names, and no second one.
+pub fn files_have_one_list_of_names()
+    ensures exists { (files : Files) (within : List (List ℕ)) → IsWithin within files → (names : List (List ℕ)) × IsNamesOf files names }
+    ensures one { (files : Files) (a b : List (List ℕ)) → IsNamesOf files a → IsNamesOf files b → a ≡ b }
+{}
+
+/// The files as read stand under just the names as read.
+pub fn the_files_as_read_have_the_names_as_read()
+    ensures { (v : TreeState) (names : List (List ℕ)) → IsNamesOf v.names names → IsNamesOf (files_of v) names }
 {}

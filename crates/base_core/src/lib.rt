@@ -2,8 +2,8 @@
 //! their calls mean; whole reads and writes; and the causes for which a container is refused.
 //!
 //! Bytes come in and leave as `Name`, `Text`, `Words` or `Names`. The contracts cite `Name` (what a name is),
-//! `Tree`, `Calls` and `Crash` (the states of a tree and what a crash leaves of it), `Faults` (the counts) and
-//! `Sink` of `specs/`.
+//! `Tree`, `Calls` and `Crash` (the states of a tree and what a crash leaves of it), `Listed` (listings), `Faults` (the
+//! counts) and `Sink` of `specs/`.
 #![tactic(auto)]
 
 mod cause;
@@ -17,7 +17,8 @@ mod whole;
 pub use cause::{Cause, Digest};
 pub use laws::{
     a_crash_leaves_order, a_crash_may_leave_the_files_as_read, a_crash_settles,
-    order_outlasts_a_crash,
+    a_folder_has_one_listing, a_map_has_one_list_of_names, files_have_one_list_of_names,
+    order_outlasts_a_crash, the_files_as_read_have_the_names_as_read,
 };
 pub use name::{Name, Names};
 pub use sink::{Sink, SinkFault};
