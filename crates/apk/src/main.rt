@@ -33,7 +33,7 @@ fn main(rt: HostRuntime) -> ExitCode {
             return ExitCode::from(TOO_MANY_WORDS);
         }
     };
-    let mut tree = HostTree::new(&rt);
+    let mut tree = HostTree::new(&rt, rt.alloc());
     let mut out = HostSink::new(rt.stdout());
     let mut err = HostSink::new(rt.stderr());
     let answer = apk(rt.alloc(), &words, &mut tree, &mut out, &mut err);
