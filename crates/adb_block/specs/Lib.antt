@@ -5,3 +5,4 @@ pub mod Frames
 pub mod Standing
 pub mod Reading
 pub mod Reader
+pub mod Written

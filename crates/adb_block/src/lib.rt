@@ -8,12 +8,14 @@
 mod block;
 mod blocks;
 mod frame;
+mod head;
 mod header;
 mod laws;
 mod number;
 
 pub use block::{Block, BlockKind};
 pub use blocks::Blocks;
+pub use head::{Head, block_head};
 pub use laws::{a_container_has_one_reading, what_is_read_is_spelled, what_is_spelled_is_read};
 
 #[cfg(test)]
