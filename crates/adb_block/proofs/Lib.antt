@@ -5,3 +5,4 @@ pub mod Runs
 pub mod Calls
 pub mod WholeFiles
 mod Rows
+pub mod WrittenBlocks

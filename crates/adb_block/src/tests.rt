@@ -428,3 +428,32 @@ fn whole_files(rt: HostRuntime) -> Result<(), Fail> {
     }
     Ok(())
 }
+
+/// Headers as they are written: a block's kind, the length of its payload, and the bytes.
+const HEADS: [(BlockKind, u64, &[u8]); 5] = [
+    (BlockKind::Adb, 32, SHORT),
+    (BlockKind::Signature, 0, b"\x04\0\0\x40"),
+    (BlockKind::Contents, 0x3fff_fffb, b"\xff\xff\xff\xbf"),
+    (
+        BlockKind::Adb,
+        0x3fff_fffc,
+        b"\0\0\0\xc0\0\0\0\0\x0c\0\0\x40\0\0\0\0",
+    ),
+    (
+        BlockKind::Contents,
+        u64::MAX - 16,
+        b"\x02\0\0\xc0\0\0\0\0\xff\xff\xff\xff\xff\xff\xff\xff",
+    ),
+];
+
+#[test]
+fn headers_of_written_blocks(rt: HostRuntime) -> Result<(), Fail> {
+    for (kind, payload_len, bytes) in HEADS {
+        assert_eq!(rt;
+            block_head(kind, payload_len).bytes(),
+            bytes,
+            "{payload_len}"
+        );
+    }
+    Ok(())
+}
