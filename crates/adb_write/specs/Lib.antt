@@ -1,0 +1,5 @@
+pub mod Canonical
+pub mod Writing
+pub mod Shaped
+pub mod Standing
+pub mod File
