@@ -1,3 +1,5 @@
 pub mod Placed
 pub mod RoundTrip
 pub mod Limits
+pub mod WriterSteps
+pub mod Grown

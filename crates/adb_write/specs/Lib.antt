@@ -3,3 +3,5 @@ pub mod Writing
 pub mod Shaped
 pub mod Standing
 pub mod File
+pub mod Items
+pub mod Kept
