@@ -3,3 +3,4 @@ pub mod RoundTrip
 pub mod Limits
 pub mod WriterSteps
 pub mod Grown
+pub mod Cells

@@ -1,7 +1,7 @@
 -- One call of the writer, as the code makes it.
-use Rattle.std.proofs.Common.{◌≡◌, ℕ, ◌+◌, ◌*◌, ◌^◌, ◌<◌, ◌≤◌, Bool, true, false, ltb, List, ◌++◌, length, replicate, if◌then◌else◌, refl, sym, ap, ◌∙◌, arith}
+use Rattle.std.proofs.Common.{◌≡◌, ℕ, ◌+◌, ◌*◌, ◌^◌, ◌<◌, ◌≤◌, Bool, true, false, List, [], ◌∷◌, ◌++◌, length, replicate, if◌then◌else◌, refl, sym, ap, ◌∙◌, arith}
 use Rattle.std.proofs.lemmas.List.{length-append, length-replicate}
-use Rattle.adb_write.specs.Canonical.{gap, Item, apart, in_place, Layout, placed, counts_of, passes}
+use Rattle.adb_write.specs.Canonical.{gap, Item, apart, in_place, blob_cell, run_cell, Layout, placed, counts_of, passes}
 use Rattle.adb_write.specs.Writing.{Writing, layout, written_as, call, made}
 
 pub call_past : (i : Item) (body : List ℕ) (bytes values : ℕ) → passes (bytes, values) ≡ true → call (apart i) (made body bytes values) ≡ (0, made body bytes values)
@@ -47,3 +47,11 @@ call_fits i body bytes values a e r =
 
     writing_same : (x : Layout) (c : ℕ × ℕ) → counts_of x ≡ c → x.body ≡ body ++ (replicate (gap i.align bytes) 0 ++ i.bytes) → written_as x ≡ made (body ++ (replicate (gap i.align bytes) 0 ++ i.bytes)) c.0 c.1
     writing_same x c f g = ap (λ (b : List ℕ). made b (counts_of x).0 (counts_of x).1) g ∙ ap (λ (k : ℕ × ℕ). made (body ++ (replicate (gap i.align bytes) 0 ++ i.bytes)) k.0 k.1) f
+
+pub blob_null : (b : List ℕ) (w : Writing) → length b ≡ 0 → call (blob_cell b) w ≡ (0, w)
+blob_null [] w e = call_null w
+blob_null (x ∷ xs) w e = absurd (omega arith)
+
+pub run_null : (kind : ℕ) (ws : List ℕ) (w : Writing) → length ws ≡ 0 → call (run_cell kind ws) w ≡ (0, w)
+run_null kind [] w e = call_null w
+run_null kind (x ∷ xs) w e = absurd (omega arith)

@@ -2,6 +2,7 @@
 ghost use Rattle.std.specs.Prelude.{◌≡◌, ◌≤◌, ◌<◌, ◌+◌, ◌-◌, ◌^◌, ◌++◌, length, replicate, take, OnOk, OnErr};
 ghost use Rattle.std.specs.List.{flat_map};
 ghost use Rattle.std.specs.Int.{w32, to_le_bytes};
+ghost use Rattle.adb_write.specs.Canonical.{apart, int_cell, blob_cell, run_cell};
 ghost use Rattle.adb_write.specs.Items.{width_len, content_bytes, content_entries, item_of};
 
 use adb_view::Val;
@@ -93,7 +94,65 @@ pub(crate) struct Parts<'a> {
     pub content: Content<'a>,
 }
 
-impl Parts<'_> {
+impl<'a> Parts<'a> {
+    /// An integer that its word cannot hold.
+    #[tactic(auto, using(crate::proofs::Cells::int_32, crate::proofs::Cells::int_64))]
+    pub(crate) fn int(n: u64) -> Parts<'a>
+        requires { 2 ^ 28 ≤ n }
+        ensures kind { result.kind < 15 }
+        ensures is { apart (item_of result) ≡ int_cell n }
+    {
+        let (kind, width) = if n < 1 << 32 {
+            (kind::INT_32, Width::Four)
+        } else {
+            (kind::INT_64, Width::Eight)
+        };
+        Parts {
+            kind,
+            width,
+            number: n,
+            content: Content::Bytes(&[]),
+        }
+    }
+
+    /// A blob that is not empty.
+    #[tactic(auto, using(crate::proofs::Cells::blob_8, crate::proofs::Cells::blob_16, crate::proofs::Cells::blob_32))]
+    pub(crate) fn blob(bytes: &'a [u8]) -> Parts<'a>
+        requires { 0 < length bytes.now }
+        ensures kind { result.kind < 15 }
+        ensures is { apart (item_of result) ≡ blob_cell bytes.entry.now }
+    {
+        let len = bytes.len();
+        let (kind, width) = if len < 1 << 8 {
+            (kind::BLOB_8, Width::One)
+        } else if len < 1 << 16 {
+            (kind::BLOB_16, Width::Two)
+        } else {
+            (kind::BLOB_32, Width::Four)
+        };
+        Parts {
+            kind,
+            width,
+            number: len as u64,
+            content: Content::Bytes(bytes),
+        }
+    }
+
+    /// An array or an object that is not empty, by the kind of its word.
+    #[tactic(auto, using(crate::proofs::Cells::run_is))]
+    pub(crate) fn run(kind: u32, words: &'a [Val]) -> Parts<'a>
+        requires { 0 < length words.now }
+        ensures kind { result.kind ≡ kind }
+        ensures is { apart (item_of result) ≡ run_cell kind words.entry.now }
+    {
+        Parts {
+            kind,
+            width: Width::Four,
+            number: words.len() as u64 + 1,
+            content: Content::Words(words),
+        }
+    }
+
     /// How many bytes it takes.
     pub(crate) fn len(&self) -> u64
         ensures value { result ≡ length (item_of self.now).bytes }

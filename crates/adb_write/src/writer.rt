@@ -6,7 +6,7 @@ ghost use Rattle.adb_write.specs.Kept.{IsFinished};
 
 use crate::counts::Counts;
 use crate::fault::WriteFault;
-use crate::item::{Content, Parts, Width, kind};
+use crate::item::{Parts, kind};
 use adb_view::Val;
 use std::alloc::{AllocError, Global};
 use std::marker::Model;
@@ -57,17 +57,68 @@ impl Writer {
         if n < 1 << 28 {
             return Ok(self.in_word(0x1000_0000 + n as u32));
         }
-        let (kind, width) = if n < 1 << 32 {
-            (kind::INT_32, Width::Four)
-        } else {
-            (kind::INT_64, Width::Eight)
-        };
-        self.add(&Parts {
-            kind,
-            width,
-            number: n,
-            content: Content::Bytes(&[]),
-        })
+        self.add(&Parts::int(n))
+    }
+
+    /// Writes a blob, with its length in one byte below 256 bytes, in two below 65,536, else in four. An empty one is NULL.
+    #[tactic(auto, using(crate::proofs::WriterSteps::blob_null))]
+    pub fn blob(&mut self, bytes: &[u8]) -> Result<Val, AllocError>
+        ensures ok { IfOk result (λ word. (word, self.new) ≡ blob_call bytes.now self.old) }
+        ensures err { OnErr result (self.new ≡ self.old) }
+    {
+        if bytes.is_empty() {
+            return Ok(Val::of(0));
+        }
+        self.add(&Parts::blob(bytes))
+    }
+
+    /// Writes an array of values of this writer, or NULLs. An empty one is NULL.
+    pub fn arr(&mut self, entries: &[Val]) -> Result<Val, AllocError>
+        ensures ok { IfOk result (λ word. (word, self.new) ≡ arr_call entries.now self.old) }
+        ensures err { OnErr result (self.new ≡ self.old) }
+    {
+        self.run(kind::ARRAY, entries)
+    }
+
+    /// Writes an object of values of this writer, or NULLs, one for each field from the first on. NULLs that stand last
+    /// are dropped, and an object without a value is NULL.
+    pub fn obj(&mut self, fields: &[Val]) -> Result<Val, AllocError>
+        ensures ok { IfOk result (λ word. (word, self.new) ≡ obj_call fields.now self.old) }
+        ensures err { OnErr result (self.new ≡ self.old) }
+    {
+        self.run(kind::OBJECT, trimmed(fields))
+    }
+
+    /// The payload with this root, a value of this writer or NULL; the counts of a writer that passed a limit, exactly
+    /// where one is above its limit. Want of memory is answered only where nothing was written before.
+    pub fn finish(self, root: Val) -> Result<Vec<u8>, WriteFault>
+        ensures { IsFinished (λ payload. payload.items) self result (finished root self) }
+    {
+        if self.counts.passes() {
+            return Err(WriteFault::TooLarge {
+                bytes: self.counts.bytes,
+                values: self.counts.values,
+            });
+        }
+        let mut payload = self.payload;
+        if payload.is_empty() && payload.resize(HEAD as usize, 0).is_err() {
+            return Err(WriteFault::Memory);
+        }
+        payload[4..8].copy_from_slice(&root.word().to_le_bytes());
+        Ok(payload)
+    }
+
+    /// Writes an array or an object, by the kind of its word.
+    #[tactic(auto, using(crate::proofs::WriterSteps::run_null))]
+    fn run(&mut self, kind: u32, words: &[Val]) -> Result<Val, AllocError>
+        requires { kind < 15 }
+        ensures ok { IfOk result (λ word. (word, self.new) ≡ call (run_cell kind words.now) self.old) }
+        ensures err { OnErr result (self.new ≡ self.old) }
+    {
+        if words.is_empty() {
+            return Ok(Val::of(0));
+        }
+        self.add(&Parts::run(kind, words))
     }
 
     /// A value that its word holds whole, or NULL once a limit was passed.
@@ -112,4 +163,16 @@ fn gap(align: u64, n: u64) -> u64
     ensures below { result < align }
 {
     (align - n % align) % align
+}
+
+/// The fields without the NULLs that stand last.
+#[tactic(auto, using(crate::proofs::Cells::trimmed_null, crate::proofs::Cells::trimmed_some))]
+fn trimmed(fields: &[Val]) -> &[Val]
+    ensures { result.now ≡ trimmed_words fields.now }
+{
+    let mut len = fields.len();
+    while len > 0 && fields[len - 1].is_null() {
+        len -= 1;
+    }
+    &fields[..len]
 }
