@@ -1,8 +1,9 @@
 -- The items that the code makes are those of the layout.
-use Rattle.std.proofs.Common.{◌≡◌, ◌≢◌, ℕ, suc, ◌+◌, ◌*◌, ◌^◌, ◌<◌, ◌≤◌, Bool, true, false, eqb, ltb, List, [], ◌∷◌, ◌++◌, length, take, get_or, refl, sym, ap, subst, ◌∙◌, arith, add-one}
+use Rattle.std.proofs.Common.{◌≡◌, ◌≢◌, ℕ, suc, ◌+◌, ◌-◌, ◌*◌, ◌^◌, ◌<◌, ◌≤◌, Bool, true, false, eqb, ltb, List, [], ◌∷◌, ◌++◌, length, take, get_or, refl, sym, ap, subst, ◌∙◌, arith, add-one}
 use Rattle.std.specs.List.{flat_map}
 use Rattle.std.specs.Int.{w8, w16, w32, w64, to_le_bytes}
 use Rattle.std.proofs.lemmas.Bool.{lt-ltb, le-ltb}
+use Rattle.std.proofs.lemmas.List.{take_more}
 use Rattle.adb_write.specs.Canonical.{Item, Cell, apart, int_cell, blob_cell, run_cell, keep_word, trimmed_words}
 use Rattle.adb_write.proofs.RoundTrip.{neq-eqb}
 
@@ -53,3 +54,19 @@ trimmed_null (w ∷ ws) = ap (keep_word w) (trimmed_null ws)
 pub trimmed_some : (w : ℕ) (ws : List ℕ) → w ≢ 0 → trimmed_words (ws ++ w ∷ []) ≡ ws ++ w ∷ []
 trimmed_some w [] ne = let t : eqb w 0 ≡ false = neq-eqb w 0 ne in rw t refl
 trimmed_some w (x ∷ xs) ne = ap (keep_word x) (trimmed_some w xs ne) ∙ keep_last x w xs
+
+-- the first n words are one fewer and the last of them
+one_more : (ws : List ℕ) (n x : ℕ) → 0 < n → n ≤ length ws → x ≡ get_or ws (n - 1) x → take n ws ≡ take (n - 1) ws ++ x ∷ []
+one_more ws n x some within is =
+    let m : n - 1 + 1 ≡ n = omega arith in
+    ap (λ (k : ℕ). take k ws) (sym m) ∙ take_more ws (n - 1) x (omega arith) ∙ ap (λ (y : ℕ). take (n - 1) ws ++ y ∷ []) (sym is)
+
+pub cut_null : (ws : List ℕ) (n x : ℕ) → 0 < n → n ≤ length ws → x ≡ get_or ws (n - 1) x → x ≡ 0 → trimmed_words (take (n - 1) ws) ≡ trimmed_words (take n ws)
+cut_null ws n x some within is null =
+    let last : take n ws ≡ take (n - 1) ws ++ 0 ∷ [] = one_more ws n x some within is ∙ ap (λ (y : ℕ). take (n - 1) ws ++ y ∷ []) null in
+    sym (ap trimmed_words last ∙ trimmed_null (take (n - 1) ws))
+
+pub cut_some : (ws : List ℕ) (n x : ℕ) → 0 < n → n ≤ length ws → x ≡ get_or ws (n - 1) x → x ≢ 0 → trimmed_words (take n ws) ≡ take n ws
+cut_some ws n x some within is ne =
+    let last = one_more ws n x some within is in
+    rw last (trimmed_some x (take (n - 1) ws) ne)

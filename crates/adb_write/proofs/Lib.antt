@@ -4,3 +4,5 @@ pub mod Limits
 pub mod WriterSteps
 pub mod Grown
 pub mod Cells
+pub mod AnyOrder
+pub mod DepthFirst

@@ -10,7 +10,7 @@ use Rattle.adb_view.specs.Head.{root_of}
 use Rattle.adb_view.specs.Readers.{kind_of, low_of, inside, counted_at, counted_words, run_at, int_of, blob_of, run_of, ARRAY, OBJECT}
 use Rattle.adb_write.specs.Canonical.{gap, Item, Cell, in_place, apart, int_cell, blob_cell, run_cell, run_bytes, keep_word, trimmed_words, Layout, start, here, placed, stored, put_run, write, write_all, payload_of, canonical, MOST_BYTES}
 use Rattle.adb_write.specs.Shaped.{Each, HasShape, HaveShapes}
-use Rattle.adb_write.specs.Standing.{Holds, HoldAll}
+use Rattle.adb_write.specs.Standing.{Holds, HoldAll, IsWordOf}
 use Rattle.adb_write.proofs.Placed.{Stands, Stands-append, wide8, wide16, wide32, wide64, number_stands, counted_stands, run_stands, words_len, place, placed_stands, word_kind, word_low}
 
 chosen : {A : Type 0} (b : Bool) (x y z : A) → cond b x y ≡ z → ((b ≡ true) × (x ≡ z)) ⊎ ((b ≡ false) × (y ≡ z))
@@ -293,15 +293,23 @@ run_of-placed kind p w ws small few l =
 
 -- ---- each kind of cell
 
--- what a call made, whatever the root will be
-pub record Made (v : Plain) (r : ℕ × Layout) : Type 0 where
-  pub holds : (root : ℕ) → Holds (payload_of root r.1) v r.0
-  pub small : r.0 < 2 ^ 32
+-- an item has room in a payload; a value that its word holds whole needs none
+abbrev pub Fits : Cell → Layout → Type 0
+Fits (in_place word) out = Unit {0}
+Fits (apart i) out = here (placed i out).1 ≤ MOST_BYTES
 
-pub int_made : (n : ℕ) (out : Layout) → n < 2 ^ 64 → here (stored (int_cell n) out).1 ≤ MOST_BYTES → Made (int n) (stored (int_cell n) out)
+fits_here : (c : Cell) (out : Layout) → here (stored c out).1 ≤ MOST_BYTES → Fits c out
+fits_here (in_place word) out h = tt
+fits_here (apart i) out h = h
+
+-- the word of a step is one of this value
+abbrev pub Made : Plain → ℕ × Layout → Type 0
+Made v r = IsWordOf r.1 v r.0
+
+pub int_made : (n : ℕ) (out : Layout) → n < 2 ^ 64 → Fits (int_cell n) out → Made (int n) (stored (int_cell n) out)
 unfolding Holds
 int_made n out lt =
-    let P : Cell → Type 0 = λ c. here (stored c out).1 ≤ MOST_BYTES → Made (int n) (stored c out) in
+    let P : Cell → Type 0 = λ c. Fits c out → Made (int n) (stored c out) in
     elim (cases_lt n (2 ^ 28)) [
       | inl a ↦
           let t : ltb n (2 ^ 28) ≡ true = lt-ltb _ _ a in
@@ -331,12 +339,12 @@ placed_len i out =
     let zeros : List ℕ = replicate (gap i.align (here out)) 0 in
     omega (arith, length-append out.body (zeros ++ i.bytes), length-append zeros i.bytes, length-replicate {A = ℕ} (gap i.align (here out)) 0)
 
-pub blob_made : (b : List ℕ) (out : Layout) → b ≢ [] → here (stored (blob_cell b) out).1 ≤ MOST_BYTES → Made (blob b) (stored (blob_cell b) out)
+pub blob_made : (b : List ℕ) (out : Layout) → b ≢ [] → Fits (blob_cell b) out → Made (blob b) (stored (blob_cell b) out)
 unfolding Holds
 blob_made [] out ne = absurd (ne refl)
 blob_made (x ∷ xs) out ne =
     let b : List ℕ = x ∷ xs in
-    let P : Cell → Type 0 = λ c. here (stored c out).1 ≤ MOST_BYTES → Made (blob b) (stored c out) in
+    let P : Cell → Type 0 = λ c. Fits c out → Made (blob b) (stored c out) in
     elim (cases_lt (length b) (2 ^ 8)) [
       | inl a ↦
           let t : ltb (length b) (2 ^ 8) ≡ true = lt-ltb _ _ a in
@@ -381,7 +389,7 @@ run_made kind w ws out pos lt15 small fits =
 
 -- ---- an object's words end as its values do
 
-not_null_word : (p : List ℕ) (v : Plain) (w : ℕ) → v ≢ null → Holds p v w → w ≢ 0
+pub not_null_word : (p : List ℕ) (v : Plain) (w : ℕ) → v ≢ null → Holds p v w → w ≢ 0
 unfolding Holds
 not_null_word p null w ne h = absurd (ne refl)
 not_null_word p (int n) w ne h = h.0
@@ -405,7 +413,7 @@ keep_word-is : (w : ℕ) (ws : List ℕ) → (ws ≡ [] → w ≢ 0) → keep_wo
 keep_word-is w (v ∷ vs) h = refl
 keep_word-is w [] h = let t : eqb w 0 ≡ false = neq-eqb w 0 (h refl) in rw t refl
 
-words_stay : (p : List ℕ) (vs : Plains) (ws : List ℕ) → trimmed vs ≡ vs → HoldAll p vs ws → trimmed_words ws ≡ ws
+pub words_stay : (p : List ℕ) (vs : Plains) (ws : List ℕ) → trimmed vs ≡ vs → HoldAll p vs ws → trimmed_words ws ≡ ws
 unfolding Holds
 words_stay p none [] e h = refl
 words_stay p none (w ∷ ws) e h = absurd h
@@ -427,8 +435,8 @@ mutual
 
   pub write-made : (v : Plain) (out : Layout) → IsNormal v → here (write v out).1 ≤ MOST_BYTES → Made v (write v out)
   write-made null out n fits = record { holds = λ root. refl; small = lit< tt }
-  write-made (int k) out n fits = int_made k out n fits
-  write-made (blob b) out n fits = blob_made b out n fits
+  write-made (int k) out n fits = int_made k out n (fits_here (int_cell k) out fits)
+  write-made (blob b) out n fits = blob_made b out n (fits_here (blob_cell b) out fits)
   write-made (arr none) out n fits = absurd (n.0 refl)
   write-made (arr (more v vs)) out n fits =
       let r = write_all (more v vs) out in
@@ -456,7 +464,7 @@ mutual
 
 -- ---- the law
 
-root_again : (root : ℕ) (out : Layout) → root < 2 ^ 32 → root_of (payload_of root out) ≡ root
+pub root_again : (root : ℕ) (out : Layout) → root < 2 ^ 32 → root_of (payload_of root out) ≡ root
 root_again root out lt =
     let four : drop 4 (payload_of root out) ≡ to_le_bytes w32 root ++ out.body = drop_at (0 ∷ 0 ∷ 0 ∷ 0 ∷ []) (to_le_bytes w32 root ++ out.body) 4 refl in
     ap (λ (x : List ℕ). from_le_bytes w32 (take 4 x)) four ∙ ap (from_le_bytes w32) (take_at (to_le_bytes w32 root) out.body 4 (wide32.len root)) ∙ wide32.again root lt

@@ -8,5 +8,9 @@ mod laws;
 mod writer;
 
 pub use fault::WriteFault;
-pub use laws::{a_canonical_payload_is_read_back, depth_first_calls_write_the_canonical_payload};
+pub use laws::{
+    a_canonical_payload_is_read_back, a_finished_payload_is_read_back, a_word_keeps_its_value,
+    an_answer_stands_for_its_value, calls_go_depth_first,
+    depth_first_calls_write_the_canonical_payload,
+};
 pub use writer::Writer;
