@@ -6,3 +6,4 @@ pub mod Grown
 pub mod Cells
 pub mod AnyOrder
 pub mod DepthFirst
+pub mod Visited

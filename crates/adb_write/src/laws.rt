@@ -1,10 +1,16 @@
 //! What follows from the definitions, for every value and every writer.
-ghost use Rattle.std.specs.Prelude.{◌≡◌, ◌≤◌, ◌<◌, ◌^◌, ℕ, List, [], ◌∷◌, Some, Ok};
+ghost use Rattle.std.specs.Prelude.{◌≡◌, ◌≤◌, ◌<◌, ◌^◌, ℕ, List, [], ◌∷◌, length, Some, Ok};
 ghost use Rattle.adb_view.specs.Plain.{Plain, null, int, Plains, none, more, blob_value, arr_value, obj_value, Shape, IsNormal, value_of};
-ghost use Rattle.adb_write.specs.Canonical.{canonical, size_of, written_of, MOST_BYTES};
+ghost use Rattle.adb_view.specs.Head.{root_of};
+ghost use Rattle.adb_view.specs.Visits.{visits};
+ghost use Rattle.adb_block.specs.Container.{Spells};
+ghost use Rattle.adb_write.specs.File.{adb_piece, file_of};
+ghost use Rattle.adb_write.specs.Canonical.{canonical, size_of, value_count, written_of, MOST_BYTES};
 ghost use Rattle.adb_write.specs.Writing.{Writing, empty, int_call, blob_call, arr_call, obj_call, finished, calls, calls_all};
 ghost use Rattle.adb_write.specs.Shaped.{HasShape};
 ghost use Rattle.adb_write.specs.Standing.{StandsFor, AllStandFor};
+
+use adb_block::what_is_written_is_spelled;
 
 /// A canonical payload is read back: its value is the one that was written.
 pub fn a_canonical_payload_is_read_back()
@@ -63,3 +69,18 @@ pub fn a_finished_payload_is_read_back()
         → finished root w ≡ Ok payload → StandsFor w v root → IsNormal v → HasShape shape v
         → value_of payload shape ≡ Some v }
 {}
+
+/// A walk over a canonical payload visits as many words as the value has values. So what is written within the limits
+/// is never too large to be read.
+pub fn a_canonical_payload_is_visited_once()
+    ensures { (shape : Shape) (v : Plain) → IsNormal v → HasShape shape v → size_of v ≤ MOST_BYTES
+        → length (visits (canonical v) shape (root_of (canonical v))) ≡ value_count v }
+{}
+
+/// The file of a payload is spelled by its schema and one block, which holds the payload.
+pub fn a_file_is_spelled()
+    ensures { (schema : ℕ) (payload : List ℕ) → schema < 2 ^ 32 → 8 ≤ length payload → length payload ≤ MOST_BYTES
+        → Spells (file_of schema payload) schema (adb_piece payload ∷ []) }
+{
+    what_is_written_is_spelled();
+}
