@@ -7,3 +7,4 @@ pub mod Cells
 pub mod AnyOrder
 pub mod DepthFirst
 pub mod Visited
+pub mod Overflow

@@ -54,7 +54,7 @@ pub record Within (out : Layout) : Type 0 where
   pub fine : passes (counts_of out) ≡ false
 
 -- either all is written, or the writer stands behind the first value past a limit
-abbrev Ends : {A : Type 0} → List Counts → A × Writing → A × Layout → Type 0
+abbrev pub Ends : {A : Type 0} → List Counts → A × Writing → A × Layout → Type 0
 Ends counts r s = ((find passes counts ≡ None) × (r.0 ≡ s.0) × (r.1 ≡ written_as s.1) × Within s.1) ⊎ ((c : Counts) × (find passes counts ≡ Some c) × ((r.1.bytes, r.1.values) ≡ c) × (is_over r.1 ≡ true))
 
 call-ends : (c : Cell) (out : Layout) → Within out → Ends (counts_of (stored c out).1 ∷ []) (call c (written_as out)) (stored c out)
@@ -119,7 +119,7 @@ mutual
 
 -- ---- the law
 
-start_fine : Within start
+pub start_fine : Within start
 start_fine = record { fine = refl }
 
 pub calls-written : (v : Plain) → finished (calls v empty).0 (calls v empty).1 ≡ written_of v

@@ -191,7 +191,7 @@ Grows-refl out = record { more = []; is = sym (append-nil out.body) }
 Grows-then : (a b c : Layout) → Grows a b → Grows b c → Grows a c
 Grows-then a b c p q = record { more = p.more ++ q.more; is = q.is ∙ ap (λ (x : List ℕ). x ++ q.more) p.is ∙ append_assoc a.body p.more q.more }
 
-Grows-here : (a b : Layout) → Grows a b → here a ≤ here b
+pub Grows-here : (a b : Layout) → Grows a b → here a ≤ here b
 Grows-here a b g = omega (arith, ap length g.is, length-append a.body g.more)
 
 pub stored-grows : (c : Cell) (out : Layout) → Grows out (stored c out).1

@@ -1,11 +1,11 @@
 //! What follows from the definitions, for every value and every writer.
-ghost use Rattle.std.specs.Prelude.{◌≡◌, ◌≤◌, ◌<◌, ◌^◌, ℕ, List, [], ◌∷◌, length, Some, Ok};
+ghost use Rattle.std.specs.Prelude.{◌≡◌, ◌≤◌, ◌<◌, ◌^◌, ℕ, List, [], ◌∷◌, length, Some, Ok, is_some};
 ghost use Rattle.adb_view.specs.Plain.{Plain, null, int, Plains, none, more, blob_value, arr_value, obj_value, Shape, IsNormal, value_of};
 ghost use Rattle.adb_view.specs.Head.{root_of};
 ghost use Rattle.adb_view.specs.Visits.{visits};
 ghost use Rattle.adb_block.specs.Container.{Spells};
 ghost use Rattle.adb_write.specs.File.{adb_piece, file_of};
-ghost use Rattle.adb_write.specs.Canonical.{canonical, size_of, value_count, written_of, MOST_BYTES};
+ghost use Rattle.adb_write.specs.Canonical.{canonical, size_of, value_count, passes, overflow_of, written_of, MOST_BYTES};
 ghost use Rattle.adb_write.specs.Writing.{Writing, empty, int_call, blob_call, arr_call, obj_call, finished, calls, calls_all};
 ghost use Rattle.adb_write.specs.Shaped.{HasShape};
 ghost use Rattle.adb_write.specs.Standing.{StandsFor, AllStandFor};
@@ -68,6 +68,12 @@ pub fn a_finished_payload_is_read_back()
     ensures { (shape : Shape) (v : Plain) (root : ℕ) (w : Writing) (payload : List ℕ)
         → finished root w ≡ Ok payload → StandsFor w v root → IsNormal v → HasShape shape v
         → value_of payload shape ≡ Some v }
+{}
+
+/// A normal value overflows exactly where its canonical payload has more bytes than a payload may have, or the value
+/// has more values.
+pub fn a_value_overflows_exactly_past_a_limit()
+    ensures { (v : Plain) → IsNormal v → is_some (overflow_of v) ≡ passes (size_of v, value_count v) }
 {}
 
 /// A walk over a canonical payload visits as many words as the value has values. So what is written within the limits
