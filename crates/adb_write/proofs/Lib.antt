@@ -8,3 +8,4 @@ pub mod AnyOrder
 pub mod DepthFirst
 pub mod Visited
 pub mod Overflow
+mod Worked

@@ -13,8 +13,8 @@ pub record IsKept (payload : List ℕ) (bytes values : ℕ) : Type 0 where
   pub head : HasHead payload
   pub agree : passes (bytes, values) ≡ false → bytes ≡ 8 + length (drop 8 payload)
 
--- the answer of a writer's end, seen by a view of what it gives: want of memory is answered by a writer within its limits alone
+-- the answer of a writer's end, seen by a view of what it gives; want of memory is answered only where nothing was written
 abbrev pub IsFinished : {A : Type 0} → (A → List ℕ) → Writing → Result A WriteFault → Result (List ℕ) Counts → Type 0
 IsFinished view w (Ok payload) answer = answer ≡ Ok (view payload)
 IsFinished view w (Err (TooLarge bytes values)) answer = answer ≡ Err (bytes, values)
-IsFinished view w (Err Memory) answer = is_over w ≡ false
+IsFinished view w (Err Memory) answer = (is_over w ≡ false) × (w.body ≡ [])

@@ -138,13 +138,14 @@ impl Writer {
         ensures ok { IfOk result (λ word. (word, self.new) ≡ call (apart (item_of parts.now)) self.old) }
         ensures err { OnErr result (self.new ≡ self.old) }
     {
-        if self.counts.passes() {
+        let before = self.counts;
+        if before.passes() {
             return Ok(Val::of(0));
         }
-        let at = self.counts.bytes + gap(parts.width.len() as u64, self.counts.bytes);
+        let at = before.bytes + gap(parts.width.len() as u64, before.bytes);
         let counts = Counts {
             bytes: at + parts.len(),
-            values: self.counts.values + parts.entries(),
+            values: before.values + parts.entries(),
         };
         if counts.passes() {
             self.counts = counts;
