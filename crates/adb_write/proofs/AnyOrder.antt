@@ -1,9 +1,8 @@
 -- In whatever order the calls are made, an answer within the limits stands for the value that it was made of, and goes on standing for it.
-use Rattle.std.proofs.Common.{◌≡◌, ◌≢◌, ℕ, ◌^◌, ◌<◌, ◌≤◌, Bool, true, false, cond, eqb, ltb, List, [], ◌∷◌, length, refl, sym, ap, subst, ◌∙◌, lit<}
+use Rattle.std.proofs.Common.{◌≡◌, ℕ, ◌^◌, ◌<◌, ◌≤◌, Bool, true, false, cond, eqb, ltb, List, [], ◌∷◌, refl, sym, ap, subst, ◌∙◌, lit<}
 use Rattle.std.specs.Prelude.{◌||◌, Some, Ok, Result, Err}
 use Rattle.std.specs.List.{AllByRecursion}
 use Rattle.std.proofs.lemmas.Bool.{ltb-false}
-use Rattle.std.proofs.lemmas.List.{append-nil}
 use Rattle.adb_view.specs.Plain.{Plain, null, int, blob, arr, obj, Plains, none, more, trimmed, keep, blob_value, arr_value, obj_of, obj_value, Shape, IsNormal, plain_of, value_of}
 use Rattle.adb_view.specs.Readers.{ARRAY, OBJECT}
 use Rattle.adb_write.specs.Canonical.{Cell, in_place, apart, int_cell, blob_cell, run_cell, keep_word, trimmed_words, Layout, here, placed, stored, put_run, Counts, counts_of, passes, payload_of, MOST_BYTES, MOST_VALUES}
@@ -156,3 +155,6 @@ finished_read s v root w payload f h n t = go (is_over w) refl f
         let i = h o in
         let same : payload_of root (layout w) ≡ payload = cc in
         subst (λ (p : List ℕ). value_of p s ≡ Some v) same (ap (plain_of (payload_of root (layout w)) s) (root_again root (layout w) i.small) ∙ plain_of-Holds (payload_of root (layout w)) s v root n t (i.holds root))
+
+pub word_read : (s : Shape) (v : Plain) (word : ℕ) (w : Writing) → StandsFor w v word → is_over w ≡ false → IsNormal v → HasShape s v → (root : ℕ) → plain_of (payload_of root (layout w)) s word ≡ Some v
+word_read s v word w h e n t root = let i = h e in plain_of-Holds (payload_of root (layout w)) s v word n t (i.holds root)

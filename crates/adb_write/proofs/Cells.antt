@@ -1,10 +1,10 @@
 -- The items that the code makes are those of the layout.
-use Rattle.std.proofs.Common.{◌≡◌, ◌≢◌, ℕ, suc, ◌+◌, ◌-◌, ◌*◌, ◌^◌, ◌<◌, ◌≤◌, Bool, true, false, eqb, ltb, List, [], ◌∷◌, ◌++◌, length, take, get_or, refl, sym, ap, subst, ◌∙◌, arith, add-one}
+use Rattle.std.proofs.Common.{◌≡◌, ◌≢◌, ℕ, suc, ◌+◌, ◌-◌, ◌^◌, ◌<◌, ◌≤◌, true, false, eqb, ltb, List, [], ◌∷◌, ◌++◌, length, take, get_or, refl, sym, ap, ◌∙◌, arith}
 use Rattle.std.specs.List.{flat_map}
-use Rattle.std.specs.Int.{w8, w16, w32, w64, to_le_bytes}
+use Rattle.std.specs.Int.{w32, w64, to_le_bytes}
 use Rattle.std.proofs.lemmas.Bool.{lt-ltb, le-ltb}
 use Rattle.std.proofs.lemmas.List.{take_more}
-use Rattle.adb_write.specs.Canonical.{Item, Cell, apart, int_cell, blob_cell, run_cell, keep_word, trimmed_words}
+use Rattle.adb_write.specs.Canonical.{apart, int_cell, blob_cell, run_cell, keep_word, trimmed_words}
 use Rattle.adb_write.proofs.RoundTrip.{neq-eqb}
 
 pub int_32 : (n : ℕ) → 2 ^ 28 ≤ n → n < 2 ^ 32 → apart (record { kind = 2; align = 4; bytes = take 4 (to_le_bytes w64 n) ++ []; entries = 0 }) ≡ int_cell n

@@ -1,5 +1,5 @@
 -- What a writer keeps while it grows.
-use Rattle.std.proofs.Common.{◌≡◌, ℕ, ◌+◌, ◌-◌, ◌≤◌, ◌⊎◌, List, [], ◌++◌, length, take, drop, replicate, refl, sym, ap, ◌∙◌, append_assoc, arith, inl, inr}
+use Rattle.std.proofs.Common.{◌≡◌, ℕ, ◌+◌, ◌-◌, ◌≤◌, List, ◌++◌, length, take, drop, replicate, refl, sym, ap, ◌∙◌, append_assoc, arith, inl, inr}
 use Rattle.std.proofs.lemmas.List.{length-append, length-replicate, length-take, length-drop, replicate-append-replicate, take-append-le, drop-append-le, take_at, drop_at}
 use Rattle.adb_write.specs.Kept.{HasHead}
 
@@ -25,7 +25,7 @@ grown payload bytes g x h e = go h
         let dropped : length (drop 8 payload) ≡ 0 = ap (λ (p : List ℕ). length (drop 8 p)) none in
         let zeros : bytes + g - length payload ≡ 8 + g = omega arith in
         let is : payload ++ (replicate {A = ℕ} (bytes + g - length payload) 0 ++ x) ≡ replicate {A = ℕ} 8 0 ++ (replicate {A = ℕ} g 0 ++ x) =
-            ap (λ (p : List ℕ). p ++ (replicate {A = ℕ} (bytes + g - length payload) 0 ++ x)) none ∙ ap (λ (k : ℕ). replicate {A = ℕ} k 0 ++ x) zeros ∙ first g x in
+        ap (λ (p : List ℕ). p ++ (replicate {A = ℕ} (bytes + g - length payload) 0 ++ x)) none ∙ ap (λ (k : ℕ). replicate {A = ℕ} k 0 ++ x) zeros ∙ first g x in
         record {
           head = inr (ap (take 8) is ∙ take_at (replicate {A = ℕ} 8 0) (replicate {A = ℕ} g 0 ++ x) 8 refl);
           body = ap (drop 8) is ∙ drop_at (replicate {A = ℕ} 8 0) (replicate {A = ℕ} g 0 ++ x) 8 refl ∙ ap (λ (p : List ℕ). drop 8 p ++ (replicate {A = ℕ} g 0 ++ x)) (sym none);

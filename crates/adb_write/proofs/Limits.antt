@@ -1,10 +1,10 @@
 -- Depth first, the writer's calls write what the canonical layout has, or stop with the counts behind the first value past a limit.
-use Rattle.std.proofs.Common.{◌≡◌, ℕ, ◌+◌, Bool, true, false, cond, List, [], ◌∷◌, ◌++◌, length, Some, None, Ok, Err, refl, sym, ap, subst, ◌∙◌, arith, inl, inr, ◌⊎◌}
+use Rattle.std.proofs.Common.{◌≡◌, ℕ, Bool, true, false, cond, List, [], ◌∷◌, ◌++◌, Some, None, Ok, Err, refl, sym, ap, ◌∙◌, inl, inr, ◌⊎◌}
 use Rattle.std.specs.Prelude.{find}
 use Rattle.adb_view.specs.Plain.{Plain, null, int, blob, arr, obj, Plains, none, more}
 use Rattle.adb_view.specs.Readers.{ARRAY, OBJECT}
 use Rattle.adb_write.specs.Canonical.{Cell, in_place, apart, int_cell, blob_cell, run_cell, trimmed_words, Layout, start, stored, put_run, write, write_all, payload_of, canonical, Counts, counts_of, passes, trace, trace_all, overflow_of, or_overflow, written_of}
-use Rattle.adb_write.specs.Writing.{Writing, empty, counts, is_over, layout, written_as, call, finished, calls, calls_all}
+use Rattle.adb_write.specs.Writing.{Writing, empty, counts, is_over, written_as, call, finished, calls, calls_all}
 
 find-none : (xs ys : List Counts) → find passes xs ≡ None → find passes (xs ++ ys) ≡ find passes ys
 find-none [] ys e = refl

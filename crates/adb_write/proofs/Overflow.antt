@@ -1,14 +1,14 @@
 -- A value overflows exactly where its size or the number of its values passes a limit.
-use Rattle.std.proofs.Common.{◌≡◌, ℕ, suc, ◌+◌, ◌^◌, ◌<◌, ◌≤◌, Bool, true, false, cond, ltb, List, [], ◌∷◌, ◌++◌, length, Option, Some, None, refl, sym, ap, subst, ◌∙◌, arith, inl, inr, ◌⊎◌, le_trans}
+use Rattle.std.proofs.Common.{◌≡◌, ℕ, suc, ◌+◌, ◌^◌, ◌≤◌, Bool, true, false, cond, ltb, List, [], ◌∷◌, ◌++◌, length, Some, None, refl, sym, ap, ◌∙◌, arith, inl, inr, ◌⊎◌, le_trans}
 use Rattle.std.specs.Prelude.{find, is_some, ◌||◌}
 use Rattle.std.specs.Int.{w8, w16, w32, w64, to_le_bytes}
-use Rattle.std.proofs.lemmas.Bool.{cases_lt, lt-ltb, le-ltb, ltb-true}
+use Rattle.std.proofs.lemmas.Bool.{cases_lt, lt-ltb, ltb-true}
 use Rattle.adb_view.specs.Plain.{Plain, null, int, blob, arr, obj, Plains, none, more, IsNormal, AreNormal}
 use Rattle.adb_view.specs.Readers.{ARRAY, OBJECT}
-use Rattle.adb_write.specs.Canonical.{Cell, in_place, apart, int_cell, blob_cell, run_cell, trimmed_words, Layout, start, here, stored, put_run, write, write_all, payload_of, size_of, count, entries_of, entries_of_all, value_count, Counts, counts_of, passes, trace, trace_all, overflow_of, MOST_BYTES, MOST_VALUES}
-use Rattle.adb_write.specs.Writing.{Writing, empty, calls}
-use Rattle.adb_write.proofs.RoundTrip.{Grows, Grows-here, stored-grows, put_run-grows, write-grows, write_all-grows, write_all-made, words_stay}
-use Rattle.adb_write.proofs.Limits.{Ends, Within, calls-end, start_fine}
+use Rattle.adb_write.specs.Canonical.{Cell, in_place, apart, int_cell, blob_cell, run_cell, trimmed_words, Layout, start, here, stored, write, write_all, payload_of, size_of, count, entries_of, entries_of_all, value_count, Counts, counts_of, passes, trace, trace_all, overflow_of, MOST_BYTES, MOST_VALUES}
+use Rattle.adb_write.specs.Writing.{empty, calls}
+use Rattle.adb_write.proofs.RoundTrip.{Grows-here, stored-grows, put_run-grows, write_all-grows, write_all-made, words_stay}
+use Rattle.adb_write.proofs.Limits.{Ends, calls-end, start_fine}
 
 -- ---- the number of values that were written
 

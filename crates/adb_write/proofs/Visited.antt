@@ -1,11 +1,11 @@
 -- A walk over a payload that was written visits its root and every entry of its lists.
-use Rattle.std.proofs.Common.{◌≡◌, ℕ, suc, ◌+◌, ◌≤◌, List, [], ◌∷◌, ◌++◌, length, Result, Ok, refl, sym, ap, subst, ◌∙◌, arith}
+use Rattle.std.proofs.Common.{◌≡◌, ℕ, suc, ◌+◌, ◌≤◌, List, [], ◌∷◌, length, Result, refl, ap, ◌∙◌, arith}
 use Rattle.std.proofs.lemmas.List.{length-append}
 use Rattle.adb_view.specs.Plain.{Plain, null, int, blob, arr, obj, Plains, none, more, Shape, number, text, hash, array, object, Fields, no_fields, field, IsNormal}
 use Rattle.adb_view.specs.Readers.{run_of, ARRAY, OBJECT}
 use Rattle.adb_view.specs.Head.{root_of}
 use Rattle.adb_view.specs.Visits.{Visit, visits, field_visits, each_visit, or_empty}
-use Rattle.adb_write.specs.Canonical.{start, here, write, canonical, size_of, count, entries_of, entries_of_all, value_count, MOST_BYTES}
+use Rattle.adb_write.specs.Canonical.{start, write, canonical, size_of, count, entries_of, entries_of_all, value_count, MOST_BYTES}
 use Rattle.base_core.specs.declared.cause.Cause.{Cause}
 use Rattle.adb_write.specs.Shaped.{Each, HasShape, HaveShapes}
 use Rattle.adb_write.specs.Standing.{Holds, HoldAll}

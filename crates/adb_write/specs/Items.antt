@@ -1,5 +1,5 @@
 -- An item of the program as the layout has it.
-use Rattle.std.specs.Prelude.{ℕ, List, [], ◌++◌, length, take}
+use Rattle.std.specs.Prelude.{ℕ, List, ◌++◌, length, take}
 use Rattle.std.specs.List.{flat_map}
 use Rattle.std.specs.Int.{w32, w64, to_le_bytes}
 use Rattle.adb_write.specs.Canonical.{Item}

@@ -1,5 +1,5 @@
 -- What a writer keeps: the payload with its head, once anything was written, and the two counts.
-use Rattle.std.specs.Prelude.{◌≡◌, ℕ, ◌+◌, ◌≤◌, ◌⊎◌, false, List, [], length, take, drop, replicate, Result, Ok, Err}
+use Rattle.std.specs.Prelude.{◌≡◌, ℕ, ◌+◌, ◌⊎◌, false, List, [], length, take, drop, replicate, Result, Ok, Err}
 use Rattle.adb_write.specs.Canonical.{Counts, passes}
 use Rattle.adb_write.specs.Writing.{Writing, is_over}
 use Rattle.adb_write.specs.declared.fault.WriteFault.{WriteFault}

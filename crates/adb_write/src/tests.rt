@@ -13,7 +13,8 @@ const PACKAGE: &[u8] =
     b"\0\0\0\0\x18\0\0\xe0\x01a\x011\x03\0\0\0\x08\0\0\x80\x0a\0\0\x80\x02\0\0\0\x0c\0\0\xe0";
 
 /// The file of that package.
-const PACKAGE_FILE: &[u8] = b"ADB.pckg\x24\0\0\0\0\0\0\0\x18\0\0\xe0\x01a\x011\x03\0\0\0\x08\0\0\x80\x0a\0\0\x80\x02\0\0\0\x0c\0\0\xe0\0\0\0\0";
+const PACKAGE_FILE: &[u8] =
+    b"ADB.pckg\x24\0\0\0\0\0\0\0\x18\0\0\xe0\x01a\x011\x03\0\0\0\x08\0\0\x80\x0a\0\0\x80\x02\0\0\0\x0c\0\0\xe0\0\0\0\0";
 
 /// An intent that writes the file `a`.
 const ONE_WRITE: &[u8] =
@@ -87,7 +88,11 @@ fn integers_of_each_width(rt: HostRuntime) -> Result<(), Fail> {
         let root = writer.int(n)?;
         assert_eq!(rt; root.word(), word, "{n}");
         let payload = payload(writer, root)?;
-        assert_eq!(rt; payload.get(4..8), Some(word.to_le_bytes().as_slice()), "{n}");
+        assert_eq!(rt;
+            payload.get(4..8),
+            Some(word.to_le_bytes().as_slice()),
+            "{n}"
+        );
         assert_eq!(rt; payload.get(11..), Some(bytes), "{n}");
     }
     Ok(())

@@ -1,6 +1,8 @@
 ghost use Rattle.std.specs.Prelude.{◌≡◌, ◌<◌, ◌≤◌, ◌+◌, ◌^◌, IfOk, OnErr};
+ghost use Rattle.adb_view.specs.Plain.{Plains, int, blob_value, arr_value, obj_value};
+ghost use Rattle.adb_write.specs.DepthFirst.{Writes, WritesAll};
 ghost use Rattle.adb_write.specs.Canonical.{gap, in_place, apart, run_cell, trimmed_words};
-ghost use Rattle.adb_write.specs.Writing.{empty, call, int_call, blob_call, arr_call, obj_call, finished};
+ghost use Rattle.adb_write.specs.Writing.{Writing, empty, call, int_call, blob_call, arr_call, obj_call, finished};
 ghost use Rattle.adb_write.specs.Items.{item_of};
 ghost use Rattle.adb_write.specs.Kept.{IsFinished};
 
@@ -52,6 +54,7 @@ impl Writer {
     /// Writes an integer: in its word below 2^28, in 32 bits below 2^32, else in 64.
     pub fn int(&mut self, n: u64) -> Result<Val, AllocError>
         ensures ok { IfOk result (λ word. (word, self.new) ≡ int_call n self.old) }
+        ensures written { IfOk result (λ word. Writes self.old (int n) word self.new) }
         ensures err { OnErr result (self.new ≡ self.old) }
     {
         if n < 1 << 28 {
@@ -64,6 +67,7 @@ impl Writer {
     #[tactic(auto, using(crate::proofs::WriterSteps::blob_null))]
     pub fn blob(&mut self, bytes: &[u8]) -> Result<Val, AllocError>
         ensures ok { IfOk result (λ word. (word, self.new) ≡ blob_call bytes.now self.old) }
+        ensures written { IfOk result (λ word. Writes self.old (blob_value bytes.now) word self.new) }
         ensures err { OnErr result (self.new ≡ self.old) }
     {
         if bytes.is_empty() {
@@ -75,6 +79,8 @@ impl Writer {
     /// Writes an array of values of this writer, or NULLs. An empty one is NULL.
     pub fn arr(&mut self, entries: &[Val]) -> Result<Val, AllocError>
         ensures ok { IfOk result (λ word. (word, self.new) ≡ arr_call entries.now self.old) }
+        ensures written { IfOk result (λ word. (vs : Plains) (before : Writing)
+            → WritesAll before vs entries.now self.old → Writes before (arr_value vs) word self.new) }
         ensures err { OnErr result (self.new ≡ self.old) }
     {
         self.run(kind::ARRAY, entries)
@@ -84,6 +90,8 @@ impl Writer {
     /// are dropped, and an object without a value is NULL.
     pub fn obj(&mut self, fields: &[Val]) -> Result<Val, AllocError>
         ensures ok { IfOk result (λ word. (word, self.new) ≡ obj_call fields.now self.old) }
+        ensures written { IfOk result (λ word. (vs : Plains) (before : Writing)
+            → WritesAll before vs fields.now self.old → Writes before (obj_value vs) word self.new) }
         ensures err { OnErr result (self.new ≡ self.old) }
     {
         self.run(kind::OBJECT, trimmed(fields))

@@ -1,6 +1,4 @@
 use Rattle.std.proofs.Common.{refl, arith}
-use Rattle.adb_block.specs.Container.{Spells}
-use Rattle.adb_write.specs.File.{adb_piece}
 use Rattle.adb_write.proofs.laws.a_file_is_spelled.Goals as goal
 
 pub returns : goal.returns

@@ -1,4 +1,4 @@
-use Rattle.std.proofs.Common.{◌≡◌, ◌≢◌, ◌↔◌, ℕ, ◌<◌, ◌≤◌, Bool, true, false, List, [], length, take, refl, sym, ap, subst, ◌∙◌, arith, rules}
+use Rattle.std.proofs.Common.{◌≡◌, ◌≢◌, ℕ, take, refl, sym, ap, ◌∙◌, arith}
 use Rattle.adb_write.specs.Canonical.{trimmed_words}
 use Rattle.adb_write.proofs.Cells.{cut_null, cut_some}
 use Rattle.adb_write.proofs.writer.trimmed.Goals.{then-loop-len-test+else-is_null, else-loop-len-test}

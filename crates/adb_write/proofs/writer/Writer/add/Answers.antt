@@ -1,7 +1,7 @@
-use Rattle.std.proofs.Common.{◌≡◌, ℕ, ◌+◌, ◌-◌, ◌*◌, ◌^◌, true, false, List, ◌++◌, length, drop, replicate, refl, sym, ap, subst, ◌∙◌, arith}
+use Rattle.std.proofs.Common.{◌≡◌, ℕ, ◌+◌, ◌*◌, ◌^◌, true, false, List, ◌++◌, length, drop, replicate, refl, sym, ap, subst, ◌∙◌}
 use Rattle.adb_write.specs.Canonical.{gap, Item, apart, passes}
 use Rattle.adb_write.specs.Writing.{Writing, call, made}
-use Rattle.adb_write.specs.Items.{width_len, item_of}
+use Rattle.adb_write.specs.Items.{item_of}
 use Rattle.adb_write.proofs.WriterSteps.{end_of, call_past, call_stops, call_fits}
 use Rattle.adb_write.proofs.Grown.{Grown, grown, grown_len}
 use Rattle.adb_write.proofs.writer.Writer.add.Goals as goal
@@ -50,7 +50,7 @@ returns-clause-ok c =
     let new : drop 8 c.append.new.out.items ≡ body ++ (replicate {A = ℕ} (gap i.align s.counts.bytes) 0 ++ i.bytes) = g.body ∙ ap (λ (k : ℕ). body ++ (replicate {A = ℕ} k 0 ++ i.bytes)) zeros in
     let word : c.of-2.result ≡ i.kind * 2 ^ 28 + (s.counts.bytes + gap i.align s.counts.bytes) = c.of-2.ensures ∙ ap (λ (k : ℕ). i.kind * 2 ^ 28 + (s.counts.bytes + k)) zeros in
     let old : ◌≡◌ {A = ℕ × Writing} (i.kind * 2 ^ 28 + (s.counts.bytes + gap i.align s.counts.bytes), made (body ++ (replicate {A = ℕ} (gap i.align s.counts.bytes) 0 ++ i.bytes)) (end_of i s.counts.bytes) (s.counts.values + i.entries)) (call (apart i) c.args.self.now) =
-        subst (λ (x : Writing). ◌≡◌ {A = ℕ × Writing} (i.kind * 2 ^ 28 + (s.counts.bytes + gap i.align s.counts.bytes), made (body ++ (replicate {A = ℕ} (gap i.align s.counts.bytes) 0 ++ i.bytes)) (end_of i s.counts.bytes) (s.counts.values + i.entries)) (call (apart i) x)) c.self.view_is (sym (call_fits i body s.counts.bytes s.counts.values fine agree fits)) in
+    subst (λ (x : Writing). ◌≡◌ {A = ℕ × Writing} (i.kind * 2 ^ 28 + (s.counts.bytes + gap i.align s.counts.bytes), made (body ++ (replicate {A = ℕ} (gap i.align s.counts.bytes) 0 ++ i.bytes)) (end_of i s.counts.bytes) (s.counts.values + i.entries)) (call (apart i) x)) c.self.view_is (sym (call_fits i body s.counts.bytes s.counts.values fine agree fits)) in
     same _ _ _ _ _ _ _ _ word new end count ∙ old
   where
     same : (w v : ℕ) (x y : List ℕ) (b d : ℕ) (e f : ℕ) → w ≡ v → x ≡ y → b ≡ d → e ≡ f → ◌≡◌ {A = ℕ × Writing} (w, made x b e) (v, made y d f)
