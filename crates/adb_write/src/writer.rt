@@ -16,8 +16,13 @@ use std::marker::Model;
 /// How long a payload's head is: the versions, and the root's word.
 const HEAD: u64 = 8;
 
-/// Writes the values of one payload. A value's entries are written before it. Contracts see what was written and the two
-/// counts: `Writing` of `specs/`.
+/// Writes the values of one payload. A value's entries are written before it, and each call answers the value's word. A
+/// call whose growth of memory is refused leaves the writer as it was.
+///
+/// A payload has at most 268,435,455 bytes and 4,194,304 values, its root and the entries of its lists. The first value
+/// that brings a count above its limit is counted, but not written, and its answer is NULL; every later call changes
+/// nothing and answers NULL, and `finish` tells the two counts. Contracts see what was written and the counts: `Writing`
+/// of `specs/`.
 #[derive(Drop)]
 pub struct Writer {
     // Nothing, or the head with zeros in it and what was written behind it.
