@@ -1,6 +1,6 @@
 //! The header of a block that is written.
 
-ghost use Rattle.std.specs.Prelude.{◌≡◌, ◌-◌, ◌^◌, ◌<◌};
+ghost use Rattle.std.specs.Prelude.{◌≡◌, ◌≤◌, ◌-◌, ◌^◌, ◌<◌, length};
 ghost use Rattle.adb_block.specs.Container.{number_of, IsHead};
 ghost use Rattle.adb_block.specs.Written.{head_bytes};
 
@@ -30,7 +30,8 @@ impl Model for Head {
 impl Head {
     /// Its bytes.
     pub fn bytes(&self) -> &[u8]
-        ensures { result.now ≡ self.now }
+        ensures bytes { result.now ≡ self.now }
+        ensures short { length result.now ≤ 16 }
     {
         &self.bytes[..self.len]
     }

@@ -1,0 +1,11 @@
+pub mod Placed
+pub mod RoundTrip
+pub mod Limits
+pub mod WriterSteps
+pub mod Grown
+pub mod Cells
+pub mod AnyOrder
+pub mod DepthFirst
+pub mod Visited
+pub mod Overflow
+mod Worked

@@ -1,0 +1,476 @@
+-- The value of a canonical payload is the value.
+use Rattle.std.proofs.Common.{◌≡◌, ◌≢◌, ◌⊎◌, ℕ, zero, suc, ◌+◌, ◌*◌, ◌^◌, ◌<◌, ◌≤◌, Bool, true, false, cond, eqb, leb, ltb, List, [], ◌∷◌, ◌++◌, length, take, drop, replicate, Option, Some, None, option_map, option_and_then, Ok, refl, sym, ap, subst, ◌∙◌, append_assoc, arith, inl, inr, lit<, eq-eqb, le_trans}
+use Rattle.std.specs.List.{flat_map, AllByRecursion}
+use Rattle.std.specs.Int.{Width, w8, w16, w32, w64, byte_len, from_le_bytes, to_le_bytes}
+use Rattle.std.proofs.lemmas.Bool.{cases_lt, leb-true, le-leb, lt-ltb, le-ltb}
+use Rattle.std.proofs.lemmas.List.{append-nil, take_at, drop_at, length-append, length-drop, length-replicate, take-append-le, drop-append-le}
+use Rattle.adb_view.specs.Bytes.{range_at, number_at, words}
+use Rattle.adb_view.specs.Plain.{IsNormal, AreNormal, Plain, null, int, blob, arr, obj, Plains, none, more, trimmed, keep, blob_value, arr_value, obj_of, obj_value, Shape, number, text, hash, array, object, Fields, no_fields, field, unless_null, found, each_plain, plain_of, plains_of, value_of}
+use Rattle.adb_view.specs.Head.{root_of}
+use Rattle.adb_view.specs.Readers.{kind_of, low_of, inside, counted_at, counted_words, run_at, int_of, blob_of, run_of, ARRAY, OBJECT}
+use Rattle.adb_write.specs.Canonical.{gap, Item, Cell, in_place, apart, int_cell, blob_cell, run_cell, run_bytes, keep_word, trimmed_words, Layout, start, here, placed, stored, put_run, write, write_all, payload_of, canonical, MOST_BYTES}
+use Rattle.adb_write.specs.Shaped.{Each, HasShape, HaveShapes}
+use Rattle.adb_write.specs.Standing.{Holds, HoldAll, IsWordOf}
+use Rattle.adb_write.proofs.Placed.{Stands, Stands-append, wide8, wide16, wide32, wide64, number_stands, counted_stands, run_stands, words_len, place, placed_stands, word_kind, word_low}
+
+chosen : {A : Type 0} (b : Bool) (x y z : A) → cond b x y ≡ z → ((b ≡ true) × (x ≡ z)) ⊎ ((b ≡ false) × (y ≡ z))
+chosen true x y z e = inl (refl, e)
+chosen false x y z e = inr (refl, e)
+
+pub neq-eqb : (m n : ℕ) → m ≢ n → eqb m n ≡ false
+neq-eqb m n ne = grind arith
+
+-- ---- more bytes at the end change nothing that was read
+
+range_at-append : (p q : List ℕ) (at n : ℕ) (x : List ℕ) → range_at p at n ≡ Some x → range_at (p ++ q) at n ≡ Some x
+range_at-append p q at n x e =
+    elim (chosen (leb (at + n) (length p)) _ _ _ e) [
+      | inl (t, s) ↦
+          let le : at + n ≤ length p = leb-true _ _ t in
+          let more : leb (at + n) (length (p ++ q)) ≡ true = le-leb _ _ (omega (arith, length-append p q)) in
+          rw (more, drop-append-le at p q (omega arith), take-append-le n (drop at p) q (omega (arith, length-drop at p))) s
+      | inr (t, s) ↦ absurd cc
+    ]
+
+some_map : {A B : Type 0} (f : A → B) (o : Option A) (y : B) → option_map f o ≡ Some y → (x : A) × (o ≡ Some x) × (f x ≡ y)
+some_map f (Some x) y e = (x, refl, cc)
+some_map f None y e = absurd cc
+
+some_then : {A B : Type 0} (f : A → Option B) (o : Option A) (y : B) → option_and_then f o ≡ Some y → (x : A) × (o ≡ Some x) × (f x ≡ Some y)
+some_then f (Some x) y e = (x, refl, e)
+some_then f None y e = absurd cc
+
+number_at-append : (w : Width) (p q : List ℕ) (at n : ℕ) → number_at w p at ≡ Some n → number_at w (p ++ q) at ≡ Some n
+number_at-append w p q at n e =
+    let (x, is, y) = some_map (from_le_bytes w) (range_at p at (byte_len w)) n e in
+    ap (option_map (from_le_bytes w)) (range_at-append p q at (byte_len w) x is) ∙ ap Some y
+
+counted_at-append : (w : Width) (p q : List ℕ) (at : ℕ) (b : List ℕ) → counted_at w p at ≡ Some b → counted_at w (p ++ q) at ≡ Some b
+counted_at-append w p q at b e =
+    let (n, is, y) = some_then (λ len. range_at p (at + byte_len w) len) (number_at w p at) b e in
+    ap (option_and_then (λ len. range_at (p ++ q) (at + byte_len w) len)) (number_at-append w p q at n is) ∙ range_at-append p q (at + byte_len w) n b y
+
+counted_words-append : (p q : List ℕ) (at n : ℕ) (ws : List ℕ) → counted_words p at n ≡ Some ws → counted_words (p ++ q) at n ≡ Some ws
+counted_words-append p q at zero ws e = absurd cc
+counted_words-append p q at (suc n) ws e =
+    let (x, is, y) = some_map (words n) (range_at p (at + 4) (4 * n)) ws e in
+    ap (option_map (words n)) (range_at-append p q (at + 4) (4 * n) x is) ∙ ap Some y
+
+run_at-append : (p q : List ℕ) (at : ℕ) (ws : List ℕ) → run_at p at ≡ Some ws → run_at (p ++ q) at ≡ Some ws
+run_at-append p q at ws e =
+    let (n, is, y) = some_then (counted_words p at) (number_at w32 p at) ws e in
+    ap (option_and_then (counted_words (p ++ q) at)) (number_at-append w32 p q at n is) ∙ counted_words-append p q at n ws y
+
+inside_ok : {A : Type 0} (w : ℕ) (o : Option A) (x : A) → inside w o ≡ Ok x → o ≡ Some x
+inside_ok w (Some y) x e = cc
+inside_ok w None x e = absurd cc
+
+inside-append : {A : Type 0} (w : ℕ) (o o' : Option A) (x : A) → ((y : A) → o ≡ Some y → o' ≡ Some y) → inside w o ≡ Ok x → inside w o' ≡ Ok x
+inside-append w o o' x h e = ap (inside w) (h x (inside_ok w o x e))
+
+-- one test of a reader, the same on both sides
+test_same : {A : Type 0} (b : Bool) (x x' y y' : A) (z : A) → (x ≡ z → x' ≡ z) → (y ≡ z → y' ≡ z) → cond b x y ≡ z → cond b x' y' ≡ z
+test_same true x x' y y' z f g e = f e
+test_same false x x' y y' z f g e = g e
+
+int_of-append : (p q : List ℕ) (w n : ℕ) → int_of p w ≡ Ok n → int_of (p ++ q) w ≡ Ok n
+unfolding int_of
+int_of-append p q w n e =
+    test_same (eqb w 0) _ _ _ _ (Ok n) (λ e. e) (
+    test_same (eqb (kind_of w) 1) _ _ _ _ (Ok n) (λ e. e) (
+    test_same (eqb (kind_of w) 2) _ _ _ _ (Ok n) (inside-append w _ _ n (λ y. number_at-append w32 p q (low_of w) y)) (
+    test_same (eqb (kind_of w) 3) _ _ _ _ (Ok n) (inside-append w _ _ n (λ y. number_at-append w64 p q (low_of w) y)) (λ e. e)))) e
+
+blob_of-append : (p q : List ℕ) (w : ℕ) (b : List ℕ) → blob_of p w ≡ Ok b → blob_of (p ++ q) w ≡ Ok b
+unfolding blob_of
+blob_of-append p q w b e =
+    test_same (eqb w 0) _ _ _ _ (Ok b) (λ e. e) (
+    test_same (eqb (kind_of w) 8) _ _ _ _ (Ok b) (inside-append w _ _ b (λ y. counted_at-append w8 p q (low_of w) y)) (
+    test_same (eqb (kind_of w) 9) _ _ _ _ (Ok b) (inside-append w _ _ b (λ y. counted_at-append w16 p q (low_of w) y)) (
+    test_same (eqb (kind_of w) 10) _ _ _ _ (Ok b) (inside-append w _ _ b (λ y. counted_at-append w32 p q (low_of w) y)) (λ e. e)))) e
+
+run_of-append : (kind : ℕ) (p q : List ℕ) (w : ℕ) (ws : List ℕ) → run_of kind p w ≡ Ok ws → run_of kind (p ++ q) w ≡ Ok ws
+unfolding run_of
+run_of-append kind p q w ws e =
+    test_same (eqb w 0) _ _ _ _ (Ok ws) (λ e. e) (
+    test_same (eqb (kind_of w) kind) _ _ _ _ (Ok ws) (inside-append w _ _ ws (λ y. run_at-append p q (low_of w) y)) (λ e. e)) e
+
+mutual
+  unfolding Holds
+
+  pub Holds-append : (p q : List ℕ) (v : Plain) (w : ℕ) → Holds p v w → Holds (p ++ q) v w
+  Holds-append p q null w h = h
+  Holds-append p q (int n) w h = (h.0, int_of-append p q w n h.1)
+  Holds-append p q (blob b) w h = (h.0, blob_of-append p q w b h.1)
+  Holds-append p q (arr vs) w (ne, ws, is, all) = (ne, ws, run_of-append ARRAY p q w ws is, HoldAll-append p q vs ws all)
+  Holds-append p q (obj vs) w (ne, ws, is, all) = (ne, ws, run_of-append OBJECT p q w ws is, HoldAll-append p q vs ws all)
+
+  pub HoldAll-append : (p q : List ℕ) (vs : Plains) (ws : List ℕ) → HoldAll p vs ws → HoldAll (p ++ q) vs ws
+  HoldAll-append p q none [] h = tt
+  HoldAll-append p q none (w ∷ ws) h = h
+  HoldAll-append p q (more v vs) [] h = h
+  HoldAll-append p q (more v vs) (w ∷ ws) h = (Holds-append p q v w h.0, HoldAll-append p q vs ws h.1)
+
+-- ---- a word that holds a normal value of the shape has it as its plain value
+
+unless_not_null : (w : ℕ) (v : Option Plain) → w ≢ 0 → unless_null w v ≡ v
+unless_not_null w v ne = let t : eqb w 0 ≡ false = neq-eqb w 0 ne in rw t refl
+
+blob_value-is : (b : List ℕ) → b ≢ [] → blob_value b ≡ blob b
+blob_value-is [] ne = absurd (ne refl)
+blob_value-is (x ∷ xs) ne = refl
+
+arr_value-is : (vs : Plains) → vs ≢ none → arr_value vs ≡ arr vs
+arr_value-is none ne = absurd (ne refl)
+arr_value-is (more v vs) ne = refl
+
+obj_of-is : (vs : Plains) → vs ≢ none → obj_of vs ≡ obj vs
+obj_of-is none ne = absurd (ne refl)
+obj_of-is (more v vs) ne = refl
+
+each_is : (p : List ℕ) (f : ℕ → Option Plain) (P : Plain → Type 0) → ((v : Plain) (w : ℕ) → IsNormal v → P v → Holds p v w → f w ≡ Some v) → (vs : Plains) (ws : List ℕ) → AreNormal vs → Each P vs → HoldAll p vs ws → each_plain f ws ≡ Some vs
+unfolding IsNormal Holds
+each_is p f P h none [] n s a = refl
+each_is p f P h none (w ∷ ws) n s a = absurd a
+each_is p f P h (more v vs) [] n s a = absurd a
+each_is p f P h (more v vs) (w ∷ ws) n s a = rw (h v w n.0 s.0 a.0, each_is p f P h vs ws n.1 s.1 a.1) refl
+
+mutual
+  unfolding plain_of HasShape IsNormal Holds
+
+  pub plain_of-Holds : (p : List ℕ) (s : Shape) (v : Plain) (w : ℕ) → IsNormal v → HasShape s v → Holds p v w → plain_of p s w ≡ Some v
+  plain_of-Holds p number null w n s h = rw h refl
+  plain_of-Holds p number (int k) w n s h = unless_not_null w _ h.0 ∙ rw h.1 refl
+  plain_of-Holds p number (blob b) w n s h = absurd s
+  plain_of-Holds p number (arr vs) w n s h = absurd s
+  plain_of-Holds p number (obj vs) w n s h = absurd s
+  plain_of-Holds p text null w n s h = rw h refl
+  plain_of-Holds p text (int k) w n s h = absurd s
+  plain_of-Holds p text (blob b) w n s h = unless_not_null w _ h.0 ∙ rw h.1 (ap Some (blob_value-is b n))
+  plain_of-Holds p text (arr vs) w n s h = absurd s
+  plain_of-Holds p text (obj vs) w n s h = absurd s
+  plain_of-Holds p hash null w n s h = rw h refl
+  plain_of-Holds p hash (int k) w n s h = absurd s
+  plain_of-Holds p hash (blob b) w n s h = unless_not_null w _ h.0 ∙ rw h.1 (ap Some (blob_value-is b n))
+  plain_of-Holds p hash (arr vs) w n s h = absurd s
+  plain_of-Holds p hash (obj vs) w n s h = absurd s
+  plain_of-Holds p (array t) null w n s h = rw h refl
+  plain_of-Holds p (array t) (int k) w n s h = absurd s
+  plain_of-Holds p (array t) (blob b) w n s h = absurd s
+  plain_of-Holds p (array t) (arr vs) w n s (ne, ws, is, all) =
+      unless_not_null w _ ne ∙ ap (found (λ us. option_map arr_value (each_plain (plain_of p t) us))) is
+      ∙ ap (option_map arr_value) (each_is p (plain_of p t) (HasShape t) (plain_of-Holds p t) vs ws n.1 s all) ∙ ap Some (arr_value-is vs n.0)
+  plain_of-Holds p (array t) (obj vs) w n s h = absurd s
+  plain_of-Holds p (object which fs) null w n s h = rw h refl
+  plain_of-Holds p (object which fs) (int k) w n s h = absurd s
+  plain_of-Holds p (object which fs) (blob b) w n s h = absurd s
+  plain_of-Holds p (object which fs) (arr vs) w n s h = absurd s
+  plain_of-Holds p (object which fs) (obj vs) w n s (ne, ws, is, all) =
+      unless_not_null w _ ne ∙ ap (found (λ us. option_map obj_value (plains_of p fs us))) is
+      ∙ ap (option_map obj_value) (plains_of-Holds p fs vs ws n.2 s all) ∙ ap (λ us. Some (obj_of us)) n.1 ∙ ap Some (obj_of-is vs n.0)
+
+  pub plains_of-Holds : (p : List ℕ) (fs : Fields) (vs : Plains) (ws : List ℕ) → AreNormal vs → HaveShapes fs vs → HoldAll p vs ws → plains_of p fs ws ≡ Some vs
+  plains_of-Holds p no_fields none [] n s a = refl
+  plains_of-Holds p no_fields none (w ∷ ws) n s a = absurd a
+  plains_of-Holds p no_fields (more v vs) ws n s a = absurd s
+  plains_of-Holds p (field name t fs) none [] n s a = refl
+  plains_of-Holds p (field name t fs) none (w ∷ ws) n s a = absurd a
+  plains_of-Holds p (field name t fs) (more v vs) [] n s a = absurd a
+  plains_of-Holds p (field name t fs) (more v vs) (w ∷ ws) n s a =
+      rw (plain_of-Holds p t v w n.0 s.0 a.0, plains_of-Holds p fs vs ws n.1 s.1 a.1) refl
+
+-- ---- writing only adds
+
+pub record Grows (out later : Layout) : Type 0 where
+  pub more : List ℕ
+  pub is : later.body ≡ out.body ++ more
+
+Grows-refl : (out : Layout) → Grows out out
+Grows-refl out = record { more = []; is = sym (append-nil out.body) }
+
+Grows-then : (a b c : Layout) → Grows a b → Grows b c → Grows a c
+Grows-then a b c p q = record { more = p.more ++ q.more; is = q.is ∙ ap (λ (x : List ℕ). x ++ q.more) p.is ∙ append_assoc a.body p.more q.more }
+
+pub Grows-here : (a b : Layout) → Grows a b → here a ≤ here b
+Grows-here a b g = omega (arith, ap length g.is, length-append a.body g.more)
+
+pub stored-grows : (c : Cell) (out : Layout) → Grows out (stored c out).1
+stored-grows (in_place w) out = Grows-refl out
+stored-grows (apart i) out = record { more = replicate (gap i.align (here out)) 0 ++ i.bytes; is = refl }
+
+pub put_run-grows : (kind : ℕ) (ws : List ℕ) (out : Layout) → Grows out (put_run kind ws out).1
+put_run-grows kind ws out = stored-grows (run_cell kind ws) out
+
+mutual
+  unfolding write
+
+  pub write-grows : (v : Plain) (out : Layout) → Grows out (write v out).1
+  write-grows null out = Grows-refl out
+  write-grows (int n) out = stored-grows (int_cell n) out
+  write-grows (blob b) out = stored-grows (blob_cell b) out
+  write-grows (arr vs) out = Grows-then _ _ _ (write_all-grows vs out) (put_run-grows ARRAY (write_all vs out).0 (write_all vs out).1)
+  write-grows (obj vs) out = Grows-then _ _ _ (write_all-grows vs out) (put_run-grows OBJECT (trimmed_words (write_all vs out).0) (write_all vs out).1)
+
+  pub write_all-grows : (vs : Plains) (out : Layout) → Grows out (write_all vs out).1
+  write_all-grows none out = Grows-refl out
+  write_all-grows (more v vs) out = Grows-then _ _ _ (write-grows v out) (write_all-grows vs (write v out).1)
+
+-- what a word held it holds on
+pub Grows-Holds : (a b : Layout) (root : ℕ) (v : Plain) (w : ℕ) → Grows a b → Holds (payload_of root a) v w → Holds (payload_of root b) v w
+Grows-Holds a b root v w g h =
+    subst (λ (x : List ℕ). Holds x v w) (append_assoc (0 ∷ 0 ∷ 0 ∷ 0 ∷ to_le_bytes w32 root) a.body g.more ∙ ap (λ (x : List ℕ). 0 ∷ 0 ∷ 0 ∷ 0 ∷ (to_le_bytes w32 root ++ x)) (sym g.is)) (Holds-append (payload_of root a) g.more v w h)
+
+pub Grows-HoldAll : (a b : Layout) (root : ℕ) (vs : Plains) (ws : List ℕ) → Grows a b → HoldAll (payload_of root a) vs ws → HoldAll (payload_of root b) vs ws
+Grows-HoldAll a b root vs ws g h =
+    subst (λ (x : List ℕ). HoldAll x vs ws) (append_assoc (0 ∷ 0 ∷ 0 ∷ 0 ∷ to_le_bytes w32 root) a.body g.more ∙ ap (λ (x : List ℕ). 0 ∷ 0 ∷ 0 ∷ 0 ∷ (to_le_bytes w32 root ++ x)) (sym g.is)) (HoldAll-append (payload_of root a) g.more vs ws h)
+
+-- ---- a placed item's word leads to it
+
+pub record Leads (p : List ℕ) (i : Item) (w : ℕ) : Type 0 where
+  pub nonzero : w ≢ 0
+  pub small : w < 2 ^ 32
+  pub kind_is : kind_of w ≡ i.kind
+  pub stands : (back : List ℕ) × Stands p (low_of w) (i.bytes ++ back)
+
+pub placed_leads : (i : Item) (out : Layout) (root : ℕ) → 0 < i.kind → i.kind < 15 → here (placed i out).1 ≤ MOST_BYTES → Leads (payload_of root (placed i out).1) i (placed i out).0
+placed_leads i out root pos few fits =
+    let zeros : List ℕ = replicate (gap i.align (here out)) 0 in
+    let total = length-append out.body (zeros ++ i.bytes) in
+    let mid = length-append zeros i.bytes in
+    let len : length zeros ≡ gap i.align (here out) = length-replicate {A = ℕ} (gap i.align (here out)) 0 in
+    let at : place i out < 2 ^ 28 = omega arith in
+    record {
+      nonzero = λ e. absurd (omega arith);
+      small = omega arith;
+      kind_is = word_kind i.kind (place i out) at;
+      stands = ([], rw (word_low i.kind (place i out) at, append-nil) (placed_stands i out root));
+    }
+
+-- more bytes at the end change nothing
+pub Leads-append : (p q : List ℕ) (i : Item) (w : ℕ) → Leads p i w → Leads (p ++ q) i w
+Leads-append p q i w l =
+    let (back, s) = l.stands in
+    record { nonzero = l.nonzero; small = l.small; kind_is = l.kind_is; stands = (back ++ q, subst (Stands (p ++ q) (low_of w)) (append_assoc i.bytes back q) (Stands-append p q (low_of w) (i.bytes ++ back) s)) }
+
+int_of-32 : (p : List ℕ) (w n : ℕ) → n < 2 ^ 32 → Leads p (record { kind = 2; align = 4; bytes = to_le_bytes w32 n; entries = 0 }) w → int_of p w ≡ Ok n
+unfolding int_of
+int_of-32 p w n lt l =
+    let t0 : eqb w 0 ≡ false = neq-eqb w 0 l.nonzero in
+    rw (t0, l.kind_is, number_stands w32 (2 ^ 32) wide32 p (low_of w) n l.stands.0 lt l.stands.1) refl
+
+int_of-64 : (p : List ℕ) (w n : ℕ) → n < 2 ^ 64 → Leads p (record { kind = 3; align = 8; bytes = to_le_bytes w64 n; entries = 0 }) w → int_of p w ≡ Ok n
+unfolding int_of
+int_of-64 p w n lt l =
+    let t0 : eqb w 0 ≡ false = neq-eqb w 0 l.nonzero in
+    rw (t0, l.kind_is, number_stands w64 (2 ^ 64) wide64 p (low_of w) n l.stands.0 lt l.stands.1) refl
+
+int_of-short : (p : List ℕ) (n : ℕ) → n < 2 ^ 28 → int_of p (2 ^ 28 + n) ≡ Ok n
+unfolding int_of
+int_of-short p n lt =
+    let t0 : eqb (2 ^ 28 + n) 0 ≡ false = neq-eqb (2 ^ 28 + n) 0 (λ e. absurd (omega arith)) in
+    let t1 : kind_of (2 ^ 28 + n) ≡ 1 = omega arith in
+    let t2 : low_of (2 ^ 28 + n) ≡ n = omega arith in
+    rw (t0, t1, t2) refl
+
+blob_of-8 : (p : List ℕ) (w : ℕ) (b : List ℕ) → length b < 2 ^ 8 → Leads p (record { kind = 8; align = 1; bytes = to_le_bytes w8 (length b) ++ b; entries = 0 }) w → blob_of p w ≡ Ok b
+unfolding blob_of
+blob_of-8 p w b lt l = let t0 : eqb w 0 ≡ false = neq-eqb w 0 l.nonzero in rw (t0, l.kind_is, counted_stands w8 (2 ^ 8) wide8 p (low_of w) b l.stands.0 lt l.stands.1) refl
+
+blob_of-16 : (p : List ℕ) (w : ℕ) (b : List ℕ) → length b < 2 ^ 16 → Leads p (record { kind = 9; align = 2; bytes = to_le_bytes w16 (length b) ++ b; entries = 0 }) w → blob_of p w ≡ Ok b
+unfolding blob_of
+blob_of-16 p w b lt l = let t0 : eqb w 0 ≡ false = neq-eqb w 0 l.nonzero in rw (t0, l.kind_is, counted_stands w16 (2 ^ 16) wide16 p (low_of w) b l.stands.0 lt l.stands.1) refl
+
+blob_of-32 : (p : List ℕ) (w : ℕ) (b : List ℕ) → length b < 2 ^ 32 → Leads p (record { kind = 10; align = 4; bytes = to_le_bytes w32 (length b) ++ b; entries = 0 }) w → blob_of p w ≡ Ok b
+unfolding blob_of
+blob_of-32 p w b lt l = let t0 : eqb w 0 ≡ false = neq-eqb w 0 l.nonzero in rw (t0, l.kind_is, counted_stands w32 (2 ^ 32) wide32 p (low_of w) b l.stands.0 lt l.stands.1) refl
+
+run_of-placed : (kind : ℕ) (p : List ℕ) (w : ℕ) (ws : List ℕ) → AllByRecursion (λ w. w < 2 ^ 32) ws → suc (length ws) < 2 ^ 32 → Leads p (record { kind = kind; align = 4; bytes = run_bytes ws; entries = length ws }) w → run_of kind p w ≡ Ok ws
+unfolding run_of
+run_of-placed kind p w ws small few l =
+    let t0 : eqb w 0 ≡ false = neq-eqb w 0 l.nonzero in
+    let t1 : eqb (kind_of w) kind ≡ true = eq-eqb _ _ l.kind_is in
+    rw (t0, t1, run_stands p (low_of w) ws l.stands.0 small few l.stands.1) refl
+
+-- ---- each kind of cell
+
+-- an item has room in a payload; a value that its word holds whole needs none
+abbrev pub Fits : Cell → Layout → Type 0
+Fits (in_place word) out = Unit {0}
+Fits (apart i) out = here (placed i out).1 ≤ MOST_BYTES
+
+fits_here : (c : Cell) (out : Layout) → here (stored c out).1 ≤ MOST_BYTES → Fits c out
+fits_here (in_place word) out h = tt
+fits_here (apart i) out h = h
+
+-- the word of a step is one of this value
+abbrev pub Made : Plain → ℕ × Layout → Type 0
+Made v r = IsWordOf r.1 v r.0
+
+pub int_made : (n : ℕ) (out : Layout) → n < 2 ^ 64 → Fits (int_cell n) out → Made (int n) (stored (int_cell n) out)
+unfolding Holds
+int_made n out lt =
+    let P : Cell → Type 0 = λ c. Fits c out → Made (int n) (stored c out) in
+    elim (cases_lt n (2 ^ 28)) [
+      | inl a ↦
+          let t : ltb n (2 ^ 28) ≡ true = lt-ltb _ _ a in
+          let is : int_cell n ≡ in_place (2 ^ 28 + n) = rw t refl in
+          subst P (sym is) (λ fits. record { holds = λ root. (λ e. absurd (omega arith), int_of-short (payload_of root out) n a); small = omega arith })
+      | inr a ↦
+          let t : ltb n (2 ^ 28) ≡ false = le-ltb _ _ a in
+          elim (cases_lt n (2 ^ 32)) [
+            | inl b ↦
+                let u : ltb n (2 ^ 32) ≡ true = lt-ltb _ _ b in
+                let is : int_cell n ≡ apart (record { kind = 2; align = 4; bytes = to_le_bytes w32 n; entries = 0 }) = rw (t, u) refl in
+                subst P (sym is) (λ fits.
+                let l : (root : ℕ) → Leads (payload_of root (placed (record { kind = 2; align = 4; bytes = to_le_bytes w32 n; entries = 0 }) out).1) (record { kind = 2; align = 4; bytes = to_le_bytes w32 n; entries = 0 }) (placed (record { kind = 2; align = 4; bytes = to_le_bytes w32 n; entries = 0 }) out).0 = λ root. placed_leads _ out root (lit< tt) (lit< tt) fits in
+                record { holds = λ root. ((l root).nonzero, int_of-32 _ _ n b (l root)); small = (l 0).small })
+            | inr b ↦
+                let u : ltb n (2 ^ 32) ≡ false = le-ltb _ _ b in
+                let is : int_cell n ≡ apart (record { kind = 3; align = 8; bytes = to_le_bytes w64 n; entries = 0 }) = rw (t, u) refl in
+                subst P (sym is) (λ fits.
+                let l : (root : ℕ) → Leads (payload_of root (placed (record { kind = 3; align = 8; bytes = to_le_bytes w64 n; entries = 0 }) out).1) (record { kind = 3; align = 8; bytes = to_le_bytes w64 n; entries = 0 }) (placed (record { kind = 3; align = 8; bytes = to_le_bytes w64 n; entries = 0 }) out).0 = λ root. placed_leads _ out root (lit< tt) (lit< tt) fits in
+                record { holds = λ root. ((l root).nonzero, int_of-64 _ _ n lt (l root)); small = (l 0).small })
+          ]
+    ]
+
+-- an item's bytes are in the payload, so there are not too many
+pub placed_len : (i : Item) (out : Layout) → here out + gap i.align (here out) + length i.bytes ≡ here (placed i out).1
+placed_len i out =
+    let zeros : List ℕ = replicate (gap i.align (here out)) 0 in
+    omega (arith, length-append out.body (zeros ++ i.bytes), length-append zeros i.bytes, length-replicate {A = ℕ} (gap i.align (here out)) 0)
+
+pub blob_made : (b : List ℕ) (out : Layout) → b ≢ [] → Fits (blob_cell b) out → Made (blob b) (stored (blob_cell b) out)
+unfolding Holds
+blob_made [] out ne = absurd (ne refl)
+blob_made (x ∷ xs) out ne =
+    let b : List ℕ = x ∷ xs in
+    let P : Cell → Type 0 = λ c. Fits c out → Made (blob b) (stored c out) in
+    elim (cases_lt (length b) (2 ^ 8)) [
+      | inl a ↦
+          let t : ltb (length b) (2 ^ 8) ≡ true = lt-ltb _ _ a in
+          let i : Item = record { kind = 8; align = 1; bytes = to_le_bytes w8 (length b) ++ b; entries = 0 } in
+          let is : blob_cell b ≡ apart i = rw t refl in
+          subst P (sym is) (λ fits.
+          let l : (root : ℕ) → Leads (payload_of root (placed i out).1) i (placed i out).0 = λ root. placed_leads i out root (lit< tt) (lit< tt) fits in
+          record { holds = λ root. ((l root).nonzero, blob_of-8 _ _ b a (l root)); small = (l 0).small })
+      | inr a ↦
+          let t : ltb (length b) (2 ^ 8) ≡ false = le-ltb _ _ a in
+          elim (cases_lt (length b) (2 ^ 16)) [
+            | inl c ↦
+                let u : ltb (length b) (2 ^ 16) ≡ true = lt-ltb _ _ c in
+                let i : Item = record { kind = 9; align = 2; bytes = to_le_bytes w16 (length b) ++ b; entries = 0 } in
+                let is : blob_cell b ≡ apart i = rw (t, u) refl in
+                subst P (sym is) (λ fits.
+                let l : (root : ℕ) → Leads (payload_of root (placed i out).1) i (placed i out).0 = λ root. placed_leads i out root (lit< tt) (lit< tt) fits in
+                record { holds = λ root. ((l root).nonzero, blob_of-16 _ _ b c (l root)); small = (l 0).small })
+            | inr c ↦
+                let u : ltb (length b) (2 ^ 16) ≡ false = le-ltb _ _ c in
+                let i : Item = record { kind = 10; align = 4; bytes = to_le_bytes w32 (length b) ++ b; entries = 0 } in
+                let is : blob_cell b ≡ apart i = rw (t, u) refl in
+                subst P (sym is) (λ fits.
+                let l : (root : ℕ) → Leads (payload_of root (placed i out).1) i (placed i out).0 = λ root. placed_leads i out root (lit< tt) (lit< tt) fits in
+                let few : length b < 2 ^ 32 = omega (arith, placed_len i out, length-append (to_le_bytes w32 (length b)) b) in
+                record { holds = λ root. ((l root).nonzero, blob_of-32 _ _ b few (l root)); small = (l 0).small })
+          ]
+    ]
+
+-- a run, at a kind of arrays or objects
+pub record MadeRun (kind : ℕ) (ws : List ℕ) (r : ℕ × Layout) : Type 0 where
+  pub nonzero : r.0 ≢ 0
+  pub small : r.0 < 2 ^ 32
+  pub reads : (root : ℕ) → run_of kind (payload_of root r.1) r.0 ≡ Ok ws
+
+pub run_made : (kind : ℕ) (w : ℕ) (ws : List ℕ) (out : Layout) → 0 < kind → kind < 15 → AllByRecursion (λ w. w < 2 ^ 32) (w ∷ ws) → here (put_run kind (w ∷ ws) out).1 ≤ MOST_BYTES → MadeRun kind (w ∷ ws) (put_run kind (w ∷ ws) out)
+run_made kind w ws out pos lt15 small fits =
+    let i : Item = record { kind = kind; align = 4; bytes = run_bytes (w ∷ ws); entries = length (w ∷ ws) } in
+    let l : (root : ℕ) → Leads (payload_of root (placed i out).1) i (placed i out).0 = λ root. placed_leads i out root pos lt15 fits in
+    let few : suc (length (w ∷ ws)) < 2 ^ 32 = omega (arith, placed_len i out, length-append (to_le_bytes w32 (suc (length (w ∷ ws)))) (flat_map (to_le_bytes w32) (w ∷ ws)), words_len (w ∷ ws)) in
+    record { nonzero = (l 0).nonzero; small = (l 0).small; reads = λ root. run_of-placed kind _ _ (w ∷ ws) small few (l root) }
+
+-- ---- an object's words end as its values do
+
+pub not_null_word : (p : List ℕ) (v : Plain) (w : ℕ) → v ≢ null → Holds p v w → w ≢ 0
+unfolding Holds
+not_null_word p null w ne h = absurd (ne refl)
+not_null_word p (int n) w ne h = h.0
+not_null_word p (blob b) w ne h = h.0
+not_null_word p (arr vs) w ne h = h.0
+not_null_word p (obj vs) w ne h = h.0
+
+-- a list that stays as it is when trimmed: its rest does, and its last value is not Null
+pub trimmed-more : (v : Plain) (vs : Plains) → trimmed (more v vs) ≡ more v vs → (trimmed vs ≡ vs) × ((vs ≡ none) → v ≢ null)
+trimmed-more v vs e = go v (trimmed vs) refl e
+  where
+    go : (v : Plain) (us : Plains) → trimmed vs ≡ us → keep v us ≡ more v vs → (trimmed vs ≡ vs) × ((vs ≡ none) → v ≢ null)
+    go null none i e = absurd cc
+    go null (more u us) i e = let same : more u us ≡ vs = cc in (i ∙ same, λ n. absurd (let no : more u us ≡ none = same ∙ n in cc))
+    go (int k) us i e = let same : us ≡ vs = cc in (i ∙ same, λ n x. absurd cc)
+    go (blob b) us i e = let same : us ≡ vs = cc in (i ∙ same, λ n x. absurd cc)
+    go (arr u) us i e = let same : us ≡ vs = cc in (i ∙ same, λ n x. absurd cc)
+    go (obj u) us i e = let same : us ≡ vs = cc in (i ∙ same, λ n x. absurd cc)
+
+keep_word-is : (w : ℕ) (ws : List ℕ) → (ws ≡ [] → w ≢ 0) → keep_word w ws ≡ w ∷ ws
+keep_word-is w (v ∷ vs) h = refl
+keep_word-is w [] h = let t : eqb w 0 ≡ false = neq-eqb w 0 (h refl) in rw t refl
+
+pub words_stay : (p : List ℕ) (vs : Plains) (ws : List ℕ) → trimmed vs ≡ vs → HoldAll p vs ws → trimmed_words ws ≡ ws
+unfolding Holds
+words_stay p none [] e h = refl
+words_stay p none (w ∷ ws) e h = absurd h
+words_stay p (more v vs) [] e h = absurd h
+words_stay p (more v vs) (w ∷ ws) e h =
+    let t = trimmed-more v vs e in
+    ap (keep_word w) (words_stay p vs ws t.0 h.1) ∙ keep_word-is w ws (last vs ws t.1 h.1)
+  where
+    last : (us : Plains) (xs : List ℕ) → ((us ≡ none) → v ≢ null) → HoldAll p us xs → xs ≡ [] → w ≢ 0
+    last none [] n a e = not_null_word p v w (n refl) h.0
+    last none (x ∷ xs) n a e = absurd a
+    last (more u us) [] n a e = absurd a
+    last (more u us) (x ∷ xs) n a e = absurd cc
+
+-- ---- what was written is held
+
+mutual
+  unfolding write IsNormal Holds
+
+  pub write-made : (v : Plain) (out : Layout) → IsNormal v → here (write v out).1 ≤ MOST_BYTES → Made v (write v out)
+  write-made null out n fits = record { holds = λ root. refl; small = lit< tt }
+  write-made (int k) out n fits = int_made k out n (fits_here (int_cell k) out fits)
+  write-made (blob b) out n fits = blob_made b out n (fits_here (blob_cell b) out fits)
+  write-made (arr none) out n fits = absurd (n.0 refl)
+  write-made (arr (more v vs)) out n fits =
+      let r = write_all (more v vs) out in
+      let g = put_run-grows ARRAY r.0 r.1 in
+      let all = write_all-made (more v vs) out n.1 (le_trans (Grows-here _ _ g) fits) in
+      let run : MadeRun ARRAY r.0 (put_run ARRAY r.0 r.1) = run_made ARRAY _ _ r.1 (lit< tt) (lit< tt) all.1 fits in
+      record { holds = λ root. (run.nonzero, r.0, run.reads root, Grows-HoldAll _ _ root (more v vs) r.0 g (all.0 root)); small = run.small }
+  write-made (obj none) out n fits = absurd (n.0 refl)
+  write-made (obj (more v vs)) out n fits =
+      let r = write_all (more v vs) out in
+      let g = put_run-grows OBJECT (trimmed_words r.0) r.1 in
+      let all = write_all-made (more v vs) out n.2 (le_trans (Grows-here _ _ g) fits) in
+      let stay : trimmed_words r.0 ≡ r.0 = words_stay (payload_of 0 r.1) (more v vs) r.0 n.1 (all.0 0) in
+      let run : MadeRun OBJECT r.0 (put_run OBJECT r.0 r.1) = run_made OBJECT _ _ r.1 (lit< tt) (lit< tt) all.1 (subst (λ (ws : List ℕ). here (put_run OBJECT ws r.1).1 ≤ MOST_BYTES) stay fits) in
+      subst (λ (ws : List ℕ). Made (obj (more v vs)) (put_run OBJECT ws r.1)) (sym stay)
+      (record { holds = λ root. (run.nonzero, r.0, run.reads root, Grows-HoldAll _ _ root (more v vs) r.0 (put_run-grows OBJECT r.0 r.1) (all.0 root)); small = run.small })
+
+  pub write_all-made : (vs : Plains) (out : Layout) → AreNormal vs → here (write_all vs out).1 ≤ MOST_BYTES → ((root : ℕ) → HoldAll (payload_of root (write_all vs out).1) vs (write_all vs out).0) × AllByRecursion (λ w. w < 2 ^ 32) (write_all vs out).0
+  write_all-made none out n fits = (λ root. tt, tt)
+  write_all-made (more v vs) out n fits =
+      let g = write_all-grows vs (write v out).1 in
+      let first = write-made v out n.0 (le_trans (Grows-here _ _ g) fits) in
+      let others = write_all-made vs (write v out).1 n.1 fits in
+      (λ root. (Grows-Holds _ _ root v (write v out).0 g (first.holds root), others.0 root), (first.small, others.1))
+
+-- ---- the law
+
+pub root_again : (root : ℕ) (out : Layout) → root < 2 ^ 32 → root_of (payload_of root out) ≡ root
+root_again root out lt =
+    let four : drop 4 (payload_of root out) ≡ to_le_bytes w32 root ++ out.body = drop_at (0 ∷ 0 ∷ 0 ∷ 0 ∷ []) (to_le_bytes w32 root ++ out.body) 4 refl in
+    ap (λ (x : List ℕ). from_le_bytes w32 (take 4 x)) four ∙ ap (from_le_bytes w32) (take_at (to_le_bytes w32 root) out.body 4 (wide32.len root)) ∙ wide32.again root lt
+
+pub value_of-canonical : (s : Shape) (v : Plain) → IsNormal v → HasShape s v → length (canonical v) ≤ MOST_BYTES → value_of (canonical v) s ≡ Some v
+value_of-canonical s v n h fits =
+    let r = write v start in
+    let made = write-made v start n (omega arith) in
+    ap (plain_of (canonical v) s) (root_again r.0 r.1 made.small) ∙ plain_of-Holds (canonical v) s v r.0 n h (made.holds r.0)

@@ -1,0 +1,46 @@
+-- Worked values: what the definitions say of them, by computation.
+use Rattle.std.proofs.Common.{◌≡◌, ℕ, ◌^◌, List, [], ◌∷◌, refl}
+use Rattle.std.specs.Prelude.{codes}
+use Rattle.adb_view.specs.Plain.{Plain, null, int, blob, arr, obj, none, more}
+use Rattle.adb_block.specs.Written.{head_bytes}
+use Rattle.adb_write.specs.Canonical.{canonical, size_of, value_count, write, entries_of}
+use Rattle.adb_write.specs.File.{file_of}
+
+-- a package with the name `a` and the version `1`
+abbrev a_package : Plain
+a_package = obj (more (obj (more (blob (codes "a")) (more (blob (codes "1")) none))) none)
+
+abbrev package_payload : List ℕ
+package_payload = 0 ∷ 0 ∷ 0 ∷ 0 ∷ 24 ∷ 0 ∷ 0 ∷ 224 ∷ 1 ∷ 97 ∷ 1 ∷ 49 ∷ 3 ∷ 0 ∷ 0 ∷ 0 ∷ 8 ∷ 0 ∷ 0 ∷ 128 ∷ 10 ∷ 0 ∷ 0 ∷ 128 ∷ 2 ∷ 0 ∷ 0 ∷ 0 ∷ 12 ∷ 0 ∷ 0 ∷ 224 ∷ []
+
+package_written : canonical a_package ≡ package_payload
+unfolding write
+package_written = refl
+
+package_size : size_of a_package ≡ 32
+unfolding write
+package_size = refl
+
+package_count : value_count a_package ≡ 4
+unfolding entries_of
+package_count = refl
+
+package_file : file_of 0x676b6370 package_payload ≡ 65 ∷ 68 ∷ 66 ∷ 46 ∷ 112 ∷ 99 ∷ 107 ∷ 103 ∷ 36 ∷ 0 ∷ 0 ∷ 0 ∷ 0 ∷ 0 ∷ 0 ∷ 0 ∷ 24 ∷ 0 ∷ 0 ∷ 224 ∷ 1 ∷ 97 ∷ 1 ∷ 49 ∷ 3 ∷ 0 ∷ 0 ∷ 0 ∷ 8 ∷ 0 ∷ 0 ∷ 128 ∷ 10 ∷ 0 ∷ 0 ∷ 128 ∷ 2 ∷ 0 ∷ 0 ∷ 0 ∷ 12 ∷ 0 ∷ 0 ∷ 224 ∷ 0 ∷ 0 ∷ 0 ∷ 0 ∷ []
+unfolding head_bytes
+package_file = refl
+
+-- an intent with the one write `a`: its first field is Null
+intent_written : canonical (obj (more null (more (arr (more (blob (codes "a")) none)) none))) ≡ 0 ∷ 0 ∷ 0 ∷ 0 ∷ 20 ∷ 0 ∷ 0 ∷ 224 ∷ 1 ∷ 97 ∷ 0 ∷ 0 ∷ 2 ∷ 0 ∷ 0 ∷ 0 ∷ 8 ∷ 0 ∷ 0 ∷ 128 ∷ 3 ∷ 0 ∷ 0 ∷ 0 ∷ 0 ∷ 0 ∷ 0 ∷ 0 ∷ 12 ∷ 0 ∷ 0 ∷ 208 ∷ []
+unfolding write
+intent_written = refl
+
+-- two equal blobs are written twice, and an integer of eight bytes stands at a multiple of eight
+integers_written : canonical (arr (more (blob (codes "a")) (more (blob (codes "a")) (more (int 0) (more (int (2 ^ 28)) (more (int (2 ^ 32)) (more null none)))))))
+    ≡ 0 ∷ 0 ∷ 0 ∷ 0 ∷ 24 ∷ 0 ∷ 0 ∷ 208 ∷ 1 ∷ 97 ∷ 1 ∷ 97 ∷ 0 ∷ 0 ∷ 0 ∷ 16 ∷ 0 ∷ 0 ∷ 0 ∷ 0 ∷ 1 ∷ 0 ∷ 0 ∷ 0
+    ∷ 7 ∷ 0 ∷ 0 ∷ 0 ∷ 8 ∷ 0 ∷ 0 ∷ 128 ∷ 10 ∷ 0 ∷ 0 ∷ 128 ∷ 0 ∷ 0 ∷ 0 ∷ 16 ∷ 12 ∷ 0 ∷ 0 ∷ 32 ∷ 16 ∷ 0 ∷ 0 ∷ 48 ∷ 0 ∷ 0 ∷ 0 ∷ 0 ∷ []
+unfolding write
+integers_written = refl
+
+nothing_written : canonical null ≡ 0 ∷ 0 ∷ 0 ∷ 0 ∷ 0 ∷ 0 ∷ 0 ∷ 0 ∷ []
+unfolding write
+nothing_written = refl

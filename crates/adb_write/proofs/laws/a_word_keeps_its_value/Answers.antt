@@ -1,0 +1,12 @@
+use Rattle.adb_view.specs.Readers.{ARRAY, OBJECT}
+use Rattle.adb_write.specs.Canonical.{int_cell, blob_cell, run_cell, trimmed_words}
+use Rattle.adb_write.proofs.AnyOrder.{stays}
+use Rattle.adb_write.proofs.laws.a_word_keeps_its_value.Goals as goal
+
+pub returns : goal.returns
+returns c = record {
+  int = λ n. stays (int_cell n);
+  blob = λ b. stays (blob_cell b);
+  arr = λ ws. stays (run_cell ARRAY ws);
+  obj = λ ws. stays (run_cell OBJECT (trimmed_words ws));
+}

@@ -1,0 +1,11 @@
+use Rattle.std.proofs.Common.{ℕ, List, ap, ◌∙◌}
+use Rattle.adb_view.specs.Readers.{OBJECT}
+use Rattle.adb_write.specs.Canonical.{run_cell}
+use Rattle.adb_write.specs.Writing.{Writing, call}
+use Rattle.adb_write.proofs.DepthFirst.{if_ok, writes_obj}
+use Rattle.adb_write.proofs.writer.Writer.obj.Goals as goal
+
+pub returns-clause-written : goal.returns-clause-written
+returns-clause-written c =
+    let a : Writing = c.args.self.now in
+    if_ok _ _ (λ x e vs before p. writes_obj vs c.args.fields.now before a x c.run.new.self p (e ∙ ap (λ (ws : List ℕ). call (run_cell OBJECT ws) a) c.trimmed.ensures)) c.run.result c.run.ensures.ok

@@ -1,0 +1,12 @@
+-- The file around a payload.
+use Rattle.std.specs.Prelude.{ℕ, List, [], ◌∷◌}
+use Rattle.adb_block.specs.Container.{Piece}
+use Rattle.adb_block.specs.Written.{container}
+use Rattle.adb_block.specs.declared.block.BlockKind.TheVariants.{Adb}
+
+abbrev pub adb_piece : List ℕ → Piece
+adb_piece payload = record { kind = Adb; payload = payload }
+
+-- the container of this schema with one block, the payload, and no signatures
+abbrev pub file_of : ℕ → List ℕ → List ℕ
+file_of schema payload = container schema (adb_piece payload ∷ [])

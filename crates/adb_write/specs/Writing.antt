@@ -1,0 +1,71 @@
+-- A writer as contracts see it: what it wrote, its two counts, and what each call makes of it.
+use Rattle.std.specs.Prelude.{ℕ, Bool, List, [], ◌∷◌, Result, Ok, Err, if◌then◌else◌}
+use Rattle.adb_view.specs.Plain.{Plain, null, int, blob, arr, obj, Plains, none, more}
+use Rattle.adb_view.specs.Readers.{ARRAY, OBJECT}
+use Rattle.adb_write.specs.Canonical.{Cell, in_place, apart, int_cell, blob_cell, run_cell, trimmed_words, Layout, stored, Counts, counts_of, passes, payload_of}
+
+-- The payload behind its first eight bytes. The counts are those of what was written, or, once a value passed a limit, the ones just behind
+-- that value.
+pub record Writing : Type 0 where
+  pub body : List ℕ
+  pub bytes : ℕ
+  pub values : ℕ
+
+-- the writer that has these parts
+abbrev pub made : List ℕ → ℕ → ℕ → Writing
+made body bytes values = record { body = body; bytes = bytes; values = values }
+
+abbrev pub empty : Writing
+empty = made [] 8 1
+
+abbrev pub counts : Writing → Counts
+counts w = (w.bytes, w.values)
+
+-- whether a limit was passed
+abbrev pub is_over : Writing → Bool
+is_over w = passes (counts w)
+
+abbrev pub layout : Writing → Layout
+layout w = record { body = w.body; values = w.values }
+
+abbrev pub written_as : Layout → Writing
+written_as out = made out.body (counts_of out).0 (counts_of out).1
+
+-- past a limit the value is only counted
+abbrev pub unless_over : Writing → ℕ × Layout → ℕ × Writing
+unless_over w r = if passes (counts_of r.1) then (0, record (written_as r.1) { body = w.body }) else (r.0, written_as r.1)
+
+-- One call: the value's word, or NULL from the first value on that passes a limit. A value that its word holds whole adds nothing.
+unfoldable pub call : Cell → Writing → ℕ × Writing
+call (in_place word) w = ((if is_over w then 0 else word), w)
+call (apart i) w = if is_over w then (0, w) else unless_over w (stored (apart i) (layout w))
+
+-- the calls of the four methods
+abbrev pub int_call : ℕ → Writing → ℕ × Writing
+int_call n w = call (int_cell n) w
+
+abbrev pub blob_call : List ℕ → Writing → ℕ × Writing
+blob_call b w = call (blob_cell b) w
+
+abbrev pub arr_call : List ℕ → Writing → ℕ × Writing
+arr_call ws w = call (run_cell ARRAY ws) w
+
+abbrev pub obj_call : List ℕ → Writing → ℕ × Writing
+obj_call ws w = call (run_cell OBJECT (trimmed_words ws)) w
+
+-- the payload with this root, or the counts of a writer that passed a limit
+abbrev pub finished : ℕ → Writing → Result (List ℕ) Counts
+finished root w = if is_over w then Err (counts w) else Ok (payload_of root (layout w))
+
+-- the calls that are made depth first, each answer being used once
+unfoldable mutual
+  pub calls : Plain → Writing → ℕ × Writing
+  calls null w = (0, w)
+  calls (int n) w = int_call n w
+  calls (blob b) w = blob_call b w
+  calls (arr vs) w = arr_call (calls_all vs w).0 (calls_all vs w).1
+  calls (obj vs) w = obj_call (calls_all vs w).0 (calls_all vs w).1
+
+  pub calls_all : Plains → Writing → List ℕ × Writing
+  calls_all none w = ([], w)
+  calls_all (more v vs) w = ((calls v w).0 ∷ (calls_all vs (calls v w).1).0, (calls_all vs (calls v w).1).1)
