@@ -26,7 +26,7 @@ pub record Row : Type 0 where
   pub operands : Flags → Option OperandRule
 
 -- the options of every applet, which may also stand before it
-abbrev pub common : List Entry
+unfoldable pub common : List Entry
 common =
     record { long = codes "--allow-untrusted"; short = []; flag = AllowUntrusted; is_kind = false } ∷
     (record { long = codes "--no-scripts"; short = []; flag = NoScripts; is_kind = false } ∷ [])

@@ -35,7 +35,7 @@ abbrev pub with_option : List Entry → Flags → List ℕ → Option Flags
 with_option entries flags word = option_and_then (with_entry flags) (entry_of entries word)
 
 -- the options of an applet, with those of every applet
-abbrev pub options_of : Applet → List Entry
+unfoldable pub options_of : Applet → List Entry
 options_of applet = common ++ (row_of applet).options
 
 abbrev pub or_at : {A B : Type 0} → ℕ → (A → Result B ℕ) → Option A → Result B ℕ

@@ -53,6 +53,7 @@ static VERSION: [Entry; 2] = [
 ];
 
 /// The option that a word spells, among those of every applet.
+#[tactic(auto, unfolding(crate::specs::Applets::common))]
 pub(crate) fn common_option(word: &[u8]) -> Option<Entry>
     ensures { option_map entry result ≡ entry_of common word.now }
 {
@@ -64,12 +65,7 @@ impl Applet {
     pub(crate) fn of(word: &[u8]) -> Option<Applet>
         ensures { result ≡ applet_of word.now }
     {
-        for applet in APPLETS {
-            if applet.word() == word {
-                return Some(applet);
-            }
-        }
-        None
+        APPLETS.into_iter().find(|applet| applet.word() == word)
     }
 
     // The word of the applet.
@@ -83,6 +79,7 @@ impl Applet {
     }
 
     /// The option that a word spells, among those of the applet and those of every applet.
+    #[tactic(auto, unfolding(crate::specs::Grammar::options_of))]
     pub(crate) fn option(self, word: &[u8]) -> Option<Entry>
         ensures { option_map entry result ≡ entry_of (options_of self) word.now }
     {

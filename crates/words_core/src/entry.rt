@@ -43,12 +43,7 @@ impl Entry {
 pub(crate) fn find_option(entries: &[Entry], word: &[u8]) -> Option<Entry>
     ensures { option_map entry result ≡ entry_of (map entry entries.now) word.now }
 {
-    for entry in entries {
-        if entry.is_spelled(word) {
-            return Some(*entry);
-        }
-    }
-    None
+    entries.iter().copied().find(|entry| entry.is_spelled(word))
 }
 
 /// The flags with an option behind them. None comes where there is no option, or where it is a second kind.

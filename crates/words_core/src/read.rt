@@ -33,6 +33,7 @@ impl From<AllocError> for WordsFault {
 
 /// The command of the words of a command line. `Usage` comes exactly outside the grammar, at the first word that
 /// offends once the whole line is known.
+#[tactic(auto, unfolding(crate::specs::Grammar::command_of))]
 pub fn read_words(alloc: Global, words: &Words) -> Result<Command, WordsFault>
     ensures ok { IfOk result (λ command. command_of words.now ≡ Ok command) }
     ensures err { IfErr result (λ fault. IsWordsFault fault (command_of words.now)) }
@@ -46,6 +47,7 @@ pub fn read_words(alloc: Global, words: &Words) -> Result<Command, WordsFault>
 }
 
 // The command that was read, or the first place that offends; one place is behind the last word.
+#[tactic(auto, unfolding(crate::specs::Grammar::judged))]
 fn judge(
     alloc: Global,
     applet: Applet,

@@ -1,5 +1,5 @@
-ghost use Rattle.std.specs.Prelude.{◌≡◌, ◌+◌, ◌++◌, ◌≤◌, IfOk, OnOk, length, drop};
-ghost use Rattle.words_core.specs.Grammar.{operands_of, options_of, reading_from, reading_of};
+ghost use Rattle.std.specs.Prelude.{◌≡◌, ◌+◌, ◌++◌, ◌≤◌, Some, None, IfOk, OnOk, length, drop};
+ghost use Rattle.words_core.specs.Grammar.{operands_of, options_of, reading_by, reading_from, reading_of};
 
 use crate::entry::with_option;
 use crate::flags::Flags;
@@ -19,7 +19,32 @@ pub(crate) struct Reading {
     pub unread: Option<u32>,
 }
 
+impl Reading {
+    // All words were read.
+    fn whole(flags: Flags, operands: Operands) -> Reading
+        ensures { result ≡ reading_by flags operands None }
+    {
+        Reading {
+            flags,
+            operands,
+            unread: None,
+        }
+    }
+
+    // An option at a place cannot be read.
+    fn up_to(place: u32, flags: Flags, operands: Operands) -> Reading
+        ensures { result ≡ reading_by flags operands (Some place) }
+    {
+        Reading {
+            flags,
+            operands,
+            unread: Some(place),
+        }
+    }
+}
+
 /// Reads the words behind the applet, up to the first option that cannot be read.
+#[tactic(auto, unfolding(crate::specs::Grammar::reading_from))]
 pub(crate) fn read_behind(
     alloc: Global,
     words: &Words,
@@ -33,11 +58,7 @@ pub(crate) fn read_behind(
     }
     let mut operands = Operands::new(alloc);
     add_operands(&mut operands, words, start.read)?;
-    Ok(Reading {
-        flags: start.flags,
-        operands,
-        unread: None,
-    })
+    Ok(Reading::whole(start.flags, operands))
 }
 
 // Reads options and operands.
@@ -48,12 +69,11 @@ fn read_options(alloc: Global, words: &Words, start: &Start) -> Result<Reading, 
 {
     let mut flags = start.flags;
     let mut operands = Operands::new(alloc);
-    let mut unread = None;
     for i in start.read..words.len() {
         let word = words.word(i);
         if is_end(word) {
             add_operands(&mut operands, words, i + 1)?;
-            break;
+            return Ok(Reading::whole(flags, operands));
         }
         if !is_option(word) {
             operands.push(place_behind(i), word)?;
@@ -61,17 +81,10 @@ fn read_options(alloc: Global, words: &Words, start: &Start) -> Result<Reading, 
         }
         match with_option(flags, start.applet.option(word)) {
             Some(more) => flags = more,
-            None => {
-                unread = Some(place_behind(i));
-                break;
-            }
+            None => return Ok(Reading::up_to(place_behind(i), flags, operands)),
         }
     }
-    Ok(Reading {
-        flags,
-        operands,
-        unread,
-    })
+    Ok(Reading::whole(flags, operands))
 }
 
 // Adds the words behind so many as operands.

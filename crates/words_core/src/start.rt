@@ -42,6 +42,7 @@ pub(crate) fn find_applet(words: &Words) -> Result<Start, u32>
 }
 
 // The applet behind the end of the options.
+#[tactic(auto, unfolding(crate::specs::Grammar::start_behind_end), using(crate::proofs::OneMore::left_at))]
 fn applet_behind_end(words: &Words, flags: Flags, before: usize) -> Result<Start, u32>
     requires { before ≤ length words.now }
     ensures { result ≡ start_behind_end flags (before + 1) (drop before words.now) }
@@ -53,6 +54,7 @@ fn applet_behind_end(words: &Words, flags: Flags, before: usize) -> Result<Start
 }
 
 // The applet that is a word with so many before it.
+#[tactic(auto, unfolding(crate::specs::Grammar::start_at))]
 fn applet_at(word: &[u8], flags: Flags, ended: bool, before: usize) -> Result<Start, u32>
     requires { before < 4294967295 }
     ensures { result ≡ start_at flags ended (before + 1) word.now }

@@ -1,6 +1,6 @@
 use Rattle.std.proofs.Common.{◌≡◌, ◌+◌, ◌++◌, drop}
 use Rattle.words_core.specs.Grammar.{options_of, reading_of}
-use Rattle.words_core.proofs.Reads.{behind}
+use Rattle.words_core.proofs.OneMore.{behind}
 use Rattle.words_core.proofs.reading.read_options.Given as goal
 
 -- the reading is that of the words that are left, with the operands so far before it
