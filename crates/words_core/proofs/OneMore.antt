@@ -1,5 +1,5 @@
 -- One more word of a line that is read.
-use Rattle.std.proofs.Common.{◌≡◌, ℕ, zero, suc, ◌+◌, ◌<◌, ◌≤◌, Bool, true, false, if◌then◌else◌, List, [], ◌∷◌, ◌++◌, length, drop, Option, Some, None, Result, Ok, Err, refl, sym, ◌∙◌, ap, arith, rules, append_assoc, option_and_then}
+use Rattle.std.proofs.Common.{◌≡◌, ℕ, zero, suc, ◌+◌, ◌<◌, ◌≤◌, Bool, true, false, if◌then◌else◌, List, [], ◌∷◌, ◌++◌, length, drop, Option, Some, None, Result, Ok, Err, refl, sym, ◌∙◌, ap, arith, rules, append_assoc, append-nil, option_and_then}
 use Rattle.std.specs.List.{slice_get}
 use Rattle.words_core.specs.declared.flags.Flags.{Flags}
 use Rattle.words_core.specs.declared.operands.Operand.{Operand}
@@ -72,3 +72,15 @@ pub reading_push : (all : Reading) (entries : List Entry) (flags : Flags) (opera
 reading_push all entries flags operands pushed words i word place at e o p d kept =
     kept ∙ (ap (behind operands) (reading_operand entries flags words i word at e o)
     ∙ behind_front operands pushed (reading_of entries flags (i + 1 + 1) (drop (i + 1) words)) word place (i + 1) p d)
+
+-- the reading ends, as all that is left are operands
+pub reading_rest : (all : Reading) (entries : List Entry) (flags : Flags) (operands : List Operand) (words : List (List ℕ)) (i : ℕ) (word : List ℕ) → slice_get words i ≡ Some word → is_end word ≡ true → all ≡ behind operands (reading_of entries flags (i + 1) (drop i words)) → reading_by flags (operands ++ operands_of (i + 1 + 1) (drop (i + 1) words)) None ≡ all
+reading_rest all entries flags operands words i word at e kept =
+    sym (kept ∙ ap (behind operands) (reading_ended entries flags words i word at e))
+
+-- the reading ends, as an option cannot be read
+pub reading_unread : (all : Reading) (entries : List Entry) (flags : Flags) (operands : List Operand) (words : List (List ℕ)) (i : ℕ) (word : List ℕ) (place : ℕ) → slice_get words i ≡ Some word → is_end word ≡ false → is_option word ≡ true → with_option entries flags word ≡ None → place ≡ i + 1 → all ≡ behind operands (reading_of entries flags (i + 1) (drop i words)) → reading_by flags operands (Some place) ≡ all
+reading_unread all entries flags operands words i word place at e o m p kept =
+    ap (λ n. reading_by flags operands (Some n)) p
+    ∙ (ap (λ os. reading_by flags os (Some (i + 1))) (sym (append-nil operands))
+    ∙ sym (kept ∙ ap (behind operands) (reading_more entries flags words i word None at e o m)))
