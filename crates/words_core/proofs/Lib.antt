@@ -2,3 +2,4 @@ pub mod OneMore
 pub mod Found
 pub mod KindsKept
 pub mod WhatIsRead
+pub mod LinesRead

@@ -8,6 +8,7 @@ mod applet;
 mod command;
 mod entry;
 mod flags;
+mod laws;
 mod operands;
 mod read;
 mod reading;
@@ -18,6 +19,7 @@ mod words;
 pub use applet::Applet;
 pub use command::Command;
 pub use flags::Flags;
+pub use laws::read_words_are_a_command;
 pub use operands::{Operand, Operands};
 pub use read::{WordsFault, read_words};
 

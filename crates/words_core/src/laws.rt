@@ -1,0 +1,9 @@
+ghost use Rattle.std.specs.Prelude.{◌≡◌, ℕ, List, Ok};
+ghost use Rattle.words_core.specs.Command.{CommandLine};
+ghost use Rattle.words_core.specs.Grammar.{command_of};
+ghost use Rattle.words_core.specs.Lines.{IsLineOf};
+
+/// Words of which a command is read are that command: its applet, its operands and its options, and nothing else.
+pub fn read_words_are_a_command()
+    ensures { (words : List (List ℕ)) (command : CommandLine) → command_of words ≡ Ok command → IsLineOf words command }
+{}
