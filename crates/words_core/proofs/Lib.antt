@@ -3,3 +3,5 @@ pub mod Found
 pub mod KindsKept
 pub mod WhatIsRead
 pub mod LinesRead
+pub mod LinesJudged
+pub mod LinesMade

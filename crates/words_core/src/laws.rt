@@ -7,3 +7,8 @@ ghost use Rattle.words_core.specs.Lines.{IsLineOf};
 pub fn read_words_are_a_command()
     ensures { (words : List (List ℕ)) (command : CommandLine) → command_of words ≡ Ok command → IsLineOf words command }
 {}
+
+/// Words that are a command are read as it, wherever its options stand.
+pub fn commands_are_read()
+    ensures { (words : List (List ℕ)) (command : CommandLine) → IsLineOf words command → command_of words ≡ Ok command }
+{}
