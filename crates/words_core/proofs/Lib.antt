@@ -5,3 +5,5 @@ pub mod WhatIsRead
 pub mod LinesRead
 pub mod LinesJudged
 pub mod LinesMade
+pub mod OffendingWords
+pub mod MoreWords
