@@ -1,0 +1,31 @@
+//! The words of a command line, after apk(8): which are a command, and which word offends first where they are none.
+//!
+//! Words come in, a `Command` goes out. The contract of `read_words` cites `Grammar` (the command of the words, or the
+//! first that offends), `Applets` (the table of applets, options and operands) and `Command` (what a command is) of
+//! `specs/`. `Lines` says which words are a command apart from how they are read, and the functions of `laws` join the two.
+#![tactic(auto)]
+
+mod applet;
+mod command;
+mod entry;
+mod flags;
+mod laws;
+mod operands;
+mod read;
+mod reading;
+mod rule;
+mod start;
+mod words;
+
+pub use applet::Applet;
+pub use command::Command;
+pub use flags::Flags;
+pub use laws::{
+    commands_are_read, read_words_are_a_command, usage_errors_are_at_words,
+    words_offend_whatever_follows,
+};
+pub use operands::{Operand, Operands};
+pub use read::{WordsFault, read_words};
+
+#[cfg(test)]
+mod tests;
