@@ -7,7 +7,9 @@
 #![tactic(auto)]
 
 mod changes;
+mod image;
 mod laws;
+mod plan;
 mod sink;
 mod store;
 mod table;
