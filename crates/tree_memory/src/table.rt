@@ -145,7 +145,8 @@ impl NameTable {
         ensures { IfOk result (IsBelow self.now.entries.items folder.now) }
     {
         let mut names = Names::new(alloc);
-        for i in self.start(folder)..self.entries.len() {
+        let start = self.start(folder);
+        for i in start..self.entries.len() {
             let name = &self.entries[i].name;
             if !is_folder_of(folder, name.as_bytes()) {
                 return Ok(names);
