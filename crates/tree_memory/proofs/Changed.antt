@@ -106,7 +106,7 @@ module _ (name : List ℕ) (n : ℕ) (cs ds : List Change) (es : List Entry) (fi
 
 -- a file that is as it was
 pub store_same : (n : ℕ) (cs : List Change) (es : List Entry) (files more : List Stored) (s d : Stored) → IsStore cs es files → more ≡ set files n s → n < length files → s.bytes.items ≡ d.bytes.items → s.synced ≡ d.synced → d ≡ get_or files n d → IsStore cs es more
-store_same n cs es files more s d store is within bytes synced at =
+store_same n cs es files more s d store is inside bytes synced at =
     let same_bytes : contents_of more ≡ contents_of files = ap contents_of is ∙ map-set_same (λ (f : Stored). f.bytes.items) files n s d (bytes ∙ ap (λ (f : Stored). f.bytes.items) at) in
     let same_flags = ap (λ (l : List Stored). map (λ (f : Stored). f.synced) l) is ∙ map-set_same (λ (f : Stored). f.synced) files n s d (synced ∙ ap (λ (f : Stored). f.synced) at) in record {
       recorded = ap (λ (l : List (List ℕ)). is_record l empty_state cs) same_bytes ∙ store.recorded;

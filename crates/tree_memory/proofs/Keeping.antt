@@ -270,3 +270,8 @@ names_listed names es same table = record { rising = rising; each = λ q. (there
 abbrev pub newest : List TreeState → TreeState
 newest [] = empty_state
 newest (v ∷ earlier) = v
+
+-- what is not present is absent
+pub absent_from : (o : Option ℕ) → (IsSome o → ⊥) → o ≡ None
+absent_from None off = refl
+absent_from (Some n) off = absurd (off refl)

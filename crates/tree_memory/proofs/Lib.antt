@@ -4,5 +4,6 @@ pub mod Counting
 pub mod Folders
 pub mod Growing
 pub mod Keeping
+pub mod Outcomes
 pub mod Placed
 pub mod Sinking
