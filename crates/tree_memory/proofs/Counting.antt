@@ -1,17 +1,16 @@
 -- What the counts of a tree in memory say of each call.
-use Rattle.std.proofs.Common.{◌≡◌, ◌⊎◌, inl, inr, ⊎_elim, ℕ, ◌-◌, ◌≤◌, ◌||◌, Bool, true, false, cond, eqb, ltb, List, [], ◌∷◌, Option, None, Some, Result, Ok, Err, OnOk, OnErr, is_ok, is_some, refl, sym, ap, subst, ◌∙◌, arith}
+use Rattle.std.proofs.Common.{◌≡◌, ◌⊎◌, inl, inr, ⊎_elim, ℕ, ◌-◌, ◌≤◌, ◌||◌, Bool, true, false, cond, eqb, ltb, List, [], ◌∷◌, Option, None, Some, Result, Ok, Err, is_ok, is_some, IsErr, refl, sym, ap, subst, ◌∙◌, arith}
 use Rattle.std.specs.List.{list_any}
 use Rattle.std.specs.Option.{option_map}
 use Rattle.std.proofs.lemmas.Bool.Decides.{nat_tests}
 use Rattle.base_core.specs.Tree.{TreeState}
-use Rattle.base_core.specs.Calls.{Counted, Moves}
-use Rattle.base_core.specs.Faults.{Counts, GoesOn, HasCause, risen}
+use Rattle.base_core.specs.Calls.{Counted}
+use Rattle.base_core.specs.Faults.{GoesOn, HasCause}
 use Rattle.tree_memory.specs.Plans.{PlanState, is_listed, is_stopped, is_next, has_more, listed_on, one_on}
 use Rattle.tree_memory.specs.Tallies.{called, faulted, misused, wanted, begun, goes_on, HasGrown}
-use Rattle.tree_memory.specs.Memory.{state_of, history_of, plan_of, counts_by, counts_of, calls_of, writes_of, IsRead, IsFree, HadToFail, FailedForWant, IsWrite}
+use Rattle.tree_memory.specs.Memory.{counts_by}
 use Rattle.tree_memory.specs.declared.tally.Calls.{Calls}
 use Rattle.tree_memory.specs.declared.tally.Tally.{Tally}
-use Rattle.tree_memory.specs.declared.tree.MemoryTree.{MemoryTree}
 
 -- ---- plans
 
@@ -84,7 +83,7 @@ on old new grown nearer = record { faults = grown.faults; misuses = grown.misuse
 -- ---- one that goes on
 
 module _ (b : Bool) (writes : ℕ) (old new : Calls) (h : IsBegun b writes old new) where
-  begun_at : Bool → Bool → Tally
+  abbrev begun_at : Bool → Bool → Tally
   begun_at c p = begun c p (record old.tally { writes = writes })
 
   free : (c p : Bool) → goes_on c p ≡ true → (c ≡ true) × (p ≡ false)
@@ -117,14 +116,24 @@ module _ (b : Bool) (writes : ℕ) (old new : Calls) (h : IsBegun b writes old n
   pub has_failed : goes_on b (is_next old.plan) ≡ false → IsMisused ⊎ IsPlanned
   has_failed stays = ⊎_elim (λ m. inl (record { cannot = m.0; tally = h.tally ∙ m.1 })) (λ p. inr (record { can = p.0; next = p.1; tally = h.tally ∙ p.2 })) (failed b (is_next old.plan) stays)
 
+  pub begun_on : GoesOn (counts_by old) (counts_by new)
+  begun_on = on old new h.grown h.plan
+
 no_true : (b : Bool) → b ≡ false → b ≡ true → ⊥
 no_true b off at = cc (off, at)
+
+-- a call that is never a misuse fails where that is planned
+pub planned_cause : (writes : ℕ) (old new : Calls) → IsBegun true writes old new → goes_on true (is_next old.plan) ≡ false → HasCause (counts_by old) (counts_by new)
+planned_cause writes old new h stays = ⊎_elim (λ m. absurd (no_true true m.cannot refl))
+    (λ p. record { fault = omega (arith, ap (λ (u : Tally). u.faults) p.tally); reason = inl (next_is_more old.plan p.next) })
+    (has_failed true writes old new h stays)
 
 -- ---- what the counts say
 
 module _ (can : TreeState → Type 0) (v : TreeState) (earlier : List TreeState) (b : Bool) (s : Says b (can v)) (writes : ℕ) (old new : Calls) (h : IsBegun b writes old new) {T E : Type 0} where
-  pub refused_counts : (e : E) → goes_on b (is_next old.plan) ≡ false → Counted {T = T} can (v ∷ earlier) (counts_by old) (counts_by new) (Err e)
-  refused_counts e stays = ⊎_elim misuse planned (has_failed b writes old new h stays)
+  pub refused_counts : (r : Result T E) → IsErr r → goes_on b (is_next old.plan) ≡ false → Counted can (v ∷ earlier) (counts_by old) (counts_by new) r
+  refused_counts (Ok x) is stays = absurd (cc (is))
+  refused_counts (Err e) is stays = ⊎_elim misuse planned (has_failed b writes old new h stays)
     where
       misuse : IsMisused b writes old new h → Counted {T = T} can (v ∷ earlier) (counts_by old) (counts_by new) (Err e)
       misuse m = let cannot : can v → ⊥ = λ can_do. no_true b m.cannot (s.back can_do) in record {
@@ -156,20 +165,7 @@ module _ (can : TreeState → Type 0) (v : TreeState) (earlier : List TreeState)
     misuse = λ cannot. absurd (cannot can_do);
   }
 
--- ---- a call that reads
-
-module _ (b : Bool) (old new : MemoryTree) (h : IsBegun b (writes_of old) old.calls new.calls) {T E : Type 0} where
-  pub refused_read : (e : E) → goes_on b (is_next (plan_of old)) ≡ false → IsRead {T = T} old new (Err e)
-  refused_read e stays = ⊎_elim
-      (λ m. record { calls = ap (λ (u : Tally). u.calls) m.tally; writes = ap (λ (u : Tally). u.writes) m.tally; plan = h.plan; faults = ap (λ (u : Tally). u.faults) m.tally; wants = ap (λ (u : Tally). u.wants) m.tally })
-      (λ p. record { calls = ap (λ (u : Tally). u.calls) p.tally; writes = ap (λ (u : Tally). u.writes) p.tally; plan = h.plan; faults = ap (λ (u : Tally). u.faults) p.tally; wants = ap (λ (u : Tally). u.wants) p.tally })
-      (has_failed b (writes_of old) old.calls new.calls h stays)
-
-  pub done_read : (x : T) → goes_on b (is_next (plan_of old)) ≡ true → IsRead {E = E} old new (Ok x)
-  done_read x goes = let tally = free_tally b (writes_of old) old.calls new.calls h goes in
-      record { calls = ap (λ (u : Tally). u.calls) tally; writes = ap (λ (u : Tally). u.writes) tally; plan = h.plan; faults = ap (λ (u : Tally). u.faults) tally; wants = ap (λ (u : Tally). u.wants) tally }
-
--- ---- a call that writes
+-- ---- a call that ends
 
 -- the end of a call, for which there was memory or not
 pub record IsEnded (there : Bool) (mid new : Calls) : Type 0 where
@@ -177,83 +173,33 @@ pub record IsEnded (there : Bool) (mid new : Calls) : Type 0 where
   pub tally : new.tally ≡ cond there mid.tally (wanted mid.tally)
   pub grown : HasGrown mid.tally new.tally
 
-module _ (can : TreeState → Type 0) (old new : MemoryTree) (b : Bool) (s : Says b (can (state_of old))) {T E : Type 0} where
-  pub refused_write : (e : E) → IsBegun b (risen (writes_of old)) old.calls new.calls → goes_on b (is_next (plan_of old)) ≡ false → history_of new ≡ history_of old → IsWrite {T = T} can old new (Err e)
-  refused_write e h stays same = ⊎_elim
-      (λ m. record {
-      calls = ap (λ (u : Tally). u.calls) m.tally; writes = ap (λ (u : Tally). u.writes) m.tally; plan = h.plan; faults = ap (λ (u : Tally). u.faults) m.tally; free = tt; wants = tt; unchanged = same;
-      reason = inl (record { reason = inr (λ can_do. no_true b m.cannot (s.back can_do)); wants = ap (λ (u : Tally). u.wants) m.tally });
-    })
-      (λ p. record {
-      calls = ap (λ (u : Tally). u.calls) p.tally; writes = ap (λ (u : Tally). u.writes) p.tally; plan = h.plan; faults = ap (λ (u : Tally). u.faults) p.tally; free = tt; wants = tt; unchanged = same;
-      reason = inl (record { reason = inl p.next; wants = ap (λ (u : Tally). u.wants) p.tally });
-    })
-      (has_failed b (risen (writes_of old)) old.calls new.calls h stays)
+module _ (can : TreeState → Type 0) (v : TreeState) (earlier : List TreeState) (b : Bool) (s : Says b (can v)) (writes : ℕ) (old mid new : Calls) (h : IsBegun b writes old mid) (goes : goes_on b (is_next old.plan) ≡ true) where
+  can_do : can v
+  can_do = s.good (is_free b writes old mid h goes).0
 
-  module _ (mid : Calls) (h : IsBegun b (risen (writes_of old)) old.calls mid) (goes : goes_on b (is_next (plan_of old)) ≡ true) where
-    begun_tally : mid.tally ≡ called (record old.calls.tally { writes = risen (writes_of old) })
-    begun_tally = free_tally b (risen (writes_of old)) old.calls mid h goes
+  ended_on : (there : Bool) → IsEnded there mid new → GoesOn (counts_by old) (counts_by new)
+  ended_on there end = on old new (record {
+      faults = omega (arith, h.grown.faults, end.grown.faults);
+      misuses = omega (arith, h.grown.misuses, end.grown.misuses);
+      wants = omega (arith, h.grown.wants, end.grown.wants);
+    }) (end.plan ∙ h.plan)
 
-    is_free_now : IsFree can old
-    is_free_now = let at = is_free b (risen (writes_of old)) old.calls mid h goes in record { unplanned = at.1; proper = s.good at.0 }
-
-    there_tally : IsEnded true mid new.calls → new.calls.tally ≡ called (record old.calls.tally { writes = risen (writes_of old) })
-    there_tally end = end.tally ∙ begun_tally
-
-    want_tally : IsEnded false mid new.calls → new.calls.tally ≡ wanted (called (record old.calls.tally { writes = risen (writes_of old) }))
-    want_tally end = end.tally ∙ ap wanted begun_tally
-
-    ended_on : (there : Bool) → IsEnded there mid new.calls → GoesOn (counts_of old) (counts_of new)
-    ended_on there end = on old.calls new.calls (record {
-        faults = omega (arith, h.grown.faults, end.grown.faults);
-        misuses = omega (arith, h.grown.misuses, end.grown.misuses);
-        wants = omega (arith, h.grown.wants, end.grown.wants);
-      }) (end.plan ∙ h.plan)
-
-    pub ended_write : (there : Bool) (r : Result T E) → IsEnded there mid new.calls → is_ok r ≡ there → (there ≡ false → history_of new ≡ history_of old) → IsWrite can old new r
-    ended_write true (Ok x) end is same = let tally = there_tally end in record {
-      calls = ap (λ (u : Tally). u.calls) tally; writes = ap (λ (u : Tally). u.writes) tally; plan = end.plan ∙ h.plan; faults = ap (λ (u : Tally). u.faults) tally;
-      free = is_free_now; wants = ap (λ (u : Tally). u.wants) tally; reason = tt; unchanged = tt;
-    }
-    ended_write true (Err e) end is same = absurd (cc (is))
-    ended_write false (Ok x) end is same = absurd (cc (is))
-    ended_write false (Err e) end is same = let tally = want_tally end in record {
-      calls = ap (λ (u : Tally). u.calls) tally; writes = ap (λ (u : Tally). u.writes) tally; plan = end.plan ∙ h.plan; faults = ap (λ (u : Tally). u.faults) tally;
-      free = tt; wants = tt; reason = inr (record { free = is_free_now; wants = ap (λ (u : Tally). u.wants) tally }); unchanged = same refl;
-    }
-
-    pub ended_counts : (there : Bool) (r : Result T E) → IsEnded there mid new.calls → is_ok r ≡ there → Counted can (history_of old) (counts_of old) (counts_of new) r
-    ended_counts true (Ok x) end is = let tally = there_tally end in record {
-      goes_on = ended_on true end;
-      cause = tt;
-      kept = ap (λ (u : Tally). u.faults) tally;
-      allowed = is_free_now.proper;
-      proper = λ _. ap (λ (u : Tally). u.misuses) tally;
-      misuse = λ cannot. absurd (cannot is_free_now.proper);
-    }
-    ended_counts true (Err e) end is = absurd (cc (is))
-    ended_counts false (Ok x) end is = absurd (cc (is))
-    ended_counts false (Err e) end is = let tally = want_tally end in record {
-      goes_on = ended_on false end;
-      cause = record { fault = omega (arith, ap (λ (u : Tally). u.faults) tally); reason = inr (inr (omega (arith, ap (λ (u : Tally). u.wants) tally))) };
-      kept = tt;
-      allowed = tt;
-      proper = λ _. ap (λ (u : Tally). u.misuses) tally;
-      misuse = λ cannot. absurd (cannot is_free_now.proper);
-    }
-
--- ---- the states
-
-pub refused_moves : {T E : Type 0} (done failed : TreeState → TreeState) (v : TreeState) (earlier : List TreeState) (e : E) → Moves {T = T} done failed (v ∷ earlier) (v ∷ earlier) (Err e)
-refused_moves done failed v earlier e = record { untold = λ none. absurd (cc (none)); ok = tt; err = inl refl }
-
-pub ended_moves : {T E X Y : Type 0} (done failed : TreeState → TreeState) (v : TreeState) (earlier new : List TreeState) (d : Result X Y) (r : Result T E) → OnOk d (new ≡ done v ∷ (v ∷ earlier)) → OnErr d (new ≡ v ∷ earlier) → is_ok r ≡ is_ok d → Moves done failed (v ∷ earlier) new r
-ended_moves done failed v earlier new (Ok x) (Ok y) ok_is err_is is = record { untold = λ none. absurd (cc (none)); ok = ok_is; err = tt }
-ended_moves done failed v earlier new (Ok x) (Err e) ok_is err_is is = absurd (cc (is))
-ended_moves done failed v earlier new (Err f) (Ok y) ok_is err_is is = absurd (cc (is))
-ended_moves done failed v earlier new (Err f) (Err e) ok_is err_is is = record { untold = λ none. absurd (cc (none)); ok = tt; err = inl err_is }
-
--- what a refused change leaves
-pub left_by : {X Y P : Type 0} (d : Result X Y) → OnErr d P → is_ok d ≡ false → P
-left_by (Ok x) left is = absurd (cc (is))
-left_by (Err e) left is = left
+  pub ended_counts : {T E : Type 0} (there : Bool) (r : Result T E) → IsEnded there mid new → is_ok r ≡ there → Counted can (v ∷ earlier) (counts_by old) (counts_by new) r
+  ended_counts true (Ok x) end is = let tally = end.tally ∙ free_tally b writes old mid h goes in record {
+    goes_on = ended_on true end;
+    cause = tt;
+    kept = ap (λ (u : Tally). u.faults) tally;
+    allowed = can_do;
+    proper = λ _. ap (λ (u : Tally). u.misuses) tally;
+    misuse = λ cannot. absurd (cannot can_do);
+  }
+  ended_counts true (Err e) end is = absurd (cc (is))
+  ended_counts false (Ok x) end is = absurd (cc (is))
+  ended_counts false (Err e) end is = let tally = end.tally ∙ ap wanted (free_tally b writes old mid h goes) in record {
+    goes_on = ended_on false end;
+    cause = record { fault = omega (arith, ap (λ (u : Tally). u.faults) tally); reason = inr (inr (omega (arith, ap (λ (u : Tally). u.wants) tally))) };
+    kept = tt;
+    allowed = tt;
+    proper = λ _. ap (λ (u : Tally). u.misuses) tally;
+    misuse = λ cannot. absurd (cannot can_do);
+  }
