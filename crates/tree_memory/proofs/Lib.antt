@@ -5,5 +5,6 @@ pub mod Folders
 pub mod Growing
 pub mod Keeping
 pub mod Outcomes
+pub mod Picking
 pub mod Placed
 pub mod Sinking

@@ -1,9 +1,9 @@
 //! What a crash leaves of a store.
-ghost use Rattle.std.specs.Prelude.{◌≡◌, ◌+◌, ◌-◌, ◌<◌, ◌≤◌, ◌^◌, ℕ, List, true, IsTrue, IfOk, OnOk, length, take, slice_index_or};
+ghost use Rattle.std.specs.Prelude.{◌≡◌, ◌+◌, ◌-◌, ◌<◌, ◌≤◌, ◌^◌, ℕ, List, true, IfOk, length, take, slice_index_or};
 ghost use Rattle.base_core.specs.Files.{no_names};
 ghost use Rattle.base_core.specs.Crash.{IsCrashOf};
 ghost use Rattle.base_core.specs.Tree.{TreeState, files_of};
-ghost use Rattle.tree_memory.specs.Changes.{empty_state, contents_of, state_on, is_record, step};
+ghost use Rattle.tree_memory.specs.Changes.{empty_state, state_on, is_record, step};
 ghost use Rattle.tree_memory.specs.Images.{maps_of, newest_first, adds_map, maps_on, picked, filled, file_of, HasNames};
 ghost use Rattle.tree_memory.specs.Stores.{store_state};
 ghost use Rattle.tree_memory.specs.Table.{lookup};
@@ -16,7 +16,8 @@ use std::alloc::{AllocError, Global};
 impl Store {
     /// How many maps of names there are that a crash may leave.
     pub fn maps(&self) -> u64
-        ensures { result ≡ length (maps_of (store_state self.now)) }
+        ensures count { result ≡ length (maps_of (store_state self.now)) }
+        ensures some { 0 < result }
     {
         let mut maps = 1;
         for change in &self.changes {
@@ -46,7 +47,7 @@ impl Store {
 
 // How many maps of names there are behind one change more.
 fn maps_after(maps: u64, change: &Change) -> u64
-    requires { maps < 2 ^ 63 }
+    requires { maps < 2 ^ 64 - 1 }
     ensures { result ≡ maps_on change.now maps }
 {
     match change {
@@ -78,7 +79,11 @@ fn adds_map(change: &Change) -> bool
 }
 
 // How many changes had been made when the map of names was read that is so many maps before the newest.
-fn moment(changes: &[Change], back: u64) -> usize {
+fn moment(changes: &[Change], back: u64) -> usize
+    ensures within { result ≤ length changes.now }
+    ensures names { (contents : List (List ℕ)) → is_record contents empty_state changes.now ≡ true → back < length (newest_first (state_on contents empty_state changes.now))
+        → (q : List ℕ) → (state_on contents empty_state (take result changes.now)).names q ≡ slice_index_or (newest_first (state_on contents empty_state changes.now)) back no_names q }
+{
     let mut n = changes.len();
     let mut left = back;
     while n > 0 {
@@ -94,7 +99,9 @@ fn moment(changes: &[Change], back: u64) -> usize {
 }
 
 // The names behind some changes, the first ones of a record.
-fn names_after(alloc: Global, changes: &[Change]) -> Result<NameTable, AllocError> {
+fn names_after(alloc: Global, changes: &[Change]) -> Result<NameTable, AllocError>
+    ensures { IfOk result (λ names. (contents : List (List ℕ)) (q : List ℕ) → (state_on contents empty_state changes.now).names q ≡ lookup names.entries.items q) }
+{
     let mut names = NameTable::new(alloc);
     let mut made = 0;
     for change in changes {
@@ -110,7 +117,9 @@ fn replay(
     made: usize,
     change: &Change,
 ) -> Result<usize, AllocError>
-    requires { made < 2 ^ 63 }
+    requires { made < 2 ^ 64 - 1 }
+    ensures bound { IfOk result (λ n. n ≤ made + 1) }
+    ensures names { IfOk result (λ n. (contents : List (List ℕ)) (v : TreeState) → HasNames v names.old.entries.items made → HasNames (step contents change.now v) names.new.entries.items n) }
 {
     match change {
         Change::Put { name, .. } => {
