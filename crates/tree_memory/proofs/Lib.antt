@@ -3,6 +3,7 @@ pub mod Changed
 pub mod Counting
 pub mod Folders
 pub mod Growing
+pub mod Imaging
 pub mod Keeping
 pub mod Outcomes
 pub mod Picking

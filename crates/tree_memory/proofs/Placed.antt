@@ -51,7 +51,7 @@ lookup_at (e ∷ es) (suc i) q d within here others =
     ap (λ b. cond b (Some e.file) (lookup es q)) (other_name q e.name (λ is. others 0 (omega arith) (sym is)))
     ∙ lookup_at es i q d (omega arith) here (λ j below. others (suc j) (omega arith))
 
-lookup_off : (es : List Entry) (q : List ℕ) (d : Entry) → ((j : ℕ) → j < length es → (get_or es j d).name ≡ q → ⊥) → lookup es q ≡ None
+pub lookup_off : (es : List Entry) (q : List ℕ) (d : Entry) → ((j : ℕ) → j < length es → (get_or es j d).name ≡ q → ⊥) → lookup es q ≡ None
 lookup_off [] q d others = refl
 lookup_off (e ∷ es) q d others =
     ap (λ b. cond b (Some e.file) (lookup es q)) (other_name q e.name (λ is. others 0 (omega arith) (sym is)))
@@ -119,7 +119,7 @@ none_at : (b : Bool) (x : ℕ) (r : Option ℕ) → cond b (Some x) r ≡ None �
 none_at true x r none = absurd (cc)
 none_at false x r none = (refl, none)
 
-lookup_insert : (es : List Entry) (i : ℕ) (e : Entry) → lookup es e.name ≡ None → (q : List ℕ) → lookup (take i es ++ e ∷ drop i es) q ≡ put (lookup es) e.name e.file q
+pub lookup_insert : (es : List Entry) (i : ℕ) (e : Entry) → lookup es e.name ≡ None → (q : List ℕ) → lookup (take i es ++ e ∷ drop i es) q ≡ put (lookup es) e.name e.file q
 lookup_insert [] zero e none q = refl
 lookup_insert [] (suc i) e none q = refl
 lookup_insert (f ∷ es) zero e none q = refl
