@@ -8,4 +8,5 @@ pub mod Keeping
 pub mod Outcomes
 pub mod Picking
 pub mod Placed
+mod Rows
 pub mod Sinking
