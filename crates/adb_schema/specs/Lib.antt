@@ -1,3 +1,5 @@
 pub mod Schema
 pub mod Views
 pub mod Checked
+pub mod Repeated
+pub mod NamedTexts

@@ -6,6 +6,7 @@
 #![tactic(auto)]
 
 mod checked;
+mod repeated_names;
 mod schema;
 mod tables;
 

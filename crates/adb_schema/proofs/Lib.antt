@@ -1,0 +1,3 @@
+pub mod Members
+pub mod FirstPair
+pub mod Compared

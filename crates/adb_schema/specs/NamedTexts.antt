@@ -1,0 +1,29 @@
+-- The names that the program compares, and their order.
+use Rattle.std.specs.Prelude.{ℕ, List, [], ◌∷◌, ◌++◌, codes, Option}
+use Rattle.std.specs.Ordering.{nat_cmp, ordering_then}
+use Rattle.std.specs.declared.cmp.Ordering.{Ordering}
+use Rattle.std.specs.Cmp.Lexicographic.{slice_cmp}
+use Rattle.adb_schema.specs.Repeated.{Named, pair_of}
+use Rattle.adb_schema.specs.declared.repeated_names.Pair.{Pair}
+use Rattle.adb_schema.specs.declared.repeated_names.Entry.{Entry}
+
+-- the path of a file in a folder
+abbrev pub path_of : List ℕ → List ℕ → List ℕ
+path_of [] name = name
+path_of (c ∷ cs) name = (c ∷ cs) ++ (codes "/" ++ name)
+
+abbrev pub named_by : Entry → Named
+named_by e = record { name = path_of e.folder.now e.name.now; position = e.position }
+
+-- by name, and equal names by position
+abbrev pub named_cmp : Named → Named → Ordering
+named_cmp x y = ordering_then (slice_cmp nat_cmp x.name y.name) (nat_cmp x.position y.position)
+
+-- the pairs of names that stand next to each other
+abbrev pub neighbours_from : Named → List Named → List (Option Pair)
+neighbours_from x [] = []
+neighbours_from x (y ∷ ys) = pair_of x y ∷ neighbours_from y ys
+
+abbrev pub neighbours : List Named → List (Option Pair)
+neighbours [] = []
+neighbours (x ∷ xs) = neighbours_from x xs
