@@ -213,8 +213,8 @@ field_word_is p which w ws i word h run is = λ k e.
     let moved : FieldRead p which w i k word = subst (λ (x : ℕ). FieldRead p which w i k x) is r in
     (moved.sound, moved.value)
 
-pub field_within : (p : List ℕ) (which : Which) (w : ℕ) (ws : List ℕ) (i word : ℕ) → is_sound p (Obj which) w ≡ true → run_of OBJECT p w ≡ Ok ws → word ≡ get_or ws (i + 1 - 1) 0 → IsFieldOf p which w i word
-field_within p which w ws i word h run is = field_word_is p which w ws i word h run (sym (is ∙ ap (λ (j : ℕ). get_or ws j 0) (omega arith)))
+pub field_within : (p : List ℕ) (which : Which) (w : ℕ) (ws : List ℕ) (i word : ℕ) → is_sound p (Obj which) w ≡ true → run_of OBJECT p w ≡ Ok ws → word ≡ get_or ws i 0 → IsFieldOf p which w i word
+field_within p which w ws i word h run is = field_word_is p which w ws i word h run (sym is)
 
 pub field_past : (p : List ℕ) (which : Which) (w : ℕ) (ws : List ℕ) (i : ℕ) → is_sound p (Obj which) w ≡ true → run_of OBJECT p w ≡ Ok ws → length ws ≤ i → IsFieldOf p which w i 0
 field_past p which w ws i h run past = field_word_is p which w ws i 0 h run (get_or_past ws i 0 past)

@@ -5,6 +5,9 @@ use Rattle.adb_view.specs.Plain.{Shape, number, text, hash, array, object, Field
 use Rattle.adb_view.specs.Readers.{run_of, ARRAY, OBJECT}
 use Rattle.adb_view.specs.Visits.{Visit, or_empty, each_visit, visits, field_visits, fault_at, is_sound_visit}
 use Rattle.adb_view.specs.Gives.{cause_of}
+use Rattle.adb_schema.specs.Schema.{shape_of}
+use Rattle.adb_schema.specs.Views.{is_sound}
+use Rattle.adb_schema.specs.declared.schema.Kind.{Kind}
 use Rattle.adb_schema.specs.Walk.{visit_fault, or_else, first_fault_from, shape_fault, LIMIT, IsFirstFault, ◌>>=◌, ok_unless, visited, each_walk, walk, fields_walk}
 use Rattle.std.specs.List.{list_all}
 use Rattle.adb_view.proofs.Found.{plain_of-found}
@@ -152,3 +155,15 @@ counted-sound p n m (v ∷ vs) e =
 
 pub walk-found : (p : List ℕ) (s : Shape) (n m w : ℕ) → walk p s n w ≡ Ok m → is_some (plain_of p s w) ≡ true
 walk-found p s n m w e = plain_of-found p s w ∙ counted-sound p n m (visits p s w) (sym (walk-counted p s n w) ∙ e)
+
+-- ---- the same as the code meets them
+
+pub walk_refused : (p : List ℕ) (s : Shape) (w : ℕ) (c : Cause) → walk p s 0 w ≡ Err c → Some c ≡ shape_fault p s w
+walk_refused p s w c e = sym (ap cause_of e) ∙ walk-fault p s w
+
+pub walk_passed : (p : List ℕ) (s : Shape) (w n : ℕ) → walk p s 0 w ≡ Ok n → None ≡ shape_fault p s w
+walk_passed p s w n e = sym (ap cause_of e) ∙ walk-fault p s w
+
+pub walk_sound : (p : List ℕ) (k : Kind) (w n : ℕ) → walk p (shape_of k) 0 w ≡ Ok n → is_sound p k w ≡ true
+unfolding is_sound
+walk_sound p k w n e = walk-found p (shape_of k) 0 n w e

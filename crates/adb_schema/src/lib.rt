@@ -6,10 +6,14 @@
 #![tactic(auto)]
 
 mod checked;
+mod walk;
 mod words;
 mod schema;
+
 mod tables;
 
 pub use checked::{Checked, Shaped};
 pub use schema::{Field, Kind, Label, Schema, Which, fields_of};
+
 pub use tables::{ACL, DEP, DIR, FILE, IDB, INDEX, INTENT, PACKAGE, PKGINFO, SCRIPTS};
+pub use walk::{shape, walk_table};

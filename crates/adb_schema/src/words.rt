@@ -1,5 +1,5 @@
 //! Reads of sound words, which cannot fail.
-ghost use Rattle.std.specs.Prelude.{◌≡◌, ◌<◌, true, Some};
+ghost use Rattle.std.specs.Prelude.{◌≡◌, ◌<◌, true, Some, length, slice_index};
 ghost use Rattle.adb_view.specs.Adb.{payload_of};
 ghost use Rattle.adb_view.specs.Entries.{array_entries};
 ghost use Rattle.adb_view.specs.Readers.{run_of, OBJECT};
@@ -19,6 +19,14 @@ pub(crate) fn object_entries<'a>(adb: Adb<'a>, object: Val) -> Result<Arr<'a>, C
     Ok(adb.obj::<0>(object)?.entries())
 }
 
+/// The word at a place, counted from 0.
+pub(crate) fn entry_word(entries: Arr<'_>, i: usize) -> Val
+    requires { i < length (array_entries entries) }
+    ensures { result ≡ slice_index (array_entries entries.entry) i }
+{
+    entries.get(i + 1)
+}
+
 /// The field of a sound object, counted from 0; NULL where the object ends before it.
 #[tactic(auto, using(crate::proofs::FieldReads::object_runs))]
 pub(crate) fn field_word(adb: Adb<'_>, which: Which, object: Val, i: usize) -> Val
@@ -28,7 +36,7 @@ pub(crate) fn field_word(adb: Adb<'_>, which: Which, object: Val, i: usize) -> V
     match object_entries(adb, object) {
         Ok(entries) => {
             if i < entries.len() {
-                entries.get(i + 1)
+                entry_word(entries, i)
             } else {
                 Val::of(0)
             }
