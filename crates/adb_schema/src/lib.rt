@@ -6,6 +6,7 @@
 #![tactic(auto)]
 
 mod checked;
+mod fields;
 mod walk;
 mod words;
 mod schema;
