@@ -1,5 +1,8 @@
 pub mod Schema
+pub mod Rank
+pub mod Walk
 pub mod Views
+pub mod Fields
 pub mod Checked
 pub mod Repeated
 pub mod NamedTexts

@@ -6,10 +6,15 @@
 #![tactic(auto)]
 
 mod checked;
+mod fields;
 mod repeated_names;
 mod schema;
 mod tables;
+mod walk;
+mod words;
 
 pub use checked::{Checked, Shaped};
 pub use schema::{Field, Kind, Label, Schema, Which, fields_of};
+
 pub use tables::{ACL, DEP, DIR, FILE, IDB, INDEX, INTENT, PACKAGE, PKGINFO, SCRIPTS};
+pub use walk::{shape, walk_table};
