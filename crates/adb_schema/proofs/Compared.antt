@@ -3,7 +3,7 @@ use Rattle.std.proofs.Common.{◌≡◌, ℕ, suc, zero, ◌+◌, ◌<◌, List,
 use Rattle.std.specs.Prelude.{slice_get, Bool, true, false, nat_lt, ◌==◌, bytes_eq, codes, ◌++◌}
 use Rattle.std.proofs.Common.{cond, take, ◌≤◌}
 use Rattle.std.proofs.lemmas.List.{take-append-le, take_all}
-use Rattle.adb_schema.specs.NamedTexts.{path_of}
+use Rattle.adb_schema.specs.Repeated.{path_of}
 use borrow.Author.Tests.{eqb-true}
 use Rattle.std.specs.Cmp.{Equal-is}
 use Rattle.std.proofs.lemmas.Bool.{true≢false}

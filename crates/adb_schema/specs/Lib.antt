@@ -4,5 +4,6 @@ pub mod Walk
 pub mod Views
 pub mod Fields
 pub mod Checked
+pub mod Pairs
 pub mod Repeated
 pub mod NamedTexts

@@ -1,17 +1,14 @@
 -- The names that the program compares, and their order.
-use Rattle.std.specs.Prelude.{ℕ, List, [], ◌∷◌, ◌++◌, codes, Option}
+use Rattle.std.specs.Prelude.{List, [], ◌∷◌, Option}
+use Rattle.adb_schema.specs.Repeated.{path_of}
 use Rattle.std.specs.Ordering.{nat_cmp, ordering_then}
 use Rattle.std.specs.declared.cmp.Ordering.{Ordering}
 use Rattle.std.specs.Cmp.Lexicographic.{slice_cmp}
-use Rattle.adb_schema.specs.Repeated.{Named, pair_of}
+use Rattle.adb_schema.specs.Pairs.{Named, pair_of}
 use Rattle.adb_schema.specs.declared.repeated_names.Pair.{Pair}
 use Rattle.adb_schema.specs.declared.repeated_names.Entry.{Entry}
 
--- the path of a file in a folder
-abbrev pub path_of : List ℕ → List ℕ → List ℕ
-path_of [] name = name
-path_of (c ∷ cs) name = (c ∷ cs) ++ (codes "/" ++ name)
-
+-- the name that an entry stands for: where there is a folder, a path
 abbrev pub named_by : Entry → Named
 named_by e = record { name = path_of e.folder.now e.name.now; position = e.position }
 

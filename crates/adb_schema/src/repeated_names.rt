@@ -3,7 +3,7 @@
 ghost use Rattle.std.specs.Prelude.{◌≡◌, ◌<◌, ◌^◌, ◌+◌, ◌≤◌, length, map, take, drop, slice_get, IfSome};
 ghost use Rattle.std.specs.Cmp.Lexicographic.{slice_cmp};
 ghost use Rattle.std.specs.Ordering.{nat_cmp};
-ghost use Rattle.adb_schema.specs.Repeated.{first_pair, pair_of, earlier, earliest, is_before};
+ghost use Rattle.adb_schema.specs.Pairs.{first_pair, pair_of, earlier, earliest, is_before};
 ghost use Rattle.adb_schema.specs.NamedTexts.{named_by, named_cmp, neighbours};
 
 use std::cmp::Ordering;

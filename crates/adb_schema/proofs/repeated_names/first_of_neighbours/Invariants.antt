@@ -1,6 +1,6 @@
 -- The first of the pairs passed and of those to come is the first of all.
 use Rattle.std.proofs.Common.{◌≡◌, ◌≤◌, ◌-◌, map, drop}
-use Rattle.adb_schema.specs.Repeated.{earlier, earliest}
+use Rattle.adb_schema.specs.Pairs.{earlier, earliest}
 use Rattle.adb_schema.specs.NamedTexts.{named_by, neighbours}
 use Rattle.adb_schema.proofs.repeated_names.first_of_neighbours.Given as goal
 
