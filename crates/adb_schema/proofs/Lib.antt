@@ -5,3 +5,4 @@ pub mod FieldReads
 pub mod Members
 pub mod FirstPair
 pub mod Compared
+pub mod NameLists

@@ -1,11 +1,15 @@
 -- The names that the program compares, and their order.
-use Rattle.std.specs.Prelude.{List, [], ◌∷◌, Option}
-use Rattle.adb_schema.specs.Repeated.{path_of}
+use Rattle.std.specs.Prelude.{ℕ, List, [], ◌∷◌, Option}
+use Rattle.adb_schema.specs.Repeated.{path_of, list_of}
 use Rattle.std.specs.Ordering.{nat_cmp, ordering_then}
 use Rattle.std.specs.declared.cmp.Ordering.{Ordering}
 use Rattle.std.specs.Cmp.Lexicographic.{slice_cmp}
 use Rattle.adb_schema.specs.Pairs.{Named, pair_of}
 use Rattle.adb_schema.specs.declared.repeated_names.Pair.{Pair}
+use Rattle.adb_view.specs.Plain.{Plain}
+use Rattle.adb_schema.specs.Views.{entries_in}
+use Rattle.adb_schema.specs.Fields.{array_at}
+use Rattle.adb_schema.specs.declared.schema.Kind.{Kind}
 use Rattle.adb_schema.specs.declared.repeated_names.Entry.{Entry}
 
 -- the name that an entry stands for: where there is a folder, a path
@@ -24,3 +28,10 @@ neighbours_from x (y ∷ ys) = pair_of x y ∷ neighbours_from y ys
 abbrev pub neighbours : List Named → List (Option Pair)
 neighbours [] = []
 neighbours (x ∷ xs) = neighbours_from x xs
+
+abbrev pub named_at : List ℕ → ℕ → Named
+named_at name position = record { name = name; position = position }
+
+-- the values of an array's words
+abbrev pub plains_at : List ℕ → Kind → List ℕ → List Plain
+plains_at p k words = list_of (entries_in (array_at p k words))

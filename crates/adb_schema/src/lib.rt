@@ -7,6 +7,7 @@
 
 mod checked;
 mod fields;
+mod repeated_lists;
 mod repeated_names;
 mod schema;
 mod tables;
