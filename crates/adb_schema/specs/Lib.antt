@@ -4,3 +4,4 @@ pub mod Walk
 pub mod Views
 pub mod Fields
 pub mod Checked
+pub mod Shown

@@ -7,6 +7,7 @@
 
 mod checked;
 mod fields;
+mod list;
 mod walk;
 mod words;
 mod schema;
