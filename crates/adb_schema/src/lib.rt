@@ -6,16 +6,25 @@
 #![tactic(auto)]
 
 mod checked;
+mod contents;
+mod dependency;
 mod fields;
+mod folder;
+mod info;
 mod list;
+mod roots;
+mod schema;
+mod tables;
 mod walk;
 mod words;
-mod schema;
-
-mod tables;
 
 pub use checked::{Checked, Shaped};
+pub use contents::{PackageView, ScriptsView};
+pub use dependency::DepView;
+pub use folder::{AclView, DirInfo, FileInfo};
+pub use info::PkgInfo;
+pub use list::{Kinded, List, View};
+pub use roots::{IdbView, IndexView, IntentView};
 pub use schema::{Field, Kind, Label, Schema, Which, fields_of};
-
 pub use tables::{ACL, DEP, DIR, FILE, IDB, INDEX, INTENT, PACKAGE, PKGINFO, SCRIPTS};
 pub use walk::{shape, walk_table};
