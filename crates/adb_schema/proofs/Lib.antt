@@ -2,3 +2,4 @@ pub mod TableShapes
 pub mod ShapeWalk
 pub mod WalkSteps
 pub mod FieldReads
+pub mod Worked

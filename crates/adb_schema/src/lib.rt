@@ -11,7 +11,9 @@ mod dependency;
 mod fields;
 mod folder;
 mod info;
+mod laws;
 mod list;
+mod opened;
 mod roots;
 mod schema;
 mod tables;
@@ -23,6 +25,9 @@ pub use contents::{PackageView, ScriptsView};
 pub use dependency::DepView;
 pub use folder::{AclView, DirInfo, FileInfo};
 pub use info::PkgInfo;
+pub use laws::{
+    tables_are_unrolled_whole, the_first_faulty_visit_is_told, values_of_few_visits_have_no_fault,
+};
 pub use list::{Kinded, List, View};
 pub use roots::{IdbView, IndexView, IntentView};
 pub use schema::{Field, Kind, Label, Schema, Which, fields_of};
