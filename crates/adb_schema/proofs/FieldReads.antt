@@ -304,3 +304,22 @@ entry_value p k ws i h lt =
 
 pub entry_count : (p : List ℕ) (k : Kind) (ws : List ℕ) → are_sound p k ws ≡ true → length ws ≡ count_of (entries_in (array_at p k ws))
 entry_count p k ws h = each_count (plain_of p (shape_of k)) ws (values_at p k ws) (values_are p k ws h) ∙ ap count_of (sym (entries_in-arr_value (values_at p k ws)))
+
+-- a text's value is its bytes
+text_is : (p : List ℕ) (w : ℕ) (v : Plain) → unless_null w (found (λ b. Some (blob_value b)) (blob_of p w)) ≡ Some v → blob_value (text_in v) ≡ v
+text_is p w v e =
+    elim (null_or_not w) [
+      | inl z ↦
+          let null_is : unless_null w (found (λ b. Some (blob_value b)) (blob_of p w)) ≡ Some null = rw z refl in
+          let same : v ≡ null = cc in
+          rw same refl
+      | inr t ↦
+          let g : unless_null w (found (λ b. Some (blob_value b)) (blob_of p w)) ≡ found (λ b. Some (blob_value b)) (blob_of p w) = rw t refl in
+          let (b, ok, is) = found_is (λ b. Some (blob_value b)) (blob_of p w) v (sym g ∙ e) in
+          let same : v ≡ blob_value b = cc in
+          rw (same, text_in-blob_value b) refl
+    ]
+
+pub text_shown : (p : List ℕ) (w : ℕ) (b : List ℕ) → is_sound p Text w ≡ true → b ≡ text_in (value_at p Text w) → blob_value b ≡ value_at p Text w
+unfolding plain_of
+text_shown p w b h is = ap blob_value is ∙ text_is p w (value_at p Text w) (ap (λ s. plain_of p s w) (sym text_shape) ∙ value_is p Text w h)

@@ -6,3 +6,4 @@ pub mod Members
 pub mod FirstPair
 pub mod Compared
 pub mod NameLists
+pub mod Worked

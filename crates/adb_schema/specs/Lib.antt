@@ -7,3 +7,4 @@ pub mod Checked
 pub mod Pairs
 pub mod Repeated
 pub mod NamedTexts
+pub mod Shown

@@ -37,23 +37,6 @@ pub(crate) fn hash_field<'a>(adb: Adb<'a>, which: Which, object: Val, i: usize) 
     hash_word(adb, field_word(adb, which, object, i))
 }
 
-/// The word of a field that is an object of a table.
-pub(crate) fn object_field(
-    adb: Adb<'_>,
-    which: Which,
-    object: Val,
-    i: usize,
-    inner: Which,
-) -> Val
-    requires sound { is_sound (payload_of adb) (Kinds.Obj which) object ≡ true }
-    requires kind { kind_at which i ≡ Some (Kinds.Obj inner) }
-    ensures sound { is_sound (payload_of adb.entry) (Kinds.Obj inner) result ≡ true }
-    ensures value { value_at (payload_of adb.entry) (Kinds.Obj inner) result ≡ entry_in (value_at (payload_of adb.entry) (Kinds.Obj which) object) i }
-{
-    let _inner = inner;
-    field_word(adb, which, object, i)
-}
-
 /// The words of an array of texts.
 pub(crate) fn texts_field<'a>(adb: Adb<'a>, which: Which, object: Val, i: usize) -> Arr<'a>
     requires sound { is_sound (payload_of adb) (Kinds.Obj which) object ≡ true }
@@ -79,3 +62,58 @@ pub(crate) fn objects_field<'a>(
 {
     objects_word(adb, inner, field_word(adb, which, object, i))
 }
+
+/// The integer that a field of a view is.
+macro_rules! int {
+    ($view:expr, $which:ident, $i:literal) => {
+        $crate::fields::int_field($view.adb, $crate::schema::Which::$which, $view.word, $i)
+    };
+}
+
+/// The bytes of a text of a view.
+macro_rules! text {
+    ($view:expr, $which:ident, $i:literal) => {
+        $crate::fields::text_field($view.adb, $crate::schema::Which::$which, $view.word, $i)
+    };
+}
+
+/// The bytes of a hash of a view.
+macro_rules! hash {
+    ($view:expr, $which:ident, $i:literal) => {
+        $crate::fields::hash_field($view.adb, $crate::schema::Which::$which, $view.word, $i)
+    };
+}
+
+/// The word of a field of a view.
+macro_rules! word {
+    ($view:expr, $which:ident, $i:literal) => {
+        $crate::words::field_word($view.adb, $crate::schema::Which::$which, $view.word, $i)
+    };
+}
+
+/// The words of an array of texts of a view.
+macro_rules! texts {
+    ($view:expr, $which:ident, $i:literal) => {
+        $crate::fields::texts_field($view.adb, $crate::schema::Which::$which, $view.word, $i)
+    };
+}
+
+/// The words of an array of objects of a view.
+macro_rules! objects {
+    ($view:expr, $which:ident, $i:literal, $inner:ident) => {
+        $crate::fields::objects_field(
+            $view.adb,
+            $crate::schema::Which::$which,
+            $view.word,
+            $i,
+            $crate::schema::Which::$inner,
+        )
+    };
+}
+
+pub(crate) use hash;
+pub(crate) use int;
+pub(crate) use objects;
+pub(crate) use text;
+pub(crate) use texts;
+pub(crate) use word;

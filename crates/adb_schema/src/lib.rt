@@ -6,16 +6,32 @@
 #![tactic(auto)]
 
 mod checked;
+mod contents;
+mod dependency;
 mod fields;
 mod repeated_lists;
 mod repeated_names;
+mod folder;
+mod info;
+mod laws;
+mod list;
+mod opened;
+mod roots;
 mod schema;
 mod tables;
 mod walk;
 mod words;
 
 pub use checked::{Checked, Shaped};
+pub use contents::{PackageView, ScriptsView};
+pub use dependency::DepView;
+pub use folder::{AclView, DirInfo, FileInfo};
+pub use info::PkgInfo;
+pub use laws::{
+    tables_are_unrolled_whole, the_first_faulty_visit_is_told, values_of_few_visits_have_no_fault,
+};
+pub use list::{Kinded, List, View};
+pub use roots::{IdbView, IndexView, IntentView};
 pub use schema::{Field, Kind, Label, Schema, Which, fields_of};
-
 pub use tables::{ACL, DEP, DIR, FILE, IDB, INDEX, INTENT, PACKAGE, PKGINFO, SCRIPTS};
 pub use walk::{shape, walk_table};

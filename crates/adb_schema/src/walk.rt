@@ -82,12 +82,7 @@ fn walk_entries(adb: Adb<'_>, kind: Kind, before: u32, entries: Arr<'_>) -> Resu
 /// Visits the entries of an object that have one of these fields.
 #[cycle(walk)]
 #[tactic(auto, using(crate::proofs::WalkSteps::fields_more, crate::proofs::WalkSteps::fields_stop, crate::proofs::WalkSteps::fields_past, crate::proofs::WalkSteps::fields_past_words, crate::proofs::WalkSteps::field_rank))]
-fn walk_fields(
-    adb: Adb<'_>,
-    fields: &[Field],
-    before: u32,
-    entries: Arr<'_>,
-) -> Result<u32, Cause>
+fn walk_fields(adb: Adb<'_>, fields: &[Field], before: u32, entries: Arr<'_>) -> Result<u32, Cause>
     requires { before ≤ LIMIT }
     ensures exact { result ≡ fields_walk (payload_of adb.entry) (shapes_of fields.now) before (array_entries entries.entry) }
     ensures bound { IfOk result (λ n. n ≤ LIMIT) }
