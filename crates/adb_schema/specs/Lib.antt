@@ -1,3 +1,6 @@
 pub mod Schema
+pub mod Rank
+pub mod Walk
 pub mod Views
+pub mod Fields
 pub mod Checked

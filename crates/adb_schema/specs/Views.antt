@@ -1,7 +1,6 @@
 -- What views answer: the plain value of a word that is known to have one, and its fields.
 use Rattle.std.specs.Prelude.{ℕ, zero, suc, Bool, List, [], is_some, Option, unwrap_or, option_map, slice_get}
-use Rattle.adb_view.specs.Plain.{Plain, null, int, blob, arr, obj, Plains, none, more}
-use Rattle.adb_view.specs.Plain.{plain_of}
+use Rattle.adb_view.specs.Plain.{Plain, null, int, blob, arr, obj, Plains, none, more, plain_of}
 use Rattle.adb_schema.specs.Schema.{table, shape_of}
 use Rattle.adb_schema.specs.declared.schema.Which.{Which}
 use Rattle.adb_schema.specs.declared.schema.Kind.{Kind}

@@ -6,6 +6,7 @@
 #![tactic(auto)]
 
 mod checked;
+mod words;
 mod schema;
 mod tables;
 

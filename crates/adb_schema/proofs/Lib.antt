@@ -1,0 +1,4 @@
+pub mod TableShapes
+pub mod ShapeWalk
+pub mod WalkSteps
+pub mod FieldReads
