@@ -2,3 +2,5 @@ pub mod TableShapes
 pub mod ShapeWalk
 pub mod WalkSteps
 pub mod FieldReads
+pub mod Below
+pub mod TextSteps

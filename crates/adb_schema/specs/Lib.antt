@@ -4,3 +4,7 @@ pub mod Walk
 pub mod Views
 pub mod Fields
 pub mod Checked
+pub mod Reserved
+pub mod Rules
+pub mod Texts
+pub mod Around

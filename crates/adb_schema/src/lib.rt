@@ -5,11 +5,16 @@
 //! `Views` (fields of plain values) of `specs/`.
 #![tactic(auto)]
 
+mod around;
 mod checked;
+mod reserved;
+mod rules;
 mod words;
 mod schema;
 mod tables;
+mod texts;
 
 pub use checked::{Checked, Shaped};
+pub use reserved::{is_reserved, is_reserved_file, is_stage_name};
 pub use schema::{Field, Kind, Label, Schema, Which, fields_of};
 pub use tables::{ACL, DEP, DIR, FILE, IDB, INDEX, INTENT, PACKAGE, PKGINFO, SCRIPTS};
