@@ -4,3 +4,4 @@ pub mod WalkSteps
 pub mod FieldReads
 pub mod Below
 pub mod TextSteps
+pub mod FirstBad

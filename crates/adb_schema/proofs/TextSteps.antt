@@ -1,5 +1,5 @@
 -- Steps of the text walk, as the code makes them.
-use Rattle.std.proofs.Common.{◌≡◌, ℕ, zero, suc, ◌+◌, ◌*◌, ◌<◌, ◌≤◌, Bool, true, false, eqb, List, [], ◌∷◌, ◌++◌, length, get_or, drop, Option, Some, None, option_map, Result, Ok, Err, refl, sym, ap, subst, ◌∙◌, arith, inl, inr, ◌⊎◌, lit<}
+use Rattle.std.proofs.Common.{◌≡◌, ℕ, zero, suc, ◌+◌, ◌-◌, ◌*◌, ◌<◌, ◌≤◌, Bool, true, false, eqb, List, [], ◌∷◌, ◌++◌, length, get_or, drop, Option, Some, None, option_map, Result, Ok, Err, refl, sym, ap, subst, ◌∙◌, arith, inl, inr, ◌⊎◌, lit<}
 use Rattle.std.specs.Prelude.{is_some, slice_get, if◌then◌else◌}
 use Rattle.std.proofs.lemmas.Bool.{eqb-true}
 use Rattle.std.proofs.lemmas.List.{drop_more, drop_all}
@@ -10,9 +10,11 @@ use Rattle.adb_view.specs.Plain.{Plain, null, arr, Plains, none, more, Shape, nu
 use Rattle.adb_view.specs.Readers.{run_of, ARRAY}
 use Rattle.adb_view.proofs.Found.{run_of-null}
 use Rattle.adb_schema.specs.Schema.{schema_number, table, shape_of, shapes_of}
-use Rattle.adb_schema.specs.Fields.{are_sound, values_at}
+use Rattle.adb_schema.specs.Fields.{IsFieldOf, are_sound, values_at}
 use Rattle.adb_schema.specs.Views.{is_sound, value_at, entries_in, nth, int_in, text_in, kind_at}
 use Rattle.adb_schema.specs.Walk.{or_else}
+use Rattle.adb_schema.specs.Rank.{rank, rank_of_all}
+use Rattle.adb_schema.proofs.WalkSteps.{field_rank}
 use Rattle.adb_schema.specs.Around.{AreEntriesOf}
 use Rattle.adb_schema.specs.Texts.{Around, Leaf, number_leaf, text_leaf, keeps_rule, place_of, each_leaf, leaves, field_leaves, inside_of, first_bad}
 use Rattle.adb_schema.proofs.TableShapes.{object_shape, objects_shape, texts_shape, int_shape, text_shape, hash_shape}
@@ -140,19 +142,20 @@ pub record OneMore (p : List ℕ) (k : Kind) (w : ℕ) (ws : List ℕ) : Type 0 
   pub others : are_sound p k ws ≡ true
   pub values : values_at p k (w ∷ ws) ≡ more (value_at p k w) (values_at p k ws)
 
-pub are_sound-cons : (p : List ℕ) (k : Kind) (w : ℕ) (ws : List ℕ) → are_sound p k (w ∷ ws) ≡ true → OneMore p k w ws
+one_more : (p : List ℕ) (k : Kind) (w : ℕ) (ws : List ℕ) (v : Plain) (us : Plains) → plain_of p (shape_of k) w ≡ Some v → each_plain (plain_of p (shape_of k)) ws ≡ Some us → OneMore p k w ws
 unfolding are_sound values_at is_sound value_at
+one_more p k w ws v us first behind = record { first = rw first refl; others = rw behind refl; values = rw (first, behind) refl }
+
+both : (o : Option Plain) (os : Option Plains) → is_some (then_more o os) ≡ true → ((v : Plain) × (o ≡ Some v)) × ((us : Plains) × (os ≡ Some us))
+both (Some v) (Some us) e = ((v, refl), (us, refl))
+both (Some v) None e = absurd cc
+both None os e = absurd cc
+
+pub are_sound-cons : (p : List ℕ) (k : Kind) (w : ℕ) (ws : List ℕ) → are_sound p k (w ∷ ws) ≡ true → OneMore p k w ws
+unfolding are_sound
 are_sound-cons p k w ws h =
-    let (vs, e) = some_is (then_more (plain_of p (shape_of k) w) (each_plain (plain_of p (shape_of k)) ws)) h in
-    let (one, others) = both (plain_of p (shape_of k) w) (each_plain (plain_of p (shape_of k)) ws) vs e in
-    let (v, first) = one in
-    let (us, behind) = others in
-    record { first = rw first refl; others = rw behind refl; values = rw (first, behind) refl }
-  where
-    both : (o : Option Plain) (os : Option Plains) (vs : Plains) → then_more o os ≡ Some vs → ((v : Plain) × (o ≡ Some v)) × ((us : Plains) × (os ≡ Some us))
-    both (Some v) (Some us) vs e = ((v, refl), (us, refl))
-    both (Some v) None vs e = absurd cc
-    both None os vs e = absurd cc
+    let (one, others) = both (plain_of p (shape_of k) w) (each_plain (plain_of p (shape_of k)) ws) h in
+    one_more p k w ws one.0 others.0 one.1 others.1
 
 -- what is left at i
 pub at_entry : (p : List ℕ) (k : Kind) (ws : List ℕ) (i : ℕ) → i < length ws → are_sound p k (drop i ws) ≡ true → OneMore p k (get_or ws i 0) (drop (i + 1) ws)
@@ -244,3 +247,101 @@ table_small Package = lit< tt
 table_small Index = lit< tt
 table_small Idb = lit< tt
 table_small Intent = lit< tt
+
+-- ---- the same of the words that the code reads
+
+entry_word : (ws : List ℕ) (i word : ℕ) → word ≡ get_or ws (i + 1 - 1) 0 → get_or ws i 0 ≡ word
+entry_word ws i word e = sym (e ∙ ap (λ (j : ℕ). get_or ws j 0) (omega arith))
+
+pub entry_sound : (p : List ℕ) (k : Kind) (ws : List ℕ) (i word : ℕ) → i < length ws → are_sound p k (drop i ws) ≡ true → word ≡ get_or ws (i + 1 - 1) 0 → is_sound p k word ≡ true
+entry_sound p k ws i word lt h e = let r = at_entry p k ws i lt h in ap (is_sound p k) (sym (entry_word ws i word e)) ∙ r.first
+
+pub others_sound : (p : List ℕ) (k : Kind) (ws : List ℕ) (i : ℕ) → i < length ws → are_sound p k (drop i ws) ≡ true → are_sound p k (drop (i + 1) ws) ≡ true
+others_sound p k ws i lt h = let r = at_entry p k ws i lt h in r.others
+
+pub entry_good : (p : List ℕ) (k : Kind) (f : Plain → List Leaf) (ws : List ℕ) (i word : ℕ) → i < length ws → are_sound p k (drop i ws) ≡ true → word ≡ get_or ws (i + 1 - 1) 0 → None ≡ first_bad (f (value_at p k word))
+    → first_bad (each_leaf f (values_at p k (drop i ws))) ≡ first_bad (each_leaf f (values_at p k (drop (i + 1) ws)))
+entry_good p k f ws i word lt h e good = entries_more p k f ws i lt h (ap (λ (w : ℕ). first_bad (f (value_at p k w))) (entry_word ws i word e) ∙ sym good)
+
+pub entry_bad : (p : List ℕ) (k : Kind) (f : Plain → List Leaf) (ws : List ℕ) (i word : ℕ) (c : Cause) → i < length ws → are_sound p k (drop i ws) ≡ true → word ≡ get_or ws (i + 1 - 1) 0 → Some c ≡ first_bad (f (value_at p k word))
+    → first_bad (each_leaf f (values_at p k (drop i ws))) ≡ Some c
+entry_bad p k f ws i word c lt h e bad = entries_stop p k f ws i c lt h (ap (λ (w : ℕ). first_bad (f (value_at p k w))) (entry_word ws i word e) ∙ sym bad)
+
+pub field_sound : (p : List ℕ) (which : Which) (w i word : ℕ) (d : Field) → i < length (table which) → IsFieldOf p which w i word → is_sound p (get_or (table which) i d).kind word ≡ true
+field_sound p which w i word d lt is = (is (get_or (table which) i d).kind (kind_here (table which) i d lt)).0
+
+field_value : (p : List ℕ) (which : Which) (w i word : ℕ) (d : Field) → i < length (table which) → IsFieldOf p which w i word → value_at p (get_or (table which) i d).kind word ≡ nth (entries_in (value_at p (Obj which) w)) i
+field_value p which w i word d lt is = (is (get_or (table which) i d).kind (kind_here (table which) i d lt)).1
+
+pub field_good : (p : List ℕ) (which : Which) (w i word : ℕ) (d : Field) (place : ℕ) (a : Around) → i < length (table which) → IsFieldOf p which w i word
+    → None ≡ first_bad (leaves (shape_of (get_or (table which) i d).kind) place a (value_at p (get_or (table which) i d).kind word))
+    → first_bad (field_leaves (shapes_of (drop i (table which))) place a (behind i (entries_in (value_at p (Obj which) w)))) ≡ first_bad (field_leaves (shapes_of (drop (i + 1) (table which))) (place + 1) a (behind (i + 1) (entries_in (value_at p (Obj which) w))))
+field_good p which w i word d place a lt is good =
+    fields_more (table which) place a (entries_in (value_at p (Obj which) w)) i d lt
+    (ap (λ v. first_bad (leaves (shape_of (get_or (table which) i d).kind) place a v)) (sym (field_value p which w i word d lt is)) ∙ sym good)
+
+pub field_bad : (p : List ℕ) (which : Which) (w i word : ℕ) (d : Field) (place : ℕ) (a : Around) (c : Cause) → i < length (table which) → IsFieldOf p which w i word
+    → Some c ≡ first_bad (leaves (shape_of (get_or (table which) i d).kind) place a (value_at p (get_or (table which) i d).kind word))
+    → first_bad (field_leaves (shapes_of (drop i (table which))) place a (behind i (entries_in (value_at p (Obj which) w)))) ≡ Some c
+field_bad p which w i word d place a c lt is bad =
+    fields_stop (table which) place a (entries_in (value_at p (Obj which) w)) i d c lt
+    (ap (λ v. first_bad (leaves (shape_of (get_or (table which) i d).kind) place a v)) (sym (field_value p which w i word d lt is)) ∙ sym bad)
+
+-- the same of a list of fields that is the table's
+
+pub field_sound_of : (p : List ℕ) (which : Which) (w i word : ℕ) (d : Field) (fs : List Field) → fs ≡ table which → i < length fs → IsFieldOf p which w i word → is_sound p (get_or fs i d).kind word ≡ true
+field_sound_of p which w i word d fs e lt is =
+    subst (λ (gs : List Field). i < length gs → is_sound p (get_or gs i d).kind word ≡ true) (sym e) (λ lt. field_sound p which w i word d lt is) lt
+
+pub field_below : (which : Which) (i : ℕ) (d : Field) (fs : List Field) → fs ≡ table which → i < length fs → rank (get_or fs i d).kind ≤ rank_of_all (table which)
+field_below which i d fs e lt =
+    subst (λ (gs : List Field). i < length gs → rank (get_or gs i d).kind ≤ rank_of_all (table which)) (sym e) (λ lt. field_rank (table which) i d lt) lt
+
+pub field_good_of : (p : List ℕ) (which : Which) (w i word : ℕ) (d : Field) (place : ℕ) (a : Around) (fs : List Field) → fs ≡ table which → i < length fs → IsFieldOf p which w i word
+    → None ≡ first_bad (leaves (shape_of (get_or fs i d).kind) place a (value_at p (get_or fs i d).kind word))
+    → first_bad (field_leaves (shapes_of (drop i (table which))) place a (behind i (entries_in (value_at p (Obj which) w)))) ≡ first_bad (field_leaves (shapes_of (drop (i + 1) (table which))) (place + 1) a (behind (i + 1) (entries_in (value_at p (Obj which) w))))
+field_good_of p which w i word d place a fs e lt is good =
+    subst
+    (λ (gs : List Field). i < length gs → None ≡ first_bad (leaves (shape_of (get_or gs i d).kind) place a (value_at p (get_or gs i d).kind word)) → first_bad (field_leaves (shapes_of (drop i (table which))) place a (behind i (entries_in (value_at p (Obj which) w)))) ≡ first_bad (field_leaves (shapes_of (drop (i + 1) (table which))) (place + 1) a (behind (i + 1) (entries_in (value_at p (Obj which) w)))))
+    (sym e) (λ lt good. field_good p which w i word d place a lt is good) lt good
+
+pub field_bad_of : (p : List ℕ) (which : Which) (w i word : ℕ) (d : Field) (place : ℕ) (a : Around) (c : Cause) (fs : List Field) → fs ≡ table which → i < length fs → IsFieldOf p which w i word
+    → Some c ≡ first_bad (leaves (shape_of (get_or fs i d).kind) place a (value_at p (get_or fs i d).kind word))
+    → first_bad (field_leaves (shapes_of (drop i (table which))) place a (behind i (entries_in (value_at p (Obj which) w)))) ≡ Some c
+field_bad_of p which w i word d place a c fs e lt is bad =
+    subst
+    (λ (gs : List Field). i < length gs → Some c ≡ first_bad (leaves (shape_of (get_or gs i d).kind) place a (value_at p (get_or gs i d).kind word)) → first_bad (field_leaves (shapes_of (drop i (table which))) place a (behind i (entries_in (value_at p (Obj which) w)))) ≡ Some c)
+    (sym e) (λ lt bad. field_bad p which w i word d place a c lt is bad) lt bad
+
+-- ---- a value, by its kind
+
+at_kind : (p : List ℕ) (k j : Kind) (place : ℕ) (a : Around) (w : ℕ) → k ≡ j → first_bad (leaves (shape_of j) place a (value_at p j w)) ≡ first_bad (leaves (shape_of k) place a (value_at p k w))
+at_kind p k j place a w e = sym (ap (λ (x : Kind). first_bad (leaves (shape_of x) place a (value_at p x w))) e)
+
+pub int_done : (p : List ℕ) (k : Kind) (place : ℕ) (a : Around) (w n : ℕ) (o : Option Cause) → k ≡ Int → n ≡ int_in (value_at p Int w) → o ≡ first_bad (number_leaf place n ∷ []) → o ≡ first_bad (leaves (shape_of k) place a (value_at p k w))
+int_done p k place a w n o is read e =
+    e ∙ ap (λ (m : ℕ). first_bad (number_leaf place m ∷ [])) read ∙ ap first_bad (sym (int_leaves place a (value_at p Int w))) ∙ at_kind p k Int place a w is
+
+pub text_done : (p : List ℕ) (k : Kind) (place : ℕ) (a : Around) (w : ℕ) (bs : List ℕ) (o : Option Cause) → k ≡ Text → bs ≡ text_in (value_at p Text w) → o ≡ first_bad (text_leaf place a bs ∷ []) → o ≡ first_bad (leaves (shape_of k) place a (value_at p k w))
+text_done p k place a w bs o is read e =
+    e ∙ ap (λ (b : List ℕ). first_bad (text_leaf place a b ∷ [])) read ∙ ap first_bad (sym (text_leaves place a (value_at p Text w))) ∙ at_kind p k Text place a w is
+
+pub hash_done : (p : List ℕ) (k : Kind) (place : ℕ) (a : Around) (w : ℕ) (bs : List ℕ) (o : Option Cause) → k ≡ Hash → bs ≡ text_in (value_at p Hash w) → o ≡ first_bad (text_leaf place a bs ∷ []) → o ≡ first_bad (leaves (shape_of k) place a (value_at p k w))
+hash_done p k place a w bs o is read e =
+    e ∙ ap (λ (b : List ℕ). first_bad (text_leaf place a b ∷ [])) read ∙ ap first_bad (sym (hash_leaves place a (value_at p Hash w))) ∙ at_kind p k Hash place a w is
+
+pub texts_done : (p : List ℕ) (k : Kind) (place : ℕ) (a : Around) (w : ℕ) (ws : List ℕ) (o : Option Cause) → k ≡ TextArr → AreEntriesOf p Text (value_at p TextArr w) ws → o ≡ first_bad (each_leaf (leaves (shape_of Text) place a) (values_at p Text ws))
+    → o ≡ first_bad (leaves (shape_of k) place a (value_at p k w))
+texts_done p k place a w ws o is read e =
+    e ∙ ap (λ vs. first_bad (each_leaf (leaves (shape_of Text) place a) vs)) (sym read.values) ∙ ap first_bad (sym (texts_leaves place a (value_at p TextArr w))) ∙ at_kind p k TextArr place a w is
+
+pub objects_done : (p : List ℕ) (k : Kind) (which : Which) (place : ℕ) (a : Around) (w : ℕ) (ws : List ℕ) (o : Option Cause) → k ≡ ObjArr which → AreEntriesOf p (Obj which) (value_at p (ObjArr which) w) ws
+    → o ≡ first_bad (each_leaf (leaves (shape_of (Obj which)) place a) (values_at p (Obj which) ws)) → o ≡ first_bad (leaves (shape_of k) place a (value_at p k w))
+objects_done p k which place a w ws o is read e =
+    e ∙ ap (λ vs. first_bad (each_leaf (leaves (shape_of (Obj which)) place a) vs)) (sym read.values) ∙ ap first_bad (sym (objects_leaves which place a (value_at p (ObjArr which) w))) ∙ at_kind p k (ObjArr which) place a w is
+
+pub object_done : (p : List ℕ) (k : Kind) (which : Which) (place : ℕ) (a inside : Around) (w : ℕ) (o : Option Cause) → k ≡ Obj which → inside ≡ inside_of (schema_number which) a (value_at p (Obj which) w)
+    → o ≡ first_bad (field_leaves (shapes_of (table which)) (100 * schema_number which + 1) inside (entries_in (value_at p (Obj which) w))) → o ≡ first_bad (leaves (shape_of k) place a (value_at p k w))
+object_done p k which place a inside w o is made e =
+    e ∙ ap (λ (b : Around). first_bad (field_leaves (shapes_of (table which)) (100 * schema_number which + 1) b (entries_in (value_at p (Obj which) w)))) made
+    ∙ ap first_bad (sym (object_leaves which place a (value_at p (Obj which) w))) ∙ at_kind p k (Obj which) place a w is

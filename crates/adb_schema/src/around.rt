@@ -9,6 +9,7 @@ ghost use Rattle.adb_schema.specs.Texts.{at_root, inside_of, is_file_hash, is_li
 ghost use Rattle.adb_schema.specs.declared.schema.Kind.TheVariants as Kinds;
 ghost use Rattle.adb_schema.specs.declared.schema.Which.TheVariants as Tables;
 
+use crate::place;
 use crate::reserved::is_reserved_file;
 use crate::rules::*;
 use crate::schema::Which;
@@ -112,7 +113,7 @@ pub(crate) fn keeps_number_rule(place: u16, n: u64) -> bool
     ensures { result ≡ number_rule place n }
 {
     match place {
-        103 => is_matching(n),
+        place::DEP_MATCH => is_matching(n),
         _ => true,
     }
 }
@@ -123,17 +124,17 @@ pub(crate) fn keeps_text_rule(place: u16, around: &Around<'_>, bytes: &[u8]) -> 
     ensures { result ≡ text_rule place (around_of around.now) bytes.now }
 {
     match place {
-        101 => is_dep_name(bytes),
-        102 => is_version_or_empty(bytes),
-        301 => is_package_name(bytes),
-        302 => is_version(bytes),
-        303 => around.takes_package_hash(bytes.len()),
-        401 => around.takes_file_name(bytes),
-        405 => around.takes_file_hash(bytes.len()),
-        406 => is_target(bytes),
-        501 => is_folder_name(bytes),
-        803 => is_name_pattern(bytes),
-        1001 | 1002 => is_change_name(bytes),
+        place::DEP_NAME => is_dep_name(bytes),
+        place::DEP_VERSION => is_version_or_empty(bytes),
+        place::PKGINFO_NAME => is_package_name(bytes),
+        place::PKGINFO_VERSION => is_version(bytes),
+        place::PKGINFO_HASHES => around.takes_package_hash(bytes.len()),
+        place::FILE_NAME => around.takes_file_name(bytes),
+        place::FILE_HASHES => around.takes_file_hash(bytes.len()),
+        place::FILE_TARGET => is_target(bytes),
+        place::DIR_NAME => is_folder_name(bytes),
+        place::INDEX_PKGNAME_SPEC => is_name_pattern(bytes),
+        place::INTENT_REMOVALS | place::INTENT_WRITES => is_change_name(bytes),
         _ => true,
     }
 }

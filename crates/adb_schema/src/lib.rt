@@ -7,14 +7,17 @@
 
 mod around;
 mod checked;
+mod place;
 mod reserved;
 mod rules;
 mod words;
 mod schema;
 mod tables;
+mod text_laws;
 mod texts;
 
 pub use checked::{Checked, Shaped};
 pub use reserved::{is_reserved, is_reserved_file, is_stage_name};
 pub use schema::{Field, Kind, Label, Schema, Which, fields_of};
+pub use text_laws::first_bad_text_is_told;
 pub use tables::{ACL, DEP, DIR, FILE, IDB, INDEX, INTENT, PACKAGE, PKGINFO, SCRIPTS};

@@ -36,14 +36,14 @@ impl<'a> Checked<'a> {
     {
         let adb = shaped.adb();
         let which = shaped.which();
-        test_value(adb, Kind::Obj(which), 0, Around::at_root(which), adb.root())?;
+        check_value(adb, Kind::Obj(which), 0, Around::at_root(which), adb.root())?;
         Ok(Checked { shaped })
     }
 }
 
-/// Tests a value, and what lies below it.
-#[cycle(test)]
-fn test_value<'a>(
+/// Checks a value, and what lies below it.
+#[cycle(check)]
+fn check_value<'a>(
     adb: Adb<'a>,
     kind: Kind,
     place: u16,
@@ -54,27 +54,27 @@ fn test_value<'a>(
     ensures { cause_of result ≡ first_bad (leaves (shape_of kind) place (around_of around.entry) (value_at (payload_of adb.entry) kind word)) }
 {
     match kind {
-        Kind::Int => test_number(place, int_word(adb, word)),
-        Kind::Text => test_text(place, &around, text_word(adb, word)),
-        Kind::Hash => test_text(place, &around, hash_word(adb, word)),
+        Kind::Int => check_number(place, int_word(adb, word)),
+        Kind::Text => check_text(place, &around, text_word(adb, word)),
+        Kind::Hash => check_text(place, &around, hash_word(adb, word)),
         Kind::TextArr => {
             let entries = text_entries(adb, word);
-            test_entries(adb, Kind::Text, place, around, entries)
+            check_entries(adb, Kind::Text, place, around, entries)
         }
         Kind::ObjArr(which) => {
             let entries = object_entries(adb, which, word);
-            test_entries(adb, Kind::Obj(which), place, around, entries)
+            check_entries(adb, Kind::Obj(which), place, around, entries)
         }
         Kind::Obj(which) => {
             let inside = around.inside(adb, which, word);
-            test_fields(adb, which, inside, word)
+            check_fields(adb, which, inside, word)
         }
     }
 }
 
-/// Tests the entries of an array.
-#[cycle(test)]
-fn test_entries<'a>(
+/// Checks the entries of an array.
+#[cycle(check)]
+fn check_entries<'a>(
     adb: Adb<'a>,
     kind: Kind,
     place: u16,
@@ -85,14 +85,14 @@ fn test_entries<'a>(
     ensures { cause_of result ≡ first_bad (each_leaf (leaves (shape_of kind) place (around_of around.entry)) (values_at (payload_of adb.entry) kind (array_entries entries.entry))) }
 {
     for i in 0..entries.len() {
-        test_value(adb, kind, place, around, entries.get(i + 1))?;
+        check_value(adb, kind, place, around, entries.get(i + 1))?;
     }
     Ok(())
 }
 
-/// Tests the fields of an object, each of those of its table.
-#[cycle(test)]
-fn test_fields<'a>(
+/// Checks the fields of an object, each of those of its table.
+#[cycle(check)]
+fn check_fields<'a>(
     adb: Adb<'a>,
     which: Which,
     around: Around<'a>,
@@ -105,12 +105,12 @@ fn test_fields<'a>(
     for (i, field) in fields_of(which).iter().enumerate() {
         place += 1;
         let word = field_word(adb, which, object, i);
-        test_value(adb, field.kind, place, around, word)?;
+        check_value(adb, field.kind, place, around, word)?;
     }
     Ok(())
 }
 
-fn test_number(place: u16, n: u64) -> Result<(), Cause>
+fn check_number(place: u16, n: u64) -> Result<(), Cause>
     ensures { cause_of result ≡ first_bad (number_leaf place n ∷ []) }
 {
     if keeps_number_rule(place, n) {
@@ -120,7 +120,7 @@ fn test_number(place: u16, n: u64) -> Result<(), Cause>
     }
 }
 
-fn test_text(place: u16, around: &Around<'_>, bytes: &[u8]) -> Result<(), Cause>
+fn check_text(place: u16, around: &Around<'_>, bytes: &[u8]) -> Result<(), Cause>
     ensures { cause_of result ≡ first_bad (text_leaf place (around_of around.now) bytes.now ∷ []) }
 {
     if keeps_text_rule(place, around, bytes) {
@@ -131,6 +131,7 @@ fn test_text(place: u16, around: &Around<'_>, bytes: &[u8]) -> Result<(), Cause>
 }
 
 /// The words of a sound array of texts.
+#[tactic(auto, using(crate::proofs::TextSteps::texts_run))]
 fn text_entries<'a>(adb: Adb<'a>, array: Val) -> Arr<'a>
     requires { is_sound (payload_of adb) Kinds.TextArr array ≡ true }
     ensures { AreEntriesOf (payload_of adb.entry) Kinds.Text (value_at (payload_of adb.entry) Kinds.TextArr array) (array_entries result) }
@@ -142,6 +143,7 @@ fn text_entries<'a>(adb: Adb<'a>, array: Val) -> Arr<'a>
 }
 
 /// The words of a sound array of objects.
+#[tactic(auto, using(crate::proofs::TextSteps::objects_run))]
 fn object_entries<'a>(adb: Adb<'a>, which: Which, array: Val) -> Arr<'a>
     requires { is_sound (payload_of adb) (Kinds.ObjArr which) array ≡ true }
     ensures { AreEntriesOf (payload_of adb.entry) (Kinds.Obj which) (value_at (payload_of adb.entry) (Kinds.ObjArr which) array) (array_entries result) }
