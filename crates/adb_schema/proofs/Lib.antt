@@ -7,3 +7,6 @@ pub mod FirstPair
 pub mod Compared
 pub mod NameLists
 pub mod Worked
+pub mod Below
+pub mod TextSteps
+pub mod FirstBad

@@ -8,3 +8,7 @@ pub mod Pairs
 pub mod Repeated
 pub mod NamedTexts
 pub mod Shown
+pub mod Reserved
+pub mod Rules
+pub mod Texts
+pub mod Around

@@ -5,6 +5,7 @@
 //! `Views` (fields of plain values) of `specs/`.
 #![tactic(auto)]
 
+mod around;
 mod checked;
 mod contents;
 mod dependency;
@@ -32,6 +33,13 @@ pub use laws::{
 };
 pub use list::{Kinded, List, View};
 pub use roots::{IdbView, IndexView, IntentView};
+mod place;
+mod reserved;
+mod rules;
+mod text_laws;
+mod texts;
+pub use reserved::{is_reserved, is_reserved_file, is_stage_name};
 pub use schema::{Field, Kind, Label, Schema, Which, fields_of};
+pub use text_laws::first_bad_text_is_told;
 pub use tables::{ACL, DEP, DIR, FILE, IDB, INDEX, INTENT, PACKAGE, PKGINFO, SCRIPTS};
 pub use walk::{shape, walk_table};
