@@ -339,7 +339,7 @@ last_alone f (x ∷ []) zero h = refl
 last_alone f (x ∷ y ∷ xs) zero h = absurd (omega arith)
 last_alone f (x ∷ xs) (suc j) h = last_alone f xs j (omega arith)
 
-earlier-none : (a : Option Pair) → earlier a None ≡ a
+pub earlier-none : (a : Option Pair) → earlier a None ≡ a
 earlier-none None = refl
 earlier-none (Some p) = refl
 

@@ -10,3 +10,5 @@ pub mod Worked
 pub mod Below
 pub mod TextSteps
 pub mod FirstBad
+pub mod FirstKinds
+pub mod FewTexts

@@ -4,7 +4,8 @@ use Rattle.adb_view.specs.Plain.{Plain, null, Plains, none, more}
 use Rattle.adb_schema.specs.Views.{is_sound, value_at, entry_in, entries_in, count_of, nth}
 use Rattle.adb_schema.specs.Fields.{are_sound, array_at}
 use Rattle.adb_schema.specs.Pairs.{Named}
-use Rattle.adb_schema.specs.Repeated.{list_of, numbered_from, all_at, by_list_from, name_of, path_of, paths_under, paths_in}
+use Rattle.adb_schema.specs.Repeated.{list_of, numbered_from, all_at, by_list_from, name_of, paths_under, paths_in}
+use Rattle.adb_schema.specs.Reserved.{path_of}
 use Rattle.std.specs.List.{flat_map}
 use Rattle.adb_schema.specs.NamedTexts.{plains_at, named_at}
 use Rattle.adb_schema.specs.declared.schema.Kind.{Kind}

@@ -236,3 +236,6 @@ none_told p s w = (
     λ e. let few = none_few p 1 (visits p s w) e (lit≤ tt) in (plain_of-found p s w ∙ none_sound p 1 (visits p s w) e, omega arith),
     λ h. let (some, few) = h in few_none p 1 (visits p s w) (sym (plain_of-found p s w) ∙ some) (omega arith),
   )
+
+pub walk_few : (p : List ℕ) (s : Shape) (w n : ℕ) → walk p s 0 w ≡ Ok n → is_none (shape_fault p s w) ≡ true
+walk_few p s w n e = ap is_none (sym (walk_passed p s w n e))

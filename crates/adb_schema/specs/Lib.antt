@@ -12,3 +12,4 @@ pub mod Reserved
 pub mod Rules
 pub mod Texts
 pub mod Around
+pub mod Soundness

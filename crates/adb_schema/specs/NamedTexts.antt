@@ -1,6 +1,7 @@
 -- The names that the program compares, and their order.
 use Rattle.std.specs.Prelude.{ℕ, List, [], ◌∷◌, Option}
-use Rattle.adb_schema.specs.Repeated.{path_of, list_of}
+use Rattle.adb_schema.specs.Repeated.{list_of}
+use Rattle.adb_schema.specs.Reserved.{path_of}
 use Rattle.std.specs.Ordering.{nat_cmp, ordering_then}
 use Rattle.std.specs.declared.cmp.Ordering.{Ordering}
 use Rattle.std.specs.Cmp.Lexicographic.{slice_cmp}

@@ -1,11 +1,12 @@
 -- Names that stand twice in a container, kind by kind.
-use Rattle.std.specs.Prelude.{ℕ, ◌+◌, List, [], ◌∷◌, ◌++◌, map, codes, Option, Some, None, option_map}
+use Rattle.std.specs.Prelude.{ℕ, ◌+◌, List, [], ◌∷◌, ◌++◌, map, Option, Some, None, option_map}
 use Rattle.std.specs.List.{flat_map}
 use Rattle.base_core.specs.declared.cause.Cause.{Cause}
 use Rattle.base_core.specs.declared.cause.Cause.TheVariants.{Repeated}
 use Rattle.adb_view.specs.Plain.{Plain, Plains, none, more}
 use Rattle.adb_schema.specs.Views.{entries_in, entry_in, text_in}
 use Rattle.adb_schema.specs.Walk.{or_else}
+use Rattle.adb_schema.specs.Reserved.{path_of}
 use Rattle.adb_schema.specs.Pairs.{Named, first_pair, earliest}
 use Rattle.adb_schema.specs.declared.repeated_names.Pair.{Pair}
 use Rattle.adb_schema.specs.declared.schema.Which.{Which}
@@ -59,11 +60,6 @@ folders_in pkg = entries_at 1 pkg
 
 abbrev pub files_in : Plain → List Plain
 files_in folder = entries_at 2 folder
-
--- the path of a file in a folder; the root folder has no name
-abbrev pub path_of : List ℕ → List ℕ → List ℕ
-path_of [] name = name
-path_of (c ∷ cs) name = (c ∷ cs) ++ (codes "/" ++ name)
 
 abbrev pub paths_under : Plain → List (List ℕ)
 paths_under folder = map (λ file. path_of (name_of folder) (name_of file)) (files_in folder)

@@ -2,6 +2,8 @@ ghost use Rattle.std.specs.Prelude.{◌≡◌, true, is_none};
 ghost use Rattle.adb_view.specs.Adb.{payload_of};
 ghost use Rattle.adb_view.specs.Head.{root_of};
 ghost use Rattle.adb_schema.specs.Views.{is_sound, value_at};
+ghost use Rattle.adb_schema.specs.Schema.{shape_of};
+ghost use Rattle.adb_schema.specs.Walk.{shape_fault};
 ghost use Rattle.adb_schema.specs.Texts.{text_fault};
 ghost use Rattle.adb_schema.specs.declared.schema.Kind.TheVariants as Kinds;
 
@@ -14,6 +16,7 @@ pub struct Shaped<'a> {
     adb: Adb<'a>,
     which: Which,
     ghost sound: { is_sound (payload_of adb) (Kinds.Obj which) (root_of (payload_of adb)) ≡ true },
+    ghost few: { is_none (shape_fault (payload_of adb) (shape_of (Kinds.Obj which)) (root_of (payload_of adb))) ≡ true },
 }
 
 impl<'a> Shaped<'a> {
@@ -21,7 +24,8 @@ impl<'a> Shaped<'a> {
 
     /// A payload that was walked as this table.
     pub(crate) fn of(adb: Adb<'a>, which: Which) -> Shaped<'a>
-        requires { is_sound (payload_of adb) (Kinds.Obj which) (root_of (payload_of adb)) ≡ true }
+        requires sound { is_sound (payload_of adb) (Kinds.Obj which) (root_of (payload_of adb)) ≡ true }
+        requires few { is_none (shape_fault (payload_of adb) (shape_of (Kinds.Obj which)) (root_of (payload_of adb))) ≡ true }
         ensures walked { adb_of result ≡ adb.entry }
         ensures table { table_of result ≡ which }
     {

@@ -6,15 +6,16 @@ ghost use Rattle.adb_view.specs.Adb.{payload_of};
 ghost use Rattle.adb_view.specs.Entries.{array_entries};
 ghost use Rattle.adb_schema.specs.Views.{is_sound, value_at, kind_at, text_in};
 ghost use Rattle.adb_schema.specs.Fields.{are_sound};
-ghost use Rattle.adb_schema.specs.Repeated.{numbered_from, all_at, name_of, package_name, path_of, paths_in, paths_under, by_list_from};
+ghost use Rattle.adb_schema.specs.Repeated.{numbered_from, all_at, name_of, package_name, paths_in, paths_under, by_list_from};
+ghost use Rattle.adb_schema.specs.Reserved.{path_of};
 ghost use Rattle.adb_schema.specs.NamedTexts.{named_by, plains_at, named_at};
 ghost use Rattle.adb_schema.specs.declared.schema.Kind.TheVariants as Kinds;
 ghost use Rattle.adb_schema.specs.declared.schema.Which.TheVariants as Tables;
 
-use crate::fields::{object_field, objects_field, text_field};
+use crate::fields::{objects_field, text_field};
 use crate::repeated_names::Entry;
 use crate::schema::Which;
-use crate::words::{entry_word, text_word};
+use crate::words::{entry_word, field_word, text_word};
 use adb_view::{Adb, Arr, Val};
 use std::alloc::{AllocError, Global};
 
@@ -74,7 +75,7 @@ fn package_name<'a>(adb: Adb<'a>, pkg: Val) -> &'a [u8]
     requires { is_sound (payload_of adb) (Kinds.Obj Tables.Package) pkg ≡ true }
     ensures { result.now ≡ package_name (value_at (payload_of adb.entry) (Kinds.Obj Tables.Package) pkg) }
 {
-    let info = object_field(adb, Which::Package, pkg, 0, Which::PkgInfo);
+    let info = field_word(adb, Which::Package, pkg, 0);
     text_field(adb, Which::PkgInfo, info, 0)
 }
 

@@ -25,7 +25,7 @@ const MOST_VISITS: u32 = 4_194_304;
 /// # Errors
 ///
 /// The first fault: `TooLarge` at the visit 4,194,305, `WrongKind` or `Outside` with the word.
-#[tactic(auto, using(crate::proofs::ShapeWalk::walk_refused, crate::proofs::ShapeWalk::walk_passed, crate::proofs::ShapeWalk::walk_sound))]
+#[tactic(auto, using(crate::proofs::ShapeWalk::walk_refused, crate::proofs::ShapeWalk::walk_passed, crate::proofs::ShapeWalk::walk_sound, crate::proofs::ShapeWalk::walk_few))]
 pub fn shape(adb: Adb<'_>, which: Which) -> Result<Shaped<'_>, Cause>
     ensures exact { cause_of result ≡ shape_fault (payload_of adb.entry) (shape_of (Kinds.Obj which)) (root_of (payload_of adb.entry)) }
     ensures walked { IfOk result (λ shaped. adb_of shaped ≡ adb.entry) }
