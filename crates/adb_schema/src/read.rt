@@ -5,13 +5,13 @@ ghost use Rattle.adb_block.specs.Reading.{reading_of};
 ghost use Rattle.adb_view.specs.Adb.{payload_of};
 ghost use Rattle.adb_view.specs.Gives.{cause_of};
 ghost use Rattle.adb_schema.specs.Checked.{adb_of, value_of, which_of};
-ghost use Rattle.adb_schema.specs.Soundness.{block_refused, file_pair, first_fault, further_fault, payload_fault, payload_in, root_value, schema_word, undue, IsBehindFirst, IsReadFault};
+ghost use Rattle.adb_schema.specs.Soundness.{block_fault, block_refused, file_pair, first_fault, further_fault, payload_fault, is_wanted, payload_in, rest_fault, root_value, schema_word, undue, IsBehindFirst, IsReadFault};
 
 use crate::checked::Checked;
 use crate::repeated_kinds::repeated;
 use crate::schema::Which;
 use crate::walk::shape;
-use adb_block::{BlockKind, Blocks};
+use adb_block::{Block, BlockKind, Blocks};
 use adb_view::Adb;
 use base_core::Cause;
 use std::alloc::{AllocError, Global};
@@ -96,14 +96,22 @@ pub fn read_adb<'a>(
 {
     let mut blocks = Blocks::new(bytes)?;
     let found = blocks.schema();
-    if schema_word(which) != Some(found) {
+    if !is_wanted(which, found) {
         return Err(ReadFault::Bad(Cause::WrongSchema { found }));
     }
     let checked = read_first(alloc, &mut blocks, which)?;
-    if which != Which::Package {
-        check_further(&mut blocks)?;
-    }
+    check_rest(&mut blocks, which)?;
     Ok(checked)
+}
+
+/// Whether a container with this table at its root has this schema in its header.
+fn is_wanted(which: Which, schema: u32) -> bool
+    ensures { result ≡ is_wanted (schema_word which) schema }
+{
+    match schema_word(which) {
+        Some(word) => word == schema,
+        None => false,
+    }
 }
 
 /// Reads the first block.
@@ -143,19 +151,38 @@ fn check_payload<'a>(
     }
 }
 
+/// Reads the blocks behind the first, but for a package.
+fn check_rest(blocks: &mut Blocks<'_>, which: Which) -> Result<(), Cause>
+    ensures { cause_of result ≡ rest_fault which (reading_of blocks.old) }
+{
+    match which {
+        Which::Package => Ok(()),
+        _ => check_further(blocks),
+    }
+}
+
 /// Reads the blocks behind the first, where no contents are due.
+#[tactic(auto, unfolding(crate::specs::Soundness::further_fault))]
 fn check_further(blocks: &mut Blocks<'_>) -> Result<(), Cause>
     ensures { cause_of result ≡ further_fault (reading_of blocks.old) }
 {
     loop {
-        match blocks.next()? {
-            None => return Ok(()),
-            Some(block) => {
-                if block.kind == BlockKind::Contents {
-                    return Err(undue(block.payload, block.at));
-                }
-            }
+        let Some(block) = blocks.next()? else {
+            return Ok(());
+        };
+        if let Some(cause) = block_fault(&block) {
+            return Err(cause);
         }
+    }
+}
+
+/// Why a block may not stand behind the first, if it may not.
+fn block_fault(block: &Block<'_>) -> Option<Cause>
+    ensures { result ≡ block_fault block.now.kind block.now.payload.now block.now.at }
+{
+    match block.kind {
+        BlockKind::Contents => Some(undue(block.payload, block.at)),
+        BlockKind::Adb | BlockKind::Signature => None,
     }
 }
 

@@ -33,6 +33,7 @@ impl<'a> Checked<'a> {
         ensures exact { cause_of result ≡ text_fault (table_of shaped.entry) (shaped_value shaped.entry) }
         ensures which { IfOk result (λ checked. which_of checked ≡ table_of shaped.entry) }
         ensures value { IfOk result (λ checked. value_of checked ≡ shaped_value shaped.entry) }
+        ensures payload { IfOk result (λ checked. adb_of checked.shaped ≡ adb_of shaped.entry) }
     {
         let adb = shaped.adb();
         let which = shaped.which();
