@@ -26,7 +26,7 @@ pub use dependency::DepView;
 pub use folder::{AclView, DirInfo, FileInfo};
 pub use info::PkgInfo;
 pub use laws::{
-    tables_are_unrolled_whole, the_first_faulty_visit_is_told, values_of_few_visits_have_no_fault,
+    tables_are_as_listed, tables_are_unrolled_whole, the_first_faulty_visit_is_told, values_of_few_visits_have_no_fault,
 };
 pub use list::{Kinded, List, View};
 pub use roots::{IdbView, IndexView, IntentView};
