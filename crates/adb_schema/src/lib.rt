@@ -33,3 +33,6 @@ pub use roots::{IdbView, IndexView, IntentView};
 pub use schema::{Field, Kind, Label, Schema, Which, fields_of};
 pub use tables::{ACL, DEP, DIR, FILE, IDB, INDEX, INTENT, PACKAGE, PKGINFO, SCRIPTS};
 pub use walk::{shape, walk_table};
+
+#[cfg(test)]
+mod tests;
