@@ -7,13 +7,13 @@ use Rattle.adb_view.specs.Plain.{Plain, null, int, blob, arr, obj, Plains, none,
 use Rattle.adb_view.specs.Readers.{int_of, blob_of, run_of, ARRAY, OBJECT}
 use Rattle.adb_schema.specs.Schema.{table, shape_of, shapes_of, schema_number}
 use Rattle.adb_schema.specs.Fields.{IsFieldOf, are_sound, values_at, array_at}
-use Rattle.adb_schema.specs.Views.{is_sound, value_at, kind_at, nth, entry_in, int_in, text_in}
+use Rattle.adb_schema.specs.Views.{is_sound, value_at, kind_at, nth, count_of, entries_in, entry_in, int_in, text_in}
 use Rattle.adb_view.proofs.Found.{run_of-null, int_of-null, blob_of-null}
-use Rattle.adb_schema.proofs.TableShapes.{object_shape, int_shape, text_shape, hash_shape}
+use Rattle.adb_schema.proofs.TableShapes.{object_shape, objects_shape, texts_shape, int_shape, text_shape, hash_shape}
 use Rattle.base_core.specs.declared.cause.Cause.{Cause}
 use Rattle.adb_schema.specs.declared.schema.Which.{Which}
 use Rattle.adb_schema.specs.declared.schema.Kind.{Kind}
-use Rattle.adb_schema.specs.declared.schema.Kind.TheVariants.{Int, Text, Hash, Obj}
+use Rattle.adb_schema.specs.declared.schema.Kind.TheVariants.{Int, Text, Hash, Obj, TextArr, ObjArr}
 use Rattle.adb_schema.specs.declared.schema.Field.{Field}
 
 some_is : {A : Type 0} (o : Option A) → is_some o ≡ true → (x : A) × (o ≡ Some x)
@@ -213,8 +213,113 @@ field_word_is p which w ws i word h run is = λ k e.
     let moved : FieldRead p which w i k word = subst (λ (x : ℕ). FieldRead p which w i k x) is r in
     (moved.sound, moved.value)
 
-pub field_within : (p : List ℕ) (which : Which) (w : ℕ) (ws : List ℕ) (i word : ℕ) → is_sound p (Obj which) w ≡ true → run_of OBJECT p w ≡ Ok ws → word ≡ get_or ws (i + 1 - 1) 0 → IsFieldOf p which w i word
-field_within p which w ws i word h run is = field_word_is p which w ws i word h run (sym (is ∙ ap (λ (j : ℕ). get_or ws j 0) (omega arith)))
+pub field_within : (p : List ℕ) (which : Which) (w : ℕ) (ws : List ℕ) (i word : ℕ) → is_sound p (Obj which) w ≡ true → run_of OBJECT p w ≡ Ok ws → word ≡ get_or ws i 0 → IsFieldOf p which w i word
+field_within p which w ws i word h run is = field_word_is p which w ws i word h run (sym is)
 
 pub field_past : (p : List ℕ) (which : Which) (w : ℕ) (ws : List ℕ) (i : ℕ) → is_sound p (Obj which) w ≡ true → run_of OBJECT p w ≡ Ok ws → length ws ≤ i → IsFieldOf p which w i 0
 field_past p which w ws i h run past = field_word_is p which w ws i 0 h run (get_or_past ws i 0 past)
+
+-- ---- arrays
+
+array_shape_value : (p : List ℕ) (s : Shape) (w : ℕ) (v : Plain) → plain_of p (array s) w ≡ Some v → (ws : List ℕ) × (vs : Plains) × (run_of ARRAY p w ≡ Ok ws) × (each_plain (plain_of p s) ws ≡ Some vs) × (arr_value vs ≡ v)
+unfolding plain_of
+array_shape_value p s w v e =
+    elim (null_or_not w) [
+      | inl z ↦
+          let null_is : plain_of p (array s) w ≡ Some null = rw z refl in
+          let same : null ≡ v = cc in
+          ([], none, rw z (run_of-null ARRAY p), refl, same)
+      | inr t ↦
+          let g : unless_null w (found (λ ws. option_map arr_value (each_plain (plain_of p s) ws)) (run_of ARRAY p w)) ≡ found (λ ws. option_map arr_value (each_plain (plain_of p s) ws)) (run_of ARRAY p w) = rw t refl in
+          let (ws, ok, is) = found_is (λ ws. option_map arr_value (each_plain (plain_of p s) ws)) (run_of ARRAY p w) v (sym g ∙ e) in
+          let (vs, some, made) = some_map arr_value (each_plain (plain_of p s) ws) v is in
+          (ws, vs, ok, some, made)
+    ]
+
+-- what a sound array's run has
+pub record ArrayRead (p : List ℕ) (k inner : Kind) (w : ℕ) (ws : List ℕ) : Type 0 where
+  pub sound : are_sound p inner ws ≡ true
+  pub value : array_at p inner ws ≡ value_at p k w
+
+array_read_of : (p : List ℕ) (k inner : Kind) (w : ℕ) → shape_of k ≡ array (shape_of inner) → is_sound p k w ≡ true → (ws : List ℕ) × (run_of ARRAY p w ≡ Ok ws) × ArrayRead p k inner w ws
+unfolding are_sound values_at
+array_read_of p k inner w is h =
+    let (ws, vs, run, each, made) = array_shape_value p (shape_of inner) w (value_at p k w) (ap (λ s. plain_of p s w) (sym is) ∙ value_is p k w h) in
+    (ws, run, record { sound = rw each refl; value = rw each made })
+
+array_read : (p : List ℕ) (k inner : Kind) (w : ℕ) (ws : List ℕ) → shape_of k ≡ array (shape_of inner) → is_sound p k w ≡ true → run_of ARRAY p w ≡ Ok ws → ArrayRead p k inner w ws
+array_read p k inner w ws is h run =
+    let (us, ok, r) = array_read_of p k inner w is h in
+    let same : us ≡ ws = cc (ok, run) in
+    subst (λ (xs : List ℕ). ArrayRead p k inner w xs) same r
+
+pub texts_sound : (p : List ℕ) (w : ℕ) (ws : List ℕ) → is_sound p TextArr w ≡ true → run_of ARRAY p w ≡ Ok ws → are_sound p Text ws ≡ true
+texts_sound p w ws h run = (array_read p TextArr Text w ws texts_shape h run).sound
+
+pub texts_value : (p : List ℕ) (w : ℕ) (ws : List ℕ) → is_sound p TextArr w ≡ true → run_of ARRAY p w ≡ Ok ws → array_at p Text ws ≡ value_at p TextArr w
+texts_value p w ws h run = (array_read p TextArr Text w ws texts_shape h run).value
+
+pub texts_run : (p : List ℕ) (w : ℕ) (c : Cause) → is_sound p TextArr w ≡ true → run_of ARRAY p w ≡ Err c → ⊥
+texts_run p w c h e = let (ws, run, r) = array_read_of p TextArr Text w texts_shape h in cc
+
+pub objects_sound : (p : List ℕ) (which : Which) (w : ℕ) (ws : List ℕ) → is_sound p (ObjArr which) w ≡ true → run_of ARRAY p w ≡ Ok ws → are_sound p (Obj which) ws ≡ true
+objects_sound p which w ws h run = (array_read p (ObjArr which) (Obj which) w ws (objects_shape which) h run).sound
+
+pub objects_value : (p : List ℕ) (which : Which) (w : ℕ) (ws : List ℕ) → is_sound p (ObjArr which) w ≡ true → run_of ARRAY p w ≡ Ok ws → array_at p (Obj which) ws ≡ value_at p (ObjArr which) w
+objects_value p which w ws h run = (array_read p (ObjArr which) (Obj which) w ws (objects_shape which) h run).value
+
+pub objects_run : (p : List ℕ) (which : Which) (w : ℕ) (c : Cause) → is_sound p (ObjArr which) w ≡ true → run_of ARRAY p w ≡ Err c → ⊥
+objects_run p which w c h e = let (ws, run, r) = array_read_of p (ObjArr which) (Obj which) w (objects_shape which) h in cc
+
+-- ---- entries
+
+each_found : (f : ℕ → Option Plain) (ws : List ℕ) (vs : Plains) (i : ℕ) → each_plain f ws ≡ Some vs → i < length ws → f (get_or ws i 0) ≡ Some (nth vs i)
+each_found f [] vs i e lt = absurd (omega arith)
+each_found f (w ∷ ws) vs zero e lt = let (u, us, one, others, is) = then_more_is (f w) (each_plain f ws) vs e in rw is one
+each_found f (w ∷ ws) vs (suc i) e lt =
+    let (u, us, one, others, is) = then_more_is (f w) (each_plain f ws) vs e in rw is (each_found f ws us i others (omega arith))
+
+each_count : (f : ℕ → Option Plain) (ws : List ℕ) (vs : Plains) → each_plain f ws ≡ Some vs → length ws ≡ count_of vs
+each_count f [] vs e = let same : vs ≡ none = cc in rw same refl
+each_count f (w ∷ ws) vs e =
+    let (u, us, one, others, is) = then_more_is (f w) (each_plain f ws) vs e in rw is (ap suc (each_count f ws us others))
+
+values_are : (p : List ℕ) (k : Kind) (ws : List ℕ) → are_sound p k ws ≡ true → each_plain (plain_of p (shape_of k)) ws ≡ Some (values_at p k ws)
+unfolding are_sound values_at
+values_are p k ws h = let (vs, e) = some_is (each_plain (plain_of p (shape_of k)) ws) h in rw e refl
+
+entries_in-arr_value : (vs : Plains) → entries_in (arr_value vs) ≡ vs
+entries_in-arr_value none = refl
+entries_in-arr_value (more v vs) = refl
+
+-- each word of a sound array is sound, and has the value of the entry
+pub entry_sound : (p : List ℕ) (k : Kind) (ws : List ℕ) (i : ℕ) → are_sound p k ws ≡ true → i < length ws → is_sound p k (get_or ws i 0) ≡ true
+unfolding is_sound
+entry_sound p k ws i h lt = rw (each_found (plain_of p (shape_of k)) ws (values_at p k ws) i (values_are p k ws h) lt) refl
+
+pub entry_value : (p : List ℕ) (k : Kind) (ws : List ℕ) (i : ℕ) → are_sound p k ws ≡ true → i < length ws → value_at p k (get_or ws i 0) ≡ entry_in (array_at p k ws) i
+unfolding value_at
+entry_value p k ws i h lt =
+    rw (each_found (plain_of p (shape_of k)) ws (values_at p k ws) i (values_are p k ws h) lt) (ap (λ vs. nth vs i) (sym (entries_in-arr_value (values_at p k ws))))
+
+pub entry_count : (p : List ℕ) (k : Kind) (ws : List ℕ) → are_sound p k ws ≡ true → length ws ≡ count_of (entries_in (array_at p k ws))
+entry_count p k ws h = each_count (plain_of p (shape_of k)) ws (values_at p k ws) (values_are p k ws h) ∙ ap count_of (sym (entries_in-arr_value (values_at p k ws)))
+
+-- a text's value is its bytes
+text_is : (p : List ℕ) (w : ℕ) (v : Plain) → unless_null w (found (λ b. Some (blob_value b)) (blob_of p w)) ≡ Some v → blob_value (text_in v) ≡ v
+text_is p w v e =
+    elim (null_or_not w) [
+      | inl z ↦
+          let null_is : unless_null w (found (λ b. Some (blob_value b)) (blob_of p w)) ≡ Some null = rw z refl in
+          let same : v ≡ null = cc in
+          rw same refl
+      | inr t ↦
+          let g : unless_null w (found (λ b. Some (blob_value b)) (blob_of p w)) ≡ found (λ b. Some (blob_value b)) (blob_of p w) = rw t refl in
+          let (b, ok, is) = found_is (λ b. Some (blob_value b)) (blob_of p w) v (sym g ∙ e) in
+          let same : v ≡ blob_value b = cc in
+          rw (same, text_in-blob_value b) refl
+    ]
+
+pub text_shown : (p : List ℕ) (w : ℕ) (b : List ℕ) → is_sound p Text w ≡ true → b ≡ text_in (value_at p Text w) → blob_value b ≡ value_at p Text w
+unfolding plain_of
+text_shown p w b h is = ap blob_value is ∙ text_is p w (value_at p Text w) (ap (λ s. plain_of p s w) (sym text_shape) ∙ value_is p Text w h)

@@ -5,3 +5,4 @@ pub mod FieldReads
 pub mod Below
 pub mod TextSteps
 pub mod FirstBad
+pub mod Worked

@@ -1,10 +1,14 @@
 -- The walk that counts tells the first faulty visit.
-use Rattle.std.proofs.Common.{◌≡◌, ℕ, zero, suc, ◌+◌, ◌<◌, Bool, true, false, cond, ltb, List, [], ◌∷◌, ◌++◌, length, Option, Some, None, Result, Ok, Err, refl, sym, ap, subst, ◌∙◌, arith, inl, inr, ◌⊎◌, zero-add}
+use Rattle.std.proofs.Common.{◌≡◌, ℕ, zero, suc, ◌+◌, ◌<◌, Bool, true, false, cond, ltb, List, [], ◌∷◌, ◌++◌, length, Option, Some, None, Result, Ok, Err, refl, sym, ap, subst, ◌∙◌, arith, inl, inr, ◌⊎◌, zero-add, ◌≤◌, ◌&&◌, lit≤, ◌↔◌}
+use Rattle.std.proofs.lemmas.Bool.{ltb-false, le-ltb}
 use Rattle.std.specs.Prelude.{is_some, is_none, slice_get}
 use Rattle.adb_view.specs.Plain.{Shape, number, text, hash, array, object, Fields, no_fields, field, plain_of}
 use Rattle.adb_view.specs.Readers.{run_of, ARRAY, OBJECT}
 use Rattle.adb_view.specs.Visits.{Visit, or_empty, each_visit, visits, field_visits, fault_at, is_sound_visit}
 use Rattle.adb_view.specs.Gives.{cause_of}
+use Rattle.adb_schema.specs.Schema.{shape_of}
+use Rattle.adb_schema.specs.Views.{is_sound}
+use Rattle.adb_schema.specs.declared.schema.Kind.{Kind}
 use Rattle.adb_schema.specs.Walk.{visit_fault, or_else, first_fault_from, shape_fault, LIMIT, IsFirstFault, ◌>>=◌, ok_unless, visited, each_walk, walk, fields_walk}
 use Rattle.std.specs.List.{list_all}
 use Rattle.adb_view.proofs.Found.{plain_of-found}
@@ -152,3 +156,83 @@ counted-sound p n m (v ∷ vs) e =
 
 pub walk-found : (p : List ℕ) (s : Shape) (n m w : ℕ) → walk p s n w ≡ Ok m → is_some (plain_of p s w) ≡ true
 walk-found p s n m w e = plain_of-found p s w ∙ counted-sound p n m (visits p s w) (sym (walk-counted p s n w) ∙ e)
+
+-- ---- the same as the code meets them
+
+pub walk_refused : (p : List ℕ) (s : Shape) (w : ℕ) (c : Cause) → walk p s 0 w ≡ Err c → Some c ≡ shape_fault p s w
+walk_refused p s w c e = sym (ap cause_of e) ∙ walk-fault p s w
+
+pub walk_passed : (p : List ℕ) (s : Shape) (w n : ℕ) → walk p s 0 w ≡ Ok n → None ≡ shape_fault p s w
+walk_passed p s w n e = sym (ap cause_of e) ∙ walk-fault p s w
+
+pub walk_sound : (p : List ℕ) (k : Kind) (w n : ℕ) → walk p (shape_of k) 0 w ≡ Ok n → is_sound p k w ≡ true
+unfolding is_sound
+walk_sound p k w n e = walk-found p (shape_of k) 0 n w e
+
+-- ---- laws
+
+at_start : (p : List ℕ) (n : ℕ) (v : Visit) (c : Cause) → visit_fault p (0 + n) v ≡ Some c → visit_fault p n v ≡ Some c
+at_start p n v c e = subst (λ (k : ℕ). visit_fault p k v ≡ Some c) (omega arith) e
+
+none_at_start : (p : List ℕ) (n : ℕ) (v : Visit) → visit_fault p (0 + n) v ≡ None → visit_fault p n v ≡ None
+none_at_start p n v e = subst (λ (k : ℕ). visit_fault p k v ≡ None) (omega arith) e
+
+first_back : (p : List ℕ) (n : ℕ) (vs : List Visit) (c : Cause) (i : ℕ) (v : Visit) → slice_get vs i ≡ Some v → visit_fault p (i + n) v ≡ Some c
+    → ((j : ℕ) (u : Visit) → j < i → slice_get vs j ≡ Some u → visit_fault p (j + n) u ≡ None) → first_fault_from p n vs ≡ Some c
+first_back p n [] c i v at fault before = absurd cc
+first_back p n (u ∷ us) c zero v at fault before =
+    let same : v ≡ u = cc in
+    let here : visit_fault p n u ≡ Some c = subst (λ (x : Visit). visit_fault p n x ≡ Some c) same (at_start p n v c fault) in
+    rw here refl
+first_back p n (u ∷ us) c (suc i) v at fault before =
+    let moved : (j : ℕ) → suc j + n ≡ j + (n + 1) = λ j. omega arith in
+    let here : visit_fault p n u ≡ None = none_at_start p n u (before 0 u (omega arith) refl) in
+    let later = first_back p (n + 1) us c i v at (subst (λ (k : ℕ). visit_fault p k v ≡ Some c) (moved i) fault) (λ j x lt g. subst (λ (k : ℕ). visit_fault p k x ≡ None) (moved j) (before (suc j) x (omega arith) g)) in
+    rw here later
+
+pub told : (p : List ℕ) (s : Shape) (w : ℕ) (c : Cause) → (shape_fault p s w ≡ Some c) ↔ IsFirstFault p (visits p s w) c
+told p s w c = (shape_fault-first p s w c, λ first. first_back p 1 (visits p s w) c first.i first.v first.at first.fault first.before)
+
+or_else_none : (a b : Option Cause) → or_else a b ≡ None → (a ≡ None) × (b ≡ None)
+or_else_none None b e = (refl, e)
+or_else_none (Some c) b e = absurd cc
+
+visit_counted : (p : List ℕ) (n : ℕ) (v : Visit) → visit_fault p n v ≡ None → n ≤ LIMIT
+visit_counted p n v e =
+    elim (chosen (ltb LIMIT n) _ _ _ e) [ inl x ↦ absurd (let y = x.1 in cc) | inr x ↦ ltb-false _ _ x.0 ]
+
+none_few : (p : List ℕ) (n : ℕ) (vs : List Visit) → first_fault_from p n vs ≡ None → n ≤ LIMIT + 1 → n + length vs ≤ LIMIT + 1
+none_few p n [] e le = omega arith
+none_few p n (v ∷ vs) e le =
+    let (here, later) = or_else_none _ _ e in
+    let few = visit_counted p n v here in
+    let more = none_few p (n + 1) vs later (omega arith) in
+    omega arith
+
+none_sound : (p : List ℕ) (n : ℕ) (vs : List Visit) → first_fault_from p n vs ≡ None → list_all (is_sound_visit p) vs ≡ true
+none_sound p n [] e = refl
+none_sound p n (v ∷ vs) e =
+    let (here, later) = or_else_none _ _ e in
+    rw (fault_free p n v here, none_sound p (n + 1) vs later) refl
+
+and_parts : (a b : Bool) → (a && b) ≡ true → (a ≡ true) × (b ≡ true)
+and_parts true b e = (refl, e)
+and_parts false b e = absurd cc
+
+none_of : (o : Option Cause) → is_none o ≡ true → o ≡ None
+none_of None e = refl
+none_of (Some c) e = absurd cc
+
+few_none : (p : List ℕ) (n : ℕ) (vs : List Visit) → list_all (is_sound_visit p) vs ≡ true → n + length vs ≤ LIMIT + 1 → first_fault_from p n vs ≡ None
+few_none p n [] e le = refl
+few_none p n (v ∷ vs) e le =
+    let parts = and_parts (is_sound_visit p v) (list_all (is_sound_visit p) vs) e in
+    let t : ltb LIMIT n ≡ false = le-ltb _ _ (omega (arith, le)) in
+    let none_here = none_of (fault_at p v.shape v.word) parts.0 in
+    rw (t, none_here) (few_none p (n + 1) vs parts.1 (omega (arith, le)))
+
+pub none_told : (p : List ℕ) (s : Shape) (w : ℕ) → (shape_fault p s w ≡ None) ↔ ((is_some (plain_of p s w) ≡ true) × (length (visits p s w) ≤ LIMIT))
+none_told p s w = (
+    λ e. let few = none_few p 1 (visits p s w) e (lit≤ tt) in (plain_of-found p s w ∙ none_sound p 1 (visits p s w) e, omega arith),
+    λ h. let (some, few) = h in few_none p 1 (visits p s w) (sym (plain_of-found p s w) ∙ some) (omega arith),
+  )

@@ -8,3 +8,4 @@ pub mod Reserved
 pub mod Rules
 pub mod Texts
 pub mod Around
+pub mod Shown

@@ -19,6 +19,15 @@ pub struct Shaped<'a> {
 impl<'a> Shaped<'a> {
     ghost use Rattle.adb_schema.specs.Checked.{adb_of, table_of};
 
+    /// A payload that was walked as this table.
+    pub(crate) fn of(adb: Adb<'a>, which: Which) -> Shaped<'a>
+        requires { is_sound (payload_of adb) (Kinds.Obj which) (root_of (payload_of adb)) ≡ true }
+        ensures walked { adb_of result ≡ adb.entry }
+        ensures table { table_of result ≡ which }
+    {
+        Shaped { adb, which }
+    }
+
     /// The payload that was walked.
     pub fn adb(&self) -> Adb<'a>
         ensures { result ≡ adb_of self.now }

@@ -1,11 +1,11 @@
 //! Reads of sound words, which cannot fail.
-ghost use Rattle.std.specs.Prelude.{◌≡◌, ◌<◌, true, Some};
+ghost use Rattle.std.specs.Prelude.{◌≡◌, ◌<◌, true, Some, length, slice_index};
 ghost use Rattle.adb_view.specs.Adb.{payload_of};
 ghost use Rattle.adb_view.specs.Entries.{array_entries};
 ghost use Rattle.adb_view.specs.Readers.{run_of, OBJECT};
 ghost use Rattle.adb_view.specs.Gives.{Gives};
 ghost use Rattle.adb_schema.specs.Views.{is_sound, value_at, int_in, text_in};
-ghost use Rattle.adb_schema.specs.Fields.{IsFieldOf};
+ghost use Rattle.adb_schema.specs.Fields.{IsFieldOf, are_sound, array_at};
 ghost use Rattle.adb_schema.specs.declared.schema.Kind.TheVariants as Kinds;
 
 use crate::schema::Which;
@@ -19,6 +19,14 @@ pub(crate) fn object_entries<'a>(adb: Adb<'a>, object: Val) -> Result<Arr<'a>, C
     Ok(adb.obj::<0>(object)?.entries())
 }
 
+/// The word at a place, counted from 0.
+pub(crate) fn entry_word(entries: Arr<'_>, i: usize) -> Val
+    requires { i < length (array_entries entries) }
+    ensures { result ≡ slice_index (array_entries entries.entry) i }
+{
+    entries.get(i + 1)
+}
+
 /// The field of a sound object, counted from 0; NULL where the object ends before it.
 #[tactic(auto, using(crate::proofs::FieldReads::object_runs))]
 pub(crate) fn field_word(adb: Adb<'_>, which: Which, object: Val, i: usize) -> Val
@@ -28,7 +36,7 @@ pub(crate) fn field_word(adb: Adb<'_>, which: Which, object: Val, i: usize) -> V
     match object_entries(adb, object) {
         Ok(entries) => {
             if i < entries.len() {
-                entries.get(i + 1)
+                entry_word(entries, i)
             } else {
                 Val::of(0)
             }
@@ -69,6 +77,32 @@ pub(crate) fn hash_word<'a>(adb: Adb<'a>, word: Val) -> &'a [u8]
 {
     match adb.blob(word) {
         Ok(bytes) => bytes,
+        Err(_) => unreachable!(),
+    }
+}
+
+/// The words of a sound array of texts.
+#[tactic(auto, using(crate::proofs::FieldReads::texts_sound, crate::proofs::FieldReads::texts_value, crate::proofs::FieldReads::texts_run))]
+pub(crate) fn texts_word<'a>(adb: Adb<'a>, word: Val) -> Arr<'a>
+    requires { is_sound (payload_of adb) Kinds.TextArr word ≡ true }
+    ensures sound { are_sound (payload_of adb.entry) Kinds.Text (array_entries result) ≡ true }
+    ensures value { array_at (payload_of adb.entry) Kinds.Text (array_entries result) ≡ value_at (payload_of adb.entry) Kinds.TextArr word }
+{
+    match adb.arr(word) {
+        Ok(entries) => entries,
+        Err(_) => unreachable!(),
+    }
+}
+
+/// The words of a sound array of objects.
+#[tactic(auto, using(crate::proofs::FieldReads::objects_sound, crate::proofs::FieldReads::objects_value, crate::proofs::FieldReads::objects_run))]
+pub(crate) fn objects_word<'a>(adb: Adb<'a>, which: Which, word: Val) -> Arr<'a>
+    requires { is_sound (payload_of adb) (Kinds.ObjArr which) word ≡ true }
+    ensures sound { are_sound (payload_of adb.entry) (Kinds.Obj which) (array_entries result) ≡ true }
+    ensures value { array_at (payload_of adb.entry) (Kinds.Obj which) (array_entries result) ≡ value_at (payload_of adb.entry) (Kinds.ObjArr which) word }
+{
+    match adb.arr(word) {
+        Ok(entries) => entries,
         Err(_) => unreachable!(),
     }
 }
