@@ -5,4 +5,8 @@ pub mod Walk
 pub mod Views
 pub mod Fields
 pub mod Checked
+pub mod Reserved
+pub mod Rules
+pub mod Texts
+pub mod Around
 pub mod Shown

@@ -1,7 +1,8 @@
-ghost use Rattle.std.specs.Prelude.{◌≡◌, true};
+ghost use Rattle.std.specs.Prelude.{◌≡◌, true, is_none};
 ghost use Rattle.adb_view.specs.Adb.{payload_of};
 ghost use Rattle.adb_view.specs.Head.{root_of};
-ghost use Rattle.adb_schema.specs.Views.{is_sound};
+ghost use Rattle.adb_schema.specs.Views.{is_sound, value_at};
+ghost use Rattle.adb_schema.specs.Texts.{text_fault};
 ghost use Rattle.adb_schema.specs.declared.schema.Kind.TheVariants as Kinds;
 
 use crate::schema::Which;
@@ -46,4 +47,5 @@ impl<'a> Shaped<'a> {
 #[derive(Clone, Copy)]
 pub struct Checked<'a> {
     pub(crate) shaped: Shaped<'a>,
+    ghost texts: { is_none (text_fault shaped.which (value_at (payload_of shaped.adb) (Kinds.Obj shaped.which) (root_of (payload_of shaped.adb)))) ≡ true },
 }

@@ -5,6 +5,7 @@
 //! `Views` (fields of plain values) of `specs/`.
 #![tactic(auto)]
 
+mod around;
 mod checked;
 mod contents;
 mod dependency;
@@ -14,9 +15,14 @@ mod info;
 mod laws;
 mod list;
 mod opened;
+mod place;
+mod reserved;
 mod roots;
+mod rules;
 mod schema;
 mod tables;
+mod text_laws;
+mod texts;
 mod walk;
 mod words;
 
@@ -29,9 +35,11 @@ pub use laws::{
     tables_are_as_listed, tables_are_unrolled_whole, the_first_faulty_visit_is_told, values_of_few_visits_have_no_fault,
 };
 pub use list::{Kinded, List, View};
+pub use reserved::{is_reserved, is_reserved_file, is_stage_name};
 pub use roots::{IdbView, IndexView, IntentView};
 pub use schema::{Field, Kind, Label, Schema, Which, fields_of};
 pub use tables::{ACL, DEP, DIR, FILE, IDB, INDEX, INTENT, PACKAGE, PKGINFO, SCRIPTS};
+pub use text_laws::first_bad_text_is_told;
 pub use walk::{shape, walk_table};
 
 #[cfg(test)]

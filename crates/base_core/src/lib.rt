@@ -19,7 +19,7 @@ pub use laws::{
     a_crash_leaves_order, a_crash_may_leave_the_files_as_read, a_crash_settles,
     order_outlasts_a_crash,
 };
-pub use name::{Name, Names};
+pub use name::{Name, Names, is_name};
 pub use sink::{Sink, SinkFault};
 pub use text::{Text, Words};
 pub use tree::{Disk, Tree, TreeFault};
