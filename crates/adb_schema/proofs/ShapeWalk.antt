@@ -233,9 +233,9 @@ few_none p n (v ∷ vs) e le =
 
 pub none_told : (p : List ℕ) (s : Shape) (w : ℕ) → (shape_fault p s w ≡ None) ↔ ((is_some (plain_of p s w) ≡ true) × (length (visits p s w) ≤ LIMIT))
 none_told p s w = (
-    λ e. let few = none_few p 1 (visits p s w) e (lit≤ tt) in (plain_of-found p s w ∙ none_sound p 1 (visits p s w) e, omega arith),
-    λ h. let (some, few) = h in few_none p 1 (visits p s w) (sym (plain_of-found p s w) ∙ some) (omega arith),
-  )
+  λ e. let few = none_few p 1 (visits p s w) e (lit≤ tt) in (plain_of-found p s w ∙ none_sound p 1 (visits p s w) e, omega arith),
+  λ h. let (some, few) = h in few_none p 1 (visits p s w) (sym (plain_of-found p s w) ∙ some) (omega arith),
+)
 
 -- the same of an object's entries
 

@@ -32,7 +32,8 @@ pub use dependency::DepView;
 pub use folder::{AclView, DirInfo, FileInfo};
 pub use info::PkgInfo;
 pub use laws::{
-    tables_are_as_listed, tables_are_unrolled_whole, the_first_faulty_visit_is_told, values_of_few_visits_have_no_fault,
+    tables_are_as_listed, tables_are_unrolled_whole, the_first_faulty_visit_is_told,
+    values_of_few_visits_have_no_fault,
 };
 pub use list::{Kinded, List, View};
 pub use reserved::{is_reserved, is_reserved_file, is_stage_name};
@@ -44,3 +45,5 @@ pub use walk::{shape, walk_table};
 
 #[cfg(test)]
 mod tests;
+#[cfg(test)]
+mod view_tests;
