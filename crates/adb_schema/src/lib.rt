@@ -1,8 +1,9 @@
-//! The tables of the containers (apk-v3(5)): which fields each schema has, the walk that tests a payload against
-//! them, and views of what was tested, whose methods cannot fail.
+//! The schemas of the containers (apk-v3(5)): ten tables of fields, the walks that test a payload against them, and
+//! views of a tested payload, one method a field, which cannot fail.
 //!
-//! The contracts cite `Schema` (the tables, and the shapes that they give), `Walk` (the first fault of a walk) and
-//! `Views` (fields of plain values) of `specs/`.
+//! `shape` makes a `Shaped` of a payload, `Checked::new` a `Checked` of that, and its four views lend from the payload.
+//! The contracts cite `Schema` and `Listed` (the tables, and the shapes that they give), `Walk` (the first fault of a
+//! walk), `Views` (fields of plain values), `Shown` (the plain value that a view shows) and `Checked` of `specs/`.
 #![tactic(auto)]
 
 mod around;
