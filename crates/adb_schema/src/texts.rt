@@ -11,11 +11,13 @@ ghost use Rattle.adb_schema.specs.Texts.{each_leaf, field_leaves, first_bad, lea
 ghost use Rattle.std.specs.Prelude.{[], ◌∷◌};
 ghost use Rattle.adb_schema.specs.declared.schema.Kind.TheVariants as Kinds;
 
-use crate::checked::{Checked, Shaped};
 use crate::around::{Around, keeps_number_rule, keeps_text_rule};
+use crate::checked::{Checked, Shaped};
 use crate::schema::{Kind, Which, fields_of};
 use crate::tables::*;
-use crate::words::{entry_word, field_word, hash_word, int_word, objects_word, text_word, texts_word};
+use crate::words::{
+    entry_word, field_word, hash_word, int_word, objects_word, text_word, texts_word,
+};
 use adb_view::{Adb, Arr, Val};
 use base_core::Cause;
 
@@ -148,3 +150,6 @@ fn number_of(which: Which) -> u16
         Which::Intent => INTENT.number,
     }
 }
+
+#[cfg(test)]
+mod tests;
