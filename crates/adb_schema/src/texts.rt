@@ -150,3 +150,6 @@ fn number_of(which: Which) -> u16
         Which::Intent => INTENT.number,
     }
 }
+
+#[cfg(test)]
+mod tests;
