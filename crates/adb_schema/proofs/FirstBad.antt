@@ -1,7 +1,6 @@
 -- The first leaf that breaks its rule.
 use Rattle.std.proofs.Common.{◌≡◌, ℕ, zero, suc, ◌<◌, Bool, true, false, List, [], ◌∷◌, Option, Some, None, refl, arith}
-use Rattle.std.specs.Prelude.{slice_get, ◌&&◌, if◌then◌else◌}
-use Rattle.std.specs.List.{list_all}
+use Rattle.std.specs.Prelude.{slice_get, if◌then◌else◌}
 use Rattle.base_core.specs.declared.cause.Cause.{Cause}
 use Rattle.base_core.specs.declared.cause.Cause.TheVariants.{BadText}
 use Rattle.adb_schema.specs.Texts.{Leaf, keeps_rule, place_of, first_bad, IsFirstBad, TellsFirstBad}

@@ -1,18 +1,18 @@
 -- Going over lists for the first of their pairs.
-use Rattle.std.proofs.Common.{◌≡◌, ℕ, suc, zero, ◌+◌, ◌<◌, ◌≤◌, true, List, [], ◌∷◌, ◌++◌, map, length, get_or, drop, Option, Some, None, refl, ap, sym, ◌∙◌, subst, arith, append-nil}
+use Rattle.std.proofs.Common.{◌≡◌, ℕ, suc, zero, ◌+◌, ◌<◌, ◌≤◌, true, List, [], ◌∷◌, ◌++◌, map, length, get_or, drop, Option, Some, None, refl, ap, sym, ◌∙◌, subst, arith, append-nil, inl, inr, ◌⊎◌}
 use Rattle.std.specs.List.{flat_map}
 use Rattle.adb_view.specs.Plain.{Plain, null}
 use Rattle.adb_schema.specs.Views.{value_at}
 use Rattle.adb_schema.specs.Fields.{are_sound}
 use Rattle.adb_schema.specs.declared.repeated_names.Pair.{Pair}
-use Rattle.adb_schema.specs.Pairs.{Named, earlier, earliest}
-use Rattle.adb_schema.specs.Repeated.{numbered_from, twice, twice_in_one, repeated_at, name_of, folders_in, files_in, inside_fault}
+use Rattle.adb_schema.specs.Pairs.{Named, IsIn, IsPair, IsFirstOf, earlier, earliest}
+use Rattle.adb_schema.specs.Repeated.{IsPairInOne, numbered_from, twice, twice_in_one, repeated_at, name_of, folders_in, files_in, inside_fault}
 use Rattle.adb_schema.specs.Walk.{or_else}
 use Rattle.base_core.specs.declared.cause.Cause.{Cause}
 use Rattle.adb_schema.specs.NamedTexts.{plains_at}
 use Rattle.adb_schema.specs.declared.schema.Kind.{Kind}
 use Rattle.adb_schema.proofs.NameLists.{plain_count, plain_is}
-use Rattle.adb_schema.proofs.FirstPair.{earlier-assoc, earlier-none}
+use Rattle.adb_schema.proofs.FirstPair.{Either, alike, earlier-first, first_pair-first, earlier-assoc, earlier-none}
 
 more_firsts : (g : Plain → Option Pair) (values : List Plain) (i : ℕ) → i < length values → earliest (map g (drop i values)) ≡ earlier (g (get_or values i null)) (earliest (map g (drop (i + 1) values)))
 more_firsts g [] i h = absurd (omega arith)
@@ -83,11 +83,21 @@ texts_behind a b one two m e l h =
 
 -- ---- kind behind kind
 
-pub or_some : (o later : Option Cause) (c : Cause) → o ≡ Some c → Some c ≡ or_else o later
-or_some o later c e = ap (λ (x : Option Cause). or_else x later) (sym e)
-
-pub or_none : (o later : Option Cause) → o ≡ None → later ≡ or_else o later
-or_none o later e = ap (λ (x : Option Cause). or_else x later) (sym e)
-
 pub one_package : (pkg : Plain) → or_else (repeated_at 501 (twice (map name_of (folders_in pkg)))) (repeated_at 401 (twice_in_one (map (λ folder. map name_of (files_in folder)) (folders_in pkg)))) ≡ inside_fault (pkg ∷ [])
 one_package pkg = λ i. or_else (repeated_at 501 (alone (map name_of (folders_in pkg)) i)) (repeated_at 401 (alone_several (map (λ folder. map name_of (files_in folder)) (folders_in pkg)) i))
+
+-- ---- what is told of several lists is the first pair of all
+
+from-here : (names : List (List ℕ)) (others : List (List (List ℕ))) (p : Pair) → Either (IsPair (numbered_from 1 names)) (IsPairInOne others) p → IsPairInOne (names ∷ others) p
+from-here names others p (inl k) = record { names = names; names_in = inl refl; is_pair = k }
+from-here names others p (inr k) = record { names = k.names; names_in = inr k.names_in; is_pair = k.is_pair }
+
+here-by : (names : List (List ℕ)) (others : List (List (List ℕ))) (p : Pair) (found : List (List ℕ)) → IsIn found (names ∷ others) → IsPair (numbered_from 1 found) p → Either (IsPair (numbered_from 1 names)) (IsPairInOne others) p
+here-by names others p found (inl e) k = let P : List (List ℕ) → Type 0 = λ l. IsPair (numbered_from 1 l) p in inl (subst P e k)
+here-by names others p found (inr h) k = inr (record { names = found; names_in = h; is_pair = k })
+
+pub twice_in_one-first : (lists : List (List (List ℕ))) → IsFirstOf (IsPairInOne lists) (twice_in_one lists)
+twice_in_one-first [] = λ p k. k.names_in
+twice_in_one-first (names ∷ others) =
+    alike (Either (IsPair (numbered_from 1 names)) (IsPairInOne others)) (IsPairInOne (names ∷ others)) (twice_in_one (names ∷ others)) (from-here names others) (λ p k. here-by names others p k.names k.names_in k.is_pair)
+    (earlier-first (IsPair (numbered_from 1 names)) (IsPairInOne others) (twice names) (twice_in_one others) (first_pair-first (numbered_from 1 names)) (twice_in_one-first others))

@@ -12,3 +12,4 @@ pub mod TextSteps
 pub mod FirstBad
 pub mod FirstKinds
 pub mod FewTexts
+pub mod RepeatedRows

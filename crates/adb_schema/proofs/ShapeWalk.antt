@@ -2,7 +2,7 @@
 use Rattle.std.proofs.Common.{◌≡◌, ℕ, zero, suc, ◌+◌, ◌<◌, Bool, true, false, cond, ltb, List, [], ◌∷◌, ◌++◌, length, Option, Some, None, Result, Ok, Err, refl, sym, ap, subst, ◌∙◌, arith, inl, inr, ◌⊎◌, zero-add, ◌≤◌, ◌&&◌, lit≤, ◌↔◌}
 use Rattle.std.proofs.lemmas.Bool.{ltb-false, le-ltb}
 use Rattle.std.specs.Prelude.{is_some, is_none, slice_get}
-use Rattle.adb_view.specs.Plain.{Shape, number, text, hash, array, object, Fields, no_fields, field, plain_of}
+use Rattle.adb_view.specs.Plain.{Shape, number, text, hash, array, object, Fields, no_fields, field, plain_of, plains_of}
 use Rattle.adb_view.specs.Readers.{run_of, ARRAY, OBJECT}
 use Rattle.adb_view.specs.Visits.{Visit, or_empty, each_visit, visits, field_visits, fault_at, is_sound_visit}
 use Rattle.adb_view.specs.Gives.{cause_of}
@@ -11,7 +11,7 @@ use Rattle.adb_schema.specs.Views.{is_sound}
 use Rattle.adb_schema.specs.declared.schema.Kind.{Kind}
 use Rattle.adb_schema.specs.Walk.{visit_fault, or_else, first_fault_from, shape_fault, LIMIT, IsFirstFault, ◌>>=◌, ok_unless, visited, each_walk, walk, fields_walk}
 use Rattle.std.specs.List.{list_all}
-use Rattle.adb_view.proofs.Found.{plain_of-found}
+use Rattle.adb_view.proofs.Found.{plain_of-found, plains_of-found}
 use Rattle.base_core.specs.declared.cause.Cause.{Cause}
 
 chosen : {A : Type 0} (b : Bool) (x y z : A) → cond b x y ≡ z → ((b ≡ true) × (x ≡ z)) ⊎ ((b ≡ false) × (y ≡ z))
@@ -233,9 +233,23 @@ few_none p n (v ∷ vs) e le =
 
 pub none_told : (p : List ℕ) (s : Shape) (w : ℕ) → (shape_fault p s w ≡ None) ↔ ((is_some (plain_of p s w) ≡ true) × (length (visits p s w) ≤ LIMIT))
 none_told p s w = (
-    λ e. let few = none_few p 1 (visits p s w) e (lit≤ tt) in (plain_of-found p s w ∙ none_sound p 1 (visits p s w) e, omega arith),
-    λ h. let (some, few) = h in few_none p 1 (visits p s w) (sym (plain_of-found p s w) ∙ some) (omega arith),
-  )
+  λ e. let few = none_few p 1 (visits p s w) e (lit≤ tt) in (plain_of-found p s w ∙ none_sound p 1 (visits p s w) e, omega arith),
+  λ h. let (some, few) = h in few_none p 1 (visits p s w) (sym (plain_of-found p s w) ∙ some) (omega arith),
+)
+
+-- the same of an object's entries
+
+pub fields_refused : (p : List ℕ) (fs : Fields) (n : ℕ) (ws : List ℕ) (c : Cause) → fields_walk p fs n ws ≡ Err c → Some c ≡ first_fault_from p (n + 1) (field_visits p fs ws)
+fields_refused p fs n ws c e = sym (ap cause_of (sym (fields_walk-counted p fs n ws) ∙ e)) ∙ counted-fault p n (field_visits p fs ws)
+
+pub fields_passed : (p : List ℕ) (fs : Fields) (n m : ℕ) (ws : List ℕ) → fields_walk p fs n ws ≡ Ok m → None ≡ first_fault_from p (n + 1) (field_visits p fs ws)
+fields_passed p fs n m ws e = sym (ap cause_of (sym (fields_walk-counted p fs n ws) ∙ e)) ∙ counted-fault p n (field_visits p fs ws)
+
+pub fields_counted : (p : List ℕ) (fs : Fields) (n m : ℕ) (ws : List ℕ) → fields_walk p fs n ws ≡ Ok m → m ≡ n + length (field_visits p fs ws)
+fields_counted p fs n m ws e = sym (counted-length p n m (field_visits p fs ws) (sym (fields_walk-counted p fs n ws) ∙ e))
+
+pub fields_found : (p : List ℕ) (fs : Fields) (n m : ℕ) (ws : List ℕ) → fields_walk p fs n ws ≡ Ok m → is_some (plains_of p fs ws) ≡ true
+fields_found p fs n m ws e = plains_of-found p fs ws ∙ counted-sound p n m (field_visits p fs ws) (sym (fields_walk-counted p fs n ws) ∙ e)
 
 pub walk_few : (p : List ℕ) (s : Shape) (w n : ℕ) → walk p s 0 w ≡ Ok n → is_none (shape_fault p s w) ≡ true
 walk_few p s w n e = ap is_none (sym (walk_passed p s w n e))

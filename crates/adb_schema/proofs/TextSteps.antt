@@ -1,21 +1,16 @@
 -- Steps of the text walk, as the code makes them.
-use Rattle.std.proofs.Common.{◌≡◌, ℕ, zero, suc, ◌+◌, ◌-◌, ◌*◌, ◌<◌, ◌≤◌, Bool, true, false, eqb, List, [], ◌∷◌, ◌++◌, length, get_or, drop, Option, Some, None, option_map, Result, Ok, Err, refl, sym, ap, subst, ◌∙◌, arith, inl, inr, ◌⊎◌, lit<}
+use Rattle.std.proofs.Common.{◌≡◌, ℕ, zero, suc, ◌+◌, ◌*◌, ◌<◌, ◌≤◌, Bool, true, false, List, [], ◌∷◌, ◌++◌, length, get_or, drop, Option, Some, None, option_map, refl, sym, ap, subst, ◌∙◌, arith, lit<}
 use Rattle.std.specs.Prelude.{is_some, slice_get, if◌then◌else◌}
-use Rattle.std.proofs.lemmas.Bool.{eqb-true}
 use Rattle.std.proofs.lemmas.List.{drop_more, drop_all}
 use Rattle.base_core.specs.declared.cause.Cause.{Cause}
 use Rattle.base_core.specs.declared.cause.Cause.TheVariants.{BadText}
-use Rattle.adb_view.specs.Gives.{cause_of}
-use Rattle.adb_view.specs.Plain.{Plain, null, arr, Plains, none, more, Shape, number, text, hash, array, object, field, arr_value, unless_null, found, then_more, each_plain, plain_of}
-use Rattle.adb_view.specs.Readers.{run_of, ARRAY}
-use Rattle.adb_view.proofs.Found.{run_of-null}
+use Rattle.adb_view.specs.Plain.{Plain, Plains, none, more, arr_value, then_more, each_plain, plain_of}
 use Rattle.adb_schema.specs.Schema.{schema_number, table, shape_of, shapes_of}
-use Rattle.adb_schema.specs.Fields.{IsFieldOf, are_sound, values_at}
-use Rattle.adb_schema.specs.Views.{is_sound, value_at, entries_in, nth, int_in, text_in, kind_at}
+use Rattle.adb_schema.specs.Fields.{IsFieldOf, are_sound, values_at, array_at}
+use Rattle.adb_schema.specs.Views.{is_sound, value_at, entries_in, nth, int_in, text_in}
 use Rattle.adb_schema.specs.Walk.{or_else}
 use Rattle.adb_schema.specs.Rank.{rank, rank_of_all}
 use Rattle.adb_schema.proofs.WalkSteps.{field_rank}
-use Rattle.adb_schema.specs.Around.{AreEntriesOf}
 use Rattle.adb_schema.specs.Texts.{Around, Leaf, number_leaf, text_leaf, keeps_rule, place_of, each_leaf, leaves, field_leaves, inside_of, first_bad}
 use Rattle.adb_schema.proofs.TableShapes.{object_shape, objects_shape, texts_shape, int_shape, text_shape, hash_shape}
 use Rattle.adb_schema.specs.declared.schema.Which.{Which}
@@ -69,71 +64,13 @@ behind_bad xs ys c e = first_bad-append xs ys ∙ ap (λ o. or_else o (first_bad
 
 -- ---- the entries of an array
 
-null_or_not : (w : ℕ) → (w ≡ 0) ⊎ (eqb w 0 ≡ false)
-null_or_not w = go (eqb w 0) refl
-  where
-    go : (b : Bool) → eqb w 0 ≡ b → (w ≡ 0) ⊎ (eqb w 0 ≡ false)
-    go true e = inl (eqb-true _ _ e)
-    go false e = inr e
-
-found_is : {A : Type 0} (f : A → Option Plain) (r : Result A Cause) (v : Plain) → found f r ≡ Some v → (x : A) × (r ≡ Ok x) × (f x ≡ Some v)
-found_is f (Ok x) v e = (x, refl, e)
-found_is f (Err c) v e = absurd cc
-
-some_map : {A B : Type 0} (f : A → B) (o : Option A) (y : B) → option_map f o ≡ Some y → (x : A) × (o ≡ Some x) × (f x ≡ y)
-some_map f (Some x) y e = (x, refl, cc)
-some_map f None y e = absurd cc
-
 entries_in-arr_value : (vs : Plains) → entries_in (arr_value vs) ≡ vs
 entries_in-arr_value none = refl
 entries_in-arr_value (more v vs) = refl
 
-array_value : (p : List ℕ) (s : Shape) (w : ℕ) (v : Plain) → plain_of p (array s) w ≡ Some v → (ws : List ℕ) × (run_of ARRAY p w ≡ Ok ws) × (each_plain (plain_of p s) ws ≡ Some (entries_in v))
-unfolding plain_of
-array_value p s w v e =
-    elim (null_or_not w) [
-      | inl z ↦
-          let null_is : plain_of p (array s) w ≡ Some null = rw z refl in
-          let same : v ≡ null = cc in
-          ([], rw z (run_of-null ARRAY p), rw same refl)
-      | inr t ↦
-          let g : unless_null w (found (λ ws. option_map arr_value (each_plain (plain_of p s) ws)) (run_of ARRAY p w)) ≡ found (λ ws. option_map arr_value (each_plain (plain_of p s) ws)) (run_of ARRAY p w) = rw t refl in
-          let (ws, ok, is) = found_is (λ ws. option_map arr_value (each_plain (plain_of p s) ws)) (run_of ARRAY p w) v (sym g ∙ e) in
-          let (vs, some, made) = some_map arr_value (each_plain (plain_of p s) ws) v is in
-          (ws, ok, some ∙ ap Some (sym (entries_in-arr_value vs) ∙ ap entries_in made))
-    ]
-
 some_is : {A : Type 0} (o : Option A) → is_some o ≡ true → (x : A) × (o ≡ Some x)
 some_is (Some x) e = (x, refl)
 some_is None e = absurd cc
-
-value_is : (p : List ℕ) (k : Kind) (w : ℕ) → is_sound p k w ≡ true → plain_of p (shape_of k) w ≡ Some (value_at p k w)
-unfolding is_sound value_at
-value_is p k w h = let (v, e) = some_is (plain_of p (shape_of k) w) h in rw e refl
-
-array_read : (p : List ℕ) (k inner : Kind) (w : ℕ) (ws : List ℕ) → shape_of k ≡ array (shape_of inner) → is_sound p k w ≡ true → run_of ARRAY p w ≡ Ok ws → AreEntriesOf p inner (value_at p k w) ws
-unfolding are_sound values_at
-array_read p k inner w ws shape h run =
-    let (us, ok, some) = array_value p (shape_of inner) w (value_at p k w) (ap (λ s. plain_of p s w) (sym shape) ∙ value_is p k w h) in
-    let same : us ≡ ws = cc in
-    let is : each_plain (plain_of p (shape_of inner)) ws ≡ Some (entries_in (value_at p k w)) = subst (λ (xs : List ℕ). each_plain (plain_of p (shape_of inner)) xs ≡ Some (entries_in (value_at p k w))) same some in
-    record { sound = rw is refl; values = rw is refl }
-
-array_runs : (p : List ℕ) (k inner : Kind) (w : ℕ) (c : Cause) → shape_of k ≡ array (shape_of inner) → is_sound p k w ≡ true → run_of ARRAY p w ≡ Err c → ⊥
-array_runs p k inner w c shape h e =
-    let (us, ok, some) = array_value p (shape_of inner) w (value_at p k w) (ap (λ s. plain_of p s w) (sym shape) ∙ value_is p k w h) in cc
-
-pub texts_read : (p : List ℕ) (w : ℕ) (ws : List ℕ) → is_sound p TextArr w ≡ true → run_of ARRAY p w ≡ Ok ws → AreEntriesOf p Text (value_at p TextArr w) ws
-texts_read p w ws h run = array_read p TextArr Text w ws texts_shape h run
-
-pub texts_run : (p : List ℕ) (w : ℕ) (c : Cause) → is_sound p TextArr w ≡ true → run_of ARRAY p w ≡ Err c → ⊥
-texts_run p w c h e = array_runs p TextArr Text w c texts_shape h e
-
-pub objects_read : (p : List ℕ) (which : Which) (w : ℕ) (ws : List ℕ) → is_sound p (ObjArr which) w ≡ true → run_of ARRAY p w ≡ Ok ws → AreEntriesOf p (Obj which) (value_at p (ObjArr which) w) ws
-objects_read p which w ws h run = array_read p (ObjArr which) (Obj which) w ws (objects_shape which) h run
-
-pub objects_run : (p : List ℕ) (which : Which) (w : ℕ) (c : Cause) → is_sound p (ObjArr which) w ≡ true → run_of ARRAY p w ≡ Err c → ⊥
-objects_run p which w c h e = array_runs p (ObjArr which) (Obj which) w c (objects_shape which) h e
 
 -- ---- over the entries
 
@@ -250,22 +187,19 @@ table_small Intent = lit< tt
 
 -- ---- the same of the words that the code reads
 
-entry_word : (ws : List ℕ) (i word : ℕ) → word ≡ get_or ws (i + 1 - 1) 0 → get_or ws i 0 ≡ word
-entry_word ws i word e = sym (e ∙ ap (λ (j : ℕ). get_or ws j 0) (omega arith))
-
-pub entry_sound : (p : List ℕ) (k : Kind) (ws : List ℕ) (i word : ℕ) → i < length ws → are_sound p k (drop i ws) ≡ true → word ≡ get_or ws (i + 1 - 1) 0 → is_sound p k word ≡ true
-entry_sound p k ws i word lt h e = let r = at_entry p k ws i lt h in ap (is_sound p k) (sym (entry_word ws i word e)) ∙ r.first
+pub entry_sound : (p : List ℕ) (k : Kind) (ws : List ℕ) (i word : ℕ) → i < length ws → are_sound p k (drop i ws) ≡ true → word ≡ get_or ws i 0 → is_sound p k word ≡ true
+entry_sound p k ws i word lt h e = let r = at_entry p k ws i lt h in ap (is_sound p k) e ∙ r.first
 
 pub others_sound : (p : List ℕ) (k : Kind) (ws : List ℕ) (i : ℕ) → i < length ws → are_sound p k (drop i ws) ≡ true → are_sound p k (drop (i + 1) ws) ≡ true
 others_sound p k ws i lt h = let r = at_entry p k ws i lt h in r.others
 
-pub entry_good : (p : List ℕ) (k : Kind) (f : Plain → List Leaf) (ws : List ℕ) (i word : ℕ) → i < length ws → are_sound p k (drop i ws) ≡ true → word ≡ get_or ws (i + 1 - 1) 0 → None ≡ first_bad (f (value_at p k word))
+pub entry_good : (p : List ℕ) (k : Kind) (f : Plain → List Leaf) (ws : List ℕ) (i word : ℕ) → i < length ws → are_sound p k (drop i ws) ≡ true → word ≡ get_or ws i 0 → None ≡ first_bad (f (value_at p k word))
     → first_bad (each_leaf f (values_at p k (drop i ws))) ≡ first_bad (each_leaf f (values_at p k (drop (i + 1) ws)))
-entry_good p k f ws i word lt h e good = entries_more p k f ws i lt h (ap (λ (w : ℕ). first_bad (f (value_at p k w))) (entry_word ws i word e) ∙ sym good)
+entry_good p k f ws i word lt h e good = entries_more p k f ws i lt h (ap (λ (w : ℕ). first_bad (f (value_at p k w))) (sym e) ∙ sym good)
 
-pub entry_bad : (p : List ℕ) (k : Kind) (f : Plain → List Leaf) (ws : List ℕ) (i word : ℕ) (c : Cause) → i < length ws → are_sound p k (drop i ws) ≡ true → word ≡ get_or ws (i + 1 - 1) 0 → Some c ≡ first_bad (f (value_at p k word))
+pub entry_bad : (p : List ℕ) (k : Kind) (f : Plain → List Leaf) (ws : List ℕ) (i word : ℕ) (c : Cause) → i < length ws → are_sound p k (drop i ws) ≡ true → word ≡ get_or ws i 0 → Some c ≡ first_bad (f (value_at p k word))
     → first_bad (each_leaf f (values_at p k (drop i ws))) ≡ Some c
-entry_bad p k f ws i word c lt h e bad = entries_stop p k f ws i c lt h (ap (λ (w : ℕ). first_bad (f (value_at p k w))) (entry_word ws i word e) ∙ sym bad)
+entry_bad p k f ws i word c lt h e bad = entries_stop p k f ws i c lt h (ap (λ (w : ℕ). first_bad (f (value_at p k w))) (sym e) ∙ sym bad)
 
 pub field_sound : (p : List ℕ) (which : Which) (w i word : ℕ) (d : Field) → i < length (table which) → IsFieldOf p which w i word → is_sound p (get_or (table which) i d).kind word ≡ true
 field_sound p which w i word d lt is = (is (get_or (table which) i d).kind (kind_here (table which) i d lt)).0
@@ -330,15 +264,15 @@ pub hash_done : (p : List ℕ) (k : Kind) (place : ℕ) (a : Around) (w : ℕ) (
 hash_done p k place a w bs o is read e =
     e ∙ ap (λ (b : List ℕ). first_bad (text_leaf place a b ∷ [])) read ∙ ap first_bad (sym (hash_leaves place a (value_at p Hash w))) ∙ at_kind p k Hash place a w is
 
-pub texts_done : (p : List ℕ) (k : Kind) (place : ℕ) (a : Around) (w : ℕ) (ws : List ℕ) (o : Option Cause) → k ≡ TextArr → AreEntriesOf p Text (value_at p TextArr w) ws → o ≡ first_bad (each_leaf (leaves (shape_of Text) place a) (values_at p Text ws))
+pub texts_done : (p : List ℕ) (k : Kind) (place : ℕ) (a : Around) (w : ℕ) (ws : List ℕ) (o : Option Cause) → k ≡ TextArr → array_at p Text ws ≡ value_at p TextArr w → o ≡ first_bad (each_leaf (leaves (shape_of Text) place a) (values_at p Text ws))
     → o ≡ first_bad (leaves (shape_of k) place a (value_at p k w))
 texts_done p k place a w ws o is read e =
-    e ∙ ap (λ vs. first_bad (each_leaf (leaves (shape_of Text) place a) vs)) (sym read.values) ∙ ap first_bad (sym (texts_leaves place a (value_at p TextArr w))) ∙ at_kind p k TextArr place a w is
+    e ∙ ap (λ vs. first_bad (each_leaf (leaves (shape_of Text) place a) vs)) (sym (entries_in-arr_value (values_at p Text ws)) ∙ ap entries_in read) ∙ ap first_bad (sym (texts_leaves place a (value_at p TextArr w))) ∙ at_kind p k TextArr place a w is
 
-pub objects_done : (p : List ℕ) (k : Kind) (which : Which) (place : ℕ) (a : Around) (w : ℕ) (ws : List ℕ) (o : Option Cause) → k ≡ ObjArr which → AreEntriesOf p (Obj which) (value_at p (ObjArr which) w) ws
+pub objects_done : (p : List ℕ) (k : Kind) (which : Which) (place : ℕ) (a : Around) (w : ℕ) (ws : List ℕ) (o : Option Cause) → k ≡ ObjArr which → array_at p (Obj which) ws ≡ value_at p (ObjArr which) w
     → o ≡ first_bad (each_leaf (leaves (shape_of (Obj which)) place a) (values_at p (Obj which) ws)) → o ≡ first_bad (leaves (shape_of k) place a (value_at p k w))
 objects_done p k which place a w ws o is read e =
-    e ∙ ap (λ vs. first_bad (each_leaf (leaves (shape_of (Obj which)) place a) vs)) (sym read.values) ∙ ap first_bad (sym (objects_leaves which place a (value_at p (ObjArr which) w))) ∙ at_kind p k (ObjArr which) place a w is
+    e ∙ ap (λ vs. first_bad (each_leaf (leaves (shape_of (Obj which)) place a) vs)) (sym (entries_in-arr_value (values_at p (Obj which) ws)) ∙ ap entries_in read) ∙ ap first_bad (sym (objects_leaves which place a (value_at p (ObjArr which) w))) ∙ at_kind p k (ObjArr which) place a w is
 
 pub object_done : (p : List ℕ) (k : Kind) (which : Which) (place : ℕ) (a inside : Around) (w : ℕ) (o : Option Cause) → k ≡ Obj which → inside ≡ inside_of (schema_number which) a (value_at p (Obj which) w)
     → o ≡ first_bad (field_leaves (shapes_of (table which)) (100 * schema_number which + 1) inside (entries_in (value_at p (Obj which) w))) → o ≡ first_bad (leaves (shape_of k) place a (value_at p k w))

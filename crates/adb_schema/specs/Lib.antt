@@ -1,4 +1,5 @@
 pub mod Schema
+pub mod Listed
 pub mod Rank
 pub mod Walk
 pub mod Views

@@ -1,6 +1,6 @@
 -- The rules of the texts and numbers of a container, each at its place, and the first that is broken. A place is 100
 -- times the number of a table plus that of a field.
-use Rattle.std.specs.Prelude.{◌≡◌, ℕ, ◌+◌, ◌*◌, ◌<◌, ◌==◌, nat_lt, Bool, true, false, not, ◌&&◌, ◌||◌, if◌then◌else◌, List, [], ◌∷◌, ◌++◌, length, slice_get, Option, Some, None}
+use Rattle.std.specs.Prelude.{◌≡◌, ℕ, ◌+◌, ◌*◌, ◌<◌, ◌==◌, nat_lt, Bool, true, false, not, ◌&&◌, if◌then◌else◌, List, [], ◌∷◌, ◌++◌, length, slice_get, Option, Some, None}
 use Rattle.std.specs.List.{list_all}
 use Rattle.version_core.specs.Order.{is_version}
 use Rattle.dep_core.specs.Dependency.{is_dep_name, is_package_name}
@@ -13,7 +13,7 @@ use Rattle.adb_schema.specs.Rules.{is_change_name, is_digest_length, is_digest_l
 use Rattle.adb_schema.specs.Schema.{schema_number, shape_of}
 use Rattle.adb_schema.specs.Views.{entries_in, entry_in, int_in, text_in}
 use Rattle.adb_schema.specs.declared.schema.Which.{Which}
-use Rattle.adb_schema.specs.declared.schema.Which.TheVariants.{Dep, Acl, PkgInfo, File, Dir, Scripts, Package, Index, Idb, Intent}
+use Rattle.adb_schema.specs.declared.schema.Which.TheVariants.{File, Dir, Index, Idb}
 use Rattle.adb_schema.specs.declared.schema.Kind.TheVariants.{Obj}
 
 -- what stands around a value, as far as a rule looks at it: the table of the container's root, the name of the folder, and

@@ -23,6 +23,7 @@ abbrev pub count_of : Plains → ℕ
 count_of none = 0
 count_of (more v vs) = suc (count_of vs)
 
+-- the entries of an array or of an object; Null has none, so that each field of it is Null
 abbrev pub entries_in : Plain → Plains
 entries_in null = none
 entries_in (int n) = none

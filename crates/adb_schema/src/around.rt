@@ -9,11 +9,11 @@ ghost use Rattle.adb_schema.specs.Texts.{at_root, inside_of, is_file_hash, is_li
 ghost use Rattle.adb_schema.specs.declared.schema.Kind.TheVariants as Kinds;
 ghost use Rattle.adb_schema.specs.declared.schema.Which.TheVariants as Tables;
 
+use crate::fields::{int_field, text_field};
 use crate::place;
 use crate::reserved::is_reserved_file;
 use crate::rules::*;
 use crate::schema::Which;
-use crate::words::{field_word, int_word, text_word};
 use adb_view::{Adb, Val};
 use dep_core::{is_dep_name, is_package_name};
 
@@ -48,7 +48,7 @@ impl<'a> Around<'a> {
         match which {
             Which::Dir => Around {
                 root: self.root,
-                folder: text_word(adb, field_word(adb, Which::Dir, object, 0)),
+                folder: text_field(adb, Which::Dir, object, 0),
                 has_contents: self.has_contents,
             },
             Which::File => Around {
@@ -104,8 +104,8 @@ fn has_contents(adb: Adb<'_>, file: Val) -> bool
     requires { is_sound (payload_of adb) (Kinds.Obj Tables.File) file ≡ true }
     ensures { result ≡ is_with_contents (value_at (payload_of adb.entry) (Kinds.Obj Tables.File) file) }
 {
-    let target = text_word(adb, field_word(adb, Which::File, file, 5));
-    target.is_empty() && int_word(adb, field_word(adb, Which::File, file, 2)) > 0
+    let target = text_field(adb, Which::File, file, 5);
+    target.is_empty() && int_field(adb, Which::File, file, 2) > 0
 }
 
 /// Whether the number keeps the rule of its place.

@@ -3,10 +3,16 @@ ghost use Rattle.std.specs.Prelude.{◌≡◌, ◌↔◌, ◌≤◌, ℕ, true, 
 ghost use Rattle.adb_view.specs.Plain.{Shape, object, plain_of};
 ghost use Rattle.adb_view.specs.Visits.{visits};
 ghost use Rattle.base_core.specs.declared.cause.Cause.{Cause};
+ghost use Rattle.adb_schema.specs.Listed.{listed, as_in_the_tables};
 ghost use Rattle.adb_schema.specs.Schema.{table, schema_number, shape_of, shapes_of};
 ghost use Rattle.adb_schema.specs.Walk.{LIMIT, shape_fault, IsFirstFault};
 ghost use Rattle.adb_schema.specs.declared.schema.Which.{Which};
 ghost use Rattle.adb_schema.specs.declared.schema.Kind.TheVariants as Kinds;
+
+/// The tables have the numbers, names and kinds that the formats list.
+pub fn tables_are_as_listed()
+    ensures { (which : Which) → as_in_the_tables which ≡ listed which }
+{}
 
 /// Each object has the fields of its table, however deep it stands.
 pub fn tables_are_unrolled_whole()

@@ -1,8 +1,9 @@
-//! The tables of the containers (apk-v3(5)): which fields each schema has, the walk that tests a payload against
-//! them, and views of what was tested, whose methods cannot fail.
+//! The schemas of the containers (apk-v3(5)): ten tables of fields, the walks that test a payload against them, and
+//! views of a tested payload, one method a field, which cannot fail.
 //!
-//! The contracts cite `Schema` (the tables, and the shapes that they give), `Walk` (the first fault of a walk) and
-//! `Views` (fields of plain values) of `specs/`.
+//! `shape` makes a `Shaped` of a payload, `Checked::new` a `Checked` of that, and its four views lend from the payload.
+//! The contracts cite `Schema` and `Listed` (the tables, and the shapes that they give), `Walk` (the first fault of a
+//! walk), `Views` (fields of plain values), `Shown` (the plain value that a view shows) and `Checked` of `specs/`.
 #![tactic(auto)]
 
 mod around;
@@ -18,6 +19,7 @@ mod opened;
 mod place;
 mod read;
 mod repeated_kinds;
+mod repeated_laws;
 mod repeated_lists;
 mod repeated_names;
 mod reserved;
@@ -36,14 +38,24 @@ pub use dependency::DepView;
 pub use folder::{AclView, DirInfo, FileInfo};
 pub use info::PkgInfo;
 pub use laws::{
-    tables_are_unrolled_whole, the_first_faulty_visit_is_told, values_of_few_visits_have_no_fault,
+    tables_are_as_listed, tables_are_unrolled_whole, the_first_faulty_visit_is_told,
+    values_of_few_visits_have_no_fault,
 };
 pub use list::{Kinded, List, View};
 pub use read::{IDB_WORD, INDEX_WORD, INTENT_WORD, PACKAGE_WORD, ReadFault, read_adb, schema_word};
 pub use repeated_kinds::repeated;
+pub use repeated_laws::{
+    the_first_pair_in_one_of_several_lists_is_told, the_first_pair_of_a_list_is_told,
+    the_first_pair_of_two_lists_is_told,
+};
 pub use reserved::{is_reserved, is_reserved_file, is_stage_name};
 pub use roots::{IdbView, IndexView, IntentView};
 pub use schema::{Field, Kind, Label, Schema, Which, fields_of};
 pub use tables::{ACL, DEP, DIR, FILE, IDB, INDEX, INTENT, PACKAGE, PKGINFO, SCRIPTS};
 pub use text_laws::first_bad_text_is_told;
 pub use walk::{shape, walk_table};
+
+#[cfg(test)]
+mod tests;
+#[cfg(test)]
+mod view_tests;

@@ -6,16 +6,18 @@ ghost use Rattle.adb_view.specs.Gives.{cause_of};
 ghost use Rattle.adb_schema.specs.Schema.{schema_number, shape_of, shapes_of, table};
 ghost use Rattle.adb_schema.specs.Fields.{are_sound, values_at};
 ghost use Rattle.adb_schema.specs.Views.{entries_in, is_sound, value_at};
-ghost use Rattle.adb_schema.specs.Around.{around_of, AreEntriesOf};
+ghost use Rattle.adb_schema.specs.Around.{around_of};
 ghost use Rattle.adb_schema.specs.Texts.{each_leaf, field_leaves, first_bad, leaves, number_rule, text_rule, number_leaf, text_leaf};
 ghost use Rattle.std.specs.Prelude.{[], ◌∷◌};
 ghost use Rattle.adb_schema.specs.declared.schema.Kind.TheVariants as Kinds;
 
-use crate::checked::{Checked, Shaped};
 use crate::around::{Around, keeps_number_rule, keeps_text_rule};
+use crate::checked::{Checked, Shaped};
 use crate::schema::{Kind, Which, fields_of};
 use crate::tables::*;
-use crate::words::{field_word, hash_word, int_word, text_word};
+use crate::words::{
+    entry_word, field_word, hash_word, int_word, objects_word, text_word, texts_word,
+};
 use adb_view::{Adb, Arr, Val};
 use base_core::Cause;
 
@@ -59,12 +61,12 @@ fn check_value<'a>(
         Kind::Text => check_text(place, &around, text_word(adb, word)),
         Kind::Hash => check_text(place, &around, hash_word(adb, word)),
         Kind::TextArr => {
-            let entries = text_entries(adb, word);
-            check_entries(adb, Kind::Text, place, around, entries)
+            let texts = texts_word(adb, word);
+            check_entries(adb, Kind::Text, place, around, texts)
         }
         Kind::ObjArr(which) => {
-            let entries = object_entries(adb, which, word);
-            check_entries(adb, Kind::Obj(which), place, around, entries)
+            let objects = objects_word(adb, which, word);
+            check_entries(adb, Kind::Obj(which), place, around, objects)
         }
         Kind::Obj(which) => {
             let inside = around.inside(adb, which, word);
@@ -86,7 +88,7 @@ fn check_entries<'a>(
     ensures { cause_of result ≡ first_bad (each_leaf (leaves (shape_of kind) place (around_of around.entry)) (values_at (payload_of adb.entry) kind (array_entries entries.entry))) }
 {
     for i in 0..entries.len() {
-        check_value(adb, kind, place, around, entries.get(i + 1))?;
+        check_value(adb, kind, place, around, entry_word(entries, i))?;
     }
     Ok(())
 }
@@ -131,30 +133,6 @@ fn check_text(place: u16, around: &Around<'_>, bytes: &[u8]) -> Result<(), Cause
     }
 }
 
-/// The words of a sound array of texts.
-#[tactic(auto, using(crate::proofs::TextSteps::texts_run))]
-fn text_entries<'a>(adb: Adb<'a>, array: Val) -> Arr<'a>
-    requires { is_sound (payload_of adb) Kinds.TextArr array ≡ true }
-    ensures { AreEntriesOf (payload_of adb.entry) Kinds.Text (value_at (payload_of adb.entry) Kinds.TextArr array) (array_entries result) }
-{
-    match adb.arr(array) {
-        Ok(entries) => entries,
-        Err(_) => unreachable!(),
-    }
-}
-
-/// The words of a sound array of objects.
-#[tactic(auto, using(crate::proofs::TextSteps::objects_run))]
-fn object_entries<'a>(adb: Adb<'a>, which: Which, array: Val) -> Arr<'a>
-    requires { is_sound (payload_of adb) (Kinds.ObjArr which) array ≡ true }
-    ensures { AreEntriesOf (payload_of adb.entry) (Kinds.Obj which) (value_at (payload_of adb.entry) (Kinds.ObjArr which) array) (array_entries result) }
-{
-    match adb.arr(array) {
-        Ok(entries) => entries,
-        Err(_) => unreachable!(),
-    }
-}
-
 /// The number of a table.
 fn number_of(which: Which) -> u16
     ensures value { result ≡ schema_number which }
@@ -173,3 +151,6 @@ fn number_of(which: Which) -> u16
         Which::Intent => INTENT.number,
     }
 }
+
+#[cfg(test)]
+mod tests;

@@ -1,11 +1,13 @@
 //! The walk over a payload's values that tests their shape.
-ghost use Rattle.std.specs.Prelude.{◌≡◌, ◌≤◌, IfOk, true};
+ghost use Rattle.std.specs.Prelude.{◌≡◌, ◌≤◌, ◌+◌, IfOk, true, is_some, length};
+ghost use Rattle.adb_view.specs.Plain.{plains_of};
+ghost use Rattle.adb_view.specs.Visits.{field_visits};
 ghost use Rattle.adb_view.specs.Adb.{payload_of};
 ghost use Rattle.adb_view.specs.Entries.{array_entries};
 ghost use Rattle.adb_view.specs.Gives.{cause_of};
 ghost use Rattle.adb_view.specs.Head.{root_of};
 ghost use Rattle.adb_schema.specs.Schema.{table, shape_of, shapes_of};
-ghost use Rattle.adb_schema.specs.Walk.{walk, fields_walk, each_walk, shape_fault, LIMIT};
+ghost use Rattle.adb_schema.specs.Walk.{walk, fields_walk, each_walk, first_fault_from, shape_fault, LIMIT};
 ghost use Rattle.adb_schema.specs.Checked.{adb_of, table_of};
 ghost use Rattle.adb_schema.specs.declared.schema.Kind.TheVariants as Kinds;
 
@@ -97,7 +99,13 @@ fn walk_fields(adb: Adb<'_>, fields: &[Field], before: u32, entries: Arr<'_>) ->
     Ok(count)
 }
 
-/// Visits the entries of an object of this table, whatever the table.
+/// Visits the entries of an object of this table, whatever the table, behind so many visits, and answers how many
+/// there were then.
+///
+/// # Errors
+///
+/// The first fault, as `shape` tells it.
+#[tactic(auto, using(crate::proofs::ShapeWalk::fields_refused, crate::proofs::ShapeWalk::fields_passed, crate::proofs::ShapeWalk::fields_counted, crate::proofs::ShapeWalk::fields_found))]
 pub fn walk_table<const N: usize>(
     adb: Adb<'_>,
     schema: &Schema<N>,
@@ -105,7 +113,9 @@ pub fn walk_table<const N: usize>(
     entries: Arr<'_>,
 ) -> Result<u32, Cause>
     requires { before ≤ LIMIT }
-    ensures exact { result ≡ fields_walk (payload_of adb.entry) (shapes_of schema.now.fields) before (array_entries entries.entry) }
+    ensures exact { cause_of result ≡ first_fault_from (payload_of adb.entry) (before + 1) (field_visits (payload_of adb.entry) (shapes_of schema.now.fields) (array_entries entries.entry)) }
+    ensures count { IfOk result (λ n. n ≡ before + length (field_visits (payload_of adb.entry) (shapes_of schema.now.fields) (array_entries entries.entry))) }
+    ensures value { IfOk result (λ n. is_some (plains_of (payload_of adb.entry) (shapes_of schema.now.fields) (array_entries entries.entry)) ≡ true) }
 {
     walk_fields(adb, &schema.fields, before, entries)
 }

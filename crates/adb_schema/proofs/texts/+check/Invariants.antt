@@ -1,4 +1,4 @@
-use Rattle.std.proofs.Common.{◌≡◌, ℕ, ◌+◌, ◌*◌, true, drop}
+use Rattle.std.proofs.Common.{◌≡◌, ◌+◌, ◌*◌, true, drop}
 use Rattle.adb_view.specs.Adb.{payload_of}
 use Rattle.adb_view.specs.Entries.{array_entries}
 use Rattle.adb_schema.specs.Schema.{schema_number, table, shape_of, shapes_of}
