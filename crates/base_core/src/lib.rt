@@ -20,7 +20,7 @@ pub use laws::{
     a_folder_has_one_listing, a_map_has_one_list_of_names, files_have_one_list_of_names,
     order_outlasts_a_crash, the_files_as_read_have_the_names_as_read,
 };
-pub use name::{Name, Names};
+pub use name::{Name, Names, is_name};
 pub use sink::{Sink, SinkFault};
 pub use text::{Text, Words};
 pub use tree::{Disk, Tree, TreeFault};

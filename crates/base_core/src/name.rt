@@ -55,8 +55,9 @@ impl Name {
     }
 }
 
+/// Whether the bytes are a name.
 #[tactic(auto, unfolding(crate::specs::Name::is_name))]
-fn is_name(bytes: &[u8]) -> bool
+pub fn is_name(bytes: &[u8]) -> bool
     ensures { result ≡ is_name bytes.now }
 {
     if bytes.is_empty() || bytes.len() > 1024 {

@@ -1,0 +1,15 @@
+pub mod TableShapes
+pub mod ShapeWalk
+pub mod WalkSteps
+pub mod FieldReads
+pub mod Members
+pub mod FirstPair
+pub mod Compared
+pub mod NameLists
+pub mod Worked
+pub mod Below
+pub mod TextSteps
+pub mod FirstBad
+pub mod FirstKinds
+pub mod FewTexts
+pub mod RepeatedRows

@@ -1,0 +1,27 @@
+-- One list more, and none behind the last.
+use Rattle.std.proofs.Common.{ℕ, ◌≡◌, ◌+◌, ◌<◌, ◌≤◌, ◌++◌, ◌∷◌, [], List, Option, refl, map, drop, length, arith, ap, sym, ◌∙◌}
+use Rattle.std.specs.List.{flat_map}
+use Rattle.std.specs.Vec.{vec_len}
+use Rattle.adb_view.specs.Adb.{payload_of}
+use Rattle.adb_view.specs.Entries.{array_entries}
+use Rattle.adb_view.specs.Plain.{Plain}
+use Rattle.adb_schema.specs.Views.{value_at, text_in, entries_in, entry_in, count_of}
+use Rattle.adb_schema.specs.Pairs.{Named, earlier, earliest, first_pair}
+use Rattle.adb_schema.specs.Repeated.{numbered_from, twice, twice_in_one, name_of, list_of, files_in, folders_in, folder_twice, repeated_at, entries_at}
+use Rattle.adb_schema.specs.NamedTexts.{named_by, plains_at}
+use Rattle.adb_schema.specs.declared.repeated_names.Pair.{Pair}
+use Rattle.adb_schema.specs.declared.schema.Kind.TheVariants as Kinds
+use Rattle.adb_schema.specs.declared.schema.Which.TheVariants as Tables
+use Rattle.adb_schema.proofs.FirstKinds.{one_first, no_first, several_each}
+use Rattle.adb_schema.proofs.repeated_kinds.files_twice.Goals as goal
+
+pub loop-i-preserved : goal.loop-i-preserved
+loop-i-preserved c =
+    let g : Plain → Option Pair = λ pkg. twice_in_one (map (λ folder. map name_of (files_in folder)) (folders_in pkg)) in
+    one_first (payload_of c.args.adb) (Kinds.Obj Tables.Package) g (array_entries c.args.packages) c.loop-i.i c.entry_word.result c.loop-i.first c.in_ok-file_twice.field-0 _ _ c.requires (grind arith) c.entry_word.ensures c.in_ok-file_twice.ensures c.earlier-first.ensures c.loop-i.invariant
+
+pub returns : goal.returns
+returns c =
+    let g : Plain → Option Pair = λ pkg. twice_in_one (map (λ folder. map name_of (files_in folder)) (folders_in pkg)) in
+    no_first (payload_of c.args.adb) (Kinds.Obj Tables.Package) g (array_entries c.args.packages) c.loop-i.i c.loop-i.first _ c.requires (grind arith) c.loop-i.invariant
+    ∙ several_each (λ pkg. map (λ folder. map name_of (files_in folder)) (folders_in pkg)) (plains_at (payload_of c.args.adb) (Kinds.Obj Tables.Package) (array_entries c.args.packages))

@@ -1,0 +1,27 @@
+-- One path more, and none behind the last.
+use Rattle.std.proofs.Common.{ℕ, ◌≡◌, ◌+◌, ◌<◌, ◌≤◌, ◌++◌, ◌∷◌, [], List, map, drop, length, arith, ap, sym, ◌∙◌}
+use Rattle.std.specs.List.{flat_map}
+use Rattle.std.specs.Vec.{vec_len}
+use Rattle.adb_view.specs.Adb.{payload_of}
+use Rattle.adb_view.specs.Entries.{array_entries}
+use Rattle.adb_view.specs.Plain.{Plain}
+use Rattle.adb_schema.specs.Views.{value_at, text_in}
+use Rattle.adb_schema.specs.Pairs.{Named}
+use Rattle.adb_schema.specs.Repeated.{numbered_from, name_of, package_name, paths_under, paths_in, all_at, by_list_from}
+use Rattle.adb_schema.specs.Reserved.{path_of}
+use Rattle.adb_schema.specs.NamedTexts.{named_by, named_at, plains_at}
+use Rattle.adb_schema.specs.declared.schema.Kind.TheVariants as Kinds
+use Rattle.adb_schema.specs.declared.schema.Which.TheVariants as Tables
+use Rattle.adb_schema.proofs.NameLists.{one_piece, no_piece, under_folder}
+use Rattle.adb_schema.proofs.repeated_lists.add_paths_under.Goals as goal
+
+pub loop-i-preserved : goal.loop-i-preserved
+loop-i-preserved c =
+    let piece : Plain → List Named = λ file. named_at (path_of c.text_field-name.result.now (name_of file)) c.args.position ∷ [] in
+    one_piece (payload_of c.args.adb) (Kinds.Obj Tables.File) piece (array_entries c.objects_field-files.result) c.loop-i.i c.entry_word.result _ _ _ c.objects_field-files.ensures.sound (grind arith) c.entry_word.ensures (c.in_ok-add_path.ensures ∙ ap (λ (x : List ℕ). map named_by c.loop-i.paths.items ++ (named_at (path_of c.text_field-name.result.now x) c.args.position ∷ [])) c.text_field-file.ensures) c.loop-i.invariant
+
+pub returns : goal.returns
+returns c =
+    let piece : Plain → List Named = λ file. named_at (path_of c.text_field-name.result.now (name_of file)) c.args.position ∷ [] in
+    no_piece (payload_of c.args.adb) (Kinds.Obj Tables.File) piece (array_entries c.objects_field-files.result) c.loop-i.i _ _ c.objects_field-files.ensures.sound (grind arith) c.loop-i.invariant
+    ∙ ap (λ (new : List Named). map named_by c.args.paths.now.items ++ new) (under_folder c.args.position c.text_field-name.result.now (value_at (payload_of c.args.adb) (Kinds.Obj Tables.Dir) c.args.folder) _ c.text_field-name.ensures c.objects_field-files.ensures.value)

@@ -1,0 +1,22 @@
+-- One package more, and none behind the last.
+use Rattle.std.proofs.Common.{◌≡◌, ◌+◌, ◌<◌, ◌≤◌, ◌++◌, ◌∷◌, [], List, map, drop, length, arith, ap, sym, ◌∙◌}
+use Rattle.std.specs.List.{flat_map}
+use Rattle.std.specs.Vec.{vec_len}
+use Rattle.adb_view.specs.Adb.{payload_of}
+use Rattle.adb_view.specs.Entries.{array_entries}
+use Rattle.adb_view.specs.Plain.{Plain}
+use Rattle.adb_schema.specs.Views.{value_at, text_in}
+use Rattle.adb_schema.specs.Pairs.{Named}
+use Rattle.adb_schema.specs.Repeated.{numbered_from, name_of, package_name, paths_under, paths_in, all_at, by_list_from}
+use Rattle.adb_schema.specs.Reserved.{path_of}
+use Rattle.adb_schema.specs.NamedTexts.{named_by, named_at, plains_at}
+use Rattle.adb_schema.specs.declared.schema.Kind.TheVariants as Kinds
+use Rattle.adb_schema.specs.declared.schema.Which.TheVariants as Tables
+use Rattle.adb_schema.proofs.NameLists.{one_list, no_list}
+use Rattle.adb_schema.proofs.repeated_lists.all_paths.Goals as goal
+
+pub loop-i-preserved : goal.loop-i-preserved
+loop-i-preserved c = one_list (payload_of c.args.adb) (Kinds.Obj Tables.Package) paths_in (array_entries c.args.packages) c.loop-i.i c.entry_word.result _ _ _ c.requires (grind arith) c.entry_word.ensures c.in_ok-add_paths.ensures c.loop-i.invariant
+
+pub returns : goal.returns
+returns c = no_list (payload_of c.args.adb) (Kinds.Obj Tables.Package) paths_in (array_entries c.args.packages) c.loop-i.i _ _ _ c.requires (grind arith) c.loop-i.invariant

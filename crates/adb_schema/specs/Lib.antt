@@ -1,0 +1,16 @@
+pub mod Schema
+pub mod Listed
+pub mod Rank
+pub mod Walk
+pub mod Views
+pub mod Fields
+pub mod Checked
+pub mod Pairs
+pub mod Repeated
+pub mod NamedTexts
+pub mod Shown
+pub mod Reserved
+pub mod Rules
+pub mod Texts
+pub mod Around
+pub mod Soundness

@@ -1,0 +1,132 @@
+-- The first failed test of a whole container, in the order of the tests.
+use Rattle.std.specs.Prelude.{◌≡◌, ℕ, List, [], take, drop, length, Bool, false, nat_lt, ◌==◌, if◌then◌else◌, Option, Some, None, Result, Ok, Err}
+use Rattle.std.specs.Int.{w32, from_le_bytes}
+use Rattle.base_core.specs.declared.cause.Cause.{Cause}
+use Rattle.base_core.specs.declared.cause.Cause.TheVariants.{Truncated, WrongSchema, DataOrder}
+use Rattle.adb_block.specs.Container.{Piece}
+use Rattle.adb_block.specs.Header.{header_of}
+use Rattle.adb_block.specs.Standing.{start_of}
+use Rattle.adb_block.specs.Reading.{Reading, done, fault, more, reading_of}
+use Rattle.adb_block.specs.declared.block.BlockKind.{BlockKind}
+use Rattle.adb_block.specs.declared.block.BlockKind.TheVariants.{Adb, Signature, Contents}
+use Rattle.adb_view.specs.Head.{head_fault, root_of}
+use Rattle.adb_view.specs.Plain.{Plain}
+use Rattle.adb_schema.specs.Schema.{shape_of}
+use Rattle.adb_schema.specs.Walk.{or_else, shape_fault}
+use Rattle.adb_schema.specs.Views.{value_at}
+use Rattle.adb_schema.specs.Texts.{text_fault}
+use Rattle.adb_schema.specs.Repeated.{repeated_fault}
+use Rattle.adb_schema.specs.declared.schema.Which.{Which}
+use Rattle.adb_schema.specs.declared.schema.Which.TheVariants.{Package, Index, Idb, Intent}
+use Rattle.adb_schema.specs.declared.schema.Kind.TheVariants.{Obj}
+use Rattle.adb_schema.specs.declared.read.TheConstants.{PACKAGE_WORD, INDEX_WORD, IDB_WORD, INTENT_WORD}
+use Rattle.adb_schema.specs.declared.read.ReadFault.{ReadFault}
+use Rattle.adb_schema.specs.declared.read.ReadFault.TheVariants.{Bad, Memory}
+
+-- the schema in the header of a container with this table at its root; other tables are none's root
+abbrev pub schema_word : Which → Option ℕ
+schema_word Package = Some PACKAGE_WORD
+schema_word Index = Some INDEX_WORD
+schema_word Idb = Some IDB_WORD
+schema_word Intent = Some INTENT_WORD
+schema_word which = None
+
+-- ---- the first block
+
+abbrev pub root_value : Which → List ℕ → Plain
+root_value which payload = value_at payload (Obj which) (root_of payload)
+
+-- the head, the shape, the texts, and names that stand twice
+abbrev pub payload_fault : Which → List ℕ → Option Cause
+payload_fault which payload =
+    or_else (head_fault payload)
+    (or_else (shape_fault payload (shape_of (Obj which)) (root_of payload))
+    (or_else (text_fault which (root_value which payload))
+    (repeated_fault which (root_value which payload))))
+
+-- ---- what stands behind it
+
+-- the two numbers that contents begin with: the positions of the folder and of the file in it
+abbrev pub file_pair : List ℕ → ℕ × ℕ
+file_pair payload = (from_le_bytes w32 (take 4 payload), from_le_bytes w32 (take 4 (drop 4 payload)))
+
+-- contents where none are due
+abbrev pub undue : List ℕ → ℕ → Cause
+undue payload at = if nat_lt (length payload) 8 then Truncated at else DataOrder (0, 0) (file_pair payload)
+
+abbrev pub block_fault : BlockKind → List ℕ → ℕ → Option Cause
+block_fault Contents payload at = Some (undue payload at)
+block_fault kind payload at = None
+
+-- the framing of each further block, and that it holds no contents
+unfoldable pub further_fault : Reading → Option Cause
+further_fault done = None
+further_fault (fault c) = Some c
+further_fault (more b at r) = or_else (block_fault b.kind b.payload at) (further_fault r)
+
+-- a package may have contents, which are a test of their own
+abbrev pub rest_fault : Which → Reading → Option Cause
+rest_fault Package r = None
+rest_fault which r = further_fault r
+
+-- ---- all tests in order
+
+abbrev pub is_wanted : Option ℕ → ℕ → Bool
+is_wanted (Some word) schema = word == schema
+is_wanted None schema = false
+
+abbrev pub schema_fault : Which → ℕ → Option Cause
+schema_fault which schema = if is_wanted (schema_word which) schema then None else Some (WrongSchema schema)
+
+-- the first block, and by its value what stands behind it
+abbrev pub blocks_fault : (Plain → Reading → Option Cause) → Which → Reading → Option Cause
+blocks_fault rest which done = None
+blocks_fault rest which (fault c) = Some c
+blocks_fault rest which (more b at r) = or_else (payload_fault which b.payload) (rest (root_value which b.payload) r)
+
+abbrev pub file_fault : (Plain → Reading → Option Cause) → Which → List ℕ → Result ℕ Cause → Option Cause
+file_fault rest which file (Err c) = Some c
+file_fault rest which file (Ok schema) = or_else (schema_fault which schema) (blocks_fault rest which (reading_of (start_of schema file)))
+
+-- with a test of what stands behind the first block
+abbrev pub fault_with : (Plain → Reading → Option Cause) → Which → List ℕ → Option Cause
+fault_with rest which file = file_fault rest which file (header_of file)
+
+-- the first failed test of a file that is to be a container of this table; of a package, but for the contents behind its first block
+unfoldable pub first_fault : Which → List ℕ → Option Cause
+first_fault which file = fault_with (λ v r. rest_fault which r) which file
+
+abbrev pub IsSound : Which → List ℕ → Type 0
+IsSound which file = first_fault which file ≡ None
+
+-- ---- what is read
+
+abbrev pub first_payload : Reading → List ℕ
+first_payload done = []
+first_payload (fault c) = []
+first_payload (more b at r) = b.payload
+
+abbrev pub payload_behind : List ℕ → Result ℕ Cause → List ℕ
+payload_behind file (Ok schema) = first_payload (reading_of (start_of schema file))
+payload_behind file (Err c) = []
+
+-- the payload of a file's first block
+unfoldable pub payload_in : List ℕ → List ℕ
+payload_in file = payload_behind file (header_of file)
+
+-- a refusal tells what there is to tell
+abbrev pub IsReadFault : ReadFault → Option Cause → Type 0
+IsReadFault (Bad cause) told = told ≡ Some cause
+IsReadFault Memory told = Unit {0}
+
+-- the first block passed its tests, and the reader stands behind it
+abbrev pub IsBehindFirst : Which → List ℕ → Reading → Reading → Type 0
+IsBehindFirst which payload done later = ⊥
+IsBehindFirst which payload (fault c) later = ⊥
+IsBehindFirst which payload (more b at r) later = (payload ≡ b.payload) × (payload_fault which b.payload ≡ None) × (r ≡ later)
+
+-- why the first block is refused
+abbrev pub block_refused : Which → Reading → Option Cause
+block_refused which done = None
+block_refused which (fault c) = Some c
+block_refused which (more b at r) = payload_fault which b.payload

@@ -1,0 +1,211 @@
+//! The reading of a whole container.
+
+ghost use Rattle.std.specs.Prelude.{◌≡◌, ◌≤◌, None, Some, length, IfOk, IfErr};
+ghost use Rattle.adb_block.specs.Reading.{reading_of};
+ghost use Rattle.adb_view.specs.Adb.{payload_of};
+ghost use Rattle.adb_view.specs.Gives.{cause_of};
+ghost use Rattle.adb_schema.specs.Checked.{adb_of, value_of, which_of};
+ghost use Rattle.adb_schema.specs.Soundness.{block_fault, block_refused, file_pair, first_fault, further_fault, payload_fault, is_wanted, payload_in, rest_fault, root_value, schema_word, undue, IsBehindFirst, IsReadFault};
+
+use crate::checked::Checked;
+use crate::repeated_kinds::repeated;
+use crate::schema::Which;
+use crate::walk::shape;
+use adb_block::{Block, BlockKind, Blocks};
+use adb_view::Adb;
+use base_core::Cause;
+use std::alloc::{AllocError, Global};
+use thiserror::Error;
+
+/// `pckg`, the schema of a package.
+pub const PACKAGE_WORD: u32 = 0x676b_6370;
+
+/// `indx`, the schema of an index.
+pub const INDEX_WORD: u32 = 0x7864_6e69;
+
+/// `idb` and a zero byte, the schema of an installed database.
+pub const IDB_WORD: u32 = 0x0062_6469;
+
+/// `intt`, the schema of an intent.
+pub const INTENT_WORD: u32 = 0x7474_6e69;
+
+/// Why a container is not read.
+#[derive(Clone, Copy, Debug, PartialEq, Eq, Drop, Error)]
+pub enum ReadFault {
+    /// The first test that failed.
+    #[error("bad container")]
+    Bad(Cause),
+    /// There was no memory.
+    #[error("out of memory")]
+    Memory,
+}
+
+impl From<Cause> for ReadFault {
+    ghost use Rattle.std.specs.Prelude.{◌≡◌};
+    ghost use Rattle.adb_schema.specs.declared.read.ReadFault.TheVariants.{Bad};
+
+    ghost from_gives = { λ cause fault. fault ≡ Bad cause };
+
+    fn from(cause: Cause) -> ReadFault {
+        ReadFault::Bad(cause)
+    }
+}
+
+impl From<AllocError> for ReadFault {
+    ghost use Rattle.std.specs.Prelude.{◌≡◌};
+    ghost use Rattle.adb_schema.specs.declared.read.ReadFault.TheVariants.{Memory};
+
+    ghost from_gives = { λ _ fault. fault ≡ Memory };
+
+    fn from(_: AllocError) -> ReadFault {
+        ReadFault::Memory
+    }
+}
+
+/// The schema in the header of a container with this table at its root, which is one of four.
+pub fn schema_word(which: Which) -> Option<u32>
+    ensures { result ≡ schema_word which }
+{
+    match which {
+        Which::Package => Some(PACKAGE_WORD),
+        Which::Index => Some(INDEX_WORD),
+        Which::Idb => Some(IDB_WORD),
+        Which::Intent => Some(INTENT_WORD),
+        _ => None,
+    }
+}
+
+/// Reads a container (apk-v3(5)) with this table at its root, and tests it in this order: the file's header, its schema,
+/// the first block's framing, its head, its shape, its texts, and names that stand twice; then, but for a package, the
+/// framing of the further blocks, and that none of them holds contents.
+///
+/// # Errors
+///
+/// `Bad` with the cause of the first test that fails, or `Memory`. Every schema is wrong for a table that is no root.
+#[tactic(auto, unfolding(crate::specs::Soundness::first_fault, crate::specs::Soundness::payload_in))]
+pub fn read_adb<'a>(
+    alloc: Global,
+    bytes: &'a [u8],
+    which: Which,
+) -> Result<Checked<'a>, ReadFault>
+    ensures bad { IfErr result (λ fault. IsReadFault fault (first_fault which bytes.entry.now)) }
+    ensures sound { IfOk result (λ _. first_fault which bytes.entry.now ≡ None) }
+    ensures table { IfOk result (λ checked. which_of checked ≡ which) }
+    ensures payload { IfOk result (λ checked. payload_of (adb_of checked.shaped) ≡ payload_in bytes.entry.now) }
+    ensures value { IfOk result (λ checked. value_of checked ≡ root_value which (payload_in bytes.entry.now)) }
+{
+    let mut blocks = Blocks::new(bytes)?;
+    let found = blocks.schema();
+    if !is_wanted(which, found) {
+        return Err(ReadFault::Bad(Cause::WrongSchema { found }));
+    }
+    let checked = read_first(alloc, &mut blocks, which)?;
+    check_rest(&mut blocks, which)?;
+    Ok(checked)
+}
+
+/// Whether a container with this table at its root has this schema in its header.
+fn is_wanted(which: Which, schema: u32) -> bool
+    ensures { result ≡ is_wanted (schema_word which) schema }
+{
+    match schema_word(which) {
+        Some(word) => word == schema,
+        None => false,
+    }
+}
+
+/// Reads the first block.
+fn read_first<'a>(
+    alloc: Global,
+    blocks: &mut Blocks<'a>,
+    which: Which,
+) -> Result<Checked<'a>, ReadFault>
+    requires { blocks.old.last ≡ None }
+    ensures bad { IfErr result (λ fault. IsReadFault fault (block_refused which (reading_of blocks.old))) }
+    ensures table { IfOk result (λ checked. which_of checked ≡ which) }
+    ensures behind { IfOk result (λ checked. IsBehindFirst which (payload_of (adb_of checked.shaped)) (reading_of blocks.old) (reading_of blocks.new)) }
+{
+    match blocks.next()? {
+        Some(block) => check_payload(alloc, block.payload, which),
+        None => unreachable!(),
+    }
+}
+
+/// Tests the payload of the first block.
+fn check_payload<'a>(
+    alloc: Global,
+    payload: &'a [u8],
+    which: Which,
+) -> Result<Checked<'a>, ReadFault>
+    ensures bad { IfErr result (λ fault. IsReadFault fault (payload_fault which payload.entry.now)) }
+    ensures sound { IfOk result (λ _. payload_fault which payload.entry.now ≡ None) }
+    ensures table { IfOk result (λ checked. which_of checked ≡ which) }
+    ensures payload { IfOk result (λ checked. payload_of (adb_of checked.shaped) ≡ payload.entry.now) }
+{
+    let adb = Adb::new(payload)?;
+    let shaped = shape(adb, which)?;
+    let checked = Checked::new(shaped)?;
+    match repeated(alloc, &checked)? {
+        Some(cause) => Err(ReadFault::Bad(cause)),
+        None => Ok(checked),
+    }
+}
+
+/// Reads the blocks behind the first, but for a package.
+fn check_rest(blocks: &mut Blocks<'_>, which: Which) -> Result<(), Cause>
+    ensures { cause_of result ≡ rest_fault which (reading_of blocks.old) }
+{
+    match which {
+        Which::Package => Ok(()),
+        _ => check_further(blocks),
+    }
+}
+
+/// Reads the blocks behind the first, where no contents are due.
+#[tactic(auto, unfolding(crate::specs::Soundness::further_fault))]
+fn check_further(blocks: &mut Blocks<'_>) -> Result<(), Cause>
+    ensures { cause_of result ≡ further_fault (reading_of blocks.old) }
+{
+    loop {
+        let Some(block) = blocks.next()? else {
+            return Ok(());
+        };
+        if let Some(cause) = block_fault(&block) {
+            return Err(cause);
+        }
+    }
+}
+
+/// Why a block may not stand behind the first, if it may not.
+fn block_fault(block: &Block<'_>) -> Option<Cause>
+    ensures { result ≡ block_fault block.now.kind block.now.payload.now block.now.at }
+{
+    match block.kind {
+        BlockKind::Contents => Some(undue(block.payload, block.at)),
+        BlockKind::Adb | BlockKind::Signature => None,
+    }
+}
+
+/// Why contents stand where none are due.
+fn undue(payload: &[u8], at: u64) -> Cause
+    ensures { result ≡ undue payload.now at }
+{
+    if payload.len() < 8 {
+        return Cause::Truncated { at };
+    }
+    Cause::DataOrder {
+        expected: (0, 0),
+        found: file_pair(payload),
+    }
+}
+
+/// The positions of the folder and of the file that contents belong to.
+fn file_pair(payload: &[u8]) -> (u32, u32)
+    requires { 8 ≤ length payload.now }
+    ensures { result ≡ file_pair payload.now }
+{
+    (
+        u32::from_le_bytes([payload[0], payload[1], payload[2], payload[3]]),
+        u32::from_le_bytes([payload[4], payload[5], payload[6], payload[7]]),
+    )
+}
