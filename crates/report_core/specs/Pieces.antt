@@ -1,0 +1,31 @@
+-- The pieces of a text.
+use Rattle.std.specs.Prelude.{ℕ, List, [], ◌∷◌, ◌++◌, Option, Some, None}
+use Rattle.std.specs.Fmt.{decimal}
+use Rattle.hex.specs.Hex.{encode_lower}
+use Rattle.report_core.specs.Texts.{hex_word, digest_bytes, position_text, cause_text}
+use Rattle.report_core.specs.declared.sentence.Sentence.{Sentence}
+use Rattle.base_core.specs.declared.cause.Cause.{Cause}
+use Rattle.report_core.specs.declared.piece.Piece.{Piece}
+use Rattle.report_core.specs.declared.piece.Piece.TheVariants.{Bytes, Number, Word, Hex, Digest, Position, Nothing}
+
+abbrev pub piece_text : Piece → List ℕ
+piece_text (Bytes bytes) = bytes.now
+piece_text (Number number) = decimal number
+piece_text (Word word) = hex_word word
+piece_text (Hex bytes) = encode_lower bytes.now
+piece_text (Digest digest) = encode_lower (digest_bytes digest)
+piece_text (Position folder file) = position_text folder file
+piece_text Nothing = []
+
+-- one behind another
+abbrev pub pieces_text : List Piece → List ℕ
+pieces_text [] = []
+pieces_text (piece ∷ pieces) = piece_text piece ++ pieces_text pieces
+
+-- the text of a cause, if there is one
+abbrev pub cause_part : Option Cause → List ℕ
+cause_part (Some cause) = cause_text cause
+cause_part None = []
+
+abbrev pub sentence_text : Sentence → List ℕ
+sentence_text sentence = pieces_text sentence.pieces ++ cause_part sentence.cause

@@ -1,0 +1,114 @@
+-- The lines of refusals and faults.
+use Rattle.std.specs.Prelude.{ℕ, List, ◌∷◌, [], ◌++◌, ◌==◌, if◌then◌else◌, codes}
+use Rattle.std.specs.Fmt.{decimal}
+use Rattle.std.specs.Int.{w32, to_be_bytes}
+use Rattle.hex.specs.Hex.{encode_lower}
+use Rattle.base_core.specs.declared.cause.Cause.{Cause}
+use Rattle.base_core.specs.declared.cause.Cause.TheVariants.{NotAdb, Compressed, Truncated, BlockOrder, CompatVersion, Outside, WrongKind, WrongSchema, TooLarge, BadText, Repeated, DataOrder, DataSize, HashDiffers}
+use Rattle.base_core.specs.declared.cause.Digest.{Digest}
+use Rattle.base_core.specs.declared.cause.Digest.TheVariants.{Sha1, Sha256, Sha512}
+use Rattle.report_core.specs.declared.refusal.Refusal.{Refusal}
+use Rattle.report_core.specs.declared.refusal.Refusal.TheVariants.{Usage, IntentBad, FileMissing, FileBad, VersionBad, InfoBad, NoDatabase, DatabaseBad, WorldBad, RepositoriesBad, Untrusted, IndexMissing, IndexBad, TooMany, NotInstalled, Unsatisfied, PackageMissing, PackageBad, PackageDiffers, ScriptNeeded, Reserved, PathClash, Owned, TriggerNeeded, ResultTooLarge}
+
+-- eight lower-case hexadecimal digits
+abbrev pub hex_word : ℕ → List ℕ
+hex_word word = encode_lower (to_be_bytes w32 word)
+
+abbrev pub digest_bytes : Digest → List ℕ
+digest_bytes (Sha1 bytes) = bytes
+digest_bytes (Sha256 bytes) = bytes
+digest_bytes (Sha512 bytes) = bytes
+
+-- ---- causes
+
+-- the positions of a folder and of a file in it
+abbrev pub position_text : ℕ → ℕ → List ℕ
+position_text folder file = decimal folder ++ codes "." ++ decimal file
+
+abbrev pub cause_text : Cause → List ℕ
+cause_text NotAdb = codes "not an ADB file"
+cause_text Compressed = codes "compressed ADB file"
+cause_text (Truncated at) = codes "truncated at " ++ decimal at
+cause_text (BlockOrder at) = codes "block out of order at " ++ decimal at
+cause_text CompatVersion = codes "incompatible version"
+cause_text (WrongSchema found) = codes "wrong schema " ++ hex_word found
+cause_text (Outside word) = codes "value " ++ hex_word word ++ codes " points outside"
+cause_text (WrongKind word) = codes "value " ++ hex_word word ++ codes " has the wrong kind"
+cause_text (TooLarge count) = decimal count ++ codes " values are too many"
+cause_text (BadText place) = codes "bad field " ++ decimal place
+cause_text (Repeated place first second) = codes "field " ++ decimal place ++ codes " repeated at " ++ decimal first ++ codes " and " ++ decimal second
+cause_text (DataOrder expected found) = codes "contents " ++ position_text found.0 found.1 ++ codes " where " ++ position_text expected.0 expected.1 ++ codes " was expected"
+cause_text (DataSize wanted found) = codes "contents of " ++ decimal found ++ codes " bytes where " ++ decimal wanted ++ codes " were expected"
+cause_text (HashDiffers wanted found) = codes "hash " ++ encode_lower (digest_bytes found) ++ codes " where " ++ encode_lower (digest_bytes wanted) ++ codes " was expected"
+
+-- ---- refusals
+
+-- what is told of a word
+abbrev pub word_text : ℕ → List ℕ → List ℕ
+word_text place text = codes "word " ++ decimal place ++ codes ": " ++ text
+
+-- what is told of a repository
+abbrev pub repository_text : ℕ → List ℕ → List ℕ
+repository_text number text = codes "repository " ++ decimal number ++ codes ": " ++ text
+
+-- what is told of a version of a package
+abbrev pub package_text : List ℕ → List ℕ → List ℕ → List ℕ
+package_text name version text = name ++ codes "-" ++ version ++ codes ": " ++ text
+
+-- what a package says of itself in a field: its id is told in hexadecimal digits, its name and its version as they are
+abbrev pub field_text : ℕ → List ℕ → List ℕ
+field_text field bytes = if field == 3 then encode_lower bytes else bytes
+
+-- a script by its number; a number that is no script's is told as such
+abbrev pub script_name : ℕ → List ℕ
+script_name script =
+    if script == 1 then codes "trigger" else
+    if script == 2 then codes "pre-install" else
+    if script == 3 then codes "post-install" else
+    if script == 4 then codes "pre-deinstall" else
+    if script == 5 then codes "post-deinstall" else
+    if script == 6 then codes "pre-upgrade" else
+    if script == 7 then codes "post-upgrade" else decimal script
+
+abbrev pub refusal_text : Refusal → List ℕ
+refusal_text (Usage place) = codes "usage error at word " ++ decimal place
+refusal_text (IntentBad cause) = codes "lib/apk/intent: " ++ cause_text cause
+refusal_text (FileMissing place) = word_text place (codes "no such file")
+refusal_text (FileBad place cause) = word_text place (cause_text cause)
+refusal_text (VersionBad place) = word_text place (codes "invalid version")
+refusal_text (InfoBad place) = word_text place (codes "invalid package information")
+refusal_text NoDatabase = codes "no package database"
+refusal_text (DatabaseBad cause) = codes "package database: " ++ cause_text cause
+refusal_text (WorldBad line) = codes "etc/apk/world: line " ++ decimal line
+refusal_text (RepositoriesBad line) = codes "etc/apk/repositories: line " ++ decimal line
+refusal_text Untrusted = codes "repositories need --allow-untrusted"
+refusal_text (IndexMissing repository) = repository_text repository (codes "no such index")
+refusal_text (IndexBad repository cause) = repository_text repository (cause_text cause)
+refusal_text (TooMany count) = decimal count ++ codes " candidates are too many"
+refusal_text (NotInstalled place) = word_text place (codes "not installed")
+refusal_text Unsatisfied = codes "unable to select packages"
+refusal_text (PackageMissing name version) = package_text name version (codes "no such package file")
+refusal_text (PackageBad name version cause) = package_text name version (cause_text cause)
+refusal_text (PackageDiffers name version field wanted found) = package_text name version (codes "differs from its index: " ++ field_text field wanted ++ codes ", " ++ field_text field found)
+refusal_text (ScriptNeeded name script) = name ++ codes ": script " ++ script_name script ++ codes " needs --no-scripts"
+refusal_text (Reserved path) = path ++ codes ": reserved name"
+refusal_text (PathClash path other) = path ++ codes ": is a folder of " ++ other
+refusal_text (Owned path first second) = path ++ codes ": " ++ first ++ codes " and " ++ second ++ codes " both have it"
+refusal_text (TriggerNeeded name) = name ++ codes ": its trigger needs --no-scripts"
+refusal_text (ResultTooLarge bytes values) = codes "result too large: " ++ decimal bytes ++ codes " bytes, " ++ decimal values ++ codes " values"
+
+-- ---- lines
+
+abbrev pub error_line : List ℕ → List ℕ
+error_line text = codes "ERROR: " ++ text ++ codes "\n"
+
+abbrev pub refusal_line : Refusal → List ℕ
+refusal_line refusal = error_line (refusal_text refusal)
+
+-- a fault of the tree
+abbrev pub tree_line : List ℕ
+tree_line = error_line (codes "the tree failed")
+
+-- want of memory
+abbrev pub memory_line : List ℕ
+memory_line = error_line (codes "out of memory")

@@ -1,0 +1,74 @@
+use base_core::{Cause, Name, Text};
+
+/// Why a command is refused, in the order in which it is tested. `place` counts the words of the command line from 1,
+/// without the program's name. `line` and `repository` count from 1 too.
+#[derive(Drop)]
+pub enum Refusal {
+    /// The words are outside the grammar (apk(8)): the first wrong word, or the place behind the last where one is
+    /// missing.
+    Usage { place: u32 },
+    /// The intent of a change that was cut off is no sound container.
+    IntentBad { cause: Cause },
+    /// The file that this word names is absent.
+    FileMissing { place: u32 },
+    /// The file that this word names fails a test of containers (apk-v3(5)).
+    FileBad { place: u32, cause: Cause },
+    /// This word is no version (apk-package(5)).
+    VersionBad { place: u32 },
+    /// This word is no information of a package that may be given.
+    InfoBad { place: u32 },
+    /// The root has no package database.
+    NoDatabase,
+    /// The package database is no sound container.
+    DatabaseBad { cause: Cause },
+    /// The world (apk-world(5)) has an entry on this line that is no dependency, or that repeats a name.
+    WorldBad { line: u64 },
+    /// This line of the list of repositories names none.
+    RepositoriesBad { line: u64 },
+    /// There is a repository, and `--allow-untrusted` is not given.
+    Untrusted,
+    /// The index of this repository is absent.
+    IndexMissing { repository: u64 },
+    /// The index of this repository is no sound container.
+    IndexBad { repository: u64, cause: Cause },
+    /// There are more packages to choose from than can be read: at least so many.
+    TooMany { count: u64 },
+    /// The package that this word names is not installed, or no package owns the path that it names.
+    NotInstalled { place: u32 },
+    /// No selection of packages satisfies the new world.
+    Unsatisfied,
+    /// The file of this package is absent.
+    PackageMissing { name: Text, version: Text },
+    /// The file of this package fails a test of containers.
+    PackageBad {
+        name: Text,
+        version: Text,
+        cause: Cause,
+    },
+    /// The file of this package has another id (`field` 3), name (1) or version (2) than its index says. Ids are bytes,
+    /// names and versions are texts.
+    PackageDiffers {
+        name: Text,
+        version: Text,
+        field: u16,
+        wanted: Text,
+        found: Text,
+    },
+    /// The package has a script that the change would run, and `--no-scripts` is not given. `script` is its number: 1
+    /// is the trigger, 2 pre-install, 3 post-install, 4 pre-deinstall, 5 post-deinstall, 6 pre-upgrade, 7 post-upgrade.
+    ScriptNeeded { name: Text, script: u16 },
+    /// A file would stand under a name that is the package keeper's own.
+    Reserved { path: Name },
+    /// One file's name would be a folder of another's.
+    PathClash { path: Name, other: Name },
+    /// Two packages have this file, and neither replaces the other's.
+    Owned {
+        path: Name,
+        first: Text,
+        second: Text,
+    },
+    /// The trigger of this package is due, and `--no-scripts` is not given.
+    TriggerNeeded { name: Text },
+    /// What is to be written has more bytes or values than a container may have.
+    ResultTooLarge { bytes: u64, values: u64 },
+}

@@ -1,0 +1,158 @@
+// The texts of refusals and causes, as pieces.
+ghost use Rattle.std.specs.Prelude.{◌≡◌, ◌++◌};
+ghost use Rattle.report_core.specs.Pieces.{piece_text, pieces_text, sentence_text};
+ghost use Rattle.report_core.specs.Texts.{cause_text, field_text, word_text, refusal_text, script_name};
+
+use crate::piece::Piece::{Bytes, Digest, Hex, Nothing, Number, Position, Word};
+use crate::piece::{Piece, Pieces};
+use crate::refusal::Refusal;
+use base_core::Cause;
+
+/// The text of a refusal: some pieces, and the text of its cause behind them, if it has one.
+#[derive(Clone, Copy)]
+pub(crate) struct Sentence<'a> {
+    pub(crate) pieces: Pieces<'a>,
+    pub(crate) cause: Option<Cause>,
+}
+
+fn one<'a>(a: Piece<'a>) -> Pieces<'a>
+    ensures { pieces_text result ≡ piece_text a.entry }
+{
+    [a, Nothing, Nothing, Nothing, Nothing, Nothing, Nothing]
+}
+
+fn two<'a>(a: Piece<'a>, b: Piece<'a>) -> Pieces<'a>
+    ensures { pieces_text result ≡ piece_text a.entry ++ piece_text b.entry }
+{
+    [a, b, Nothing, Nothing, Nothing, Nothing, Nothing]
+}
+
+fn three<'a>(a: Piece<'a>, b: Piece<'a>, c: Piece<'a>) -> Pieces<'a>
+    ensures { pieces_text result ≡ piece_text a.entry ++ piece_text b.entry ++ piece_text c.entry }
+{
+    [a, b, c, Nothing, Nothing, Nothing, Nothing]
+}
+
+fn four<'a>(a: Piece<'a>, b: Piece<'a>, c: Piece<'a>, d: Piece<'a>) -> Pieces<'a>
+    ensures { pieces_text result ≡ piece_text a.entry ++ piece_text b.entry ++ piece_text c.entry ++ piece_text d.entry }
+{
+    [a, b, c, d, Nothing, Nothing, Nothing]
+}
+
+fn five<'a>(a: Piece<'a>, b: Piece<'a>, c: Piece<'a>, d: Piece<'a>, e: Piece<'a>) -> Pieces<'a>
+    ensures { pieces_text result ≡ piece_text a.entry ++ piece_text b.entry ++ piece_text c.entry ++ piece_text d.entry ++ piece_text e.entry }
+{
+    [a, b, c, d, e, Nothing, Nothing]
+}
+
+fn six<'a>(a: Piece<'a>, b: Piece<'a>, c: Piece<'a>, d: Piece<'a>, e: Piece<'a>, f: Piece<'a>) -> Pieces<'a>
+    ensures { pieces_text result ≡ piece_text a.entry ++ piece_text b.entry ++ piece_text c.entry ++ piece_text d.entry ++ piece_text e.entry ++ piece_text f.entry }
+{
+    [a, b, c, d, e, f, Nothing]
+}
+
+fn seven<'a>(a: Piece<'a>, b: Piece<'a>, c: Piece<'a>, d: Piece<'a>, e: Piece<'a>, f: Piece<'a>, g: Piece<'a>) -> Pieces<'a>
+    ensures { pieces_text result ≡ piece_text a.entry ++ piece_text b.entry ++ piece_text c.entry ++ piece_text d.entry ++ piece_text e.entry ++ piece_text f.entry ++ piece_text g.entry }
+{
+    [a, b, c, d, e, f, g]
+}
+
+fn plain<'a>(pieces: Pieces<'a>) -> Sentence<'a>
+    ensures { sentence_text result ≡ pieces_text pieces.entry }
+{
+    Sentence { pieces, cause: None }
+}
+
+fn caused<'a>(pieces: Pieces<'a>, cause: Cause) -> Sentence<'a>
+    ensures { sentence_text result ≡ pieces_text pieces.entry ++ cause_text cause }
+{
+    Sentence { pieces, cause: Some(cause) }
+}
+
+fn at_word(place: u32, text: &'static [u8]) -> Sentence<'static>
+    ensures { sentence_text result ≡ word_text place text.now }
+{
+    plain(four(Bytes(b"word "), Number(u64::from(place)), Bytes(b": "), Bytes(text)))
+}
+
+// The text of a refusal.
+pub(crate) fn sentence_of<'a>(refusal: &'a Refusal) -> Sentence<'a>
+    ensures { sentence_text result ≡ refusal_text refusal.now }
+{
+    match refusal {
+        Refusal::Usage { place } => plain(two(Bytes(b"usage error at word "), Number(u64::from(*place)))),
+        Refusal::IntentBad { cause } => caused(one(Bytes(b"lib/apk/intent: ")), *cause),
+        Refusal::FileMissing { place } => at_word(*place, b"no such file"),
+        Refusal::FileBad { place, cause } => caused(three(Bytes(b"word "), Number(u64::from(*place)), Bytes(b": ")), *cause),
+        Refusal::VersionBad { place } => at_word(*place, b"invalid version"),
+        Refusal::InfoBad { place } => at_word(*place, b"invalid package information"),
+        Refusal::NoDatabase => plain(one(Bytes(b"no package database"))),
+        Refusal::DatabaseBad { cause } => caused(one(Bytes(b"package database: ")), *cause),
+        Refusal::WorldBad { line } => plain(two(Bytes(b"etc/apk/world: line "), Number(*line))),
+        Refusal::RepositoriesBad { line } => plain(two(Bytes(b"etc/apk/repositories: line "), Number(*line))),
+        Refusal::Untrusted => plain(one(Bytes(b"repositories need --allow-untrusted"))),
+        Refusal::IndexMissing { repository } => plain(three(Bytes(b"repository "), Number(*repository), Bytes(b": no such index"))),
+        Refusal::IndexBad { repository, cause } => caused(three(Bytes(b"repository "), Number(*repository), Bytes(b": ")), *cause),
+        Refusal::TooMany { count } => plain(two(Number(*count), Bytes(b" candidates are too many"))),
+        Refusal::NotInstalled { place } => at_word(*place, b"not installed"),
+        Refusal::Unsatisfied => plain(one(Bytes(b"unable to select packages"))),
+        Refusal::PackageMissing { name, version } => plain(four(Bytes(name.as_bytes()), Bytes(b"-"), Bytes(version.as_bytes()), Bytes(b": no such package file"))),
+        Refusal::PackageBad { name, version, cause } => caused(four(Bytes(name.as_bytes()), Bytes(b"-"), Bytes(version.as_bytes()), Bytes(b": ")), *cause),
+        Refusal::PackageDiffers { name, version, field, wanted, found } => plain(seven(Bytes(name.as_bytes()), Bytes(b"-"), Bytes(version.as_bytes()), Bytes(b": differs from its index: "), field_piece(*field, wanted.as_bytes()), Bytes(b", "), field_piece(*field, found.as_bytes()))),
+        Refusal::ScriptNeeded { name, script } => plain(four(Bytes(name.as_bytes()), Bytes(b": script "), script_piece(*script), Bytes(b" needs --no-scripts"))),
+        Refusal::Reserved { path } => plain(two(Bytes(path.as_bytes()), Bytes(b": reserved name"))),
+        Refusal::PathClash { path, other } => plain(three(Bytes(path.as_bytes()), Bytes(b": is a folder of "), Bytes(other.as_bytes()))),
+        Refusal::Owned { path, first, second } => plain(six(Bytes(path.as_bytes()), Bytes(b": "), Bytes(first.as_bytes()), Bytes(b" and "), Bytes(second.as_bytes()), Bytes(b" both have it"))),
+        Refusal::TriggerNeeded { name } => plain(two(Bytes(name.as_bytes()), Bytes(b": its trigger needs --no-scripts"))),
+        Refusal::ResultTooLarge { bytes, values } => plain(five(Bytes(b"result too large: "), Number(*bytes), Bytes(b" bytes, "), Number(*values), Bytes(b" values"))),
+    }
+}
+
+// The text of a cause.
+pub(crate) fn cause_pieces(cause: Cause) -> Pieces<'static>
+    ensures { pieces_text result ≡ cause_text cause }
+{
+    match cause {
+        Cause::NotAdb => one(Bytes(b"not an ADB file")),
+        Cause::Compressed => one(Bytes(b"compressed ADB file")),
+        Cause::Truncated { at } => two(Bytes(b"truncated at "), Number(at)),
+        Cause::BlockOrder { at } => two(Bytes(b"block out of order at "), Number(at)),
+        Cause::CompatVersion => one(Bytes(b"incompatible version")),
+        Cause::WrongSchema { found } => two(Bytes(b"wrong schema "), Word(found)),
+        Cause::Outside { word } => three(Bytes(b"value "), Word(word), Bytes(b" points outside")),
+        Cause::WrongKind { word } => three(Bytes(b"value "), Word(word), Bytes(b" has the wrong kind")),
+        Cause::TooLarge { count } => two(Number(u64::from(count)), Bytes(b" values are too many")),
+        Cause::BadText { place } => two(Bytes(b"bad field "), Number(u64::from(place))),
+        Cause::Repeated { place, first, second } => six(Bytes(b"field "), Number(u64::from(place)), Bytes(b" repeated at "), Number(u64::from(first)), Bytes(b" and "), Number(u64::from(second))),
+        Cause::DataOrder { expected, found } => five(Bytes(b"contents "), Position(found.0, found.1), Bytes(b" where "), Position(expected.0, expected.1), Bytes(b" was expected")),
+        Cause::DataSize { wanted, found } => five(Bytes(b"contents of "), Number(found), Bytes(b" bytes where "), Number(wanted), Bytes(b" were expected")),
+        Cause::HashDiffers { wanted, found } => five(Bytes(b"hash "), Digest(found), Bytes(b" where "), Digest(wanted), Bytes(b" was expected")),
+    }
+}
+
+// What a package says of itself in a field: an id, or a name or a version.
+fn field_piece(field: u16, bytes: &[u8]) -> Piece<'_>
+    ensures { piece_text result ≡ field_text field bytes.now }
+{
+    if field == 3 {
+        Hex(bytes)
+    } else {
+        Bytes(bytes)
+    }
+}
+
+// The name of a script.
+fn script_piece(script: u16) -> Piece<'static>
+    ensures { piece_text result ≡ script_name script }
+{
+    match script {
+        1 => Bytes(b"trigger"),
+        2 => Bytes(b"pre-install"),
+        3 => Bytes(b"post-install"),
+        4 => Bytes(b"pre-deinstall"),
+        5 => Bytes(b"post-deinstall"),
+        6 => Bytes(b"pre-upgrade"),
+        7 => Bytes(b"post-upgrade"),
+        _ => Number(u64::from(script)),
+    }
+}
