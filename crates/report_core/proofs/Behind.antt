@@ -1,7 +1,8 @@
 -- A text behind another on a sink.
-use Rattle.std.proofs.Common.{◌≡◌, ◌∙◌, ℕ, List, ◌++◌, Option, Result, Ok, Err, subst}
+use Rattle.std.proofs.Common.{◌≡◌, ◌∙◌, ℕ, List, ◌++◌, Option, Result, Ok, Err, subst, ap, refl, sym, codes, append_assoc}
 use Rattle.base_core.specs.Faults.{Counts, GoesOn, FailsWithCause}
 use Rattle.base_core.specs.Sink.{Adds, AddsSome, Sinking, Writes}
+use Rattle.report_core.specs.Texts.{package_text}
 use Rattle.report_core.proofs.Counting.{goes_on_twice, fails_after}
 use Rattle.report_core.proofs.Fronts.{Adds-then, AddsSome-grows, AddsSome-after}
 
@@ -36,3 +37,29 @@ cut_short a b sink e f w = record { ok = tt; err = AddsSome-grows sink.told_befo
 
 pub writes_same : {T E : Type 0} (a b : List ℕ) (sink : Sinking) (result : Result T E) → a ≡ b → Writes a sink result → Writes b sink result
 writes_same a b sink result same writes = subst (λ (bytes : List ℕ). Writes bytes sink result) same writes
+
+-- ---- three texts in a row
+
+pub three : {T E : Type 0} (a b c : List ℕ) (t0 t1 t2 t3 : Option (List ℕ)) (c0 c1 c2 c3 : Counts) (result : Result T E)
+    → IsDone a (Between t0 c0 t1 c1) → IsDone b (Between t1 c1 t2 c2) → Writes c (Between t2 c2 t3 c3) result → Writes (a ++ b ++ c) (Between t0 c0 t3 c3) result
+three a b c t0 t1 t2 t3 c0 c1 c2 c3 result h k w = written_behind (a ++ b) c t0 t2 t3 c0 c2 c3 result (done_then a b t0 t1 t2 c0 c1 c2 h k) w
+
+pub cut_in_the_second : {T U E F : Type 0} (a b c : List ℕ) (t0 t1 t2 : Option (List ℕ)) (c0 c1 c2 : Counts) (e : E) (f : F)
+    → IsDone a (Between t0 c0 t1 c1) → Writes {T = T} b (Between t1 c1 t2 c2) (Err e) → Writes {T = U} (a ++ b ++ c) (Between t0 c0 t2 c2) (Err f)
+cut_in_the_second {T} {U} a b c t0 t1 t2 c0 c1 c2 e f h w = cut_short (a ++ b) c (Between t0 c0 t2 c2) e f (written_behind {T = T} a b t0 t1 t2 c0 c1 c2 (Err e) h w)
+
+pub cut_in_the_first : {T U E F : Type 0} (a b c : List ℕ) (sink : Sinking) (e : E) (f : F) → Writes {T = T} a sink (Err e) → Writes {T = U} (a ++ b ++ c) sink (Err f)
+cut_in_the_first {T} a b c sink e f w = cut_short (a ++ b) c sink e f (cut_short {T = T} {U = T} a b sink e e w)
+
+-- ---- texts in other brackets
+
+pub differs_text : (name version wanted found n v w f : List ℕ) → n ≡ name → v ≡ version → w ≡ wanted → f ≡ found
+    → n ++ codes "-" ++ v ++ codes ": differs from its index: " ++ w ++ codes ", " ++ f
+    ≡ package_text name version (codes "differs from its index: " ++ wanted ++ codes ", " ++ found)
+differs_text name version wanted found n v w f is_n is_v is_w is_f = rw is_n (rw is_v (rw is_w (rw is_f (simp append_assoc))))
+
+pub clash_text : (path other p o : List ℕ) → p ≡ path → o ≡ other → p ++ codes ": is a folder of " ++ o ≡ path ++ codes ": is a folder of " ++ other
+clash_text path other p o is_p is_o = rw is_p (rw is_o refl)
+
+pub ended : (text colon more : List ℕ) → text ++ (colon ++ more) ≡ text ++ colon ++ more
+ended text colon more = sym (append_assoc text colon more)

@@ -22,7 +22,7 @@ pub(crate) enum Piece<'a> {
     /// A digest, in hexadecimal digits.
     Digest(Digest),
     /// The positions of a folder and of a file in it.
-    Position(u32, u32),
+    Position(u64, u64),
     /// No text.
     Nothing,
 }
@@ -54,12 +54,12 @@ fn write_piece<S: Sink>(piece: &Piece<'_>, sink: &mut S) -> Result<(), SinkFault
     }
 }
 
-fn write_position<S: Sink>(folder: u32, file: u32, sink: &mut S) -> Result<(), SinkFault>
+fn write_position<S: Sink>(folder: u64, file: u64, sink: &mut S) -> Result<(), SinkFault>
     ensures { Writes (position_text folder file) (sinking S.bytes S.counts sink.old sink.new) result }
 {
-    write_number(u64::from(folder), sink)?;
+    write_number(folder, sink)?;
     write_all(sink, b".")?;
-    write_number(u64::from(file), sink)
+    write_number(file, sink)
 }
 
 fn write_number<S: Sink>(number: u64, sink: &mut S) -> Result<(), SinkFault>

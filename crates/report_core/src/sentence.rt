@@ -124,7 +124,7 @@ pub(crate) fn cause_pieces(cause: Cause) -> Pieces<'static>
         Cause::TooLarge { count } => two(Number(u64::from(count)), Bytes(b" values are too many")),
         Cause::BadText { place } => two(Bytes(b"bad field "), Number(u64::from(place))),
         Cause::Repeated { place, first, second } => six(Bytes(b"field "), Number(u64::from(place)), Bytes(b" repeated at "), Number(u64::from(first)), Bytes(b" and "), Number(u64::from(second))),
-        Cause::DataOrder { expected, found } => five(Bytes(b"contents "), Position(found.0, found.1), Bytes(b" where "), Position(expected.0, expected.1), Bytes(b" was expected")),
+        Cause::DataOrder { expected, found } => five(Bytes(b"contents "), Position(u64::from(found.0), u64::from(found.1)), Bytes(b" where "), Position(u64::from(expected.0), u64::from(expected.1)), Bytes(b" was expected")),
         Cause::DataSize { wanted, found } => five(Bytes(b"contents of "), Number(found), Bytes(b" bytes where "), Number(wanted), Bytes(b" were expected")),
         Cause::HashDiffers { wanted, found } => five(Bytes(b"hash "), Digest(found), Bytes(b" where "), Digest(wanted), Bytes(b" was expected")),
     }
