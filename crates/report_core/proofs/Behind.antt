@@ -26,8 +26,9 @@ done_then a b t0 t1 t2 c0 c1 c2 h k = record { added = Adds-then t0 t1 t2 a b h.
 pub written_behind : {T E : Type 0} (a b : List ℕ) (t0 t1 t2 : Option (List ℕ)) (c0 c1 c2 : Counts) (result : Result T E)
     → IsDone a (Between t0 c0 t1 c1) → Writes b (Between t1 c1 t2 c2) result → Writes (a ++ b) (Between t0 c0 t2 c2) result
 written_behind a b t0 t1 t2 c0 c1 c2 (Ok x) h k = record {
-    ok = Adds-then t0 t1 t2 a b h.added k.ok; err = tt;
-    cause = record { goes_on = goes_on_twice c0 c1 c2 h.goes_on k.cause.goes_on; cause = tt; kept = k.cause.kept ∙ h.kept; proper = k.cause.proper ∙ h.proper };
+  ok = Adds-then t0 t1 t2 a b h.added k.ok;
+  err = tt;
+  cause = record { goes_on = goes_on_twice c0 c1 c2 h.goes_on k.cause.goes_on; cause = tt; kept = k.cause.kept ∙ h.kept; proper = k.cause.proper ∙ h.proper };
 }
 written_behind a b t0 t1 t2 c0 c1 c2 (Err e) h k = record { ok = tt; err = AddsSome-after t0 t1 t2 a b h.added k.err; cause = fails_after c0 c1 c2 e h.goes_on h.proper k.cause }
 

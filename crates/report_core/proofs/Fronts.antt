@@ -39,9 +39,9 @@ pub front-more : {A : Type 0} (text : List A → List ℕ) → Chains text → (
     → i < length xs → Adds old mid (text (take i xs)) → AddsSome mid new bytes → AddsSome old new (text xs)
 front-more text chains old mid new xs i d bytes is lt h k =
     let e : (text (take i xs) ++ bytes) ++ text (drop (i + 1) xs) ≡ text xs =
-        ap (λ (b : List ℕ). (text (take i xs) ++ b) ++ text (drop (i + 1) xs)) is
-        ∙ ap (λ (b : List ℕ). b ++ text (drop (i + 1) xs)) (sym (text-more text chains xs i d lt))
-        ∙ sym (text-split text chains xs (i + 1)) in
+    ap (λ (b : List ℕ). (text (take i xs) ++ b) ++ text (drop (i + 1) xs)) is
+    ∙ ap (λ (b : List ℕ). b ++ text (drop (i + 1) xs)) (sym (text-more text chains xs i d lt))
+    ∙ sym (text-split text chains xs (i + 1)) in
     subst (AddsSome old new) e (AddsSome-grows old new (text (take i xs) ++ bytes) (text (drop (i + 1) xs)) (AddsSome-after old mid new (text (take i xs)) bytes h k))
 
 -- ---- the two texts

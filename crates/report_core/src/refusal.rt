@@ -6,39 +6,70 @@ use base_core::{Cause, Name, Text};
 pub enum Refusal {
     /// The words are outside the grammar (apk(8)): the first wrong word, or the place behind the last where one is
     /// missing.
-    Usage { place: u32 },
+    Usage {
+        place: u32,
+    },
     /// The intent of a change that was cut off is no sound container.
-    IntentBad { cause: Cause },
+    IntentBad {
+        cause: Cause,
+    },
     /// The file that this word names is absent.
-    FileMissing { place: u32 },
+    FileMissing {
+        place: u32,
+    },
     /// The file that this word names fails a test of containers (apk-v3(5)).
-    FileBad { place: u32, cause: Cause },
+    FileBad {
+        place: u32,
+        cause: Cause,
+    },
     /// This word is no version (apk-package(5)).
-    VersionBad { place: u32 },
+    VersionBad {
+        place: u32,
+    },
     /// This word is no information of a package that may be given.
-    InfoBad { place: u32 },
+    InfoBad {
+        place: u32,
+    },
     /// The root has no package database.
     NoDatabase,
     /// The package database is no sound container.
-    DatabaseBad { cause: Cause },
+    DatabaseBad {
+        cause: Cause,
+    },
     /// The world (apk-world(5)) has an entry on this line that is no dependency, or that repeats a name.
-    WorldBad { line: u64 },
+    WorldBad {
+        line: u64,
+    },
     /// This line of the list of repositories names none.
-    RepositoriesBad { line: u64 },
+    RepositoriesBad {
+        line: u64,
+    },
     /// There is a repository, and `--allow-untrusted` is not given.
     Untrusted,
     /// The index of this repository is absent.
-    IndexMissing { repository: u64 },
+    IndexMissing {
+        repository: u64,
+    },
     /// The index of this repository is no sound container.
-    IndexBad { repository: u64, cause: Cause },
+    IndexBad {
+        repository: u64,
+        cause: Cause,
+    },
     /// There are more packages to choose from than can be read: at least so many.
-    TooMany { count: u64 },
+    TooMany {
+        count: u64,
+    },
     /// The package that this word names is not installed, or no package owns the path that it names.
-    NotInstalled { place: u32 },
+    NotInstalled {
+        place: u32,
+    },
     /// No selection of packages satisfies the new world.
     Unsatisfied,
     /// The file of this package is absent.
-    PackageMissing { name: Text, version: Text },
+    PackageMissing {
+        name: Text,
+        version: Text,
+    },
     /// The file of this package fails a test of containers.
     PackageBad {
         name: Text,
@@ -56,11 +87,19 @@ pub enum Refusal {
     },
     /// The package has a script that the change would run, and `--no-scripts` is not given. `script` is its number: 1
     /// is the trigger, 2 pre-install, 3 post-install, 4 pre-deinstall, 5 post-deinstall, 6 pre-upgrade, 7 post-upgrade.
-    ScriptNeeded { name: Text, script: u16 },
+    ScriptNeeded {
+        name: Text,
+        script: u16,
+    },
     /// A file would stand under a name that is the package keeper's own.
-    Reserved { path: Name },
+    Reserved {
+        path: Name,
+    },
     /// One file's name would be a folder of another's.
-    PathClash { path: Name, other: Name },
+    PathClash {
+        path: Name,
+        other: Name,
+    },
     /// Two packages have this file, and neither replaces the other's.
     Owned {
         path: Name,
@@ -68,7 +107,12 @@ pub enum Refusal {
         second: Text,
     },
     /// The trigger of this package is due, and `--no-scripts` is not given.
-    TriggerNeeded { name: Text },
+    TriggerNeeded {
+        name: Text,
+    },
     /// What is to be written has more bytes or values than a container may have.
-    ResultTooLarge { bytes: u64, values: u64 },
+    ResultTooLarge {
+        bytes: u64,
+        values: u64,
+    },
 }

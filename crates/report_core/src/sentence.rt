@@ -45,13 +45,28 @@ fn five<'a>(a: Piece<'a>, b: Piece<'a>, c: Piece<'a>, d: Piece<'a>, e: Piece<'a>
     [a, b, c, d, e, Nothing, Nothing]
 }
 
-fn six<'a>(a: Piece<'a>, b: Piece<'a>, c: Piece<'a>, d: Piece<'a>, e: Piece<'a>, f: Piece<'a>) -> Pieces<'a>
+fn six<'a>(
+    a: Piece<'a>,
+    b: Piece<'a>,
+    c: Piece<'a>,
+    d: Piece<'a>,
+    e: Piece<'a>,
+    f: Piece<'a>,
+) -> Pieces<'a>
     ensures { pieces_text result ≡ piece_text a.entry ++ piece_text b.entry ++ piece_text c.entry ++ piece_text d.entry ++ piece_text e.entry ++ piece_text f.entry }
 {
     [a, b, c, d, e, f, Nothing]
 }
 
-fn seven<'a>(a: Piece<'a>, b: Piece<'a>, c: Piece<'a>, d: Piece<'a>, e: Piece<'a>, f: Piece<'a>, g: Piece<'a>) -> Pieces<'a>
+fn seven<'a>(
+    a: Piece<'a>,
+    b: Piece<'a>,
+    c: Piece<'a>,
+    d: Piece<'a>,
+    e: Piece<'a>,
+    f: Piece<'a>,
+    g: Piece<'a>,
+) -> Pieces<'a>
     ensures { pieces_text result ≡ piece_text a.entry ++ piece_text b.entry ++ piece_text c.entry ++ piece_text d.entry ++ piece_text e.entry ++ piece_text f.entry ++ piece_text g.entry }
 {
     [a, b, c, d, e, f, g]
@@ -60,19 +75,30 @@ fn seven<'a>(a: Piece<'a>, b: Piece<'a>, c: Piece<'a>, d: Piece<'a>, e: Piece<'a
 fn plain<'a>(pieces: Pieces<'a>) -> Sentence<'a>
     ensures { sentence_text result ≡ pieces_text pieces.entry }
 {
-    Sentence { pieces, cause: None }
+    Sentence {
+        pieces,
+        cause: None,
+    }
 }
 
 fn caused<'a>(pieces: Pieces<'a>, cause: Cause) -> Sentence<'a>
     ensures { sentence_text result ≡ pieces_text pieces.entry ++ cause_text cause }
 {
-    Sentence { pieces, cause: Some(cause) }
+    Sentence {
+        pieces,
+        cause: Some(cause),
+    }
 }
 
 fn at_word(place: u32, text: &'static [u8]) -> Sentence<'static>
     ensures { sentence_text result ≡ word_text place text.now }
 {
-    plain(four(Bytes(b"word "), Number(u64::from(place)), Bytes(b": "), Bytes(text)))
+    plain(four(
+        Bytes(b"word "),
+        Number(u64::from(place)),
+        Bytes(b": "),
+        Bytes(text),
+    ))
 }
 
 // The text of a refusal.
@@ -80,31 +106,110 @@ pub(crate) fn sentence_of<'a>(refusal: &'a Refusal) -> Sentence<'a>
     ensures { sentence_text result ≡ refusal_text refusal.now }
 {
     match refusal {
-        Refusal::Usage { place } => plain(two(Bytes(b"usage error at word "), Number(u64::from(*place)))),
+        Refusal::Usage { place } => plain(two(
+            Bytes(b"usage error at word "),
+            Number(u64::from(*place)),
+        )),
         Refusal::IntentBad { cause } => caused(one(Bytes(b"lib/apk/intent: ")), *cause),
         Refusal::FileMissing { place } => at_word(*place, b"no such file"),
-        Refusal::FileBad { place, cause } => caused(three(Bytes(b"word "), Number(u64::from(*place)), Bytes(b": ")), *cause),
+        Refusal::FileBad { place, cause } => caused(
+            three(Bytes(b"word "), Number(u64::from(*place)), Bytes(b": ")),
+            *cause,
+        ),
         Refusal::VersionBad { place } => at_word(*place, b"invalid version"),
         Refusal::InfoBad { place } => at_word(*place, b"invalid package information"),
         Refusal::NoDatabase => plain(one(Bytes(b"no package database"))),
         Refusal::DatabaseBad { cause } => caused(one(Bytes(b"package database: ")), *cause),
         Refusal::WorldBad { line } => plain(two(Bytes(b"etc/apk/world: line "), Number(*line))),
-        Refusal::RepositoriesBad { line } => plain(two(Bytes(b"etc/apk/repositories: line "), Number(*line))),
+        Refusal::RepositoriesBad { line } => plain(two(
+            Bytes(b"etc/apk/repositories: line "),
+            Number(*line),
+        )),
         Refusal::Untrusted => plain(one(Bytes(b"repositories need --allow-untrusted"))),
-        Refusal::IndexMissing { repository } => plain(three(Bytes(b"repository "), Number(*repository), Bytes(b": no such index"))),
-        Refusal::IndexBad { repository, cause } => caused(three(Bytes(b"repository "), Number(*repository), Bytes(b": ")), *cause),
-        Refusal::TooMany { count } => plain(two(Number(*count), Bytes(b" candidates are too many"))),
+        Refusal::IndexMissing { repository } => plain(three(
+            Bytes(b"repository "),
+            Number(*repository),
+            Bytes(b": no such index"),
+        )),
+        Refusal::IndexBad { repository, cause } => caused(
+            three(Bytes(b"repository "), Number(*repository), Bytes(b": ")),
+            *cause,
+        ),
+        Refusal::TooMany { count } => plain(two(
+            Number(*count),
+            Bytes(b" candidates are too many"),
+        )),
         Refusal::NotInstalled { place } => at_word(*place, b"not installed"),
         Refusal::Unsatisfied => plain(one(Bytes(b"unable to select packages"))),
-        Refusal::PackageMissing { name, version } => plain(four(Bytes(name.as_bytes()), Bytes(b"-"), Bytes(version.as_bytes()), Bytes(b": no such package file"))),
-        Refusal::PackageBad { name, version, cause } => caused(four(Bytes(name.as_bytes()), Bytes(b"-"), Bytes(version.as_bytes()), Bytes(b": ")), *cause),
-        Refusal::PackageDiffers { name, version, field, wanted, found } => plain(seven(Bytes(name.as_bytes()), Bytes(b"-"), Bytes(version.as_bytes()), Bytes(b": differs from its index: "), field_piece(*field, wanted.as_bytes()), Bytes(b", "), field_piece(*field, found.as_bytes()))),
-        Refusal::ScriptNeeded { name, script } => plain(four(Bytes(name.as_bytes()), Bytes(b": script "), script_piece(*script), Bytes(b" needs --no-scripts"))),
+        Refusal::PackageMissing { name, version } => plain(four(
+            Bytes(name.as_bytes()),
+            Bytes(b"-"),
+            Bytes(version.as_bytes()),
+            Bytes(b": no such package file"),
+        )),
+        Refusal::PackageBad {
+            name,
+            version,
+            cause,
+        } => caused(
+            four(
+                Bytes(name.as_bytes()),
+                Bytes(b"-"),
+                Bytes(version.as_bytes()),
+                Bytes(b": "),
+            ),
+            *cause,
+        ),
+        Refusal::PackageDiffers {
+            name,
+            version,
+            field,
+            wanted,
+            found,
+        } => plain(seven(
+            Bytes(name.as_bytes()),
+            Bytes(b"-"),
+            Bytes(version.as_bytes()),
+            Bytes(b": differs from its index: "),
+            field_piece(*field, wanted.as_bytes()),
+            Bytes(b", "),
+            field_piece(*field, found.as_bytes()),
+        )),
+        Refusal::ScriptNeeded { name, script } => plain(four(
+            Bytes(name.as_bytes()),
+            Bytes(b": script "),
+            script_piece(*script),
+            Bytes(b" needs --no-scripts"),
+        )),
         Refusal::Reserved { path } => plain(two(Bytes(path.as_bytes()), Bytes(b": reserved name"))),
-        Refusal::PathClash { path, other } => plain(three(Bytes(path.as_bytes()), Bytes(b": is a folder of "), Bytes(other.as_bytes()))),
-        Refusal::Owned { path, first, second } => plain(six(Bytes(path.as_bytes()), Bytes(b": "), Bytes(first.as_bytes()), Bytes(b" and "), Bytes(second.as_bytes()), Bytes(b" both have it"))),
-        Refusal::TriggerNeeded { name } => plain(two(Bytes(name.as_bytes()), Bytes(b": its trigger needs --no-scripts"))),
-        Refusal::ResultTooLarge { bytes, values } => plain(five(Bytes(b"result too large: "), Number(*bytes), Bytes(b" bytes, "), Number(*values), Bytes(b" values"))),
+        Refusal::PathClash { path, other } => plain(three(
+            Bytes(path.as_bytes()),
+            Bytes(b": is a folder of "),
+            Bytes(other.as_bytes()),
+        )),
+        Refusal::Owned {
+            path,
+            first,
+            second,
+        } => plain(six(
+            Bytes(path.as_bytes()),
+            Bytes(b": "),
+            Bytes(first.as_bytes()),
+            Bytes(b" and "),
+            Bytes(second.as_bytes()),
+            Bytes(b" both have it"),
+        )),
+        Refusal::TriggerNeeded { name } => plain(two(
+            Bytes(name.as_bytes()),
+            Bytes(b": its trigger needs --no-scripts"),
+        )),
+        Refusal::ResultTooLarge { bytes, values } => plain(five(
+            Bytes(b"result too large: "),
+            Number(*bytes),
+            Bytes(b" bytes, "),
+            Number(*values),
+            Bytes(b" values"),
+        )),
     }
 }
 
@@ -120,13 +225,46 @@ pub(crate) fn cause_pieces(cause: Cause) -> Pieces<'static>
         Cause::CompatVersion => one(Bytes(b"incompatible version")),
         Cause::WrongSchema { found } => two(Bytes(b"wrong schema "), Word(found)),
         Cause::Outside { word } => three(Bytes(b"value "), Word(word), Bytes(b" points outside")),
-        Cause::WrongKind { word } => three(Bytes(b"value "), Word(word), Bytes(b" has the wrong kind")),
+        Cause::WrongKind { word } => three(
+            Bytes(b"value "),
+            Word(word),
+            Bytes(b" has the wrong kind"),
+        ),
         Cause::TooLarge { count } => two(Number(u64::from(count)), Bytes(b" values are too many")),
         Cause::BadText { place } => two(Bytes(b"bad field "), Number(u64::from(place))),
-        Cause::Repeated { place, first, second } => six(Bytes(b"field "), Number(u64::from(place)), Bytes(b" repeated at "), Number(u64::from(first)), Bytes(b" and "), Number(u64::from(second))),
-        Cause::DataOrder { expected, found } => five(Bytes(b"contents "), Position(u64::from(found.0), u64::from(found.1)), Bytes(b" where "), Position(u64::from(expected.0), u64::from(expected.1)), Bytes(b" was expected")),
-        Cause::DataSize { wanted, found } => five(Bytes(b"contents of "), Number(found), Bytes(b" bytes where "), Number(wanted), Bytes(b" were expected")),
-        Cause::HashDiffers { wanted, found } => five(Bytes(b"hash "), Digest(found), Bytes(b" where "), Digest(wanted), Bytes(b" was expected")),
+        Cause::Repeated {
+            place,
+            first,
+            second,
+        } => six(
+            Bytes(b"field "),
+            Number(u64::from(place)),
+            Bytes(b" repeated at "),
+            Number(u64::from(first)),
+            Bytes(b" and "),
+            Number(u64::from(second)),
+        ),
+        Cause::DataOrder { expected, found } => five(
+            Bytes(b"contents "),
+            Position(u64::from(found.0), u64::from(found.1)),
+            Bytes(b" where "),
+            Position(u64::from(expected.0), u64::from(expected.1)),
+            Bytes(b" was expected"),
+        ),
+        Cause::DataSize { wanted, found } => five(
+            Bytes(b"contents of "),
+            Number(found),
+            Bytes(b" bytes where "),
+            Number(wanted),
+            Bytes(b" were expected"),
+        ),
+        Cause::HashDiffers { wanted, found } => five(
+            Bytes(b"hash "),
+            Digest(found),
+            Bytes(b" where "),
+            Digest(wanted),
+            Bytes(b" was expected"),
+        ),
     }
 }
 
@@ -134,11 +272,7 @@ pub(crate) fn cause_pieces(cause: Cause) -> Pieces<'static>
 fn field_piece(field: u16, bytes: &[u8]) -> Piece<'_>
     ensures { piece_text result ≡ field_text field bytes.now }
 {
-    if field == 3 {
-        Hex(bytes)
-    } else {
-        Bytes(bytes)
-    }
+    if field == 3 { Hex(bytes) } else { Bytes(bytes) }
 }
 
 // The name of a script.

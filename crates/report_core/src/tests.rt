@@ -1,12 +1,373 @@
+ghost use Rattle.std.specs.Prelude.{◌≡◌, ◌≤◌, false, None};
+ghost use Rattle.base_core.specs.Faults.{risen};
+
 use super::*;
 use base_core::{Cause, Digest, Name, Sink, SinkFault, Text};
 use std::alloc::Global;
 use std::process::Abort;
 use std::test::Fail;
 
-// A sink that keeps what it is given, up to 400 bytes.
+// A page in memory.
 #[derive(Drop)]
 struct Page {
-    bytes: [u8; 400],
-    len: usize,
+    bytes: Vec<u8>,
+    faults: u64,
+}
+
+impl Page {
+    fn want(&mut self) -> SinkFault
+        ensures is { self.new ≡ record self.old { faults = risen self.old.faults } }
+        ensures later { self.old.faults ≤ self.new.faults }
+    {
+        self.faults = self.faults.saturating_add(1);
+        SinkFault
+    }
+}
+
+impl Sink for Page {
+    ghost bytes = { λ page. None };
+
+    ghost counts = { λ page. record { faults = page.faults; misuses = 0; wants = page.faults; fallible = false } };
+
+    fn write(&mut self, piece: &[u8]) -> Result<usize, SinkFault> {
+        if piece.is_empty() {
+            return Ok(0);
+        }
+        match self.bytes.extend_from_slice(piece) {
+            Ok(()) => Ok(piece.len()),
+            Err(_) => Err(self.want()),
+        }
+    }
+}
+
+// The digests of the bytes `abc` (FIPS 180-4).
+const ABC_SHA1: [u8; 20] = [
+    0xa9, 0x99, 0x3e, 0x36, 0x47, 0x06, 0x81, 0x6a, 0xba, 0x3e, 0x25, 0x71, 0x78, 0x50, 0xc2, 0x6c,
+    0x9c, 0xd0, 0xd8, 0x9d,
+];
+
+const ABC_SHA256: [u8; 32] = [
+    0xba, 0x78, 0x16, 0xbf, 0x8f, 0x01, 0xcf, 0xea, 0x41, 0x41, 0x40, 0xde, 0x5d, 0xae, 0x22, 0x23,
+    0xb0, 0x03, 0x61, 0xa3, 0x96, 0x17, 0x7a, 0x9c, 0xb4, 0x10, 0xff, 0x61, 0xf2, 0x00, 0x15, 0xad,
+];
+
+const ABC_SHA512: [u8; 64] = [
+    0xdd, 0xaf, 0x35, 0xa1, 0x93, 0x61, 0x7a, 0xba, 0xcc, 0x41, 0x73, 0x49, 0xae, 0x20, 0x41, 0x31,
+    0x12, 0xe6, 0xfa, 0x4e, 0x89, 0xa9, 0x7e, 0xa2, 0x0a, 0x9e, 0xee, 0xe6, 0x4b, 0x55, 0xd3, 0x9a,
+    0x21, 0x92, 0x99, 0x2a, 0x27, 0x4f, 0xc1, 0xa8, 0x36, 0xba, 0x3c, 0x23, 0xa3, 0xfe, 0xeb, 0xbd,
+    0x45, 0x4d, 0x44, 0x23, 0x64, 0x3c, 0xe8, 0x0e, 0x2a, 0x9a, 0xc9, 0x4f, 0xa5, 0x4c, 0xa4, 0x9f,
+];
+
+const CAUSES: [(Cause, &[u8]); 16] = [
+    (Cause::NotAdb, b"ERROR: word 2: not an ADB file\n"),
+    (Cause::Compressed, b"ERROR: word 2: compressed ADB file\n"),
+    (
+        Cause::Truncated {
+            at: 18446744073709551615,
+        },
+        b"ERROR: word 2: truncated at 18446744073709551615\n",
+    ),
+    (
+        Cause::BlockOrder { at: 56 },
+        b"ERROR: word 2: block out of order at 56\n",
+    ),
+    (
+        Cause::CompatVersion,
+        b"ERROR: word 2: incompatible version\n",
+    ),
+    (
+        Cause::WrongSchema { found: 0x676b6370 },
+        b"ERROR: word 2: wrong schema 676b6370\n",
+    ),
+    (
+        Cause::Outside { word: 0x8000001e },
+        b"ERROR: word 2: value 8000001e points outside\n",
+    ),
+    (
+        Cause::WrongKind { word: 0xa },
+        b"ERROR: word 2: value 0000000a has the wrong kind\n",
+    ),
+    (
+        Cause::TooLarge { count: 4194305 },
+        b"ERROR: word 2: 4194305 values are too many\n",
+    ),
+    (
+        Cause::BadText { place: 302 },
+        b"ERROR: word 2: bad field 302\n",
+    ),
+    (
+        Cause::Repeated {
+            place: 501,
+            first: 1,
+            second: 12,
+        },
+        b"ERROR: word 2: field 501 repeated at 1 and 12\n",
+    ),
+    (
+        Cause::DataOrder {
+            expected: (1, 2),
+            found: (3, 4),
+        },
+        b"ERROR: word 2: contents 3.4 where 1.2 was expected\n",
+    ),
+    (
+        Cause::DataSize {
+            wanted: 3,
+            found: 4,
+        },
+        b"ERROR: word 2: contents of 4 bytes where 3 were expected\n",
+    ),
+    (
+        Cause::HashDiffers {
+            wanted: Digest::Sha1([0; 20]),
+            found: Digest::Sha1(ABC_SHA1),
+        },
+        b"ERROR: word 2: hash a9993e364706816aba3e25717850c26c9cd0d89d where 0000000000000000000000000000000000000000 was expected\n",
+    ),
+    (
+        Cause::HashDiffers {
+            wanted: Digest::Sha256([0; 32]),
+            found: Digest::Sha256(ABC_SHA256),
+        },
+        b"ERROR: word 2: hash ba7816bf8f01cfea414140de5dae2223b00361a396177a9cb410ff61f20015ad where 0000000000000000000000000000000000000000000000000000000000000000 was expected\n",
+    ),
+    (
+        Cause::HashDiffers {
+            wanted: Digest::Sha512([0xff; 64]),
+            found: Digest::Sha512(ABC_SHA512),
+        },
+        b"ERROR: word 2: hash ddaf35a193617abacc417349ae20413112e6fa4e89a97ea20a9eeee64b55d39a2192992a274fc1a836ba3c23a3feebbd454d4423643ce80e2a9ac94fa54ca49f where ffffffffffffffffffffffffffffffffffffffffffffffffffffffffffffffffffffffffffffffffffffffffffffffffffffffffffffffffffffffffffffffff was expected\n",
+    ),
+];
+
+fn check(alloc: Global, rt: &impl Abort, refusal: &Refusal, line: &[u8]) -> Result<(), Fail> {
+    let mut page = Page {
+        bytes: Vec::new(alloc),
+        faults: 0,
+    };
+    assert!(rt; write_error(refusal, &mut page).is_ok());
+    assert_eq!(rt; page.bytes.as_slice(), line);
+    Ok(())
+}
+
+#[test]
+fn lines_of_causes(rt: HostRuntime) -> Result<(), Fail> {
+    for (cause, line) in &CAUSES {
+        let refusal = Refusal::FileBad {
+            place: 2,
+            cause: *cause,
+        };
+        check(rt.alloc(), &rt, &refusal, line)?;
+    }
+    Ok(())
+}
+
+#[test]
+fn lines_of_refusals(rt: HostRuntime) -> Result<(), Fail> {
+    let rows: [(Refusal, &[u8]); 17] = [
+        (
+            Refusal::Usage { place: 4294967295 },
+            b"ERROR: usage error at word 4294967295\n",
+        ),
+        (
+            Refusal::IntentBad {
+                cause: Cause::NotAdb,
+            },
+            b"ERROR: lib/apk/intent: not an ADB file\n",
+        ),
+        (
+            Refusal::FileMissing { place: 2 },
+            b"ERROR: word 2: no such file\n",
+        ),
+        (
+            Refusal::FileBad {
+                place: 2,
+                cause: Cause::Compressed,
+            },
+            b"ERROR: word 2: compressed ADB file\n",
+        ),
+        (
+            Refusal::VersionBad { place: 10 },
+            b"ERROR: word 10: invalid version\n",
+        ),
+        (
+            Refusal::InfoBad { place: 3 },
+            b"ERROR: word 3: invalid package information\n",
+        ),
+        (Refusal::NoDatabase, b"ERROR: no package database\n"),
+        (
+            Refusal::DatabaseBad {
+                cause: Cause::CompatVersion,
+            },
+            b"ERROR: package database: incompatible version\n",
+        ),
+        (
+            Refusal::WorldBad { line: 7 },
+            b"ERROR: etc/apk/world: line 7\n",
+        ),
+        (
+            Refusal::RepositoriesBad { line: 1 },
+            b"ERROR: etc/apk/repositories: line 1\n",
+        ),
+        (
+            Refusal::Untrusted,
+            b"ERROR: repositories need --allow-untrusted\n",
+        ),
+        (
+            Refusal::IndexMissing { repository: 2 },
+            b"ERROR: repository 2: no such index\n",
+        ),
+        (
+            Refusal::IndexBad {
+                repository: 1,
+                cause: Cause::BlockOrder { at: 56 },
+            },
+            b"ERROR: repository 1: block out of order at 56\n",
+        ),
+        (
+            Refusal::TooMany { count: 65537 },
+            b"ERROR: 65537 candidates are too many\n",
+        ),
+        (
+            Refusal::NotInstalled { place: 3 },
+            b"ERROR: word 3: not installed\n",
+        ),
+        (Refusal::Unsatisfied, b"ERROR: unable to select packages\n"),
+        (
+            Refusal::ResultTooLarge {
+                bytes: 268435456,
+                values: 9,
+            },
+            b"ERROR: result too large: 268435456 bytes, 9 values\n",
+        ),
+    ];
+    for (refusal, line) in &rows {
+        check(rt.alloc(), &rt, refusal, line)?;
+    }
+    Ok(())
+}
+
+fn text(alloc: Global, bytes: &[u8]) -> Result<Text, Fail> {
+    Ok(Text::of(alloc, bytes)?)
+}
+
+fn path(alloc: Global, bytes: &[u8]) -> Result<Name, Fail> {
+    Ok(Name::read(alloc, bytes)?.ok_or("a name")?)
+}
+
+#[test]
+fn lines_of_packages(rt: HostRuntime) -> Result<(), Fail> {
+    let alloc = rt.alloc();
+    let missing = Refusal::PackageMissing {
+        name: text(alloc, b"hello")?,
+        version: text(alloc, b"1.0-r0")?,
+    };
+    check(
+        alloc,
+        &rt,
+        &missing,
+        b"ERROR: hello-1.0-r0: no such package file\n",
+    )?;
+    let bad = Refusal::PackageBad {
+        name: text(alloc, b"hello")?,
+        version: text(alloc, b"1.0-r0")?,
+        cause: Cause::BadText { place: 302 },
+    };
+    check(alloc, &rt, &bad, b"ERROR: hello-1.0-r0: bad field 302\n")?;
+    let trigger = Refusal::TriggerNeeded {
+        name: text(alloc, b"man")?,
+    };
+    check(
+        alloc,
+        &rt,
+        &trigger,
+        b"ERROR: man: its trigger needs --no-scripts\n",
+    )?;
+    Ok(())
+}
+
+// An id is told in hexadecimal digits, a name and a version as they are.
+#[test]
+fn lines_of_packages_that_differ(rt: HostRuntime) -> Result<(), Fail> {
+    let rows: [(u16, &[u8], &[u8], &[u8]); 3] = [
+        (
+            3,
+            &[0xab, 0x01],
+            &[0xff],
+            b"ERROR: hello-1.0-r0: differs from its index: ab01, ff\n",
+        ),
+        (
+            1,
+            b"hello",
+            b"hullo",
+            b"ERROR: hello-1.0-r0: differs from its index: hello, hullo\n",
+        ),
+        (
+            2,
+            b"1.0-r0",
+            b"1.0-r1",
+            b"ERROR: hello-1.0-r0: differs from its index: 1.0-r0, 1.0-r1\n",
+        ),
+    ];
+    let alloc = rt.alloc();
+    for (field, wanted, found, line) in &rows {
+        let differs = Refusal::PackageDiffers {
+            name: text(alloc, b"hello")?,
+            version: text(alloc, b"1.0-r0")?,
+            field: *field,
+            wanted: text(alloc, wanted)?,
+            found: text(alloc, found)?,
+        };
+        check(alloc, &rt, &differs, line)?;
+    }
+    Ok(())
+}
+
+#[test]
+fn lines_of_scripts(rt: HostRuntime) -> Result<(), Fail> {
+    let rows: [(u16, &[u8]); 8] = [
+        (1, b"ERROR: s: script trigger needs --no-scripts\n"),
+        (2, b"ERROR: s: script pre-install needs --no-scripts\n"),
+        (3, b"ERROR: s: script post-install needs --no-scripts\n"),
+        (4, b"ERROR: s: script pre-deinstall needs --no-scripts\n"),
+        (5, b"ERROR: s: script post-deinstall needs --no-scripts\n"),
+        (6, b"ERROR: s: script pre-upgrade needs --no-scripts\n"),
+        (7, b"ERROR: s: script post-upgrade needs --no-scripts\n"),
+        (8, b"ERROR: s: script 8 needs --no-scripts\n"),
+    ];
+    let alloc = rt.alloc();
+    for (script, line) in &rows {
+        let needed = Refusal::ScriptNeeded {
+            name: text(alloc, b"s")?,
+            script: *script,
+        };
+        check(alloc, &rt, &needed, line)?;
+    }
+    Ok(())
+}
+
+#[test]
+fn lines_of_paths(rt: HostRuntime) -> Result<(), Fail> {
+    let alloc = rt.alloc();
+    let reserved = Refusal::Reserved {
+        path: path(alloc, b"etc/apk/world")?,
+    };
+    check(
+        alloc,
+        &rt,
+        &reserved,
+        b"ERROR: etc/apk/world: reserved name\n",
+    )?;
+    let clash = Refusal::PathClash {
+        path: path(alloc, b"usr")?,
+        other: path(alloc, b"usr/x")?,
+    };
+    check(alloc, &rt, &clash, b"ERROR: usr: is a folder of usr/x\n")?;
+    let owned = Refusal::Owned {
+        path: path(alloc, b"usr/x")?,
+        first: text(alloc, b"p")?,
+        second: text(alloc, b"q")?,
+    };
+    check(alloc, &rt, &owned, b"ERROR: usr/x: p and q both have it\n")?;
+    Ok(())
 }

@@ -12,8 +12,8 @@ pub returns-in_err-write_all : goal.returns-in_err-write_all
 returns-in_err-write_all g c =
     let p = err_from_is_err_and c.from_residual-in_err-write_all.result c.from_residual-in_err-write_all.ensures.1 in
     rw p.1 (cut_in_the_second (decimal c.args.folder) (codes ".") (decimal c.args.file) _ _ _ _ _ _ _ _
-        (done_by _ _ _ c.in_ok-write_number.ensures)
-        (record { ok = tt; err = c.in_err-write_all.ensures.err; cause = c.in_err-write_all.ensures.cause }))
+    (done_by _ _ _ c.in_ok-write_number.ensures)
+    (record { ok = tt; err = c.in_err-write_all.ensures.err; cause = c.in_err-write_all.ensures.cause }))
 
 pub returns : goal.returns
 returns g c = three (decimal c.args.folder) (codes ".") (decimal c.args.file) _ _ _ _ _ _ _ _ _
