@@ -1,0 +1,6 @@
+pub mod Container
+pub mod Outcome
+pub mod Verify
+pub mod Version
+pub mod Reach
+pub mod Told

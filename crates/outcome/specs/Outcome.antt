@@ -1,0 +1,39 @@
+-- What a command line answers, prints and leaves over the files of a tree.
+use Rattle.std.specs.Prelude.{◌≡◌, ℕ, List, Option, Result, Ok, Err}
+use Rattle.base_core.specs.Files.{Files}
+use Rattle.report_core.specs.declared.refusal.Refusal.TheVariants.{Usage}
+use Rattle.words_core.specs.Command.{CommandLine}
+use Rattle.words_core.specs.Grammar.{command_of}
+use Rattle.words_core.specs.declared.applet.Applet.{Applet}
+use Rattle.words_core.specs.declared.applet.Applet.TheVariants.{Verify, Version}
+use Rattle.outcome.specs.Told.{Outcome, refused}
+use Rattle.outcome.specs.Verify.{verify}
+use Rattle.outcome.specs.Version.{version}
+
+-- What a command needs that no function of the words and files tells: nothing yet.
+abbrev pub Given : Type 0
+Given = Unit {0}
+
+-- whether this is what a command needs over these files; a command that only reads needs nothing
+abbrev pub IsGivenTo : Applet → Files → Given → Type 0
+IsGivenTo Verify files given = Unit {0}
+IsGivenTo Version files given = Unit {0}
+
+abbrev pub IsGiven : CommandLine → Files → Given → Type 0
+IsGiven command files given = IsGivenTo command.applet files given
+
+abbrev pub run_applet : Applet → CommandLine → Given → Files → Outcome
+run_applet Verify command given files = verify files command.operands
+run_applet Version command given files = version files command.flags command.operands
+
+-- the outcome of a command
+abbrev pub run_of : CommandLine → Given → Files → Outcome
+run_of command given files = run_applet command.applet command given files
+
+abbrev pub IsOutcomeOf : Result CommandLine ℕ → Files → Outcome → Type 0
+IsOutcomeOf (Err place) files outcome = outcome ≡ refused files (Usage place)
+IsOutcomeOf (Ok command) files outcome = (given : Given) × IsGiven command files given × (outcome ≡ run_of command given files)
+
+-- the outcome of a command line over these files
+abbrev pub IsOutcome : List (List ℕ) → Files → Outcome → Type 0
+IsOutcome words files outcome = IsOutcomeOf (command_of words) files outcome

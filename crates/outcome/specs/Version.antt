@@ -1,0 +1,39 @@
+-- `version`: two versions are compared, or texts are checked for being versions.
+use Rattle.std.specs.Prelude.{ℕ, Bool, if◌then◌else◌, List, [], ◌∷◌, ◌++◌, codes, Option, Some, None}
+use Rattle.std.specs.declared.cmp.Ordering.{Ordering}
+use Rattle.std.specs.declared.cmp.Ordering.TheVariants.{Less, Equal, Greater}
+use Rattle.base_core.specs.Files.{Files}
+use Rattle.report_core.specs.declared.refusal.Refusal.{Refusal}
+use Rattle.report_core.specs.declared.refusal.Refusal.TheVariants.{VersionBad}
+use Rattle.version_core.specs.Order.{is_version, version_cmp}
+use Rattle.words_core.specs.declared.flags.Flags.{Flags}
+use Rattle.words_core.specs.declared.operands.Operand.{Operand}
+use Rattle.outcome.specs.Told.{Outcome, told, unless}
+
+-- the refusal of the first operand that is no version
+abbrev pub version_refusal : List Operand → Option Refusal
+version_refusal [] = None
+version_refusal (o ∷ operands) = if is_version o.text then version_refusal operands else Some (VersionBad o.place)
+
+-- how the first of two versions stands to the second
+abbrev pub order_line : Ordering → List ℕ
+order_line Less = codes "<\n"
+order_line Equal = codes "=\n"
+order_line Greater = codes ">\n"
+
+-- the order of the first two operands; the words have just two
+abbrev pub compared : List Operand → List ℕ
+compared [] = []
+compared (a ∷ []) = []
+compared (a ∷ (b ∷ operands)) = order_line (version_cmp a.text b.text)
+
+-- each operand that is no version, on a line of its own
+abbrev pub invalid_lines : List Operand → List ℕ
+invalid_lines [] = []
+invalid_lines (o ∷ operands) = if is_version o.text then invalid_lines operands else o.text ++ codes "\n" ++ invalid_lines operands
+
+-- with `--test` the order is told, unless one is no version; with `--check` those that are none are told, and the first is refused behind them
+abbrev pub version : Files → Flags → List Operand → Outcome
+version files flags operands =
+    if flags.test then unless files (version_refusal operands) (compared operands) else
+    told (version_refusal operands) (invalid_lines operands) files

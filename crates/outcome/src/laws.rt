@@ -1,0 +1,23 @@
+//! What follows from the definitions of outcomes, for all words and files.
+ghost use Rattle.std.specs.Prelude.{◌≡◌, ℕ, List, IsTrue};
+ghost use Rattle.base_core.specs.Files.{Files};
+ghost use Rattle.outcome.specs.Outcome.{IsOutcome};
+ghost use Rattle.outcome.specs.Told.{Outcome, told};
+ghost use Rattle.outcome.specs.Reach.{reads_only, rests_on_words};
+ghost use Rattle.words_core.specs.Grammar.{command_of};
+
+/// A command line has one outcome over some files.
+pub fn an_outcome_is_unique()
+    ensures { (words : List (List ℕ)) (files : Files) (a b : Outcome) → IsOutcome words files a → IsOutcome words files b → a ≡ b }
+{}
+
+/// A command that only reads leaves the files as they are.
+pub fn a_command_that_reads_leaves_the_files()
+    ensures { (words : List (List ℕ)) (files : Files) (o : Outcome) → IsTrue (reads_only (command_of words)) → IsOutcome words files o → o.files ≡ files }
+{}
+
+/// Where an outcome rests on the words alone, it is the same over all other files, which it leaves.
+pub fn an_outcome_of_words_is_the_same_everywhere()
+    ensures { (words : List (List ℕ)) (files others : Files) (o : Outcome) → IsTrue (rests_on_words (command_of words))
+        → IsOutcome words files o → IsOutcome words others (told o.refusal o.out others) }
+{}

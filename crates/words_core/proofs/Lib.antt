@@ -1,0 +1,4 @@
+pub mod OneMore
+pub mod Found
+pub mod KindsKept
+pub mod WhatIsRead

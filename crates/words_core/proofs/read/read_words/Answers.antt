@@ -1,0 +1,17 @@
+use Rattle.std.proofs.Common.{◌≡◌, ◌+◌, ◌<◌, length, Ok, sym, ◌∙◌, ap, arith}
+use Rattle.words_core.specs.Command.{may_have}
+use Rattle.words_core.specs.Flags.{no_flags}
+use Rattle.words_core.specs.Grammar.{start_of}
+use Rattle.words_core.proofs.KindsKept.{IsPlain, from_kept, start_known}
+use Rattle.words_core.proofs.read.read_words.Goals as goal
+
+pub read_behind-requires : goal.read_behind-requires
+read_behind-requires c =
+    let known : IsPlain c.in-Ok.start (1 + length c.args.words.now) = start_known c.args.words.now c.in-Ok.start (sym c.find_applet.ensures ∙ c.in-Ok.is) in
+    omega (arith, known.read)
+
+pub judge-requires : goal.judge-requires
+judge-requires c =
+    ap (λ r. may_have c.in-Ok.start.applet r.flags) c.in_ok-reading.ensures
+    ∙ from_kept c.in-Ok.start (1 + length c.args.words.now) c.args.words.now
+    (start_known c.args.words.now c.in-Ok.start (sym c.find_applet.ensures ∙ c.in-Ok.is))

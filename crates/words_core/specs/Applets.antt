@@ -1,0 +1,63 @@
+-- The applets, after apk(8), as rows of a table: each with its word, its options and its operands.
+use Rattle.std.specs.Prelude.{ℕ, Bool, true, false, ◌||◌, if◌then◌else◌, List, [], ◌∷◌, codes, Option, Some, None}
+use Rattle.std.specs.List.{find}
+use Rattle.std.specs.Option.{option_or}
+use Rattle.std.specs.Str.{bytes_eq}
+use Rattle.base_core.specs.Name.{is_name}
+use Rattle.words_core.specs.declared.applet.Applet.{Applet}
+use Rattle.words_core.specs.declared.applet.Applet.TheVariants.{Verify, Version}
+use Rattle.words_core.specs.declared.flags.Flag.{Flag}
+use Rattle.words_core.specs.declared.flags.Flag.TheVariants.{AllowUntrusted, NoScripts, Test, Check}
+use Rattle.words_core.specs.declared.flags.Flags.{Flags}
+use Rattle.words_core.specs.declared.rule.OperandRule.{OperandRule}
+use Rattle.words_core.specs.declared.rule.OperandKind.TheVariants.{File, Any}
+
+-- an option: its long word, its short word or nothing, what it says, and whether it is a kind, of which a command has one
+pub record Entry : Type 0 where
+  pub long : List ℕ
+  pub short : List ℕ
+  pub flag : Flag
+  pub is_kind : Bool
+
+-- an applet: its word, the options that are its own, and its operands under the flags; None where it lacks a kind
+pub record Row : Type 0 where
+  pub word : List ℕ
+  pub options : List Entry
+  pub operands : Flags → Option OperandRule
+
+-- the options of every applet, which may also stand before it
+unfoldable pub common : List Entry
+common =
+    record { long = codes "--allow-untrusted"; short = []; flag = AllowUntrusted; is_kind = false } ∷
+    (record { long = codes "--no-scripts"; short = []; flag = NoScripts; is_kind = false } ∷ [])
+
+-- one or more files
+abbrev pub verify_operands : Flags → Option OperandRule
+verify_operands flags = Some (record { kind = File; least = 1; most = None })
+
+-- two texts to compare, or one or more to check
+abbrev pub version_operands : Flags → Option OperandRule
+version_operands flags =
+    if flags.test then Some (record { kind = Any; least = 2; most = Some 2 }) else
+    if flags.check then Some (record { kind = Any; least = 1; most = None }) else
+    None
+
+abbrev pub version_options : List Entry
+version_options =
+    record { long = codes "--test"; short = codes "-t"; flag = Test; is_kind = true } ∷
+    (record { long = codes "--check"; short = codes "-c"; flag = Check; is_kind = true } ∷ [])
+
+abbrev pub row_of : Applet → Row
+row_of Verify = record { word = codes "verify"; options = []; operands = verify_operands }
+row_of Version = record { word = codes "version"; options = version_options; operands = version_operands }
+
+abbrev pub applets : List Applet
+applets = Verify ∷ (Version ∷ [])
+
+-- the applet that a word names
+abbrev pub applet_of : List ℕ → Option Applet
+applet_of word = find (λ applet. bytes_eq (row_of applet).word word) applets
+
+-- the option that a word spells, among some
+abbrev pub entry_of : List Entry → List ℕ → Option Entry
+entry_of entries word = find (λ (e : Entry). bytes_eq e.long word || bytes_eq e.short word) entries

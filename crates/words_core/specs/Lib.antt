@@ -1,0 +1,6 @@
+pub mod Flags
+pub mod Applets
+pub mod Command
+pub mod Grammar
+pub mod Entries
+pub mod Faults

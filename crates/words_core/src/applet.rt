@@ -1,0 +1,125 @@
+ghost use Rattle.std.specs.Prelude.{◌≡◌, map};
+ghost use Rattle.std.specs.Option.{option_map};
+ghost use Rattle.words_core.specs.Applets.{applet_of, common, entry_of, row_of};
+ghost use Rattle.words_core.specs.Grammar.{options_of};
+ghost use Rattle.words_core.specs.Entries.{entry};
+
+use crate::entry::{Entry, find_option};
+use crate::flags::{Flag, Flags};
+use crate::rule::{OperandKind, OperandRule};
+
+/// What a command does.
+#[derive(Clone, Copy, Debug, PartialEq, Eq)]
+pub enum Applet {
+    /// Test containers.
+    Verify,
+    /// Compare two versions, or check texts for being versions.
+    Version,
+}
+
+// All applets.
+const APPLETS: [Applet; 2] = [Applet::Verify, Applet::Version];
+
+// The options of every applet, which may also stand before it.
+static COMMON: [Entry; 2] = [
+    Entry {
+        long: b"--allow-untrusted",
+        short: b"",
+        flag: Flag::AllowUntrusted,
+        is_kind: false,
+    },
+    Entry {
+        long: b"--no-scripts",
+        short: b"",
+        flag: Flag::NoScripts,
+        is_kind: false,
+    },
+];
+
+// The options of `version`.
+static VERSION: [Entry; 2] = [
+    Entry {
+        long: b"--test",
+        short: b"-t",
+        flag: Flag::Test,
+        is_kind: true,
+    },
+    Entry {
+        long: b"--check",
+        short: b"-c",
+        flag: Flag::Check,
+        is_kind: true,
+    },
+];
+
+/// The option that a word spells, among those of every applet.
+#[tactic(auto, unfolding(crate::specs::Applets::common))]
+pub(crate) fn common_option(word: &[u8]) -> Option<Entry>
+    ensures { option_map entry result ≡ entry_of common word.now }
+{
+    find_option(&COMMON, word)
+}
+
+impl Applet {
+    /// The applet that a word names.
+    pub(crate) fn of(word: &[u8]) -> Option<Applet>
+        ensures { result ≡ applet_of word.now }
+    {
+        APPLETS.into_iter().find(|applet| applet.word() == word)
+    }
+
+    // The word of the applet.
+    fn word(self) -> &'static [u8]
+        ensures { result.now ≡ (row_of self).word }
+    {
+        match self {
+            Applet::Verify => b"verify",
+            Applet::Version => b"version",
+        }
+    }
+
+    /// The option that a word spells, among those of the applet and those of every applet.
+    #[tactic(auto, unfolding(crate::specs::Grammar::options_of))]
+    pub(crate) fn option(self, word: &[u8]) -> Option<Entry>
+        ensures { option_map entry result ≡ entry_of (options_of self) word.now }
+    {
+        match common_option(word) {
+            Some(option) => Some(option),
+            None => find_option(self.options(), word),
+        }
+    }
+
+    // The options that are the applet's own.
+    fn options(self) -> &'static [Entry]
+        ensures { map entry result.now ≡ (row_of self).options }
+    {
+        match self {
+            Applet::Verify => &[],
+            Applet::Version => &VERSION,
+        }
+    }
+
+    /// Which operands the applet takes under some flags. None: a flag is lacking that says so.
+    pub(crate) fn operands(self, flags: Flags) -> Option<OperandRule>
+        ensures { result ≡ (row_of self).operands flags }
+    {
+        match self {
+            Applet::Verify => Some(OperandRule {
+                kind: OperandKind::File,
+                least: 1,
+                most: None,
+            }),
+            Applet::Version if flags.test => Some(OperandRule {
+                kind: OperandKind::Any,
+                least: 2,
+                most: Some(2),
+            }),
+            Applet::Version if flags.check => Some(OperandRule {
+                kind: OperandKind::Any,
+                least: 1,
+                most: None,
+            }),
+            Applet::Version => None,
+        }
+    }
+}

@@ -1,0 +1,164 @@
+use super::*;
+use base_core::Words;
+use std::alloc::{AllocError, Global};
+use std::process::Abort;
+use std::test::Fail;
+
+// A command line, its words apart by spaces: the place of the first word that offends, or 0 where they are a command.
+struct Line(&'static [u8], u32);
+
+// The bad input of a command line, and lines of `verify`.
+const FILES: [Line; 39] = [
+    Line(b"", 1),
+    Line(b"-", 1),
+    Line(b"--", 2),
+    Line(b"---", 1),
+    Line(b"-=", 1),
+    Line(b"--=x", 1),
+    Line(b"foo", 1),
+    Line(b"--allow-untrusted", 2),
+    Line(b"--allow-untrusted foo", 2),
+    Line(b"--initdb verify a", 1),
+    Line(b"-t verify a", 1),
+    Line(b"--test version 1 2", 1),
+    Line(b"--help", 1),
+    Line(b"--version", 1),
+    Line(b"-- -- verify", 2),
+    Line(b"-- verify a", 0),
+    Line(b"-- verify -t -- --", 0),
+    Line(b"-- foo", 2),
+    Line(b"--no-scripts --", 3),
+    Line(b"--allow-untrusted --no-scripts verify a", 0),
+    Line(b"verify", 2),
+    Line(b"verify --", 3),
+    Line(b"verify --no-scripts --no-scripts", 4),
+    Line(b"verify a --allow-untrusted --no-scripts --allow-untrusted b", 0),
+    Line(b"verify --allow-untrusted=x a", 2),
+    Line(b"verify a -t", 3),
+    Line(b"verify -t a", 2),
+    Line(b"verify a b c d", 0),
+    Line(b"verify - -- -t --", 0),
+    Line(b"verify a/./b", 2),
+    Line(b"verify ./a a//b ./ .", 3),
+    Line(b"verify a ././b", 3),
+    Line(b"verify .", 2),
+    Line(b"verify /a --bad", 2),
+    Line(b"verify a --bad /a", 3),
+    Line(b"verify a  b", 3),
+    Line(b"verify a\0", 2),
+    Line(b"verify \xff", 2),
+    Line(b"verif\xff a", 1),
+];
+
+// Lines of `version`.
+const VERSIONS: [Line; 29] = [
+    Line(b"version", 2),
+    Line(b"version 1 2", 4),
+    Line(b"version 1 2 --bad", 4),
+    Line(b"version 1 2 3 --bad -t", 5),
+    Line(b"version 1 2 3 -t", 4),
+    Line(b"version -t 1 2", 0),
+    Line(b"version 1 --test 2", 0),
+    Line(b"version 1 2 -t", 0),
+    Line(b"version -t --test -t 1 2", 0),
+    Line(b"version -t 1", 4),
+    Line(b"version -t", 3),
+    Line(b"version -t a b c", 5),
+    Line(b"version -t a b c --bad", 5),
+    Line(b"version -t a b --bad c", 5),
+    Line(b"version -t -c 1 2", 3),
+    Line(b"version -c -t 1 2", 3),
+    Line(b"version -t 1 2 3 -c", 5),
+    Line(b"version -t -t -c 1 2", 4),
+    Line(b"version -tx 1 2", 2),
+    Line(b"version --test=x 1 2", 2),
+    Line(b"version --tes 1 2", 2),
+    Line(b"version -tc 1 2", 2),
+    Line(b"version -c", 3),
+    Line(b"version -c 1 2 3", 0),
+    Line(b"version -c -- -t -c --", 0),
+    Line(b"version -c . /x ./y", 0),
+    Line(b"version -c  \0 \xff", 0),
+    Line(b"version -c\xff 1", 2),
+    Line(b"--no-scripts version -x -t 1 2", 3),
+];
+
+// The words of a line.
+fn words_of(alloc: Global, line: &[u8]) -> Result<Words, AllocError> {
+    let mut words = Words::new(alloc);
+    for word in line.split(|byte| *byte == b' ') {
+        if words.len() < 100 {
+            words.push(word)?;
+        }
+    }
+    Ok(words)
+}
+
+// The place of the first word that offends, or 0 where the words are a command.
+fn place_of(alloc: Global, words: &Words) -> Result<u32, AllocError> {
+    match read_words(alloc, words) {
+        Ok(_) => Ok(0),
+        Err(WordsFault::Usage { place }) => Ok(place),
+        Err(WordsFault::Memory) => Err(AllocError),
+    }
+}
+
+fn read_lines(rt: &impl Abort, alloc: Global, lines: &[Line]) -> Result<(), AllocError> {
+    for line in lines {
+        let words = words_of(alloc, line.0)?;
+        let text = line.0;
+        assert_eq!(rt; place_of(alloc, &words)?, line.1, "at {text:?}");
+    }
+    Ok(())
+}
+
+#[test]
+fn files(rt: HostRuntime) -> Result<(), Fail> {
+    assert_eq!(rt; place_of(rt.alloc(), &Words::new(rt.alloc()))?, 1);
+    read_lines(&rt, rt.alloc(), &FILES)?;
+    Ok(())
+}
+
+#[test]
+fn versions(rt: HostRuntime) -> Result<(), Fail> {
+    read_lines(&rt, rt.alloc(), &VERSIONS)?;
+    Ok(())
+}
+
+#[test]
+fn commands(rt: HostRuntime) -> Result<(), Fail> {
+    let words = words_of(rt.alloc(), b"--no-scripts verify ./a --allow-untrusted -- ./-t")?;
+    let command = read_words(rt.alloc(), &words)?;
+    assert_eq!(rt; command.applet(), Applet::Verify);
+    let flags = Flags {
+        allow_untrusted: true,
+        no_scripts: true,
+        test: false,
+        check: false,
+    };
+    assert_eq!(rt; command.flags(), flags);
+    let operands = command.operands();
+    assert!(rt; !operands.is_empty());
+    assert_eq!(rt; operands.len(), 2);
+    assert_eq!(rt; operands.get(0).place, 3);
+    assert_eq!(rt; operands.get(0).text.as_bytes(), b"./a".as_slice());
+    assert_eq!(rt; operands.get(1).place, 6);
+    assert_eq!(rt; operands.get(1).file(), b"-t".as_slice());
+    Ok(())
+}
+
+#[test]
+fn many_words(rt: HostRuntime) -> Result<(), Fail> {
+    let mut words = words_of(rt.alloc(), b"verify")?;
+    for _ in 0..9998 {
+        if words.len() < 10000 {
+            words.push(b"a")?;
+        }
+    }
+    let command = read_words(rt.alloc(), &words)?;
+    assert_eq!(rt; command.operands().len(), 9998);
+    assert!(rt; words.len() < 10000);
+    words.push(b"--bad")?;
+    assert_eq!(rt; place_of(rt.alloc(), &words)?, 10000);
+    Ok(())
+}
