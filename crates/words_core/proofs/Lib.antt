@@ -2,3 +2,8 @@ pub mod OneMore
 pub mod Found
 pub mod KindsKept
 pub mod WhatIsRead
+pub mod LinesRead
+pub mod LinesJudged
+pub mod LinesMade
+pub mod OffendingWords
+pub mod MoreWords

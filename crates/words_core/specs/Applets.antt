@@ -6,18 +6,18 @@ use Rattle.std.specs.Str.{bytes_eq}
 use Rattle.base_core.specs.Name.{is_name}
 use Rattle.words_core.specs.declared.applet.Applet.{Applet}
 use Rattle.words_core.specs.declared.applet.Applet.TheVariants.{Verify, Version}
-use Rattle.words_core.specs.declared.flags.Flag.{Flag}
+use Rattle.words_core.specs.declared.entry.Meaning.{Meaning}
+use Rattle.words_core.specs.declared.entry.Meaning.TheVariants.{Flag as Plain, Kind}
 use Rattle.words_core.specs.declared.flags.Flag.TheVariants.{AllowUntrusted, NoScripts, Test, Check}
 use Rattle.words_core.specs.declared.flags.Flags.{Flags}
 use Rattle.words_core.specs.declared.rule.OperandRule.{OperandRule}
 use Rattle.words_core.specs.declared.rule.OperandKind.TheVariants.{File, Any}
 
--- an option: its long word, its short word or nothing, what it says, and whether it is a kind, of which a command has one
+-- an option: its long word, its short word or nothing, and what it says
 pub record Entry : Type 0 where
   pub long : List ℕ
   pub short : List ℕ
-  pub flag : Flag
-  pub is_kind : Bool
+  pub meaning : Meaning
 
 -- an applet: its word, the options that are its own, and its operands under the flags; None where it lacks a kind
 pub record Row : Type 0 where
@@ -28,8 +28,8 @@ pub record Row : Type 0 where
 -- the options of every applet, which may also stand before it
 unfoldable pub common : List Entry
 common =
-    record { long = codes "--allow-untrusted"; short = []; flag = AllowUntrusted; is_kind = false } ∷
-    (record { long = codes "--no-scripts"; short = []; flag = NoScripts; is_kind = false } ∷ [])
+    record { long = codes "--allow-untrusted"; short = []; meaning = Plain AllowUntrusted } ∷
+    (record { long = codes "--no-scripts"; short = []; meaning = Plain NoScripts } ∷ [])
 
 -- one or more files
 abbrev pub verify_operands : Flags → Option OperandRule
@@ -44,8 +44,8 @@ version_operands flags =
 
 abbrev pub version_options : List Entry
 version_options =
-    record { long = codes "--test"; short = codes "-t"; flag = Test; is_kind = true } ∷
-    (record { long = codes "--check"; short = codes "-c"; flag = Check; is_kind = true } ∷ [])
+    record { long = codes "--test"; short = codes "-t"; meaning = Kind Test } ∷
+    (record { long = codes "--check"; short = codes "-c"; meaning = Kind Check } ∷ [])
 
 abbrev pub row_of : Applet → Row
 row_of Verify = record { word = codes "verify"; options = []; operands = verify_operands }

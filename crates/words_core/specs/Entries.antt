@@ -3,4 +3,4 @@ use Rattle.words_core.specs.declared.entry.Entry.{Entry as Held}
 use Rattle.words_core.specs.Applets.{Entry}
 
 abbrev pub entry : Held → Entry
-entry held = record { long = held.long.now; short = held.short.now; flag = held.flag; is_kind = held.is_kind }
+entry held = record { long = held.long.now; short = held.short.now; meaning = held.meaning }

@@ -4,6 +4,8 @@ use Rattle.std.specs.Prelude.{ℕ, ◌+◌, Bool, true, false, not, ◌&&◌, �
 use Rattle.std.specs.Option.{option_map, option_or}
 use Rattle.std.specs.Str.{bytes_eq}
 use Rattle.words_core.specs.declared.applet.Applet.{Applet}
+use Rattle.words_core.specs.declared.entry.Meaning.{Meaning}
+use Rattle.words_core.specs.declared.entry.Meaning.TheVariants.{Flag as Plain, Kind}
 use Rattle.words_core.specs.declared.flags.Flags.{Flags}
 use Rattle.words_core.specs.declared.operands.Operand.{Operand}
 use Rattle.words_core.specs.declared.rule.OperandKind.{OperandKind}
@@ -23,12 +25,13 @@ is_option word = nat_lt 1 (length word) && bytes_eq (take 1 word) (codes "-")
 abbrev pub is_end : List ℕ → Bool
 is_end word = bytes_eq word (codes "--")
 
--- a kind may stand where no other kind does
-abbrev pub may_stand : Flags → Entry → Bool
-may_stand flags entry = not entry.is_kind || has_flag entry.flag flags || not (has_kind flags)
+-- flags with what an option says; None where it is a second kind
+abbrev pub with_meaning : Flags → Meaning → Option Flags
+with_meaning flags (Plain flag) = Some (with_flag flag flags)
+with_meaning flags (Kind flag) = if has_kind flags && not (has_flag flag flags) then None else Some (with_flag flag flags)
 
 abbrev pub with_entry : Flags → Entry → Option Flags
-with_entry flags entry = if may_stand flags entry then Some (with_flag entry.flag flags) else None
+with_entry flags entry = with_meaning flags entry.meaning
 
 -- flags with the option that a word spells; None where it spells none, or a second kind
 abbrev pub with_option : List Entry → Flags → List ℕ → Option Flags

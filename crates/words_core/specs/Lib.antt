@@ -3,4 +3,5 @@ pub mod Applets
 pub mod Command
 pub mod Grammar
 pub mod Entries
+pub mod Lines
 pub mod Faults

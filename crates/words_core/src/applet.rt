@@ -4,7 +4,7 @@ ghost use Rattle.words_core.specs.Applets.{applet_of, common, entry_of, row_of};
 ghost use Rattle.words_core.specs.Grammar.{options_of};
 ghost use Rattle.words_core.specs.Entries.{entry};
 
-use crate::entry::{Entry, find_option};
+use crate::entry::{Entry, Meaning, find_option};
 use crate::flags::{Flag, Flags};
 use crate::rule::{OperandKind, OperandRule};
 
@@ -25,14 +25,12 @@ static COMMON: [Entry; 2] = [
     Entry {
         long: b"--allow-untrusted",
         short: b"",
-        flag: Flag::AllowUntrusted,
-        is_kind: false,
+        meaning: Meaning::Flag(Flag::AllowUntrusted),
     },
     Entry {
         long: b"--no-scripts",
         short: b"",
-        flag: Flag::NoScripts,
-        is_kind: false,
+        meaning: Meaning::Flag(Flag::NoScripts),
     },
 ];
 
@@ -41,14 +39,12 @@ static VERSION: [Entry; 2] = [
     Entry {
         long: b"--test",
         short: b"-t",
-        flag: Flag::Test,
-        is_kind: true,
+        meaning: Meaning::Kind(Flag::Test),
     },
     Entry {
         long: b"--check",
         short: b"-c",
-        flag: Flag::Check,
-        is_kind: true,
+        meaning: Meaning::Kind(Flag::Check),
     },
 ];
 

@@ -3,7 +3,7 @@ ghost use Rattle.std.specs.Option.{option_and_then, option_map};
 ghost use Rattle.std.specs.Str.{bytes_eq};
 ghost use Rattle.words_core.specs.Applets.{entry_of};
 ghost use Rattle.words_core.specs.Entries.{entry};
-ghost use Rattle.words_core.specs.Grammar.{may_stand, with_entry};
+ghost use Rattle.words_core.specs.Grammar.{with_entry, with_meaning};
 
 use crate::flags::{Flag, Flags};
 
@@ -15,9 +15,29 @@ pub(crate) struct Entry {
     /// The short word that spells it, or nothing.
     pub short: &'static [u8],
     /// What it says.
-    pub flag: Flag,
-    /// Whether it says of which kind the command is.
-    pub is_kind: bool,
+    pub meaning: Meaning,
+}
+
+/// What an option says.
+#[derive(Clone, Copy)]
+pub(crate) enum Meaning {
+    /// A flag, which may stand any number of times.
+    Flag(Flag),
+    /// A flag that says of which kind the command is: no other kind may stand beside it.
+    Kind(Flag),
+}
+
+impl Meaning {
+    // These flags and what the option says. None comes where it is a second kind.
+    fn with(self, flags: Flags) -> Option<Flags>
+        ensures { result ≡ with_meaning flags self }
+    {
+        match self {
+            Meaning::Flag(flag) => Some(flags.with(flag)),
+            Meaning::Kind(flag) if flags.has_kind() && !flags.has(flag) => None,
+            Meaning::Kind(flag) => Some(flags.with(flag)),
+        }
+    }
 }
 
 impl Entry {
@@ -26,16 +46,6 @@ impl Entry {
         ensures { result ≡ (bytes_eq self.now.long.now word.now || bytes_eq self.now.short.now word.now) }
     {
         self.long == word || self.short == word
-    }
-
-    // Whether the option may stand behind some flags.
-    fn may_stand(&self, flags: &Flags) -> bool
-        ensures { result ≡ may_stand flags.now (entry self.now) }
-    {
-        if !self.is_kind || flags.has(self.flag) {
-            return true;
-        }
-        !flags.has_kind()
     }
 }
 
@@ -50,9 +60,5 @@ pub(crate) fn find_option(entries: &[Entry], word: &[u8]) -> Option<Entry>
 pub(crate) fn with_option(flags: Flags, option: Option<Entry>) -> Option<Flags>
     ensures { result ≡ option_and_then (with_entry flags) (option_map entry option) }
 {
-    let entry = option?;
-    if !entry.may_stand(&flags) {
-        return None;
-    }
-    Some(flags.with(entry.flag))
+    option?.meaning.with(flags)
 }

@@ -8,6 +8,7 @@ mod applet;
 mod command;
 mod entry;
 mod flags;
+mod laws;
 mod operands;
 mod read;
 mod reading;
@@ -18,6 +19,10 @@ mod words;
 pub use applet::Applet;
 pub use command::Command;
 pub use flags::Flags;
+pub use laws::{
+    commands_are_read, read_words_are_a_command, usage_errors_are_at_words,
+    words_offend_whatever_follows,
+};
 pub use operands::{Operand, Operands};
 pub use read::{WordsFault, read_words};
 

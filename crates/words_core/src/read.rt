@@ -36,7 +36,7 @@ impl From<AllocError> for WordsFault {
 #[tactic(auto, unfolding(crate::specs::Grammar::command_of))]
 pub fn read_words(alloc: Global, words: &Words) -> Result<Command, WordsFault>
     ensures ok { IfOk result (λ command. command_of words.now ≡ Ok command) }
-    ensures err { IfErr result (λ fault. IsWordsFault fault (command_of words.now)) }
+    ensures usage { IfErr result (λ fault. IsWordsFault fault (command_of words.now)) }
 {
     let start = match find_applet(words) {
         Ok(start) => start,
@@ -56,7 +56,7 @@ fn judge(
 ) -> Result<Command, WordsFault>
     requires { IsTrue (may_have applet reading.flags) }
     ensures ok { IfOk result (λ command. judged behind applet reading ≡ Ok command) }
-    ensures err { IfErr result (λ fault. IsWordsFault fault (judged behind applet reading)) }
+    ensures usage { IfErr result (λ fault. IsWordsFault fault (judged behind applet reading)) }
 {
     let Some(rule) = applet.operands(reading.flags) else {
         let place = reading.unread.unwrap_or(behind);

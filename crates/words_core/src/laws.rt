@@ -1,0 +1,24 @@
+ghost use Rattle.std.specs.Prelude.{◌≡◌, ◌≤◌, ◌+◌, ◌++◌, ℕ, List, Ok, Err, length};
+ghost use Rattle.words_core.specs.Command.{CommandLine};
+ghost use Rattle.words_core.specs.Grammar.{command_of};
+ghost use Rattle.words_core.specs.Lines.{IsLineOf};
+
+/// Words of which a command is read are that command: its applet, its operands and its options, and nothing else.
+pub fn read_words_are_a_command()
+    ensures { (words : List (List ℕ)) (command : CommandLine) → command_of words ≡ Ok command → IsLineOf words command }
+{}
+
+/// Words that are a command are read as it, wherever its options stand.
+pub fn commands_are_read()
+    ensures { (words : List (List ℕ)) (command : CommandLine) → IsLineOf words command → command_of words ≡ Ok command }
+{}
+
+/// A usage error is at a word, or behind the last one where a word is missing.
+pub fn usage_errors_are_at_words()
+    ensures { (words : List (List ℕ)) (place : ℕ) → command_of words ≡ Err place → (1 ≤ place) × (place ≤ length words + 1) }
+{}
+
+/// A word that offends does so whatever follows.
+pub fn words_offend_whatever_follows()
+    ensures { (words more : List (List ℕ)) (place : ℕ) → command_of words ≡ Err place → place ≤ length words → command_of (words ++ more) ≡ Err place }
+{}
