@@ -10,7 +10,10 @@ use Rattle.base_core.specs.declared.tree.TreeFault.TheVariants.{Disk, Memory as 
 use Rattle.report_core.specs.declared.refusal.Refusal.{Refusal}
 use Rattle.report_core.specs.declared.refusal.Refusal.TheVariants.{Usage}
 use Rattle.words_core.specs.Command.{CommandLine}
+use Rattle.words_core.specs.Faults.{IsWordsFault}
 use Rattle.words_core.specs.Grammar.{command_of}
+use Rattle.words_core.specs.declared.read.WordsFault.{WordsFault}
+use Rattle.words_core.specs.declared.read.WordsFault.TheVariants.{Usage as WrongWord}
 use Rattle.words_core.specs.declared.applet.Applet.{Applet}
 use Rattle.words_core.specs.declared.applet.Applet.TheVariants.{Verify, Version}
 use Rattle.outcome.specs.Told.{Outcome, refused}
@@ -49,6 +52,16 @@ ran_by_words words command (Err fault) is ran rests = ran (subst (λ (r : Result
 
 pub rests_on : (words : List (List ℕ)) (command : CommandLine) → command_of words ≡ Ok command → IsTrue (rests_on_words (command_of words)) → IsTrue (does_rest_on_words command.applet)
 rests_on words command is rests = subst (λ (r : Result CommandLine ℕ). IsTrue (rests_on_words r)) is rests
+
+pub usage_verdict : (words : List (List ℕ)) (p q : ℕ) (fault : WordsFault) (verdict : Verdict) → p ≡ q → fault ≡ WrongWord q → IsWordsFault fault (command_of words)
+    → ((files : Files) → shown files verdict ≡ refused files (Usage p)) → (files : Files) → IsOutcome words files (shown files verdict)
+usage_verdict words p q fault verdict same is of is_shown files =
+    let read : command_of words ≡ Err q = subst (λ (f : WordsFault). IsWordsFault f (command_of words)) is of in
+    subst (IsOutcome words files) (sym (is_shown files ∙ ap (λ (n : ℕ). refused files (Usage n)) same)) (usage_over words q files read)
+
+pub told_all : (h : List TreeState) (P : TreeState → Type 0) → ((v : TreeState) → P v) → OnTold h P
+told_all [] P all = tt
+told_all (v ∷ h) P all = all v
 
 -- ---- the outcome and the answer
 

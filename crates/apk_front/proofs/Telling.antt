@@ -1,8 +1,8 @@
 -- A report, and the line of a refusal behind it.
-use Rattle.std.proofs.Common.{◌≡◌, ◌≢◌, ◌⊎◌, inl, inr, ℕ, List, [], ◌++◌, Option, Some, None, refl, sym, ap, subst, ◌∙◌, append-nil}
+use Rattle.std.proofs.Common.{◌≡◌, ◌≢◌, ◌⊎◌, inl, inr, ℕ, List, [], ◌++◌, Option, Some, None, Err, refl, sym, ap, subst, ◌∙◌, append-nil}
 use Rattle.std.specs.Option.{option_map}
 use Rattle.base_core.specs.Files.{Files}
-use Rattle.base_core.specs.Sink.{Adds, AddsSome, Sinking, Gets, GetsSome, Failed}
+use Rattle.base_core.specs.Sink.{Adds, AddsSome, Sinking, Gets, GetsSome, Failed, Writes}
 use Rattle.report_core.specs.Texts.{refusal_line}
 use Rattle.report_core.specs.declared.refusal.Refusal.{Refusal}
 use Rattle.outcome.specs.Told.{Outcome, told, line_of}
@@ -38,7 +38,13 @@ told_behind (Some refusal) report files answer out err got (inr (is, gets, faile
 -- the report was not written
 pub told_not : (refusal : Option Refusal) (report : List ℕ) (files : Files) (out err : Sinking) → report ≢ [] → GetsSome out report → Failed out → err.told_after ≡ err.told_before → IsTold (told refusal report files) OutFault out err
 told_not refusal report files out err some gets failed same = record {
-    cause = inl (record { some = some; failed = failed });
-    out_gets = gets;
-    err_gets = subst (λ (t : Option (List ℕ)). AddsSome err.told_before t (line_of refusal)) (sym same) (none_some err.told_before (line_of refusal));
+  cause = inl (record { some = some; failed = failed });
+  out_gets = gets;
+  err_gets = subst (λ (t : Option (List ℕ)). AddsSome err.told_before t (line_of refusal)) (sym same) (none_some err.told_before (line_of refusal));
 }
+
+pub told_cut : {T E : Type 0} (refusal : Option Refusal) (report bytes : List ℕ) (files : Files) (out err : Sinking) (e : E) → bytes ≡ report → Writes {T = T} bytes out (Err e) → bytes ≢ []
+    → err.told_after ≡ err.told_before → IsOutFault (told refusal report files) out err
+told_cut {T} refusal report bytes files out err e is w some same =
+    let got : Writes {T = T} report out (Err e) = subst (λ (b : List ℕ). Writes {T = T} b out (Err e)) is w in
+    told_not refusal report files out err (λ none. some (is ∙ none)) got.err got.cause.cause same

@@ -1,9 +1,9 @@
 // `version`: two versions are compared, or texts are checked for being versions.
-ghost use Rattle.std.specs.Prelude.{◌≡◌, length, IsTrue, IfOk};
+ghost use Rattle.std.specs.Prelude.{◌≡◌, ◌++◌, length, IsTrue, IfOk, OnOk};
 ghost use Rattle.apk_front.specs.Shown.{shown};
 ghost use Rattle.base_core.specs.Files.{Files};
 ghost use Rattle.outcome.specs.Told.{told, unless};
-ghost use Rattle.outcome.specs.Version.{compared, invalid_lines, order_line, version, version_refusal};
+ghost use Rattle.outcome.specs.Version.{compared, invalid_line, invalid_lines, order_line, version, version_refusal};
 ghost use Rattle.words_core.specs.Command.{is_version};
 
 use crate::verdict::Verdict;
@@ -86,11 +86,18 @@ fn lines(alloc: Global, operands: &Operands) -> Result<Vec<u8>, AllocError>
 {
     let mut report = Vec::new(alloc);
     for i in 0..operands.len() {
-        let text = operands.get(i).text.as_bytes();
-        if Version::read(text).is_none() {
-            report.extend_from_slice(text)?;
-            report.extend_from_slice(b"\n")?;
-        }
+        add_line(&mut report, operands.get(i).text.as_bytes())?;
     }
     Ok(report)
+}
+
+// A line for a text that is no version.
+fn add_line(report: &mut Vec<u8>, text: &[u8]) -> Result<(), AllocError>
+    ensures { OnOk result (report.new.items ≡ report.old.items ++ invalid_line text.now) }
+{
+    if Version::read(text).is_some() {
+        return Ok(());
+    }
+    report.extend_from_slice(text)?;
+    report.extend_from_slice(b"\n")
 }

@@ -1,8 +1,8 @@
 -- What a map has at one name, and at the others.
-use Rattle.std.proofs.Common.{◌≡◌, ◌⊎◌, ◌≢◌, inl, inr, ⊎_elim, ℕ, Bool, true, false, cond, List, Option, Some, IsSome, refl, sym, ap, subst}
+use Rattle.std.proofs.Common.{◌≡◌, ◌⊎◌, ◌≢◌, inl, inr, ⊎_elim, ℕ, Bool, true, false, cond, List, Option, Some, None, IsSome, refl, sym, ap, subst}
 use Rattle.std.specs.Str.{bytes_eq}
 use Rattle.std.proofs.lemmas.Slice.Eq.{bytes_eq-Decides}
-use Rattle.base_core.specs.Files.{put}
+use Rattle.base_core.specs.Files.{put, drop_name}
 
 by_test : (b : Bool) (P : Type 0) → (b ≡ true → P) × (P → b ≡ true) → P ⊎ (b ≡ false)
 by_test true P d = inl (d.0 refl)
@@ -33,6 +33,12 @@ put-at map name x q is = ap (λ b. cond b (Some x) (map q)) (same_name q name is
 
 pub put-off : {X : Type 0} (map : List ℕ → Option X) (name : List ℕ) (x : X) (q : List ℕ) → q ≢ name → put map name x q ≡ map q
 put-off map name x q ne = ap (λ b. cond b (Some x) (map q)) (other_name q name ne)
+
+pub drop_name-at : {X : Type 0} (map : List ℕ → Option X) (name q : List ℕ) → q ≡ name → drop_name map name q ≡ None
+drop_name-at map name q is = ap (λ b. cond b None (map q)) (same_name q name is)
+
+pub drop_name-off : {X : Type 0} (map : List ℕ → Option X) (name q : List ℕ) → q ≢ name → drop_name map name q ≡ map q
+drop_name-off map name q ne = ap (λ b. cond b None (map q)) (other_name q name ne)
 
 -- what was present is so with one name more
 pub some_put : {X : Type 0} (map : List ℕ → Option X) (name : List ℕ) (x : X) (q : List ℕ) → IsSome (map q) → IsSome (put map name x q)

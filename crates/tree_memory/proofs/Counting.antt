@@ -1,10 +1,15 @@
 -- What the counts of a tree in memory say of each call.
-use Rattle.std.proofs.Common.{◌≡◌, inl, inr, ℕ, ◌-◌, ◌≤◌, ◌||◌, Bool, true, false, cond, eqb, ltb, List, [], ◌∷◌, Ok, Err, refl, ap, subst, ◌∙◌, arith}
+use Rattle.std.proofs.Common.{◌≡◌, ◌⊎◌, inl, inr, ⊎_elim, ℕ, ◌-◌, ◌≤◌, ◌||◌, Bool, true, false, cond, eqb, ltb, List, [], ◌∷◌, Option, None, Some, Result, Ok, Err, is_ok, is_some, IsErr, refl, sym, ap, subst, ◌∙◌, arith}
+use Rattle.std.specs.List.{list_any}
+use Rattle.std.specs.Option.{option_map}
 use Rattle.std.proofs.lemmas.Bool.Decides.{nat_tests}
 use Rattle.base_core.specs.Tree.{TreeState}
 use Rattle.base_core.specs.Calls.{Counted}
-use Rattle.base_core.specs.Faults.{Counts, risen}
-use Rattle.tree_memory.specs.Plans.{is_next, has_more, one_on}
+use Rattle.base_core.specs.Faults.{GoesOn, HasCause}
+use Rattle.tree_memory.specs.Plans.{PlanState, is_listed, is_stopped, is_next, has_more, listed_on, one_on}
+use Rattle.tree_memory.specs.Tallies.{called, faulted, misused, wanted, begun, goes_on, HasGrown}
+use Rattle.tree_memory.specs.Memory.{counts_by}
+use Rattle.tree_memory.specs.declared.tally.Calls.{Calls}
 use Rattle.tree_memory.specs.declared.tally.Tally.{Tally}
 
 -- ---- plans
@@ -15,78 +20,186 @@ either true b false d one other is = absurd (let e = one refl in cc (e, e))
 either false b true d one other is = refl
 either false b false d one other is = other is
 
+above_one : (n : ℕ) → eqb n 1 ≡ true → ltb 0 n ≡ true
+above_one n one = grind (arith, nat_tests)
+
+-- whether a number of a list is one of a call still to come
+abbrev is_ahead : List ℕ → Bool
+is_ahead listed = list_any (λ n. ltb 0 n) listed
+
+listed_ahead : (listed : List ℕ) → is_listed listed ≡ true → is_ahead listed ≡ true
+listed_ahead [] is = absurd (cc)
+listed_ahead (n ∷ listed) is = either (eqb n 1) (is_listed listed) (ltb 0 n) (is_ahead listed) (above_one n) (listed_ahead listed) is
+
+stopped_some : (stop : Option ℕ) → is_stopped stop ≡ true → is_some stop ≡ true
+stopped_some None is = absurd (cc)
+stopped_some (Some n) is = refl
+
 -- a failure of the next call is one still to come
-pub next_is_more : (plan : List ℕ) → is_next plan ≡ true → has_more plan ≡ true
-next_is_more [] is = absurd (cc)
-next_is_more (n ∷ plan) is = either (eqb n 1) (is_next plan) (ltb 0 n) (has_more plan) (λ one. above n one) (next_is_more plan) is
-  where
-    above : (n : ℕ) → eqb n 1 ≡ true → ltb 0 n ≡ true
-    above n one = grind (arith, nat_tests)
+pub next_is_more : (plan : PlanState) → is_next plan ≡ true → has_more plan ≡ true
+next_is_more plan is = either (is_listed plan.listed) (is_stopped plan.stop) (is_ahead plan.listed) (is_some plan.stop) (listed_ahead plan.listed) (stopped_some plan.stop) is
 
 above : (n : ℕ) → ltb 0 (n - 1) ≡ true → ltb 0 n ≡ true
 above n one = grind (arith, nat_tests)
 
-by : (n : ℕ) (old : Bool) (rest : List ℕ) (b : Bool) → ltb 0 (n - 1) ≡ b → (has_more rest ≡ true → old ≡ true) → has_more (cond b ((n - 1) ∷ rest) rest) ≡ true → (ltb 0 n || old) ≡ true
+by : (n : ℕ) (old : Bool) (rest : List ℕ) (b : Bool) → ltb 0 (n - 1) ≡ b → (is_ahead rest ≡ true → old ≡ true) → is_ahead (cond b ((n - 1) ∷ rest) rest) ≡ true → (ltb 0 n || old) ≡ true
 by n old rest true at more is = ap (λ b. b || old) (above n at)
-by n old rest false at more is = either false (has_more rest) (ltb 0 n) old (λ none. absurd (cc)) more is
+by n old rest false at more is = either false (is_ahead rest) (ltb 0 n) old (λ none. absurd (cc)) more is
+
+ahead_is_ahead : (listed : List ℕ) → is_ahead (listed_on listed) ≡ true → is_ahead listed ≡ true
+ahead_is_ahead [] is = absurd (cc)
+ahead_is_ahead (n ∷ listed) is = by n (is_ahead listed) (listed_on listed) (ltb 0 (n - 1)) refl (ahead_is_ahead listed) is
+
+some_is_some : (stop : Option ℕ) → is_some (option_map (λ n. n - 1) stop) ≡ true → is_some stop ≡ true
+some_is_some None is = is
+some_is_some (Some n) is = refl
 
 -- and so is one behind the next call
-pub more_is_more : (plan : List ℕ) → has_more (one_on plan) ≡ true → has_more plan ≡ true
-more_is_more [] is = absurd (cc)
-more_is_more (n ∷ plan) is = by n (has_more plan) (one_on plan) (ltb 0 (n - 1)) refl (more_is_more plan) is
+pub more_is_more : (plan : PlanState) → has_more (one_on plan) ≡ true → has_more plan ≡ true
+more_is_more plan is = either (is_ahead (listed_on plan.listed)) (is_some (option_map (λ n. n - 1) plan.stop)) (is_ahead plan.listed) (is_some plan.stop) (ahead_is_ahead plan.listed) (some_is_some plan.stop) is
 
--- ---- counts
+-- ---- a call that begins
 
-abbrev pub counts : Tally → List ℕ → Counts
-counts t plan = record { faults = t.faults; misuses = t.misuses; wants = t.wants; fallible = has_more plan }
+-- a call was counted, and fails at once if it has to, or where that is planned
+pub record IsBegun (b : Bool) (writes : ℕ) (old new : Calls) : Type 0 where
+  pub plan : new.plan ≡ one_on old.plan
+  pub tally : new.tally ≡ begun b (is_next old.plan) (record old.tally { writes = writes })
+  pub grown : HasGrown old.tally new.tally
 
-module _ (can : TreeState → Type 0) (v : TreeState) (earlier : List TreeState) (t t₁ t' : Tally) (plan plan' : List ℕ) (nearer : plan' ≡ one_on plan) (called : t₁ ≡ record t { calls = risen t.calls }) {T E : Type 0} where
-  pub counted_done : (x : T) → can v → t' ≡ t₁ → Counted {E = E} can (v ∷ earlier) (counts t plan) (counts t' plan') (Ok x)
-  counted_done x can_do is = record {
-    goes_on = record {
-      faults = omega (arith, ap (λ (u : Tally). u.faults) (is ∙ called));
-      misuses = omega (arith, ap (λ (u : Tally). u.misuses) (is ∙ called));
-      wants = omega (arith, ap (λ (u : Tally). u.wants) (is ∙ called));
-      fallible = λ f. more_is_more plan (subst (λ (p : List ℕ). has_more p ≡ true) nearer f);
-    };
-    cause = tt;
-    kept = ap (λ (u : Tally). u.faults) (is ∙ called);
-    allowed = can_do;
-    proper = λ _. ap (λ (u : Tally). u.misuses) (is ∙ called);
-    misuse = λ cannot. absurd (cannot can_do);
-  }
+-- b is the answer to whether it is no misuse
+pub record Says (b : Bool) (P : Type 0) : Type 0 where
+  pub good : b ≡ true → P
+  pub back : P → b ≡ true
 
-  pub counted_misuse : (e : E) → (can v → ⊥) → t₁.faults ≤ t'.faults → t₁.misuses ≤ t'.misuses → t' ≡ record t₁ { faults = risen t₁.faults; misuses = risen t₁.misuses } → Counted {T = T} can (v ∷ earlier) (counts t plan) (counts t' plan') (Err e)
-  counted_misuse e cannot later more is =
-      let f = ap (λ (u : Tally). u.faults) called in
-      let m = ap (λ (u : Tally). u.misuses) called in
-      let misuses : t'.misuses ≡ risen t.misuses = ap (λ (u : Tally). u.misuses) is ∙ ap risen m in record {
-        goes_on = record {
-          faults = omega (arith, later, f);
-          misuses = omega (arith, more, m);
-          wants = omega (arith, ap (λ (u : Tally). u.wants) is, ap (λ (u : Tally). u.wants) called);
-          fallible = λ f. more_is_more plan (subst (λ (p : List ℕ). has_more p ≡ true) nearer f);
-        };
-        cause = record { fault = omega (arith, ap (λ (u : Tally). u.faults) is ∙ ap risen f); reason = inr (inl (omega (arith, misuses))) };
+pub says : (b : Bool) (P : Type 0) → (b ≡ true → P) × (P → b ≡ true) → Says b P
+says b P both = record { good = both.0; back = both.1 }
+
+pub always : (v : TreeState) → Says true (Unit {0})
+always v = record { good = λ _. tt; back = λ _. refl }
+
+on : (old new : Calls) → HasGrown old.tally new.tally → new.plan ≡ one_on old.plan → GoesOn (counts_by old) (counts_by new)
+on old new grown nearer = record { faults = grown.faults; misuses = grown.misuses; wants = grown.wants; fallible = λ f. more_is_more old.plan (subst (λ (p : PlanState). has_more p ≡ true) nearer f) }
+
+-- ---- one that goes on
+
+module _ (b : Bool) (writes : ℕ) (old new : Calls) (h : IsBegun b writes old new) where
+  abbrev begun_at : Bool → Bool → Tally
+  begun_at c p = begun c p (record old.tally { writes = writes })
+
+  free : (c p : Bool) → goes_on c p ≡ true → (c ≡ true) × (p ≡ false)
+  free true false goes = (refl, refl)
+  free true true goes = absurd (cc)
+  free false p goes = absurd (cc)
+
+  pub is_free : goes_on b (is_next old.plan) ≡ true → (b ≡ true) × (is_next old.plan ≡ false)
+  is_free goes = free b (is_next old.plan) goes
+
+  pub free_tally : goes_on b (is_next old.plan) ≡ true → new.tally ≡ called (record old.tally { writes = writes })
+  free_tally goes = let at = is_free goes in h.tally ∙ (λ i. begun_at (at.0 i) (at.1 i))
+
+  -- ---- one that fails at once
+
+  failed : (c p : Bool) → goes_on c p ≡ false → ((c ≡ false) × (begun_at c p ≡ misused (called (record old.tally { writes = writes })))) ⊎ ((c ≡ true) × (p ≡ true) × (begun_at c p ≡ faulted (called (record old.tally { writes = writes }))))
+  failed true false stays = absurd (cc)
+  failed true true stays = inr (refl, refl, refl)
+  failed false p stays = inl (refl, refl)
+
+  pub record IsMisused : Type 0 where
+    pub cannot : b ≡ false
+    pub tally : new.tally ≡ misused (called (record old.tally { writes = writes }))
+
+  pub record IsPlanned : Type 0 where
+    pub can : b ≡ true
+    pub next : is_next old.plan ≡ true
+    pub tally : new.tally ≡ faulted (called (record old.tally { writes = writes }))
+
+  pub has_failed : goes_on b (is_next old.plan) ≡ false → IsMisused ⊎ IsPlanned
+  has_failed stays = ⊎_elim (λ m. inl (record { cannot = m.0; tally = h.tally ∙ m.1 })) (λ p. inr (record { can = p.0; next = p.1; tally = h.tally ∙ p.2 })) (failed b (is_next old.plan) stays)
+
+  pub begun_on : GoesOn (counts_by old) (counts_by new)
+  begun_on = on old new h.grown h.plan
+
+no_true : (b : Bool) → b ≡ false → b ≡ true → ⊥
+no_true b off at = cc (off, at)
+
+-- a call that is never a misuse fails where that is planned
+pub planned_cause : (writes : ℕ) (old new : Calls) → IsBegun true writes old new → goes_on true (is_next old.plan) ≡ false → HasCause (counts_by old) (counts_by new)
+planned_cause writes old new h stays = ⊎_elim (λ m. absurd (no_true true m.cannot refl))
+    (λ p. record { fault = omega (arith, ap (λ (u : Tally). u.faults) p.tally); reason = inl (next_is_more old.plan p.next) })
+    (has_failed true writes old new h stays)
+
+-- ---- what the counts say
+
+module _ (can : TreeState → Type 0) (v : TreeState) (earlier : List TreeState) (b : Bool) (s : Says b (can v)) (writes : ℕ) (old new : Calls) (h : IsBegun b writes old new) {T E : Type 0} where
+  pub refused_counts : (r : Result T E) → IsErr r → goes_on b (is_next old.plan) ≡ false → Counted can (v ∷ earlier) (counts_by old) (counts_by new) r
+  refused_counts (Ok x) is stays = absurd (cc (is))
+  refused_counts (Err e) is stays = ⊎_elim misuse planned (has_failed b writes old new h stays)
+    where
+      misuse : IsMisused b writes old new h → Counted {T = T} can (v ∷ earlier) (counts_by old) (counts_by new) (Err e)
+      misuse m = let cannot : can v → ⊥ = λ can_do. no_true b m.cannot (s.back can_do) in record {
+        goes_on = on old new h.grown h.plan;
+        cause = record { fault = omega (arith, ap (λ (u : Tally). u.faults) m.tally); reason = inr (inl (omega (arith, ap (λ (u : Tally). u.misuses) m.tally))) };
         kept = tt;
         allowed = tt;
         proper = λ can_do. absurd (cannot can_do);
-        misuse = λ _. misuses;
+        misuse = λ _. ap (λ (u : Tally). u.misuses) m.tally;
       }
 
-  pub counted_planned : (e : E) → can v → is_next plan ≡ true → t₁.faults ≤ t'.faults → t' ≡ record t₁ { faults = risen t₁.faults } → Counted {T = T} can (v ∷ earlier) (counts t plan) (counts t' plan') (Err e)
-  counted_planned e can_do next later is =
-      let f = ap (λ (u : Tally). u.faults) called in
-      let misuses : t'.misuses ≡ t.misuses = ap (λ (u : Tally). u.misuses) is ∙ ap (λ (u : Tally). u.misuses) called in record {
-        goes_on = record {
-          faults = omega (arith, later, f);
-          misuses = omega (arith, misuses);
-          wants = omega (arith, ap (λ (u : Tally). u.wants) is, ap (λ (u : Tally). u.wants) called);
-          fallible = λ f. more_is_more plan (subst (λ (p : List ℕ). has_more p ≡ true) nearer f);
-        };
-        cause = record { fault = omega (arith, ap (λ (u : Tally). u.faults) is ∙ ap risen f); reason = inl (next_is_more plan next) };
+      planned : IsPlanned b writes old new h → Counted {T = T} can (v ∷ earlier) (counts_by old) (counts_by new) (Err e)
+      planned p = record {
+        goes_on = on old new h.grown h.plan;
+        cause = record { fault = omega (arith, ap (λ (u : Tally). u.faults) p.tally); reason = inl (next_is_more old.plan p.next) };
         kept = tt;
         allowed = tt;
-        proper = λ _. misuses;
-        misuse = λ cannot. absurd (cannot can_do);
+        proper = λ _. ap (λ (u : Tally). u.misuses) p.tally;
+        misuse = λ cannot. absurd (cannot (s.good p.can));
       }
+
+  pub done_counts : (x : T) → goes_on b (is_next old.plan) ≡ true → Counted {E = E} can (v ∷ earlier) (counts_by old) (counts_by new) (Ok x)
+  done_counts x goes = let tally = free_tally b writes old new h goes in let can_do = s.good (is_free b writes old new h goes).0 in record {
+    goes_on = on old new h.grown h.plan;
+    cause = tt;
+    kept = ap (λ (u : Tally). u.faults) tally;
+    allowed = can_do;
+    proper = λ _. ap (λ (u : Tally). u.misuses) tally;
+    misuse = λ cannot. absurd (cannot can_do);
+  }
+
+-- ---- a call that ends
+
+-- the end of a call, for which there was memory or not
+pub record IsEnded (there : Bool) (mid new : Calls) : Type 0 where
+  pub plan : new.plan ≡ mid.plan
+  pub tally : new.tally ≡ cond there mid.tally (wanted mid.tally)
+  pub grown : HasGrown mid.tally new.tally
+
+module _ (can : TreeState → Type 0) (v : TreeState) (earlier : List TreeState) (b : Bool) (s : Says b (can v)) (writes : ℕ) (old mid new : Calls) (h : IsBegun b writes old mid) (goes : goes_on b (is_next old.plan) ≡ true) where
+  can_do : can v
+  can_do = s.good (is_free b writes old mid h goes).0
+
+  ended_on : (there : Bool) → IsEnded there mid new → GoesOn (counts_by old) (counts_by new)
+  ended_on there end = on old new (record {
+      faults = omega (arith, h.grown.faults, end.grown.faults);
+      misuses = omega (arith, h.grown.misuses, end.grown.misuses);
+      wants = omega (arith, h.grown.wants, end.grown.wants);
+    }) (end.plan ∙ h.plan)
+
+  pub ended_counts : {T E : Type 0} (there : Bool) (r : Result T E) → IsEnded there mid new → is_ok r ≡ there → Counted can (v ∷ earlier) (counts_by old) (counts_by new) r
+  ended_counts true (Ok x) end is = let tally = end.tally ∙ free_tally b writes old mid h goes in record {
+    goes_on = ended_on true end;
+    cause = tt;
+    kept = ap (λ (u : Tally). u.faults) tally;
+    allowed = can_do;
+    proper = λ _. ap (λ (u : Tally). u.misuses) tally;
+    misuse = λ cannot. absurd (cannot can_do);
+  }
+  ended_counts true (Err e) end is = absurd (cc (is))
+  ended_counts false (Ok x) end is = absurd (cc (is))
+  ended_counts false (Err e) end is = let tally = end.tally ∙ ap wanted (free_tally b writes old mid h goes) in record {
+    goes_on = ended_on false end;
+    cause = record { fault = omega (arith, ap (λ (u : Tally). u.faults) tally); reason = inr (inr (omega (arith, ap (λ (u : Tally). u.wants) tally))) };
+    kept = tt;
+    allowed = tt;
+    proper = λ _. ap (λ (u : Tally). u.misuses) tally;
+    misuse = λ cannot. absurd (cannot can_do);
+  }

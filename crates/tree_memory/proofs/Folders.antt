@@ -1,20 +1,22 @@
 -- Names below folders, and where a table has them.
-use Rattle.std.proofs.Common.{◌≡◌, ◌≢◌, ⊎_elim, ℕ, ◌+◌, ◌<◌, ◌≤◌, List, [], ◌∷◌, ◌++◌, length, get_or, take, drop, Option, IsSome, Result, Ok, Err, refl, sym, ap, subst, ◌∙◌, arith, append_assoc, length-append, take-append-drop}
+use Rattle.std.proofs.Common.{◌≡◌, ◌≢◌, ⊎_elim, ℕ, ◌+◌, ◌-◌, ◌<◌, ◌≤◌, leb, Bool, true, false, cond, List, [], ◌∷◌, ◌++◌, length, get_or, take, drop, Option, None, Some, IsSome, refl, sym, ap, subst, ◌∙◌, arith, append_assoc, length-append, take-append-drop}
+use Rattle.std.proofs.Math.ListN.{get_or-append}
 use Rattle.std.proofs.Math.Seq.{get_or-append_seam, take-append_seam}
-use Rattle.std.proofs.lemmas.List.{drop_more}
-use Rattle.std.specs.List.{AllWithin, HoldsAt}
-use Rattle.std.specs.Result.{MatchResult}
-use Rattle.std.specs.Ordering.{nat_cmp, ordering_then}
+use Rattle.std.proofs.lemmas.List.{drop_more, get_or_default}
+use Rattle.std.specs.List.{AllPairs, Contains}
+use Rattle.std.specs.Str.{bytes_eq}
+use Rattle.std.specs.Ordering.{nat_cmp, ordering_then, ordering_index, is_lt}
 use Rattle.std.specs.Cmp.Lexicographic.{slice_cmp}
-use Rattle.std.specs.List.Sorted.{IsBinarySearchResult, IsSearchInRange}
+use Rattle.std.specs.List.Sorted.{IsPartitionedBy, IsPartitionPoint}
+use Rattle.std.proofs.lemmas.List.Sorted.{IsPartitionedBy-leb}
 use Rattle.std.specs.declared.cmp.Ordering.{Ordering}
 use Rattle.std.specs.declared.cmp.Ordering.TheVariants.{Less, Equal, Greater}
 use Rattle.std.proofs.lemmas.Cmp.{nat_cmp_total, tied_itself}
 use Rattle.std.proofs.lemmas.Map.Lookups.{exact_bytes, exact_unsigned}
 use Rattle.std.proofs.lemmas.Bool.{cases_lt, cases_eq}
-use Rattle.base_core.specs.Files.{IsFolderOf, IsFolderLike, put}
-use Rattle.tree_memory.specs.Table.{IsTable, lookup, HasFolderOf, HasBelow}
-use Rattle.tree_memory.proofs.AtName.{name_cases, off_name, put-at, put-off, some_put}
+use Rattle.base_core.specs.Files.{IsFolderOf, IsFolderLike, NameMap, put, drop_name}
+use Rattle.tree_memory.specs.Table.{IsTable, lookup, IsStart, IsFit, IsBelow, HasFolderBut, HasBelowBut}
+use Rattle.tree_memory.proofs.AtName.{name_cases, other_name, off_name, put-at, put-off, drop_name-at, drop_name-off}
 use Rattle.tree_memory.proofs.Placed.{searchable, stands, looked_up}
 use Rattle.tree_memory.specs.declared.table.Entry.{Entry}
 
@@ -59,14 +61,7 @@ at_folder folder name (rest, is) = (
 pub not_itself : (name : List ℕ) → IsFolderOf name name → ⊥
 not_itself name folder = omega (arith, (at_folder name name folder).0)
 
--- ---- what a table has below a folder
-
--- an entry that is the folder's name and a slash
-pub has_at : (es : List Entry) (i : ℕ) (d : Entry) (folder : List ℕ) → i < length es → IsFolderOf folder (get_or es i d).name → HasBelow es folder
-has_at es i d folder within below = ((get_or es i d).name, below, looked_up es i d within)
-
-pub has_equal : (es : List Entry) (i : ℕ) (d : Entry) (folder : List ℕ) → i < length es → cmp (get_or es i d).name (folder ++ 47 ∷ []) ≡ Equal → HasBelow es folder
-has_equal es i d folder within equal = has_at es i d folder within ([], exact_bytes _ _ equal)
+-- ---- where the names below a folder stand
 
 abbrev slashed : List ℕ → List ℕ
 slashed folder = folder ++ 47 ∷ []
@@ -76,68 +71,224 @@ below_from : (folder name : List ℕ) → IsFolderOf folder name → cmp name (s
 below_from folder name (rest, is) = λ less.
     not_below (slashed folder) rest (ap (λ (l : List ℕ). cmp l (slashed folder)) (append_assoc folder (47 ∷ []) rest ∙ sym is) ∙ less)
 
--- Of the entries behind the place, the first tells whether one is below.
-pub first_tells : (es : List Entry) (i : ℕ) (d : Entry) (folder : List ℕ) → IsTable es → AllWithin (λ (e : Entry). cmp e.name (slashed folder) ≡ Less) es 0 i
-    → AllWithin (λ (e : Entry). cmp e.name (slashed folder) ≡ Greater) es i (length es) → HasBelow es folder → (i < length es) × IsFolderOf folder (get_or es i d).name
-first_tells es i d folder table before behind (name, below, some) =
+less_index : (o : Ordering) → is_lt o ≡ leb (ordering_index o) 0
+less_index Less = refl
+less_index Equal = refl
+less_index Greater = refl
+
+-- the names before the folder's name and a slash come first
+pub parted : (es : List Entry) (folder : List ℕ) → IsTable es → IsPartitionedBy (λ (e : Entry). is_lt (cmp e.name (folder ++ 47 ∷ []))) es
+parted es folder table i j d upto within at =
+    let by = IsPartitionedBy-leb (λ (e : Entry). ordering_index (cmp e.name (slashed folder))) es 0 (searchable es (slashed folder) table) i j d upto within in
+    less_index (cmp (get_or es i d).name (slashed folder)) ∙ by (sym (less_index (cmp (get_or es j d).name (slashed folder))) ∙ at)
+
+is_less : (o : Ordering) → is_lt o ≡ true → o ≡ Less
+is_less Less is = refl
+is_less Equal is = absurd (cc)
+is_less Greater is = absurd (cc)
+
+not_less : (o : Ordering) → is_lt o ≡ false → o ≢ Less
+not_less Less is = absurd (cc)
+not_less Equal is = λ less. cc
+not_less Greater is = λ less. cc
+
+pub start_from : (es : List Entry) (i : ℕ) (folder : List ℕ) → i ≤ length es
+    → IsPartitionPoint (λ (e : Entry). is_lt (cmp e.name (folder ++ 47 ∷ [])) ≡ true) (λ (e : Entry). is_lt (cmp e.name (folder ++ 47 ∷ [])) ≡ false) es i → IsStart es i folder
+start_from es i folder within point = record {
+  within = within;
+  before = λ k d low high. is_less (cmp (get_or es k d).name (slashed folder)) (point.0 k d low high);
+  behind = λ k d low high. not_less (cmp (get_or es k d).name (slashed folder)) (point.1 k d low high);
+}
+
+-- a name below a folder stands behind the start
+pub behind_start : (es : List Entry) (start k : ℕ) (d : Entry) (folder : List ℕ) → IsStart es start folder → k < length es → IsFolderOf folder (get_or es k d).name → start ≤ k
+behind_start es start k d folder is within below =
+    ⊎_elim (λ early. absurd (below_from folder (get_or es k d).name below (is.before k d (omega arith) early))) (λ late. late) (cases_lt k start)
+
+greater : (o : Ordering) → o ≢ Less → o ≢ Equal → o ≡ Greater
+greater Less = λ less equal. absurd (less refl)
+greater Equal = λ less equal. absurd (equal refl)
+greater Greater = λ less equal. refl
+
+-- behind an entry that is not below the folder, from the start on, none is
+pub none_behind : (es : List Entry) (start i k : ℕ) (d : Entry) (folder : List ℕ) → IsTable es → IsStart es start folder → start ≤ i → i ≤ k → k < length es → (IsFolderOf folder (get_or es i d).name → ⊥) → IsFolderOf folder (get_or es k d).name → ⊥
+none_behind es start i k d folder table is from upto within off below =
+    ⊎_elim (λ same. off (subst (λ (n : ℕ). IsFolderOf folder (get_or es n d).name) (sym same) below))
+    (λ apart. between below.0 (get_or es k d).name below.1 (table i k d (omega (arith, upto, apart)) within)) (cases_eq i k)
+  where
+    here : cmp (get_or es i d).name (slashed folder) ≡ Greater
+    here = greater (cmp (get_or es i d).name (slashed folder)) (is.behind i d from (omega (arith, upto, within))) (λ equal. off ([], exact_bytes _ _ equal))
+
+    between : (rest other : List ℕ) → other ≡ folder ++ 47 ∷ rest → cmp (get_or es i d).name other ≡ Less → ⊥
+    between rest other spelt less =
+        let whole : other ≡ slashed folder ++ rest = spelt ∙ sym (append_assoc folder (47 ∷ []) rest) in
+        let less_whole : cmp (get_or es i d).name (slashed folder ++ rest) ≡ Less = sym (ap (cmp (get_or es i d).name) whole) ∙ less in
+        let begun = begins_between (slashed folder) rest (get_or es i d).name here (λ g. cc (g, less_whole)) in
+        off (begun.0, begun.1 ∙ append_assoc folder (47 ∷ []) begun.0)
+
+pub entry_at : (es : List Entry) (i : ℕ) (e d : Entry) → i < length es → e ≡ get_or es i e → get_or es i d ≡ e
+entry_at es i e d within is = get_or_default es i d e within ∙ sym is
+
+-- what is said of the name of an entry, at its place
+pub at_entry : (es : List Entry) (i : ℕ) (e d : Entry) (name : List ℕ) → i < length es → e ≡ get_or es i e → name ≡ e.name → name ≡ (get_or es i d).name
+at_entry es i e d name within is spelt = spelt ∙ ap (λ (x : Entry). x.name) (sym (entry_at es i e d within is))
+
+-- and of those behind it
+pub none_from : (es : List Entry) (start i : ℕ) (folder name : List ℕ) (e : Entry) → IsTable es → IsStart es start folder → start ≤ i → i < length es → e ≡ get_or es i e → name ≡ e.name → (IsFolderOf folder name → ⊥)
+    → (k : ℕ) (d : Entry) → i ≤ k → k < length es → IsFolderOf folder (get_or es k d).name → ⊥
+none_from es start i folder name e table is from inside here spelt off k d upto within =
+    none_behind es start i k d folder table is from upto within (λ below. off (subst (IsFolderOf folder) (sym (at_entry es i e d name inside here spelt)) below))
+
+-- ---- whether a table has a name below a folder, but one that is left out
+
+pub has_at : (es : List Entry) (i : ℕ) (d : Entry) (folder but : List ℕ) → i < length es → IsFolderOf folder (get_or es i d).name → bytes_eq (get_or es i d).name but ≡ false → HasBelowBut es folder but
+has_at es i d folder but within below off = ((get_or es i d).name, below, (looked_up es i d within, off))
+
+-- from the start on each entry so far is the one left out
+pub record IsOut (es : List Entry) (start i : ℕ) (but : List ℕ) : Type 0 where
+  pub each : (k : ℕ) (d : Entry) → start ≤ k → k < i → (get_or es k d).name ≡ but
+
+pub has_none : (es : List Entry) (start i : ℕ) (folder but : List ℕ) → IsTable es → IsStart es start folder → start ≤ i → IsOut es start i but
+    → ((k : ℕ) (d : Entry) → i ≤ k → k < length es → IsFolderOf folder (get_or es k d).name → ⊥) → HasBelowBut es folder but → ⊥
+has_none es start i folder but table is from out behind (name, below, (some, off)) =
+    let d : Entry = record { name = name; file = 0 } in
     let at = stands es name d some in
     let here : IsFolderOf folder (get_or es at.0 d).name = subst (IsFolderOf folder) (sym at.2) below in
-    let behind_place : i ≤ at.0 =
-    ⊎_elim (λ early. absurd (below_from folder (get_or es at.0 d).name here (before at.0 d (omega arith) early))) (λ late. late) (cases_lt at.0 i)
-    in let inside : i < length es = omega (arith, at.1, behind_place) in (
-      inside,
-      ⊎_elim (λ same. subst (λ (k : ℕ). IsFolderOf folder (get_or es k d).name) (sym same) here)
-          (λ apart. let later : i < at.0 = omega (arith, behind_place) in
-          between here.0 (get_or es at.0 d).name here.1 (behind i d (omega arith) inside) (table i at.0 d later at.1))
-          (cases_eq i at.0),
-    )
+    let later = behind_start es start at.0 d folder is at.1 here in
+    ⊎_elim (λ early. off_name name but off (sym at.2 ∙ out.each at.0 d later early)) (λ late. behind at.0 d late at.1 here) (cases_lt at.0 i)
+
+-- ---- the listing of a folder
+
+-- the names of the entries from one place to another, which are all below the folder
+pub record IsListing (es : List Entry) (start i : ℕ) (folder : List ℕ) (names : List (List ℕ)) : Type 0 where
+  pub long : start + length names ≡ i
+  pub each : (k : ℕ) (d : Entry) → k < length names → get_or names k d.name ≡ (get_or es (start + k) d).name
+  pub below : (k : ℕ) (d : Entry) → k < length names → IsFolderOf folder (get_or es (start + k) d).name
+
+pub listing_none : (es : List Entry) (start : ℕ) (folder : List ℕ) → IsListing es start start folder []
+listing_none es start folder = record { long = omega arith; each = λ k d within. absurd (omega arith); below = λ k d within. absurd (omega arith) }
+
+pub listing_more : (es : List Entry) (start i : ℕ) (folder name : List ℕ) (names : List (List ℕ)) (e : Entry) → IsListing es start i folder names → i < length es → e ≡ get_or es i e → name ≡ e.name → IsFolderOf folder e.name
+    → IsListing es start (i + 1) folder (names ++ name ∷ [])
+listing_more es start i folder name names e so_far within is spelt below = record {
+  long = omega (arith, so_far.long, length-append names (name ∷ []));
+  each = λ k d inside. ⊎_elim (λ lower. get_or-append names (name ∷ []) d.name k lower ∙ so_far.each k d lower)
+      (λ upper. let last : k ≡ length names = omega (arith, upper, inside, length-append names (name ∷ [])) in
+      ap (λ n. get_or (names ++ name ∷ []) n d.name) last ∙ get_or-append_seam names name [] d.name ∙ spelt ∙ sym (ap (λ (x : Entry). x.name) (here k d last)))
+      (cases_lt k (length names));
+  below = λ k d inside. ⊎_elim (λ lower. so_far.below k d lower)
+      (λ upper. let last : k ≡ length names = omega (arith, upper, inside, length-append names (name ∷ [])) in
+      subst (λ (x : Entry). IsFolderOf folder x.name) (sym (here k d last)) below)
+      (cases_lt k (length names));
+}
   where
-    between : (rest other : List ℕ) → other ≡ folder ++ 47 ∷ rest → cmp (get_or es i d).name (slashed folder) ≡ Greater → cmp (get_or es i d).name other ≡ Less → IsFolderOf folder (get_or es i d).name
-    between rest other is greater less =
-        let whole : other ≡ slashed folder ++ rest = is ∙ sym (append_assoc folder (47 ∷ []) rest) in
-        let less_whole : cmp (get_or es i d).name (slashed folder ++ rest) ≡ Less = sym (ap (cmp (get_or es i d).name) whole) ∙ less in
-        let begun = begins_between (slashed folder) rest (get_or es i d).name greater (λ g. cc (g, less_whole)) in
-        (begun.0, begun.1 ∙ append_assoc folder (47 ∷ []) begun.0)
+    here : (k : ℕ) (d : Entry) → k ≡ length names → get_or es (start + k) d ≡ e
+    here k d last = let same : start + k ≡ i = omega (arith, last, so_far.long) in ap (λ n. get_or es n d) same ∙ entry_at es i e d within is
 
--- ---- where a file may be put
+pub listed_below : (es : List Entry) (start i : ℕ) (folder : List ℕ) (names : List (List ℕ)) → IsTable es → IsStart es start folder → i ≤ length es → IsListing es start i folder names
+    → ((k : ℕ) (d : Entry) → i ≤ k → k < length es → IsFolderOf folder (get_or es k d).name → ⊥) → IsBelow es folder names
+listed_below es start i folder names table is upto so_far behind = record { rising = rising; each = λ q. (there q, back q) }
+  where
+    inside : (k : ℕ) → k < length names → start + k < length es
+    inside k within = omega (arith, within, so_far.long, upto)
 
-module _ (names : List ℕ → Option ℕ) (es : List Entry) (same : (q : List ℕ) → names q ≡ lookup es q) (name : List ℕ) (n : ℕ) where
-  present : IsSome (put names name n name)
-  present = subst IsSome (sym (put-at names name n name refl)) refl
+    rising : AllPairs (λ a b. slice_cmp nat_cmp a b ≡ Less) names
+    rising j k d below within =
+        let e : Entry = record { name = d; file = 0 } in
+        (λ n. slice_cmp nat_cmp (so_far.each j e (omega (arith, below, within)) n) (so_far.each k e within n)) ∙ table (start + j) (start + k) e (omega (arith, below)) (inside k within)
 
-  pub not_below_a_name : HasFolderOf es name → IsFolderLike (put names name n) → ⊥
-  not_below_a_name (folder, above, some) folders =
-      folders folder name above (some_put names name n folder (subst IsSome (sym (same folder)) some)) present
+    there : (q : List ℕ) → Contains names q → IsSome (lookup es q) × IsFolderOf folder q
+    there q (k, within, at) =
+        let e : Entry = record { name = q; file = 0 } in
+        let same : (get_or es (start + k) e).name ≡ q = sym (so_far.each k e within) ∙ at in
+        (subst (λ (n : List ℕ). IsSome (lookup es n)) same (looked_up es (start + k) e (inside k within)), subst (IsFolderOf folder) same (so_far.below k e within))
 
-  pub not_above_a_name : HasBelow es name → IsFolderLike (put names name n) → ⊥
-  not_above_a_name (other, below, some) folders =
-      folders name other below present (some_put names name n other (subst IsSome (sym (same other)) some))
+    back : (q : List ℕ) → IsSome (lookup es q) × IsFolderOf folder q → Contains names q
+    back q (some, below) =
+        let e : Entry = record { name = q; file = 0 } in
+        let at = stands es q e some in
+        let here : IsFolderOf folder (get_or es at.0 e).name = subst (IsFolderOf folder) (sym at.2) below in
+        let from = behind_start es start at.0 e folder is at.1 here in
+        let before : at.0 < i = ⊎_elim (λ early. early) (λ late. absurd (behind at.0 e late at.1 here)) (cases_lt at.0 i) in
+        let place : start + (at.0 - start) ≡ at.0 = omega (arith, from) in
+        let within : at.0 - start < length names = omega (arith, from, before, so_far.long) in
+        (at.0 - start, within, so_far.each (at.0 - start) e within ∙ ap (λ n. (get_or es n e).name) place ∙ at.2)
 
-  -- what is present with the name is so without it
-  was_present : (q : List ℕ) → q ≢ name → IsSome (put names name n q) → IsSome (lookup es q)
-  was_present q ne some = subst IsSome (put-off names name n q ne ∙ same q) some
+-- ---- where a name fits
 
-  pub stays_folder_like : IsFolderLike names → (HasFolderOf es name → ⊥) → (HasBelow es name → ⊥) → IsFolderLike (put names name n)
-  stays_folder_like folders no_above no_below p q above some_p some_q =
-      ⊎_elim (λ p_is. ⊎_elim (λ q_is. not_itself name (subst (λ (l : List ℕ). IsFolderOf l name) p_is (subst (IsFolderOf p) q_is above)))
-      (λ q_off. no_below (q, subst (λ (l : List ℕ). IsFolderOf l q) p_is above, was_present q (off_name q name q_off) some_q))
-      (name_cases q name))
-      (λ p_off. let p_was = was_present p (off_name p name p_off) some_p in
-      ⊎_elim (λ q_is. no_above (p, subst (IsFolderOf p) q_is above, p_was))
-      (λ q_off. folders p q above (subst IsSome (sym (same p)) p_was) (subst IsSome (sym (same q)) (was_present q (off_name q name q_off) some_q)))
-      (name_cases q name))
-      (name_cases p name)
+-- neither is a folder of the other
+abbrev IsApart : List ℕ → List ℕ → Type 0
+IsApart name q = (IsFolderOf q name → ⊥) × (IsFolderOf name q → ⊥)
 
--- what a search for the folder's name and a slash says: it stands there, or the entry at the place tells
-below_searched : (es : List Entry) (folder : List ℕ) (r : Result ℕ ℕ) → IsTable es → IsSearchInRange r (length es) → IsBinarySearchResult (λ (e : Entry). cmp e.name (slashed folder)) es r
-    → MatchResult r (λ i. HasBelow es folder) (λ i. HasBelow es folder → (i < length es) × HoldsAt (λ e. IsFolderOf folder e.name) es i)
-below_searched es folder (Ok i) table within found = let d : Entry = record { name = []; file = 0 } in has_equal es i d folder within (found d)
-below_searched es folder (Err i) table within found = λ has.
-    let point = found (searchable es (slashed folder) table) in
-    let d : Entry = record { name = []; file = 0 } in
-    ((first_tells es i d folder table point.0 point.1 has).0, λ e. (first_tells es i e folder table point.0 point.1 has).1)
+folder_like_put : (names : NameMap) (name : List ℕ) (n : ℕ) → IsFolderLike names → ((q : List ℕ) → IsSome (names q) → q ≢ name → IsApart name q) → IsFolderLike (put names name n)
+folder_like_put names name n folders apart p q folder has_p has_q = ⊎_elim
+    (λ p_is. ⊎_elim
+    (λ q_is. not_itself name (subst (λ (l : List ℕ). IsFolderOf l name) p_is (subst (IsFolderOf p) q_is folder)))
+    (λ q_off. let ne = off_name q name q_off in (apart q (subst IsSome (put-off names name n q ne) has_q) ne).1 (subst (λ (x : List ℕ). IsFolderOf x q) p_is folder))
+    (name_cases q name))
+    (λ p_off. let ne = off_name p name p_off in let has : IsSome (names p) = subst IsSome (put-off names name n p ne) has_p in ⊎_elim
+    (λ q_is. (apart p has ne).0 (subst (λ (x : List ℕ). IsFolderOf p x) q_is folder))
+    (λ q_off. folders p q folder has (subst IsSome (put-off names name n q (off_name q name q_off)) has_q))
+    (name_cases q name))
+    (name_cases p name)
 
-pub searched_below : (xs es : List Entry) → xs ≡ es → (folder : List ℕ) (r : Result ℕ ℕ) → IsTable es → IsSearchInRange r (length xs) → IsBinarySearchResult (λ (e : Entry). cmp e.name (slashed folder)) xs r
-    → MatchResult r (λ i. HasBelow es folder) (λ i. HasBelow es folder → (i < length es) × HoldsAt (λ e. IsFolderOf folder e.name) es i)
-searched_below xs es is folder r table within found =
-    below_searched es folder r table (subst (λ (l : List Entry). IsSearchInRange r (length l)) is within) (subst (λ (l : List Entry). IsBinarySearchResult (λ (e : Entry). cmp e.name (slashed folder)) l r) is found)
+apart_from_put : (names : NameMap) (name : List ℕ) (n : ℕ) → IsFolderLike (put names name n) → (q : List ℕ) → IsSome (names q) → IsApart name q
+apart_from_put names name n folders q some = ⊎_elim
+    (λ is. (λ folder. not_itself name (subst (λ (l : List ℕ). IsFolderOf l name) is folder), λ folder. not_itself name (subst (IsFolderOf name) is folder)))
+    (λ off. let has : IsSome (put names name n q) = subst IsSome (sym (put-off names name n q (off_name q name off))) some in
+    let here : IsSome (put names name n name) = subst IsSome (sym (put-at names name n name refl)) refl in
+    (λ folder. folders q name folder has here, λ folder. folders name q folder here has))
+    (name_cases q name)
+
+-- fewer names, or others in their places
+pub folder_like_fewer : (m n : NameMap) → ((q : List ℕ) → IsSome (n q) → IsSome (m q)) → IsFolderLike m → IsFolderLike n
+folder_like_fewer m n fewer folders p q folder has_p has_q = folders p q folder (fewer p has_p) (fewer q has_q)
+
+some_dropped : (names : NameMap) (name q : List ℕ) → IsSome (drop_name names name q) → IsSome (names q) × (q ≢ name)
+some_dropped names name q some = ⊎_elim
+    (λ is. let none = drop_name-at names name q is in absurd (cc (none, some)))
+    (λ off. let ne = off_name q name off in (subst IsSome (drop_name-off names name q ne) some, ne))
+    (name_cases q name)
+
+pub fewer_dropped : (names : NameMap) (name q : List ℕ) → IsSome (drop_name names name q) → IsSome (names q)
+fewer_dropped names name q some = (some_dropped names name q some).0
+
+other_number : (names : NameMap) (name : List ℕ) (m n : ℕ) (q : List ℕ) → IsSome (put names name m q) → IsSome (put names name n q)
+other_number names name m n q = by (bytes_eq q name) (names q)
+  where
+    by : (b : Bool) (r : Option ℕ) → IsSome (cond b (Some m) r) → IsSome (cond b (Some n) r)
+    by true r some = refl
+    by false r some = some
+
+pub folder_like_number : (names : NameMap) (name : List ℕ) (m n : ℕ) → IsFolderLike (put names name m) → IsFolderLike (put names name n)
+folder_like_number names name m n = folder_like_fewer (put names name m) (put names name n) (other_number names name n m)
+
+-- a name that is put is dropped no less
+put_anyway : (names : NameMap) (name : List ℕ) (n : ℕ) (q : List ℕ) → put (drop_name names name) name n q ≡ put names name n q
+put_anyway names name n q = by (bytes_eq q name) (names q)
+  where
+    by : (b : Bool) (r : Option ℕ) → cond b (Some n) (cond b None r) ≡ cond b (Some n) r
+    by true r = refl
+    by false r = refl
+
+module _ (names : NameMap) (es : List Entry) (same : (q : List ℕ) → names q ≡ lookup es q) where
+  pub fits_moved : (from to : List ℕ) (n : ℕ) → IsFolderLike names → IsFit es to from → IsFolderLike (put (drop_name names from) to n)
+  fits_moved from to n folders fit =
+      folder_like_put (drop_name names from) to n (folder_like_fewer names (drop_name names from) (fewer_dropped names from) folders)
+      (λ q some ne. let was = some_dropped names from q some in let here : IsSome (lookup es q) = subst IsSome (same q) was.0 in
+      (λ above. fit.above (q, above, (here, other_name q from was.1)), λ below. fit.below (q, below, (here, other_name q from was.1))))
+
+  pub moved_fits : (from to : List ℕ) (n : ℕ) → IsFolderLike (put (drop_name names from) to n) → IsFit es to from
+  moved_fits from to n folders = record {
+    above = λ (q, above, (some, off)). (apart_from_put (drop_name names from) to n folders q (there q some off)).0 above;
+    below = λ (q, below, (some, off)). (apart_from_put (drop_name names from) to n folders q (there q some off)).1 below;
+  }
+    where
+      there : (q : List ℕ) → IsSome (lookup es q) → bytes_eq q from ≡ false → IsSome (drop_name names from q)
+      there q some off = subst IsSome (sym (drop_name-off names from q (off_name q from off) ∙ same q)) some
+
+  pub fits_put : (name : List ℕ) (n : ℕ) → IsFolderLike names → IsFit es name name → IsFolderLike (put names name n)
+  fits_put name n folders fit = folder_like_fewer (put (drop_name names name) name n) (put names name n) (λ q some. subst IsSome (sym (put_anyway names name n q)) some) (fits_moved name name n folders fit)
+
+  pub put_fits : (name : List ℕ) (n : ℕ) → IsFolderLike (put names name n) → IsFit es name name
+  put_fits name n folders = moved_fits name name n (folder_like_fewer (put names name n) (put (drop_name names name) name n) (λ q some. subst IsSome (put_anyway names name n q) some) folders)

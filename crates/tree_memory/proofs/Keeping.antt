@@ -1,172 +1,224 @@
 -- What a store keeps stays in step with its record.
-use Rattle.std.proofs.Common.{◌≡◌, ◌≢◌, inl, ⊎_elim, ℕ, ◌+◌, ◌<◌, ◌&&◌, Bool, true, false, cond, ltb, List, [], ◌∷◌, ◌++◌, length, get_or, take, Option, None, Some, IsSome, refl, sym, ap, subst, ◌∙◌, arith, length-append}
-use Rattle.std.specs.List.{list_all, AllPairs, Contains}
+use Rattle.std.proofs.Common.{◌≡◌, ◌≢◌, inl, inr, ⊎_elim, ℕ, ◌+◌, ◌<◌, ◌≤◌, Bool, true, false, cond, List, [], ◌∷◌, ◌++◌, length, get_or, set, take, Option, None, Some, IsSome, is_some, refl, sym, ap, subst, ◌∙◌, arith, length-append}
+use Rattle.std.specs.List.{AllPairs, Contains}
 use Rattle.std.specs.Ordering.{nat_cmp}
 use Rattle.std.specs.Cmp.Lexicographic.{slice_cmp}
 use Rattle.std.specs.Str.{bytes_eq}
 use Rattle.std.specs.declared.cmp.Ordering.TheVariants.{Less}
 use Rattle.std.proofs.Math.ListN.{get_or-append}
-use Rattle.std.proofs.Math.Seq.{get_or-append_seam, take-length}
-use Rattle.std.proofs.lemmas.List.{get_or-map, get_or_past, length-map}
-use Rattle.std.proofs.lemmas.List.Folds.{list_all-append}
+use Rattle.std.proofs.Math.Seq.{get_or-append_seam, take-length, map-set_same}
+use Rattle.std.proofs.lemmas.List.{get_or-map, get_or_past, length-map, length-set, map-set, get_or-set_same, get_or-set_other}
 use Rattle.std.proofs.lemmas.Bool.{cases_eq, cases_lt, eq-eqb, ne_eqb}
-use Rattle.std.proofs.lemmas.Bool.Decides.{nat_tests}
-use Rattle.base_core.specs.Files.{put}
+use Rattle.base_core.specs.Files.{NameMap, IsFolderLike, put, drop_name, move_name}
 use Rattle.base_core.specs.Listed.{IsNamesOf}
-use Rattle.base_core.specs.Tree.{TreeState, IsWhole, bytes_at, files_of, set_file}
+use Rattle.base_core.specs.Tree.{TreeState, File, IsMapOf, IsWhole, CanCreate, CanRename, HasName, bytes_at, files_of, set_file, change_at, with_names, after_create, after_append, after_sync, move_at, after_rename, remove_at, after_remove, after_sync_names}
 use Rattle.tree_memory.specs.Table.{IsTable, lookup, names_of}
-use Rattle.tree_memory.specs.Changes.{empty_state, after_put, step, state_on, earlier_on, contents_of, is_made}
-use Rattle.tree_memory.specs.Kept.{IsKept}
+use Rattle.tree_memory.specs.Changes.{empty_state, after_put, front_of, step, state_on, earlier_on, contents_of, flags_of, can_step}
+use Rattle.tree_memory.specs.Kept.{IsKept, IsStore, HasFolders, CanPut}
 use Rattle.tree_memory.specs.WholeLaw.{whole_state}
 use Rattle.tree_memory.proofs.AtName.{name_cases, off_name, put-at, put-off}
+use Rattle.tree_memory.proofs.Folders.{folder_like_fewer, folder_like_number, fewer_dropped}
+use Rattle.tree_memory.proofs.Growing.{IsFront, front_is, Grows, grows_not, grows_push, grows_set, IsPushed, pushed_state, pushed_earlier, pushed_record, pushed_history}
 use Rattle.tree_memory.proofs.Placed.{stands, looked_up}
 use Rattle.tree_memory.specs.declared.changes.Change.{Change}
-use Rattle.tree_memory.specs.declared.changes.Change.TheVariants.{Put}
+use Rattle.tree_memory.specs.declared.changes.Change.TheVariants.{Put, Create, Append, Sync, Rename, Remove, SyncNames, Stay}
 use Rattle.tree_memory.specs.declared.changes.Stored.{Stored}
 use Rattle.tree_memory.specs.declared.table.Entry.{Entry}
 
--- ---- the record, one change on
+-- ---- the bytes and the flags, one file more or another one
 
 contents-push : (files : List Stored) (file : Stored) → contents_of (files ++ file ∷ []) ≡ contents_of files ++ file.bytes.items ∷ []
 contents-push [] file = refl
 contents-push (f ∷ files) file = ap (λ (l : List (List ℕ)). f.bytes.items ∷ l) (contents-push files file)
 
-state_on-push : (contents : List (List ℕ)) (v : TreeState) (cs : List Change) (c : Change) → state_on contents v (cs ++ c ∷ []) ≡ step contents c (state_on contents v cs)
-state_on-push contents v [] c = refl
-state_on-push contents v (d ∷ cs) c = state_on-push contents (step contents d v) cs c
-
-earlier_on-push : (contents : List (List ℕ)) (v : TreeState) (earlier : List TreeState) (cs : List Change) (c : Change)
-    → earlier_on contents v earlier (cs ++ c ∷ []) ≡ state_on contents v cs ∷ earlier_on contents v earlier cs
-earlier_on-push contents v earlier [] c = refl
-earlier_on-push contents v earlier (d ∷ cs) c = earlier_on-push contents (step contents d v) (v ∷ earlier) cs c
-
--- ---- one file more changes nothing of what the record tells
-
-both : (a b : Bool) → (a && b) ≡ true → (a ≡ true) × (b ≡ true)
-both true b is = (refl, is)
-both false b is = absurd (cc)
-
-below_made : (file made : ℕ) → ltb file made ≡ true → file < made
-below_made file made is = grind (arith, nat_tests)
-
-made_below : (file made : ℕ) → file < made → ltb file made ≡ true
-made_below file made below = grind (arith, nat_tests)
-
-step_more : (contents : List (List ℕ)) (b : List ℕ) (c : Change) (v : TreeState) → is_made (length contents) c ≡ true → step (contents ++ b ∷ []) c v ≡ step contents c v
-step_more contents b (Put name file len) v made =
-    ap (λ (bytes : List ℕ). after_put name (take len bytes) v) (get_or-append contents (b ∷ []) [] file (below_made file (length contents) made))
-
-state_more : (contents : List (List ℕ)) (b : List ℕ) (v : TreeState) (cs : List Change) → list_all (is_made (length contents)) cs ≡ true → state_on (contents ++ b ∷ []) v cs ≡ state_on contents v cs
-state_more contents b v [] made = refl
-state_more contents b v (c ∷ cs) made =
-    let parts = both (is_made (length contents) c) (list_all (is_made (length contents)) cs) made in
-    ap (λ (w : TreeState). state_on (contents ++ b ∷ []) w cs) (step_more contents b c v parts.0) ∙ state_more contents b (step contents c v) cs parts.1
-
-earlier_more : (contents : List (List ℕ)) (b : List ℕ) (v : TreeState) (earlier : List TreeState) (cs : List Change) → list_all (is_made (length contents)) cs ≡ true
-    → earlier_on (contents ++ b ∷ []) v earlier cs ≡ earlier_on contents v earlier cs
-earlier_more contents b v earlier [] made = refl
-earlier_more contents b v earlier (c ∷ cs) made =
-    let parts = both (is_made (length contents) c) (list_all (is_made (length contents)) cs) made in
-    ap (λ (w : TreeState). earlier_on (contents ++ b ∷ []) w (v ∷ earlier) cs) (step_more contents b c v parts.0)
-    ∙ earlier_more contents b (step contents c v) (v ∷ earlier) cs parts.1
-
-made_more : (made : ℕ) (cs : List Change) → list_all (is_made made) cs ≡ true → list_all (is_made (made + 1)) cs ≡ true
-made_more made [] is = refl
-made_more made (Put name file len ∷ cs) is =
-    let parts = both (ltb file made) (list_all (is_made made) cs) is in
-    let below = below_made file made parts.0 in
-    ap (λ b. b && list_all (is_made (made + 1)) cs) (made_below file (made + 1) (omega (arith, below))) ∙ made_more made cs parts.1
-
--- ---- after a put
-
--- the record, the table and the bytes after a put, and those before it
-pub record IsPut (name bytes : List ℕ) (cs ds : List Change) (es fs : List Entry) (contents more : List (List ℕ)) : Type 0 where
-  pub recorded : ds ≡ cs ++ Put name (length contents) (length bytes) ∷ []
-  pub named : (q : List ℕ) → lookup fs q ≡ put (lookup es) name (length contents) q
-  pub stored : more ≡ contents ++ bytes ∷ []
-  pub made : list_all (is_made (length contents)) cs ≡ true
-  pub kept : IsKept (state_on contents empty_state cs) es contents
-
-module _ (name bytes : List ℕ) (cs ds : List Change) (es fs : List Entry) (contents more : List (List ℕ)) (p : IsPut name bytes cs ds es fs contents more) where
-  abbrev old : TreeState
-  old = state_on contents empty_state cs
-
-  put_itself : step (contents ++ bytes ∷ []) (Put name (length contents) (length bytes)) old ≡ after_put name bytes old
-  put_itself = ap (λ (l : List ℕ). after_put name l old) (ap (take (length bytes)) (get_or-append_seam contents bytes [] []) ∙ take-length bytes)
-
-  pub put_state : state_on more empty_state ds ≡ after_put name bytes old
-  put_state =
-      ap (λ (l : List (List ℕ)). state_on l empty_state ds) p.stored
-      ∙ ap (state_on (contents ++ bytes ∷ []) empty_state) p.recorded
-      ∙ state_on-push (contents ++ bytes ∷ []) empty_state cs (Put name (length contents) (length bytes))
-      ∙ ap (step (contents ++ bytes ∷ []) (Put name (length contents) (length bytes))) (state_more contents bytes empty_state cs p.made)
-      ∙ put_itself
-
-  pub put_earlier : earlier_on more empty_state [] ds ≡ old ∷ earlier_on contents empty_state [] cs
-  put_earlier =
-      ap (λ (l : List (List ℕ)). earlier_on l empty_state [] ds) p.stored
-      ∙ ap (earlier_on (contents ++ bytes ∷ []) empty_state []) p.recorded
-      ∙ earlier_on-push (contents ++ bytes ∷ []) empty_state [] cs (Put name (length contents) (length bytes))
-      ∙ (λ i. state_more contents bytes empty_state cs p.made i ∷ earlier_more contents bytes empty_state [] cs p.made i)
-
-  pub put_history : state_on more empty_state ds ∷ earlier_on more empty_state [] ds ≡ after_put name bytes old ∷ (old ∷ earlier_on contents empty_state [] cs)
-  put_history = λ i. put_state i ∷ put_earlier i
-
-  pub put_made : list_all (is_made (length more)) ds ≡ true
-  put_made =
-      let long : length more ≡ length contents + 1 = ap length p.stored ∙ length-append contents (bytes ∷ []) in
-      ap (λ n. list_all (is_made n) ds) long
-      ∙ ap (list_all (is_made (length contents + 1))) p.recorded
-      ∙ list_all-append (is_made (length contents + 1)) cs (Put name (length contents) (length bytes) ∷ [])
-      ∙ ap (λ b. b && (ltb (length contents) (length contents + 1) && true)) (made_more (length contents) cs p.made)
-      ∙ ap (λ b. b && true) (made_below (length contents) (length contents + 1) (omega arith))
-
-  bytes_put : (n : ℕ) → (set_file old.files old.made (record { bytes = bytes; synced = true }) n).bytes ≡ get_or (contents ++ bytes ∷ []) n []
-  bytes_put n =
-      ⊎_elim (λ is. ap (λ b. (cond b (record { bytes = bytes; synced = true }) (old.files n)).bytes) (eq-eqb n old.made is)
-      ∙ sym (ap (λ k. get_or (contents ++ bytes ∷ []) k []) (is ∙ p.kept.made) ∙ get_or-append_seam contents bytes [] []))
-      (λ ne. ap (λ b. (cond b (record { bytes = bytes; synced = true }) (old.files n)).bytes) (ne_eqb n old.made ne) ∙ p.kept.bytes n ∙ sym (others n ne))
-      (cases_eq n old.made)
-    where
-      others : (n : ℕ) → n ≢ old.made → get_or (contents ++ bytes ∷ []) n [] ≡ get_or contents n []
-      others n ne =
-          ⊎_elim (λ below. get_or-append contents (bytes ∷ []) [] n below)
-          (λ past. get_or_past (contents ++ bytes ∷ []) n [] (let apart : n ≢ length contents = λ is. ne (is ∙ sym p.kept.made) in omega (arith, length-append contents (bytes ∷ []), past, apart)) ∙ sym (get_or_past contents n [] past))
-          (cases_lt n (length contents))
-
-  kept_then : IsKept (after_put name bytes old) fs (contents ++ bytes ∷ [])
-  kept_then = record {
-    names = λ q. ap (λ (n : ℕ). cond (bytes_eq q name) (Some n) (old.names q)) p.kept.made ∙ ap (cond (bytes_eq q name) (Some (length contents))) (p.kept.names q) ∙ sym (p.named q);
-    made = omega (arith, p.kept.made, length-append contents (bytes ∷ []));
-    bytes = bytes_put;
-  }
-
-  pub put_kept : IsKept (state_on more empty_state ds) fs more
-  put_kept = subst (λ (w : TreeState). IsKept w fs more) (sym put_state) (subst (IsKept (after_put name bytes old) fs) (sym p.stored) kept_then)
-
--- ---- what is read
-
-pub read_absent : (v : TreeState) (es : List Entry) (contents : List (List ℕ)) (name : List ℕ) → IsKept v es contents → lookup es name ≡ None → files_of v name ≡ None
-read_absent v es contents name kept absent = ap (bytes_at v.files) (kept.names name ∙ absent)
-
-pub read_present : (v : TreeState) (es : List Entry) (contents : List (List ℕ)) (name : List ℕ) (n : ℕ) → IsKept v es contents → lookup es name ≡ Some n → files_of v name ≡ Some (get_or contents n [])
-read_present v es contents name n kept present = ap (bytes_at v.files) (kept.names name ∙ present) ∙ ap Some (kept.bytes n)
-
--- a name leads to a file that is stored
-pub leads_within : (cs : List Change) (es : List Entry) (contents : List (List ℕ)) (name : List ℕ) (n : ℕ) → IsKept (state_on contents empty_state cs) es contents → lookup es name ≡ Some n → n < length contents
-leads_within cs es contents name n kept present =
-    let below = (whole_state contents cs).made (state_on contents empty_state cs).names (inl refl) name n (kept.names name ∙ present) in
-    omega (arith, below, kept.made)
-
--- the bytes that are stored under a number
-pub stored_bytes : (files : List Stored) (n : ℕ) (file : Stored) → n < length files → file ≡ get_or files n file → get_or (contents_of files) n [] ≡ file.bytes.items
-stored_bytes files n file within is = get_or-map (λ (f : Stored). f.bytes.items) files n file [] within ∙ ap (λ (f : Stored). f.bytes.items) (sym is)
+flags-push : (files : List Stored) (file : Stored) → flags_of (files ++ file ∷ []) ≡ flags_of files ++ file.synced ∷ []
+flags-push [] file = refl
+flags-push (f ∷ files) file = ap (λ (l : List Bool). f.synced ∷ l) (flags-push files file)
 
 pub length-contents : (files : List Stored) → length (contents_of files) ≡ length files
 length-contents files = length-map files (λ (f : Stored). f.bytes.items)
 
-pub contents_more : (files more : List Stored) (file : Stored) → more ≡ files ++ file ∷ [] → contents_of more ≡ contents_of files ++ file.bytes.items ∷ []
-contents_more files more file is = ap contents_of is ∙ contents-push files file
+length-flags : (files : List Stored) → length (flags_of files) ≡ length files
+length-flags files = length-map files (λ (f : Stored). f.synced)
+
+-- a part of the files, one file more
+part_push : {A : Type 0} (part : File → A) (files : ℕ → File) (n : ℕ) (f : File) (xs : List A) (x d : A) → n ≡ length xs → part f ≡ x → ((k : ℕ) → part (files k) ≡ get_or xs k d) → (k : ℕ) → part (set_file files n f k) ≡ get_or (xs ++ x ∷ []) k d
+part_push part files n f xs x d last is was k =
+    ⊎_elim (λ same. ap (λ b. part (cond b f (files k))) (eq-eqb k n same) ∙ is ∙ sym (ap (λ m. get_or (xs ++ x ∷ []) m d) (same ∙ last) ∙ get_or-append_seam xs x [] d))
+    (λ ne. ap (λ b. part (cond b f (files k))) (ne_eqb k n ne) ∙ was k ∙ sym (others ne)) (cases_eq k n)
+  where
+    others : k ≢ n → get_or (xs ++ x ∷ []) k d ≡ get_or xs k d
+    others ne =
+        ⊎_elim (λ below. get_or-append xs (x ∷ []) d k below)
+        (λ past. get_or_past (xs ++ x ∷ []) k d (let apart : k ≢ length xs = λ same. ne (same ∙ sym last) in omega (arith, length-append xs (x ∷ []), past, apart)) ∙ sym (get_or_past xs k d past))
+        (cases_lt k (length xs))
+
+-- and another one
+part_set : {A : Type 0} (part : File → A) (files : ℕ → File) (n : ℕ) (f : File) (xs : List A) (x d : A) → n < length xs → part f ≡ x → ((k : ℕ) → part (files k) ≡ get_or xs k d) → (k : ℕ) → part (set_file files n f k) ≡ get_or (set xs n x) k d
+part_set part files n f xs x d within is was k =
+    ⊎_elim (λ same. ap (λ b. part (cond b f (files k))) (eq-eqb k n same) ∙ is ∙ sym (ap (λ m. get_or (set xs n x) m d) same ∙ get_or-set_same xs n x d within))
+    (λ ne. ap (λ b. part (cond b f (files k))) (ne_eqb k n ne) ∙ was k ∙ sym (get_or-set_other xs n k x d ne)) (cases_eq k n)
+
+-- ---- what is kept
+
+-- one file more
+pub kept_push : (v w : TreeState) (es fs : List Entry) (files : List Stored) (f : File) (s : Stored) → IsKept v es files → f.bytes ≡ s.bytes.items → f.synced ≡ s.synced
+    → w.files ≡ set_file v.files v.made f → w.made ≡ v.made + 1 → ((q : List ℕ) → w.names q ≡ lookup fs q) → IsKept w fs (files ++ s ∷ [])
+kept_push v w es fs files f s kept bytes synced files_are made names = record {
+  names = names;
+  made = omega (arith, made, kept.made, length-append files (s ∷ []));
+  bytes = λ n. ap (λ (g : ℕ → File). (g n).bytes) files_are ∙ part_push (λ (g : File). g.bytes) v.files v.made f (contents_of files) s.bytes.items [] (kept.made ∙ sym (length-contents files)) bytes kept.bytes n
+      ∙ sym (ap (λ (l : List (List ℕ)). get_or l n []) (contents-push files s));
+  synced = λ n. ap (λ (g : ℕ → File). (g n).synced) files_are ∙ part_push (λ (g : File). g.synced) v.files v.made f (flags_of files) s.synced false (kept.made ∙ sym (length-flags files)) synced kept.synced n
+      ∙ sym (ap (λ (l : List Bool). get_or l n false) (flags-push files s));
+}
+
+-- another one
+pub kept_set : (v : TreeState) (es : List Entry) (files : List Stored) (n : ℕ) (change : File → File) (s : Stored) → IsKept v es files → n < length files → (change (v.files n)).bytes ≡ s.bytes.items → (change (v.files n)).synced ≡ s.synced
+    → IsKept (change_at change v (Some n)) es (set files n s)
+kept_set v es files n change s kept within bytes synced = record {
+  names = kept.names;
+  made = kept.made ∙ sym (length-set files n s);
+  bytes = λ k. part_set (λ (g : File). g.bytes) v.files n (change (v.files n)) (contents_of files) s.bytes.items [] (omega (arith, within, length-contents files)) bytes kept.bytes k
+      ∙ sym (ap (λ (l : List (List ℕ)). get_or l k []) (map-set (λ (f : Stored). f.bytes.items) files n s));
+  synced = λ k. part_set (λ (g : File). g.synced) v.files n (change (v.files n)) (flags_of files) s.synced false (omega (arith, within, length-flags files)) synced kept.synced k
+      ∙ sym (ap (λ (l : List Bool). get_or l k false) (map-set (λ (f : Stored). f.synced) files n s));
+}
+
+-- ---- folders
+
+pub folders_with : (v : TreeState) (new : NameMap) → HasFolders v → IsFolderLike new → HasFolders (with_names v new)
+folders_with v new old good = record { each = each }
+  where
+    each : (map : NameMap) → IsMapOf (with_names v new) map → IsFolderLike map
+    each map (inl is) = subst IsFolderLike (sym is) good
+    each map (inr other) = old.each map other
+
+pub folders_one : (v : TreeState) → v.older ≡ [] → IsFolderLike v.names → HasFolders v
+folders_one v none good = record { each = λ map is. by v.older none map is }
+  where
+    by : (older : List NameMap) → older ≡ [] → (map : NameMap) → IsMapOf (record v { older = older }) map → IsFolderLike map
+    by [] none map (inl is) = subst IsFolderLike (sym is) good
+    by [] none map (inr other) = absurd other
+    by (x ∷ xs) none map is = absurd (cc (none))
+
+pub folders_changed : (change : File → File) (v : TreeState) (n : ℕ) → HasFolders v → HasFolders (change_at change v (Some n))
+folders_changed change v n old = record { each = old.each }
+
+pub newest_folders : (v : TreeState) → HasFolders v → IsFolderLike v.names
+newest_folders v old = old.each v.names (inl refl)
+
+-- ---- the changes
+
+-- a store with one change more
+pub store_pushed : (c : Change) (cs ds : List Change) (es : List Entry) (contents : List (List ℕ)) (files : List Stored) (w : TreeState) → IsPushed c cs ds contents (contents_of files) → step (contents_of files) c (state_on contents empty_state cs) ≡ w
+    → IsKept w es files → HasFolders w → IsStore ds es files
+store_pushed c cs ds es contents files w p is kept folders =
+    let same = sym (pushed_state c cs ds contents (contents_of files) p ∙ is) in record {
+      recorded = pushed_record c cs ds contents (contents_of files) p;
+      kept = subst (λ (v : TreeState). IsKept v es files) same kept;
+      folders = subst HasFolders same folders;
+    }
+
+-- and the states that it tells
+pub history_pushed : (c : Change) (cs ds : List Change) (contents more : List (List ℕ)) (w : TreeState) → IsPushed c cs ds contents more → step more c (state_on contents empty_state cs) ≡ w
+    → state_on more empty_state ds ∷ earlier_on more empty_state [] ds ≡ w ∷ (state_on contents empty_state cs ∷ earlier_on contents empty_state [] cs)
+history_pushed c cs ds contents more w p is = pushed_history c cs ds contents more p ∙ ap (λ (v : TreeState). v ∷ (state_on contents empty_state cs ∷ earlier_on contents empty_state [] cs)) is
+
+-- one file more
+pub record IsMore (name : List ℕ) (es fs : List Entry) (files more : List Stored) (s : Stored) : Type 0 where
+  pub named : (q : List ℕ) → lookup fs q ≡ put (lookup es) name (length files) q
+  pub stored : more ≡ files ++ s ∷ []
+
+more_contents : (name : List ℕ) (es fs : List Entry) (files more : List Stored) (s : Stored) → IsMore name es fs files more s → contents_of more ≡ contents_of files ++ s.bytes.items ∷ []
+more_contents name es fs files more s m = ap contents_of m.stored ∙ contents-push files s
+
+more_grows : (name : List ℕ) (es fs : List Entry) (files more : List Stored) (s : Stored) → IsMore name es fs files more s → Grows (contents_of files) (contents_of more)
+more_grows name es fs files more s m = subst (Grows (contents_of files)) (sym (more_contents name es fs files more s m)) (grows_push (contents_of files) s.bytes.items)
+
+more_names : (v : TreeState) (name : List ℕ) (es fs : List Entry) (files more : List Stored) (s : Stored) → IsMore name es fs files more s → IsKept v es files → (q : List ℕ) → put v.names name v.made q ≡ lookup fs q
+more_names v name es fs files more s m kept q = ap (λ (n : ℕ). cond (bytes_eq q name) (Some n) (v.names q)) kept.made ∙ ap (cond (bytes_eq q name) (Some (length files))) (kept.names q) ∙ sym (m.named q)
+
+module _ (name : List ℕ) (cs ds : List Change) (es fs : List Entry) (files more : List Stored) (s : Stored) (store : IsStore cs es files) (m : IsMore name es fs files more s) where
+  abbrev was : TreeState
+  was = state_on (contents_of files) empty_state cs
+
+  pub put_pushed : ds ≡ cs ++ Put name (length files) (length s.bytes.items) ∷ [] → IsPushed (Put name (length files) (length s.bytes.items)) cs ds (contents_of files) (contents_of more)
+  put_pushed is = record {
+    recorded = store.recorded;
+    grows = more_grows name es fs files more s m;
+    pushed = is;
+    can = front_is (contents_of more) (length files) (length s.bytes.items) (record {
+        within = omega (arith, ap length (more_contents name es fs files more s m), length-append (contents_of files) (s.bytes.items ∷ []), length-contents files);
+        fits = omega (arith, ap length stands_last);
+      });
+  }
+    where
+      stands_last : get_or (contents_of more) (length files) [] ≡ s.bytes.items
+      stands_last =
+          ap (λ (l : List (List ℕ)). get_or l (length files) []) (more_contents name es fs files more s m)
+          ∙ ap (λ n. get_or (contents_of files ++ s.bytes.items ∷ []) n []) (sym (length-contents files))
+          ∙ get_or-append_seam (contents_of files) s.bytes.items [] []
+
+  pub put_step : step (contents_of more) (Put name (length files) (length s.bytes.items)) was ≡ after_put name s.bytes.items was
+  put_step =
+      ap (λ (l : List ℕ). after_put name l was)
+      (ap (take (length s.bytes.items)) (ap (λ (l : List (List ℕ)). get_or l (length files) []) (more_contents name es fs files more s m)
+      ∙ ap (λ n. get_or (contents_of files ++ s.bytes.items ∷ []) n []) (sym (length-contents files))
+      ∙ get_or-append_seam (contents_of files) s.bytes.items [] [])
+      ∙ take-length s.bytes.items)
+
+  pub put_kept : s.synced ≡ true → IsKept (after_put name s.bytes.items was) fs more
+  put_kept synced = subst (IsKept (after_put name s.bytes.items was) fs) (sym m.stored)
+      (kept_push was (after_put name s.bytes.items was) es fs files (record { bytes = s.bytes.items; synced = true }) s store.kept refl (sym synced) refl refl (more_names was name es fs files more s m store.kept))
+
+  pub put_folders : CanPut name was → HasFolders (after_put name s.bytes.items was)
+  put_folders can = folders_one (after_put name s.bytes.items was) refl can.folders
+
+  pub store_put : ds ≡ cs ++ Put name (length files) (length s.bytes.items) ∷ [] → s.synced ≡ true → CanPut name was → IsStore ds fs more
+  store_put is synced can = store_pushed (Put name (length files) (length s.bytes.items)) cs ds fs (contents_of files) more (after_put name s.bytes.items was) (put_pushed is) put_step (put_kept synced) (put_folders can)
+
+  pub history_put : ds ≡ cs ++ Put name (length files) (length s.bytes.items) ∷ [] → state_on (contents_of more) empty_state ds ∷ earlier_on (contents_of more) empty_state [] ds ≡ after_put name s.bytes.items was ∷ (was ∷ earlier_on (contents_of files) empty_state [] cs)
+  history_put is = history_pushed (Put name (length files) (length s.bytes.items)) cs ds (contents_of files) (contents_of more) (after_put name s.bytes.items was) (put_pushed is) put_step
+
+  pub create_pushed : ds ≡ cs ++ Create name ∷ [] → IsPushed (Create name) cs ds (contents_of files) (contents_of more)
+  create_pushed is = record { recorded = store.recorded; grows = more_grows name es fs files more s m; pushed = is; can = refl }
+
+  pub create_kept : s.bytes.items ≡ [] → s.synced ≡ false → IsKept (after_create name was) fs more
+  create_kept empty unsynced = subst (IsKept (after_create name was) fs) (sym m.stored)
+      (kept_push was (after_create name was) es fs files (record { bytes = []; synced = false }) s store.kept (sym empty) (sym unsynced) refl refl (more_names was name es fs files more s m store.kept))
+
+  pub create_folders : CanCreate name was → HasFolders (after_create name was)
+  create_folders can = record { each = each }
+    where
+      each : (map : NameMap) → IsMapOf (after_create name was) map → IsFolderLike map
+      each map (inl is) = subst IsFolderLike (sym is) can.folders
+      each map (inr other) = store.folders.each map other
+
+  pub store_create : ds ≡ cs ++ Create name ∷ [] → s.bytes.items ≡ [] → s.synced ≡ false → CanCreate name was → IsStore ds fs more
+  store_create is empty unsynced can = store_pushed (Create name) cs ds fs (contents_of files) more (after_create name was) (create_pushed is) refl (create_kept empty unsynced) (create_folders can)
+
+  pub history_create : ds ≡ cs ++ Create name ∷ [] → state_on (contents_of more) empty_state ds ∷ earlier_on (contents_of more) empty_state [] ds ≡ after_create name was ∷ (was ∷ earlier_on (contents_of files) empty_state [] cs)
+  history_create is = history_pushed (Create name) cs ds (contents_of files) (contents_of more) (after_create name was) (create_pushed is) refl
+
+-- ---- what is read
+
+pub read_absent : (v : TreeState) (es : List Entry) (files : List Stored) (name : List ℕ) → IsKept v es files → lookup es name ≡ None → files_of v name ≡ None
+read_absent v es files name kept absent = ap (bytes_at v.files) (kept.names name ∙ absent)
+
+pub read_present : (v : TreeState) (es : List Entry) (files : List Stored) (name : List ℕ) (n : ℕ) → IsKept v es files → lookup es name ≡ Some n → files_of v name ≡ Some (get_or (contents_of files) n [])
+read_present v es files name n kept present = ap (bytes_at v.files) (kept.names name ∙ present) ∙ ap Some (kept.bytes n)
+
+-- a name leads to a file that is stored
+pub leads_within : (cs : List Change) (es : List Entry) (files : List Stored) (name : List ℕ) (n : ℕ) → IsStore cs es files → lookup es name ≡ Some n → n < length files
+leads_within cs es files name n store present =
+    let v = state_on (contents_of files) empty_state cs in
+    let below = (whole_state (contents_of files) cs).made v.names (inl refl) name n (store.kept.names name ∙ present) in
+    omega (arith, below, store.kept.made)
+
+-- the bytes that are stored under a number
+pub stored_bytes : (files : List Stored) (n : ℕ) (file : Stored) → n < length files → file ≡ get_or files n file → get_or (contents_of files) n [] ≡ file.bytes.items
+stored_bytes files n file within is = get_or-map (λ (f : Stored). f.bytes.items) files n file [] within ∙ ap (λ (f : Stored). f.bytes.items) (sym is)
 
 -- a file put is read, and the others as before
 pub read-after_put : (name bytes : List ℕ) (v : TreeState) → IsWhole v → files_of (after_put name bytes v) ≡ put (files_of v) name bytes
@@ -213,21 +265,13 @@ names_listed names es same table = record { rising = rising; each = λ q. (there
         let at = stands es q e (subst IsSome (same q) some) in
         (at.0, omega (arith, length-map es (λ (f : Entry). f.name), at.1), get_or-map (λ (f : Entry). f.name) es at.0 e q at.1 ∙ at.2)
 
--- what a put that went through is, from its steps
-pub is_put : (name bytes recorded named : List ℕ) (cs cs₁ ds : List Change) (es fs : List Entry) (gs gs₁ hs : List Stored) (file : Stored) (n len : ℕ)
-    → recorded ≡ name → named ≡ name → file.bytes.items ≡ bytes → n ≡ length gs → len ≡ length bytes
-    → cs₁ ≡ cs → ds ≡ cs₁ ++ Put recorded n len ∷ [] → gs₁ ≡ gs → hs ≡ gs₁ ++ file ∷ [] → ((q : List ℕ) → lookup fs q ≡ put (lookup es) named n q)
-    → list_all (is_made (length gs)) cs ≡ true → IsKept (state_on (contents_of gs) empty_state cs) es (contents_of gs) → IsPut name bytes cs ds es fs (contents_of gs) (contents_of hs)
-is_put name bytes recorded named cs cs₁ ds es fs gs gs₁ hs file n len recorded_is named_is bytes_are number long c₁ c₂ g₁ g₂ set made kept =
-    let n_is : n ≡ length (contents_of gs) = number ∙ sym (length-contents gs) in record {
-      recorded = c₂ ∙ (λ i. c₁ i ++ Put (recorded_is i) (n_is i) (long i) ∷ []);
-      named = λ q. set q ∙ (λ i. put (lookup es) (named_is i) (n_is i) q);
-      stored = contents_more gs₁ hs file g₂ ∙ (λ i. contents_of (g₁ i) ++ bytes_are i ∷ []);
-      made = ap (λ k. list_all (is_made k) cs) (length-contents gs) ∙ made;
-      kept = kept;
-    }
 
 -- the newest of some states
 abbrev pub newest : List TreeState → TreeState
 newest [] = empty_state
 newest (v ∷ earlier) = v
+
+-- what is not present is absent
+pub absent_from : (o : Option ℕ) → (IsSome o → ⊥) → o ≡ None
+absent_from None off = refl
+absent_from (Some n) off = absurd (off refl)

@@ -1,6 +1,12 @@
 pub mod AtName
+pub mod Changed
 pub mod Counting
 pub mod Folders
+pub mod Growing
+pub mod Imaging
 pub mod Keeping
+pub mod Outcomes
+pub mod Picking
 pub mod Placed
+mod Rows
 pub mod Sinking

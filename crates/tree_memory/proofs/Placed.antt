@@ -1,6 +1,6 @@
 -- Where names stand in a table, and what it has after a change.
-use Rattle.std.proofs.Common.{◌≡◌, ◌≢◌, ⊎_elim, ℕ, zero, suc, ◌+◌, ◌-◌, ◌<◌, ◌≤◌, Bool, true, false, cond, List, [], ◌∷◌, ◌++◌, length, set, get_or, take, drop, Option, None, Some, IsSome, Result, Ok, Err, IfOk, IfErr, refl, sym, ap, subst, ◌∙◌, arith}
-use Rattle.std.specs.List.{insert}
+use Rattle.std.proofs.Common.{◌≡◌, ◌≢◌, ⊎_elim, ℕ, zero, suc, ◌+◌, ◌-◌, ◌<◌, ◌≤◌, Bool, true, false, cond, List, [], ◌∷◌, ◌++◌, length, set, get_or, take, drop, Option, None, Some, IsSome, Result, Ok, Err, IfOk, IfErr, refl, sym, ap, subst, ◌∙◌, arith, add-one}
+use Rattle.std.specs.List.{insert, remove}
 use Rattle.std.specs.List.Sorted.{IsBinarySearchResult, IsSearchInRange, IsNonDecreasingBy}
 use Rattle.std.specs.Ordering.{nat_cmp, ordering_index, ordering_reverse, is_lt}
 use Rattle.std.specs.Cmp.Lexicographic.{slice_cmp}
@@ -10,9 +10,10 @@ use Rattle.std.specs.declared.cmp.Ordering.TheVariants.{Less, Equal, Greater}
 use Rattle.std.proofs.lemmas.Cmp.{nat_list_cmp_total, tied_itself}
 use Rattle.std.proofs.lemmas.Map.Lookups.{exact_bytes}
 use Rattle.std.proofs.lemmas.List.Sorted.{searchable_from_sorted}
+use Rattle.std.proofs.lemmas.List.Quantifiers.{all_pairs_remove}
 use Rattle.std.proofs.lemmas.List.Edits.{length-insert, get_or-insert_below, get_or-insert_at, get_or-insert_above}
 use Rattle.std.proofs.lemmas.Bool.{cases_lt, cases_eq}
-use Rattle.base_core.specs.Files.{put}
+use Rattle.base_core.specs.Files.{put, drop_name}
 use Rattle.tree_memory.specs.Table.{IsTable, lookup, IsNamed, IsPlace}
 use Rattle.tree_memory.proofs.AtName.{name_cases, same_name, is_name, other_name}
 use Rattle.tree_memory.specs.declared.table.Entry.{Entry}
@@ -50,7 +51,7 @@ lookup_at (e ∷ es) (suc i) q d within here others =
     ap (λ b. cond b (Some e.file) (lookup es q)) (other_name q e.name (λ is. others 0 (omega arith) (sym is)))
     ∙ lookup_at es i q d (omega arith) here (λ j below. others (suc j) (omega arith))
 
-lookup_off : (es : List Entry) (q : List ℕ) (d : Entry) → ((j : ℕ) → j < length es → (get_or es j d).name ≡ q → ⊥) → lookup es q ≡ None
+pub lookup_off : (es : List Entry) (q : List ℕ) (d : Entry) → ((j : ℕ) → j < length es → (get_or es j d).name ≡ q → ⊥) → lookup es q ≡ None
 lookup_off [] q d others = refl
 lookup_off (e ∷ es) q d others =
     ap (λ b. cond b (Some e.file) (lookup es q)) (other_name q e.name (λ is. others 0 (omega arith) (sym is)))
@@ -118,7 +119,7 @@ none_at : (b : Bool) (x : ℕ) (r : Option ℕ) → cond b (Some x) r ≡ None �
 none_at true x r none = absurd (cc)
 none_at false x r none = (refl, none)
 
-lookup_insert : (es : List Entry) (i : ℕ) (e : Entry) → lookup es e.name ≡ None → (q : List ℕ) → lookup (take i es ++ e ∷ drop i es) q ≡ put (lookup es) e.name e.file q
+pub lookup_insert : (es : List Entry) (i : ℕ) (e : Entry) → lookup es e.name ≡ None → (q : List ℕ) → lookup (take i es ++ e ∷ drop i es) q ≡ put (lookup es) e.name e.file q
 lookup_insert [] zero e none q = refl
 lookup_insert [] (suc i) e none q = refl
 lookup_insert (f ∷ es) zero e none q = refl
@@ -158,3 +159,47 @@ table-insert es i e table place a b d below within =
 
     ordered : (f g f' g' : Entry) → f ≡ f' → g ≡ g' → slice_cmp nat_cmp f'.name g'.name ≡ Less → slice_cmp nat_cmp f.name g.name ≡ Less
     ordered f g f' g' is are less = (λ k. slice_cmp nat_cmp (is k).name (are k).name) ∙ less
+
+-- ---- after a name was taken away
+
+dropped : (b c : Bool) (x r : Option ℕ) → c ≡ b → (b ≡ true → r ≡ None) → r ≡ cond b None (cond c x r)
+dropped true c x r same none = none refl
+dropped false c x r same none = sym (ap (λ b. cond b x r) same)
+
+kept_front : (f : Entry) (name q : List ℕ) (new old : Option ℕ) → f.name ≢ name → new ≡ cond (bytes_eq q name) None old → cond (bytes_eq q f.name) (Some f.file) new ≡ cond (bytes_eq q name) None (cond (bytes_eq q f.name) (Some f.file) old)
+kept_front f name q new old other is = ap (cond (bytes_eq q f.name) (Some f.file)) is ∙ by (bytes_eq q f.name) (bytes_eq q name) (λ at here. other (sym (is_name q f.name at) ∙ is_name q name here))
+  where
+    by : (a b : Bool) → (a ≡ true → b ≡ true → ⊥) → cond a (Some f.file) (cond b None old) ≡ cond b None (cond a (Some f.file) old)
+    by true true apart = absurd (apart refl refl)
+    by true false apart = refl
+    by false b apart = refl
+
+lookup_remove : (es : List Entry) (i : ℕ) (name : List ℕ) (d : Entry) → i < length es → (get_or es i d).name ≡ name → ((j : ℕ) → j < length es → j ≢ i → (get_or es j d).name ≡ name → ⊥)
+    → (q : List ℕ) → lookup (take i es ++ drop (suc i) es) q ≡ drop_name (lookup es) name q
+lookup_remove [] i name d within here others q = absurd (omega arith)
+lookup_remove (f ∷ es) zero name d within here others q =
+    dropped (bytes_eq q name) (bytes_eq q f.name) (Some f.file) (lookup es q) (ap (bytes_eq q) here)
+    (λ at. ap (lookup es) (is_name q name at) ∙ lookup_off es name d (λ j below. others (suc j) (omega arith) (λ same. omega (arith, same))))
+lookup_remove (f ∷ es) (suc i) name d within here others q =
+    kept_front f name q (lookup (take i es ++ drop (suc i) es) q) (lookup es q) (λ is. others 0 (omega arith) (λ same. omega (arith, same)) is)
+    (lookup_remove es i name d (omega arith) here (λ j below ne. others (suc j) (omega arith) (λ same. ne (omega (arith, same)))) q)
+
+pub lookup-remove : (es : List Entry) (i : ℕ) (name : List ℕ) → IsTable es → IsNamed es i name → (q : List ℕ) → lookup (take i es ++ drop (i + 1) es) q ≡ drop_name (lookup es) name q
+lookup-remove es i name table named q =
+    let d : Entry = record { name = name; file = 0 } in
+    ap (λ n. lookup (take i es ++ drop n es) q) (add-one i)
+    ∙ lookup_remove es i name d named.within (named.here d)
+    (λ j below ne is. ⊎_elim (λ lower. apart es table j i d lower named.within (is ∙ sym (named.here d)))
+    (λ upper. ⊎_elim (λ same. ne same) (λ other. apart es table i j d (omega (arith, upper, other)) below (named.here d ∙ sym is)) (cases_eq j i)) (cases_lt j i))
+    q
+
+pub table-remove : (es : List Entry) (i : ℕ) → i < length es → IsTable es → IsTable (remove es i)
+table-remove es i within table = all_pairs_remove (λ (a b : Entry). slice_cmp nat_cmp a.name b.name ≡ Less) es i within table
+
+-- a name that is absent is no news where it is taken away
+pub lookup_without : (es : List Entry) (name q : List ℕ) → lookup es name ≡ None → lookup es q ≡ drop_name (lookup es) name q
+lookup_without es name q none = by (bytes_eq q name) refl
+  where
+    by : (b : Bool) → bytes_eq q name ≡ b → lookup es q ≡ cond b None (lookup es q)
+    by true at = ap (lookup es) (is_name q name at) ∙ none
+    by false off = refl

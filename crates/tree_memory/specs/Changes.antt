@@ -1,9 +1,10 @@
--- The record of what was made of a tree in memory, and the states that it tells.
-use Rattle.std.specs.Prelude.{ℕ, ◌+◌, Bool, true, false, nat_lt, List, [], ◌∷◌, map, slice_index_or, take}
+-- The record of what was made of a tree, and the states that it tells.
+use Rattle.std.specs.Prelude.{ℕ, ◌+◌, Bool, true, false, not, ◌&&◌, is_some, nat_lt, nat_le, List, [], ◌∷◌, map, length, slice_index_or, take, Option, Some}
+use Rattle.std.specs.Str.{bytes_eq}
 use Rattle.base_core.specs.Files.{no_names, put}
-use Rattle.base_core.specs.Tree.{TreeState, File, set_file}
+use Rattle.base_core.specs.Tree.{TreeState, File, set_file, change_at, after_create, after_rename, after_remove, after_sync_names}
 use Rattle.tree_memory.specs.declared.changes.Change.{Change}
-use Rattle.tree_memory.specs.declared.changes.Change.TheVariants.{Put}
+use Rattle.tree_memory.specs.declared.changes.Change.TheVariants.{Put, Create, Append, Sync, Rename, Remove, SyncNames, Stay}
 use Rattle.tree_memory.specs.declared.changes.Stored.{Stored}
 
 abbrev pub no_file : File
@@ -22,13 +23,26 @@ after_put name bytes v = record {
   older = [];
 }
 
--- the bytes of the files by number, as they stand now
+-- the bytes of the files by number, as they stand now, and whether they are synced
 abbrev pub contents_of : List Stored → List (List ℕ)
 contents_of files = map (λ file. file.bytes.items) files
 
--- A file only grows at its end, so that what a change gave it is a front of its bytes now.
+abbrev pub flags_of : List Stored → List Bool
+flags_of files = map (λ file. file.synced) files
+
+-- A file only grows at its end, so that what it held behind a change is a front of its bytes now.
+abbrev pub front_of : List (List ℕ) → ℕ → ℕ → List ℕ
+front_of contents file len = take len (slice_index_or contents file [])
+
 abbrev pub step : List (List ℕ) → Change → TreeState → TreeState
-step contents (Put name file len) = after_put name (take len (slice_index_or contents file []))
+step contents (Put name file len) v = after_put name (front_of contents file len) v
+step contents (Create name) v = after_create name v
+step contents (Append file len) v = change_at (λ f. record { bytes = front_of contents file len; synced = false }) v (Some file)
+step contents (Sync file) v = change_at (λ f. record { bytes = f.bytes; synced = true }) v (Some file)
+step contents (Rename from to) v = after_rename from to v
+step contents (Remove name) v = after_remove name v
+step contents SyncNames v = after_sync_names v
+step contents Stay v = v
 
 -- the state that a record leads to from another
 abbrev pub state_on : List (List ℕ) → TreeState → List Change → TreeState
@@ -40,6 +54,23 @@ abbrev pub earlier_on : List (List ℕ) → TreeState → List TreeState → Lis
 earlier_on contents v earlier [] = earlier
 earlier_on contents v earlier (c ∷ cs) = earlier_on contents (step contents c v) (v ∷ earlier) cs
 
--- whether a change speaks of a file that was made
-abbrev pub is_made : ℕ → Change → Bool
-is_made made (Put name file len) = nat_lt file made
+-- ---- what a record is
+
+-- the file was made, and got at least so many bytes
+abbrev pub is_front : List (List ℕ) → ℕ → ℕ → Bool
+is_front contents file len = nat_lt file (length contents) && nat_le len (length (slice_index_or contents file []))
+
+-- whether a change of a state may be recorded: it speaks of bytes that are kept, and of names that are present
+abbrev pub can_step : List (List ℕ) → Change → TreeState → Bool
+can_step contents (Put name file len) v = is_front contents file len
+can_step contents (Create name) v = true
+can_step contents (Append file len) v = is_front contents file len
+can_step contents (Sync file) v = true
+can_step contents (Rename from to) v = is_some (v.names from)
+can_step contents (Remove name) v = is_some (v.names name)
+can_step contents SyncNames v = true
+can_step contents Stay v = true
+
+abbrev pub is_record : List (List ℕ) → TreeState → List Change → Bool
+is_record contents v [] = true
+is_record contents v (c ∷ cs) = can_step contents c v && is_record contents (step contents c v) cs

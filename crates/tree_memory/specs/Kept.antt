@@ -1,15 +1,29 @@
--- What is kept beside a record, so that it need not be read: the names and the bytes of its newest state.
-use Rattle.std.specs.Prelude.{◌≡◌, ℕ, List, [], length, slice_index_or}
-use Rattle.base_core.specs.Files.{put, IsFolderLike}
-use Rattle.base_core.specs.Tree.{TreeState}
+-- What is kept beside a record, so that it need not be read: the names and the files of its newest state.
+use Rattle.std.specs.Prelude.{◌≡◌, ℕ, true, false, List, [], length, slice_index_or}
+use Rattle.base_core.specs.Files.{NameMap, put, IsFolderLike}
+use Rattle.base_core.specs.Tree.{TreeState, IsMapOf}
+use Rattle.tree_memory.specs.Changes.{contents_of, flags_of, empty_state, state_on, is_record}
 use Rattle.tree_memory.specs.Table.{lookup}
+use Rattle.tree_memory.specs.declared.changes.Change.{Change}
+use Rattle.tree_memory.specs.declared.changes.Stored.{Stored}
 use Rattle.tree_memory.specs.declared.table.Entry.{Entry}
 
--- a table and the bytes by number are those of a state
-pub record IsKept (v : TreeState) (entries : List Entry) (contents : List (List ℕ)) : Type 0 where
+-- a table and the files by number are those of a state
+pub record IsKept (v : TreeState) (entries : List Entry) (files : List Stored) : Type 0 where
   pub names : (q : List ℕ) → v.names q ≡ lookup entries q
-  pub made : v.made ≡ length contents
-  pub bytes : (n : ℕ) → (v.files n).bytes ≡ slice_index_or contents n []
+  pub made : v.made ≡ length files
+  pub bytes : (n : ℕ) → (v.files n).bytes ≡ slice_index_or (contents_of files) n []
+  pub synced : (n : ℕ) → (v.files n).synced ≡ slice_index_or (flags_of files) n false
+
+-- in each map that a crash may leave, no name is a folder of another
+pub record HasFolders (v : TreeState) : Type 0 where
+  pub each : (map : NameMap) → IsMapOf v map → IsFolderLike map
+
+-- changes are a record, and a table and the files are those of its newest state
+pub record IsStore (changes : List Change) (entries : List Entry) (files : List Stored) : Type 0 where
+  pub recorded : is_record (contents_of files) empty_state changes ≡ true
+  pub kept : IsKept (state_on (contents_of files) empty_state changes) entries files
+  pub folders : HasFolders (state_on (contents_of files) empty_state changes)
 
 -- a file may be put there: no present name becomes a folder of another
 pub record CanPut (name : List ℕ) (v : TreeState) : Type 0 where

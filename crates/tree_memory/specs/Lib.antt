@@ -2,7 +2,9 @@ pub mod Table
 pub mod WholeLaw
 pub mod Changes
 pub mod Kept
+pub mod Images
 pub mod Plans
+pub mod Tallies
 pub mod Sink
 pub mod Stores
 pub mod Memory

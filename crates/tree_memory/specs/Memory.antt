@@ -1,9 +1,10 @@
--- What a tree in memory tells.
-use Rattle.std.specs.Prelude.{◌≡◌, ℕ, if◌then◌else◌, List, Result, is_ok}
+-- What a tree in memory tells, and what a call says beside what every tree says.
+use Rattle.std.specs.Prelude.{◌≡◌, ◌⊎◌, ℕ, true, false, if◌then◌else◌, List, Result, OnOk, OnErr, is_ok}
 use Rattle.base_core.specs.Faults.{Counts, risen}
 use Rattle.base_core.specs.Tree.{TreeState}
-use Rattle.tree_memory.specs.Plans.{has_more, one_on}
+use Rattle.tree_memory.specs.Plans.{PlanState, is_next, has_more, one_on}
 use Rattle.tree_memory.specs.Stores.{store_state, store_history}
+use Rattle.tree_memory.specs.declared.tally.Calls.{Calls}
 use Rattle.tree_memory.specs.declared.tree.MemoryTree.{MemoryTree}
 
 -- the newest state
@@ -14,25 +15,64 @@ state_of tree = store_state tree.store
 abbrev pub history_of : MemoryTree → List TreeState
 history_of tree = store_history tree.store
 
--- the numbers of the calls that are to fail, counted from 1 from now on
-abbrev pub plan_of : MemoryTree → List ℕ
-plan_of tree = tree.plan.items
+-- which calls are to fail
+abbrev pub plan_of : MemoryTree → PlanState
+plan_of tree = tree.calls.plan
 
 -- only a planned failure can fail a call, beside a misuse and want of memory
-abbrev pub counts_of : MemoryTree → Counts
-counts_of tree = record {
-  faults = tree.tally.faults;
-  misuses = tree.tally.misuses;
-  wants = tree.tally.wants;
-  fallible = has_more (plan_of tree);
+abbrev pub counts_by : Calls → Counts
+counts_by calls = record {
+  faults = calls.tally.faults;
+  misuses = calls.tally.misuses;
+  wants = calls.tally.wants;
+  fallible = has_more calls.plan;
 }
+
+abbrev pub counts_of : MemoryTree → Counts
+counts_of tree = counts_by tree.calls
 
 -- how many calls were made
 abbrev pub calls_of : MemoryTree → ℕ
-calls_of tree = tree.tally.calls
+calls_of tree = tree.calls.tally.calls
 
--- a call is counted, the plan is one call nearer, and an error is a fault
-pub record IsCall {T E : Type 0} (old new : MemoryTree) (result : Result T E) : Type 0 where
+-- how many of them were others than `size`, `read_at` and `list`
+abbrev pub writes_of : MemoryTree → ℕ
+writes_of tree = tree.calls.tally.writes
+
+-- ---- a call that reads
+
+-- it is counted, the plan is one call nearer, and an error is a fault, never for want of memory
+pub record IsRead {T E : Type 0} (old new : MemoryTree) (result : Result T E) : Type 0 where
   pub calls : calls_of new ≡ risen (calls_of old)
+  pub writes : writes_of new ≡ writes_of old
   pub plan : plan_of new ≡ one_on (plan_of old)
   pub faults : (counts_of new).faults ≡ (if is_ok result then (counts_of old).faults else risen (counts_of old).faults)
+  pub wants : (counts_of new).wants ≡ (counts_of old).wants
+
+-- ---- a call that writes
+
+-- no failure is planned for it, and it is no misuse
+pub record IsFree (can : TreeState → Type 0) (old : MemoryTree) : Type 0 where
+  pub unplanned : is_next (plan_of old) ≡ false
+  pub proper : can (state_of old)
+
+-- it failed since that was planned, or since it is a misuse
+pub record HadToFail (can : TreeState → Type 0) (old new : MemoryTree) : Type 0 where
+  pub reason : (is_next (plan_of old) ≡ true) ⊎ (can (state_of old) → ⊥)
+  pub wants : (counts_of new).wants ≡ (counts_of old).wants
+
+-- it failed for want of memory alone
+pub record FailedForWant (can : TreeState → Type 0) (old new : MemoryTree) : Type 0 where
+  pub free : IsFree can old
+  pub wants : (counts_of new).wants ≡ risen (counts_of old).wants
+
+-- it is counted, the plan is one call nearer, and an error is a fault, has one of these reasons, and changes nothing else
+pub record IsWrite {T E : Type 0} (can : TreeState → Type 0) (old new : MemoryTree) (result : Result T E) : Type 0 where
+  pub calls : calls_of new ≡ risen (calls_of old)
+  pub writes : writes_of new ≡ risen (writes_of old)
+  pub plan : plan_of new ≡ one_on (plan_of old)
+  pub faults : (counts_of new).faults ≡ (if is_ok result then (counts_of old).faults else risen (counts_of old).faults)
+  pub free : OnOk result (IsFree can old)
+  pub wants : OnOk result ((counts_of new).wants ≡ (counts_of old).wants)
+  pub reason : OnErr result (HadToFail can old new ⊎ FailedForWant can old new)
+  pub unchanged : OnErr result (history_of new ≡ history_of old)

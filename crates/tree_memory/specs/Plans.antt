@@ -1,15 +1,38 @@
--- A plan of failures: the numbers of the calls that are to fail, counted from 1 from now on.
-use Rattle.std.specs.Prelude.{ℕ, ◌-◌, ◌==◌, nat_lt, Bool, List, map, filter}
-use Rattle.std.specs.List.{list_any}
+-- A plan of failures: which calls are to fail, counted from 1 from now on.
+use Rattle.std.specs.Prelude.{ℕ, ◌-◌, ◌==◌, nat_lt, Bool, false, ◌||◌, List, [], map, Option, Some, None, is_some}
+use Rattle.std.specs.List.{list_any, filter}
+use Rattle.std.specs.Option.{option_map}
 
--- whether the next call is to fail
-abbrev pub is_next : List ℕ → Bool
-is_next plan = list_any (λ n. n == 1) plan
+-- the calls with the numbers of a list, and all behind the next so many, where that is planned
+pub record PlanState : Type 0 where
+  pub listed : List ℕ
+  pub stop : Option ℕ
+
+-- no call is to fail
+abbrev pub no_plan : PlanState
+no_plan = record { listed = []; stop = None }
+
+-- ---- whether the next call is to fail
+
+abbrev pub is_listed : List ℕ → Bool
+is_listed listed = list_any (λ n. n == 1) listed
+
+abbrev pub is_stopped : Option ℕ → Bool
+is_stopped None = false
+is_stopped (Some n) = n == 0
+
+abbrev pub is_next : PlanState → Bool
+is_next plan = is_listed plan.listed || is_stopped plan.stop
 
 -- whether a call still to come is to fail
-abbrev pub has_more : List ℕ → Bool
-has_more plan = list_any (λ n. nat_lt 0 n) plan
+abbrev pub has_more : PlanState → Bool
+has_more plan = list_any (λ n. nat_lt 0 n) plan.listed || is_some plan.stop
 
--- the plan behind the next call: each number is one less, and what reaches 0 is past
-abbrev pub one_on : List ℕ → List ℕ
-one_on plan = filter (λ n. nat_lt 0 n) (map (λ n. n - 1) plan)
+-- ---- the plan behind the next call
+
+-- each number is one less, and what reaches 0 is past
+abbrev pub listed_on : List ℕ → List ℕ
+listed_on listed = filter (λ n. nat_lt 0 n) (map (λ n. n - 1) listed)
+
+abbrev pub one_on : PlanState → PlanState
+one_on plan = record { listed = listed_on plan.listed; stop = option_map (λ n. n - 1) plan.stop }

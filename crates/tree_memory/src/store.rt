@@ -1,12 +1,10 @@
-ghost use Rattle.std.specs.Prelude.{◌≡◌, ◌↔◌, ℕ, ◌<◌, ◌≤◌, ◌+◌, [], ◌∷◌, ◌++◌, true, List, IsTrue, IfOk, IfSome, OnOk, OnErr, length, take, drop};
-ghost use Rattle.std.specs.List.{list_all};
+ghost use Rattle.std.specs.Prelude.{◌≡◌, ◌↔◌, ℕ, ◌<◌, ◌≤◌, ◌+◌, [], ◌∷◌, ◌++◌, List, IsTrue, IfOk, IfSome, OnOk, OnErr, length, take, drop};
 ghost use Rattle.std.specs.Option.{option_copied};
 ghost use Rattle.std.specs.Vec.{vec_len, vec_capacity};
-ghost use Rattle.base_core.specs.Files.{IsFolderLike, put};
-ghost use Rattle.base_core.specs.Listed.{IsNamesOf};
-ghost use Rattle.base_core.specs.Tree.{files_of, CanRead};
-ghost use Rattle.tree_memory.specs.Changes.{empty_state, contents_of, state_on, is_made};
-ghost use Rattle.tree_memory.specs.Kept.{IsKept, CanPut};
+ghost use Rattle.base_core.specs.Listed.{IsNamesOf, IsListOf};
+ghost use Rattle.base_core.specs.Tree.{files_of, HasName, CanRead, CanCreate, CanRename, after_create, after_append, after_sync, after_rename, after_remove, after_sync_names};
+ghost use Rattle.tree_memory.specs.Changes.{empty_state, after_put};
+ghost use Rattle.tree_memory.specs.Kept.{IsStore, CanPut};
 
 use crate::changes::{Change, Stored};
 use crate::table::NameTable;
@@ -20,17 +18,12 @@ pub struct Store {
     pub changes: Vec<Change>,
     pub names: NameTable,
     pub files: Vec<Stored>,
-    // Each change speaks of a file that was made.
-    pub ghost made: { list_all (is_made (length files.items)) changes.items ≡ true },
     // The names and the files are those of the record's newest state.
-    pub ghost kept: { IsKept (state_on (contents_of files.items) empty_state changes.items) names.entries.items (contents_of files.items) },
-    // No present name is a folder of another.
-    pub ghost folders: { IsFolderLike (state_on (contents_of files.items) empty_state changes.items).names },
+    pub ghost in_step: { IsStore changes.items names.entries.items files.items },
 }
 
 impl Store {
     ghost use Rattle.tree_memory.specs.Stores.{store_state, store_history};
-    ghost use Rattle.tree_memory.specs.Changes.{after_put};
 
     pub fn new(alloc: Global) -> Store
         ensures { store_history result ≡ empty_state ∷ [] }
@@ -43,41 +36,7 @@ impl Store {
         }
     }
 
-    /// Whether a file may be put under the name.
-    pub fn can_put(&self, name: &Name) -> bool
-        ensures { IsTrue result ↔ CanPut name.now (store_state self.now) }
-    {
-        if self.names.has_folder_of(name.as_bytes()) {
-            return false;
-        }
-        !self.names.has_below(name.as_bytes())
-    }
-
-    /// A new synced file under the name. A refused put changes nothing.
-    pub fn put(&mut self, name: &Name, bytes: &[u8]) -> Result<(), AllocError>
-        requires { CanPut name.now (store_state self.old) }
-        ensures ok { OnOk result (store_history self.new ≡ after_put name.now bytes.now (store_state self.old) ∷ store_history self.old) }
-        ensures err { OnErr result (store_history self.new ≡ store_history self.old) }
-    {
-        let recorded = name.copy(self.alloc)?;
-        let named = name.copy(self.alloc)?;
-        let bytes = Vec::from_slice(self.alloc, bytes)?;
-        self.changes.reserve(1)?;
-        self.files.reserve(1)?;
-        let file = self.files.len();
-        let len = bytes.len();
-        self.names.set(named, file)?;
-        add(&mut self.files, Stored { bytes });
-        add(
-            &mut self.changes,
-            Change::Put {
-                name: recorded,
-                file,
-                len,
-            },
-        );
-        Ok(())
-    }
+    // ---- what is read
 
     /// The bytes of a file as read, or None exactly where the name is absent.
     pub fn file(&self, name: &Name) -> Option<&[u8]>
@@ -86,16 +45,6 @@ impl Store {
         match self.names.find(name.as_bytes()) {
             None => None,
             Some(file) => Some(&self.files[file].bytes),
-        }
-    }
-
-    /// Whether the file is there, and has so many bytes from this place on.
-    pub fn can_read(&self, name: &Name, at: u64, len: usize) -> bool
-        ensures { IsTrue result ↔ CanRead name.now at len (store_state self.now) }
-    {
-        match self.file(name) {
-            None => false,
-            Some(bytes) => has_range(bytes, at, len),
         }
     }
 
@@ -114,6 +63,198 @@ impl Store {
         ensures { IfOk result (IsNamesOf (store_state self.now).names) }
     {
         self.names.list(alloc)
+    }
+
+    /// The present names below a folder, in byte order.
+    pub fn list(&self, alloc: Global, folder: &Name) -> Result<Names, AllocError>
+        ensures { IfOk result (IsListOf folder.now (store_state self.now)) }
+    {
+        self.names.list_below(alloc, folder.as_bytes())
+    }
+
+    // ---- where a call is no misuse
+
+    /// Whether the file is there, and has so many bytes from this place on.
+    pub fn can_read(&self, name: &Name, at: u64, len: usize) -> bool
+        ensures { IsTrue result ↔ CanRead name.now at len (store_state self.now) }
+    {
+        match self.file(name) {
+            None => false,
+            Some(bytes) => has_range(bytes, at, len),
+        }
+    }
+
+    /// Whether the name is present.
+    pub fn has(&self, name: &Name) -> bool
+        ensures { IsTrue result ↔ HasName name.now (store_state self.now) }
+    {
+        self.names.find(name.as_bytes()).is_some()
+    }
+
+    /// Whether a file may be put under the name.
+    pub fn can_put(&self, name: &Name) -> bool
+        ensures { IsTrue result ↔ CanPut name.now (store_state self.now) }
+    {
+        self.names.fits(name.as_bytes(), name.as_bytes())
+    }
+
+    /// Whether a file may be made under the name.
+    pub fn can_create(&self, name: &Name) -> bool
+        ensures { IsTrue result ↔ CanCreate name.now (store_state self.now) }
+    {
+        if self.has(name) {
+            return false;
+        }
+        self.can_put(name)
+    }
+
+    /// Whether the file of one name may get another.
+    pub fn can_rename(&self, from: &Name, to: &Name) -> bool
+        ensures { IsTrue result ↔ CanRename from.now to.now (store_state self.now) }
+    {
+        if !self.has(from) {
+            return false;
+        }
+        if from.as_bytes() == to.as_bytes() {
+            return false;
+        }
+        self.names.fits(to.as_bytes(), from.as_bytes())
+    }
+
+    // ---- what is made of it, where a refused change changes nothing
+
+    /// A new synced file under the name, and the names synced.
+    pub fn put(&mut self, name: &Name, bytes: Vec<u8>) -> Result<(), AllocError>
+        requires { CanPut name.now (store_state self.old) }
+        ensures ok { OnOk result (store_history self.new ≡ after_put name.now bytes.items (store_state self.old) ∷ store_history self.old) }
+        ensures err { OnErr result (store_history self.new ≡ store_history self.old) }
+    {
+        let recorded = name.copy(self.alloc)?;
+        let named = name.copy(self.alloc)?;
+        self.changes.reserve(1)?;
+        self.files.reserve(1)?;
+        let file = self.files.len();
+        let len = bytes.len();
+        self.names.set(named, file)?;
+        add(
+            &mut self.files,
+            Stored {
+                bytes,
+                synced: true,
+            },
+        );
+        add(
+            &mut self.changes,
+            Change::Put {
+                name: recorded,
+                file,
+                len,
+            },
+        );
+        Ok(())
+    }
+
+    /// A new empty file under the name.
+    pub fn create(&mut self, name: &Name) -> Result<(), AllocError>
+        requires { CanCreate name.now (store_state self.old) }
+        ensures ok { OnOk result (store_history self.new ≡ after_create name.now (store_state self.old) ∷ store_history self.old) }
+        ensures err { OnErr result (store_history self.new ≡ store_history self.old) }
+    {
+        let recorded = name.copy(self.alloc)?;
+        let named = name.copy(self.alloc)?;
+        self.changes.reserve(1)?;
+        self.files.reserve(1)?;
+        let file = self.files.len();
+        self.names.set(named, file)?;
+        add(
+            &mut self.files,
+            Stored {
+                bytes: Vec::new(self.alloc),
+                synced: false,
+            },
+        );
+        add(&mut self.changes, Change::Create { name: recorded });
+        Ok(())
+    }
+
+    /// A piece at the file's end.
+    pub fn append(&mut self, name: &Name, piece: &[u8]) -> Result<(), AllocError>
+        requires { HasName name.now (store_state self.old) }
+        ensures ok { OnOk result (store_history self.new ≡ after_append name.now piece.now (store_state self.old) ∷ store_history self.old) }
+        ensures err { OnErr result (store_history self.new ≡ store_history self.old) }
+    {
+        if let Some(file) = self.names.find(name.as_bytes()) {
+            self.changes.reserve(1)?;
+            self.files[file].append(piece)?;
+            let len = self.files[file].bytes.len();
+            add(&mut self.changes, Change::Append { file, len });
+        }
+        Ok(())
+    }
+
+    /// The file is synced.
+    pub fn sync(&mut self, name: &Name) -> Result<(), AllocError>
+        requires { HasName name.now (store_state self.old) }
+        ensures ok { OnOk result (store_history self.new ≡ after_sync name.now (store_state self.old) ∷ store_history self.old) }
+        ensures err { OnErr result (store_history self.new ≡ store_history self.old) }
+    {
+        if let Some(file) = self.names.find(name.as_bytes()) {
+            self.changes.reserve(1)?;
+            self.files[file].synced = true;
+            add(&mut self.changes, Change::Sync { file });
+        }
+        Ok(())
+    }
+
+    /// The file of one name gets another.
+    pub fn rename(&mut self, from: &Name, to: &Name) -> Result<(), AllocError>
+        requires { CanRename from.now to.now (store_state self.old) }
+        ensures ok { OnOk result (store_history self.new ≡ after_rename from.now to.now (store_state self.old) ∷ store_history self.old) }
+        ensures err { OnErr result (store_history self.new ≡ store_history self.old) }
+    {
+        if let Some(file) = self.names.find(from.as_bytes()) {
+            let named = to.copy(self.alloc)?;
+            let recorded_from = from.copy(self.alloc)?;
+            let recorded_to = to.copy(self.alloc)?;
+            self.changes.reserve(1)?;
+            self.names.set(named, file)?;
+            self.names.remove(from.as_bytes());
+            add(
+                &mut self.changes,
+                Change::Rename {
+                    from: recorded_from,
+                    to: recorded_to,
+                },
+            );
+        }
+        Ok(())
+    }
+
+    /// The name leads to no file.
+    pub fn remove(&mut self, name: &Name) -> Result<(), AllocError>
+        ensures ok { OnOk result (store_history self.new ≡ after_remove name.now (store_state self.old) ∷ store_history self.old) }
+        ensures err { OnErr result (store_history self.new ≡ store_history self.old) }
+    {
+        if !self.has(name) {
+            self.changes.reserve(1)?;
+            add(&mut self.changes, Change::Stay);
+            return Ok(());
+        }
+        let recorded = name.copy(self.alloc)?;
+        self.changes.reserve(1)?;
+        self.names.remove(name.as_bytes());
+        add(&mut self.changes, Change::Remove { name: recorded });
+        Ok(())
+    }
+
+    /// The names are synced.
+    pub fn sync_names(&mut self) -> Result<(), AllocError>
+        ensures ok { OnOk result (store_history self.new ≡ after_sync_names (store_state self.old) ∷ store_history self.old) }
+        ensures err { OnErr result (store_history self.new ≡ store_history self.old) }
+    {
+        self.changes.reserve(1)?;
+        add(&mut self.changes, Change::SyncNames);
+        Ok(())
     }
 }
 

@@ -1,8 +1,9 @@
-ghost use Rattle.std.specs.Prelude.{◌≡◌, ◌↔◌, ℕ, ◌<◌, [], ◌∷◌, ◌++◌, List, IsTrue, IsSome, IfOk, IfErr, OnOk, OnErr, None, Some, length, map, slice_index_or};
-ghost use Rattle.std.specs.Ordering.{nat_cmp};
+ghost use Rattle.std.specs.Prelude.{◌≡◌, ◌↔◌, ℕ, [], ◌∷◌, ◌++◌, false, List, IsTrue, IsSome, IfOk, IfErr, OnOk, OnErr};
+ghost use Rattle.std.specs.Ordering.{nat_cmp, is_lt};
+ghost use Rattle.std.specs.Str.{bytes_eq};
 ghost use Rattle.std.specs.Cmp.Lexicographic.{slice_cmp};
-ghost use Rattle.base_core.specs.Files.{put, IsFolderOf};
-ghost use Rattle.tree_memory.specs.Table.{IsTable, lookup, names_of, IsNamed, IsPlace, HasFolderOf, HasBelow};
+ghost use Rattle.base_core.specs.Files.{put, drop_name, IsFolderOf};
+ghost use Rattle.tree_memory.specs.Table.{IsTable, IsFit, lookup, names_of, IsNamed, IsPlace, IsStart, IsBelow, HasFolderBut, HasBelowBut};
 
 use base_core::{Name, Names};
 use std::alloc::{AllocError, Global};
@@ -62,30 +63,70 @@ impl NameTable {
         Ok(())
     }
 
-    /// Whether a folder of the name is itself a name of the table.
-    pub fn has_folder_of(&self, name: &[u8]) -> bool
-        ensures { IsTrue result ↔ HasFolderOf self.now.entries.items name.now }
+    /// Takes a name away.
+    pub fn remove(&mut self, name: &[u8])
+        ensures { (q : List ℕ) → lookup self.new.entries.items q ≡ drop_name (lookup self.old.entries.items) name.now q }
+    {
+        if let Ok(i) = self.place(name) {
+            let _ = self.entries.remove(i);
+        }
+    }
+
+    /// Whether the name is no folder of a name of the table other than `but`, and has none of them as its folder.
+    pub fn fits(&self, name: &[u8], but: &[u8]) -> bool
+        ensures { IsTrue result ↔ IsFit self.now.entries.items name.now but.now }
+    {
+        if self.has_folder_of(name, but) {
+            return false;
+        }
+        !self.has_below(name, but)
+    }
+
+    // Whether a folder of the name is itself a name of the table, other than `but`.
+    fn has_folder_of(&self, name: &[u8], but: &[u8]) -> bool
+        ensures { IsTrue result ↔ HasFolderBut self.now.entries.items name.now but.now }
     {
         for (i, byte) in name.iter().enumerate() {
-            if *byte == b'/' && self.find(&name[..i]).is_some() {
+            if *byte == b'/' && self.has_other(&name[..i], but) {
                 return true;
             }
         }
         false
     }
 
-    /// Whether a name of the table lies below the folder.
-    pub fn has_below(&self, folder: &[u8]) -> bool
-        ensures { IsTrue result ↔ HasBelow self.now.entries.items folder.now }
+    // Whether the name is in the table, and is not `but`.
+    fn has_other(&self, name: &[u8], but: &[u8]) -> bool
+        ensures { IsTrue result ↔ (IsSome (lookup self.now.entries.items name.now) × (bytes_eq name.now but.now ≡ false)) }
     {
-        let place = self
-            .entries
-            .binary_search_by(|entry| against_folder(entry.name.as_bytes(), folder));
-        match place {
-            Ok(_) => true,
-            Err(i) => i < self.entries.len()
-                && is_folder_of(folder, self.entries[i].name.as_bytes()),
+        if name == but {
+            return false;
         }
+        self.find(name).is_some()
+    }
+
+    // Whether a name of the table, other than `but`, lies below the folder.
+    fn has_below(&self, folder: &[u8], but: &[u8]) -> bool
+        ensures { IsTrue result ↔ HasBelowBut self.now.entries.items folder.now but.now }
+    {
+        let start = self.start(folder);
+        for i in start..self.entries.len() {
+            let name = self.entries[i].name.as_bytes();
+            if !is_folder_of(folder, name) {
+                return false;
+            }
+            if name != but {
+                return true;
+            }
+        }
+        false
+    }
+
+    // Where the names below a folder begin.
+    fn start(&self, folder: &[u8]) -> usize
+        ensures { IsStart self.now.entries.items result folder.now }
+    {
+        self.entries
+            .partition_point(|entry| is_before(entry.name.as_bytes(), folder))
     }
 
     /// The names in byte order.
@@ -97,6 +138,33 @@ impl NameTable {
             names.push(entry.name.copy(alloc)?)?;
         }
         Ok(names)
+    }
+
+    /// The names below a folder, at any depth, in byte order.
+    pub fn list_below(&self, alloc: Global, folder: &[u8]) -> Result<Names, AllocError>
+        ensures { IfOk result (IsBelow self.now.entries.items folder.now) }
+    {
+        let mut names = Names::new(alloc);
+        let start = self.start(folder);
+        for i in start..self.entries.len() {
+            let name = &self.entries[i].name;
+            if !is_folder_of(folder, name.as_bytes()) {
+                return Ok(names);
+            }
+            names.push(name.copy(alloc)?)?;
+        }
+        Ok(names)
+    }
+}
+
+// Whether a name is before the folder's name and a slash.
+fn is_before(name: &[u8], folder: &[u8]) -> bool
+    ensures { result ≡ is_lt (slice_cmp nat_cmp name.now (folder.now ++ 47 ∷ [])) }
+{
+    match against_folder(name, folder) {
+        Ordering::Less => true,
+        Ordering::Equal => false,
+        Ordering::Greater => false,
     }
 }
 

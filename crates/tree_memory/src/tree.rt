@@ -1,41 +1,44 @@
-ghost use Rattle.std.specs.Prelude.{◌≡◌, ◌↔◌, [], ◌∷◌, List, IsTrue, IsOk, IfOk, IfSome, OnOk, OnErr, false, length, take, drop};
+ghost use Rattle.std.specs.Prelude.{◌≡◌, ◌↔◌, [], ◌∷◌, List, Some, None, IsTrue, IsOk, IfOk, IfSome, IsErrOf, OnOk, OnErr, false, true, length, take, drop, if◌then◌else◌};
 ghost use Rattle.std.specs.Option.{option_map, option_copied};
-ghost use Rattle.base_core.specs.Calls.{Counted, OnTold};
+ghost use Rattle.base_core.specs.Calls.{Counted, Moves, OnTold};
+ghost use Rattle.base_core.specs.Crash.{IsCrashOf};
+ghost use Rattle.base_core.specs.Faults.{GoesOn, HasCause, IsNoFault, risen};
 ghost use Rattle.base_core.specs.Files.{put};
-ghost use Rattle.base_core.specs.Listed.{IsNamesOf};
-ghost use Rattle.base_core.specs.Tree.{files_of, Anywhere, CanRead};
+ghost use Rattle.base_core.specs.Listed.{IsNamesOf, IsListOf};
+ghost use Rattle.base_core.specs.Tree.{files_of, after_create, after_append, after_failed_append, after_sync, after_rename, after_remove, after_sync_names, unchanged, Anywhere, HasName, CanRead, CanCreate, CanRename};
+ghost use Rattle.base_core.specs.declared.tree.TreeFault.TheVariants.{Memory, Disk as DiskFault};
 ghost use Rattle.tree_memory.specs.Changes.{empty_state, after_put};
+ghost use Rattle.tree_memory.specs.Images.{maps_of, picked};
 ghost use Rattle.tree_memory.specs.Kept.{CanPut};
-ghost use Rattle.tree_memory.specs.Plans.{is_next, has_more, one_on};
+ghost use Rattle.tree_memory.specs.Plans.{no_plan, is_next, has_more, one_on};
 
+use crate::plan::Plan;
 use crate::store::Store;
-use crate::tally::Tally;
-use base_core::{Disk, Name, Names, Tree};
+use crate::tally::Calls;
+use base_core::{Disk, Name, Names, Tree, TreeFault};
 use std::alloc::{AllocError, Global};
 
 /// A tree of files in memory. It tells all: its states, its counts, and which calls are to fail.
 #[derive(Drop)]
 pub struct MemoryTree {
     store: Store,
-    // The numbers of the calls that are to fail, counted from 1 from now on.
-    plan: Vec<u64>,
-    tally: Tally,
+    calls: Calls,
 }
 
 impl MemoryTree {
-    ghost use Rattle.tree_memory.specs.Memory.{state_of, history_of, counts_of, calls_of, plan_of};
+    ghost use Rattle.tree_memory.specs.Memory.{state_of, history_of, counts_of, calls_of, writes_of, plan_of};
 
     /// An empty tree, with no faults and no planned failures.
     pub fn new(alloc: Global) -> MemoryTree
         ensures history { history_of result ≡ empty_state ∷ [] }
         ensures counts { counts_of result ≡ record { faults = 0; misuses = 0; wants = 0; fallible = false } }
-        ensures plan { plan_of result ≡ [] }
+        ensures plan { plan_of result ≡ no_plan }
         ensures calls { calls_of result ≡ 0 }
+        ensures writes { writes_of result ≡ 0 }
     {
         MemoryTree {
             store: Store::new(alloc),
-            plan: Vec::new(alloc),
-            tally: Tally::new(),
+            calls: Calls::new(alloc),
         }
     }
 
@@ -56,7 +59,9 @@ impl MemoryTree {
         ensures counts { counts_of self.new ≡ counts_of self.old }
         ensures plan { plan_of self.new ≡ plan_of self.old }
         ensures calls { calls_of self.new ≡ calls_of self.old }
+        ensures writes { writes_of self.new ≡ writes_of self.old }
     {
+        let bytes = Vec::from_slice(self.store.alloc, bytes)?;
         self.store.put(name, bytes)
     }
 
@@ -77,40 +82,85 @@ impl MemoryTree {
     /// Makes the calls with these numbers fail, counted from 1 from now on, in place of those that were planned
     /// before. A refused plan changes nothing.
     pub fn fail_at(&mut self, calls: &[u64]) -> Result<(), AllocError>
-        ensures ok { OnOk result (plan_of self.new ≡ calls.now) }
+        ensures ok { OnOk result (plan_of self.new ≡ record { listed = calls.now; stop = None }) }
         ensures err { OnErr result (plan_of self.new ≡ plan_of self.old) }
         ensures history { history_of self.new ≡ history_of self.old }
         ensures counts { counts_of self.new ≡ record (counts_of self.old) { fallible = has_more (plan_of self.new) } }
         ensures calls { calls_of self.new ≡ calls_of self.old }
+        ensures writes { writes_of self.new ≡ writes_of self.old }
     {
-        self.plan = Vec::from_slice(self.store.alloc, calls)?;
+        self.calls.plan = Plan::at(self.store.alloc, calls)?;
         Ok(())
+    }
+
+    /// Makes every call after the next n fail, in place of those that were planned before.
+    pub fn stop_after(&mut self, n: u64)
+        ensures plan { plan_of self.new ≡ record { listed = []; stop = Some n } }
+        ensures history { history_of self.new ≡ history_of self.old }
+        ensures counts { counts_of self.new ≡ record (counts_of self.old) { fallible = true } }
+        ensures calls { calls_of self.new ≡ calls_of self.old }
+        ensures writes { writes_of self.new ≡ writes_of self.old }
+    {
+        self.calls.plan = Plan::after(self.store.alloc, n);
+    }
+
+    /// A new tree, the one after a crash: it has one of the maps of names and all its files are synced. With m maps, it
+    /// has map `choice mod m`, counted from the oldest as 0. A file that was not synced holds what was read where
+    /// `(choice / m) mod 3` is 0, nothing where it is 1, and as many bytes of value 255 where it is 2. The new tree has
+    /// no faults and no planned failures. The tree itself stays as it is.
+    pub fn pick_image(&self, alloc: Global, choice: u64) -> Result<MemoryTree, AllocError>
+        ensures files { IfOk result (λ image. files_of (state_of image) ≡ picked choice (state_of self.now)) }
+        ensures crash { IfOk result (λ image. IsCrashOf (state_of self.now) (state_of image)) }
+        ensures counts { IfOk result (λ image. counts_of image ≡ record { faults = 0; misuses = 0; wants = 0; fallible = false }) }
+        ensures plan { IfOk result (λ image. plan_of image ≡ no_plan) }
+        ensures calls { IfOk result (λ image. calls_of image ≡ 0) }
+        ensures writes { IfOk result (λ image. writes_of image ≡ 0) }
+    {
+        let store = self.store.image(alloc, choice)?;
+        Ok(MemoryTree {
+            store,
+            calls: Calls::new(alloc),
+        })
     }
 
     /// How many calls of `Tree` were made.
     pub fn calls(&self) -> u64
         ensures { result ≡ calls_of self.now }
     {
-        self.tally.calls
+        self.calls.tally.calls
+    }
+
+    /// How many of them were others than `size`, `read_at` and `list`.
+    pub fn writes(&self) -> u64
+        ensures { result ≡ writes_of self.now }
+    {
+        self.calls.tally.writes
     }
 
     /// How many of them failed.
     pub fn faults(&self) -> u64
         ensures { result ≡ (counts_of self.now).faults }
     {
-        self.tally.faults
+        self.calls.tally.faults
     }
 
     /// How many of them failed for want of the tree's own memory.
     pub fn wants(&self) -> u64
         ensures { result ≡ (counts_of self.now).wants }
     {
-        self.tally.wants
+        self.calls.tally.wants
+    }
+
+    /// How many maps of names there are, any one of which a crash may leave.
+    pub fn maps(&self) -> u64
+        ensures { result ≡ length (maps_of (state_of self.now)) }
+    {
+        self.store.maps()
     }
 }
 
 impl Tree for MemoryTree {
-    ghost use Rattle.tree_memory.specs.Memory.{state_of, history_of, counts_of, plan_of, IsCall};
+    ghost use Rattle.tree_memory.specs.Memory.{state_of, history_of, counts_of, calls_of, writes_of, plan_of, IsRead, IsWrite};
     ghost use Rattle.tree_memory.specs.WholeLaw.{whole_history};
 
     ghost history = { λ tree. history_of tree };
@@ -126,14 +176,9 @@ impl Tree for MemoryTree {
 
         // It fails exactly where that is planned.
         ensures when { IsOk result ↔ (is_next (plan_of self.old) ≡ false) }
-        ensures call { IsCall self.old self.new result }
-        ensures wants { (counts_of self.new).wants ≡ (counts_of self.old).wants }
+        ensures call { IsRead self.old self.new result }
     {
-        self.tally.call();
-        if pass(&mut self.plan) {
-            self.tally.fault();
-            return Err(Disk);
-        }
+        self.calls.begin(true)?;
         match self.store.file(name) {
             None => Ok(None),
             Some(bytes) => Ok(Some(bytes.len() as u64)),
@@ -149,33 +194,99 @@ impl Tree for MemoryTree {
         // It fails exactly where that is planned, and at a misuse.
         ensures when { IsOk result ↔ ((is_next (plan_of self.old) ≡ false) × CanRead name.now at (length into.old) (state_of self.old)) }
         ensures unchanged { OnErr result (into.new ≡ into.old) }
-        ensures call { IsCall self.old self.new result }
-        ensures wants { (counts_of self.new).wants ≡ (counts_of self.old).wants }
+        ensures call { IsRead self.old self.new result }
     {
-        self.tally.call();
-        let planned = pass(&mut self.plan);
-        if !self.store.can_read(name, at, into.len()) {
-            self.tally.misuse();
-            return Err(Disk);
-        }
-        if planned {
-            self.tally.fault();
-            return Err(Disk);
-        }
+        let can = self.store.can_read(name, at, into.len());
+        self.calls.begin(can)?;
         self.store.read_at(name, at, into);
         Ok(())
     }
-}
 
-// Whether the next call is to fail. The plan is one call nearer.
-fn pass(plan: &mut Vec<u64>) -> bool
-    ensures planned { result ≡ is_next plan.old.items }
-    ensures nearer { plan.new.items ≡ one_on plan.old.items }
-{
-    let planned = plan.contains(&1);
-    for n in plan.iter_mut() {
-        *n = n.saturating_sub(1);
+    fn create(&mut self, name: &Name) -> Result<(), Disk>
+        ensures moves { Moves (after_create name.now) (after_create name.now) (history_of self.old) (history_of self.new) result }
+        ensures counts { Counted (CanCreate name.now) (history_of self.old) (counts_of self.old) (counts_of self.new) result }
+
+        // It fails exactly at a misuse, where that is planned, and for want of memory, and then changes nothing.
+        ensures call { IsWrite (CanCreate name.now) self.old self.new result }
+    {
+        let can = self.store.can_create(name);
+        self.calls.begin_write(can)?;
+        let done = self.store.create(name);
+        self.calls.finish(done)
     }
-    plan.retain(|n| *n > 0);
-    planned
+
+    fn append(&mut self, name: &Name, piece: &[u8]) -> Result<(), Disk>
+        ensures moves { Moves (after_append name.now piece.now) (after_failed_append name.now) (history_of self.old) (history_of self.new) result }
+        ensures counts { Counted (HasName name.now) (history_of self.old) (counts_of self.old) (counts_of self.new) result }
+        ensures call { IsWrite (HasName name.now) self.old self.new result }
+    {
+        let can = self.store.has(name);
+        self.calls.begin_write(can)?;
+        let done = self.store.append(name, piece);
+        self.calls.finish(done)
+    }
+
+    fn sync(&mut self, name: &Name) -> Result<(), Disk>
+        ensures moves { Moves (after_sync name.now) unchanged (history_of self.old) (history_of self.new) result }
+        ensures counts { Counted (HasName name.now) (history_of self.old) (counts_of self.old) (counts_of self.new) result }
+        ensures call { IsWrite (HasName name.now) self.old self.new result }
+    {
+        let can = self.store.has(name);
+        self.calls.begin_write(can)?;
+        let done = self.store.sync(name);
+        self.calls.finish(done)
+    }
+
+    fn rename(&mut self, from: &Name, to: &Name) -> Result<(), Disk>
+        ensures moves { Moves (after_rename from.now to.now) (after_rename from.now to.now) (history_of self.old) (history_of self.new) result }
+        ensures counts { Counted (CanRename from.now to.now) (history_of self.old) (counts_of self.old) (counts_of self.new) result }
+        ensures call { IsWrite (CanRename from.now to.now) self.old self.new result }
+    {
+        let can = self.store.can_rename(from, to);
+        self.calls.begin_write(can)?;
+        let done = self.store.rename(from, to);
+        self.calls.finish(done)
+    }
+
+    fn remove(&mut self, name: &Name) -> Result<(), Disk>
+        ensures moves { Moves (after_remove name.now) (after_remove name.now) (history_of self.old) (history_of self.new) result }
+        ensures counts { Counted Anywhere (history_of self.old) (counts_of self.old) (counts_of self.new) result }
+        ensures call { IsWrite Anywhere self.old self.new result }
+    {
+        self.calls.begin_write(true)?;
+        let done = self.store.remove(name);
+        self.calls.finish(done)
+    }
+
+    fn sync_names(&mut self) -> Result<(), Disk>
+        ensures moves { Moves after_sync_names unchanged (history_of self.old) (history_of self.new) result }
+        ensures counts { Counted Anywhere (history_of self.old) (counts_of self.old) (counts_of self.new) result }
+        ensures call { IsWrite Anywhere self.old self.new result }
+    {
+        self.calls.begin_write(true)?;
+        let done = self.store.sync_names();
+        self.calls.finish(done)
+    }
+
+    fn list(&mut self, alloc: Global, folder: &Name) -> Result<Names, TreeFault>
+        ensures same { history_of self.new ≡ history_of self.old }
+        ensures goes_on { GoesOn (counts_of self.old) (counts_of self.new) }
+        ensures disk { IsErrOf result DiskFault → HasCause (counts_of self.old) (counts_of self.new) }
+        ensures kept { OnOk result (IsNoFault (counts_of self.old) (counts_of self.new)) }
+        ensures memory { IsErrOf result Memory → IsNoFault (counts_of self.old) (counts_of self.new) }
+        ensures proper { (counts_of self.new).misuses ≡ (counts_of self.old).misuses }
+        ensures value { IfOk result (λ names. OnTold (history_of self.old) (λ v. IsListOf folder.now v names)) }
+
+        // The tree fails exactly where that is planned.
+        ensures when { IsErrOf result DiskFault ↔ (is_next (plan_of self.old) ≡ true) }
+        ensures plan { plan_of self.new ≡ one_on (plan_of self.old) }
+        ensures calls { calls_of self.new ≡ risen (calls_of self.old) }
+        ensures writes { writes_of self.new ≡ writes_of self.old }
+        ensures faults { (counts_of self.new).faults ≡ (if is_next (plan_of self.old) then risen (counts_of self.old).faults else (counts_of self.old).faults) }
+        ensures wants { (counts_of self.new).wants ≡ (counts_of self.old).wants }
+    {
+        self.calls.begin(true)?;
+        let names = self.store.list(alloc, folder)?;
+        Ok(names)
+    }
 }

@@ -11,8 +11,8 @@ pub find-map : {A B : Type 0} (p : B → Bool) (f : A → B) (xs : List A) → f
 find-map p f [] = refl
 find-map p f (x ∷ xs) =
     elim (p (f x)) as (λ b. cond b (Some (f x)) (find p (map f xs)) ≡ option_map f (cond b (Some x) (find (λ y. p (f y)) xs))) [
-      true ↦ refl
-    | false ↦ find-map p f xs
+      | true ↦ refl
+      | false ↦ find-map p f xs
     ]
 
 pub option_map-same : {A : Type 0} (o : Option A) → option_map (λ x. x) o ≡ o

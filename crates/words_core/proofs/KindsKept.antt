@@ -1,16 +1,14 @@
 -- The kinds among the flags of a line that is read: none before the applet, and at most one, of the applet's own, behind it.
-use Rattle.std.proofs.Common.{◌≡◌, ℕ, ◌+◌, Bool, true, false, not, cond, List, [], ◌∷◌, ◌++◌, drop, Option, Some, None, Result, Ok, Err, refl, sym, ◌∙◌, ap, subst, arith, rules, option_and_then, length, ◌<◌, ◌≤◌, IfOk, if◌then◌else◌}
-use Rattle.std.specs.Prelude.{◌&&◌, ◌||◌}
+use Rattle.std.proofs.Common.{◌≡◌, ℕ, ◌+◌, Bool, true, false, cond, List, [], ◌∷◌, drop, Option, Some, None, Ok, refl, subst, arith, length, ◌<◌, ◌≤◌, IfOk, if◌then◌else◌}
+use Rattle.std.specs.Prelude.{◌||◌}
 use Rattle.std.specs.List.{find, list_all}
 use Rattle.std.specs.Str.{bytes_eq}
 use Rattle.std.proofs.lemmas.Bool.{and_parts, false≢true}
 use Rattle.std.proofs.lemmas.Option.{none-some, option_and_then_some, same_Some}
-use Rattle.std.proofs.lemmas.Grind.{common_steps}
 use Rattle.std.proofs.lemmas.Result.{IfOk-at_ok}
 use Rattle.words_core.specs.declared.applet.Applet.{Applet}
 use Rattle.words_core.specs.declared.applet.Applet.TheVariants.{Verify, Version}
 use Rattle.words_core.specs.declared.flags.Flags.{Flags}
-use Rattle.words_core.specs.declared.reading.Reading.{Reading}
 use Rattle.words_core.specs.declared.start.Start.{Start}
 use Rattle.words_core.specs.Applets.{Entry, applet_of, common, entry_of}
 use Rattle.words_core.specs.Command.{may_have}
@@ -30,8 +28,8 @@ find_passes q p [] x h e = absurd (none-some x e)
 find_passes q p (y ∷ ys) x h e =
     let parts = and_parts (q y) (list_all q ys) h in
     elim (p y) as (λ b. cond b (Some y) (find p ys) ≡ Some x → q x ≡ true) [
-      true ↦ λ (same : Some y ≡ Some x). subst (λ z. q z ≡ true) (same_Some y x same) parts.0
-    | false ↦ λ (later : find p ys ≡ Some x). find_passes q p ys x parts.1 later
+      | true ↦ λ (same : Some y ≡ Some x). subst (λ z. q z ≡ true) (same_Some y x same) parts.0
+      | false ↦ λ (later : find p ys ≡ Some x). find_passes q p ys x parts.1 later
     ] e
 
 -- flags with an option of a table pass, where they do with each of its entries
@@ -73,8 +71,8 @@ pub named_plain : (flags : Flags) (ended : Bool) (place behind : ℕ) (word : Li
 unfolding start_at
 named_plain flags ended place behind word m l =
     elim (applet_of word) as (λ o. IfOk (or_at place (λ applet. Ok (start_by flags ended place applet)) o) (λ s. IsPlain s behind)) [
-      None ↦ tt
-    | Some applet ↦ record { flags = m; read = l }
+      | None ↦ tt
+      | Some applet ↦ record { flags = m; read = l }
     ]
 
 pub behind_end_plain : (flags : Flags) (place behind : ℕ) (words : List (List ℕ)) → may_have Verify flags ≡ true → place + length words ≤ behind → IfOk (start_behind_end flags place words) (λ s. IsPlain s behind)
@@ -87,14 +85,14 @@ start_plain flags place behind [] m l = tt
 start_plain flags place behind (word ∷ words) m l =
     let less : place + 1 + length words ≤ behind = omega arith in
     elim (is_end word) as (λ b. IfOk (if b then start_behind_end flags (place + 1) words else if is_option word then or_at place (λ more. start_of more (place + 1) words) (with_option common flags word) else start_at flags false place word) (λ s. IsPlain s behind)) [
-      true ↦ behind_end_plain flags (place + 1) behind words m less
-    | false ↦ elim (is_option word) as (λ b. IfOk (if b then or_at place (λ more. start_of more (place + 1) words) (with_option common flags word) else start_at flags false place word) (λ s. IsPlain s behind)) [
-          true ↦ elim (with_option common flags word) as (λ o. with_option common flags word ≡ o → IfOk (or_at place (λ more. start_of more (place + 1) words) o) (λ s. IsPlain s behind)) [
-              None ↦ λ e. tt
-            | Some more ↦ λ e. start_plain more (place + 1) behind words (option_passes (may_have Verify) common flags more word (common_plain flags.allow_untrusted flags.no_scripts flags.test flags.check m) e) less
-            ] refl
+      | true ↦ behind_end_plain flags (place + 1) behind words m less
+      | false ↦ elim (is_option word) as (λ b. IfOk (if b then or_at place (λ more. start_of more (place + 1) words) (with_option common flags word) else start_at flags false place word) (λ s. IsPlain s behind)) [
+        | true ↦ elim (with_option common flags word) as (λ o. with_option common flags word ≡ o → IfOk (or_at place (λ more. start_of more (place + 1) words) o) (λ s. IsPlain s behind)) [
+          | None ↦ λ e. tt
+          | Some more ↦ λ e. start_plain more (place + 1) behind words (option_passes (may_have Verify) common flags more word (common_plain flags.allow_untrusted flags.no_scripts flags.test flags.check m) e) less
+        ] refl
         | false ↦ named_plain flags false place behind word m (omega arith)
-        ]
+      ]
     ]
 
 -- the applet is among the words, and no kind stands before it
@@ -105,14 +103,14 @@ pub reading_kept : (applet : Applet) (flags : Flags) (place : ℕ) (words : List
 reading_kept applet flags place [] m = m
 reading_kept applet flags place (word ∷ words) m =
     elim (is_end word) as (λ b. may_have applet (if b then reading_by flags (operands_of (place + 1) words) None else if is_option word then or_unread flags place (λ more. reading_of (options_of applet) more (place + 1) words) (with_option (options_of applet) flags word) else with_operand (operand_at place word) (reading_of (options_of applet) flags (place + 1) words)).flags ≡ true) [
-      true ↦ m
-    | false ↦ elim (is_option word) as (λ b. may_have applet (if b then or_unread flags place (λ more. reading_of (options_of applet) more (place + 1) words) (with_option (options_of applet) flags word) else with_operand (operand_at place word) (reading_of (options_of applet) flags (place + 1) words)).flags ≡ true) [
-          true ↦ elim (with_option (options_of applet) flags word) as (λ o. with_option (options_of applet) flags word ≡ o → may_have applet (or_unread flags place (λ more. reading_of (options_of applet) more (place + 1) words) o).flags ≡ true) [
-              None ↦ λ e. m
-            | Some more ↦ λ e. reading_kept applet more (place + 1) words (option_passes (may_have applet) (options_of applet) flags more word (options_kept applet flags.allow_untrusted flags.no_scripts flags.test flags.check m) e)
-            ] refl
+      | true ↦ m
+      | false ↦ elim (is_option word) as (λ b. may_have applet (if b then or_unread flags place (λ more. reading_of (options_of applet) more (place + 1) words) (with_option (options_of applet) flags word) else with_operand (operand_at place word) (reading_of (options_of applet) flags (place + 1) words)).flags ≡ true) [
+        | true ↦ elim (with_option (options_of applet) flags word) as (λ o. with_option (options_of applet) flags word ≡ o → may_have applet (or_unread flags place (λ more. reading_of (options_of applet) more (place + 1) words) o).flags ≡ true) [
+          | None ↦ λ e. m
+          | Some more ↦ λ e. reading_kept applet more (place + 1) words (option_passes (may_have applet) (options_of applet) flags more word (options_kept applet flags.allow_untrusted flags.no_scripts flags.test flags.check m) e)
+        ] refl
         | false ↦ reading_kept applet flags (place + 1) words m
-        ]
+      ]
     ]
 
 -- what is read behind the applet has at most one kind, of the applet's own
@@ -121,6 +119,6 @@ unfolding reading_from
 from_kept start behind words p =
     let kept = plain_kept start.applet start.flags.allow_untrusted start.flags.no_scripts start.flags.test start.flags.check p.flags in
     elim start.ended as (λ b. may_have start.applet (if b then reading_by start.flags (operands_of (start.read + 1) (drop start.read words)) None else reading_of (options_of start.applet) start.flags (start.read + 1) (drop start.read words)).flags ≡ true) [
-      true ↦ kept
-    | false ↦ reading_kept start.applet start.flags (start.read + 1) (drop start.read words) kept
+      | true ↦ kept
+      | false ↦ reading_kept start.applet start.flags (start.read + 1) (drop start.read words) kept
     ]

@@ -1,18 +1,17 @@
 -- Flags and operands of a command are judged good.
-use Rattle.std.proofs.Common.{◌≡◌, ℕ, zero, suc, ◌+◌, Bool, true, false, not, cond, List, [], ◌∷◌, Option, Some, None, Result, Ok, Err, refl, sym, ◌∙◌, ap, subst, arith, length, ◌<◌, ◌≤◌, if◌then◌else◌}
-use Rattle.std.specs.Prelude.{◌&&◌, ◌==◌, nat_lt}
+use Rattle.std.proofs.Common.{◌≡◌, ℕ, ◌+◌, Bool, true, false, List, [], ◌∷◌, Option, None, Ok, refl, arith, length, ◌<◌, ◌≤◌}
+use Rattle.std.specs.Prelude.{nat_lt}
 use Rattle.std.specs.List.{list_all}
-use Rattle.std.specs.Option.{option_or}
 use Rattle.std.proofs.lemmas.Bool.{and_parts, eqb-true, false≢true, le-ltb, ltb-true}
 use Rattle.words_core.specs.declared.applet.Applet.{Applet}
 use Rattle.words_core.specs.declared.applet.Applet.TheVariants.{Verify, Version}
 use Rattle.words_core.specs.declared.operands.Operand.{Operand}
 use Rattle.words_core.specs.declared.reading.Reading.{Reading}
 use Rattle.words_core.specs.declared.rule.OperandRule.{OperandRule}
-use Rattle.words_core.specs.declared.rule.OperandKind.TheVariants.{File, Any}
+use Rattle.words_core.specs.declared.rule.OperandKind.TheVariants.{Any}
 use Rattle.words_core.specs.Applets.{row_of}
-use Rattle.words_core.specs.Command.{CommandLine, is_file, is_sound}
-use Rattle.words_core.specs.Grammar.{command_by, first_refused, judged, lacks, refused_operand, unless_at}
+use Rattle.words_core.specs.Command.{is_file, is_sound}
+use Rattle.words_core.specs.Grammar.{command_by, first_refused, judged, lacks, refused_operand}
 use Rattle.words_core.proofs.KindsKept.{flags_by}
 use Rattle.words_core.proofs.WhatIsRead.{files, two}
 

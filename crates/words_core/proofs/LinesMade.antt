@@ -1,10 +1,10 @@
 -- Words that are a command are read as it.
-use Rattle.std.proofs.Common.{◌≡◌, ℕ, zero, suc, ◌+◌, ◌-◌, Bool, true, false, not, cond, List, [], ◌∷◌, ◌++◌, drop, take, Option, Some, None, Result, Ok, Err, refl, sym, ◌∙◌, ap, subst, arith, length, ◌<◌, ◌≤◌, if◌then◌else◌, IfOk, option_and_then}
-use Rattle.std.specs.Prelude.{◌&&◌, ◌||◌, ◌==◌, is_some, nat_lt}
+use Rattle.std.proofs.Common.{◌≡◌, ℕ, suc, ◌+◌, ◌-◌, Bool, true, false, not, List, [], ◌∷◌, drop, take, Some, None, Ok, refl, sym, ◌∙◌, ap, subst, arith, length, ◌≤◌, if◌then◌else◌, option_and_then}
+use Rattle.std.specs.Prelude.{◌||◌, is_some}
 use Rattle.std.specs.List.{list_all}
 use Rattle.std.specs.Str.{bytes_eq}
-use Rattle.std.proofs.lemmas.Bool.{and_parts, eqb-true, false≢true, le-ltb, ltb-true}
-use Rattle.std.proofs.lemmas.Option.{none-some, option_and_then_some, same_Some}
+use Rattle.std.proofs.lemmas.Bool.{and_parts, false≢true}
+use Rattle.std.proofs.lemmas.Option.{option_and_then_some, same_Some}
 use Rattle.std.proofs.lemmas.Result.{IfOk-at_ok}
 use Rattle.words_core.specs.declared.applet.Applet.{Applet}
 use Rattle.words_core.specs.declared.applet.Applet.TheVariants.{Verify, Version}
@@ -13,18 +13,15 @@ use Rattle.words_core.specs.declared.flags.Flag.TheVariants.{AllowUntrusted, NoS
 use Rattle.words_core.specs.declared.flags.Flags.{Flags}
 use Rattle.words_core.specs.declared.operands.Operand.{Operand}
 use Rattle.words_core.specs.declared.reading.Reading.{Reading}
-use Rattle.words_core.specs.declared.rule.OperandRule.{OperandRule}
-use Rattle.words_core.specs.declared.rule.OperandKind.TheVariants.{File, Any}
 use Rattle.words_core.specs.declared.start.Start.{Start}
-use Rattle.words_core.specs.Applets.{Entry, applet_of, common, entry_of, row_of}
-use Rattle.words_core.specs.Command.{CommandLine, IsCommand, is_file, is_sound, may_have}
+use Rattle.words_core.specs.Applets.{Entry, applet_of, common, entry_of}
+use Rattle.words_core.specs.Command.{CommandLine, is_sound, may_have}
 use Rattle.words_core.specs.Flags.{no_flags, with_flag}
-use Rattle.words_core.specs.Grammar.{command_by, command_of, first_refused, is_end, is_option, judged, lacks, operand_at, operands_of, options_of, or_at, or_unread, reading_by, reading_from, reading_of, refused_operand, start_at, start_behind_end, start_by, start_of, with_entry, with_meaning, with_option, with_start}
+use Rattle.words_core.specs.Grammar.{command_by, command_of, is_end, is_option, judged, operand_at, operands_of, options_of, or_at, reading_by, reading_from, reading_of, start_at, start_behind_end, start_by, start_of, with_entry, with_option, with_start}
 use Rattle.words_core.specs.Lines.{IsLineOf, flag_of, flags_of, free_words, is_early, option_words}
 use Rattle.words_core.proofs.KindsKept.{find_passes, flags_by}
 use Rattle.words_core.proofs.LinesJudged.{sound_judged}
 use Rattle.words_core.proofs.LinesRead.{IsFrom, entry_says, free_end, free_here, free_option, free_rest, option_rest, options_behind, options_end, options_here, start_from}
-use Rattle.words_core.proofs.WhatIsRead.{files, two}
 
 pub same_head : {A : Type 0} (x y : A) (xs ys : List A) → x ∷ xs ≡ y ∷ ys → x ≡ y
 same_head x y xs ys e = cc
@@ -72,8 +69,8 @@ common_stand flags = refl
 pub made_by : (flags : Flags) (entry : Entry) → is_some (with_entry flags entry) ≡ true → with_entry flags entry ≡ Some (with_flag (flag_of entry.meaning) flags)
 made_by flags entry h =
     elim (with_entry flags entry) as (λ o. with_entry flags entry ≡ o → is_some o ≡ true → o ≡ Some (with_flag (flag_of entry.meaning) flags)) [
-      None ↦ λ e (some : false ≡ true). absurd (false≢true some)
-    | Some more ↦ λ e some. ap Some (sym (entry_says flags more entry.meaning e))
+      | None ↦ λ e (some : false ≡ true). absurd (false≢true some)
+      | Some more ↦ λ e some. ap Some (sym (entry_says flags more entry.meaning e))
     ] refl h
 
 pub option_stands : (applet : Applet) (flags : Flags) (word : List ℕ) (entry : Entry) → entry_of (options_of applet) word ≡ Some entry → may_have applet (with_flag (flag_of entry.meaning) flags) ≡ true → with_option (options_of applet) flags word ≡ Some (with_flag (flag_of entry.meaning) flags)
@@ -82,10 +79,12 @@ option_stands applet flags word entry is m =
   where
     either : stands applet flags entry ≡ true
     either = find_passes (stands applet flags) (λ (x : Entry). bytes_eq x.long word || bytes_eq x.short word) (options_of applet) entry (all_stand applet flags.allow_untrusted flags.no_scripts flags.test flags.check) is
+
     first : (b : Bool) (c : Bool) → c ≡ true → (b || not c) ≡ true → b ≡ true
     first true c h e = refl
     first false true h e = e
     first false false h e = absurd (false≢true h)
+
     some : is_some (with_entry flags entry) ≡ true
     some = first (is_some (with_entry flags entry)) (may_have applet (with_flag (flag_of entry.meaning) flags)) m either
 
@@ -98,16 +97,16 @@ pub reading_made : (applet : Applet) (flags more : Flags) (place : ℕ) (words :
 reading_made applet flags more place [] f m = ap (λ g. reading_by g [] None) (same_Some flags more f)
 reading_made applet flags more place (word ∷ words) f m =
     elim (is_end word) as (λ b. is_end word ≡ b → reading_of (options_of applet) flags place (word ∷ words) ≡ reading_by more (free_words place (word ∷ words)) None) [
-      true ↦ λ e. rw e (ap (λ g. reading_by g (operands_of (place + 1) words) None) (same_Some flags more (sym (ap (flags_of (options_of applet) flags) (options_end word words e)) ∙ f)))
-    | false ↦ λ e. elim (is_option word) as (λ b. is_option word ≡ b → reading_of (options_of applet) flags place (word ∷ words) ≡ reading_by more (free_words place (word ∷ words)) None) [
-          true ↦ λ o. option_and_then_some (λ (x : Entry). flags_of (options_of applet) (with_flag (flag_of x.meaning) flags) (option_words words)) (entry_of (options_of applet) word) more (sym (ap (flags_of (options_of applet) flags) (options_here word words e o)) ∙ f)
-              (λ x is rest. reading_option (options_of applet) flags (with_flag (flag_of x.meaning) flags) place word words e o (option_stands applet flags word x is (less_kept applet (options_of applet) (with_flag (flag_of x.meaning) flags) more (option_words words) rest m))
-                  ∙ (reading_made applet (with_flag (flag_of x.meaning) flags) more (place + 1) words rest m
-                  ∙ ap (λ os. reading_by more os None) (sym (free_option place word words e o))))
+      | true ↦ λ e. rw e (ap (λ g. reading_by g (operands_of (place + 1) words) None) (same_Some flags more (sym (ap (flags_of (options_of applet) flags) (options_end word words e)) ∙ f)))
+      | false ↦ λ e. elim (is_option word) as (λ b. is_option word ≡ b → reading_of (options_of applet) flags place (word ∷ words) ≡ reading_by more (free_words place (word ∷ words)) None) [
+        | true ↦ λ o. option_and_then_some (λ (x : Entry). flags_of (options_of applet) (with_flag (flag_of x.meaning) flags) (option_words words)) (entry_of (options_of applet) word) more (sym (ap (flags_of (options_of applet) flags) (options_here word words e o)) ∙ f)
+            (λ x is rest. reading_option (options_of applet) flags (with_flag (flag_of x.meaning) flags) place word words e o (option_stands applet flags word x is (less_kept applet (options_of applet) (with_flag (flag_of x.meaning) flags) more (option_words words) rest m))
+            ∙ (reading_made applet (with_flag (flag_of x.meaning) flags) more (place + 1) words rest m
+            ∙ ap (λ os. reading_by more os None) (sym (free_option place word words e o))))
         | false ↦ λ o.
             let rest = reading_made applet flags more (place + 1) words (sym (ap (flags_of (options_of applet) flags) (options_behind word words e o)) ∙ f) m in
             rw e (rw o (ap (λ (r : Reading). reading_by r.flags (operand_at place word ∷ r.operands) r.unread) rest))
-        ] refl
+      ] refl
     ] refl
 
 -- the first word that is no option stands no earlier than the words
@@ -115,11 +114,11 @@ pub free_place : (place : ℕ) (words : List (List ℕ)) (first : Operand) (rest
 free_place place [] first rest h = absurd (cc)
 free_place place (word ∷ words) first rest h =
     elim (is_end word) as (λ b. is_end word ≡ b → place ≤ first.place) [
-      true ↦ λ e. by_operands words (sym (free_end place word words e) ∙ h)
-    | false ↦ λ e. elim (is_option word) as (λ b. is_option word ≡ b → place ≤ first.place) [
-          true ↦ λ o. (let later : place + 1 ≤ first.place = free_place (place + 1) words first rest (sym (free_option place word words e o) ∙ h) in omega arith)
+      | true ↦ λ e. by_operands words (sym (free_end place word words e) ∙ h)
+      | false ↦ λ e. elim (is_option word) as (λ b. is_option word ≡ b → place ≤ first.place) [
+        | true ↦ λ o. (let later : place + 1 ≤ first.place = free_place (place + 1) words first rest (sym (free_option place word words e o) ∙ h) in omega arith)
         | false ↦ λ o. (let same : place ≡ first.place = ap (λ (x : Operand). x.place) (same_head (operand_at place word) first _ rest (sym (free_here place word words e o) ∙ h)) in omega arith)
-        ] refl
+      ] refl
     ] refl
   where
     by_operands : (left : List (List ℕ)) → operands_of (place + 1) left ≡ first ∷ rest → place ≤ first.place
@@ -150,8 +149,8 @@ start_option flags more place word words e o m = rw e (rw o (rw m refl))
 pub early_option : (flags : Flags) (word : List ℕ) → is_end word ≡ false → is_early word ≡ true → (more : Flags) × (with_option common flags word ≡ Some more)
 early_option flags word e early =
     elim (entry_of common word) as (λ x. entry_of common word ≡ x → is_some x ≡ true → (more : Flags) × (with_option common flags word ≡ Some more)) [
-      None ↦ λ is (h : false ≡ true). absurd (false≢true h)
-    | Some entry ↦ λ is h. (with_flag (flag_of entry.meaning) flags, ap (option_and_then (with_entry flags)) is ∙ made_by flags entry (find_passes (λ x. is_some (with_entry flags x)) (λ (x : Entry). bytes_eq x.long word || bytes_eq x.short word) common entry (common_stand flags) is))
+      | None ↦ λ is (h : false ≡ true). absurd (false≢true h)
+      | Some entry ↦ λ is h. (with_flag (flag_of entry.meaning) flags, ap (option_and_then (with_entry flags)) is ∙ made_by flags entry (find_passes (λ x. is_some (with_entry flags x)) (λ (x : Entry). bytes_eq x.long word || bytes_eq x.short word) common entry (common_stand flags) is))
     ] refl (ap (λ b. b || is_some (entry_of common word)) (sym e) ∙ early)
 
 -- the words up to the applet are read
@@ -159,11 +158,11 @@ pub start_found : (flags : Flags) (place : ℕ) (words : List (List ℕ)) (first
 start_found flags place [] first rest applet n h early = absurd (cc)
 start_found flags place (word ∷ words) first rest applet n h early =
     elim (is_end word) as (λ b. is_end word ≡ b → (start : Start) × (start_of flags place (word ∷ words) ≡ Ok start)) [
-      true ↦ λ e.
-        let found = behind_end_found flags (place + 1) words first rest applet n (sym (free_end place word words e) ∙ h) in
-        (found.0, start_end flags place word words e ∙ found.1)
-    | false ↦ λ e. elim (is_option word) as (λ b. is_option word ≡ b → (start : Start) × (start_of flags place (word ∷ words) ≡ Ok start)) [
-          true ↦ λ o.
+      | true ↦ λ e.
+          let found = behind_end_found flags (place + 1) words first rest applet n (sym (free_end place word words e) ∙ h) in
+          (found.0, start_end flags place word words e ∙ found.1)
+      | false ↦ λ e. elim (is_option word) as (λ b. is_option word ≡ b → (start : Start) × (start_of flags place (word ∷ words) ≡ Ok start)) [
+        | true ↦ λ o.
             let left : free_words (place + 1) words ≡ first ∷ rest = sym (free_option place word words e o) ∙ h in
             let later : place + 1 ≤ first.place = free_place (place + 1) words first rest left in
             let parts = and_parts (is_early word) (list_all is_early (take (first.place - (place + 1)) words)) (ap (λ k. list_all is_early (take k (word ∷ words))) (let is : suc (first.place - (place + 1)) ≡ first.place - place = omega arith in is) ∙ early) in
@@ -172,7 +171,7 @@ start_found flags place (word ∷ words) first rest applet n h early =
             (found.0, start_option flags more.0 place word words e o more.1 ∙ found.1)
         | false ↦ λ o.
             (start_by flags false place applet, start_here flags place word words e o ∙ at_named flags false place word applet (ap (λ (x : Operand). applet_of x.text) (same_head (operand_at place word) first _ rest (sym (free_here place word words e o) ∙ h)) ∙ n))
-        ] refl
+      ] refl
     ] refl
 
 -- the words behind the applet are read
@@ -180,8 +179,8 @@ pub from_made : (start : Start) (more : Flags) (words : List (List ℕ)) → fla
 unfolding reading_from
 from_made start more words f m =
     elim start.ended as (λ b. flags_of (options_of start.applet) start.flags (option_rest b (drop start.read words)) ≡ Some more → (if b then reading_by start.flags (operands_of (start.read + 1) (drop start.read words)) None else reading_of (options_of start.applet) start.flags (start.read + 1) (drop start.read words)) ≡ reading_by more (free_rest b (start.read + 1) (drop start.read words)) None) [
-      true ↦ λ (h : Some start.flags ≡ Some more). ap (λ g. reading_by g (operands_of (start.read + 1) (drop start.read words)) None) (same_Some start.flags more h)
-    | false ↦ λ h. reading_made start.applet start.flags more (start.read + 1) (drop start.read words) h m
+      | true ↦ λ (h : Some start.flags ≡ Some more). ap (λ g. reading_by g (operands_of (start.read + 1) (drop start.read words)) None) (same_Some start.flags more h)
+      | false ↦ λ h. reading_made start.applet start.flags more (start.read + 1) (drop start.read words) h m
     ] f
 
 -- the flags of a command are its applet's

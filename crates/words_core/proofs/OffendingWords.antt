@@ -1,23 +1,17 @@
 -- A usage error is at a word, or behind the last one; and where it is at a word, more words change nothing.
-use Rattle.std.proofs.Common.{◌≡◌, ℕ, zero, suc, ◌+◌, ◌-◌, Bool, true, false, not, cond, List, [], ◌∷◌, ◌++◌, drop, take, Option, Some, None, Result, Ok, Err, refl, sym, ◌∙◌, ap, subst, arith, length, length-append, length-drop, inl, inr, ◌⊎◌, append_assoc, append-nil, ◌<◌, ◌≤◌, if◌then◌else◌}
-use Rattle.std.specs.Prelude.{◌&&◌, nat_lt}
-use Rattle.std.specs.List.{list_all}
+use Rattle.std.proofs.Common.{◌≡◌, ℕ, ◌+◌, Bool, true, false, List, [], ◌∷◌, drop, Option, Some, None, Result, Ok, Err, refl, ◌∙◌, ap, subst, arith, length, length-drop, inl, inr, ◌⊎◌, ◌<◌, ◌≤◌, if◌then◌else◌}
 use Rattle.std.specs.Option.{option_or}
-use Rattle.std.proofs.lemmas.Bool.{and_parts, false≢true}
 use Rattle.std.proofs.lemmas.Option.{none-some, same_Some}
 use Rattle.words_core.specs.declared.applet.Applet.{Applet}
-use Rattle.words_core.specs.declared.applet.Applet.TheVariants.{Verify, Version}
 use Rattle.words_core.specs.declared.flags.Flags.{Flags}
 use Rattle.words_core.specs.declared.operands.Operand.{Operand}
 use Rattle.words_core.specs.declared.reading.Reading.{Reading}
 use Rattle.words_core.specs.declared.rule.OperandRule.{OperandRule}
 use Rattle.words_core.specs.declared.start.Start.{Start}
 use Rattle.words_core.specs.Applets.{Entry, applet_of, common, row_of}
-use Rattle.words_core.specs.Command.{CommandLine}
 use Rattle.words_core.specs.Flags.{no_flags}
-use Rattle.words_core.specs.Grammar.{command_by, command_of, first_refused, is_end, is_option, judged, lacks, operand_at, operands_of, options_of, or_at, or_unread, reading_by, reading_from, reading_of, refused_operand, start_at, start_behind_end, start_by, start_of, takes, unless_at, with_entry, with_operand, with_option, with_start}
-use Rattle.words_core.proofs.KindsKept.{IsPlain, flags_by, option_passes, pass_or_none, start_known}
-use Rattle.words_core.proofs.LinesMade.{reading_option, start_end, start_here, start_option}
+use Rattle.words_core.specs.Grammar.{command_by, command_of, first_refused, is_end, is_option, judged, lacks, operand_at, operands_of, options_of, or_at, or_unread, reading_by, reading_from, reading_of, refused_operand, start_at, start_behind_end, start_by, start_of, takes, unless_at, with_operand, with_option, with_start}
+use Rattle.words_core.proofs.KindsKept.{IsPlain, start_known}
 
 -- operands at places from one on and below another
 abbrev pub IsBetween : ℕ → ℕ → ℕ → Type 0
@@ -41,8 +35,8 @@ pub refused_between : (rule : OperandRule) (before low behind place : ℕ) (oper
 refused_between rule before low behind place [] h e = absurd (none-some place e)
 refused_between rule before low behind place (o ∷ os) h e =
     elim (takes rule before o.text) as (λ b. (if b then first_refused rule (before + 1) os else Some o.place) ≡ Some place → IsBetween low behind place) [
-      true ↦ λ (later : first_refused rule (before + 1) os ≡ Some place). refused_between rule (before + 1) low behind place os h.1 later
-    | false ↦ λ (here : Some o.place ≡ Some place). subst (λ n. IsBetween low behind n) (same_Some o.place place here) h.0
+      | true ↦ λ (later : first_refused rule (before + 1) os ≡ Some place). refused_between rule (before + 1) low behind place os h.1 later
+      | false ↦ λ (here : Some o.place ≡ Some place). subst (λ n. IsBetween low behind n) (same_Some o.place place here) h.0
     ] e
 
 -- the places of a reading
@@ -52,8 +46,9 @@ pub record IsPlaced (low behind : ℕ) (reading : Reading) : Type 0 where
 
 pub placed_lower : (low lower behind : ℕ) (reading : Reading) → lower ≤ low → IsPlaced low behind reading → IsPlaced lower behind reading
 placed_lower low lower behind reading l h = record {
-    operands = all_lower low lower behind reading.operands l h.operands;
-    unread = λ place e. (let is = h.unread place e in (omega (arith, is.0), is.1)) }
+  operands = all_lower low lower behind reading.operands l h.operands;
+  unread = λ place e. (let is = h.unread place e in (omega (arith, is.0), is.1));
+}
 
 pub placed_operands : (flags : Flags) (low behind : ℕ) (operands : List Operand) → AllBetween low behind operands → IsPlaced low behind (reading_by flags operands None)
 placed_operands flags low behind operands h = record { operands = h; unread = λ place e. absurd (none-some place e) }
@@ -64,16 +59,16 @@ reading_placed entries flags place behind (word ∷ words) l =
     let less : place + 1 + length words ≤ behind = omega arith in
     let here : IsBetween place behind place = (omega arith, omega arith) in
     elim (is_end word) as (λ b. IsPlaced place behind (if b then reading_by flags (operands_of (place + 1) words) None else if is_option word then or_unread flags place (λ more. reading_of entries more (place + 1) words) (with_option entries flags word) else with_operand (operand_at place word) (reading_of entries flags (place + 1) words))) [
-      true ↦ placed_lower (place + 1) place behind (reading_by flags (operands_of (place + 1) words) None) (omega arith) (placed_operands flags (place + 1) behind (operands_of (place + 1) words) (operands_between (place + 1) behind words less))
-    | false ↦ elim (is_option word) as (λ b. IsPlaced place behind (if b then or_unread flags place (λ more. reading_of entries more (place + 1) words) (with_option entries flags word) else with_operand (operand_at place word) (reading_of entries flags (place + 1) words))) [
-          true ↦ elim (with_option entries flags word) as (λ m. IsPlaced place behind (or_unread flags place (λ more. reading_of entries more (place + 1) words) m)) [
-              None ↦ record { operands = tt; unread = λ at e. subst (λ n. IsBetween place behind n) (same_Some place at e) here }
-            | Some more ↦ placed_lower (place + 1) place behind (reading_of entries more (place + 1) words) (omega arith) (reading_placed entries more (place + 1) behind words less)
-            ]
+      | true ↦ placed_lower (place + 1) place behind (reading_by flags (operands_of (place + 1) words) None) (omega arith) (placed_operands flags (place + 1) behind (operands_of (place + 1) words) (operands_between (place + 1) behind words less))
+      | false ↦ elim (is_option word) as (λ b. IsPlaced place behind (if b then or_unread flags place (λ more. reading_of entries more (place + 1) words) (with_option entries flags word) else with_operand (operand_at place word) (reading_of entries flags (place + 1) words))) [
+        | true ↦ elim (with_option entries flags word) as (λ m. IsPlaced place behind (or_unread flags place (λ more. reading_of entries more (place + 1) words) m)) [
+          | None ↦ record { operands = tt; unread = λ at e. subst (λ n. IsBetween place behind n) (same_Some place at e) here }
+          | Some more ↦ placed_lower (place + 1) place behind (reading_of entries more (place + 1) words) (omega arith) (reading_placed entries more (place + 1) behind words less)
+        ]
         | false ↦
             let rest = placed_lower (place + 1) place behind (reading_of entries flags (place + 1) words) (omega arith) (reading_placed entries flags (place + 1) behind words less) in
             record { operands = (here, rest.operands); unread = rest.unread }
-        ]
+      ]
     ]
 
 pub from_placed : (start : Start) (words : List (List ℕ)) → start.read ≤ length words → IsPlaced (start.read + 1) (length words + 1) (reading_from start words)
@@ -81,8 +76,8 @@ unfolding reading_from
 from_placed start words l =
     let less : start.read + 1 + length (drop start.read words) ≤ length words + 1 = omega (arith, length-drop start.read words) in
     elim start.ended as (λ b. IsPlaced (start.read + 1) (length words + 1) (if b then reading_by start.flags (operands_of (start.read + 1) (drop start.read words)) None else reading_of (options_of start.applet) start.flags (start.read + 1) (drop start.read words))) [
-      true ↦ placed_operands start.flags (start.read + 1) (length words + 1) (operands_of (start.read + 1) (drop start.read words)) (operands_between (start.read + 1) (length words + 1) (drop start.read words) less)
-    | false ↦ reading_placed (options_of start.applet) start.flags (start.read + 1) (length words + 1) (drop start.read words) less
+      | true ↦ placed_operands start.flags (start.read + 1) (length words + 1) (operands_of (start.read + 1) (drop start.read words)) (operands_between (start.read + 1) (length words + 1) (drop start.read words) less)
+      | false ↦ reading_placed (options_of start.applet) start.flags (start.read + 1) (length words + 1) (drop start.read words) less
     ]
 
 -- the first that offends, before a place
@@ -90,8 +85,8 @@ pub first_between : (rule : Option OperandRule) (low behind place : ℕ) (readin
 first_between None low behind place reading p h = p.unread place h
 first_between (Some rule) low behind place reading p h =
     elim (first_refused rule 0 reading.operands) as (λ o. first_refused rule 0 reading.operands ≡ o → option_or o reading.unread ≡ Some place → IsBetween low behind place) [
-      None ↦ λ f e. p.unread place e
-    | Some at ↦ λ f (e : Some at ≡ Some place). refused_between rule 0 low behind place reading.operands p.operands (f ∙ e)
+      | None ↦ λ f e. p.unread place e
+      | Some at ↦ λ f (e : Some at ≡ Some place). refused_between rule 0 low behind place reading.operands p.operands (f ∙ e)
     ] refl h
 
 -- what is judged bad: at a place of the reading, or behind the words
@@ -102,11 +97,11 @@ pub judged_at : (applet : Applet) (reading : Reading) (low behind place : ℕ) �
 unfolding judged
 judged_at applet reading low behind place h =
     elim (option_or (refused_operand ((row_of applet).operands reading.flags) reading.operands) reading.unread) as (λ o. unless_at o (if lacks ((row_of applet).operands reading.flags) reading.operands then Err behind else Ok (command_by applet reading)) ≡ Err place → IsJudgedAt low behind o place) [
-      None ↦ elim (lacks ((row_of applet).operands reading.flags) reading.operands) as (λ b. (if b then Err behind else Ok (command_by applet reading)) ≡ Err place → IsJudgedAt low behind None place) [
-          true ↦ λ (e : Err behind ≡ Err place). inr (refl, cc)
+      | None ↦ elim (lacks ((row_of applet).operands reading.flags) reading.operands) as (λ b. (if b then Err behind else Ok (command_by applet reading)) ≡ Err place → IsJudgedAt low behind None place) [
+        | true ↦ λ (e : Err behind ≡ Err place). inr (refl, cc)
         | false ↦ λ (e : Ok (command_by applet reading) ≡ Err place). absurd (cc)
-        ]
-    | Some at ↦ λ (e : Err at ≡ Err place). inl cc
+      ]
+      | Some at ↦ λ (e : Err at ≡ Err place). inl cc
     ] h
 
 pub judged_bad : (applet : Applet) (reading : Reading) (behind place : ℕ) → option_or (refused_operand ((row_of applet).operands reading.flags) reading.operands) reading.unread ≡ Some place → judged behind applet reading ≡ Err place
@@ -123,8 +118,8 @@ pub named_searched : (flags : Flags) (ended : Bool) (place low behind : ℕ) (wo
 unfolding start_at
 named_searched flags ended place low behind word h =
     elim (applet_of word) as (λ o. IsSearched low behind (or_at place (λ applet. Ok (start_by flags ended place applet)) o)) [
-      None ↦ h
-    | Some applet ↦ tt
+      | None ↦ h
+      | Some applet ↦ tt
     ]
 
 pub end_searched : (flags : Flags) (place low behind : ℕ) (words : List (List ℕ)) → IsBetween low behind place → IsSearched low behind (start_behind_end flags place words)
@@ -138,14 +133,14 @@ start_searched flags place low behind (word ∷ words) l h =
     let less : place + 1 + length words < behind = omega arith in
     let here : IsBetween low behind place = (omega arith, omega arith) in
     elim (is_end word) as (λ b. IsSearched low behind (if b then start_behind_end flags (place + 1) words else if is_option word then or_at place (λ more. start_of more (place + 1) words) (with_option common flags word) else start_at flags false place word)) [
-      true ↦ end_searched flags (place + 1) low behind words (omega arith, omega arith)
-    | false ↦ elim (is_option word) as (λ b. IsSearched low behind (if b then or_at place (λ more. start_of more (place + 1) words) (with_option common flags word) else start_at flags false place word)) [
-          true ↦ elim (with_option common flags word) as (λ m. IsSearched low behind (or_at place (λ more. start_of more (place + 1) words) m)) [
-              None ↦ here
-            | Some more ↦ start_searched more (place + 1) low behind words (omega arith) less
-            ]
-        | false ↦ named_searched flags false place low behind word here
+      | true ↦ end_searched flags (place + 1) low behind words (omega arith, omega arith)
+      | false ↦ elim (is_option word) as (λ b. IsSearched low behind (if b then or_at place (λ more. start_of more (place + 1) words) (with_option common flags word) else start_at flags false place word)) [
+        | true ↦ elim (with_option common flags word) as (λ m. IsSearched low behind (or_at place (λ more. start_of more (place + 1) words) m)) [
+          | None ↦ here
+          | Some more ↦ start_searched more (place + 1) low behind words (omega arith) less
         ]
+        | false ↦ named_searched flags false place low behind word here
+      ]
     ]
 
 -- a usage error is at a word, or behind the last one
@@ -153,17 +148,18 @@ pub usage_between : (words : List (List ℕ)) (place : ℕ) → command_of words
 unfolding command_of
 usage_between words place c =
     elim (start_of no_flags 1 words) as (λ s. start_of no_flags 1 words ≡ s → IsSearched 1 (length words + 2) s → with_start words s ≡ Err place → (1 ≤ place) × (place ≤ length words + 1)) [
-      Err at ↦ λ s (h : IsBetween 1 (length words + 2) at) (e : Err at ≡ Err place). by_place at place (cc) h
-    | Ok start ↦ λ s h e. by_start start s e
+      | Err at ↦ λ s (h : IsBetween 1 (length words + 2) at) (e : Err at ≡ Err place). by_place at place (cc) h
+      | Ok start ↦ λ s h e. by_start start s e
     ] refl (start_searched no_flags 1 1 (length words + 2) words (omega arith) (omega arith)) c
   where
     by_place : (at place : ℕ) → at ≡ place → IsBetween 1 (length words + 2) at → (1 ≤ place) × (place ≤ length words + 1)
     by_place at place e h = (omega (arith, h.0), omega (arith, h.1))
+
     by_start : (start : Start) → start_of no_flags 1 words ≡ Ok start → judged (length words + 1) start.applet (reading_from start words) ≡ Err place → (1 ≤ place) × (place ≤ length words + 1)
     by_start start s e =
         let known : IsPlain start (1 + length words) = start_known words start s in
         let placed : IsPlaced (start.read + 1) (length words + 1) (reading_from start words) = from_placed start words (omega (arith, known.read)) in
         elim (judged_at start.applet (reading_from start words) (start.read + 1) (length words + 1) place e) as (λ _. (1 ≤ place) × (place ≤ length words + 1)) [
-          inl first ↦ (let is = first_between ((row_of start.applet).operands (reading_from start words).flags) (start.read + 1) (length words + 1) place (reading_from start words) placed first in (omega (arith, is.0), omega (arith, is.1)))
-        | inr last ↦ (omega (arith, last.1), omega (arith, last.1))
+          | inl first ↦ (let is = first_between ((row_of start.applet).operands (reading_from start words).flags) (start.read + 1) (length words + 1) place (reading_from start words) placed first in (omega (arith, is.0), omega (arith, is.1)))
+          | inr last ↦ (omega (arith, last.1), omega (arith, last.1))
         ]

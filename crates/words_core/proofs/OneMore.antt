@@ -1,11 +1,10 @@
 -- One more word of a line that is read.
-use Rattle.std.proofs.Common.{◌≡◌, ℕ, zero, suc, ◌+◌, ◌<◌, ◌≤◌, Bool, true, false, if◌then◌else◌, List, [], ◌∷◌, ◌++◌, length, drop, Option, Some, None, Result, Ok, Err, refl, sym, ◌∙◌, ap, arith, rules, append_assoc, append-nil, option_and_then}
+use Rattle.std.proofs.Common.{◌≡◌, ℕ, zero, suc, ◌+◌, true, false, List, [], ◌∷◌, ◌++◌, drop, Option, Some, None, refl, sym, ◌∙◌, ap, arith, append_assoc, append-nil, option_and_then}
 use Rattle.std.specs.List.{slice_get}
 use Rattle.words_core.specs.declared.flags.Flags.{Flags}
 use Rattle.words_core.specs.declared.operands.Operand.{Operand}
 use Rattle.words_core.specs.declared.reading.Reading.{Reading}
 use Rattle.words_core.specs.declared.rule.OperandRule.{OperandRule}
-use Rattle.words_core.specs.declared.start.Start.{Start}
 use Rattle.words_core.specs.Applets.{Entry, common, entry_of}
 use Rattle.words_core.specs.Grammar.{first_refused, is_end, is_option, operand_at, operands_of, or_at, or_unread, reading_by, reading_of, start_at, start_behind_end, start_of, takes, with_entry, with_operand, with_option}
 

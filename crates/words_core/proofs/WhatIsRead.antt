@@ -1,6 +1,6 @@
 -- What the operands are that a rule takes.
-use Rattle.std.proofs.Common.{◌≡◌, ℕ, zero, suc, ◌+◌, Bool, true, false, not, cond, List, [], ◌∷◌, ◌++◌, drop, Option, Some, None, refl, sym, ◌∙◌, ap, subst, arith, length, ◌<◌, ◌≤◌, if◌then◌else◌}
-use Rattle.std.specs.Prelude.{◌&&◌, ◌==◌, nat_lt}
+use Rattle.std.proofs.Common.{◌≡◌, ℕ, ◌+◌, Bool, true, false, List, [], ◌∷◌, Some, None, refl, sym, subst, arith, length, ◌<◌, ◌≤◌, if◌then◌else◌}
+use Rattle.std.specs.Prelude.{◌&&◌, nat_lt}
 use Rattle.std.specs.List.{list_all}
 use Rattle.std.proofs.lemmas.Bool.{and_from, eq-eqb, false≢true, lt-ltb, ltb-true}
 use Rattle.std.proofs.lemmas.Option.{none-some}
@@ -12,7 +12,7 @@ use Rattle.words_core.specs.declared.rule.OperandRule.{OperandRule}
 use Rattle.words_core.specs.declared.rule.OperandKind.TheVariants.{File, Any}
 use Rattle.words_core.specs.Applets.{row_of}
 use Rattle.words_core.specs.Command.{is_file, is_sound, may_have}
-use Rattle.words_core.specs.Grammar.{first_refused, lacks, takes}
+use Rattle.words_core.specs.Grammar.{first_refused}
 
 abbrev pub files : OperandRule
 files = record { kind = File; least = 1; most = None }
@@ -25,8 +25,8 @@ pub all_files : (before : ℕ) (operands : List Operand) → first_refused files
 all_files before [] h = refl
 all_files before (o ∷ os) h =
     elim (is_file o.text) as (λ b. (if b then first_refused files (before + 1) os else Some o.place) ≡ None → (b && list_all (λ (x : Operand). is_file x.text) os) ≡ true) [
-      true ↦ λ (rest : first_refused files (before + 1) os ≡ None). all_files (before + 1) os rest
-    | false ↦ λ (here : Some o.place ≡ None). absurd (none-some o.place (sym here))
+      | true ↦ λ (rest : first_refused files (before + 1) os ≡ None). all_files (before + 1) os rest
+      | false ↦ λ (here : Some o.place ≡ None). absurd (none-some o.place (sym here))
     ] h
 
 -- of two texts there is no third
@@ -34,12 +34,12 @@ pub no_third : (before : ℕ) (operands : List Operand) → before ≤ 2 → fir
 no_third before [] l h = omega arith
 no_third before (o ∷ os) l h =
     elim (nat_lt before 2) as (λ b. nat_lt before 2 ≡ b → (if b && true then first_refused two (before + 1) os else Some o.place) ≡ None → before + length (o ∷ os) ≤ 2) [
-      true ↦ λ (room : nat_lt before 2 ≡ true) (rest : first_refused two (before + 1) os ≡ None).
+      | true ↦ λ (room : nat_lt before 2 ≡ true) (rest : first_refused two (before + 1) os ≡ None).
           let below : before < 2 = ltb-true before 2 room in
           let more : before + 1 ≤ 2 = omega arith in
           let fits : before + 1 + length os ≤ 2 = no_third (before + 1) os more rest in
           omega arith
-    | false ↦ λ (full : nat_lt before 2 ≡ false) (here : Some o.place ≡ None). absurd (none-some o.place (sym here))
+      | false ↦ λ (full : nat_lt before 2 ≡ false) (here : Some o.place ≡ None). absurd (none-some o.place (sym here))
     ] refl h
 
 -- flags and operands that the grammar takes are a command's

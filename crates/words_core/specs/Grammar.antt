@@ -1,7 +1,7 @@
 -- The command of the words of a command line, or the place of the first word that offends. Places count from 1; where a
 -- word is missing, the place is the one behind the last word.
-use Rattle.std.specs.Prelude.{ℕ, ◌+◌, Bool, true, false, not, ◌&&◌, ◌||◌, nat_lt, nat_le, if◌then◌else◌, List, [], ◌∷◌, ◌++◌, length, take, drop, codes, Option, Some, None, option_and_then, Result, Ok, Err}
-use Rattle.std.specs.Option.{option_map, option_or}
+use Rattle.std.specs.Prelude.{ℕ, ◌+◌, Bool, true, false, not, ◌&&◌, nat_lt, if◌then◌else◌, List, [], ◌∷◌, ◌++◌, length, take, drop, codes, Option, Some, None, option_and_then, Result, Ok, Err}
+use Rattle.std.specs.Option.{option_or}
 use Rattle.std.specs.Str.{bytes_eq}
 use Rattle.words_core.specs.declared.applet.Applet.{Applet}
 use Rattle.words_core.specs.declared.entry.Meaning.{Meaning}
@@ -119,7 +119,7 @@ first_refused rule before [] = None
 first_refused rule before (operand ∷ operands) =
     if takes rule before operand.text then first_refused rule (before + 1) operands else Some operand.place
 
--- the place of the first operand that is not taken; where the kind is lacking each one is
+-- the place of the first operand that is not taken; where the kind is lacking, each is
 abbrev pub refused_operand : Option OperandRule → List Operand → Option ℕ
 refused_operand None operands = None
 refused_operand (Some rule) operands = first_refused rule 0 operands

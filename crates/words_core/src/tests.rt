@@ -32,7 +32,10 @@ const FILES: [Line; 39] = [
     Line(b"verify", 2),
     Line(b"verify --", 3),
     Line(b"verify --no-scripts --no-scripts", 4),
-    Line(b"verify a --allow-untrusted --no-scripts --allow-untrusted b", 0),
+    Line(
+        b"verify a --allow-untrusted --no-scripts --allow-untrusted b",
+        0,
+    ),
     Line(b"verify --allow-untrusted=x a", 2),
     Line(b"verify a -t", 3),
     Line(b"verify -t a", 2),
@@ -127,7 +130,10 @@ fn versions(rt: HostRuntime) -> Result<(), Fail> {
 
 #[test]
 fn commands(rt: HostRuntime) -> Result<(), Fail> {
-    let words = words_of(rt.alloc(), b"--no-scripts verify ./a --allow-untrusted -- ./-t")?;
+    let words = words_of(
+        rt.alloc(),
+        b"--no-scripts verify ./a --allow-untrusted -- ./-t",
+    )?;
     let command = read_words(rt.alloc(), &words)?;
     assert_eq!(rt; command.applet(), Applet::Verify);
     let flags = Flags {

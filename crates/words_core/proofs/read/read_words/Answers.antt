@@ -1,7 +1,5 @@
-use Rattle.std.proofs.Common.{◌≡◌, ◌+◌, ◌<◌, length, Ok, sym, ◌∙◌, ap, arith}
+use Rattle.std.proofs.Common.{◌+◌, length, sym, ◌∙◌, ap, arith}
 use Rattle.words_core.specs.Command.{may_have}
-use Rattle.words_core.specs.Flags.{no_flags}
-use Rattle.words_core.specs.Grammar.{start_of}
 use Rattle.words_core.proofs.KindsKept.{IsPlain, from_kept, start_known}
 use Rattle.words_core.proofs.read.read_words.Goals as goal
 

@@ -1,4 +1,4 @@
-use Rattle.std.proofs.Common.{◌≡◌, ◌+◌, ◌++◌, drop}
+use Rattle.std.proofs.Common.{◌≡◌, ◌+◌, drop}
 use Rattle.words_core.specs.Grammar.{options_of, reading_of}
 use Rattle.words_core.proofs.OneMore.{behind}
 use Rattle.words_core.proofs.reading.read_options.Given as goal

@@ -10,4 +10,4 @@ pub returns : goal.returns
 returns c =
     let map = (store_state c.args.self.now).names in
     let entries = c.args.self.now.names.entries.items in
-    IfOk-weaker c.list.result (λ names. names ≡ names_of entries) (IsNamesOf map) (λ names is. subst (IsNamesOf map) (sym is) (names_listed map entries c.args.self.now.kept.names c.args.self.now.names.rising)) c.list.ensures
+    IfOk-weaker c.list.result (λ names. names ≡ names_of entries) (IsNamesOf map) (λ names is. subst (IsNamesOf map) (sym is) (names_listed map entries c.args.self.now.in_step.kept.names c.args.self.now.names.rising)) c.list.ensures

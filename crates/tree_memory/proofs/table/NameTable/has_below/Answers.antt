@@ -1,31 +1,32 @@
-use Rattle.std.proofs.Common.{◌<◌, ◌≤◌, ◌++◌, ◌∷◌, [], Ok, Err, length, refl, sym, ap, subst, ◌∙◌, arith, rules}
-use Rattle.std.specs.Ordering.{nat_cmp}
-use Rattle.std.specs.Cmp.Lexicographic.{slice_cmp}
-use Rattle.std.proofs.lemmas.Fn.{always_returns_same}
+use Rattle.std.proofs.Common.{◌≡◌, ◌<◌, ◌∙◌, Bool, false, true, not, ap, arith, length, refl, rules, subst, sym}
+use Rattle.std.specs.Str.{bytes_eq}
 use Rattle.base_core.specs.Files.{IsFolderOf}
-use Rattle.tree_memory.specs.declared.table.Entry.{Entry}
-use Rattle.tree_memory.proofs.Folders.{has_at, searched_below}
+use Rattle.tree_memory.proofs.Folders.{at_entry, has_at, has_none, none_from}
 use Rattle.tree_memory.proofs.table.NameTable.has_below.Goals as goal
 
-pub returns-in-Ok : goal.returns-in-Ok
-returns-in-Ok c =
-    let found = c.in-Ok.ensures.position (λ (e : Entry). slice_cmp nat_cmp e.name (c.args.folder.now ++ 47 ∷ [])) (always_returns_same _ _ _ (λ a r f k. search rules)) in
-    let has = searched_below c.deref.result.now c.args.self.now.entries.items c.deref.ensures.value c.args.folder.now (Ok c.in-Ok.field-0) c.args.self.now.rising c.in-Ok.ensures.bound found in
-    (λ _. has, λ _. refl)
+pub returns-then-not-is_folder_of : goal.returns-then-not-is_folder_of
+returns-then-not-is_folder_of c =
+    let es = c.args.self.now.entries.items in
+    let within : c.loop-i.i < length es = search rules in
+    let off : IsFolderOf c.args.folder.now c.as_bytes-name.result.now → ⊥ = λ below. let t = c.is_folder_of.ensures.1 below in cc (t, c.if-not-is_folder_of.true) in
+    let behind = none_from es c.start-start.result c.loop-i.i c.args.folder.now c.as_bytes-name.result.now c.index.result.now c.args.self.now.rising c.start-start.ensures c.loop-i.auto.i within c.index.ensures c.as_bytes-name.ensures.value off in
+    (λ t. absurd (cc), λ has. absurd (has_none es c.start-start.result c.loop-i.i c.args.folder.now c.args.but.now c.args.self.now.rising c.start-start.ensures c.loop-i.auto.i c.loop-i.invariant behind has))
 
-pub returns-then-i-len : goal.returns-then-i-len
-returns-then-i-len c =
-    let found = c.in-Err.ensures.position (λ (e : Entry). slice_cmp nat_cmp e.name (c.args.folder.now ++ 47 ∷ [])) (always_returns_same _ _ _ (λ a r f k. search rules)) in
-    let tells = searched_below c.deref.result.now c.args.self.now.entries.items c.deref.ensures.value c.args.folder.now (Err c.in-Err.i) c.args.self.now.rising c.in-Err.ensures.bound found in
-    let same = c.as_bytes.ensures.value ∙ ap (λ (e : Entry). e.name) c.index.ensures in
-    let within : c.in-Err.i < length c.args.self.now.entries.items = search rules in (
-      λ t. has_at c.args.self.now.entries.items c.in-Err.i c.index.result.now c.args.folder.now within (subst (IsFolderOf c.args.folder.now) same (c.is_folder_of.ensures.0 t)),
-      λ has. c.is_folder_of.ensures.1 (subst (IsFolderOf c.args.folder.now) (sym same) ((tells has).1 c.index.result.now)),
+unlike : (b r : Bool) → r ≡ not b → r ≡ true → b ≡ false
+unlike true r is at = absurd (cc (is, at))
+unlike false r is at = refl
+
+pub returns-then-ne : goal.returns-then-ne
+returns-then-ne c =
+    let es = c.args.self.now.entries.items in
+    let within : c.loop-i.i < length es = search rules in
+    let same = at_entry es c.loop-i.i c.index.result.now c.index.result.now c.as_bytes-name.result.now within c.index.ensures c.as_bytes-name.ensures.value in
+    let off = unlike (bytes_eq c.as_bytes-name.result.now c.args.but.now) c.ne.result c.ne.ensures c.if-ne.true in (
+      λ _. has_at es c.loop-i.i c.index.result.now c.args.folder.now c.args.but.now within (subst (IsFolderOf c.args.folder.now) same (c.is_folder_of.ensures.0 c.if-not-is_folder_of.false))
+          (sym (ap (λ n. bytes_eq n c.args.but.now) same) ∙ off),
+      λ _. refl,
     )
 
-pub returns-else-i-len : goal.returns-else-i-len
-returns-else-i-len c =
-    let found = c.in-Err.ensures.position (λ (e : Entry). slice_cmp nat_cmp e.name (c.args.folder.now ++ 47 ∷ [])) (always_returns_same _ _ _ (λ a r f k. search rules)) in
-    let tells = searched_below c.deref.result.now c.args.self.now.entries.items c.deref.ensures.value c.args.folder.now (Err c.in-Err.i) c.args.self.now.rising c.in-Err.ensures.bound found in
-    let past : length c.args.self.now.entries.items ≤ c.in-Err.i = search rules in
-    (λ t. absurd (search rules), λ has. absurd (omega (arith, past, (tells has).0)))
+pub returns : goal.returns
+returns c =
+    (λ t. absurd (cc), λ has. absurd (has_none c.args.self.now.entries.items c.start-start.result c.loop-i.i c.args.folder.now c.args.but.now c.args.self.now.rising c.start-start.ensures (omega arith) c.loop-i.invariant (λ k d upto within. absurd (omega (arith, upto, within))) has))

@@ -1,18 +1,23 @@
-use Rattle.std.proofs.Common.{refl, sym, ◌∙◌}
+use Rattle.std.proofs.Common.{refl, sym}
 use Rattle.base_core.specs.Tree.{Anywhere}
-use Rattle.tree_memory.specs.Memory.{state_of}
-use Rattle.tree_memory.proofs.Counting.{counted_done, counted_planned}
+use Rattle.tree_memory.specs.Memory.{state_of, writes_of}
+use Rattle.tree_memory.proofs.Counting.{IsBegun, always, refused_counts, done_counts}
 use Rattle.tree_memory.proofs.tree.MemoryTreeTree.size.Goals as goal
 
-pub returns-then-pass-clause-counts : goal.returns-then-pass-clause-counts
-returns-then-pass-clause-counts c =
-    counted_planned Anywhere (state_of c.args.self.now) _ c.args.self.now.tally c.call.new.self c.fault.new.self c.args.self.now.plan.items c.pass.new.plan.items c.pass.ensures.nearer c.call.ensures _ tt (sym c.pass.ensures.planned ∙ c.if-pass.true)
-    c.fault.ensures.later c.fault.ensures.is
+pub returns-in_err-begin-clause-counts : goal.returns-in_err-begin-clause-counts
+returns-in_err-begin-clause-counts c =
+    let old = c.args.self.now in
+    let h : IsBegun _ (writes_of old) old.calls c.begin.new.self = record { plan = c.begin.ensures.plan; tally = c.begin.ensures.tally; grown = c.begin.ensures.grown } in
+    refused_counts Anywhere (state_of old) _ _ (always (state_of old)) (writes_of old) old.calls c.begin.new.self h c.from_residual.result c.from_residual.ensures.0 (sym c.in_err-begin.ensures.when)
 
 pub returns-in-None-clause-counts : goal.returns-in-None-clause-counts
 returns-in-None-clause-counts c =
-    counted_done Anywhere (state_of c.args.self.now) _ c.args.self.now.tally c.call.new.self c.call.new.self c.args.self.now.plan.items c.pass.new.plan.items c.pass.ensures.nearer c.call.ensures _ tt refl
+    let old = c.args.self.now in
+    let h : IsBegun _ (writes_of old) old.calls c.begin.new.self = record { plan = c.begin.ensures.plan; tally = c.begin.ensures.tally; grown = c.begin.ensures.grown } in
+    done_counts Anywhere (state_of old) _ _ (always (state_of old)) (writes_of old) old.calls c.begin.new.self h _ (sym c.in_ok-begin.ensures.when)
 
 pub returns-in-Some-clause-counts : goal.returns-in-Some-clause-counts
 returns-in-Some-clause-counts c =
-    counted_done Anywhere (state_of c.args.self.now) _ c.args.self.now.tally c.call.new.self c.call.new.self c.args.self.now.plan.items c.pass.new.plan.items c.pass.ensures.nearer c.call.ensures _ tt refl
+    let old = c.args.self.now in
+    let h : IsBegun _ (writes_of old) old.calls c.begin.new.self = record { plan = c.begin.ensures.plan; tally = c.begin.ensures.tally; grown = c.begin.ensures.grown } in
+    done_counts Anywhere (state_of old) _ _ (always (state_of old)) (writes_of old) old.calls c.begin.new.self h _ (sym c.in_ok-begin.ensures.when)

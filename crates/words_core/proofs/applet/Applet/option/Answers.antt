@@ -1,4 +1,4 @@
-use Rattle.std.proofs.Common.{sym, ◌∙◌, ap}
+use Rattle.std.proofs.Common.{◌∙◌, ap}
 use Rattle.words_core.specs.Applets.{common, entry_of, row_of}
 use Rattle.words_core.specs.Grammar.{options_of}
 use Rattle.words_core.proofs.Found.{found_first, found_second}

@@ -1,4 +1,4 @@
-use Rattle.std.proofs.Common.{◌≡◌, sym, ◌∙◌, ap}
+use Rattle.std.proofs.Common.{sym, ◌∙◌, ap}
 use Rattle.words_core.specs.Grammar.{takes}
 use Rattle.words_core.proofs.OneMore.{refused_here, refused_more}
 use Rattle.words_core.proofs.rule.OperandRule.first_refused.Goals as goal

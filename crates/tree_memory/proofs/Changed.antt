@@ -1,0 +1,199 @@
+-- What a store keeps stays in step with its record: changes of one file, and of names.
+use Rattle.std.proofs.Common.{◌≡◌, ◌≢◌, ⊎_elim, ℕ, ◌<◌, Bool, true, false, cond, List, [], ◌∷◌, ◌++◌, length, map, get_or, set, take, Option, None, Some, IsSome, is_some, refl, sym, ap, subst, ◌∙◌, arith}
+use Rattle.std.specs.Str.{bytes_eq}
+use Rattle.std.proofs.Math.Seq.{take-length, map-set_same}
+use Rattle.std.proofs.lemmas.List.{map-set, set-get_or, get_or-set_same, length-set}
+use Rattle.base_core.specs.Files.{NameMap, put, drop_name, move_name}
+use Rattle.base_core.specs.Tree.{TreeState, File, CanRename, HasName, set_file, change_at, with_names, after_append, after_sync, move_at, after_rename, remove_at, after_remove, after_sync_names}
+use Rattle.tree_memory.specs.Table.{lookup}
+use Rattle.tree_memory.specs.Changes.{empty_state, step, state_on, earlier_on, contents_of, can_step, is_record}
+use Rattle.tree_memory.specs.Kept.{IsKept, IsStore, HasFolders}
+use Rattle.tree_memory.proofs.AtName.{name_cases, same_name, other_name, off_name, drop_name-at, drop_name-off, put-at, put-off}
+use Rattle.tree_memory.proofs.Folders.{folder_like_fewer, folder_like_number, fewer_dropped}
+use Rattle.tree_memory.proofs.Growing.{front_is, Grows, grows_not, grows_set, IsPushed}
+use Rattle.tree_memory.proofs.Keeping.{length-contents, kept_set, folders_with, folders_one, folders_changed, newest_folders, store_pushed, history_pushed, leads_within}
+use Rattle.tree_memory.specs.declared.changes.Change.{Change}
+use Rattle.tree_memory.specs.declared.changes.Change.TheVariants.{Append, Sync, Rename, Remove, SyncNames, Stay}
+use Rattle.tree_memory.specs.declared.changes.Stored.{Stored}
+use Rattle.tree_memory.specs.declared.table.Entry.{Entry}
+
+-- a store's newest state, and the states that it tells
+abbrev pub newest_of : List Change → List Stored → TreeState
+newest_of cs files = state_on (contents_of files) empty_state cs
+
+abbrev pub told_of : List Change → List Stored → List TreeState
+told_of cs files = newest_of cs files ∷ earlier_on (contents_of files) empty_state [] cs
+
+-- ---- another file under a number
+
+-- a file is now another one
+pub record IsOther (name : List ℕ) (n : ℕ) (es : List Entry) (files more : List Stored) (s : Stored) : Type 0 where
+  pub named : lookup es name ≡ Some n
+  pub stored : more ≡ set files n s
+
+module _ (name : List ℕ) (n : ℕ) (cs ds : List Change) (es : List Entry) (files more : List Stored) (s : Stored) (store : IsStore cs es files) (m : IsOther name n es files more s) where
+  abbrev was : TreeState
+  was = newest_of cs files
+
+  within : n < length files
+  within = leads_within cs es files name n store m.named
+
+  leads : was.names name ≡ Some n
+  leads = store.kept.names name ∙ m.named
+
+  set_contents : contents_of more ≡ set (contents_of files) n s.bytes.items
+  set_contents = ap contents_of m.stored ∙ map-set (λ (f : Stored). f.bytes.items) files n s
+
+  changed_kept : (change : File → File) → (change (was.files n)).bytes ≡ s.bytes.items → (change (was.files n)).synced ≡ s.synced → IsKept (change_at change was (was.names name)) es more
+  changed_kept change bytes synced =
+      subst (λ (l : List Stored). IsKept (change_at change was (was.names name)) es l) (sym m.stored)
+      (subst (λ (o : Option ℕ). IsKept (change_at change was o) es (set files n s)) (sym leads) (kept_set was es files n change s store.kept within bytes synced))
+
+  changed_folders : (change : File → File) → HasFolders (change_at change was (was.names name))
+  changed_folders change = subst (λ (o : Option ℕ). HasFolders (change_at change was o)) (sym leads) (folders_changed change was n store.folders)
+
+  -- a piece at its end
+  module _ (piece : List ℕ) (grown : s.bytes.items ≡ get_or (contents_of files) n [] ++ piece) where
+    append_pushed : ds ≡ cs ++ Append n (length s.bytes.items) ∷ [] → IsPushed (Append n (length s.bytes.items)) cs ds (contents_of files) (contents_of more)
+    append_pushed is = record {
+      recorded = store.recorded;
+      grows = subst (Grows (contents_of files)) (sym (set_contents ∙ ap (set (contents_of files) n) grown)) (grows_set (contents_of files) n piece (omega (arith, within, length-contents files)));
+      pushed = is;
+      can = front_is (contents_of more) n (length s.bytes.items) (record {
+          within = omega (arith, within, length-contents files, ap length set_contents, length-set (contents_of files) n s.bytes.items);
+          fits = omega (arith, ap length stands_there);
+        });
+    }
+      where
+        stands_there : get_or (contents_of more) n [] ≡ s.bytes.items
+        stands_there = ap (λ (l : List (List ℕ)). get_or l n []) set_contents ∙ get_or-set_same (contents_of files) n s.bytes.items [] (omega (arith, within, length-contents files))
+
+    append_step : step (contents_of more) (Append n (length s.bytes.items)) was ≡ after_append name piece was
+    append_step =
+        ap (λ (l : List ℕ). record was { files = set_file was.files n (record { bytes = l; synced = false }) })
+        (ap (take (length s.bytes.items)) (ap (λ (l : List (List ℕ)). get_or l n []) set_contents ∙ get_or-set_same (contents_of files) n s.bytes.items [] (omega (arith, within, length-contents files)))
+        ∙ take-length s.bytes.items ∙ grown ∙ ap (λ (l : List ℕ). l ++ piece) (sym (store.kept.bytes n)))
+        ∙ sym (ap (change_at (λ (f : File). record { bytes = f.bytes ++ piece; synced = false }) was) leads)
+
+    pub store_append : ds ≡ cs ++ Append n (length s.bytes.items) ∷ [] → s.synced ≡ false → IsStore ds es more
+    store_append is unsynced =
+        store_pushed (Append n (length s.bytes.items)) cs ds es (contents_of files) more (after_append name piece was) (append_pushed is) append_step
+        (changed_kept (λ (f : File). record { bytes = f.bytes ++ piece; synced = false }) (ap (λ (l : List ℕ). l ++ piece) (store.kept.bytes n) ∙ sym grown) (sym unsynced))
+        (changed_folders (λ (f : File). record { bytes = f.bytes ++ piece; synced = false }))
+
+    pub history_append : ds ≡ cs ++ Append n (length s.bytes.items) ∷ [] → told_of ds more ≡ after_append name piece was ∷ told_of cs files
+    history_append is = history_pushed (Append n (length s.bytes.items)) cs ds (contents_of files) (contents_of more) (after_append name piece was) (append_pushed is) append_step
+
+  -- its bytes are as they were
+  module _ (same : s.bytes.items ≡ get_or (contents_of files) n []) where
+    same_contents : contents_of more ≡ contents_of files
+    same_contents = set_contents ∙ ap (set (contents_of files) n) same ∙ set-get_or (contents_of files) n []
+
+    sync_pushed : ds ≡ cs ++ Sync n ∷ [] → IsPushed (Sync n) cs ds (contents_of files) (contents_of more)
+    sync_pushed is = record { recorded = store.recorded; grows = subst (Grows (contents_of files)) (sym same_contents) (grows_not (contents_of files)); pushed = is; can = refl }
+
+    sync_step : step (contents_of more) (Sync n) was ≡ after_sync name was
+    sync_step = sym (ap (change_at (λ (f : File). record { bytes = f.bytes; synced = true }) was) leads)
+
+    pub store_sync : ds ≡ cs ++ Sync n ∷ [] → s.synced ≡ true → IsStore ds es more
+    store_sync is synced =
+        store_pushed (Sync n) cs ds es (contents_of files) more (after_sync name was) (sync_pushed is) sync_step
+        (changed_kept (λ (f : File). record { bytes = f.bytes; synced = true }) (store.kept.bytes n ∙ sym same) (sym synced))
+        (changed_folders (λ (f : File). record { bytes = f.bytes; synced = true }))
+
+    pub history_sync : ds ≡ cs ++ Sync n ∷ [] → told_of ds more ≡ after_sync name was ∷ told_of cs files
+    history_sync is = history_pushed (Sync n) cs ds (contents_of files) (contents_of more) (after_sync name was) (sync_pushed is) sync_step
+
+-- a file that is as it was
+pub store_same : (n : ℕ) (cs : List Change) (es : List Entry) (files more : List Stored) (s d : Stored) → IsStore cs es files → more ≡ set files n s → n < length files → s.bytes.items ≡ d.bytes.items → s.synced ≡ d.synced → d ≡ get_or files n d → IsStore cs es more
+store_same n cs es files more s d store is inside bytes synced at =
+    let same_bytes : contents_of more ≡ contents_of files = ap contents_of is ∙ map-set_same (λ (f : Stored). f.bytes.items) files n s d (bytes ∙ ap (λ (f : Stored). f.bytes.items) at) in
+    let same_flags = ap (λ (l : List Stored). map (λ (f : Stored). f.synced) l) is ∙ map-set_same (λ (f : Stored). f.synced) files n s d (synced ∙ ap (λ (f : Stored). f.synced) at) in record {
+      recorded = ap (λ (l : List (List ℕ)). is_record l empty_state cs) same_bytes ∙ store.recorded;
+      kept = subst (λ (v : TreeState). IsKept v es more) (sym (ap (λ (l : List (List ℕ)). state_on l empty_state cs) same_bytes)) (record {
+          names = store.kept.names;
+          made = store.kept.made ∙ sym (ap length is ∙ length-set files n s);
+          bytes = λ k. store.kept.bytes k ∙ sym (ap (λ (l : List (List ℕ)). get_or l k []) same_bytes);
+          synced = λ k. store.kept.synced k ∙ sym (ap (λ (l : List Bool). get_or l k false) same_flags);
+        });
+      folders = subst HasFolders (sym (ap (λ (l : List (List ℕ)). state_on l empty_state cs) same_bytes)) store.folders;
+    }
+
+pub told_same : (n : ℕ) (cs : List Change) (files more : List Stored) (s d : Stored) → more ≡ set files n s → s.bytes.items ≡ d.bytes.items → d ≡ get_or files n d → told_of cs more ≡ told_of cs files
+told_same n cs files more s d is bytes at =
+    ap (λ (l : List (List ℕ)). state_on l empty_state cs ∷ earlier_on l empty_state [] cs) (ap contents_of is ∙ map-set_same (λ (f : Stored). f.bytes.items) files n s d (bytes ∙ ap (λ (f : Stored). f.bytes.items) at))
+
+-- ---- names
+
+module _ (cs ds : List Change) (es fs : List Entry) (files : List Stored) (store : IsStore cs es files) where
+  abbrev now : TreeState
+  now = newest_of cs files
+
+  pushed_names : (c : Change) → ds ≡ cs ++ c ∷ [] → can_step (contents_of files) c now ≡ true → IsPushed c cs ds (contents_of files) (contents_of files)
+  pushed_names c is can = record { recorded = store.recorded; grows = grows_not (contents_of files); pushed = is; can = can }
+
+  -- a name more in place of another
+  module _ (from to : List ℕ) (n : ℕ) (there : lookup es from ≡ Some n) where
+    rename_can : can_step (contents_of files) (Rename from to) now ≡ true
+    rename_can = ap is_some (store.kept.names from ∙ there)
+
+    moved : from ≢ to → (es₁ : List Entry) → ((q : List ℕ) → lookup es₁ q ≡ put (lookup es) to n q) → ((q : List ℕ) → lookup fs q ≡ drop_name (lookup es₁) from q) → (q : List ℕ) → move_name now.names from to n q ≡ lookup fs q
+    moved apart es₁ first second q =
+        ⊎_elim (λ at_to. put-at (drop_name now.names from) to n q at_to
+        ∙ sym (second q ∙ drop_name-off (lookup es₁) from q (λ at_from. apart (sym at_from ∙ at_to)) ∙ first q ∙ put-at (lookup es) to n q at_to))
+        (λ off_to. let ne = off_name q to off_to in
+        put-off (drop_name now.names from) to n q ne
+        ∙ ap (cond (bytes_eq q from) None) (store.kept.names q ∙ sym (first q ∙ put-off (lookup es) to n q ne))
+        ∙ sym (second q))
+        (name_cases q to)
+
+    renamed_kept : ((q : List ℕ) → move_name now.names from to n q ≡ lookup fs q) → IsKept (after_rename from to now) fs files
+    renamed_kept names =
+        subst (λ (o : Option ℕ). IsKept (move_at from to now o) fs files) (sym (store.kept.names from ∙ there)) (record { names = names; made = store.kept.made; bytes = store.kept.bytes; synced = store.kept.synced })
+
+    renamed_folders : CanRename from to now → HasFolders (after_rename from to now)
+    renamed_folders can =
+        subst (λ (o : Option ℕ). HasFolders (move_at from to now o)) (sym (store.kept.names from ∙ there)) (folders_with now (move_name now.names from to n) store.folders (folder_like_number (drop_name now.names from) to 0 n can.folders))
+
+    pub store_rename : ds ≡ cs ++ Rename from to ∷ [] → CanRename from to now → (es₁ : List Entry) → ((q : List ℕ) → lookup es₁ q ≡ put (lookup es) to n q) → ((q : List ℕ) → lookup fs q ≡ drop_name (lookup es₁) from q) → IsStore ds fs files
+    store_rename is can es₁ first second =
+        store_pushed (Rename from to) cs ds fs (contents_of files) files (after_rename from to now) (pushed_names (Rename from to) is rename_can) refl (renamed_kept (moved can.apart es₁ first second)) (renamed_folders can)
+
+    pub history_rename : ds ≡ cs ++ Rename from to ∷ [] → told_of ds files ≡ after_rename from to now ∷ told_of cs files
+    history_rename is = history_pushed (Rename from to) cs ds (contents_of files) (contents_of files) (after_rename from to now) (pushed_names (Rename from to) is rename_can) refl
+
+  -- a name less
+  module _ (name : List ℕ) where
+    removed_kept : (o : Option ℕ) → IsSome o → ((q : List ℕ) → lookup fs q ≡ drop_name (lookup es) name q) → IsKept (remove_at name now o) fs files
+    removed_kept None some gone = absurd (cc (some))
+    removed_kept (Some n) some gone = record { names = λ q. ap (cond (bytes_eq q name) None) (store.kept.names q) ∙ sym (gone q); made = store.kept.made; bytes = store.kept.bytes; synced = store.kept.synced }
+
+    removed_folders : (o : Option ℕ) → HasFolders (remove_at name now o)
+    removed_folders None = store.folders
+    removed_folders (Some n) = folders_with now (drop_name now.names name) store.folders (folder_like_fewer now.names (drop_name now.names name) (fewer_dropped now.names name) (newest_folders now store.folders))
+
+    pub store_remove : ds ≡ cs ++ Remove name ∷ [] → HasName name now → ((q : List ℕ) → lookup fs q ≡ drop_name (lookup es) name q) → IsStore ds fs files
+    store_remove is has gone =
+        store_pushed (Remove name) cs ds fs (contents_of files) files (after_remove name now) (pushed_names (Remove name) is has) refl (removed_kept (now.names name) has gone) (removed_folders (now.names name))
+
+    pub history_remove : ds ≡ cs ++ Remove name ∷ [] → HasName name now → told_of ds files ≡ after_remove name now ∷ told_of cs files
+    history_remove is has = history_pushed (Remove name) cs ds (contents_of files) (contents_of files) (after_remove name now) (pushed_names (Remove name) is has) refl
+
+    -- or none, as it was absent
+    stayed : (o : Option ℕ) → (IsSome o → ⊥) → now ≡ remove_at name now o
+    stayed None absent = refl
+    stayed (Some n) absent = absurd (absent refl)
+
+    pub history_stay : ds ≡ cs ++ Stay ∷ [] → (HasName name now → ⊥) → told_of ds files ≡ after_remove name now ∷ told_of cs files
+    history_stay is absent = history_pushed Stay cs ds (contents_of files) (contents_of files) (after_remove name now) (pushed_names Stay is refl) (stayed (now.names name) absent)
+
+  pub store_stay : ds ≡ cs ++ Stay ∷ [] → IsStore ds es files
+  store_stay is = store_pushed Stay cs ds es (contents_of files) files now (pushed_names Stay is refl) refl store.kept store.folders
+
+  pub store_sync_names : ds ≡ cs ++ SyncNames ∷ [] → IsStore ds es files
+  store_sync_names is =
+      store_pushed SyncNames cs ds es (contents_of files) files (after_sync_names now) (pushed_names SyncNames is refl) refl (record { names = store.kept.names; made = store.kept.made; bytes = store.kept.bytes; synced = store.kept.synced })
+      (folders_one (after_sync_names now) refl (newest_folders now store.folders))
+
+  pub history_sync_names : ds ≡ cs ++ SyncNames ∷ [] → told_of ds files ≡ after_sync_names now ∷ told_of cs files
+  history_sync_names is = history_pushed SyncNames cs ds (contents_of files) (contents_of files) (after_sync_names now) (pushed_names SyncNames is refl) refl

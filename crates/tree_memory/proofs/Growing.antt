@@ -1,0 +1,170 @@
+-- A record, one change on, while the files only grow.
+use Rattle.std.proofs.Common.{◌≡◌, ◌≢◌, inl, ⊎_elim, ℕ, ◌+◌, ◌<◌, ◌≤◌, ◌&&◌, Bool, true, false, ltb, leb, List, [], ◌∷◌, ◌++◌, length, set, get_or, take, Option, Some, refl, sym, ap, subst, ◌∙◌, arith, length-append}
+use Rattle.std.proofs.Math.ListN.{get_or-append}
+use Rattle.std.proofs.lemmas.List.{length-set, get_or-set_same, get_or-set_other, take-append-le}
+use Rattle.std.proofs.lemmas.Bool.{cases_eq}
+use Rattle.std.proofs.lemmas.Bool.Decides.{nat_tests}
+use Rattle.base_core.specs.Tree.{TreeState, File, change_at}
+use Rattle.tree_memory.specs.Changes.{empty_state, after_put, front_of, step, state_on, earlier_on, is_front, can_step, is_record}
+use Rattle.tree_memory.specs.declared.changes.Change.{Change}
+use Rattle.tree_memory.specs.declared.changes.Change.TheVariants.{Put, Create, Append, Sync, Rename, Remove, SyncNames, Stay}
+
+pub both : (a b : Bool) → (a && b) ≡ true → (a ≡ true) × (b ≡ true)
+both true b is = (refl, is)
+both false b is = absurd (cc)
+
+pub each : (a b : Bool) → a ≡ true → b ≡ true → (a && b) ≡ true
+each true b one other = other
+each false b one other = absurd (cc)
+
+test_lt : (m n : ℕ) → ltb m n ≡ true → m < n
+test_lt m n h = grind (arith, nat_tests)
+
+test_le : (m n : ℕ) → leb m n ≡ true → m ≤ n
+test_le m n h = grind (arith, nat_tests)
+
+lt_test : (m n : ℕ) → m < n → ltb m n ≡ true
+lt_test m n h = grind (arith, nat_tests)
+
+le_test : (m n : ℕ) → m ≤ n → leb m n ≡ true
+le_test m n h = grind (arith, nat_tests)
+
+-- ---- fronts
+
+pub record IsFront (contents : List (List ℕ)) (file len : ℕ) : Type 0 where
+  pub within : file < length contents
+  pub fits : len ≤ length (get_or contents file [])
+
+front_from : (contents : List (List ℕ)) (file len : ℕ) → is_front contents file len ≡ true → IsFront contents file len
+front_from contents file len is =
+    let parts = both (ltb file (length contents)) (leb len (length (get_or contents file []))) is in
+    record { within = test_lt file (length contents) parts.0; fits = test_le len (length (get_or contents file [])) parts.1 }
+
+pub front_is : (contents : List (List ℕ)) (file len : ℕ) → IsFront contents file len → is_front contents file len ≡ true
+front_is contents file len front = each (ltb file (length contents)) (leb len (length (get_or contents file []))) (lt_test file (length contents) front.within) (le_test len (length (get_or contents file [])) front.fits)
+
+-- the files have more bytes at their ends, or there are more of them
+pub record Grows (contents more : List (List ℕ)) : Type 0 where
+  pub front : (file len : ℕ) → IsFront contents file len → front_of more file len ≡ front_of contents file len
+  pub fits : (file len : ℕ) → IsFront contents file len → IsFront more file len
+
+pub grows_not : (contents : List (List ℕ)) → Grows contents contents
+grows_not contents = record { front = λ file len is. refl; fits = λ file len is. is }
+
+pub grows_push : (contents : List (List ℕ)) (b : List ℕ) → Grows contents (contents ++ b ∷ [])
+grows_push contents b = record {
+  front = λ file len is. ap (take len) (get_or-append contents (b ∷ []) [] file is.within);
+  fits = λ file len is. record {
+      within = omega (arith, is.within, length-append contents (b ∷ []));
+      fits = subst (λ (l : List ℕ). len ≤ length l) (sym (get_or-append contents (b ∷ []) [] file is.within)) is.fits;
+    };
+}
+
+pub grows_set : (contents : List (List ℕ)) (n : ℕ) (piece : List ℕ) → n < length contents → Grows contents (set contents n (get_or contents n [] ++ piece))
+grows_set contents n piece within = record { front = front; fits = fits }
+  where
+    long : List ℕ
+    long = get_or contents n [] ++ piece
+
+    here : (file : ℕ) → file ≡ n → get_or (set contents n long) file [] ≡ get_or contents file [] ++ piece
+    here file same = ap (λ k. get_or (set contents n long) k []) same ∙ get_or-set_same contents n long [] within ∙ sym (ap (λ k. get_or contents k [] ++ piece) same)
+
+    front : (file len : ℕ) → IsFront contents file len → front_of (set contents n long) file len ≡ front_of contents file len
+    front file len is = ⊎_elim (λ same. ap (take len) (here file same) ∙ take-append-le len (get_or contents file []) piece is.fits) (λ other. ap (take len) (get_or-set_other contents n file long [] other)) (cases_eq file n)
+
+    fits : (file len : ℕ) → IsFront contents file len → IsFront (set contents n long) file len
+    fits file len is = record {
+      within = omega (arith, is.within, length-set contents n long);
+      fits = ⊎_elim (λ same. omega (arith, is.fits, ap length (here file same), length-append (get_or contents file []) piece)) (λ other. omega (arith, is.fits, ap length (get_or-set_other contents n file long [] other))) (cases_eq file n);
+    }
+
+-- ---- what a record tells stays as it is
+
+step_more : (contents more : List (List ℕ)) → Grows contents more → (c : Change) (v : TreeState) → can_step contents c v ≡ true → step more c v ≡ step contents c v
+step_more contents more grows (Put name file len) v can = ap (λ (bytes : List ℕ). after_put name bytes v) (grows.front file len (front_from contents file len can))
+step_more contents more grows (Create name) v can = refl
+step_more contents more grows (Append file len) v can = ap (λ (bytes : List ℕ). change_at (λ (f : File). record { bytes = bytes; synced = false }) v (Some file)) (grows.front file len (front_from contents file len can))
+step_more contents more grows (Sync file) v can = refl
+step_more contents more grows (Rename from to) v can = refl
+step_more contents more grows (Remove name) v can = refl
+step_more contents more grows SyncNames v can = refl
+step_more contents more grows Stay v can = refl
+
+can_more : (contents more : List (List ℕ)) → Grows contents more → (c : Change) (v : TreeState) → can_step contents c v ≡ true → can_step more c v ≡ true
+can_more contents more grows (Put name file len) v can = front_is more file len (grows.fits file len (front_from contents file len can))
+can_more contents more grows (Create name) v can = refl
+can_more contents more grows (Append file len) v can = front_is more file len (grows.fits file len (front_from contents file len can))
+can_more contents more grows (Sync file) v can = refl
+can_more contents more grows (Rename from to) v can = can
+can_more contents more grows (Remove name) v can = can
+can_more contents more grows SyncNames v can = refl
+can_more contents more grows Stay v can = refl
+
+state_more : (contents more : List (List ℕ)) → Grows contents more → (v : TreeState) (cs : List Change) → is_record contents v cs ≡ true → state_on more v cs ≡ state_on contents v cs
+state_more contents more grows v [] is = refl
+state_more contents more grows v (c ∷ cs) is =
+    let parts = both (can_step contents c v) (is_record contents (step contents c v) cs) is in
+    ap (λ (w : TreeState). state_on more w cs) (step_more contents more grows c v parts.0) ∙ state_more contents more grows (step contents c v) cs parts.1
+
+earlier_more : (contents more : List (List ℕ)) → Grows contents more → (v : TreeState) (earlier : List TreeState) (cs : List Change) → is_record contents v cs ≡ true → earlier_on more v earlier cs ≡ earlier_on contents v earlier cs
+earlier_more contents more grows v earlier [] is = refl
+earlier_more contents more grows v earlier (c ∷ cs) is =
+    let parts = both (can_step contents c v) (is_record contents (step contents c v) cs) is in
+    ap (λ (w : TreeState). earlier_on more w (v ∷ earlier) cs) (step_more contents more grows c v parts.0) ∙ earlier_more contents more grows (step contents c v) (v ∷ earlier) cs parts.1
+
+record_more : (contents more : List (List ℕ)) → Grows contents more → (v : TreeState) (cs : List Change) → is_record contents v cs ≡ true → is_record more v cs ≡ true
+record_more contents more grows v [] is = refl
+record_more contents more grows v (c ∷ cs) is =
+    let parts = both (can_step contents c v) (is_record contents (step contents c v) cs) is in
+    each (can_step more c v) (is_record more (step more c v) cs) (can_more contents more grows c v parts.0)
+    (ap (λ (w : TreeState). is_record more w cs) (step_more contents more grows c v parts.0) ∙ record_more contents more grows (step contents c v) cs parts.1)
+
+-- ---- one change on
+
+pub state_on-push : (contents : List (List ℕ)) (v : TreeState) (cs : List Change) (c : Change) → state_on contents v (cs ++ c ∷ []) ≡ step contents c (state_on contents v cs)
+state_on-push contents v [] c = refl
+state_on-push contents v (d ∷ cs) c = state_on-push contents (step contents d v) cs c
+
+earlier_on-push : (contents : List (List ℕ)) (v : TreeState) (earlier : List TreeState) (cs : List Change) (c : Change)
+    → earlier_on contents v earlier (cs ++ c ∷ []) ≡ state_on contents v cs ∷ earlier_on contents v earlier cs
+earlier_on-push contents v earlier [] c = refl
+earlier_on-push contents v earlier (d ∷ cs) c = earlier_on-push contents (step contents d v) (v ∷ earlier) cs c
+
+record_push : (contents : List (List ℕ)) (v : TreeState) (cs : List Change) (c : Change) → is_record contents v cs ≡ true → can_step contents c (state_on contents v cs) ≡ true → is_record contents v (cs ++ c ∷ []) ≡ true
+record_push contents v [] c is can = each (can_step contents c v) true can refl
+record_push contents v (d ∷ cs) c is can =
+    let parts = both (can_step contents d v) (is_record contents (step contents d v) cs) is in
+    each (can_step contents d v) (is_record contents (step contents d v) (cs ++ c ∷ [])) parts.0 (record_push contents (step contents d v) cs c parts.1 can)
+
+-- a front of a record is one, and the change behind it may be recorded
+pub record_front : (contents : List (List ℕ)) (v : TreeState) (cs ds : List Change) (c : Change) → is_record contents v (cs ++ c ∷ ds) ≡ true → can_step contents c (state_on contents v cs) ≡ true
+record_front contents v [] ds c is = (both (can_step contents c v) (is_record contents (step contents c v) ds) is).0
+record_front contents v (d ∷ cs) ds c is = record_front contents (step contents d v) cs ds c (both (can_step contents d v) (is_record contents (step contents d v) (cs ++ c ∷ ds)) is).1
+
+-- a record got one change more, which may be recorded, while the files grew
+pub record IsPushed (c : Change) (cs ds : List Change) (contents more : List (List ℕ)) : Type 0 where
+  pub recorded : is_record contents empty_state cs ≡ true
+  pub grows : Grows contents more
+  pub pushed : ds ≡ cs ++ c ∷ []
+  pub can : can_step more c (state_on contents empty_state cs) ≡ true
+
+module _ (c : Change) (cs ds : List Change) (contents more : List (List ℕ)) (p : IsPushed c cs ds contents more) where
+  pub pushed_state : state_on more empty_state ds ≡ step more c (state_on contents empty_state cs)
+  pushed_state =
+      ap (state_on more empty_state) p.pushed
+      ∙ state_on-push more empty_state cs c
+      ∙ ap (step more c) (state_more contents more p.grows empty_state cs p.recorded)
+
+  pub pushed_earlier : earlier_on more empty_state [] ds ≡ state_on contents empty_state cs ∷ earlier_on contents empty_state [] cs
+  pushed_earlier =
+      ap (earlier_on more empty_state []) p.pushed
+      ∙ earlier_on-push more empty_state [] cs c
+      ∙ (λ i. state_more contents more p.grows empty_state cs p.recorded i ∷ earlier_more contents more p.grows empty_state [] cs p.recorded i)
+
+  pub pushed_history : state_on more empty_state ds ∷ earlier_on more empty_state [] ds ≡ step more c (state_on contents empty_state cs) ∷ (state_on contents empty_state cs ∷ earlier_on contents empty_state [] cs)
+  pushed_history = λ i. pushed_state i ∷ pushed_earlier i
+
+  pub pushed_record : is_record more empty_state ds ≡ true
+  pushed_record =
+      ap (is_record more empty_state) p.pushed
+      ∙ record_push more empty_state cs c (record_more contents more p.grows empty_state cs p.recorded) (ap (can_step more c) (state_more contents more p.grows empty_state cs p.recorded) ∙ p.can)

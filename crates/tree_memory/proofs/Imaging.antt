@@ -1,0 +1,173 @@
+-- An image is put together name by name.
+use Rattle.std.proofs.Common.{◌≡◌, ◌≢◌, inl, inr, ⊎_elim, ℕ, zero, suc, ◌+◌, ◌-◌, ◌/◌, ◌%◌, ◌<◌, ◌≤◌, ◌==◌, Bool, true, false, cond, ◌||◌, replicate, List, [], ◌∷◌, ◌++◌, length, reverse, get_or, take, drop, Option, None, Some, IsSome, refl, sym, ap, subst, ◌∙◌, arith, length-take}
+use Rattle.std.proofs.lemmas.List.{take_more, take_all, drop_all, get_or-map, get_or-reverse, length-reverse, get_or-take}
+use Rattle.std.proofs.lemmas.Bool.{cases_eq, eq-eqb, ne_eqb}
+use Rattle.std.specs.Str.{bytes_eq}
+use Rattle.std.specs.Option.{option_map}
+use Rattle.base_core.specs.Crash.{IsImage, IsImageBy, IsCrashOf, MayLeave}
+use Rattle.base_core.specs.Files.{Files, NameMap, no_names, put, IsFolderLike}
+use Rattle.base_core.specs.Tree.{TreeState, File, IsMapOf, IsWhole, bytes_at, files_of, set_file}
+use Rattle.std.proofs.lemmas.Nat.{mod_below}
+use Rattle.tree_memory.specs.Changes.{empty_state, after_put, state_on, contents_of, flags_of, is_record}
+use Rattle.tree_memory.specs.Images.{maps_of, newest_first, picked_map, filled, picked, file_of}
+use Rattle.tree_memory.specs.Kept.{IsKept, IsStore, HasFolders, CanPut}
+use Rattle.tree_memory.specs.Table.{IsTable, lookup}
+use Rattle.tree_memory.specs.WholeLaw.{whole_state}
+use Rattle.tree_memory.proofs.AtName.{name_cases, off_name, put-at, put-off}
+use Rattle.tree_memory.proofs.Keeping.{read-after_put, stored_bytes}
+use Rattle.tree_memory.proofs.Picking.{among_at}
+use Rattle.tree_memory.proofs.Placed.{apart, lookup_named, lookup_off, lookup_insert, looked_up}
+use Rattle.tree_memory.proofs.Folders.{entry_at}
+use Rattle.tree_memory.specs.declared.changes.Change.{Change}
+use Rattle.tree_memory.specs.declared.changes.Stored.{Stored}
+use Rattle.tree_memory.specs.declared.table.Entry.{Entry}
+
+-- ---- the names so far, and the next one
+
+absent_so_far : (es : List Entry) (i : ℕ) (e : Entry) → IsTable es → i < length es → e ≡ get_or es i e → lookup (take i es) e.name ≡ None
+absent_so_far es i e table within is = lookup_off (take i es) e.name e (λ j below same.
+    let lower : j < i = omega (arith, below, length-take i es) in
+    apart es table j i e lower within (ap (λ (x : Entry). x.name) (sym (get_or-take i es j e lower)) ∙ same ∙ ap (λ (x : Entry). x.name) is))
+
+lookup_push : (es : List Entry) (e : Entry) → lookup es e.name ≡ None → (q : List ℕ) → lookup (es ++ e ∷ []) q ≡ put (lookup es) e.name e.file q
+lookup_push es e none q =
+    ap (λ (l : List Entry). lookup l q) (sym (ap (λ (l : List Entry). l ++ e ∷ drop (length es) es) (take_all (length es) es (omega arith)) ∙ ap (λ (l : List Entry). es ++ e ∷ l) (drop_all (length es) es (omega arith))))
+    ∙ lookup_insert es (length es) e none q
+
+next_name : (es : List Entry) (i : ℕ) (e : Entry) → IsTable es → i < length es → e ≡ get_or es i e → (q : List ℕ) → lookup (take (i + 1) es) q ≡ put (lookup (take i es)) e.name e.file q
+next_name es i e table within is q =
+    ap (λ (l : List Entry). lookup l q) (take_more es i e within ∙ ap (λ (x : Entry). take i es ++ x ∷ []) (sym is))
+    ∙ lookup_push (take i es) e (absent_so_far es i e table within is) q
+
+lookup_take : (es : List Entry) (i : ℕ) (q : List ℕ) → IsSome (lookup (take i es) q) → IsSome (lookup es q)
+lookup_take [] zero q some = some
+lookup_take [] (suc i) q some = some
+lookup_take (e ∷ es) zero q some = absurd (cc (some))
+lookup_take (e ∷ es) (suc i) q some = by (bytes_eq q e.name) (lookup_take es i q) some
+  where
+    by : (b : Bool) → (IsSome (lookup (take i es) q) → IsSome (lookup es q)) → IsSome (cond b (Some e.file) (lookup (take i es) q)) → IsSome (cond b (Some e.file) (lookup es q))
+    by true more here = refl
+    by false more there = more there
+
+-- ---- the tree so far
+
+-- it has the files of the first names, as the crash leaves them, all synced under one map
+pub record IsSoFar (v : TreeState) (way : ℕ) (es : List Entry) (i : ℕ) (w : TreeState) : Type 0 where
+  pub files : (q : List ℕ) → files_of w q ≡ option_map (λ n. filled way (v.files n)) (lookup (take i es) q)
+  pub one_map : w.older ≡ []
+  pub synced : (q : List ℕ) (n : ℕ) → w.names q ≡ Some n → (w.files n).synced ≡ true
+
+pub so_far_none : (v : TreeState) (way : ℕ) (es : List Entry) (w : TreeState) → w ≡ empty_state → IsSoFar v way es 0 w
+so_far_none v way es w is = subst (IsSoFar v way es 0) (sym is) (record { files = λ q. refl; one_map = refl; synced = λ q n at. absurd (cc (at)) })
+
+module _ (v : TreeState) (way : ℕ) (es : List Entry) (table : IsTable es) (i : ℕ) (w : TreeState) (so_far : IsSoFar v way es i w) where
+  present : (q : List ℕ) → IsSome (w.names q) → IsSome (lookup (take i es) q)
+  present q = by (w.names q) (lookup (take i es) q) (so_far.files q)
+    where
+      by : (o r : Option ℕ) → bytes_at w.files o ≡ option_map (λ n. filled way (v.files n)) r → IsSome o → IsSome r
+      by None r is some = absurd (cc (some))
+      by (Some n) None is some = absurd (cc (is))
+      by (Some n) (Some m) is some = refl
+
+  module _ (e : Entry) (within : i < length es) (here : e ≡ get_or es i e) where
+    -- the next name fits
+    pub can_next : (map : NameMap) → IsFolderLike map → ((q : List ℕ) → map q ≡ lookup es q) → CanPut e.name w
+    can_next map folders same = record { folders = λ p q folder has_p has_q. folders p q folder (there p has_p) (there q has_q) }
+      where
+        there : (q : List ℕ) → IsSome (put w.names e.name w.made q) → IsSome (map q)
+        there q some = ⊎_elim
+            (λ is. subst IsSome (sym (same q)) (subst (λ (n : List ℕ). IsSome (lookup es n)) (ap (λ (x : Entry). x.name) (sym here) ∙ sym is) (looked_up es i e within)))
+            (λ off. subst IsSome (sym (same q)) (lookup_take es i q (present q (subst IsSome (put-off w.names e.name w.made q (off_name q e.name off)) some))))
+            (name_cases q e.name)
+
+    pub so_far_next : (bytes : List ℕ) (u : TreeState) → IsWhole w → bytes ≡ filled way (v.files e.file) → u ≡ after_put e.name bytes w → IsSoFar v way es (i + 1) u
+    so_far_next bytes u whole are is = subst (IsSoFar v way es (i + 1)) (sym is) (record { files = files; one_map = refl; synced = synced })
+      where
+        both_ways : (b : Bool) (r : Option ℕ) → cond b (Some (filled way (v.files e.file))) (option_map (λ n. filled way (v.files n)) r) ≡ option_map (λ n. filled way (v.files n)) (cond b (Some e.file) r)
+        both_ways true r = refl
+        both_ways false r = refl
+
+        files : (q : List ℕ) → files_of (after_put e.name bytes w) q ≡ option_map (λ n. filled way (v.files n)) (lookup (take (i + 1) es) q)
+        files q =
+            ap (λ (f : Files). f q) (read-after_put e.name bytes w whole)
+            ∙ ap (λ (b : List ℕ). cond (bytes_eq q e.name) (Some b) (files_of w q)) are
+            ∙ ap (cond (bytes_eq q e.name) (Some (filled way (v.files e.file)))) (so_far.files q)
+            ∙ both_ways (bytes_eq q e.name) (lookup (take i es) q)
+            ∙ sym (ap (option_map (λ n. filled way (v.files n))) (next_name es i e table within here q))
+
+        synced : (q : List ℕ) (n : ℕ) → put w.names e.name w.made q ≡ Some n → (set_file w.files w.made (record { bytes = bytes; synced = true }) n).synced ≡ true
+        synced q n at = ⊎_elim
+            (λ new. ap (λ b. (cond b (record { bytes = bytes; synced = true }) (w.files n)).synced) (eq-eqb n w.made new))
+            (λ old. ap (λ b. (cond b (record { bytes = bytes; synced = true }) (w.files n)).synced) (ne_eqb n w.made old)
+            ∙ ⊎_elim (λ is. absurd (old (some_same (sym at ∙ put-at w.names e.name w.made q is)))) (λ off. so_far.synced q n (sym (put-off w.names e.name w.made q (off_name q e.name off)) ∙ at)) (name_cases q e.name))
+            (cases_eq n w.made)
+          where
+            some_same : {m n : ℕ} → Some m ≡ Some n → m ≡ n
+            some_same e = cc (e)
+
+    -- it leads to a file that was made
+    pub number_made : (map : NameMap) → IsMapOf v map → IsWhole v → ((q : List ℕ) → map q ≡ lookup es q) → e.file < v.made
+    number_made map is whole same =
+        whole.made map is e.name e.file (same e.name ∙ lookup_named es i e.name e table (record { within = within; here = λ d. ap (λ (x : Entry). x.name) (entry_at es i e d within here) }) ∙ ap (λ (x : Entry). Some x.file) (sym here))
+
+-- ---- the tree that is done
+
+module _ (v : TreeState) (way : ℕ) (es : List Entry) (map : NameMap) (same : (q : List ℕ) → map q ≡ lookup es q) (i : ℕ) (all : length es ≤ i) (w : TreeState) (so_far : IsSoFar v way es i w) where
+  pub image_files : (q : List ℕ) → files_of w q ≡ option_map (λ n. filled way (v.files n)) (map q)
+  image_files q = so_far.files q ∙ ap (λ (l : List Entry). option_map (λ n. filled way (v.files n)) (lookup l q)) (take_all i es all) ∙ sym (ap (option_map (λ n. filled way (v.files n))) (same q))
+
+  may : (o : Option ℕ) → MayLeave v.files o (option_map (λ n. filled way (v.files n)) o)
+  may None = refl
+  may (Some n) = λ synced. ap (λ b. cond (b || (way == 0)) (v.files n).bytes (cond (way == 1) [] (replicate (length (v.files n).bytes) 255))) synced
+
+  pub image_crash : IsMapOf v map → IsCrashOf v w
+  image_crash is = record {
+    left = (map, is, λ q. subst (MayLeave v.files (map q)) (sym (image_files q)) (may (map q)));
+    one_map = so_far.one_map;
+    synced = so_far.synced;
+  }
+
+-- ---- the map and the way
+
+pub map_back : (choice : ℕ) (v : TreeState) (maps back : ℕ) → maps ≡ length (maps_of v) → choice % maps < maps → back ≡ maps - 1 - choice % maps → (back < length (newest_first v)) × (picked_map choice v ≡ get_or (newest_first v) back no_names)
+map_back choice v maps back count below is =
+    let long : maps ≡ length (newest_first v) = count ∙ length-reverse (newest_first v) in (
+      omega (arith, long, below, is),
+      ap (λ m. get_or (maps_of v) (choice % m) no_names) (sym count)
+          ∙ get_or-reverse (newest_first v) (choice % maps) no_names (omega (arith, long, below))
+          ∙ ap (λ n. get_or (newest_first v) n no_names) (sym (is ∙ ap (λ m. m - 1 - choice % maps) long)),
+    )
+
+pub picked_files : (choice : ℕ) (v : TreeState) (way maps : ℕ) (files : Files) → maps ≡ length (maps_of v) → way ≡ (choice / maps) % 3 → ((q : List ℕ) → files q ≡ option_map (λ n. filled way (v.files n)) (picked_map choice v q)) → files ≡ picked choice v
+picked_files choice v way maps files count is each = λ i q. (each q ∙ ap (λ k. option_map (λ n. filled k (v.files n)) (picked_map choice v q)) (is ∙ ap (λ m. (choice / m) % 3) count)) i
+
+-- a file as it is stored
+pub file_at : (v : TreeState) (es : List Entry) (files : List Stored) (n : ℕ) (s : Stored) → IsKept v es files → n < length files → s ≡ get_or files n s → file_of s ≡ v.files n
+file_at v es files n s kept within is =
+    let bytes = sym (kept.bytes n ∙ stored_bytes files n s within is) in
+    let synced = sym (kept.synced n ∙ get_or-map (λ (f : Stored). f.synced) files n s false within ∙ ap (λ (f : Stored). f.synced) (sym is)) in
+    λ i. record { bytes = bytes i; synced = synced i }
+
+-- a table has the map that is picked, which is one that a crash may leave
+pub record IsPickedMap (v : TreeState) (choice : ℕ) (es : List Entry) : Type 0 where
+  pub same : (q : List ℕ) → picked_map choice v q ≡ lookup es q
+  pub is_map : IsMapOf v (picked_map choice v)
+
+pub picked_from : (contents : List (List ℕ)) (cs ds ds' : List Change) (choice maps n : ℕ) (es fs : List Entry) → is_record contents empty_state cs ≡ true → ds ≡ cs → ds' ≡ cs → maps ≡ length (maps_of (state_on contents empty_state cs)) → 0 < maps
+    → ((contents : List (List ℕ)) → is_record contents empty_state ds ≡ true → maps - 1 - choice % maps < length (newest_first (state_on contents empty_state ds))
+    → (q : List ℕ) → (state_on contents empty_state (take n ds)).names q ≡ get_or (newest_first (state_on contents empty_state ds)) (maps - 1 - choice % maps) no_names q)
+    → ((contents : List (List ℕ)) (q : List ℕ) → (state_on contents empty_state (take n ds')).names q ≡ lookup es q) → fs ≡ es → IsPickedMap (state_on contents empty_state cs) choice fs
+picked_from contents cs ds ds' choice maps n es fs recorded is is' count some moment names same_es =
+    let v = state_on contents empty_state cs in
+    let back = map_back choice v maps (maps - 1 - choice % maps) count (mod_below choice maps some) refl in
+    let recorded_ds = ap (λ (l : List Change). is_record contents empty_state l) is ∙ recorded in
+    let within = subst (λ (l : List Change). maps - 1 - choice % maps < length (newest_first (state_on contents empty_state l))) (sym is) back.0 in record {
+      same = λ q.
+          ap (λ (m : NameMap). m q) back.1
+          ∙ sym (ap (λ (l : List Change). get_or (newest_first (state_on contents empty_state l)) (maps - 1 - choice % maps) no_names q) is)
+          ∙ sym (moment contents recorded_ds within q)
+          ∙ ap (λ (l : List Change). (state_on contents empty_state (take n l)).names q) (is ∙ sym is')
+          ∙ names contents q
+          ∙ sym (ap (λ (l : List Entry). lookup l q) same_es);
+      is_map = subst (IsMapOf v) (sym back.1) (among_at (newest_first v) (maps - 1 - choice % maps) back.0);
+    }

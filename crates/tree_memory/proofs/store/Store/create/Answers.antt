@@ -1,0 +1,34 @@
+use Rattle.std.proofs.Common.{◌≡◌, false, List, [], ◌∷◌, ◌++◌, length, ap, ◌∙◌, refl, rules}
+use Rattle.base_core.specs.Files.{put}
+use Rattle.tree_memory.specs.Table.{lookup}
+use Rattle.tree_memory.specs.declared.changes.Change.TheVariants.{Create}
+use Rattle.tree_memory.specs.declared.changes.Stored.{Stored}
+use Rattle.tree_memory.proofs.Keeping.{IsMore, store_create, history_create}
+use Rattle.tree_memory.proofs.store.Store.create.Goals as goal
+
+pub invariant_of-self-2 : goal.invariant_of-self-2
+invariant_of-self-2 c =
+    let s : Stored = record { bytes = c.new.result; synced = false } in
+    let files = c.args.self.now.files.items in
+    let es = c.args.self.now.names.entries.items in
+    let n_is : c.len-file.result ≡ length files = search rules in
+    let m : IsMore c.args.name.now es c.set.new.self.entries.items files c.add.new.list.items s = record {
+      named = λ q. c.in_ok-set.ensures.ok q ∙ (λ i. put (lookup es) (c.in_ok-named.ensures i) (n_is i) q);
+      stored = c.add.ensures ∙ ap (λ (l : List Stored). l ++ s ∷ []) c.in_ok-reserve-2.ensures.items;
+    } in record {
+      in_step = store_create c.args.name.now c.args.self.now.changes.items c.add-2.new.list.items es c.set.new.self.entries.items files c.add.new.list.items s c.args.self.now.in_step m
+          (c.add-2.ensures ∙ (λ i. c.in_ok-reserve.ensures.items i ++ Create (c.in_ok-recorded.ensures i) ∷ [])) (search rules) refl c.requires;
+    }
+
+pub returns-clause-ok : goal.returns-clause-ok
+returns-clause-ok c =
+    let s : Stored = record { bytes = c.new.result; synced = false } in
+    let files = c.args.self.now.files.items in
+    let es = c.args.self.now.names.entries.items in
+    let n_is : c.len-file.result ≡ length files = search rules in
+    let m : IsMore c.args.name.now es c.set.new.self.entries.items files c.add.new.list.items s = record {
+      named = λ q. c.in_ok-set.ensures.ok q ∙ (λ i. put (lookup es) (c.in_ok-named.ensures i) (n_is i) q);
+      stored = c.add.ensures ∙ ap (λ (l : List Stored). l ++ s ∷ []) c.in_ok-reserve-2.ensures.items;
+    } in
+    history_create c.args.name.now c.args.self.now.changes.items c.add-2.new.list.items es c.set.new.self.entries.items files c.add.new.list.items s c.args.self.now.in_step m
+    (c.add-2.ensures ∙ (λ i. c.in_ok-reserve.ensures.items i ++ Create (c.in_ok-recorded.ensures i) ∷ []))

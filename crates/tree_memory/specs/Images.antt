@@ -1,0 +1,64 @@
+-- What a crash leaves, as it is picked by a number.
+use Rattle.std.specs.Prelude.{◌≡◌, ℕ, ◌+◌, ◌/◌, ◌%◌, Bool, true, false, if◌then◌else◌, ◌||◌, ◌==◌, List, [], ◌∷◌, reverse, length, replicate, slice_index_or, Option, Some, None}
+use Rattle.std.specs.Option.{option_map}
+use Rattle.base_core.specs.Files.{Files, NameMap, no_names}
+use Rattle.base_core.specs.Tree.{TreeState, File}
+use Rattle.tree_memory.specs.Table.{lookup}
+use Rattle.tree_memory.specs.declared.changes.Change.{Change}
+use Rattle.tree_memory.specs.declared.changes.Change.TheVariants.{Put, Create, Append, Sync, Rename, Remove, SyncNames, Stay}
+use Rattle.tree_memory.specs.declared.changes.Stored.{Stored}
+use Rattle.tree_memory.specs.declared.table.Entry.{Entry}
+
+-- ---- by a number
+
+-- the maps of names that a crash may leave, the oldest first
+abbrev pub maps_of : TreeState → List NameMap
+maps_of v = reverse (v.names ∷ v.older)
+
+-- which of them
+abbrev pub picked_map : ℕ → TreeState → NameMap
+picked_map choice v = slice_index_or (maps_of v) (choice % length (maps_of v)) no_names
+
+-- what an unsynced file holds: its bytes as read, nothing, or as many bytes of value 255
+abbrev pub filled : ℕ → File → List ℕ
+filled way file = if file.synced || way == 0 then file.bytes else (if way == 1 then [] else replicate (length file.bytes) 255)
+
+-- the files after the crash
+abbrev pub picked : ℕ → TreeState → Files
+picked choice v q = option_map (λ n. filled ((choice / length (maps_of v)) % 3) (v.files n)) (picked_map choice v q)
+
+-- ---- as it is read from a record
+
+abbrev pub newest_first : TreeState → List NameMap
+newest_first v = v.names ∷ v.older
+
+-- whether a change that may be recorded makes one more map of names
+abbrev pub adds_map : Change → Bool
+adds_map (Put name file len) = false
+adds_map (Create name) = true
+adds_map (Append file len) = false
+adds_map (Sync file) = false
+adds_map (Rename from to) = true
+adds_map (Remove name) = true
+adds_map SyncNames = false
+adds_map Stay = false
+
+-- how many maps there are behind it
+abbrev pub maps_on : Change → ℕ → ℕ
+maps_on (Put name file len) maps = 1
+maps_on (Create name) maps = maps + 1
+maps_on (Append file len) maps = maps
+maps_on (Sync file) maps = maps
+maps_on (Rename from to) maps = maps + 1
+maps_on (Remove name) maps = maps + 1
+maps_on SyncNames maps = 1
+maps_on Stay maps = maps
+
+-- a table has the names of a state, of which so many files were made
+pub record HasNames (v : TreeState) (entries : List Entry) (count : ℕ) : Type 0 where
+  pub names : (q : List ℕ) → v.names q ≡ lookup entries q
+  pub made : v.made ≡ count
+
+-- a file as it is stored
+abbrev pub file_of : Stored → File
+file_of stored = record { bytes = stored.bytes.items; synced = stored.synced }
