@@ -1,25 +1,69 @@
 -- What was judged and shown is the answer.
-use Rattle.std.proofs.Common.{◌≡◌, ◌⊎◌, inl, inr, ⊎_elim, ℕ, Bool, true, List, [], ◌∷◌, Option, Some, None, Result, Ok, Err, IfOk, IsErr, IsErrOf, MatchResult, refl, sym, ap, subst, ◌∙◌}
+use Rattle.std.proofs.Common.{◌≡◌, ◌⊎◌, inl, inr, ℕ, List, [], ◌∷◌, Option, Some, None, Result, Ok, Err, IfOk, IsErrOf, IsTrue, MatchResult, refl, sym, ap, subst, ◌∙◌}
 use Rattle.base_core.specs.Calls.{OnTold, HasNow}
 use Rattle.base_core.specs.Faults.{Counts, HasCause}
 use Rattle.base_core.specs.Files.{Files, no_names}
+use Rattle.base_core.specs.Sink.{Sinking, Failed}
 use Rattle.base_core.specs.Tree.{TreeState, files_of}
 use Rattle.base_core.specs.declared.tree.TreeFault.{TreeFault}
 use Rattle.base_core.specs.declared.tree.TreeFault.TheVariants.{Disk, Memory as NoMemory}
+use Rattle.report_core.specs.declared.refusal.Refusal.{Refusal}
+use Rattle.report_core.specs.declared.refusal.Refusal.TheVariants.{Usage}
+use Rattle.words_core.specs.Command.{CommandLine}
+use Rattle.words_core.specs.Faults.{IsWordsFault}
+use Rattle.words_core.specs.Grammar.{command_of}
+use Rattle.words_core.specs.declared.read.WordsFault.{WordsFault}
+use Rattle.words_core.specs.declared.read.WordsFault.TheVariants.{Usage as WrongWord}
+use Rattle.words_core.specs.declared.applet.Applet.{Applet}
+use Rattle.words_core.specs.declared.applet.Applet.TheVariants.{Verify, Version}
+use Rattle.outcome.specs.Told.{Outcome, refused}
+use Rattle.outcome.specs.Outcome.{IsOutcome, IsOutcomeOf, IsGivenTo, run_of}
+use Rattle.outcome.specs.Reach.{rests_on_words, does_rest_on_words}
 use Rattle.apk_front.specs.Answers.{IsAnswer, LeavesFiles, LeavesAny, HasCauses, IsFaultless, IsComplete, FailedAt}
-use Rattle.apk_front.specs.Command.{command_of, rests_on_words}
-use Rattle.apk_front.specs.Outcome.{Outcome, IsOutcome, outcome_of, refused, by, run_of}
-use Rattle.apk_front.specs.Shown.{shown, IsTold, IsShown, IsFaultOf}
-use Rattle.apk_front.specs.declared.answer.Refusal.{Refusal}
-use Rattle.apk_front.specs.declared.answer.Refusal.TheVariants.{Usage}
-use Rattle.apk_front.specs.declared.command.Command.{Command}
-use Rattle.apk_front.specs.declared.command.CommandFault.{CommandFault}
-use Rattle.apk_front.specs.declared.command.CommandFault.TheVariants.{Usage as WrongWord}
-use Rattle.apk_front.specs.Sinks.{Sinking, Failed}
+use Rattle.apk_front.specs.Shown.{shown, IsTold, IsShown}
 use Rattle.apk_front.specs.declared.answer.Answer.{Answer}
 use Rattle.apk_front.specs.declared.answer.Answer.TheVariants.{Ok as Good, Refused, TreeFault as TreeFailed, OutFault, Memory}
-use Rattle.apk_front.specs.declared.judge.Verdict.{Verdict}
-use Rattle.apk_front.specs.declared.judge.Verdict.TheVariants.{Verified, Refused as RefusedBy}
+use Rattle.apk_front.specs.declared.verdict.Verdict.{Verdict}
+
+-- ---- the words and the outcome
+
+given_any : (applet : Applet) (files : Files) → IsGivenTo applet files tt
+given_any Verify files = tt
+given_any Version files = tt
+
+pub usage_over : (words : List (List ℕ)) (place : ℕ) (files : Files) → command_of words ≡ Err place → IsOutcome words files (refused files (Usage place))
+usage_over words place files is = subst (λ (r : Result CommandLine ℕ). IsOutcomeOf r files (refused files (Usage place))) (sym is) refl
+
+pub ran_over : (words : List (List ℕ)) (command : CommandLine) (files : Files) (o : Outcome) → command_of words ≡ Ok command → o ≡ run_of command tt files → IsOutcome words files o
+ran_over words command files o is ran = subst (λ (r : Result CommandLine ℕ). IsOutcomeOf r files o) (sym is) (tt, given_any command.applet files, ran)
+
+pub ran_told : (words : List (List ℕ)) (command : CommandLine) (old : List TreeState) (judged : Result Verdict TreeFault) → command_of words ≡ Ok command
+    → IfOk judged (λ verdict. OnTold old (λ v. shown (files_of v) verdict ≡ run_of command tt (files_of v)))
+    → IfOk judged (λ verdict. OnTold old (λ v. IsOutcome words (files_of v) (shown (files_of v) verdict)))
+ran_told words command [] (Ok verdict) is ran = tt
+ran_told words command (v ∷ old) (Ok verdict) is ran = ran_over words command (files_of v) (shown (files_of v) verdict) is ran
+ran_told words command old (Err fault) is ran = tt
+
+pub ran_by_words : (words : List (List ℕ)) (command : CommandLine) (judged : Result Verdict TreeFault) → command_of words ≡ Ok command
+    → (IsTrue (does_rest_on_words command.applet) → MatchResult judged (λ verdict. (files : Files) → shown files verdict ≡ run_of command tt files) (λ fault. fault ≡ NoMemory))
+    → IsTrue (rests_on_words (command_of words)) → MatchResult judged (λ verdict. (files : Files) → IsOutcome words files (shown files verdict)) (λ fault. fault ≡ NoMemory)
+ran_by_words words command (Ok verdict) is ran rests = λ files. ran_over words command files (shown files verdict) is (ran (subst (λ (r : Result CommandLine ℕ). IsTrue (rests_on_words r)) is rests) files)
+ran_by_words words command (Err fault) is ran rests = ran (subst (λ (r : Result CommandLine ℕ). IsTrue (rests_on_words r)) is rests)
+
+pub rests_on : (words : List (List ℕ)) (command : CommandLine) → command_of words ≡ Ok command → IsTrue (rests_on_words (command_of words)) → IsTrue (does_rest_on_words command.applet)
+rests_on words command is rests = subst (λ (r : Result CommandLine ℕ). IsTrue (rests_on_words r)) is rests
+
+pub usage_verdict : (words : List (List ℕ)) (p q : ℕ) (fault : WordsFault) (verdict : Verdict) → p ≡ q → fault ≡ WrongWord q → IsWordsFault fault (command_of words)
+    → ((files : Files) → shown files verdict ≡ refused files (Usage p)) → (files : Files) → IsOutcome words files (shown files verdict)
+usage_verdict words p q fault verdict same is of is_shown files =
+    let read : command_of words ≡ Err q = subst (λ (f : WordsFault). IsWordsFault f (command_of words)) is of in
+    subst (IsOutcome words files) (sym (is_shown files ∙ ap (λ (n : ℕ). refused files (Usage n)) same)) (usage_over words q files read)
+
+pub told_all : (h : List TreeState) (P : TreeState → Type 0) → ((v : TreeState) → P v) → OnTold h P
+told_all [] P all = tt
+told_all (v ∷ h) P all = all v
+
+-- ---- the outcome and the answer
 
 abbrev pub Judged : Type 0
 Judged = Result Verdict TreeFault
@@ -31,15 +75,11 @@ told_answer words files Leaves tree_failed o OutFault out err is leaves told = (
 told_answer words files Leaves tree_failed o TreeFailed out err is leaves told = absurd told
 told_answer words files Leaves tree_failed o Memory out err is leaves told = absurd told
 
-files_stay : (files : Files) (verdict : Verdict) → files ≡ (shown files verdict).files
-files_stay files (Verified file) = refl
-files_stay files (RefusedBy refusal) = refl
-
 left : (v : TreeState) (rest now : List TreeState) (verdict : Verdict) → now ≡ v ∷ rest → LeavesFiles now (shown (files_of v) verdict)
-left v rest now verdict is none = subst (λ (h : List TreeState). HasNow h (λ w. files_of w ≡ (shown (files_of v) verdict).files)) (sym is) (files_stay (files_of v) verdict)
+left v rest now verdict is none = subst (λ (h : List TreeState). HasNow h (λ w. files_of w ≡ (shown (files_of v) verdict).files)) (sym is) refl
 
 judged_answer : (words : List (List ℕ)) (v : TreeState) (rest now : List TreeState) (tree_failed : Type 0) (judged : Judged) (answer : Answer) (out err : Sinking)
-    → IfOk judged (λ verdict. shown (files_of v) verdict ≡ outcome_of words (files_of v)) → now ≡ v ∷ rest → (IsErrOf judged Disk → tree_failed) → IsShown judged answer out err
+    → IfOk judged (λ verdict. IsOutcome words (files_of v) (shown (files_of v) verdict)) → now ≡ v ∷ rest → (IsErrOf judged Disk → tree_failed) → IsShown judged answer out err
     → IsAnswer words (files_of v) (LeavesFiles now) tree_failed answer out err
 judged_answer words v rest now tree_failed (Ok verdict) answer out err found same disk is_shown =
     told_answer words (files_of v) (LeavesFiles now) tree_failed (shown (files_of v) verdict) answer out err found (left v rest now verdict same) (is_shown (files_of v))
@@ -53,11 +93,11 @@ found_at v rest (Ok verdict) P found = found
 found_at v rest (Err e) P found = found
 
 pub answered : (words : List (List ℕ)) (old now : List TreeState) (tree_failed : Type 0) (judged : Judged) (answer : Answer) (out err : Sinking)
-    → IfOk judged (λ verdict. OnTold old (λ v. shown (files_of v) verdict ≡ outcome_of words (files_of v))) → now ≡ old → (IsErrOf judged Disk → tree_failed) → IsShown judged answer out err
+    → IfOk judged (λ verdict. OnTold old (λ v. IsOutcome words (files_of v) (shown (files_of v) verdict))) → now ≡ old → (IsErrOf judged Disk → tree_failed) → IsShown judged answer out err
     → OnTold old (λ v. IsAnswer words (files_of v) (LeavesFiles now) tree_failed answer out err)
 answered words [] now tree_failed judged answer out err found same disk is_shown = tt
 answered words (v ∷ rest) now tree_failed judged answer out err found same disk is_shown =
-    judged_answer words v rest now tree_failed judged answer out err (found_at v rest judged (λ verdict w. shown (files_of w) verdict ≡ outcome_of words (files_of w)) found) same disk is_shown
+    judged_answer words v rest now tree_failed judged answer out err (found_at v rest judged (λ verdict w. IsOutcome words (files_of w) (shown (files_of w) verdict)) found) same disk is_shown
 
 -- ---- no count rose
 
@@ -82,26 +122,13 @@ completed words (v ∷ rest) now before after answer out err answered = λ fault
 -- ---- for every tree
 
 pub answered_by_words : (words : List (List ℕ)) (judged : Judged) (answer : Answer) (out err : Sinking)
-    → (IsErr (command_of words) → MatchResult judged (λ verdict. (files : Files) → shown files verdict ≡ outcome_of words files) (λ fault. fault ≡ NoMemory)) → IsShown judged answer out err
-    → rests_on_words (command_of words) ≡ true → IsAnswer words no_names LeavesAny ⊥ answer out err
-answered_by_words words (Ok verdict) answer out err usage is_shown rests =
-    told_answer words no_names LeavesAny ⊥ (shown no_names verdict) answer out err (usage rests no_names) tt (is_shown no_names)
-answered_by_words words (Err Disk) answer out err usage is_shown rests = absurd (let e : Disk ≡ NoMemory = usage rests in cc)
-answered_by_words words (Err NoMemory) answer out err usage is_shown rests =
+    → (IsTrue (rests_on_words (command_of words)) → MatchResult judged (λ verdict. (files : Files) → IsOutcome words files (shown files verdict)) (λ fault. fault ≡ NoMemory)) → IsShown judged answer out err
+    → IsTrue (rests_on_words (command_of words)) → IsAnswer words no_names LeavesAny ⊥ answer out err
+answered_by_words words (Ok verdict) answer out err by_words is_shown rests =
+    told_answer words no_names LeavesAny ⊥ (shown no_names verdict) answer out err (by_words rests no_names) tt (is_shown no_names)
+answered_by_words words (Err Disk) answer out err by_words is_shown rests = absurd (let e : Disk ≡ NoMemory = by_words rests in cc)
+answered_by_words words (Err NoMemory) answer out err by_words is_shown rests =
     subst (λ (a : Answer). IsAnswer words no_names LeavesAny ⊥ a out err) (sym is_shown.0) is_shown.1
-
-pub usage_over : (words : List (List ℕ)) (place : ℕ) (fault : CommandFault) → fault ≡ WrongWord place → IsFaultOf (command_of words) fault → refused no_names (Usage place) ≡ outcome_of words no_names
-usage_over words place fault is of = let read : command_of words ≡ Err (Usage place) = subst (IsFaultOf (command_of words)) is of in sym (ap (λ (r : Result Command Refusal). by no_names r (run_of no_names)) read)
-
-pub answered_by_some : (words : List (List ℕ)) (tree_failed : Type 0) (judged : Judged) (answer : Answer) (out err : Sinking)
-    → IfOk judged (λ verdict. (files : Files) × (shown files verdict ≡ outcome_of words files)) → (IsErrOf judged Disk → tree_failed) → IsShown judged answer out err
-    → (files : Files) × IsAnswer words files LeavesAny tree_failed answer out err
-answered_by_some words tree_failed (Ok verdict) answer out err some disk is_shown =
-    (some.0, told_answer words some.0 LeavesAny tree_failed (shown some.0 verdict) answer out err some.1 tt (is_shown some.0))
-answered_by_some words tree_failed (Err Disk) answer out err some disk is_shown =
-    (no_names, subst (λ (a : Answer). IsAnswer words no_names LeavesAny tree_failed a out err) (sym is_shown.0) (disk refl, is_shown.1))
-answered_by_some words tree_failed (Err NoMemory) answer out err some disk is_shown =
-    (no_names, subst (λ (a : Answer). IsAnswer words no_names LeavesAny tree_failed a out err) (sym is_shown.0) is_shown.1)
 
 -- ---- causes
 
@@ -120,8 +147,3 @@ pub caused : (tree_failed : Type 0) (judged : Judged) (answer : Answer) (out err
 caused tree_failed (Ok verdict) answer out err disk is_shown = told_causes tree_failed (shown no_names verdict) answer out err (is_shown no_names)
 caused tree_failed (Err Disk) answer out err disk is_shown = subst (λ (a : Answer). HasCauses a tree_failed out err) (sym is_shown.0) (disk refl, is_shown.1)
 caused tree_failed (Err NoMemory) answer out err disk is_shown = subst (λ (a : Answer). HasCauses a tree_failed out err) (sym is_shown.0) is_shown.1
-
--- ---- printing
-
-pub told_as : (verdict printed : Verdict) (answer : Answer) (out err : Sinking) → verdict ≡ printed → ((files : Files) → IsTold (shown files printed) answer out err) → (files : Files) → IsTold (shown files verdict) answer out err
-told_as verdict printed answer out err is told files = subst (λ (w : Verdict). IsTold (shown files w) answer out err) (sym is) (told files)

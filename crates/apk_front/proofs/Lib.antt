@@ -1,5 +1,5 @@
-pub mod Fronts
 pub mod Counting
-pub mod Lines
 pub mod Judged
 pub mod Unplanned
+pub mod Telling
+pub mod Operands

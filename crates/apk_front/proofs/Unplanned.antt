@@ -5,8 +5,8 @@ use Rattle.base_core.specs.Faults.{Counts, HasCause, Rose}
 use Rattle.base_core.specs.Files.{Files}
 use Rattle.base_core.specs.Tree.{TreeState, files_of}
 use Rattle.apk_front.specs.Answers.{IsAnswer, LeavesFiles, FailedAt, IsUnplanned, IsOutcomeUnlessMemory}
-use Rattle.apk_front.specs.Outcome.{Outcome}
-use Rattle.apk_front.specs.Sinks.{Sinking, KeepsCount}
+use Rattle.outcome.specs.Told.{Outcome}
+use Rattle.base_core.specs.Sink.{Sinking, KeepsCount}
 use Rattle.apk_front.specs.declared.answer.Answer.{Answer}
 use Rattle.apk_front.specs.declared.answer.Answer.TheVariants.{Ok as Good, Refused, TreeFault, OutFault, Memory}
 

@@ -4,12 +4,13 @@ use Rattle.base_core.specs.Calls.{HasNow}
 use Rattle.base_core.specs.Faults.{Counts, HasCause, Rose}
 use Rattle.base_core.specs.Files.{Files}
 use Rattle.base_core.specs.Tree.{TreeState, files_of}
-use Rattle.apk_front.specs.Outcome.{Outcome, IsOutcome}
-use Rattle.apk_front.specs.Sinks.{Sinking, Gets, GetsSome, Failed}
-use Rattle.apk_front.specs.Texts.{tree_line, memory_line}
+use Rattle.outcome.specs.Told.{Outcome}
+use Rattle.outcome.specs.Outcome.{IsOutcome}
+use Rattle.base_core.specs.Sink.{Sinking, Gets, GetsSome, Failed}
+use Rattle.report_core.specs.Texts.{tree_line, memory_line}
 use Rattle.apk_front.specs.declared.answer.Answer.{Answer}
 use Rattle.apk_front.specs.declared.answer.Answer.TheVariants.{Ok, Refused, TreeFault, OutFault, Memory}
-use Rattle.apk_front.specs.declared.answer.Refusal.{Refusal}
+use Rattle.report_core.specs.declared.refusal.Refusal.{Refusal}
 
 -- the answer of an outcome
 abbrev pub answer_by : Option Refusal → Answer

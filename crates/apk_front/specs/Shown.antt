@@ -1,31 +1,27 @@
 -- What the parts of the code hand on.
-use Rattle.std.specs.Prelude.{◌≡◌, ℕ, List, Result, Ok, Err}
+use Rattle.std.specs.Prelude.{◌≡◌, ◌⊎◌, ℕ, Bool, List, [], Option, Some, None, Result, Ok, Err}
+use Rattle.std.specs.List.{list_all}
 use Rattle.base_core.specs.Files.{Files}
+use Rattle.base_core.specs.Sink.{Sinking, Gets, GetsSome, Failed}
 use Rattle.base_core.specs.declared.tree.TreeFault.{TreeFault}
 use Rattle.base_core.specs.declared.tree.TreeFault.TheVariants.{Disk, Memory as NoMemory}
+use Rattle.report_core.specs.Texts.{refusal_line, tree_line, memory_line}
+use Rattle.report_core.specs.declared.refusal.Refusal.{Refusal}
+use Rattle.words_core.specs.Command.{is_file}
+use Rattle.words_core.specs.declared.operands.Operand.{Operand}
+use Rattle.outcome.specs.Told.{Outcome, told}
 use Rattle.apk_front.specs.Answers.{IsStated, IsOutFault, IsFault}
-use Rattle.apk_front.specs.Sinks.{Sinking}
-use Rattle.apk_front.specs.Outcome.{Outcome, refused, reported}
-use Rattle.apk_front.specs.Texts.{verified_line, tree_line, memory_line}
 use Rattle.apk_front.specs.declared.answer.Answer.{Answer}
 use Rattle.apk_front.specs.declared.answer.Answer.TheVariants.{Ok as Good, Refused, TreeFault as TreeFailed, OutFault, Memory}
-use Rattle.apk_front.specs.declared.answer.Refusal.{Refusal}
-use Rattle.apk_front.specs.declared.answer.Refusal.TheVariants.{Usage}
-use Rattle.apk_front.specs.declared.command.Command.{Command}
-use Rattle.apk_front.specs.declared.command.CommandFault.{CommandFault}
-use Rattle.apk_front.specs.declared.command.CommandFault.TheVariants.{Usage as WrongWord, Memory as OutOfMemory}
-use Rattle.apk_front.specs.declared.judge.Verdict.{Verdict}
-use Rattle.apk_front.specs.declared.judge.Verdict.TheVariants.{Verified, Refused as RefusedBy}
+use Rattle.apk_front.specs.declared.verdict.Verdict.{Verdict}
 
--- a fault of the words is that of the definition; want of memory says nothing
-abbrev pub IsFaultOf : Result Command Refusal → CommandFault → Type 0
-IsFaultOf read (WrongWord place) = read ≡ Err (Usage place)
-IsFaultOf read OutOfMemory = Unit {0}
+-- whether each operand names a file
+abbrev pub are_files : List Operand → Bool
+are_files operands = list_all (λ (o : Operand). is_file o.text) operands
 
 -- a verdict as an outcome
 abbrev pub shown : Files → Verdict → Outcome
-shown files (Verified file) = reported files (verified_line file)
-shown files (RefusedBy refusal) = refused files refusal
+shown files verdict = told verdict.refusal verdict.report.items files
 
 -- the answer and the bytes of an outcome, or a sink's fault in its place
 abbrev pub IsTold : Outcome → Answer → Sinking → Sinking → Type 0
@@ -34,6 +30,12 @@ IsTold outcome (Refused refusal) out err = IsStated outcome (Refused refusal) ou
 IsTold outcome OutFault out err = IsOutFault outcome out err
 IsTold outcome TreeFailed out err = ⊥
 IsTold outcome Memory out err = ⊥
+
+-- a refusal told on err, or a fault of it in its place
+abbrev pub IsRefused : Option Refusal → Answer → Sinking → Type 0
+IsRefused None answer err = (answer ≡ Good) × Gets err []
+IsRefused (Some refusal) answer err =
+    ((answer ≡ Refused refusal) × Gets err (refusal_line refusal)) ⊎ ((answer ≡ OutFault) × GetsSome err (refusal_line refusal) × Failed err)
 
 -- what was judged, as the answer and the two sinks show it
 abbrev pub IsShown : Result Verdict TreeFault → Answer → Sinking → Sinking → Type 0

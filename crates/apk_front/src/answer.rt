@@ -1,22 +1,10 @@
 ghost use Rattle.std.specs.Prelude.{◌≡◌};
 ghost use Rattle.apk_front.specs.Answers.{status_of};
 
-use base_core::Cause;
-
-/// Why a command is refused. `place` counts the words of the command line from 1, without the program's name.
-#[derive(Clone, Copy, Debug, PartialEq, Eq)]
-pub enum Refusal {
-    /// The words are outside the grammar (apk(8)): the first wrong word, or the place behind the last where one is
-    /// missing.
-    Usage { place: u32 },
-    /// The file that this word names is absent.
-    FileMissing { place: u32 },
-    /// The file that this word names fails a test of containers (apk-v3(5)).
-    FileBad { place: u32, cause: Cause },
-}
+use report_core::Refusal;
 
 /// What a run answers.
-#[derive(Clone, Copy, Debug, PartialEq, Eq)]
+#[derive(Drop)]
 pub enum Answer {
     /// The command was carried out.
     Ok,

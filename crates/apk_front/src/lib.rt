@@ -1,20 +1,22 @@
 //! The top call of the package keeper: words, a tree of files and two sinks come in, an answer goes out.
 //!
 //! A run is first judged, by the words and the tree, and then shown on the sinks. The contract of `apk` cites
-//! `Command` (what the words ask for), `Outcome` (what a command answers, prints and leaves), `Texts` (the lines) and
-//! `Answers` (how an answer relates to an outcome, and what stands in its place) of `specs/`.
+//! `outcome` (what a command answers, prints and leaves), `words_core` (what the words ask for), and `Answers` of
+//! `specs/` (how an answer relates to an outcome, and what stands in its place).
 #![tactic(auto)]
 
 mod answer;
-mod command;
-mod error;
+mod container;
 mod front;
 mod judge;
-mod parts;
 mod show;
+mod verdict;
+mod verify;
+mod version;
 
-pub use answer::{Answer, Refusal, status};
+pub use answer::{Answer, status};
 pub use front::apk;
+pub use report_core::Refusal;
 
 #[cfg(test)]
 mod tests;

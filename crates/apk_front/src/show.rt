@@ -1,17 +1,14 @@
 // What was judged, shown on the two sinks.
-ghost use Rattle.std.specs.Prelude.{◌≡◌};
-ghost use Rattle.apk_front.specs.Answers.{IsFault, GetsLine};
-ghost use Rattle.apk_front.specs.Outcome.{reported, refused};
-ghost use Rattle.apk_front.specs.Shown.{IsShown, IsTold, shown};
-ghost use Rattle.apk_front.specs.Sinks.{sinking, KeepsCount};
-ghost use Rattle.apk_front.specs.Texts.{verified_line, tree_line, memory_line};
+ghost use Rattle.std.specs.Prelude.{◌≡◌, ◌≢◌, [], OnErr, Err};
 ghost use Rattle.base_core.specs.Files.{Files};
+ghost use Rattle.base_core.specs.Sink.{sinking, Writes, KeepsCount};
+ghost use Rattle.apk_front.specs.Answers.{GetsLine};
+ghost use Rattle.apk_front.specs.Shown.{IsShown, IsTold, IsRefused, shown};
 
-use crate::answer::{Answer, Refusal};
-use crate::error::write_error;
-use crate::judge::Verdict;
-use crate::parts::write_parts;
-use base_core::{Name, Sink, TreeFault, write_all};
+use crate::answer::Answer;
+use crate::verdict::Verdict;
+use base_core::{Sink, SinkFault, TreeFault, write_all};
+use report_core::{Refusal, write_error};
 
 /// Prints what was judged, and answers it.
 pub(crate) fn show<O: Sink, E: Sink>(
@@ -23,56 +20,61 @@ pub(crate) fn show<O: Sink, E: Sink>(
     ensures out_counts { KeepsCount (sinking O.bytes O.counts out.old out.new) }
     ensures err_counts { KeepsCount (sinking E.bytes E.counts err.old err.new) }
 {
-    print(&judged, out, err)
+    match judged {
+        Ok(verdict) => tell(verdict, out, err),
+        Err(fault) => show_fault(fault, out, err),
+    }
 }
 
-fn print<O: Sink, E: Sink>(judged: &Result<Verdict, TreeFault>, out: &mut O, err: &mut E) -> Answer
-    ensures shown { IsShown judged.now result (sinking O.bytes O.counts out.old out.new) (sinking E.bytes E.counts err.old err.new) }
-    ensures out_counts { KeepsCount (sinking O.bytes O.counts out.old out.new) }
+fn show_fault<O: Sink, E: Sink>(fault: TreeFault, _out: &mut O, err: &mut E) -> Answer
+    ensures shown { IsShown (Err fault) result (sinking O.bytes O.counts _out.old _out.new) (sinking E.bytes E.counts err.old err.new) }
+    ensures out_counts { KeepsCount (sinking O.bytes O.counts _out.old _out.new) }
     ensures err_counts { KeepsCount (sinking E.bytes E.counts err.old err.new) }
 {
-    match judged {
-        Ok(verdict) => print_verdict(verdict, out, err),
-        Err(TreeFault::Disk) => {
+    match fault {
+        TreeFault::Disk => {
             fail(b"ERROR: the tree failed\n", err);
             Answer::TreeFault
         }
-        Err(TreeFault::Memory) => {
+        TreeFault::Memory => {
             fail(b"ERROR: out of memory\n", err);
             Answer::Memory
         }
     }
 }
 
-fn print_verdict<O: Sink, E: Sink>(verdict: &Verdict, out: &mut O, err: &mut E) -> Answer
-    ensures told { (files : Files) → IsTold (shown files verdict.now) result (sinking O.bytes O.counts out.old out.new) (sinking E.bytes E.counts err.old err.new) }
+// The report, and the line of the refusal behind it.
+fn tell<O: Sink, E: Sink>(verdict: Verdict, out: &mut O, err: &mut E) -> Answer
+    ensures told { (files : Files) → IsTold (shown files verdict) result (sinking O.bytes O.counts out.old out.new) (sinking E.bytes E.counts err.old err.new) }
     ensures out_counts { KeepsCount (sinking O.bytes O.counts out.old out.new) }
     ensures err_counts { KeepsCount (sinking E.bytes E.counts err.old err.new) }
 {
-    match verdict {
-        Verdict::Verified(file) => report(file, out, err),
-        Verdict::Refused(refusal) => refuse(refusal, out, err),
-    }
-}
-
-fn report<O: Sink, E: Sink>(file: &Name, out: &mut O, _err: &mut E) -> Answer
-    ensures told { (files : Files) → IsTold (reported files (verified_line file.now)) result (sinking O.bytes O.counts out.old out.new) (sinking E.bytes E.counts _err.old _err.new) }
-    ensures out_counts { KeepsCount (sinking O.bytes O.counts out.old out.new) }
-    ensures err_counts { KeepsCount (sinking E.bytes E.counts _err.old _err.new) }
-{
-    match write_parts(&[file.as_bytes(), b": OK\n"], out) {
-        Ok(()) => Answer::Ok,
+    match report(&verdict.report, out) {
+        Ok(()) => refuse(verdict.refusal, err),
         Err(_) => Answer::OutFault,
     }
 }
 
-fn refuse<O: Sink, E: Sink>(refusal: &Refusal, _out: &mut O, err: &mut E) -> Answer
-    ensures told { (files : Files) → IsTold (refused files refusal.now) result (sinking O.bytes O.counts _out.old _out.new) (sinking E.bytes E.counts err.old err.new) }
-    ensures out_counts { KeepsCount (sinking O.bytes O.counts _out.old _out.new) }
-    ensures err_counts { KeepsCount (sinking E.bytes E.counts err.old err.new) }
+// A report; one without bytes never fails.
+fn report<O: Sink>(bytes: &[u8], out: &mut O) -> Result<(), SinkFault>
+    ensures written { Writes bytes.now (sinking O.bytes O.counts out.old out.new) result }
+    ensures some { OnErr result (bytes.now ≢ []) }
 {
-    match write_error(refusal, err) {
-        Ok(()) => Answer::Refused(*refusal),
+    if bytes.is_empty() {
+        return Ok(());
+    }
+    write_all(out, bytes)
+}
+
+fn refuse<E: Sink>(refusal: Option<Refusal>, err: &mut E) -> Answer
+    ensures refused { IsRefused refusal result (sinking E.bytes E.counts err.old err.new) }
+    ensures counts { KeepsCount (sinking E.bytes E.counts err.old err.new) }
+{
+    let Some(refusal) = refusal else {
+        return Answer::Ok;
+    };
+    match write_error(&refusal, err) {
+        Ok(()) => Answer::Refused(refusal),
         Err(_) => Answer::OutFault,
     }
 }

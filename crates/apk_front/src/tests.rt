@@ -36,21 +36,55 @@ enum File {
     Again,
 }
 
+// An answer that these rows give.
+#[derive(Clone, Copy, Debug, PartialEq, Eq)]
+enum Wanted {
+    Done,
+    Usage(u32),
+    Missing(u32),
+    Bad(u32, Cause),
+    NoVersion(u32),
+    TreeFault,
+    OutFault,
+    // What no row gives.
+    Other,
+}
+
+fn kind_of(answer: &Answer) -> Wanted {
+    match answer {
+        Answer::Ok => Wanted::Done,
+        Answer::Refused(refusal) => kind_of_refusal(refusal),
+        Answer::TreeFault => Wanted::TreeFault,
+        Answer::OutFault => Wanted::OutFault,
+        Answer::Memory => Wanted::Other,
+    }
+}
+
+fn kind_of_refusal(refusal: &Refusal) -> Wanted {
+    match refusal {
+        Refusal::Usage { place } => Wanted::Usage(*place),
+        Refusal::FileMissing { place } => Wanted::Missing(*place),
+        Refusal::FileBad { place, cause } => Wanted::Bad(*place, *cause),
+        Refusal::VersionBad { place } => Wanted::NoVersion(*place),
+        _ => Wanted::Other,
+    }
+}
+
 #[derive(Clone, Copy)]
 struct Row {
     file: File,
     words: &'static [&'static [u8]],
-    refusal: Option<Refusal>,
+    answer: Wanted,
     out: &'static [u8],
     err: &'static [u8],
 }
 
-const ROWS: [Row; 24] = [
+const ROWS: [Row; 23] = [
     // a sound package
     Row {
         file: File::Bytes(&PACKAGE),
         words: &[b"verify", b"a.apk"],
-        refusal: None,
+        answer: Wanted::Done,
         out: b"a.apk: OK\n",
         err: b"",
     },
@@ -58,7 +92,7 @@ const ROWS: [Row; 24] = [
     Row {
         file: File::Bytes(&PACKAGE),
         words: &[b"verify", b"./a.apk"],
-        refusal: None,
+        answer: Wanted::Done,
         out: b"a.apk: OK\n",
         err: b"",
     },
@@ -66,10 +100,7 @@ const ROWS: [Row; 24] = [
     Row {
         file: File::Bytes(b""),
         words: &[b"verify", b"a.apk"],
-        refusal: Some(Refusal::FileBad {
-            place: 2,
-            cause: Cause::Truncated { at: 0 },
-        }),
+        answer: Wanted::Bad(2, Cause::Truncated { at: 0 }),
         out: b"",
         err: b"ERROR: word 2: truncated at 0\n",
     },
@@ -77,10 +108,7 @@ const ROWS: [Row; 24] = [
     Row {
         file: File::Bytes(b"ADBd"),
         words: &[b"verify", b"a.apk"],
-        refusal: Some(Refusal::FileBad {
-            place: 2,
-            cause: Cause::Compressed,
-        }),
+        answer: Wanted::Bad(2, Cause::Compressed),
         out: b"",
         err: b"ERROR: word 2: compressed ADB file\n",
     },
@@ -88,10 +116,7 @@ const ROWS: [Row; 24] = [
     Row {
         file: File::Bytes(b"ADB?pckg"),
         words: &[b"verify", b"a.apk"],
-        refusal: Some(Refusal::FileBad {
-            place: 2,
-            cause: Cause::NotAdb,
-        }),
+        answer: Wanted::Bad(2, Cause::NotAdb),
         out: b"",
         err: b"ERROR: word 2: not an ADB file\n",
     },
@@ -99,7 +124,7 @@ const ROWS: [Row; 24] = [
     Row {
         file: File::Cut(44),
         words: &[b"verify", b"a.apk"],
-        refusal: None,
+        answer: Wanted::Done,
         out: b"a.apk: OK\n",
         err: b"",
     },
@@ -107,10 +132,7 @@ const ROWS: [Row; 24] = [
     Row {
         file: File::Cut(43),
         words: &[b"verify", b"a.apk"],
-        refusal: Some(Refusal::FileBad {
-            place: 2,
-            cause: Cause::Truncated { at: 8 },
-        }),
+        answer: Wanted::Bad(2, Cause::Truncated { at: 8 }),
         out: b"",
         err: b"ERROR: word 2: truncated at 8\n",
     },
@@ -118,10 +140,7 @@ const ROWS: [Row; 24] = [
     Row {
         file: File::Cut(8),
         words: &[b"verify", b"a.apk"],
-        refusal: Some(Refusal::FileBad {
-            place: 2,
-            cause: Cause::Truncated { at: 8 },
-        }),
+        answer: Wanted::Bad(2, Cause::Truncated { at: 8 }),
         out: b"",
         err: b"ERROR: word 2: truncated at 8\n",
     },
@@ -129,10 +148,7 @@ const ROWS: [Row; 24] = [
     Row {
         file: File::Patched(8, &[3]),
         words: &[b"verify", b"a.apk"],
-        refusal: Some(Refusal::FileBad {
-            place: 2,
-            cause: Cause::Truncated { at: 8 },
-        }),
+        answer: Wanted::Bad(2, Cause::Truncated { at: 8 }),
         out: b"",
         err: b"ERROR: word 2: truncated at 8\n",
     },
@@ -140,10 +156,7 @@ const ROWS: [Row; 24] = [
     Row {
         file: File::Patched(11, &[0x40]),
         words: &[b"verify", b"a.apk"],
-        refusal: Some(Refusal::FileBad {
-            place: 2,
-            cause: Cause::BlockOrder { at: 8 },
-        }),
+        answer: Wanted::Bad(2, Cause::BlockOrder { at: 8 }),
         out: b"",
         err: b"ERROR: word 2: block out of order at 8\n",
     },
@@ -151,7 +164,7 @@ const ROWS: [Row; 24] = [
     Row {
         file: File::Followed(&SIGNATURE),
         words: &[b"verify", b"a.apk"],
-        refusal: None,
+        answer: Wanted::Done,
         out: b"a.apk: OK\n",
         err: b"",
     },
@@ -159,10 +172,7 @@ const ROWS: [Row; 24] = [
     Row {
         file: File::Again,
         words: &[b"verify", b"a.apk"],
-        refusal: Some(Refusal::FileBad {
-            place: 2,
-            cause: Cause::BlockOrder { at: 56 },
-        }),
+        answer: Wanted::Bad(2, Cause::BlockOrder { at: 56 }),
         out: b"",
         err: b"ERROR: word 2: block out of order at 56\n",
     },
@@ -170,10 +180,7 @@ const ROWS: [Row; 24] = [
     Row {
         file: File::Followed(&[8, 0, 0]),
         words: &[b"verify", b"a.apk"],
-        refusal: Some(Refusal::FileBad {
-            place: 2,
-            cause: Cause::Truncated { at: 48 },
-        }),
+        answer: Wanted::Bad(2, Cause::Truncated { at: 48 }),
         out: b"",
         err: b"ERROR: word 2: truncated at 48\n",
     },
@@ -181,10 +188,7 @@ const ROWS: [Row; 24] = [
     Row {
         file: File::Patched(12, &[1]),
         words: &[b"verify", b"a.apk"],
-        refusal: Some(Refusal::FileBad {
-            place: 2,
-            cause: Cause::CompatVersion,
-        }),
+        answer: Wanted::Bad(2, Cause::CompatVersion),
         out: b"",
         err: b"ERROR: word 2: incompatible version\n",
     },
@@ -192,7 +196,7 @@ const ROWS: [Row; 24] = [
     Row {
         file: File::Patched(12, &ENDS_AT_THE_END),
         words: &[b"verify", b"a.apk"],
-        refusal: None,
+        answer: Wanted::Done,
         out: b"a.apk: OK\n",
         err: b"",
     },
@@ -200,7 +204,7 @@ const ROWS: [Row; 24] = [
     Row {
         file: File::Absent,
         words: &[b"verify", b"a.apk"],
-        refusal: Some(Refusal::FileMissing { place: 2 }),
+        answer: Wanted::Missing(2),
         out: b"",
         err: b"ERROR: word 2: no such file\n",
     },
@@ -208,7 +212,7 @@ const ROWS: [Row; 24] = [
     Row {
         file: File::Absent,
         words: &[],
-        refusal: Some(Refusal::Usage { place: 1 }),
+        answer: Wanted::Usage(1),
         out: b"",
         err: b"ERROR: usage error at word 1\n",
     },
@@ -216,7 +220,7 @@ const ROWS: [Row; 24] = [
     Row {
         file: File::Absent,
         words: &[b"verif"],
-        refusal: Some(Refusal::Usage { place: 1 }),
+        answer: Wanted::Usage(1),
         out: b"",
         err: b"ERROR: usage error at word 1\n",
     },
@@ -224,7 +228,7 @@ const ROWS: [Row; 24] = [
     Row {
         file: File::Absent,
         words: &[b"verify"],
-        refusal: Some(Refusal::Usage { place: 2 }),
+        answer: Wanted::Usage(2),
         out: b"",
         err: b"ERROR: usage error at word 2\n",
     },
@@ -232,7 +236,7 @@ const ROWS: [Row; 24] = [
     Row {
         file: File::Bytes(&PACKAGE),
         words: &[b"verify", b"-t", b"a.apk"],
-        refusal: Some(Refusal::Usage { place: 2 }),
+        answer: Wanted::Usage(2),
         out: b"",
         err: b"ERROR: usage error at word 2\n",
     },
@@ -240,7 +244,7 @@ const ROWS: [Row; 24] = [
     Row {
         file: File::Absent,
         words: &[b"verify", b"-"],
-        refusal: Some(Refusal::FileMissing { place: 2 }),
+        answer: Wanted::Missing(2),
         out: b"",
         err: b"ERROR: word 2: no such file\n",
     },
@@ -248,7 +252,7 @@ const ROWS: [Row; 24] = [
     Row {
         file: File::Bytes(&PACKAGE),
         words: &[b"verify", b"/a.apk"],
-        refusal: Some(Refusal::Usage { place: 2 }),
+        answer: Wanted::Usage(2),
         out: b"",
         err: b"ERROR: usage error at word 2\n",
     },
@@ -256,17 +260,259 @@ const ROWS: [Row; 24] = [
     Row {
         file: File::Bytes(&PACKAGE),
         words: &[b"verify", b"././a.apk"],
-        refusal: Some(Refusal::Usage { place: 2 }),
+        answer: Wanted::Usage(2),
         out: b"",
         err: b"ERROR: usage error at word 2\n",
     },
-    // two operands
+];
+
+// Several files.
+const SEVERAL: [Row; 7] = [
+    // two files
+    Row {
+        file: File::Bytes(&PACKAGE),
+        words: &[b"verify", b"a.apk", b"./a.apk"],
+        answer: Wanted::Done,
+        out: b"a.apk: OK\na.apk: OK\n",
+        err: b"",
+    },
+    // the second file is absent
     Row {
         file: File::Bytes(&PACKAGE),
         words: &[b"verify", b"a.apk", b"b"],
-        refusal: Some(Refusal::Usage { place: 3 }),
+        answer: Wanted::Missing(3),
+        out: b"",
+        err: b"ERROR: word 3: no such file\n",
+    },
+    // the second file is bad
+    Row {
+        file: File::Bytes(b"ADB?pckg"),
+        words: &[b"verify", b"a.apk", b"a.apk"],
+        answer: Wanted::Bad(2, Cause::NotAdb),
+        out: b"",
+        err: b"ERROR: word 2: not an ADB file\n",
+    },
+    // the first that fails is told, and not the first that is absent
+    Row {
+        file: File::Bytes(b"ADB?pckg"),
+        words: &[b"verify", b"a.apk", b"b"],
+        answer: Wanted::Bad(2, Cause::NotAdb),
+        out: b"",
+        err: b"ERROR: word 2: not an ADB file\n",
+    },
+    // a usage error comes before every file
+    Row {
+        file: File::Bytes(&PACKAGE),
+        words: &[b"verify", b"b", b"/c"],
+        answer: Wanted::Usage(3),
         out: b"",
         err: b"ERROR: usage error at word 3\n",
+    },
+    // an option of every applet before the applet
+    Row {
+        file: File::Bytes(&PACKAGE),
+        words: &[b"--allow-untrusted", b"verify", b"b"],
+        answer: Wanted::Missing(3),
+        out: b"",
+        err: b"ERROR: word 3: no such file\n",
+    },
+    // what stands behind `--` is an operand
+    Row {
+        file: File::Bytes(&PACKAGE),
+        words: &[b"verify", b"--", b"-b"],
+        answer: Wanted::Missing(3),
+        out: b"",
+        err: b"ERROR: word 3: no such file\n",
+    },
+];
+
+const VERSION: [Row; 15] = [
+    // a component that begins with 0 is a text
+    Row {
+        file: File::Bytes(&PACKAGE),
+        words: &[b"version", b"-t", b"1.01", b"1.1"],
+        answer: Wanted::Done,
+        out: b"<\n",
+        err: b"",
+    },
+    // a pre-release
+    Row {
+        file: File::Bytes(&PACKAGE),
+        words: &[b"version", b"-t", b"1.0_rc1", b"1.0"],
+        answer: Wanted::Done,
+        out: b"<\n",
+        err: b"",
+    },
+    // a revision
+    Row {
+        file: File::Bytes(&PACKAGE),
+        words: &[b"version", b"-t", b"1.0-r1", b"1.0.1"],
+        answer: Wanted::Done,
+        out: b"<\n",
+        err: b"",
+    },
+    // components are numbers
+    Row {
+        file: File::Bytes(&PACKAGE),
+        words: &[b"version", b"-t", b"1.10", b"1.9"],
+        answer: Wanted::Done,
+        out: b">\n",
+        err: b"",
+    },
+    // a suffix behind the release
+    Row {
+        file: File::Bytes(&PACKAGE),
+        words: &[b"version", b"-t", b"1.0_p1", b"1.0"],
+        answer: Wanted::Done,
+        out: b">\n",
+        err: b"",
+    },
+    // a letter
+    Row {
+        file: File::Bytes(&PACKAGE),
+        words: &[b"version", b"-t", b"1.0a", b"1.0.1"],
+        answer: Wanted::Done,
+        out: b"<\n",
+        err: b"",
+    },
+    // a hash
+    Row {
+        file: File::Bytes(&PACKAGE),
+        words: &[b"version", b"-t", b"1.0~ab", b"1.0-r1"],
+        answer: Wanted::Done,
+        out: b">\n",
+        err: b"",
+    },
+    // the number of a suffix
+    Row {
+        file: File::Bytes(&PACKAGE),
+        words: &[b"version", b"-t", b"1.0_git2", b"1.0_git"],
+        answer: Wanted::Done,
+        out: b">\n",
+        err: b"",
+    },
+    // equal versions with other texts
+    Row {
+        file: File::Bytes(&PACKAGE),
+        words: &[b"version", b"-t", b"01", b"1"],
+        answer: Wanted::Done,
+        out: b"=\n",
+        err: b"",
+    },
+    // eighteen digits
+    Row {
+        file: File::Bytes(&PACKAGE),
+        words: &[b"version", b"-t", b"1.123456789012345678", b"1"],
+        answer: Wanted::Done,
+        out: b">\n",
+        err: b"",
+    },
+    // nineteen digits
+    Row {
+        file: File::Bytes(&PACKAGE),
+        words: &[b"version", b"-t", b"1.1234567890123456789", b"1"],
+        answer: Wanted::NoVersion(3),
+        out: b"",
+        err: b"ERROR: word 3: invalid version\n",
+    },
+    // the second is no version
+    Row {
+        file: File::Bytes(&PACKAGE),
+        words: &[b"version", b"--test", b"1", b"x"],
+        answer: Wanted::NoVersion(4),
+        out: b"",
+        err: b"ERROR: word 4: invalid version\n",
+    },
+    // invalid ones are told, and the first is refused behind them
+    Row {
+        file: File::Bytes(&PACKAGE),
+        words: &[b"version", b"-c", b"1.0", b"abc", b"1.0-r1"],
+        answer: Wanted::NoVersion(4),
+        out: b"abc\n",
+        err: b"ERROR: word 4: invalid version\n",
+    },
+    // two invalid ones, one of them empty
+    Row {
+        file: File::Bytes(&PACKAGE),
+        words: &[b"version", b"--check", b"", b"1", b"x"],
+        answer: Wanted::NoVersion(3),
+        out: b"\nx\n",
+        err: b"ERROR: word 3: invalid version\n",
+    },
+    // only versions
+    Row {
+        file: File::Bytes(&PACKAGE),
+        words: &[b"version", b"-c", b"1", b"2"],
+        answer: Wanted::Done,
+        out: b"",
+        err: b"",
+    },
+];
+
+const USAGE: [Row; 8] = [
+    // neither to compare nor to check
+    Row {
+        file: File::Bytes(&PACKAGE),
+        words: &[b"version", b"1", b"2"],
+        answer: Wanted::Usage(4),
+        out: b"",
+        err: b"ERROR: usage error at word 4\n",
+    },
+    // a version is missing
+    Row {
+        file: File::Bytes(&PACKAGE),
+        words: &[b"version", b"-t", b"1"],
+        answer: Wanted::Usage(4),
+        out: b"",
+        err: b"ERROR: usage error at word 4\n",
+    },
+    // a version too many
+    Row {
+        file: File::Bytes(&PACKAGE),
+        words: &[b"version", b"-t", b"1", b"2", b"3"],
+        answer: Wanted::Usage(5),
+        out: b"",
+        err: b"ERROR: usage error at word 5\n",
+    },
+    // a version too many before the option
+    Row {
+        file: File::Bytes(&PACKAGE),
+        words: &[b"version", b"1", b"2", b"3", b"-t"],
+        answer: Wanted::Usage(4),
+        out: b"",
+        err: b"ERROR: usage error at word 4\n",
+    },
+    // both kinds
+    Row {
+        file: File::Bytes(&PACKAGE),
+        words: &[b"version", b"-t", b"-c", b"1", b"2"],
+        answer: Wanted::Usage(3),
+        out: b"",
+        err: b"ERROR: usage error at word 3\n",
+    },
+    // nothing to check
+    Row {
+        file: File::Bytes(&PACKAGE),
+        words: &[b"version", b"-c"],
+        answer: Wanted::Usage(3),
+        out: b"",
+        err: b"ERROR: usage error at word 3\n",
+    },
+    // an empty word is no applet
+    Row {
+        file: File::Bytes(&PACKAGE),
+        words: &[b""],
+        answer: Wanted::Usage(1),
+        out: b"",
+        err: b"ERROR: usage error at word 1\n",
+    },
+    // an option with a value that it has not
+    Row {
+        file: File::Bytes(&PACKAGE),
+        words: &[b"--allow-untrusted=x", b"verify", b"a.apk"],
+        answer: Wanted::Usage(1),
+        out: b"",
+        err: b"ERROR: usage error at word 1\n",
     },
 ];
 
@@ -328,29 +574,44 @@ fn check(alloc: Global, rt: &impl Abort, row: &Row) -> Result<(), Fail> {
     let mut out = MemorySink::new(alloc);
     let mut err = MemorySink::new(alloc);
     let answer = apk(alloc, &words, &mut tree, &mut out, &mut err);
-    let wanted = match row.refusal {
-        None => Answer::Ok,
-        Some(refusal) => Answer::Refused(refusal),
-    };
-    assert_eq!(rt; answer, wanted);
+    assert_eq!(rt; kind_of(&answer), row.answer);
     assert_eq!(rt; out.bytes(), row.out);
     assert_eq!(rt; err.bytes(), row.err);
     assert_eq!(rt; tree.faults(), 0);
     assert_eq!(rt; tree.wants(), 0);
     assert_eq!(rt; out.wants(), 0);
     assert_eq!(rt; err.wants(), 0);
-    if let Some(Refusal::Usage { .. }) = row.refusal {
+    if matches!(row.answer, Wanted::Usage(_) | Wanted::NoVersion(_)) {
         assert_eq!(rt; tree.calls(), 0);
     }
     Ok(())
 }
 
-#[test]
-fn rows(rt: HostRuntime) -> Result<(), Fail> {
-    for row in &ROWS {
-        check(rt.alloc(), &rt, row)?;
+fn check_all(alloc: Global, rt: &impl Abort, rows: &[Row]) -> Result<(), Fail> {
+    for row in rows {
+        check(alloc, rt, row)?;
     }
     Ok(())
+}
+
+#[test]
+fn one_file(rt: HostRuntime) -> Result<(), Fail> {
+    check_all(rt.alloc(), &rt, &ROWS)
+}
+
+#[test]
+fn several_files(rt: HostRuntime) -> Result<(), Fail> {
+    check_all(rt.alloc(), &rt, &SEVERAL)
+}
+
+#[test]
+fn versions(rt: HostRuntime) -> Result<(), Fail> {
+    check_all(rt.alloc(), &rt, &VERSION)
+}
+
+#[test]
+fn usage_errors(rt: HostRuntime) -> Result<(), Fail> {
+    check_all(rt.alloc(), &rt, &USAGE)
 }
 
 // A file that is cut is sound where only padding is missing.
@@ -361,13 +622,10 @@ fn cuts(rt: HostRuntime) -> Result<(), Fail> {
         let row = Row {
             file: File::Cut(len),
             words: &[b"verify", b"a.apk"],
-            refusal: if len < 44 {
-                Some(Refusal::FileBad {
-                    place: 2,
-                    cause: Cause::Truncated { at },
-                })
+            answer: if len < 44 {
+                Wanted::Bad(2, Cause::Truncated { at })
             } else {
-                None
+                Wanted::Done
             },
             out: if len < 44 { b"" } else { b"a.apk: OK\n" },
             err: if len >= 44 {
@@ -391,18 +649,47 @@ struct Failing {
     call: Option<u64>,
     out_takes: usize,
     err_takes: usize,
-    answer: Answer,
+    answer: Wanted,
     out: &'static [u8],
     err: &'static [u8],
 }
 
-const FAILING: [Failing; 9] = [
+const FAILING: [Failing; 12] = [
+    // The second file of two.
+    Failing {
+        words: &[b"verify", b"a.apk", b"a.apk"],
+        call: Some(3),
+        out_takes: 99,
+        err_takes: 99,
+        answer: Wanted::TreeFault,
+        out: b"",
+        err: b"ERROR: the tree failed\n",
+    },
+    // A report that cannot be printed hides the refusal behind it.
+    Failing {
+        words: &[b"version", b"-c", b"abc"],
+        call: None,
+        out_takes: 3,
+        err_takes: 99,
+        answer: Wanted::OutFault,
+        out: b"abc",
+        err: b"",
+    },
+    Failing {
+        words: &[b"version", b"-c", b"abc"],
+        call: Some(1),
+        out_takes: 4,
+        err_takes: 7,
+        answer: Wanted::OutFault,
+        out: b"abc\n",
+        err: b"ERROR: ",
+    },
     Failing {
         words: &[b"verify", b"a.apk"],
         call: Some(1),
         out_takes: 99,
         err_takes: 99,
-        answer: Answer::TreeFault,
+        answer: Wanted::TreeFault,
         out: b"",
         err: b"ERROR: the tree failed\n",
     },
@@ -411,7 +698,7 @@ const FAILING: [Failing; 9] = [
         call: Some(2),
         out_takes: 99,
         err_takes: 99,
-        answer: Answer::TreeFault,
+        answer: Wanted::TreeFault,
         out: b"",
         err: b"ERROR: the tree failed\n",
     },
@@ -421,7 +708,7 @@ const FAILING: [Failing; 9] = [
         call: Some(2),
         out_takes: 99,
         err_takes: 9,
-        answer: Answer::TreeFault,
+        answer: Wanted::TreeFault,
         out: b"",
         err: b"ERROR: th",
     },
@@ -430,7 +717,7 @@ const FAILING: [Failing; 9] = [
         call: Some(3),
         out_takes: 99,
         err_takes: 99,
-        answer: Answer::Ok,
+        answer: Wanted::Done,
         out: b"a.apk: OK\n",
         err: b"",
     },
@@ -440,7 +727,7 @@ const FAILING: [Failing; 9] = [
         call: Some(1),
         out_takes: 99,
         err_takes: 99,
-        answer: Answer::Refused(Refusal::Usage { place: 2 }),
+        answer: Wanted::Usage(2),
         out: b"",
         err: b"ERROR: usage error at word 2\n",
     },
@@ -449,7 +736,7 @@ const FAILING: [Failing; 9] = [
         call: None,
         out_takes: 9,
         err_takes: 0,
-        answer: Answer::OutFault,
+        answer: Wanted::OutFault,
         out: b"a.apk: OK",
         err: b"",
     },
@@ -459,7 +746,7 @@ const FAILING: [Failing; 9] = [
         call: None,
         out_takes: 10,
         err_takes: 0,
-        answer: Answer::Ok,
+        answer: Wanted::Done,
         out: b"a.apk: OK\n",
         err: b"",
     },
@@ -468,7 +755,7 @@ const FAILING: [Failing; 9] = [
         call: None,
         out_takes: 0,
         err_takes: 99,
-        answer: Answer::Refused(Refusal::FileMissing { place: 2 }),
+        answer: Wanted::Missing(2),
         out: b"",
         err: b"ERROR: word 2: no such file\n",
     },
@@ -477,7 +764,7 @@ const FAILING: [Failing; 9] = [
         call: None,
         out_takes: 0,
         err_takes: 14,
-        answer: Answer::OutFault,
+        answer: Wanted::OutFault,
         out: b"",
         err: b"ERROR: word 2:",
     },
@@ -495,7 +782,7 @@ fn check_failing(alloc: Global, rt: &impl Abort, case: &Failing) -> Result<(), F
     out.fail_after(case.out_takes);
     err.fail_after(case.err_takes);
     let answer = apk(alloc, &words, &mut tree, &mut out, &mut err);
-    assert_eq!(rt; answer, case.answer);
+    assert_eq!(rt; kind_of(&answer), case.answer);
     assert_eq!(rt; out.bytes(), case.out);
     assert_eq!(rt; err.bytes(), case.err);
     Ok(())
@@ -511,7 +798,7 @@ fn failures(rt: HostRuntime) -> Result<(), Fail> {
 
 #[test]
 fn statuses(rt: HostRuntime) {
-    let refused = Answer::Refused(Refusal::Usage { place: 1 });
+    let refused = Answer::Refused(Refusal::Unsatisfied);
     let answers = [
         Answer::Ok,
         refused,

@@ -27,10 +27,14 @@ compared [] = []
 compared (a ∷ []) = []
 compared (a ∷ (b ∷ operands)) = order_line (version_cmp a.text b.text)
 
+-- what is told of a text that is no version
+abbrev pub invalid_line : List ℕ → List ℕ
+invalid_line text = if is_version text then [] else text ++ codes "\n"
+
 -- each operand that is no version, on a line of its own
 abbrev pub invalid_lines : List Operand → List ℕ
 invalid_lines [] = []
-invalid_lines (o ∷ operands) = if is_version o.text then invalid_lines operands else o.text ++ codes "\n" ++ invalid_lines operands
+invalid_lines (o ∷ operands) = invalid_line o.text ++ invalid_lines operands
 
 -- with `--test` the order is told, unless one is no version; with `--check` those that are none are told, and the first is refused behind them
 abbrev pub version : Files → Flags → List Operand → Outcome

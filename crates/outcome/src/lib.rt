@@ -8,5 +8,6 @@
 mod laws;
 
 pub use laws::{
-    a_command_that_reads_leaves_the_files, an_outcome_is_unique, an_outcome_of_words_is_the_same_everywhere,
+    a_command_that_reads_leaves_the_files, an_outcome_is_unique,
+    an_outcome_of_words_is_the_same_everywhere,
 };

@@ -255,35 +255,38 @@ fn path(alloc: Global, bytes: &[u8]) -> Result<Name, Fail> {
     Ok(Name::read(alloc, bytes)?.ok_or("a name")?)
 }
 
+fn missing(alloc: Global) -> Result<Refusal, Fail> {
+    let (name, version) = (text(alloc, b"hello")?, text(alloc, b"1.0-r0")?);
+    Ok(Refusal::PackageMissing { name, version })
+}
+
+fn bad(alloc: Global) -> Result<Refusal, Fail> {
+    let (name, version) = (text(alloc, b"hello")?, text(alloc, b"1.0-r0")?);
+    let cause = Cause::BadText { place: 302 };
+    Ok(Refusal::PackageBad {
+        name,
+        version,
+        cause,
+    })
+}
+
 #[test]
-fn lines_of_packages(rt: HostRuntime) -> Result<(), Fail> {
-    let alloc = rt.alloc();
-    let missing = Refusal::PackageMissing {
-        name: text(alloc, b"hello")?,
-        version: text(alloc, b"1.0-r0")?,
-    };
-    check(
-        alloc,
-        &rt,
-        &missing,
-        b"ERROR: hello-1.0-r0: no such package file\n",
-    )?;
-    let bad = Refusal::PackageBad {
-        name: text(alloc, b"hello")?,
-        version: text(alloc, b"1.0-r0")?,
-        cause: Cause::BadText { place: 302 },
-    };
-    check(alloc, &rt, &bad, b"ERROR: hello-1.0-r0: bad field 302\n")?;
-    let trigger = Refusal::TriggerNeeded {
-        name: text(alloc, b"man")?,
-    };
-    check(
-        alloc,
-        &rt,
-        &trigger,
-        b"ERROR: man: its trigger needs --no-scripts\n",
-    )?;
-    Ok(())
+fn line_of_a_missing_package(rt: HostRuntime) -> Result<(), Fail> {
+    let line = b"ERROR: hello-1.0-r0: no such package file\n";
+    check(rt.alloc(), &rt, &missing(rt.alloc())?, line)
+}
+
+#[test]
+fn line_of_a_bad_package(rt: HostRuntime) -> Result<(), Fail> {
+    let line = b"ERROR: hello-1.0-r0: bad field 302\n";
+    check(rt.alloc(), &rt, &bad(rt.alloc())?, line)
+}
+
+#[test]
+fn line_of_a_trigger(rt: HostRuntime) -> Result<(), Fail> {
+    let name = text(rt.alloc(), b"man")?;
+    let line = b"ERROR: man: its trigger needs --no-scripts\n";
+    check(rt.alloc(), &rt, &Refusal::TriggerNeeded { name }, line)
 }
 
 // An id is told in hexadecimal digits, a name and a version as they are.
@@ -347,27 +350,35 @@ fn lines_of_scripts(rt: HostRuntime) -> Result<(), Fail> {
 }
 
 #[test]
-fn lines_of_paths(rt: HostRuntime) -> Result<(), Fail> {
-    let alloc = rt.alloc();
-    let reserved = Refusal::Reserved {
-        path: path(alloc, b"etc/apk/world")?,
-    };
-    check(
-        alloc,
-        &rt,
-        &reserved,
-        b"ERROR: etc/apk/world: reserved name\n",
-    )?;
-    let clash = Refusal::PathClash {
-        path: path(alloc, b"usr")?,
-        other: path(alloc, b"usr/x")?,
-    };
-    check(alloc, &rt, &clash, b"ERROR: usr: is a folder of usr/x\n")?;
-    let owned = Refusal::Owned {
-        path: path(alloc, b"usr/x")?,
-        first: text(alloc, b"p")?,
-        second: text(alloc, b"q")?,
-    };
-    check(alloc, &rt, &owned, b"ERROR: usr/x: p and q both have it\n")?;
-    Ok(())
+fn line_of_a_reserved_name(rt: HostRuntime) -> Result<(), Fail> {
+    let path = path(rt.alloc(), b"etc/apk/world")?;
+    let line = b"ERROR: etc/apk/world: reserved name\n";
+    check(rt.alloc(), &rt, &Refusal::Reserved { path }, line)
+}
+
+fn clash(alloc: Global) -> Result<Refusal, Fail> {
+    let (path, other) = (path(alloc, b"usr")?, path(alloc, b"usr/x")?);
+    Ok(Refusal::PathClash { path, other })
+}
+
+fn owned(alloc: Global, path: Name) -> Result<Refusal, Fail> {
+    let (first, second) = (text(alloc, b"p")?, text(alloc, b"q")?);
+    Ok(Refusal::Owned {
+        path,
+        first,
+        second,
+    })
+}
+
+#[test]
+fn line_of_a_clash(rt: HostRuntime) -> Result<(), Fail> {
+    let line = b"ERROR: usr: is a folder of usr/x\n";
+    check(rt.alloc(), &rt, &clash(rt.alloc())?, line)
+}
+
+#[test]
+fn line_of_two_owners(rt: HostRuntime) -> Result<(), Fail> {
+    let owned = owned(rt.alloc(), path(rt.alloc(), b"usr/x")?)?;
+    let line = b"ERROR: usr/x: p and q both have it\n";
+    check(rt.alloc(), &rt, &owned, line)
 }

@@ -1,4 +1,4 @@
-use Rattle.apk_front.proofs.Judged.{answered, completed, answered_by_words, answered_by_some, caused}
+use Rattle.apk_front.proofs.Judged.{answered, completed, answered_by_words, caused}
 use Rattle.apk_front.proofs.Unplanned.{ends_unless_memory}
 use Rattle.apk_front.proofs.front.apk.Goals as goal
 
@@ -11,13 +11,10 @@ returns-clause-complete g c =
     (answered _ _ _ _ c.judge-judged.result _ _ _ c.judge-judged.ensures.found c.judge-judged.ensures.same c.judge-judged.ensures.disk c.show.ensures.shown)
 
 pub returns-clause-every_tree : goal.returns-clause-every_tree
-returns-clause-every_tree g c = answered_by_words _ c.judge-judged.result _ _ _ c.judge-judged.ensures.usage c.show.ensures.shown
+returns-clause-every_tree g c = answered_by_words _ c.judge-judged.result _ _ _ c.judge-judged.ensures.by_words c.show.ensures.shown
 
 pub returns-clause-causes : goal.returns-clause-causes
 returns-clause-causes g c = caused _ c.judge-judged.result _ _ _ c.judge-judged.ensures.disk c.show.ensures.shown
-
-pub returns-clause-some_files : goal.returns-clause-some_files
-returns-clause-some_files g c = answered_by_some _ _ c.judge-judged.result _ _ _ c.judge-judged.ensures.some_files c.judge-judged.ensures.disk c.show.ensures.shown
 
 pub returns-clause-unless_memory : goal.returns-clause-unless_memory
 returns-clause-unless_memory g c =

@@ -1,9 +1,11 @@
-use Rattle.std.proofs.Common.{◌≡◌, ℕ, subst, sym}
-use Rattle.apk_front.proofs.Judged.{usage_over}
-use Rattle.base_core.specs.Files.{no_names}
-use Rattle.apk_front.specs.Outcome.{refused, outcome_of}
-use Rattle.apk_front.specs.declared.answer.Refusal.TheVariants.{Usage}
+use Rattle.apk_front.proofs.Judged.{ran_by_words, usage_verdict, told_all}
 use Rattle.apk_front.proofs.judge.judge.Goals as goal
 
-pub returns-in-Err-Usage-clause-some_files : goal.returns-in-Err-Usage-clause-some_files
-returns-in-Err-Usage-clause-some_files g c = (no_names, subst (λ (p : ℕ). refused no_names (Usage p) ≡ outcome_of c.args.words.now no_names) (sym c.in-Err-Usage.place-is) (usage_over _ _ _ c.in-Err-Usage.field-0-is c.in-Err-Usage.ensures.err))
+pub returns-in-Ok-clause-by_words : goal.returns-in-Ok-clause-by_words
+returns-in-Ok-clause-by_words g c = ran_by_words c.args.words.now _ _ c.in-Ok.ensures.ok c.run.ensures.by_words
+
+pub returns-in-Err-Usage-clause-found : goal.returns-in-Err-Usage-clause-found
+returns-in-Err-Usage-clause-found g c = told_all _ _ (λ v. usage_verdict c.args.words.now _ _ _ c.refused.result c.in-Err-Usage.place-is c.in-Err-Usage.field-0-is c.in-Err-Usage.ensures.usage c.refused.ensures _)
+
+pub returns-in-Err-Usage-clause-by_words : goal.returns-in-Err-Usage-clause-by_words
+returns-in-Err-Usage-clause-by_words g c = λ rests. usage_verdict c.args.words.now _ _ _ c.refused.result c.in-Err-Usage.place-is c.in-Err-Usage.field-0-is c.in-Err-Usage.ensures.usage c.refused.ensures

@@ -1,0 +1,50 @@
+-- A report, and the line of a refusal behind it.
+use Rattle.std.proofs.Common.{◌≡◌, ◌≢◌, ◌⊎◌, inl, inr, ℕ, List, [], ◌++◌, Option, Some, None, Err, refl, sym, ap, subst, ◌∙◌, append-nil}
+use Rattle.std.specs.Option.{option_map}
+use Rattle.base_core.specs.Files.{Files}
+use Rattle.base_core.specs.Sink.{Adds, AddsSome, Sinking, Gets, GetsSome, Failed, Writes}
+use Rattle.report_core.specs.Texts.{refusal_line}
+use Rattle.report_core.specs.declared.refusal.Refusal.{Refusal}
+use Rattle.outcome.specs.Told.{Outcome, told, line_of}
+use Rattle.apk_front.specs.Answers.{IsStated, IsOutFault, FailedAt}
+use Rattle.apk_front.specs.Shown.{IsTold, IsRefused}
+use Rattle.apk_front.specs.declared.answer.Answer.{Answer}
+use Rattle.apk_front.specs.declared.answer.Answer.TheVariants.{Ok as Good, Refused, OutFault}
+
+-- all of it
+pub all_some : (old new : Option (List ℕ)) (bytes : List ℕ) → Adds old new bytes → AddsSome old new bytes
+all_some old new bytes h = record { front = bytes; rest = []; whole = sym (append-nil bytes); added = h }
+
+adds_none : (old : Option (List ℕ)) → Adds old old []
+adds_none None = refl
+adds_none (Some x) = ap Some (sym (append-nil x))
+
+-- nothing of it
+pub none_some : (old : Option (List ℕ)) (bytes : List ℕ) → AddsSome old old bytes
+none_some old bytes = record { front = []; rest = bytes; whole = refl; added = adds_none old }
+
+line_some : (refusal : Refusal) → refusal_line refusal ≢ []
+line_some refusal e = cc
+
+-- the report was written
+pub told_behind : (refusal : Option Refusal) (report : List ℕ) (files : Files) (answer : Answer) (out err : Sinking) → Gets out report → IsRefused refusal answer err → IsTold (told refusal report files) answer out err
+told_behind None report files answer out err got told_it = subst (λ (a : Answer). IsTold (told None report files) a out err) (sym told_it.0) (record { same = refl; out_gets = got; err_gets = told_it.1 })
+told_behind (Some refusal) report files answer out err got (inl (is, gets)) =
+    subst (λ (a : Answer). IsTold (told (Some refusal) report files) a out err) (sym is) (record { same = refl; out_gets = got; err_gets = gets })
+told_behind (Some refusal) report files answer out err got (inr (is, gets, failed)) =
+    subst (λ (a : Answer). IsTold (told (Some refusal) report files) a out err) (sym is)
+    (record { cause = inr (record { some = line_some refusal; failed = failed }); out_gets = all_some out.told_before out.told_after report got; err_gets = gets })
+
+-- the report was not written
+pub told_not : (refusal : Option Refusal) (report : List ℕ) (files : Files) (out err : Sinking) → report ≢ [] → GetsSome out report → Failed out → err.told_after ≡ err.told_before → IsTold (told refusal report files) OutFault out err
+told_not refusal report files out err some gets failed same = record {
+  cause = inl (record { some = some; failed = failed });
+  out_gets = gets;
+  err_gets = subst (λ (t : Option (List ℕ)). AddsSome err.told_before t (line_of refusal)) (sym same) (none_some err.told_before (line_of refusal));
+}
+
+pub told_cut : {T E : Type 0} (refusal : Option Refusal) (report bytes : List ℕ) (files : Files) (out err : Sinking) (e : E) → bytes ≡ report → Writes {T = T} bytes out (Err e) → bytes ≢ []
+    → err.told_after ≡ err.told_before → IsOutFault (told refusal report files) out err
+told_cut {T} refusal report bytes files out err e is w some same =
+    let got : Writes {T = T} report out (Err e) = subst (λ (b : List ℕ). Writes {T = T} b out (Err e)) is w in
+    told_not refusal report files out err (λ none. some (is ∙ none)) got.err got.cause.cause same

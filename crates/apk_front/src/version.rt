@@ -1,0 +1,103 @@
+// `version`: two versions are compared, or texts are checked for being versions.
+ghost use Rattle.std.specs.Prelude.{◌≡◌, ◌++◌, length, IsTrue, IfOk, OnOk};
+ghost use Rattle.apk_front.specs.Shown.{shown};
+ghost use Rattle.base_core.specs.Files.{Files};
+ghost use Rattle.outcome.specs.Told.{told, unless};
+ghost use Rattle.outcome.specs.Version.{compared, invalid_line, invalid_lines, order_line, version, version_refusal};
+ghost use Rattle.words_core.specs.Command.{is_version};
+
+use crate::verdict::Verdict;
+use report_core::Refusal;
+use std::alloc::{AllocError, Global};
+use std::cmp::Ordering;
+use version_core::Version;
+use words_core::{Flags, Operands};
+
+/// Compares the two operands, or tells those that are no versions.
+pub(crate) fn version(
+    alloc: Global,
+    flags: Flags,
+    operands: &Operands,
+) -> Result<Verdict, AllocError>
+    requires { IsTrue (is_version flags operands.now) }
+    ensures { IfOk result (λ verdict. (files : Files) → shown files verdict ≡ version files flags operands.now) }
+{
+    if flags.test {
+        compare(alloc, operands)
+    } else {
+        check(alloc, operands)
+    }
+}
+
+// The order of two versions.
+fn compare(alloc: Global, operands: &Operands) -> Result<Verdict, AllocError>
+    requires { length operands.now ≡ 2 }
+    ensures { IfOk result (λ verdict. (files : Files) → shown files verdict ≡ unless files (version_refusal operands.now) (compared operands.now)) }
+{
+    let (first, second) = (operands.get(0), operands.get(1));
+    let Some(version) = Version::read(first.text.as_bytes()) else {
+        let place = first.place;
+        return Ok(Verdict::refused(alloc, Refusal::VersionBad { place }));
+    };
+    let Some(other) = Version::read(second.text.as_bytes()) else {
+        let place = second.place;
+        return Ok(Verdict::refused(alloc, Refusal::VersionBad { place }));
+    };
+    let line = order_line(version.compare(&other));
+    Ok(Verdict::reported(Vec::from_slice(alloc, line)?))
+}
+
+fn order_line(order: Ordering) -> &'static [u8]
+    ensures { result.now ≡ order_line order }
+{
+    match order {
+        Ordering::Less => b"<\n",
+        Ordering::Equal => b"=\n",
+        Ordering::Greater => b">\n",
+    }
+}
+
+// The operands that are no versions, and the refusal of the first of them.
+fn check(alloc: Global, operands: &Operands) -> Result<Verdict, AllocError>
+    ensures { IfOk result (λ verdict. (files : Files) → shown files verdict ≡ told (version_refusal operands.now) (invalid_lines operands.now) files) }
+{
+    let report = lines(alloc, operands)?;
+    let refusal = first_refusal(operands);
+    Ok(Verdict { report, refusal })
+}
+
+// The refusal of the first operand that is no version.
+fn first_refusal(operands: &Operands) -> Option<Refusal>
+    ensures { result ≡ version_refusal operands.now }
+{
+    for i in 0..operands.len() {
+        let operand = operands.get(i);
+        if Version::read(operand.text.as_bytes()).is_none() {
+            let place = operand.place;
+            return Some(Refusal::VersionBad { place });
+        }
+    }
+    None
+}
+
+// A line for each operand that is no version.
+fn lines(alloc: Global, operands: &Operands) -> Result<Vec<u8>, AllocError>
+    ensures { IfOk result (λ report. report.items ≡ invalid_lines operands.now) }
+{
+    let mut report = Vec::new(alloc);
+    for i in 0..operands.len() {
+        add_line(&mut report, operands.get(i).text.as_bytes())?;
+    }
+    Ok(report)
+}
+
+// A line for a text that is no version.
+fn add_line(report: &mut Vec<u8>, text: &[u8]) -> Result<(), AllocError>
+    ensures { OnOk result (report.new.items ≡ report.old.items ++ invalid_line text.now) }
+{
+    if Version::read(text).is_some() {
+        return Ok(());
+    }
+    report.extend_from_slice(text)?;
+    report.extend_from_slice(b"\n")
+}
