@@ -119,6 +119,7 @@ earlier-assoc a b c =
     from_left p (inl (inl k)) = inl k
     from_left p (inl (inr k)) = inr (inl k)
     from_left p (inr k) = inr (inr k)
+
     from_right : (p : Pair) → Either (IsThis a) (Either (IsThis b) (IsThis c)) p → Either (Either (IsThis a) (IsThis b)) (IsThis c) p
     from_right p (inl k) = inl (inl k)
     from_right p (inr (inl k)) = inl (inr k)
@@ -189,11 +190,13 @@ not-gt x y h = ap is_gt (named_total.antisymm x y) ∙ gt-back (named_cmp y x) h
 
 pub rises-from : {X : Type 0} (f : X → Named) (x : X) (xs : List X) → IsSortedBy (λ a b. is_lt (named_cmp (f a) (f b))) (x ∷ xs) → Rises (f x) (map f xs)
 rises-from f x [] h = tt
-rises-from {X} f x (y ∷ ys) h =
-    (not-gt (f x) (f y) (h 0 x (omega arith) (omega arith)), rises-from f y ys (λ k d l m.
-        let e : suc k + 1 ≡ suc (k + 1) = omega arith in
-        let P : ℕ → Type 0 = λ n. is_lt (named_cmp (f (get_or (x ∷ y ∷ ys) n d)) (f (get_or (y ∷ ys) k d))) ≡ false in
-        subst P e (h (suc k) d (omega arith) (omega arith))))
+rises-from {X} f x (y ∷ ys) h = (
+  not-gt (f x) (f y) (h 0 x (omega arith) (omega arith)),
+  rises-from f y ys (λ k d l m.
+      let e : suc k + 1 ≡ suc (k + 1) = omega arith in
+      let P : ℕ → Type 0 = λ n. is_lt (named_cmp (f (get_or (x ∷ y ∷ ys) n d)) (f (get_or (y ∷ ys) k d))) ≡ false in
+      subst P e (h (suc k) d (omega arith) (omega arith))),
+)
 
 rises-in : (x : Named) (xs : List Named) (y : Named) → Rises x xs → IsIn y xs → is_gt (named_cmp x y) ≡ false
 rises-in x [] y h k = absurd k

@@ -56,6 +56,8 @@ pub use text_laws::first_bad_text_is_told;
 pub use walk::{shape, walk_table};
 
 #[cfg(test)]
+mod read_tests;
+#[cfg(test)]
 mod tests;
 #[cfg(test)]
 mod view_tests;

@@ -83,11 +83,7 @@ pub fn schema_word(which: Which) -> Option<u32>
 ///
 /// `Bad` with the cause of the first test that fails, or `Memory`. Every schema is wrong for a table that is no root.
 #[tactic(auto, unfolding(crate::specs::Soundness::first_fault, crate::specs::Soundness::payload_in))]
-pub fn read_adb<'a>(
-    alloc: Global,
-    bytes: &'a [u8],
-    which: Which,
-) -> Result<Checked<'a>, ReadFault>
+pub fn read_adb<'a>(alloc: Global, bytes: &'a [u8], which: Which) -> Result<Checked<'a>, ReadFault>
     ensures bad { IfErr result (λ fault. IsReadFault fault (first_fault which bytes.entry.now)) }
     ensures sound { IfOk result (λ _. first_fault which bytes.entry.now ≡ None) }
     ensures table { IfOk result (λ checked. which_of checked ≡ which) }

@@ -70,11 +70,7 @@ fn in_package(alloc: Global, adb: Adb<'_>, pkg: Val) -> Result<Option<Cause>, Al
 }
 
 /// Names that stand twice in the packages of a database, or in two of them.
-fn in_database(
-    alloc: Global,
-    adb: Adb<'_>,
-    packages: Arr<'_>,
-) -> Result<Option<Cause>, AllocError>
+fn in_database(alloc: Global, adb: Adb<'_>, packages: Arr<'_>) -> Result<Option<Cause>, AllocError>
     requires { are_sound (payload_of adb) (Kinds.Obj Tables.Package) (array_entries packages) ≡ true }
     ensures { IfOk result (λ cause. cause ≡ or_else (inside_fault (plains_at (payload_of adb.entry) (Kinds.Obj Tables.Package) (array_entries packages.entry))) (between_fault (plains_at (payload_of adb.entry) (Kinds.Obj Tables.Package) (array_entries packages.entry)))) }
 {
@@ -181,11 +177,7 @@ fn file_twice_in(alloc: Global, adb: Adb<'_>, folder: Val) -> Result<Option<Pair
 
 /// A folder that stands twice in one of the packages.
 #[tactic(auto, using(crate::proofs::FieldReads::entry_sound))]
-fn folders_twice(
-    alloc: Global,
-    adb: Adb<'_>,
-    packages: Arr<'_>,
-) -> Result<Option<Pair>, AllocError>
+fn folders_twice(alloc: Global, adb: Adb<'_>, packages: Arr<'_>) -> Result<Option<Pair>, AllocError>
     requires { are_sound (payload_of adb) (Kinds.Obj Tables.Package) (array_entries packages) ≡ true }
     ensures { IfOk result (λ pair. pair ≡ folder_twice (plains_at (payload_of adb.entry) (Kinds.Obj Tables.Package) (array_entries packages.entry))) }
 {
@@ -198,11 +190,7 @@ fn folders_twice(
 
 /// A file that stands twice in one of the packages' folders.
 #[tactic(auto, using(crate::proofs::FieldReads::entry_sound))]
-fn files_twice(
-    alloc: Global,
-    adb: Adb<'_>,
-    packages: Arr<'_>,
-) -> Result<Option<Pair>, AllocError>
+fn files_twice(alloc: Global, adb: Adb<'_>, packages: Arr<'_>) -> Result<Option<Pair>, AllocError>
     requires { are_sound (payload_of adb) (Kinds.Obj Tables.Package) (array_entries packages) ≡ true }
     ensures { IfOk result (λ pair. pair ≡ file_twice (plains_at (payload_of adb.entry) (Kinds.Obj Tables.Package) (array_entries packages.entry))) }
 {

@@ -48,7 +48,10 @@ pub(crate) fn object_names<'a>(
 {
     let mut names = Vec::new(alloc);
     for i in 0..objects.len() {
-        add(&mut names, text_field(adb, which, entry_word(objects, i), 0))?;
+        add(
+            &mut names,
+            text_field(adb, which, entry_word(objects, i), 0),
+        )?;
     }
     Ok(names)
 }

@@ -161,5 +161,9 @@ fn byte_at(bytes: &[u8], i: usize) -> Option<u8>
     ensures byte { result ≡ slice_get bytes.now i }
     ensures small { IfSome result (λ _. i < 2 ^ 63) }
 {
-    if i < bytes.len() { Some(bytes[i]) } else { None }
+    if i < bytes.len() {
+        Some(bytes[i])
+    } else {
+        None
+    }
 }
