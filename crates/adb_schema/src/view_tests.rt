@@ -47,7 +47,7 @@ fn sample(alloc: Global, which: Which) -> Result<Vec<u8>, AllocError> {
 }
 
 /// That a list has one entry, this text.
-fn one_text(rt: &impl Abort, list: List<'_, &[u8]>, want: &[u8]) {
+fn one_text<'a>(rt: &impl Abort, list: List<'a, &'a [u8]>, want: &[u8]) {
     assert_eq!(rt; list.len(), 1);
     if list.len() == 1 {
         assert_eq!(rt; list.get(1), want);
@@ -55,7 +55,7 @@ fn one_text(rt: &impl Abort, list: List<'_, &[u8]>, want: &[u8]) {
 }
 
 /// That a list has one dependency, with this name.
-fn one_dependency(rt: &impl Abort, list: List<'_, DepView<'_>>, want: &[u8]) {
+fn one_dependency<'a>(rt: &impl Abort, list: List<'a, DepView<'a>>, want: &[u8]) {
     assert_eq!(rt; list.len(), 1);
     if list.len() == 1 {
         assert_eq!(rt; list.get(1).name(), want);
@@ -76,7 +76,7 @@ fn each_field_of_a_dependency(rt: HostRuntime) -> Result<(), Fail> {
 }
 
 #[test]
-fn each_field_of_rights_a_file_and_a_folder(rt: HostRuntime) -> Result<(), Fail> {
+fn each_field_of_rights(rt: HostRuntime) -> Result<(), Fail> {
     let payload = sample(rt.alloc(), Which::Acl)?;
     let adb = Adb::new(&payload)?;
     shape(adb, Which::Acl)?;
@@ -86,7 +86,11 @@ fn each_field_of_rights_a_file_and_a_folder(rt: HostRuntime) -> Result<(), Fail>
         (1, b"b".as_slice(), b"c".as_slice())
     );
     one_text(&rt, acl.xattrs(), b"d");
+    Ok(())
+}
 
+#[test]
+fn each_field_of_a_file(rt: HostRuntime) -> Result<(), Fail> {
     let payload = sample(rt.alloc(), Which::File)?;
     let adb = Adb::new(&payload)?;
     shape(adb, Which::File)?;
@@ -97,7 +101,11 @@ fn each_field_of_rights_a_file_and_a_folder(rt: HostRuntime) -> Result<(), Fail>
         (file.hashes(), file.target()),
         (b"e".as_slice(), b"f".as_slice())
     );
+    Ok(())
+}
 
+#[test]
+fn each_field_of_a_folder(rt: HostRuntime) -> Result<(), Fail> {
     let payload = sample(rt.alloc(), Which::Dir)?;
     let adb = Adb::new(&payload)?;
     shape(adb, Which::Dir)?;
@@ -150,7 +158,7 @@ fn each_field_of_package_info(rt: HostRuntime) -> Result<(), Fail> {
 }
 
 #[test]
-fn each_field_of_scripts_and_a_package(rt: HostRuntime) -> Result<(), Fail> {
+fn each_field_of_scripts(rt: HostRuntime) -> Result<(), Fail> {
     let payload = sample(rt.alloc(), Which::Scripts)?;
     let adb = Adb::new(&payload)?;
     shape(adb, Which::Scripts)?;
@@ -167,7 +175,11 @@ fn each_field_of_scripts_and_a_package(rt: HostRuntime) -> Result<(), Fail> {
     for (found, want) in texts {
         assert_eq!(rt; found, want);
     }
+    Ok(())
+}
 
+#[test]
+fn each_field_of_a_package(rt: HostRuntime) -> Result<(), Fail> {
     let payload = sample(rt.alloc(), Which::Package)?;
     let adb = Adb::new(&payload)?;
     shape(adb, Which::Package)?;
@@ -185,7 +197,7 @@ fn each_field_of_scripts_and_a_package(rt: HostRuntime) -> Result<(), Fail> {
 }
 
 #[test]
-fn each_field_of_an_index_a_database_and_an_intent(rt: HostRuntime) -> Result<(), Fail> {
+fn each_field_of_an_index(rt: HostRuntime) -> Result<(), Fail> {
     let payload = sample(rt.alloc(), Which::Index)?;
     let adb = Adb::new(&payload)?;
     shape(adb, Which::Index)?;
@@ -199,7 +211,11 @@ fn each_field_of_an_index_a_database_and_an_intent(rt: HostRuntime) -> Result<()
     if packages.len() == 1 {
         assert_eq!(rt; packages.get(1).name(), b"b".as_slice());
     }
+    Ok(())
+}
 
+#[test]
+fn each_field_of_a_database(rt: HostRuntime) -> Result<(), Fail> {
     let payload = sample(rt.alloc(), Which::Idb)?;
     let adb = Adb::new(&payload)?;
     shape(adb, Which::Idb)?;
@@ -210,7 +226,11 @@ fn each_field_of_an_index_a_database_and_an_intent(rt: HostRuntime) -> Result<()
         assert_eq!(rt; packages.get(1).info().name(), b"".as_slice());
         assert_eq!(rt; packages.get(1).paths().len(), 0);
     }
+    Ok(())
+}
 
+#[test]
+fn each_field_of_an_intent(rt: HostRuntime) -> Result<(), Fail> {
     let payload = sample(rt.alloc(), Which::Intent)?;
     let adb = Adb::new(&payload)?;
     shape(adb, Which::Intent)?;

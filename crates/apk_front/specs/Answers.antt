@@ -54,13 +54,17 @@ pub record IsFault (line : List ℕ) (out err : Sinking) : Type 0 where
   pub out_gets : Gets out []
   pub err_gets : GetsLine err line
 
--- The answer to these words over these files: an outcome's answer with its bytes and what it leaves; a fault that had its cause; or want of memory.
+-- The answer of one of these outcomes, with its bytes and what it leaves; a fault that had its cause; or want of memory.
+abbrev pub IsAnswerOf : (Outcome → Type 0) → (Outcome → Type 0) → Type 0 → Answer → Sinking → Sinking → Type 0
+IsAnswerOf IsOne Leaves tree_failed Ok out err = (outcome : Outcome) × IsOne outcome × IsStated outcome Ok out err × Leaves outcome
+IsAnswerOf IsOne Leaves tree_failed (Refused refusal) out err = (outcome : Outcome) × IsOne outcome × IsStated outcome (Refused refusal) out err × Leaves outcome
+IsAnswerOf IsOne Leaves tree_failed OutFault out err = (outcome : Outcome) × IsOne outcome × IsOutFault outcome out err × Leaves outcome
+IsAnswerOf IsOne Leaves tree_failed TreeFault out err = tree_failed × IsFault tree_line out err
+IsAnswerOf IsOne Leaves tree_failed Memory out err = IsFault memory_line out err
+
+-- the answer to these words over these files
 abbrev pub IsAnswer : List (List ℕ) → Files → (Outcome → Type 0) → Type 0 → Answer → Sinking → Sinking → Type 0
-IsAnswer words files Leaves tree_failed Ok out err = (outcome : Outcome) × IsOutcome words files outcome × IsStated outcome Ok out err × Leaves outcome
-IsAnswer words files Leaves tree_failed (Refused refusal) out err = (outcome : Outcome) × IsOutcome words files outcome × IsStated outcome (Refused refusal) out err × Leaves outcome
-IsAnswer words files Leaves tree_failed OutFault out err = (outcome : Outcome) × IsOutcome words files outcome × IsOutFault outcome out err × Leaves outcome
-IsAnswer words files Leaves tree_failed TreeFault out err = tree_failed × IsFault tree_line out err
-IsAnswer words files Leaves tree_failed Memory out err = IsFault memory_line out err
+IsAnswer words files Leaves tree_failed answer out err = IsAnswerOf (IsOutcome words files) Leaves tree_failed answer out err
 
 -- where the outcome is no refusal, the files as read are then its files
 abbrev pub LeavesFiles : List TreeState → Outcome → Type 0

@@ -1,7 +1,7 @@
 ghost use Rattle.std.specs.Prelude.{◌≡◌, IsTrue};
-ghost use Rattle.apk_front.specs.Answers.{IsAnswer, LeavesFiles, LeavesAny, HasCauses, IsFaultless, IsComplete, IsUnplanned, IsOutcomeUnlessMemory};
+ghost use Rattle.apk_front.specs.Answers.{IsAnswer, IsAnswerOf, LeavesFiles, LeavesAny, HasCauses, IsFaultless, IsComplete, IsUnplanned, IsOutcomeUnlessMemory};
 ghost use Rattle.base_core.specs.Sink.{sinking, KeepsCount};
-ghost use Rattle.outcome.specs.Outcome.{IsOutcome};
+ghost use Rattle.outcome.specs.Outcome.{IsFoundOutcome};
 ghost use Rattle.outcome.specs.Reach.{reads_only, rests_on_words};
 ghost use Rattle.words_core.specs.Grammar.{command_of};
 ghost use Rattle.base_core.specs.Calls.{OnTold};
@@ -40,6 +40,11 @@ pub fn apk<T: Tree, O: Sink, E: Sink>(
     // For every tree, also one that tells nothing: where the outcome rests on the words alone it is the answer, and
     // the tree never fails.
     ensures every_tree { IsTrue (rests_on_words (command_of words.now)) → IsAnswer words.now no_names LeavesAny ⊥ result
+        (sinking O.bytes O.counts out.old out.new) (sinking E.bytes E.counts err.old err.new) }
+
+    // For every tree, also one that tells nothing: the answer and the bytes are those by something that was found at
+    // each read, or a fault with its cause or want of memory stands in their place.
+    ensures found { IsAnswerOf (IsFoundOutcome words.now) LeavesAny (HasCause (T.counts tree.old) (T.counts tree.new)) result
         (sinking O.bytes O.counts out.old out.new) (sinking E.bytes E.counts err.old err.new) }
 
     // For every tree and sink: each fault has its cause, a fault of the tree and want of memory print just their line,

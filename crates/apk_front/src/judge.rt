@@ -1,11 +1,11 @@
 // A command line judged: its words are read, and its applet is run.
-ghost use Rattle.std.specs.Prelude.{◌≡◌, IfOk, IsErrOf, IsTrue, MatchResult};
+ghost use Rattle.std.specs.Prelude.{◌≡◌, ℕ, List, Option, IfOk, IsErrOf, IsTrue, MatchResult};
 ghost use Rattle.apk_front.specs.Shown.{shown};
 ghost use Rattle.base_core.specs.Calls.{OnTold};
 ghost use Rattle.base_core.specs.Faults.{GoesOn, HasCause};
-ghost use Rattle.base_core.specs.Files.{Files};
+ghost use Rattle.base_core.specs.Files.{Files, no_names};
 ghost use Rattle.base_core.specs.Tree.{files_of};
-ghost use Rattle.outcome.specs.Outcome.{IsOutcome, run_of};
+ghost use Rattle.outcome.specs.Outcome.{IsOutcome, IsFoundOutcome, run_of, run_by};
 ghost use Rattle.outcome.specs.Reach.{does_rest_on_words, rests_on_words};
 ghost use Rattle.words_core.specs.Grammar.{command_of};
 
@@ -24,6 +24,7 @@ pub(crate) fn judge<T: Tree>(
     tree: &mut T,
 ) -> Result<Verdict, TreeFault>
     ensures found { IfOk result (λ verdict. OnTold (T.history tree.old) (λ v. IsOutcome words.now (files_of v) (shown (files_of v) verdict))) }
+    ensures by_reads { IfOk result (λ verdict. IsFoundOutcome words.now (shown no_names verdict)) }
     ensures by_words { IsTrue (rests_on_words (command_of words.now)) → MatchResult result (λ verdict. (files : Files) → IsOutcome words.now files (shown files verdict)) (λ fault. fault ≡ TreeFault.Memory) }
     ensures untouched { IsTrue (rests_on_words (command_of words.now)) → tree.new ≡ tree.old }
     ensures same { T.history tree.new ≡ T.history tree.old }
@@ -43,6 +44,7 @@ pub(crate) fn judge<T: Tree>(
 // Runs an applet.
 fn run<T: Tree>(alloc: Global, command: &Command, tree: &mut T) -> Result<Verdict, TreeFault>
     ensures found { IfOk result (λ verdict. OnTold (T.history tree.old) (λ v. shown (files_of v) verdict ≡ run_of command.now tt (files_of v))) }
+    ensures by_reads { IfOk result (λ verdict. (found : ℕ → Option (List ℕ)) × (shown no_names verdict ≡ run_by command.now.applet command.now found)) }
     ensures by_words { IsTrue (does_rest_on_words command.now.applet) → MatchResult result (λ verdict. (files : Files) → shown files verdict ≡ run_of command.now tt files) (λ fault. fault ≡ TreeFault.Memory) }
     ensures untouched { IsTrue (does_rest_on_words command.now.applet) → tree.new ≡ tree.old }
     ensures same { T.history tree.new ≡ T.history tree.old }

@@ -4,15 +4,16 @@ ghost use Rattle.std.specs.List.{list_all};
 ghost use Rattle.apk_front.specs.Shown.{shown, are_files};
 ghost use Rattle.base_core.specs.Calls.{OnTold};
 ghost use Rattle.base_core.specs.Faults.{GoesOn, HasCause};
-ghost use Rattle.base_core.specs.Files.{Files};
+ghost use Rattle.base_core.specs.Files.{Files, no_names};
 ghost use Rattle.base_core.specs.Read.{bytes_in};
 ghost use Rattle.base_core.specs.Tree.{files_of};
 ghost use Rattle.outcome.specs.Told.{unless};
-ghost use Rattle.outcome.specs.Verify.{file_refusal, verified_lines, verify, verify_refusal};
+ghost use Rattle.outcome.specs.Verify.{file_refusal, refusal_by, verified_lines, verify, verify_by, verify_refusal};
 ghost use Rattle.words_core.specs.Command.{is_file, without_dot};
 
 use crate::container::test;
 use crate::verdict::Verdict;
+use adb_schema::ReadFault;
 use base_core::{Name, Tree, TreeFault, read_all};
 use report_core::Refusal;
 use std::alloc::{AllocError, Global};
@@ -26,6 +27,7 @@ pub(crate) fn verify<T: Tree>(
 ) -> Result<Verdict, TreeFault>
     requires { IsTrue (are_files operands.now) }
     ensures found { IfOk result (λ verdict. OnTold (T.history tree.old) (λ v. shown (files_of v) verdict ≡ verify (files_of v) operands.now)) }
+    ensures by_reads { IfOk result (λ verdict. (found : ℕ → Option (List ℕ)) × (shown no_names verdict ≡ verify_by found no_names operands.now)) }
     ensures same { T.history tree.new ≡ T.history tree.old }
     ensures goes_on { GoesOn (T.counts tree.old) (T.counts tree.new) }
     ensures disk { IsErrOf result TreeFault.Disk → HasCause (T.counts tree.old) (T.counts tree.new) }
@@ -59,6 +61,7 @@ fn first_refusal<T: Tree>(
 ) -> Result<Option<Refusal>, TreeFault>
     requires { IsTrue (are_files operands.now) }
     ensures found { IfOk result (λ refusal. OnTold (T.history tree.old) (λ v. refusal ≡ verify_refusal (files_of v) operands.now)) }
+    ensures by_reads { IfOk result (λ refusal. (found : ℕ → Option (List ℕ)) × (refusal ≡ refusal_by found 0 operands.now)) }
     ensures same { T.history tree.new ≡ T.history tree.old }
     ensures goes_on { GoesOn (T.counts tree.old) (T.counts tree.new) }
     ensures disk { IsErrOf result TreeFault.Disk → HasCause (T.counts tree.old) (T.counts tree.new) }
@@ -81,6 +84,7 @@ fn test_file<T: Tree>(
 ) -> Result<Option<Refusal>, TreeFault>
     requires { IsTrue (is_file operand.now.text) }
     ensures found { IfOk result (λ refusal. OnTold (T.history tree.old) (λ v. refusal ≡ file_refusal operand.now.place (files_of v (without_dot operand.now.text)))) }
+    ensures by_reads { IfOk result (λ refusal. (found : Option (List ℕ)) × (refusal ≡ file_refusal operand.now.place found)) }
     ensures same { T.history tree.new ≡ T.history tree.old }
     ensures goes_on { GoesOn (T.counts tree.old) (T.counts tree.new) }
     ensures disk { IsErrOf result TreeFault.Disk → HasCause (T.counts tree.old) (T.counts tree.new) }
@@ -91,19 +95,25 @@ fn test_file<T: Tree>(
         return Ok(None);
     };
     let found = read_all(alloc, tree, &file)?;
-    Ok(refusal_of(operand.place, &found))
+    let refusal = refusal_of(alloc, operand.place, &found)?;
+    Ok(refusal)
 }
 
 // The refusal of what was found, if it is no sound container.
-fn refusal_of(place: u32, found: &Option<Vec<u8>>) -> Option<Refusal>
-    ensures { result ≡ file_refusal place (bytes_in found.now) }
+fn refusal_of(
+    alloc: Global,
+    place: u32,
+    found: &Option<Vec<u8>>,
+) -> Result<Option<Refusal>, AllocError>
+    ensures { IfOk result (λ refusal. refusal ≡ file_refusal place (bytes_in found.now)) }
 {
     let Some(bytes) = found else {
-        return Some(Refusal::FileMissing { place });
+        return Ok(Some(Refusal::FileMissing { place }));
     };
-    match test(bytes) {
-        Ok(()) => None,
-        Err(cause) => Some(Refusal::FileBad { place, cause }),
+    match test(alloc, bytes) {
+        Ok(()) => Ok(None),
+        Err(ReadFault::Bad(cause)) => Ok(Some(Refusal::FileBad { place, cause })),
+        Err(ReadFault::Memory) => Err(AllocError),
     }
 }
 

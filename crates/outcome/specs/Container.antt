@@ -1,29 +1,42 @@
--- The tests of a container.
-use Rattle.std.specs.Prelude.{ℕ, List, Option, Some, None, Result, Ok, Err}
+-- The tests of a container, whichever of the four it is.
+use Rattle.std.specs.Prelude.{ℕ, ◌==◌, if◌then◌else◌, List, Option, Some, None, Result, Ok, Err}
 use Rattle.base_core.specs.declared.cause.Cause.{Cause}
+use Rattle.base_core.specs.declared.cause.Cause.TheVariants.{WrongSchema}
 use Rattle.adb_block.specs.Header.{header_of}
 use Rattle.adb_block.specs.Standing.{start_of}
 use Rattle.adb_block.specs.Reading.{Reading, done, fault, more, reading_of}
-use Rattle.adb_view.specs.Head.{head_fault}
+use Rattle.adb_schema.specs.Soundness.{first_fault}
+use Rattle.adb_schema.specs.Walk.{or_else}
+use Rattle.adb_schema.specs.declared.schema.Which.{Which}
+use Rattle.adb_schema.specs.declared.schema.Which.TheVariants.{Package, Index, Idb, Intent}
+use Rattle.adb_schema.specs.declared.read.TheConstants.{PACKAGE_WORD, INDEX_WORD, IDB_WORD, INTENT_WORD}
 
--- the first fault in the framing of the blocks that are left
+-- the table at the root of a container with this schema, if it is one of the four
+unfoldable pub table_of : ℕ → Option Which
+table_of schema =
+    if schema == PACKAGE_WORD then Some Package else
+    if schema == INDEX_WORD then Some Index else
+    if schema == IDB_WORD then Some Idb else
+    if schema == INTENT_WORD then Some Intent else None
+
+-- the first fault in the framing of the blocks
 abbrev pub framing_fault : Reading → Option Cause
 framing_fault done = None
 framing_fault (fault cause) = Some cause
 framing_fault (more block at rest) = framing_fault rest
 
-abbrev pub or_else : Option Cause → Option Cause → Option Cause
-or_else (Some cause) next = Some cause
-or_else None next = next
+-- the contents of a package are framed
+abbrev pub contents_fault : Which → Reading → Option Cause
+contents_fault Package blocks = framing_fault blocks
+contents_fault which blocks = None
 
--- the first block, then the version of its payload, then the other blocks
-abbrev pub blocks_fault : Reading → Option Cause
-blocks_fault done = None
-blocks_fault (fault cause) = Some cause
-blocks_fault (more block at rest) = or_else (head_fault block.payload) (framing_fault rest)
+-- all tests of the table, and of a package the framing of its contents
+abbrev pub table_fault : List ℕ → ℕ → Option Which → Option Cause
+table_fault file schema None = Some (WrongSchema schema)
+table_fault file schema (Some which) = or_else (first_fault which file) (contents_fault which (reading_of (start_of schema file)))
 
 abbrev pub fault_behind : List ℕ → Result ℕ Cause → Option Cause
-fault_behind file (Ok schema) = blocks_fault (reading_of (start_of schema file))
+fault_behind file (Ok schema) = table_fault file schema (table_of schema)
 fault_behind file (Err cause) = Some cause
 
 -- the first test that the bytes of a file fail, if they are no sound container

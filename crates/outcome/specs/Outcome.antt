@@ -1,13 +1,13 @@
 -- What a command line answers, prints and leaves over the files of a tree.
 use Rattle.std.specs.Prelude.{◌≡◌, ℕ, List, Option, Result, Ok, Err}
-use Rattle.base_core.specs.Files.{Files}
+use Rattle.base_core.specs.Files.{Files, no_names}
 use Rattle.report_core.specs.declared.refusal.Refusal.TheVariants.{Usage}
 use Rattle.words_core.specs.Command.{CommandLine}
 use Rattle.words_core.specs.Grammar.{command_of}
 use Rattle.words_core.specs.declared.applet.Applet.{Applet}
 use Rattle.words_core.specs.declared.applet.Applet.TheVariants.{Verify, Version}
 use Rattle.outcome.specs.Told.{Outcome, refused}
-use Rattle.outcome.specs.Verify.{verify}
+use Rattle.outcome.specs.Verify.{verify, verify_by}
 use Rattle.outcome.specs.Version.{version}
 
 -- What a command needs that no function of the words and files tells: nothing yet.
@@ -37,3 +37,18 @@ IsOutcomeOf (Ok command) files outcome = (given : Given) × IsGiven command file
 -- the outcome of a command line over these files
 abbrev pub IsOutcome : List (List ℕ) → Files → Outcome → Type 0
 IsOutcome words files outcome = IsOutcomeOf (command_of words) files outcome
+
+-- ---- over a tree that tells nothing
+
+-- the outcome of an applet by what it finds at each of its reads
+abbrev pub run_by : Applet → CommandLine → (ℕ → Option (List ℕ)) → Outcome
+run_by Verify command found = verify_by found no_names command.operands
+run_by Version command found = version no_names command.flags command.operands
+
+abbrev pub IsFoundOutcomeOf : Result CommandLine ℕ → Outcome → Type 0
+IsFoundOutcomeOf (Err place) outcome = outcome ≡ refused no_names (Usage place)
+IsFoundOutcomeOf (Ok command) outcome = (found : ℕ → Option (List ℕ)) × (outcome ≡ run_by command.applet command found)
+
+-- the outcome of a command line by something that was found at each read; nothing is said of the files
+abbrev pub IsFoundOutcome : List (List ℕ) → Outcome → Type 0
+IsFoundOutcome words outcome = IsFoundOutcomeOf (command_of words) outcome

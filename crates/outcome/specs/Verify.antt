@@ -1,5 +1,5 @@
 -- `verify`: containers are tested.
-use Rattle.std.specs.Prelude.{ℕ, List, [], ◌∷◌, ◌++◌, codes, Option, Some, None}
+use Rattle.std.specs.Prelude.{ℕ, ◌+◌, List, [], ◌∷◌, ◌++◌, codes, Option, Some, None}
 use Rattle.base_core.specs.Files.{Files}
 use Rattle.base_core.specs.declared.cause.Cause.{Cause}
 use Rattle.report_core.specs.declared.refusal.Refusal.{Refusal}
@@ -39,3 +39,13 @@ verified_lines (o ∷ operands) = verified_line (without_dot o.text) ++ verified
 -- a line for each file, unless one is refused
 abbrev pub verify : Files → List Operand → Outcome
 verify files operands = unless files (verify_refusal files operands) (verified_lines operands)
+
+-- ---- by what is found at each read, also over a tree that tells nothing, where that may differ from read to read
+
+-- the first refusal, where the first of the operands is the read with this number, counted from 0
+abbrev pub refusal_by : (ℕ → Option (List ℕ)) → ℕ → List Operand → Option Refusal
+refusal_by found n [] = None
+refusal_by found n (o ∷ operands) = or_later (file_refusal o.place (found n)) (refusal_by found (n + 1) operands)
+
+abbrev pub verify_by : (ℕ → Option (List ℕ)) → Files → List Operand → Outcome
+verify_by found files operands = unless files (refusal_by found 0 operands) (verified_lines operands)

@@ -3,12 +3,12 @@ use Rattle.std.proofs.Common.{◌≡◌, ◌≢◌, ⊎_elim, ℕ, ◌<◌, Bool
 use Rattle.std.specs.Str.{bytes_eq}
 use Rattle.std.proofs.Math.Seq.{take-length, map-set_same}
 use Rattle.std.proofs.lemmas.List.{map-set, set-get_or, get_or-set_same, length-set}
-use Rattle.base_core.specs.Files.{NameMap, put, drop_name, move_name}
-use Rattle.base_core.specs.Tree.{TreeState, File, CanRename, HasName, set_file, change_at, with_names, after_append, after_sync, move_at, after_rename, remove_at, after_remove, after_sync_names}
+use Rattle.base_core.specs.Files.{put, drop_name, move_name}
+use Rattle.base_core.specs.Tree.{TreeState, File, CanRename, HasName, set_file, change_at, after_append, after_sync, move_at, after_rename, remove_at, after_remove, after_sync_names}
 use Rattle.tree_memory.specs.Table.{lookup}
 use Rattle.tree_memory.specs.Changes.{empty_state, step, state_on, earlier_on, contents_of, can_step, is_record}
 use Rattle.tree_memory.specs.Kept.{IsKept, IsStore, HasFolders}
-use Rattle.tree_memory.proofs.AtName.{name_cases, same_name, other_name, off_name, drop_name-at, drop_name-off, put-at, put-off}
+use Rattle.tree_memory.proofs.AtName.{name_cases, off_name, drop_name-off, put-at, put-off}
 use Rattle.tree_memory.proofs.Folders.{folder_like_fewer, folder_like_number, fewer_dropped}
 use Rattle.tree_memory.proofs.Growing.{front_is, Grows, grows_not, grows_set, IsPushed}
 use Rattle.tree_memory.proofs.Keeping.{length-contents, kept_set, folders_with, folders_one, folders_changed, newest_folders, store_pushed, history_pushed, leads_within}
@@ -60,9 +60,9 @@ module _ (name : List ℕ) (n : ℕ) (cs ds : List Change) (es : List Entry) (fi
       grows = subst (Grows (contents_of files)) (sym (set_contents ∙ ap (set (contents_of files) n) grown)) (grows_set (contents_of files) n piece (omega (arith, within, length-contents files)));
       pushed = is;
       can = front_is (contents_of more) n (length s.bytes.items) (record {
-          within = omega (arith, within, length-contents files, ap length set_contents, length-set (contents_of files) n s.bytes.items);
-          fits = omega (arith, ap length stands_there);
-        });
+        within = omega (arith, within, length-contents files, ap length set_contents, length-set (contents_of files) n s.bytes.items);
+        fits = omega (arith, ap length stands_there);
+      });
     }
       where
         stands_there : get_or (contents_of more) n [] ≡ s.bytes.items
@@ -111,11 +111,11 @@ store_same n cs es files more s d store is inside bytes synced at =
     let same_flags = ap (λ (l : List Stored). map (λ (f : Stored). f.synced) l) is ∙ map-set_same (λ (f : Stored). f.synced) files n s d (synced ∙ ap (λ (f : Stored). f.synced) at) in record {
       recorded = ap (λ (l : List (List ℕ)). is_record l empty_state cs) same_bytes ∙ store.recorded;
       kept = subst (λ (v : TreeState). IsKept v es more) (sym (ap (λ (l : List (List ℕ)). state_on l empty_state cs) same_bytes)) (record {
-          names = store.kept.names;
-          made = store.kept.made ∙ sym (ap length is ∙ length-set files n s);
-          bytes = λ k. store.kept.bytes k ∙ sym (ap (λ (l : List (List ℕ)). get_or l k []) same_bytes);
-          synced = λ k. store.kept.synced k ∙ sym (ap (λ (l : List Bool). get_or l k false) same_flags);
-        });
+        names = store.kept.names;
+        made = store.kept.made ∙ sym (ap length is ∙ length-set files n s);
+        bytes = λ k. store.kept.bytes k ∙ sym (ap (λ (l : List (List ℕ)). get_or l k []) same_bytes);
+        synced = λ k. store.kept.synced k ∙ sym (ap (λ (l : List Bool). get_or l k false) same_flags);
+      });
       folders = subst HasFolders (sym (ap (λ (l : List (List ℕ)). state_on l empty_state cs) same_bytes)) store.folders;
     }
 

@@ -1,5 +1,5 @@
 -- What the counts of a tree in memory say of each call.
-use Rattle.std.proofs.Common.{◌≡◌, ◌⊎◌, inl, inr, ⊎_elim, ℕ, ◌-◌, ◌≤◌, ◌||◌, Bool, true, false, cond, eqb, ltb, List, [], ◌∷◌, Option, None, Some, Result, Ok, Err, is_ok, is_some, IsErr, refl, sym, ap, subst, ◌∙◌, arith}
+use Rattle.std.proofs.Common.{◌≡◌, ◌⊎◌, inl, inr, ⊎_elim, ℕ, ◌-◌, ◌||◌, Bool, true, false, cond, eqb, ltb, List, [], ◌∷◌, Option, None, Some, Result, Ok, Err, is_ok, is_some, IsErr, refl, ap, subst, ◌∙◌, arith}
 use Rattle.std.specs.List.{list_any}
 use Rattle.std.specs.Option.{option_map}
 use Rattle.std.proofs.lemmas.Bool.Decides.{nat_tests}
@@ -179,10 +179,10 @@ module _ (can : TreeState → Type 0) (v : TreeState) (earlier : List TreeState)
 
   ended_on : (there : Bool) → IsEnded there mid new → GoesOn (counts_by old) (counts_by new)
   ended_on there end = on old new (record {
-      faults = omega (arith, h.grown.faults, end.grown.faults);
-      misuses = omega (arith, h.grown.misuses, end.grown.misuses);
-      wants = omega (arith, h.grown.wants, end.grown.wants);
-    }) (end.plan ∙ h.plan)
+    faults = omega (arith, h.grown.faults, end.grown.faults);
+    misuses = omega (arith, h.grown.misuses, end.grown.misuses);
+    wants = omega (arith, h.grown.wants, end.grown.wants);
+  }) (end.plan ∙ h.plan)
 
   pub ended_counts : {T E : Type 0} (there : Bool) (r : Result T E) → IsEnded there mid new → is_ok r ≡ there → Counted can (v ∷ earlier) (counts_by old) (counts_by new) r
   ended_counts true (Ok x) end is = let tally = end.tally ∙ free_tally b writes old mid h goes in record {

@@ -15,7 +15,7 @@ use Rattle.std.proofs.lemmas.Cmp.{nat_cmp_total, tied_itself}
 use Rattle.std.proofs.lemmas.Map.Lookups.{exact_bytes, exact_unsigned}
 use Rattle.std.proofs.lemmas.Bool.{cases_lt, cases_eq}
 use Rattle.base_core.specs.Files.{IsFolderOf, IsFolderLike, NameMap, put, drop_name}
-use Rattle.tree_memory.specs.Table.{IsTable, lookup, IsStart, IsFit, IsBelow, HasFolderBut, HasBelowBut}
+use Rattle.tree_memory.specs.Table.{IsTable, lookup, IsStart, IsFit, IsBelow, HasBelowBut}
 use Rattle.tree_memory.proofs.AtName.{name_cases, other_name, off_name, put-at, put-off, drop_name-at, drop_name-off}
 use Rattle.tree_memory.proofs.Placed.{searchable, stands, looked_up}
 use Rattle.tree_memory.specs.declared.table.Entry.{Entry}

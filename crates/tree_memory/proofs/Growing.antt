@@ -1,5 +1,5 @@
 -- A record, one change on, while the files only grow.
-use Rattle.std.proofs.Common.{◌≡◌, ◌≢◌, inl, ⊎_elim, ℕ, ◌+◌, ◌<◌, ◌≤◌, ◌&&◌, Bool, true, false, ltb, leb, List, [], ◌∷◌, ◌++◌, length, set, get_or, take, Option, Some, refl, sym, ap, subst, ◌∙◌, arith, length-append}
+use Rattle.std.proofs.Common.{◌≡◌, ⊎_elim, ℕ, ◌<◌, ◌≤◌, ◌&&◌, Bool, true, false, ltb, leb, List, [], ◌∷◌, ◌++◌, length, set, get_or, take, Some, refl, sym, ap, subst, ◌∙◌, arith, length-append}
 use Rattle.std.proofs.Math.ListN.{get_or-append}
 use Rattle.std.proofs.lemmas.List.{length-set, get_or-set_same, get_or-set_other, take-append-le}
 use Rattle.std.proofs.lemmas.Bool.{cases_eq}
@@ -55,9 +55,9 @@ pub grows_push : (contents : List (List ℕ)) (b : List ℕ) → Grows contents 
 grows_push contents b = record {
   front = λ file len is. ap (take len) (get_or-append contents (b ∷ []) [] file is.within);
   fits = λ file len is. record {
-      within = omega (arith, is.within, length-append contents (b ∷ []));
-      fits = subst (λ (l : List ℕ). len ≤ length l) (sym (get_or-append contents (b ∷ []) [] file is.within)) is.fits;
-    };
+    within = omega (arith, is.within, length-append contents (b ∷ []));
+    fits = subst (λ (l : List ℕ). len ≤ length l) (sym (get_or-append contents (b ∷ []) [] file is.within)) is.fits;
+  };
 }
 
 pub grows_set : (contents : List (List ℕ)) (n : ℕ) (piece : List ℕ) → n < length contents → Grows contents (set contents n (get_or contents n [] ++ piece))

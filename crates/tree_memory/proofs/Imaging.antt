@@ -1,18 +1,17 @@
 -- An image is put together name by name.
-use Rattle.std.proofs.Common.{◌≡◌, ◌≢◌, inl, inr, ⊎_elim, ℕ, zero, suc, ◌+◌, ◌-◌, ◌/◌, ◌%◌, ◌<◌, ◌≤◌, ◌==◌, Bool, true, false, cond, ◌||◌, replicate, List, [], ◌∷◌, ◌++◌, length, reverse, get_or, take, drop, Option, None, Some, IsSome, refl, sym, ap, subst, ◌∙◌, arith, length-take}
+use Rattle.std.proofs.Common.{◌≡◌, ⊎_elim, ℕ, zero, suc, ◌+◌, ◌-◌, ◌/◌, ◌%◌, ◌<◌, ◌≤◌, ◌==◌, Bool, true, false, cond, ◌||◌, replicate, List, [], ◌∷◌, ◌++◌, length, get_or, take, drop, Option, None, Some, IsSome, refl, sym, ap, subst, ◌∙◌, arith, length-take}
 use Rattle.std.proofs.lemmas.List.{take_more, take_all, drop_all, get_or-map, get_or-reverse, length-reverse, get_or-take}
 use Rattle.std.proofs.lemmas.Bool.{cases_eq, eq-eqb, ne_eqb}
 use Rattle.std.specs.Str.{bytes_eq}
 use Rattle.std.specs.Option.{option_map}
-use Rattle.base_core.specs.Crash.{IsImage, IsImageBy, IsCrashOf, MayLeave}
+use Rattle.base_core.specs.Crash.{IsCrashOf, MayLeave}
 use Rattle.base_core.specs.Files.{Files, NameMap, no_names, put, IsFolderLike}
-use Rattle.base_core.specs.Tree.{TreeState, File, IsMapOf, IsWhole, bytes_at, files_of, set_file}
+use Rattle.base_core.specs.Tree.{TreeState, IsMapOf, IsWhole, bytes_at, files_of, set_file}
 use Rattle.std.proofs.lemmas.Nat.{mod_below}
-use Rattle.tree_memory.specs.Changes.{empty_state, after_put, state_on, contents_of, flags_of, is_record}
+use Rattle.tree_memory.specs.Changes.{empty_state, after_put, state_on, is_record}
 use Rattle.tree_memory.specs.Images.{maps_of, newest_first, picked_map, filled, picked, file_of}
-use Rattle.tree_memory.specs.Kept.{IsKept, IsStore, HasFolders, CanPut}
+use Rattle.tree_memory.specs.Kept.{IsKept, CanPut}
 use Rattle.tree_memory.specs.Table.{IsTable, lookup}
-use Rattle.tree_memory.specs.WholeLaw.{whole_state}
 use Rattle.tree_memory.proofs.AtName.{name_cases, off_name, put-at, put-off}
 use Rattle.tree_memory.proofs.Keeping.{read-after_put, stored_bytes}
 use Rattle.tree_memory.proofs.Picking.{among_at}

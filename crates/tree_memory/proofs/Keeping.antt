@@ -1,27 +1,26 @@
 -- What a store keeps stays in step with its record.
-use Rattle.std.proofs.Common.{◌≡◌, ◌≢◌, inl, inr, ⊎_elim, ℕ, ◌+◌, ◌<◌, ◌≤◌, Bool, true, false, cond, List, [], ◌∷◌, ◌++◌, length, get_or, set, take, Option, None, Some, IsSome, is_some, refl, sym, ap, subst, ◌∙◌, arith, length-append}
+use Rattle.std.proofs.Common.{◌≡◌, ◌≢◌, inl, inr, ⊎_elim, ℕ, ◌+◌, ◌<◌, Bool, true, false, cond, List, [], ◌∷◌, ◌++◌, length, get_or, set, take, Option, None, Some, IsSome, refl, sym, ap, subst, ◌∙◌, arith, length-append}
 use Rattle.std.specs.List.{AllPairs, Contains}
 use Rattle.std.specs.Ordering.{nat_cmp}
 use Rattle.std.specs.Cmp.Lexicographic.{slice_cmp}
 use Rattle.std.specs.Str.{bytes_eq}
 use Rattle.std.specs.declared.cmp.Ordering.TheVariants.{Less}
 use Rattle.std.proofs.Math.ListN.{get_or-append}
-use Rattle.std.proofs.Math.Seq.{get_or-append_seam, take-length, map-set_same}
+use Rattle.std.proofs.Math.Seq.{get_or-append_seam, take-length}
 use Rattle.std.proofs.lemmas.List.{get_or-map, get_or_past, length-map, length-set, map-set, get_or-set_same, get_or-set_other}
 use Rattle.std.proofs.lemmas.Bool.{cases_eq, cases_lt, eq-eqb, ne_eqb}
-use Rattle.base_core.specs.Files.{NameMap, IsFolderLike, put, drop_name, move_name}
+use Rattle.base_core.specs.Files.{NameMap, IsFolderLike, put}
 use Rattle.base_core.specs.Listed.{IsNamesOf}
-use Rattle.base_core.specs.Tree.{TreeState, File, IsMapOf, IsWhole, CanCreate, CanRename, HasName, bytes_at, files_of, set_file, change_at, with_names, after_create, after_append, after_sync, move_at, after_rename, remove_at, after_remove, after_sync_names}
+use Rattle.base_core.specs.Tree.{TreeState, File, IsMapOf, IsWhole, CanCreate, bytes_at, files_of, set_file, change_at, with_names, after_create}
 use Rattle.tree_memory.specs.Table.{IsTable, lookup, names_of}
-use Rattle.tree_memory.specs.Changes.{empty_state, after_put, front_of, step, state_on, earlier_on, contents_of, flags_of, can_step}
+use Rattle.tree_memory.specs.Changes.{empty_state, after_put, step, state_on, earlier_on, contents_of, flags_of}
 use Rattle.tree_memory.specs.Kept.{IsKept, IsStore, HasFolders, CanPut}
 use Rattle.tree_memory.specs.WholeLaw.{whole_state}
 use Rattle.tree_memory.proofs.AtName.{name_cases, off_name, put-at, put-off}
-use Rattle.tree_memory.proofs.Folders.{folder_like_fewer, folder_like_number, fewer_dropped}
-use Rattle.tree_memory.proofs.Growing.{IsFront, front_is, Grows, grows_not, grows_push, grows_set, IsPushed, pushed_state, pushed_earlier, pushed_record, pushed_history}
+use Rattle.tree_memory.proofs.Growing.{front_is, Grows, grows_push, IsPushed, pushed_state, pushed_record, pushed_history}
 use Rattle.tree_memory.proofs.Placed.{stands, looked_up}
 use Rattle.tree_memory.specs.declared.changes.Change.{Change}
-use Rattle.tree_memory.specs.declared.changes.Change.TheVariants.{Put, Create, Append, Sync, Rename, Remove, SyncNames, Stay}
+use Rattle.tree_memory.specs.declared.changes.Change.TheVariants.{Put, Create}
 use Rattle.tree_memory.specs.declared.changes.Stored.{Stored}
 use Rattle.tree_memory.specs.declared.table.Entry.{Entry}
 
@@ -149,9 +148,9 @@ module _ (name : List ℕ) (cs ds : List Change) (es fs : List Entry) (files mor
     grows = more_grows name es fs files more s m;
     pushed = is;
     can = front_is (contents_of more) (length files) (length s.bytes.items) (record {
-        within = omega (arith, ap length (more_contents name es fs files more s m), length-append (contents_of files) (s.bytes.items ∷ []), length-contents files);
-        fits = omega (arith, ap length stands_last);
-      });
+      within = omega (arith, ap length (more_contents name es fs files more s m), length-append (contents_of files) (s.bytes.items ∷ []), length-contents files);
+      fits = omega (arith, ap length stands_last);
+    });
   }
     where
       stands_last : get_or (contents_of more) (length files) [] ≡ s.bytes.items
@@ -264,7 +263,6 @@ names_listed names es same table = record { rising = rising; each = λ q. (there
         let e : Entry = record { name = q; file = 0 } in
         let at = stands es q e (subst IsSome (same q) some) in
         (at.0, omega (arith, length-map es (λ (f : Entry). f.name), at.1), get_or-map (λ (f : Entry). f.name) es at.0 e q at.1 ∙ at.2)
-
 
 -- the newest of some states
 abbrev pub newest : List TreeState → TreeState

@@ -2,9 +2,9 @@
 use Rattle.std.proofs.Common.{◌≡◌, ◌⊎◌, inl, inr, ⊎_elim, ℕ, zero, suc, ◌+◌, ◌-◌, ◌<◌, ◌≤◌, Bool, true, false, cond, List, [], ◌∷◌, ◌++◌, length, get_or, take, drop, Option, None, Some, is_some, refl, sym, ap, subst, ◌∙◌, arith, take-append-drop}
 use Rattle.std.proofs.lemmas.List.{drop_more, take_more, take_all}
 use Rattle.std.specs.Str.{bytes_eq}
-use Rattle.base_core.specs.Files.{NameMap, no_names, put, drop_name, move_name}
-use Rattle.base_core.specs.Tree.{TreeState, IsAmong, IsMapOf, with_names, move_at, remove_at, after_rename, after_remove}
-use Rattle.tree_memory.specs.Changes.{empty_state, front_of, step, state_on, can_step, is_record}
+use Rattle.base_core.specs.Files.{NameMap, no_names, put, drop_name}
+use Rattle.base_core.specs.Tree.{TreeState, IsAmong, move_at, remove_at, after_rename, after_remove}
+use Rattle.tree_memory.specs.Changes.{empty_state, step, state_on, can_step, is_record}
 use Rattle.tree_memory.specs.Images.{newest_first, adds_map, maps_on, HasNames}
 use Rattle.tree_memory.specs.Table.{lookup}
 use Rattle.tree_memory.proofs.AtName.{is_name}

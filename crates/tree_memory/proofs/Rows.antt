@@ -1,6 +1,6 @@
 -- The definitions on small trees, worked out by hand.
-use Rattle.std.specs.Prelude.{◌≡◌, ℕ, true, false, List, [], ◌∷◌, Some, None, codes, length, refl}
-use Rattle.base_core.specs.Tree.{TreeState, files_of, after_create, after_append, after_sync, after_rename, after_remove, after_sync_names}
+use Rattle.std.specs.Prelude.{◌≡◌, true, false, [], ◌∷◌, Some, None, codes, length, refl}
+use Rattle.base_core.specs.Tree.{TreeState, after_create, after_append, after_sync, after_rename, after_remove, after_sync_names}
 use Rattle.tree_memory.specs.Changes.{empty_state, after_put}
 use Rattle.tree_memory.specs.Images.{maps_of, picked}
 use Rattle.tree_memory.specs.Plans.{PlanState, is_next, has_more, one_on}

@@ -1,5 +1,5 @@
 -- A table of names: entries, each a name and the number of its file, in the byte order of the names.
-use Rattle.std.specs.Prelude.{◌≡◌, ◌≢◌, ◌⊎◌, ◌↔◌, ℕ, ◌<◌, ◌≤◌, if◌then◌else◌, true, false, List, [], ◌∷◌, ◌++◌, map, Option, Some, None, IsSome, AllPairs, Contains, length}
+use Rattle.std.specs.Prelude.{◌≡◌, ◌≢◌, ◌↔◌, ℕ, ◌<◌, ◌≤◌, if◌then◌else◌, false, List, [], ◌∷◌, ◌++◌, map, Option, Some, None, IsSome, AllPairs, Contains, length}
 use Rattle.std.specs.List.{HoldsAt, AllWithin}
 use Rattle.std.specs.Ordering.{nat_cmp}
 use Rattle.std.specs.Str.{bytes_eq}

@@ -1,11 +1,11 @@
 -- Each state that a tree in memory tells of is whole.
 use Rattle.std.specs.Prelude.{◌≡◌, ℕ, ◌+◌, ◌<◌, ◌≤◌, Bool, true, false, if◌then◌else◌, ◌||◌, List, [], ◌∷◌, Option, Some, None, IsSome, All, refl}
-use Rattle.std.proofs.Common.{inl, inr, sym, ap, subst, ◌∙◌, arith}
+use Rattle.std.proofs.Common.{inl, inr, sym, ap, subst, arith}
 use Rattle.std.specs.Str.{bytes_eq}
 use Rattle.std.specs.List.{list_any}
 use Rattle.std.proofs.lemmas.List.Elements.{All-nil, All-cons}
 use Rattle.base_core.specs.Files.{NameMap, IsWithin, put, drop_name, move_name}
-use Rattle.base_core.specs.Tree.{TreeState, File, IsWhole, IsMapOf, change_at, with_names, after_create, move_at, after_rename, remove_at, after_remove, after_sync_names}
+use Rattle.base_core.specs.Tree.{TreeState, File, IsWhole, IsMapOf, change_at, with_names, after_create, move_at, remove_at, after_sync_names}
 use Rattle.tree_memory.specs.Changes.{empty_state, after_put, step, front_of, state_on, earlier_on, contents_of}
 use Rattle.tree_memory.specs.Memory.{history_of}
 use Rattle.tree_memory.specs.declared.changes.Change.{Change}

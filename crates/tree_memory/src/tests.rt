@@ -166,7 +166,10 @@ fn calls_that_write(rt: HostRuntime) -> Result<(), Fail> {
         assert_eq!(rt; text_of(rt.alloc(), &tree)?.as_slice(), text, "{call:?}");
         assert_eq!(rt; tree.maps(), maps, "{call:?}");
     }
-    assert_eq!(rt; (tree.calls(), tree.writes(), tree.faults(), tree.wants()), (21, 21, 7, 0));
+    assert_eq!(rt;
+        (tree.calls(), tree.writes(), tree.faults(), tree.wants()),
+        (21, 21, 7, 0)
+    );
     Ok(())
 }
 
@@ -191,7 +194,10 @@ fn stopped_calls_change_nothing(rt: HostRuntime) -> Result<(), Fail> {
     assert_eq!(rt; tree.sync_names(), Ok(()));
     assert_eq!(rt; tree.sync_names(), Err(Disk));
     assert_eq!(rt; tree.sync_names(), Ok(()));
-    assert_eq!(rt; (tree.calls(), tree.writes(), tree.faults(), tree.wants()), (9, 7, 5, 0));
+    assert_eq!(rt;
+        (tree.calls(), tree.writes(), tree.faults(), tree.wants()),
+        (9, 7, 5, 0)
+    );
     Ok(())
 }
 
@@ -260,9 +266,15 @@ fn every_image(rt: HostRuntime) -> Result<(), Fail> {
     for (choice, text) in rows.into_iter().enumerate() {
         let image = tree.pick_image(rt.alloc(), choice as u64)?;
         assert_eq!(rt; text_of(rt.alloc(), &image)?.as_slice(), text);
-        assert_eq!(rt; (image.maps(), image.calls(), image.writes(), image.faults()), (1, 0, 0, 0));
+        assert_eq!(rt;
+            (image.maps(), image.calls(), image.writes(), image.faults()),
+            (1, 0, 0, 0)
+        );
     }
-    assert_eq!(rt; text_of(rt.alloc(), &tree)?.as_slice(), b"old=4;".as_slice());
+    assert_eq!(rt;
+        text_of(rt.alloc(), &tree)?.as_slice(),
+        b"old=4;".as_slice()
+    );
     Ok(())
 }
 

@@ -1,4 +1,4 @@
-use Rattle.std.proofs.Common.{List, ℕ, sym, subst, ◌∙◌}
+use Rattle.std.proofs.Common.{List, ℕ, sym, subst}
 use Rattle.tree_memory.specs.Table.{IsFit}
 use Rattle.tree_memory.specs.Stores.{store_state}
 use Rattle.tree_memory.proofs.Folders.{fits_put, put_fits}

@@ -19,9 +19,9 @@ returns c =
     let back = λ (fit : IsFit es c.args.to.now c.args.from.now). subst (λ (but : List ℕ). IsFit es c.as_bytes-3.result.now but) (sym c.as_bytes-4.ensures.value) (subst (λ (name : List ℕ). IsFit es name c.args.from.now) (sym c.as_bytes-3.ensures.value) fit) in
     let off = (λ i. bytes_eq (sym c.as_bytes.ensures.value i) (sym c.as_bytes-2.ensures.value i)) ∙ sym c.eq.ensures ∙ c.if-eq.false in (
       λ t. record {
-          present = c.has.ensures.0 c.if-not-has.false;
-          apart = off_name c.args.from.now c.args.to.now off;
-          folders = fits_moved v.names es kept c.args.from.now c.args.to.now 0 (newest_folders v c.args.self.now.in_step.folders) (there (c.fits.ensures.0 t));
-        },
+        present = c.has.ensures.0 c.if-not-has.false;
+        apart = off_name c.args.from.now c.args.to.now off;
+        folders = fits_moved v.names es kept c.args.from.now c.args.to.now 0 (newest_folders v c.args.self.now.in_step.folders) (there (c.fits.ensures.0 t));
+      },
       λ can. c.fits.ensures.1 (back (moved_fits v.names es kept c.args.from.now c.args.to.now 0 can.folders)),
     )

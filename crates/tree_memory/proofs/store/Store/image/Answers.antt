@@ -1,10 +1,10 @@
-use Rattle.std.proofs.Common.{◌/◌, ◌%◌, ◌∙◌, List, ℕ, ap, arith, rules, subst, sym}
+use Rattle.std.proofs.Common.{◌/◌, ◌%◌, ◌∙◌, ap, arith, subst, sym}
 use Rattle.tree_memory.specs.Changes.{contents_of}
 use Rattle.tree_memory.specs.Images.{filled, picked_map}
 use Rattle.tree_memory.specs.Stores.{store_state}
 use Rattle.tree_memory.specs.Table.{IsTable}
 use Rattle.tree_memory.specs.WholeLaw.{whole_state}
-use Rattle.base_core.specs.Tree.{File, files_of}
+use Rattle.base_core.specs.Tree.{files_of}
 use Rattle.tree_memory.proofs.Imaging.{so_far_none, can_next, so_far_next, number_made, image_files, image_crash, IsPickedMap, picked_from, picked_files, file_at}
 use Rattle.tree_memory.proofs.Keeping.{newest}
 use Rattle.tree_memory.proofs.store.Store.image.Goals as goal

@@ -1,9 +1,8 @@
-use Rattle.std.proofs.Common.{◌↔◌, IsSome, ℕ, List, sym, subst, ap}
+use Rattle.std.proofs.Common.{IsSome, ℕ, List, sym, subst}
 use Rattle.std.proofs.lemmas.Result.{IfOk-weaker}
 use Rattle.base_core.specs.Listed.{IsListOf}
-use Rattle.base_core.specs.Files.{IsFolderOf}
 use Rattle.tree_memory.specs.Stores.{store_state}
-use Rattle.tree_memory.specs.Table.{IsBelow, lookup}
+use Rattle.tree_memory.specs.Table.{IsBelow}
 use Rattle.tree_memory.proofs.store.Store.list.Goals as goal
 
 pub returns : goal.returns

@@ -1,12 +1,10 @@
-use Rattle.std.proofs.Common.{◌≡◌, true, ℕ, List, [], ◌∷◌, ◌++◌, length, ap, ◌∙◌, refl, rules}
+use Rattle.std.proofs.Common.{◌≡◌, true, List, [], ◌∷◌, ◌++◌, length, ap, ◌∙◌, refl, rules}
 use Rattle.base_core.specs.Files.{put}
 use Rattle.tree_memory.specs.Table.{lookup}
-use Rattle.tree_memory.specs.declared.changes.Change.{Change}
 use Rattle.tree_memory.specs.declared.changes.Change.TheVariants.{Put}
 use Rattle.tree_memory.specs.declared.changes.Stored.{Stored}
 use Rattle.tree_memory.proofs.Keeping.{IsMore, store_put, history_put}
 use Rattle.tree_memory.proofs.store.Store.put.Goals as goal
-
 
 pub invariant_of-self-2 : goal.invariant_of-self-2
 invariant_of-self-2 c =

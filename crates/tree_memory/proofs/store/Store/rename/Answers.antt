@@ -1,4 +1,4 @@
-use Rattle.std.proofs.Common.{◌≡◌, ℕ, List, [], ◌∷◌, ◌++◌, ap, sym, refl, ◌∙◌}
+use Rattle.std.proofs.Common.{ℕ, List, [], ◌∷◌, ◌++◌, ap, sym, ◌∙◌}
 use Rattle.base_core.specs.Files.{put, drop_name}
 use Rattle.tree_memory.specs.Table.{lookup}
 use Rattle.tree_memory.specs.declared.changes.Change.TheVariants.{Rename}

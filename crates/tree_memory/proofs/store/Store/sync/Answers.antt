@@ -1,5 +1,4 @@
-use Rattle.std.proofs.Common.{◌≡◌, true, List, [], ◌∷◌, ◌++◌, get_or, set, ap, sym, refl, ◌∙◌, arith}
-use Rattle.tree_memory.specs.Changes.{contents_of}
+use Rattle.std.proofs.Common.{true, [], ◌∷◌, ◌++◌, set, ap, sym, refl, ◌∙◌, arith}
 use Rattle.tree_memory.specs.Table.{lookup}
 use Rattle.tree_memory.specs.declared.changes.Change.TheVariants.{Sync}
 use Rattle.tree_memory.specs.declared.changes.Stored.{Stored}

@@ -1,4 +1,3 @@
-use Rattle.std.proofs.Common.{◌≤◌}
 use Rattle.tree_memory.proofs.Folders.{IsOut}
 use Rattle.tree_memory.proofs.table.NameTable.has_below.Given as goal
 

@@ -1,4 +1,4 @@
-use Rattle.std.proofs.Common.{◌≡◌, false, ℕ, ◌<◌, get_or, List, length, take, IsSome, refl, sym, subst, arith, rules, below_more}
+use Rattle.std.proofs.Common.{◌≡◌, false, ℕ, List, length, take, IsSome, refl, sym, subst, arith, below_more}
 use Rattle.std.specs.Str.{bytes_eq}
 use Rattle.tree_memory.specs.Table.{lookup}
 use Rattle.tree_memory.proofs.Folders.{folder_at, at_folder}
@@ -14,8 +14,8 @@ pub loop-i-preserved : goal.loop-i-preserved
 loop-i-preserved c =
     below_more _ _ c.loop-i.invariant
     (elim c.else-byte-eq47.branch [
-      else-byte-eq47-via-then-byte-eq47+else-has_other w ↦ λ slash some off. let t = w.has_other.ensures.1 (some, off) in cc (t, w.if-has_other.false)
-    | else-byte-eq47-via-else-byte-eq47 w ↦ λ slash some off. absurd (w.if-byte-eq47.false slash)
+      | else-byte-eq47-via-then-byte-eq47+else-has_other w ↦ λ slash some off. let t = w.has_other.ensures.1 (some, off) in cc (t, w.if-has_other.false)
+      | else-byte-eq47-via-else-byte-eq47 w ↦ λ slash some off. absurd (w.if-byte-eq47.false slash)
     ])
 
 pub returns : goal.returns

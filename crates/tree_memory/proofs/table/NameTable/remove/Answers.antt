@@ -1,7 +1,7 @@
-use Rattle.std.proofs.Common.{List, ap, sym, subst, ◌∙◌}
-use Rattle.tree_memory.specs.Table.{IsTable, lookup}
+use Rattle.std.proofs.Common.{List, ap, ◌∙◌}
+use Rattle.tree_memory.specs.Table.{lookup}
 use Rattle.tree_memory.specs.declared.table.Entry.{Entry}
-use Rattle.tree_memory.proofs.Placed.{lookup-remove, lookup_placed, lookup_without, table-remove}
+use Rattle.tree_memory.proofs.Placed.{lookup-remove, lookup_placed, lookup_without}
 use Rattle.tree_memory.proofs.table.NameTable.remove.Goals as goal
 
 pub returns-in-Ok : goal.returns-in-Ok

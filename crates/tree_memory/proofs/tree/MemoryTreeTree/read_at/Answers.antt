@@ -1,4 +1,4 @@
-use Rattle.std.proofs.Common.{length, refl, sym}
+use Rattle.std.proofs.Common.{length, sym}
 use Rattle.base_core.specs.Tree.{CanRead}
 use Rattle.tree_memory.specs.Memory.{state_of, writes_of}
 use Rattle.tree_memory.proofs.Counting.{IsBegun, says, refused_counts, done_counts}

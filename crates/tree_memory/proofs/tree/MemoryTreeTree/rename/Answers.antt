@@ -1,8 +1,8 @@
-use Rattle.std.proofs.Common.{◌∙◌, refl, sym}
+use Rattle.std.proofs.Common.{sym}
 use Rattle.base_core.specs.Faults.{risen}
 use Rattle.base_core.specs.Tree.{CanRename}
 use Rattle.tree_memory.specs.Memory.{state_of, writes_of}
-use Rattle.tree_memory.proofs.Counting.{IsBegun, IsEnded, says, always, refused_counts, ended_counts}
+use Rattle.tree_memory.proofs.Counting.{IsBegun, IsEnded, says, refused_counts, ended_counts}
 use Rattle.tree_memory.proofs.tree.MemoryTreeTree.rename.Goals as goal
 
 pub returns-in_err-begin_write-clause-counts : goal.returns-in_err-begin_write-clause-counts

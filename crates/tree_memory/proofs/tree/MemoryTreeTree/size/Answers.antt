@@ -1,4 +1,4 @@
-use Rattle.std.proofs.Common.{refl, sym}
+use Rattle.std.proofs.Common.{sym}
 use Rattle.base_core.specs.Tree.{Anywhere}
 use Rattle.tree_memory.specs.Memory.{state_of, writes_of}
 use Rattle.tree_memory.proofs.Counting.{IsBegun, always, refused_counts, done_counts}
