@@ -1,6 +1,6 @@
 -- The counts of several calls.
-use Rattle.std.proofs.Common.{◌≡◌, ◌∙◌, ◌≤◌, ◌⊎◌, inl, inr, ℕ, ◌+◌, ◌-◌, ◌^◌, min, Result, Ok, Err, arith}
-use Rattle.base_core.specs.Faults.{Counts, GoesOn, HasCause, FailsWithCause, Rose, risen}
+use Rattle.std.proofs.Common.{◌≡◌, ◌∙◌, ◌≤◌, inl, inr, ℕ, Err, arith}
+use Rattle.base_core.specs.Faults.{Counts, GoesOn, HasCause, FailsWithCause, Rose}
 
 pub goes_on_twice : (a b c : Counts) → GoesOn a b → GoesOn b c → GoesOn a c
 goes_on_twice a b c h k = record {
@@ -26,3 +26,6 @@ cause_later a b c h k = record {
 -- a call that fails, behind calls that did not
 pub fails_after : {T E : Type 0} (a b c : Counts) (e : E) → GoesOn a b → b.misuses ≡ a.misuses → FailsWithCause {T = T} b c (Err e) → FailsWithCause {T = T} a c (Err e)
 fails_after a b c e h same k = record { goes_on = goes_on_twice a b c h k.goes_on; cause = cause_later a b c h k.cause; kept = tt; proper = k.proper ∙ same }
+
+pub goes_on_same : (a : Counts) → GoesOn a a
+goes_on_same a = record { faults = omega arith; misuses = omega arith; wants = omega arith; fallible = λ now. now }

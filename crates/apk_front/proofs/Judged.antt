@@ -1,5 +1,5 @@
 -- What was judged and shown is the answer.
-use Rattle.std.proofs.Common.{◌≡◌, ◌⊎◌, inl, inr, ℕ, List, [], ◌∷◌, Option, Some, None, Result, Ok, Err, IfOk, IsErrOf, IsTrue, MatchResult, refl, sym, ap, subst, ◌∙◌}
+use Rattle.std.proofs.Common.{◌≡◌, ◌⊎◌, inl, inr, ℕ, List, [], ◌∷◌, Option, None, Result, Ok, Err, IfOk, IsErrOf, IsTrue, MatchResult, refl, sym, ap, subst, ◌∙◌}
 use Rattle.base_core.specs.Calls.{OnTold, HasNow}
 use Rattle.base_core.specs.Faults.{Counts, HasCause}
 use Rattle.base_core.specs.Files.{Files, no_names}
@@ -7,7 +7,6 @@ use Rattle.base_core.specs.Sink.{Sinking, Failed}
 use Rattle.base_core.specs.Tree.{TreeState, files_of}
 use Rattle.base_core.specs.declared.tree.TreeFault.{TreeFault}
 use Rattle.base_core.specs.declared.tree.TreeFault.TheVariants.{Disk, Memory as NoMemory}
-use Rattle.report_core.specs.declared.refusal.Refusal.{Refusal}
 use Rattle.report_core.specs.declared.refusal.Refusal.TheVariants.{Usage}
 use Rattle.words_core.specs.Command.{CommandLine}
 use Rattle.words_core.specs.Faults.{IsWordsFault}
@@ -16,10 +15,13 @@ use Rattle.words_core.specs.declared.read.WordsFault.{WordsFault}
 use Rattle.words_core.specs.declared.read.WordsFault.TheVariants.{Usage as WrongWord}
 use Rattle.words_core.specs.declared.applet.Applet.{Applet}
 use Rattle.words_core.specs.declared.applet.Applet.TheVariants.{Verify, Version}
+use Rattle.words_core.specs.declared.flags.Flags.{Flags}
+use Rattle.words_core.specs.declared.operands.Operand.{Operand}
 use Rattle.outcome.specs.Told.{Outcome, refused}
-use Rattle.outcome.specs.Outcome.{IsOutcome, IsOutcomeOf, IsGivenTo, run_of}
+use Rattle.outcome.specs.Version.{version}
+use Rattle.outcome.specs.Outcome.{IsFoundOutcome, IsFoundOutcomeOf, IsOutcome, IsOutcomeOf, IsGivenTo, run_by, run_of}
 use Rattle.outcome.specs.Reach.{rests_on_words, does_rest_on_words}
-use Rattle.apk_front.specs.Answers.{IsAnswer, LeavesFiles, LeavesAny, HasCauses, IsFaultless, IsComplete, FailedAt}
+use Rattle.apk_front.specs.Answers.{IsAnswer, IsAnswerOf, LeavesFiles, LeavesAny, HasCauses, IsFaultless, IsComplete, FailedAt}
 use Rattle.apk_front.specs.Shown.{shown, IsTold, IsShown}
 use Rattle.apk_front.specs.declared.answer.Answer.{Answer}
 use Rattle.apk_front.specs.declared.answer.Answer.TheVariants.{Ok as Good, Refused, TreeFault as TreeFailed, OutFault, Memory}
@@ -68,12 +70,15 @@ told_all (v ∷ h) P all = all v
 abbrev pub Judged : Type 0
 Judged = Result Verdict TreeFault
 
+told_one : (IsOne Leaves : Outcome → Type 0) (tree_failed : Type 0) (o : Outcome) (answer : Answer) (out err : Sinking) → IsOne o → Leaves o → IsTold o answer out err → IsAnswerOf IsOne Leaves tree_failed answer out err
+told_one IsOne Leaves tree_failed o Good out err is leaves told = (o, is, told, leaves)
+told_one IsOne Leaves tree_failed o (Refused refusal) out err is leaves told = (o, is, told, leaves)
+told_one IsOne Leaves tree_failed o OutFault out err is leaves told = (o, is, told, leaves)
+told_one IsOne Leaves tree_failed o TreeFailed out err is leaves told = absurd told
+told_one IsOne Leaves tree_failed o Memory out err is leaves told = absurd told
+
 told_answer : (words : List (List ℕ)) (files : Files) (Leaves : Outcome → Type 0) (tree_failed : Type 0) (o : Outcome) (answer : Answer) (out err : Sinking) → IsOutcome words files o → Leaves o → IsTold o answer out err → IsAnswer words files Leaves tree_failed answer out err
-told_answer words files Leaves tree_failed o Good out err is leaves told = (o, is, told, leaves)
-told_answer words files Leaves tree_failed o (Refused refusal) out err is leaves told = (o, is, told, leaves)
-told_answer words files Leaves tree_failed o OutFault out err is leaves told = (o, is, told, leaves)
-told_answer words files Leaves tree_failed o TreeFailed out err is leaves told = absurd told
-told_answer words files Leaves tree_failed o Memory out err is leaves told = absurd told
+told_answer words files Leaves tree_failed o answer out err is leaves told = told_one (IsOutcome words files) Leaves tree_failed o answer out err is leaves told
 
 left : (v : TreeState) (rest now : List TreeState) (verdict : Verdict) → now ≡ v ∷ rest → LeavesFiles now (shown (files_of v) verdict)
 left v rest now verdict is none = subst (λ (h : List TreeState). HasNow h (λ w. files_of w ≡ (shown (files_of v) verdict).files)) (sym is) refl
@@ -129,6 +134,39 @@ answered_by_words words (Ok verdict) answer out err by_words is_shown rests =
 answered_by_words words (Err Disk) answer out err by_words is_shown rests = absurd (let e : Disk ≡ NoMemory = by_words rests in cc)
 answered_by_words words (Err NoMemory) answer out err by_words is_shown rests =
     subst (λ (a : Answer). IsAnswer words no_names LeavesAny ⊥ a out err) (sym is_shown.0) is_shown.1
+
+-- ---- by what was found
+
+pub usage_found : (words : List (List ℕ)) (p q : ℕ) (fault : WordsFault) (verdict : Verdict) → p ≡ q → fault ≡ WrongWord q → IsWordsFault fault (command_of words)
+    → ((files : Files) → shown files verdict ≡ refused files (Usage p)) → IsFoundOutcome words (shown no_names verdict)
+usage_found words p q fault verdict same is of is_shown =
+    let read : command_of words ≡ Err q = subst (λ (f : WordsFault). IsWordsFault f (command_of words)) is of in
+    subst (λ (r : Result CommandLine ℕ). IsFoundOutcomeOf r (shown no_names verdict)) (sym read) (is_shown no_names ∙ ap (λ (n : ℕ). refused no_names (Usage n)) same)
+
+pub ran_by_reads : (words : List (List ℕ)) (command : CommandLine) (judged : Judged) → command_of words ≡ Ok command
+    → IfOk judged (λ verdict. (found : ℕ → Option (List ℕ)) × (shown no_names verdict ≡ run_by command.applet command found))
+    → IfOk judged (λ verdict. IsFoundOutcome words (shown no_names verdict))
+ran_by_reads words command (Ok verdict) is ran = subst (λ (r : Result CommandLine ℕ). IsFoundOutcomeOf r (shown no_names verdict)) (sym is) ran
+ran_by_reads words command (Err fault) is ran = tt
+
+pub ran_version : (command : CommandLine) (applet : Applet) (flags : Flags) (operands : List Operand) (verdict : Verdict) → applet ≡ command.applet → applet ≡ Version → flags ≡ command.flags → operands ≡ command.operands
+    → ((files : Files) → shown files verdict ≡ version files flags operands) → (found : ℕ → Option (List ℕ)) × (shown no_names verdict ≡ run_by command.applet command found)
+ran_version command applet flags operands verdict same is flags_same operands_same told =
+    let nothing : ℕ → Option (List ℕ) = λ k. None in (
+      nothing,
+      told no_names ∙ ap (λ (f : Flags). version no_names f operands) flags_same ∙ ap (λ (o : List Operand). version no_names command.flags o) operands_same
+          ∙ sym (ap (λ (a : Applet). run_by a command nothing) (sym same ∙ is)),
+    )
+
+pub answered_by_reads : (words : List (List ℕ)) (tree_failed : Type 0) (judged : Judged) (answer : Answer) (out err : Sinking)
+    → IfOk judged (λ verdict. IsFoundOutcome words (shown no_names verdict)) → (IsErrOf judged Disk → tree_failed) → IsShown judged answer out err
+    → IsAnswerOf (IsFoundOutcome words) LeavesAny tree_failed answer out err
+answered_by_reads words tree_failed (Ok verdict) answer out err found disk is_shown =
+    told_one (IsFoundOutcome words) LeavesAny tree_failed (shown no_names verdict) answer out err found tt (is_shown no_names)
+answered_by_reads words tree_failed (Err Disk) answer out err found disk is_shown =
+    subst (λ (a : Answer). IsAnswerOf (IsFoundOutcome words) LeavesAny tree_failed a out err) (sym is_shown.0) (disk refl, is_shown.1)
+answered_by_reads words tree_failed (Err NoMemory) answer out err found disk is_shown =
+    subst (λ (a : Answer). IsAnswerOf (IsFoundOutcome words) LeavesAny tree_failed a out err) (sym is_shown.0) is_shown.1
 
 -- ---- causes
 

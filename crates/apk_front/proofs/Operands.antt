@@ -1,15 +1,16 @@
 -- Operands one by one.
-use Rattle.std.proofs.Common.{◌≡◌, ℕ, zero, suc, ◌+◌, Bool, true, false, ◌&&◌, if◌then◌else◌, List, [], ◌∷◌, ◌++◌, length, drop, codes, Option, Some, None, is_some, IsTrue, refl, sym, ◌∙◌, ap, subst, arith, append_assoc}
-use Rattle.std.specs.List.{slice_get, list_all}
+use Rattle.std.proofs.Common.{◌≡◌, ℕ, zero, suc, ◌+◌, ◌<◌, ◌==◌, Bool, true, false, ◌&&◌, if◌then◌else◌, List, [], ◌∷◌, ◌++◌, length, drop, codes, Option, Some, None, is_some, IfSome, refl, sym, ◌∙◌, ap, subst, arith, append_assoc}
+use Rattle.std.proofs.lemmas.Bool.{eq-eqb, ne_eqb}
+use Rattle.std.specs.List.{slice_get}
 use Rattle.base_core.specs.Calls.{OnTold}
-use Rattle.base_core.specs.Files.{Files}
+use Rattle.base_core.specs.Files.{Files, no_names}
 use Rattle.base_core.specs.Tree.{TreeState, files_of}
 use Rattle.report_core.specs.declared.refusal.Refusal.{Refusal}
 use Rattle.report_core.specs.declared.refusal.Refusal.TheVariants.{VersionBad}
 use Rattle.version_core.specs.Order.{is_version, version_cmp}
 use Rattle.words_core.specs.Command.{is_file, without_dot}
 use Rattle.words_core.specs.declared.operands.Operand.{Operand}
-use Rattle.outcome.specs.Verify.{file_refusal, or_later, verified_line, verified_lines, verify, verify_refusal}
+use Rattle.outcome.specs.Verify.{file_refusal, or_later, refusal_by, verified_lines, verify, verify_by, verify_refusal}
 use Rattle.outcome.specs.Version.{compared, invalid_line, invalid_lines, order_line, version_refusal}
 use Rattle.outcome.specs.Told.{refused, reported, unless}
 use Rattle.apk_front.specs.Shown.{are_files, shown}
@@ -77,6 +78,13 @@ found_more (v ∷ old) now os i o r same at so_far found none =
     let k : r ≡ file_refusal o.place (files_of v (without_dot o.text)) = subst (λ (h : List TreeState). OnTold h (λ w. r ≡ file_refusal o.place (files_of w (without_dot o.text)))) same found in
     so_far ∙ tested (files_of v) os i o r at k ∙ or_next r (verify_refusal (files_of v) (drop (i + 1) os)) none
 
+pub told_same : {X : Type 0} (old : List TreeState) (f : TreeState → X) → OnTold old (λ v. f v ≡ f v)
+told_same [] f = tt
+told_same (v ∷ old) f = refl
+
+pub proper_none : (old : List TreeState) (a : ℕ) → OnTold old (λ v. a ≡ a)
+proper_none old a = told_same old (λ v. a)
+
 -- what is true of the newest state before and after a call that leaves it
 pub proper_more : (old now : List TreeState) (a b c : ℕ) → now ≡ old → OnTold old (λ v. b ≡ a) → OnTold now (λ v. c ≡ b) → OnTold old (λ v. c ≡ a)
 proper_more [] now a b c same h k = tt
@@ -122,3 +130,62 @@ both_good os a b is e f files = rw is (rw e (rw f refl))
 
 pub cmp_same : (v w a b : List ℕ) → v ≡ a → w ≡ b → version_cmp v w ≡ version_cmp a b
 cmp_same v w a b h k = rw h (rw k refl)
+
+-- ---- what verify finds at each read
+
+-- what is found at each read, and what at this one
+abbrev pub found_with : (ℕ → Option (List ℕ)) → ℕ → Option (List ℕ) → ℕ → Option (List ℕ)
+found_with found i f k = if k == i then f else found k
+
+found_with_at : (found : ℕ → Option (List ℕ)) (i : ℕ) (f : Option (List ℕ)) → found_with found i f i ≡ f
+found_with_at found i f = ap (λ b. if b then f else found i) (eq-eqb i i refl)
+
+found_with_before : (found : ℕ → Option (List ℕ)) (i k : ℕ) (f : Option (List ℕ)) → k < i → found_with found i f k ≡ found k
+found_with_before found i k f lt = ap (λ b. if b then f else found k) (ne_eqb k i (λ same. omega (lt, same, arith)))
+
+-- the operands before a place were read, and none of them is refused
+pub record IsReadTo (os : List Operand) (i : ℕ) : Type 0 where
+  pub found : ℕ → Option (List ℕ)
+  pub rest : (later : ℕ → Option (List ℕ)) → ((k : ℕ) → k < i → later k ≡ found k) → refusal_by later 0 os ≡ refusal_by later i (drop i os)
+
+pub read_none : (os : List Operand) → IsReadTo os 0
+read_none os = record { found = λ k. None; rest = λ later agree. refl }
+
+-- the operands that are left, where one was read
+read_one : (os : List Operand) (i : ℕ) (o : Operand) (r : Option Refusal) (f : Option (List ℕ)) (later : ℕ → Option (List ℕ)) → slice_get os i ≡ Some o → r ≡ file_refusal o.place f → later i ≡ f
+    → refusal_by later i (drop i os) ≡ or_later r (refusal_by later (i + 1) (drop (i + 1) os))
+read_one os i o r f later at is here =
+    ap (refusal_by later i) (left_at os i o at)
+    ∙ ap (λ (x : Option (List ℕ)). or_later (file_refusal o.place x) (refusal_by later (i + 1) (drop (i + 1) os))) here
+    ∙ ap (λ (x : Option Refusal). or_later x (refusal_by later (i + 1) (drop (i + 1) os))) (sym is)
+
+pub read_more : (os : List Operand) (i : ℕ) (o : Operand) (r : Option Refusal) → slice_get os i ≡ Some o → IsReadTo os i → (found : Option (List ℕ)) × (r ≡ file_refusal o.place found) → false ≡ is_some r → IsReadTo os (i + 1)
+read_more os i o r at so (f, is) none = record {
+  found = found_with so.found i f;
+  rest = λ later agree.
+      so.rest later (λ k lt. agree k (omega (lt, arith)) ∙ found_with_before so.found i k f lt)
+      ∙ read_one os i o r f later at is (agree i (omega arith) ∙ found_with_at so.found i f)
+      ∙ or_next r (refusal_by later (i + 1) (drop (i + 1) os)) none;
+}
+
+pub read_here : (os : List Operand) (i : ℕ) (o : Operand) (r : Option Refusal) → slice_get os i ≡ Some o → IsReadTo os i → (found : Option (List ℕ)) × (r ≡ file_refusal o.place found) → true ≡ is_some r
+    → (found : ℕ → Option (List ℕ)) × (r ≡ refusal_by found 0 os)
+read_here os i o r at so (f, is) some =
+    let now = found_with so.found i f in
+    (now, sym (so.rest now (λ k lt. found_with_before so.found i k f lt) ∙ read_one os i o r f now at is (found_with_at so.found i f) ∙ or_here r (refusal_by now (i + 1) (drop (i + 1) os)) some))
+
+pub read_all_of : (os : List Operand) (i : ℕ) → drop i os ≡ [] → IsReadTo os i → (found : ℕ → Option (List ℕ)) × (None ≡ refusal_by found 0 os)
+read_all_of os i ended so = (so.found, sym (so.rest so.found (λ k lt. refl) ∙ ap (refusal_by so.found i) ended))
+
+pub verify_read : (os : List Operand) (verdict : Verdict) (r : Option Refusal) → (found : ℕ → Option (List ℕ)) × (r ≡ refusal_by found 0 os)
+    → ((files : Files) → shown files verdict ≡ unless files r (verified_lines os)) → (found : ℕ → Option (List ℕ)) × (shown no_names verdict ≡ verify_by found no_names os)
+verify_read os verdict r (found, is) told = (found, told no_names ∙ ap (λ (x : Option Refusal). unless no_names x (verified_lines os)) is)
+
+pub found_file : (old : List TreeState) (place : ℕ) (text file : List ℕ) (found : Option (List ℕ)) (r : Option Refusal) → r ≡ file_refusal place found
+    → OnTold old (λ v. found ≡ files_of v file) → file ≡ without_dot text → OnTold old (λ v. r ≡ file_refusal place (files_of v (without_dot text)))
+found_file [] place text file found r is told same = tt
+found_file (v ∷ old) place text file found r is told same = is ∙ ap (file_refusal place) (told ∙ ap (files_of v) same)
+
+pub some_is : (x : Option (List ℕ)) (a b : List ℕ) → IfSome x (λ y. y ≡ b) → x ≡ Some a → a ≡ b
+some_is (Some y) a b h e = let same : y ≡ a = cc in sym same ∙ h
+some_is None a b h e = cc

@@ -1,15 +1,14 @@
 -- A report, and the line of a refusal behind it.
-use Rattle.std.proofs.Common.{◌≡◌, ◌≢◌, ◌⊎◌, inl, inr, ℕ, List, [], ◌++◌, Option, Some, None, Err, refl, sym, ap, subst, ◌∙◌, append-nil}
-use Rattle.std.specs.Option.{option_map}
+use Rattle.std.proofs.Common.{◌≡◌, ◌≢◌, inl, inr, ℕ, List, [], Option, Some, None, Err, refl, sym, ap, subst, ◌∙◌, append-nil}
 use Rattle.base_core.specs.Files.{Files}
 use Rattle.base_core.specs.Sink.{Adds, AddsSome, Sinking, Gets, GetsSome, Failed, Writes}
 use Rattle.report_core.specs.Texts.{refusal_line}
 use Rattle.report_core.specs.declared.refusal.Refusal.{Refusal}
-use Rattle.outcome.specs.Told.{Outcome, told, line_of}
-use Rattle.apk_front.specs.Answers.{IsStated, IsOutFault, FailedAt}
+use Rattle.outcome.specs.Told.{told, line_of}
+use Rattle.apk_front.specs.Answers.{IsOutFault}
 use Rattle.apk_front.specs.Shown.{IsTold, IsRefused}
 use Rattle.apk_front.specs.declared.answer.Answer.{Answer}
-use Rattle.apk_front.specs.declared.answer.Answer.TheVariants.{Ok as Good, Refused, OutFault}
+use Rattle.apk_front.specs.declared.answer.Answer.TheVariants.{OutFault}
 
 -- all of it
 pub all_some : (old new : Option (List ℕ)) (bytes : List ℕ) → Adds old new bytes → AddsSome old new bytes

@@ -1,5 +1,5 @@
 -- Where no failure is planned, only want of memory stands in the place of an outcome.
-use Rattle.std.proofs.Common.{◌≡◌, ◌⊎◌, inl, inr, ℕ, ◌<◌, ◌-◌, ◌^◌, Bool, true, false, IsTrue, List, [], ◌∷◌, Option, Some, None, Result, Ok, Err, refl, sym, ap, ◌∙◌, arith}
+use Rattle.std.proofs.Common.{◌≡◌, ◌⊎◌, inl, inr, ℕ, ◌<◌, ◌-◌, ◌^◌, Bool, true, false, IsTrue, List, [], ◌∷◌, sym, ◌∙◌, arith}
 use Rattle.base_core.specs.Calls.{OnTold}
 use Rattle.base_core.specs.Faults.{Counts, HasCause, Rose}
 use Rattle.base_core.specs.Files.{Files}

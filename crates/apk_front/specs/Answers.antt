@@ -1,7 +1,7 @@
 -- What a run of the top call answers, and leaves of its two sinks.
 use Rattle.std.specs.Prelude.{◌≡◌, ◌≢◌, ◌⊎◌, ◌<◌, ℕ, ◌-◌, ◌^◌, false, List, [], Option, Some, None}
 use Rattle.base_core.specs.Calls.{HasNow}
-use Rattle.base_core.specs.Faults.{Counts, HasCause, Rose}
+use Rattle.base_core.specs.Faults.{Counts, Rose}
 use Rattle.base_core.specs.Files.{Files}
 use Rattle.base_core.specs.Tree.{TreeState, files_of}
 use Rattle.outcome.specs.Told.{Outcome}

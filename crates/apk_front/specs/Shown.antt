@@ -1,5 +1,5 @@
 -- What the parts of the code hand on.
-use Rattle.std.specs.Prelude.{◌≡◌, ◌⊎◌, ℕ, Bool, List, [], Option, Some, None, Result, Ok, Err}
+use Rattle.std.specs.Prelude.{◌≡◌, ◌⊎◌, Bool, List, [], Option, Some, None, Result, Ok, Err}
 use Rattle.std.specs.List.{list_all}
 use Rattle.base_core.specs.Files.{Files}
 use Rattle.base_core.specs.Sink.{Sinking, Gets, GetsSome, Failed}

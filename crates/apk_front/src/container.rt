@@ -6,9 +6,7 @@ ghost use Rattle.adb_view.specs.Gives.{cause_of};
 ghost use Rattle.outcome.specs.Container.{container_fault, contents_fault, framing_fault, table_of};
 
 use adb_block::Blocks;
-use adb_schema::{
-    IDB_WORD, INDEX_WORD, INTENT_WORD, PACKAGE_WORD, ReadFault, Which, read_adb,
-};
+use adb_schema::{IDB_WORD, INDEX_WORD, INTENT_WORD, PACKAGE_WORD, ReadFault, Which, read_adb};
 use base_core::Cause;
 use std::alloc::Global;
 

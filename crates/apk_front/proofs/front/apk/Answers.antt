@@ -1,4 +1,4 @@
-use Rattle.apk_front.proofs.Judged.{answered, completed, answered_by_words, caused}
+use Rattle.apk_front.proofs.Judged.{answered, completed, answered_by_reads, answered_by_words, caused}
 use Rattle.apk_front.proofs.Unplanned.{ends_unless_memory}
 use Rattle.apk_front.proofs.front.apk.Goals as goal
 
@@ -21,3 +21,6 @@ returns-clause-unless_memory g c =
     ends_unless_memory _ _ _ (g.T.Tree.history c.judge-judged.new.tree) _ _ _ _ _
     (answered _ _ _ _ c.judge-judged.result _ _ _ c.judge-judged.ensures.found c.judge-judged.ensures.same c.judge-judged.ensures.disk c.show.ensures.shown)
     c.judge-judged.ensures.proper c.show.ensures.out_counts c.show.ensures.err_counts
+
+pub returns-clause-found : goal.returns-clause-found
+returns-clause-found g c = answered_by_reads _ _ c.judge-judged.result _ _ _ c.judge-judged.ensures.by_reads c.judge-judged.ensures.disk c.show.ensures.shown

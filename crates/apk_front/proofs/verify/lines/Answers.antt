@@ -1,4 +1,4 @@
-use Rattle.std.proofs.Common.{◌≡◌, ap, ◌∙◌, ◌++◌, ◌+◌, ℕ, List, drop, codes}
+use Rattle.std.proofs.Common.{ap, ◌∙◌, ◌++◌, ◌+◌, ℕ, List, drop, codes}
 use Rattle.outcome.specs.Verify.{verified_lines}
 use Rattle.apk_front.proofs.Operands.{verified_more}
 use Rattle.apk_front.proofs.verify.lines.Goals as goal

@@ -1,4 +1,4 @@
-use Rattle.std.proofs.Common.{◌≡◌, ap, sym, ◌∙◌, Option}
+use Rattle.std.proofs.Common.{ap, sym, ◌∙◌, Option}
 use Rattle.outcome.specs.Told.{reported, unless}
 use Rattle.outcome.specs.Verify.{verified_lines}
 use Rattle.report_core.specs.declared.refusal.Refusal.{Refusal}

@@ -1,4 +1,4 @@
-use Rattle.std.proofs.Common.{◌≡◌, ap, sym, ◌∙◌}
+use Rattle.std.proofs.Common.{ap, sym, ◌∙◌}
 use Rattle.outcome.specs.Told.{reported}
 use Rattle.outcome.specs.Version.{order_line}
 use Rattle.version_core.specs.Order.{is_version}

@@ -1,4 +1,4 @@
-use Rattle.std.proofs.Common.{◌≡◌, sym, ap, ◌∙◌}
+use Rattle.std.proofs.Common.{sym, ap, ◌∙◌}
 use Rattle.version_core.specs.Order.{is_version}
 use Rattle.apk_front.proofs.Operands.{valid_more, invalid_here}
 use Rattle.apk_front.proofs.version.first_refusal.Goals as goal

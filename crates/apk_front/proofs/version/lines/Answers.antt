@@ -1,4 +1,3 @@
-use Rattle.std.proofs.Common.{◌≡◌}
 use Rattle.apk_front.proofs.Operands.{invalid_more}
 use Rattle.apk_front.proofs.version.lines.Goals as goal
 

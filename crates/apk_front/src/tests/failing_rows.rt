@@ -1,0 +1,118 @@
+// Rows in which the tree or a sink fails.
+use super::{Failing, Wanted};
+
+pub(super) const FAILING: [Failing; 12] = [
+    // The second file of two.
+    Failing {
+        words: &[b"verify", b"a.apk", b"a.apk"],
+        call: Some(3),
+        out_takes: 99,
+        err_takes: 99,
+        answer: Wanted::TreeFault,
+        out: b"",
+        err: b"ERROR: the tree failed\n",
+    },
+    // A report that cannot be printed hides the refusal behind it.
+    Failing {
+        words: &[b"version", b"-c", b"abc"],
+        call: None,
+        out_takes: 3,
+        err_takes: 99,
+        answer: Wanted::OutFault,
+        out: b"abc",
+        err: b"",
+    },
+    Failing {
+        words: &[b"version", b"-c", b"abc"],
+        call: Some(1),
+        out_takes: 4,
+        err_takes: 7,
+        answer: Wanted::OutFault,
+        out: b"abc\n",
+        err: b"ERROR: ",
+    },
+    Failing {
+        words: &[b"verify", b"a.apk"],
+        call: Some(1),
+        out_takes: 99,
+        err_takes: 99,
+        answer: Wanted::TreeFault,
+        out: b"",
+        err: b"ERROR: the tree failed\n",
+    },
+    Failing {
+        words: &[b"verify", b"a.apk"],
+        call: Some(2),
+        out_takes: 99,
+        err_takes: 99,
+        answer: Wanted::TreeFault,
+        out: b"",
+        err: b"ERROR: the tree failed\n",
+    },
+    // A sink's fault changes nothing in that answer.
+    Failing {
+        words: &[b"verify", b"a.apk"],
+        call: Some(2),
+        out_takes: 99,
+        err_takes: 9,
+        answer: Wanted::TreeFault,
+        out: b"",
+        err: b"ERROR: th",
+    },
+    Failing {
+        words: &[b"verify", b"a.apk"],
+        call: Some(3),
+        out_takes: 99,
+        err_takes: 99,
+        answer: Wanted::Done,
+        out: b"a.apk: OK\n",
+        err: b"",
+    },
+    // A usage error makes no call on the tree.
+    Failing {
+        words: &[b"verify"],
+        call: Some(1),
+        out_takes: 99,
+        err_takes: 99,
+        answer: Wanted::Usage(2),
+        out: b"",
+        err: b"ERROR: usage error at word 2\n",
+    },
+    Failing {
+        words: &[b"verify", b"a.apk"],
+        call: None,
+        out_takes: 9,
+        err_takes: 0,
+        answer: Wanted::OutFault,
+        out: b"a.apk: OK",
+        err: b"",
+    },
+    // What has nothing to print does not fail.
+    Failing {
+        words: &[b"verify", b"a.apk"],
+        call: None,
+        out_takes: 10,
+        err_takes: 0,
+        answer: Wanted::Done,
+        out: b"a.apk: OK\n",
+        err: b"",
+    },
+    Failing {
+        words: &[b"verify", b"b.apk"],
+        call: None,
+        out_takes: 0,
+        err_takes: 99,
+        answer: Wanted::Missing(2),
+        out: b"",
+        err: b"ERROR: word 2: no such file\n",
+    },
+    Failing {
+        words: &[b"verify", b"b.apk"],
+        call: None,
+        out_takes: 0,
+        err_takes: 14,
+        answer: Wanted::OutFault,
+        out: b"",
+        err: b"ERROR: word 2:",
+    },
+];
