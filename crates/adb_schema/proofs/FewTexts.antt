@@ -1,14 +1,13 @@
 -- A payload of few visits has few texts: those of an intent are counted in 32 bits.
-use Rattle.std.proofs.Common.{◌≡◌, ℕ, suc, ◌+◌, ◌<◌, ◌≤◌, Bool, true, List, [], ◌∷◌, ◌++◌, length, get_or, Option, Some, None, Result, Ok, Err, refl, ap, sym, ◌∙◌, subst, arith, length-append, codes, ◌^◌}
+use Rattle.std.proofs.Common.{◌≡◌, ℕ, suc, ◌+◌, ◌<◌, ◌≤◌, true, List, [], ◌∷◌, ◌++◌, length, get_or, Option, Some, None, Result, Ok, Err, refl, ap, sym, ◌∙◌, subst, arith, length-append, ◌^◌}
 use Rattle.std.specs.Prelude.{is_none}
 use Rattle.base_core.specs.declared.cause.Cause.{Cause}
-use Rattle.adb_view.specs.Plain.{Plain, Shape, text, array, object, field, no_fields}
+use Rattle.adb_view.specs.Plain.{Plain, text, array}
 use Rattle.adb_view.specs.Readers.{run_of, ARRAY, OBJECT}
 use Rattle.adb_view.specs.Visits.{visits, field_visits, each_visit, or_empty}
 use Rattle.adb_schema.specs.Schema.{shape_of, shapes_of, table}
 use Rattle.adb_schema.specs.Walk.{shape_fault, LIMIT}
 use Rattle.adb_schema.specs.Views.{is_sound, value_at, entry_in, entries_in, count_of}
-use Rattle.adb_schema.specs.Fields.{are_sound, array_at}
 use Rattle.adb_schema.specs.declared.schema.Kind.TheVariants.{Obj, TextArr, Text}
 use Rattle.adb_schema.specs.declared.schema.Which.{Which}
 use Rattle.adb_schema.specs.declared.schema.Which.TheVariants.{Intent}

@@ -1,5 +1,5 @@
 -- Going over lists for the first of their pairs.
-use Rattle.std.proofs.Common.{◌≡◌, ℕ, suc, zero, ◌+◌, ◌<◌, ◌≤◌, true, List, [], ◌∷◌, ◌++◌, map, length, get_or, drop, Option, Some, None, refl, ap, sym, ◌∙◌, subst, arith, append-nil, inl, inr, ◌⊎◌}
+use Rattle.std.proofs.Common.{◌≡◌, ℕ, suc, zero, ◌+◌, ◌<◌, ◌≤◌, true, List, [], ◌∷◌, ◌++◌, map, length, get_or, drop, Option, None, refl, ap, sym, ◌∙◌, subst, arith, append-nil, inl, inr}
 use Rattle.std.specs.List.{flat_map}
 use Rattle.adb_view.specs.Plain.{Plain, null}
 use Rattle.adb_schema.specs.Views.{value_at}
@@ -8,7 +8,6 @@ use Rattle.adb_schema.specs.declared.repeated_names.Pair.{Pair}
 use Rattle.adb_schema.specs.Pairs.{Named, IsIn, IsPair, IsFirstOf, earlier, earliest}
 use Rattle.adb_schema.specs.Repeated.{IsPairInOne, numbered_from, twice, twice_in_one, repeated_at, name_of, folders_in, files_in, inside_fault}
 use Rattle.adb_schema.specs.Walk.{or_else}
-use Rattle.base_core.specs.declared.cause.Cause.{Cause}
 use Rattle.adb_schema.specs.NamedTexts.{plains_at}
 use Rattle.adb_schema.specs.declared.schema.Kind.{Kind}
 use Rattle.adb_schema.proofs.NameLists.{plain_count, plain_is}

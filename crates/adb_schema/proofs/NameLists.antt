@@ -1,7 +1,7 @@
 -- Going over a list of values and adding their names.
 use Rattle.std.proofs.Common.{◌≡◌, ℕ, suc, zero, ◌+◌, ◌<◌, ◌≤◌, true, List, [], ◌∷◌, ◌++◌, map, length, get_or, drop, refl, ap, sym, ◌∙◌, subst, arith, append_assoc, append-nil}
 use Rattle.adb_view.specs.Plain.{Plain, null, Plains, none, more}
-use Rattle.adb_schema.specs.Views.{is_sound, value_at, entry_in, entries_in, count_of, nth}
+use Rattle.adb_schema.specs.Views.{value_at, entry_in, entries_in, count_of, nth}
 use Rattle.adb_schema.specs.Fields.{are_sound, array_at}
 use Rattle.adb_schema.specs.Pairs.{Named}
 use Rattle.adb_schema.specs.Repeated.{list_of, numbered_from, all_at, by_list_from, name_of, paths_under, paths_in}

@@ -1,7 +1,7 @@
 -- Small lists and containers, and what is told of them.
 use Rattle.std.proofs.Common.{◌≡◌, ℕ, List, [], ◌∷◌, Option, Some, None, refl, codes}
 use Rattle.base_core.specs.declared.cause.Cause.TheVariants.{Repeated}
-use Rattle.adb_view.specs.Plain.{Plain, null, blob, arr, obj, Plains, none, more}
+use Rattle.adb_view.specs.Plain.{Plain, null, blob, arr, obj, none, more}
 use Rattle.adb_schema.specs.Pairs.{first_pair}
 use Rattle.adb_schema.specs.Repeated.{twice, twice_in_one, in_two, repeated_fault}
 use Rattle.adb_schema.specs.declared.repeated_names.Pair.{Pair}

@@ -1,5 +1,4 @@
 -- What a walked payload shows.
-use Rattle.std.specs.Prelude.{ℕ, List}
 use Rattle.adb_view.specs.Plain.{Plain}
 use Rattle.adb_view.specs.Head.{root_of}
 use Rattle.adb_view.specs.Adb.{payload_of}

@@ -1,5 +1,4 @@
 -- The plain value that each view shows.
-use Rattle.std.specs.Prelude.{ℕ}
 use Rattle.adb_view.specs.Plain.{Plain}
 use Rattle.adb_view.specs.Adb.{payload_of}
 use Rattle.adb_view.specs.Entries.{array_entries}

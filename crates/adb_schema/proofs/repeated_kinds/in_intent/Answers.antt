@@ -1,16 +1,14 @@
 -- The writes stand behind the removals.
-use Rattle.std.proofs.Common.{ℕ, ◌≡◌, ◌+◌, ◌<◌, ◌≤◌, ◌++◌, ◌∷◌, [], List, Option, refl, map, drop, length, arith, ap, sym, ◌∙◌}
+use Rattle.std.proofs.Common.{ℕ, ◌≡◌, ◌+◌, ◌++◌, List, map, length, arith, ap, ◌∙◌}
 use Rattle.std.proofs.lemmas.List.{length-map}
-use Rattle.std.specs.List.{flat_map}
 use Rattle.std.specs.Vec.{vec_len}
 use Rattle.adb_view.specs.Adb.{payload_of}
 use Rattle.adb_view.specs.Entries.{array_entries}
 use Rattle.adb_view.specs.Plain.{Plain}
 use Rattle.adb_schema.specs.Views.{value_at, text_in, entries_in, entry_in, count_of}
-use Rattle.adb_schema.specs.Pairs.{Named, earlier, earliest, first_pair}
-use Rattle.adb_schema.specs.Repeated.{numbered_from, twice, twice_in_one, name_of, list_of, files_in, folders_in, folder_twice, repeated_at, entries_at}
+use Rattle.adb_schema.specs.Pairs.{first_pair}
+use Rattle.adb_schema.specs.Repeated.{numbered_from, list_of, repeated_at}
 use Rattle.adb_schema.specs.NamedTexts.{named_by, plains_at}
-use Rattle.adb_schema.specs.declared.repeated_names.Pair.{Pair}
 use Rattle.adb_schema.specs.declared.schema.Kind.TheVariants as Kinds
 use Rattle.adb_schema.specs.declared.schema.Which.TheVariants as Tables
 use Rattle.adb_schema.proofs.FieldReads.{entry_count}

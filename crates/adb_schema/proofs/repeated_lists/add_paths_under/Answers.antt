@@ -1,15 +1,13 @@
 -- One path more, and none behind the last.
-use Rattle.std.proofs.Common.{ℕ, ◌≡◌, ◌+◌, ◌<◌, ◌≤◌, ◌++◌, ◌∷◌, [], List, map, drop, length, arith, ap, sym, ◌∙◌}
-use Rattle.std.specs.List.{flat_map}
-use Rattle.std.specs.Vec.{vec_len}
+use Rattle.std.proofs.Common.{ℕ, ◌++◌, ◌∷◌, [], List, map, arith, ap, ◌∙◌}
 use Rattle.adb_view.specs.Adb.{payload_of}
 use Rattle.adb_view.specs.Entries.{array_entries}
 use Rattle.adb_view.specs.Plain.{Plain}
-use Rattle.adb_schema.specs.Views.{value_at, text_in}
+use Rattle.adb_schema.specs.Views.{value_at}
 use Rattle.adb_schema.specs.Pairs.{Named}
-use Rattle.adb_schema.specs.Repeated.{numbered_from, name_of, package_name, paths_under, paths_in, all_at, by_list_from}
+use Rattle.adb_schema.specs.Repeated.{name_of}
 use Rattle.adb_schema.specs.Reserved.{path_of}
-use Rattle.adb_schema.specs.NamedTexts.{named_by, named_at, plains_at}
+use Rattle.adb_schema.specs.NamedTexts.{named_by, named_at}
 use Rattle.adb_schema.specs.declared.schema.Kind.TheVariants as Kinds
 use Rattle.adb_schema.specs.declared.schema.Which.TheVariants as Tables
 use Rattle.adb_schema.proofs.NameLists.{one_piece, no_piece, under_folder}

@@ -1,5 +1,5 @@
 -- Each turn by the two bytes that it compares.
-use Rattle.std.proofs.Common.{rules, ◌≡◌, ◌+◌, ◌<◌, length, Some, None, arith, Fits, w64, ◌∙◌}
+use Rattle.std.proofs.Common.{Some, None, arith, ◌∙◌}
 use Rattle.adb_schema.specs.NamedTexts.{named_by}
 use Rattle.adb_schema.proofs.Compared.{decided, same_byte, other_byte, place_below}
 use Rattle.adb_schema.proofs.repeated_names.compared_from.Goals as goal

@@ -1,5 +1,5 @@
 -- The folders' fronts decide, or what is left does.
-use Rattle.std.proofs.Common.{◌≡◌, ◌≤◌, length, arith}
+use Rattle.std.proofs.Common.{arith}
 use Rattle.adb_schema.proofs.Compared.{apart_in_front, same_in_front}
 use Rattle.adb_schema.proofs.repeated_names.compared_names.Goals as goal
 

@@ -1,5 +1,5 @@
 -- One pair more, and none behind the last name.
-use Rattle.std.proofs.Common.{◌≡◌, ◌+◌, ◌-◌, ◌≤◌, ◌<◌, length, arith}
+use Rattle.std.proofs.Common.{◌-◌, arith}
 use Rattle.adb_schema.specs.NamedTexts.{named_by}
 use Rattle.adb_schema.proofs.FirstPair.{step_pair, no_next_pair}
 use Rattle.adb_schema.proofs.repeated_names.first_of_neighbours.Goals as goal
