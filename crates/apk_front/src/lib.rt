@@ -6,7 +6,6 @@
 #![tactic(auto)]
 
 mod answer;
-mod container;
 mod front;
 mod judge;
 mod show;

@@ -11,10 +11,9 @@ ghost use Rattle.outcome.specs.Told.{unless};
 ghost use Rattle.outcome.specs.Verify.{file_refusal, refusal_by, verified_lines, verify, verify_by, verify_refusal};
 ghost use Rattle.words_core.specs.Command.{is_file, without_dot};
 
-use crate::container::test;
 use crate::verdict::Verdict;
-use adb_schema::ReadFault;
 use base_core::{Name, Tree, TreeFault, read_all};
+use pkg_core::PackageFault;
 use report_core::Refusal;
 use std::alloc::{AllocError, Global};
 use words_core::{Operand, Operands};
@@ -110,10 +109,10 @@ fn refusal_of(
     let Some(bytes) = found else {
         return Ok(Some(Refusal::FileMissing { place }));
     };
-    match test(alloc, bytes) {
+    match pkg_core::verify(alloc, bytes) {
         Ok(()) => Ok(None),
-        Err(ReadFault::Bad(cause)) => Ok(Some(Refusal::FileBad { place, cause })),
-        Err(ReadFault::Memory) => Err(AllocError),
+        Err(PackageFault::Bad(cause)) => Ok(Some(Refusal::FileBad { place, cause })),
+        Err(PackageFault::Memory) => Err(AllocError),
     }
 }
 

@@ -1,4 +1,3 @@
-pub mod Container
 pub mod Outcome
 pub mod Verify
 pub mod Version

@@ -6,7 +6,7 @@ use Rattle.report_core.specs.declared.refusal.Refusal.{Refusal}
 use Rattle.report_core.specs.declared.refusal.Refusal.TheVariants.{FileMissing, FileBad}
 use Rattle.words_core.specs.Command.{without_dot}
 use Rattle.words_core.specs.declared.operands.Operand.{Operand}
-use Rattle.outcome.specs.Container.{container_fault}
+use Rattle.pkg_core.specs.Whole.{container_fault}
 use Rattle.outcome.specs.Told.{Outcome, unless}
 
 -- the refusal of a file that fails a test

@@ -1,0 +1,91 @@
+-- What good blocks give: the contents of each file that is expected.
+use Rattle.std.proofs.Common.{◌≡◌, ℕ, Bool, true, false, not, ◌==◌, ◌&&◌, if◌then◌else◌, nat_lt, List, [], ◌∷◌, length, Option, Some, None, Result, Ok, Err, refl, sym, subst}
+use Rattle.std.proofs.lemmas.Bool.{eqb-true}
+use Rattle.base_core.specs.declared.cause.Cause.{Cause}
+use Rattle.base_core.specs.declared.cause.Cause.TheVariants.{Truncated, DataOrder, DataSize}
+use Rattle.adb_block.specs.Header.{header_of}
+use Rattle.adb_block.specs.Reading.{Reading, done, fault, more, reading_of}
+use Rattle.adb_block.specs.Standing.{start_of}
+use Rattle.adb_block.specs.declared.block.BlockKind.{BlockKind}
+use Rattle.adb_block.specs.declared.block.BlockKind.TheVariants as Kinds
+use Rattle.adb_view.specs.Plain.{plain_of}
+use Rattle.adb_schema.specs.Schema.{shape_of}
+use Rattle.adb_schema.specs.Views.{value_at}
+use Rattle.adb_schema.specs.Walk.{or_else}
+use Rattle.adb_schema.specs.Soundness.{blocks_fault, file_fault, file_pair, first_payload, payload_behind, payload_fault, payload_in, root_value, schema_fault}
+use Rattle.adb_schema.specs.declared.schema.Which.TheVariants.{Package}
+use Rattle.pkg_core.specs.Contents as C
+use Rattle.pkg_core.specs.Contents.{Expected, Files, AreContentsOf, IsContentsOf, bytes_in, contents_at, contents_fault, contents_in, expected_contents, fault_in, files_of, hash_fault}
+use Rattle.pkg_core.specs.Whole.{behind_fault, files_behind, files_by_header, files_in_file, package_fault, package_of, whole_fault}
+
+-- the sizes agree, and then the digests
+size_right : (b : Bool) (d : Cause) (o : Option Cause) → (if not b then Some d else o) ≡ None → (b ≡ true) × (o ≡ None)
+size_right true d o h = (refl, h)
+size_right false d o h = (cc)
+
+file_right : (payload : List ℕ) (e : Expected) → C.file_fault payload e ≡ None → IsContentsOf e (contents_at payload e)
+file_right payload e h =
+    let (order, after) = size_right (C.is_of payload e) (DataOrder (e.folder, e.file) (file_pair payload)) _ h in
+    let (size, digest) = size_right (length (bytes_in payload) == e.size) (DataSize e.size (length (bytes_in payload))) _ after in
+    record { folder = refl; file = refl; size = eqb-true (length (bytes_in payload)) e.size size; hash = digest }
+
+-- ---- block by block
+
+block_whole : (short : Bool) (c : Cause) (o : Option Cause) → (if short then Some c else o) ≡ None → o ≡ None
+block_whole true c o h = (cc)
+block_whole false c o h = h
+
+record Passed (o : Option Cause) (files : Files) : Type 0 where
+  passes : o ≡ None
+  further : fault_in files ≡ None
+  same : C.unless o files ≡ files
+
+passed : (o : Option Cause) (files : Files) → fault_in (C.unless o files) ≡ None → Passed o files
+passed None files h = record { passes = refl; further = h; same = refl }
+passed (Some c) files h = (cc)
+
+block_given : (payload : List ℕ) (at : ℕ) (further : List Expected → Files) → ((left : List Expected) → fault_in (further left) ≡ None → AreContentsOf left (contents_in (further left))) → (es : List Expected) → Passed (C.contents_block_fault payload at es) (C.with_next payload further es) → AreContentsOf es (contents_in (C.with_next payload further es))
+block_given payload at further ih [] p = absurd (let e = block_whole (nat_lt (length payload) 8) (Truncated at) (C.next_fault payload []) p.passes in (cc))
+block_given payload at further ih (e ∷ es) p =
+    (file_right payload e (block_whole (nat_lt (length payload) 8) (Truncated at) (C.next_fault payload (e ∷ es)) p.passes), ih es p.further)
+
+block_right : (kind : BlockKind) (payload : List ℕ) (at : ℕ) (further : List Expected → Files) → ((left : List Expected) → fault_in (further left) ≡ None → AreContentsOf left (contents_in (further left))) → (es : List Expected) → fault_in (C.at_block kind payload at further es) ≡ None → AreContentsOf es (contents_in (C.at_block kind payload at further es))
+block_right Kinds.Adb payload at further ih es h = ih es h
+block_right Kinds.Signature payload at further ih es h = ih es h
+block_right Kinds.Contents payload at further ih es h =
+    let p = passed (C.contents_block_fault payload at es) (C.with_next payload further es) h in
+    let A : Files → Type 0 = λ files. AreContentsOf es (contents_in files) in
+    subst A (sym p.same) (block_given payload at further ih es p)
+
+none_expected : (es : List Expected) → fault_in (C.unless (C.missing_fault es) C.no_more) ≡ None → AreContentsOf es (contents_in (C.unless (C.missing_fault es) C.no_more))
+none_expected [] h = tt
+none_expected (e ∷ es) h = (cc)
+
+pub files_right : (es : List Expected) (r : Reading) → contents_fault es r ≡ None → AreContentsOf es (contents_in (files_of es r))
+unfolding files_of
+files_right es done h = none_expected es h
+files_right es (fault c) h = (cc)
+files_right es (more b at r) h = block_right b.kind b.payload at (λ left. files_of left r) (λ left. files_right left r) es h
+
+-- ---- a whole package
+
+second_none : (o u : Option Cause) → or_else o u ≡ None → u ≡ None
+second_none None u h = h
+second_none (Some c) u h = (cc)
+
+nothing_expected : expected_contents (root_value Package []) ≡ []
+unfolding value_at plain_of shape_of
+nothing_expected = refl
+
+blocks_right : (r : Reading) → blocks_fault (behind_fault Package) Package r ≡ None → AreContentsOf (expected_contents (root_value Package (first_payload r))) (contents_in (files_behind r))
+blocks_right done h = let A : List Expected → Type 0 = λ es. AreContentsOf es [] in subst A (sym nothing_expected) tt
+blocks_right (fault c) h = (cc)
+blocks_right (more b at r) h = files_right (expected_contents (root_value Package b.payload)) r (second_none (payload_fault Package b.payload) _ h)
+
+header_right : (file : List ℕ) (h : Result ℕ Cause) → file_fault (behind_fault Package) Package file h ≡ None → AreContentsOf (expected_contents (root_value Package (payload_behind file h))) (contents_in (files_by_header file h))
+header_right file (Ok schema) e = blocks_right (reading_of (start_of schema file)) (second_none (schema_fault Package schema) _ e)
+header_right file (Err c) e = (cc)
+
+pub package_right : (file : List ℕ) → package_fault file ≡ None → AreContentsOf (expected_contents (package_of file).value) (package_of file).contents
+unfolding whole_fault files_in_file payload_in
+package_right file h = header_right file (header_of file) h

@@ -1,0 +1,70 @@
+-- The tests of a whole container, by those of its values and those behind them.
+use Rattle.std.proofs.Common.{◌≡◌, ◌≢◌, ℕ, List, [], ◌∷◌, Option, Some, None, Result, Ok, Err, refl}
+use Rattle.base_core.specs.declared.cause.Cause.{Cause}
+use Rattle.adb_block.specs.Header.{header_of}
+use Rattle.adb_block.specs.Reading.{Reading, done, fault, more, reading_of}
+use Rattle.adb_block.specs.Standing.{start_of}
+use Rattle.adb_schema.specs.Walk.{or_else}
+use Rattle.adb_schema.specs.Soundness.{blocks_fault, file_fault, first_fault, payload_fault, rest_fault, schema_fault}
+use Rattle.adb_schema.specs.declared.schema.Which.{Which}
+use Rattle.adb_schema.specs.declared.schema.Which.TheVariants.{Dep, Acl, PkgInfo, File, Dir, Scripts, Package, Index, Idb, Intent}
+use Rattle.pkg_core.specs.Contents.{Files, fault_in}
+use Rattle.pkg_core.specs.Whole.{behind_fault, files_behind, files_by_header, files_in_file, package_fault, whole_fault}
+
+-- a container without contents is tested whole as its values are read
+pub other_fault : (which : Which) (file : List ℕ) → which ≢ Package → whole_fault which file ≡ first_fault which file
+unfolding whole_fault first_fault
+other_fault Dep file h = refl
+other_fault Acl file h = refl
+other_fault PkgInfo file h = refl
+other_fault File file h = refl
+other_fault Dir file h = refl
+other_fault Scripts file h = refl
+other_fault Package file h = absurd (h refl)
+other_fault Index file h = refl
+other_fault Idb file h = refl
+other_fault Intent file h = refl
+
+-- of a package, the tests of what stands behind its values come last
+tests_then : (payload : Option Cause) (files : Files) → or_else payload None ≡ None → or_else payload (fault_in files) ≡ fault_in files
+tests_then None files h = refl
+tests_then (Some c) files h = (cc)
+
+blocks_then : (r : Reading) → blocks_fault (λ v r. rest_fault Package r) Package r ≡ None → blocks_fault (behind_fault Package) Package r ≡ fault_in (files_behind r)
+blocks_then done h = refl
+blocks_then (fault c) h = refl
+blocks_then (more b at r) h = tests_then (payload_fault Package b.payload) (files_behind (more b at r)) h
+
+schema_then : (s : Option Cause) (r : Reading) → or_else s (blocks_fault (λ v r. rest_fault Package r) Package r) ≡ None → or_else s (blocks_fault (behind_fault Package) Package r) ≡ fault_in (files_behind r)
+schema_then None r h = blocks_then r h
+schema_then (Some c) r h = (cc)
+
+header_then : (file : List ℕ) (h : Result ℕ Cause) → file_fault (λ v r. rest_fault Package r) Package file h ≡ None → file_fault (behind_fault Package) Package file h ≡ fault_in (files_by_header file h)
+header_then file (Ok schema) e = schema_then (schema_fault Package schema) (reading_of (start_of schema file)) e
+header_then file (Err c) e = refl
+
+pub files_then : (file : List ℕ) → first_fault Package file ≡ None → package_fault file ≡ fault_in (files_in_file file)
+unfolding first_fault whole_fault files_in_file
+files_then file h = header_then file (header_of file) h
+
+-- and a package whose values are refused is refused by that
+tests_first : (payload : Option Cause) (c : Cause) (o : Option Cause) → or_else payload None ≡ Some c → or_else payload o ≡ Some c
+tests_first None c o h = (cc)
+tests_first (Some d) c o h = h
+
+blocks_first : (r : Reading) (c : Cause) → blocks_fault (λ v r. rest_fault Package r) Package r ≡ Some c → blocks_fault (behind_fault Package) Package r ≡ Some c
+blocks_first done c h = h
+blocks_first (fault d) c h = h
+blocks_first (more b at r) c h = tests_first (payload_fault Package b.payload) c (fault_in (files_behind (more b at r))) h
+
+schema_first : (s : Option Cause) (r : Reading) (c : Cause) → or_else s (blocks_fault (λ v r. rest_fault Package r) Package r) ≡ Some c → or_else s (blocks_fault (behind_fault Package) Package r) ≡ Some c
+schema_first None r c h = blocks_first r c h
+schema_first (Some d) r c h = h
+
+header_first : (file : List ℕ) (h : Result ℕ Cause) (c : Cause) → file_fault (λ v r. rest_fault Package r) Package file h ≡ Some c → file_fault (behind_fault Package) Package file h ≡ Some c
+header_first file (Ok schema) c e = schema_first (schema_fault Package schema) (reading_of (start_of schema file)) c e
+header_first file (Err d) c e = e
+
+pub values_first : (file : List ℕ) (c : Cause) → first_fault Package file ≡ Some c → package_fault file ≡ Some c
+unfolding first_fault whole_fault
+values_first file c h = header_first file (header_of file) c h

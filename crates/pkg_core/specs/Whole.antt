@@ -1,0 +1,90 @@
+-- The first failed test of a whole container, and what a good package holds.
+use Rattle.std.specs.Prelude.{◌≡◌, ℕ, ◌==◌, if◌then◌else◌, List, [], Option, Some, None, Result, Ok, Err}
+use Rattle.sha2.specs.Sha256.{sha256}
+use Rattle.base_core.specs.declared.cause.Cause.{Cause}
+use Rattle.base_core.specs.declared.cause.Cause.TheVariants.{WrongSchema}
+use Rattle.adb_block.specs.Header.{header_of}
+use Rattle.adb_block.specs.Standing.{start_of}
+use Rattle.adb_block.specs.Reading.{Reading, done, fault, more, reading_of}
+use Rattle.adb_view.specs.Plain.{Plain}
+use Rattle.adb_schema.specs.Soundness.{fault_with, rest_fault, payload_in, root_value}
+use Rattle.adb_schema.specs.declared.schema.Which.{Which}
+use Rattle.adb_schema.specs.declared.schema.Which.TheVariants.{Package, Index, Idb, Intent}
+use Rattle.adb_schema.specs.declared.read.TheConstants.{PACKAGE_WORD, INDEX_WORD, IDB_WORD, INTENT_WORD}
+use Rattle.adb_schema.specs.declared.read.ReadFault.{ReadFault}
+use Rattle.adb_schema.specs.declared.read.ReadFault.TheVariants as ReadFaults
+use Rattle.pkg_core.specs.Contents.{Contents, Files, no_more, refused, files_of, contents_in, contents_fault, expected_contents}
+use Rattle.pkg_core.specs.declared.pack.PackageFault.{PackageFault}
+use Rattle.pkg_core.specs.declared.pack.PackageFault.TheVariants.{Bad, Memory}
+
+-- ---- a container of any schema
+
+-- the table at the root of a container with this schema
+abbrev pub root_of_schema : ℕ → Option Which
+root_of_schema schema =
+    if schema == PACKAGE_WORD then Some Package
+    else if schema == INDEX_WORD then Some Index
+    else if schema == IDB_WORD then Some Idb
+    else if schema == INTENT_WORD then Some Intent
+    else None
+
+-- what stands behind the first block: of a package the contents of its files, else no contents
+abbrev pub behind_fault : Which → Plain → Reading → Option Cause
+behind_fault Package value r = contents_fault (expected_contents value) r
+behind_fault which value r = rest_fault which r
+
+-- all tests in their order, of a file that is to be a container of this table
+unfoldable pub whole_fault : Which → List ℕ → Option Cause
+whole_fault which file = fault_with (behind_fault which) which file
+
+abbrev pub schema_fault : List ℕ → ℕ → Option Which → Option Cause
+schema_fault file schema None = Some (WrongSchema schema)
+schema_fault file schema (Some which) = whole_fault which file
+
+abbrev pub fault_by_header : List ℕ → Result ℕ Cause → Option Cause
+fault_by_header file (Err c) = Some c
+fault_by_header file (Ok schema) = schema_fault file schema (root_of_schema schema)
+
+-- all tests in their order, of a file that is to be a container of one of the four schemas
+unfoldable pub container_fault : List ℕ → Option Cause
+container_fault file = fault_by_header file (header_of file)
+
+-- ---- a package
+
+abbrev pub package_fault : List ℕ → Option Cause
+package_fault file = whole_fault Package file
+
+-- the identity of a package is the SHA-256 of the bytes that hold its value
+abbrev pub package_id : List ℕ → List ℕ
+package_id file = sha256 (payload_in file)
+
+-- what the blocks behind the first one give, of the files that its value expects
+abbrev pub files_behind : Reading → Files
+files_behind done = no_more
+files_behind (fault c) = refused c
+files_behind (more b at r) = files_of (expected_contents (root_value Package b.payload)) r
+
+abbrev pub files_by_header : List ℕ → Result ℕ Cause → Files
+files_by_header file (Ok schema) = files_behind (reading_of (start_of schema file))
+files_by_header file (Err c) = refused c
+
+-- the files of a package with their contents
+unfoldable pub files_in_file : List ℕ → Files
+files_in_file file = files_by_header file (header_of file)
+
+-- the value of a package, with the contents of its files
+pub record Packed : Type 0 where
+  pub value : Plain
+  pub contents : List Contents
+
+abbrev pub package_of : List ℕ → Packed
+package_of file = record { value = root_value Package (payload_in file); contents = contents_in (files_in_file file) }
+
+-- a refusal tells what there is to tell
+abbrev pub IsRefused : PackageFault → Option Cause → Type 0
+IsRefused (Bad cause) told = told ≡ Some cause
+IsRefused Memory told = Unit {0}
+
+abbrev pub fault_of_read : ReadFault → PackageFault
+fault_of_read (ReadFaults.Bad cause) = Bad cause
+fault_of_read ReadFaults.Memory = Memory

@@ -1,0 +1,88 @@
+//! The test of a whole container.
+
+ghost use Rattle.std.specs.Prelude.{◌≡◌, ◌≢◌, None, IfOk, IfErr};
+ghost use Rattle.adb_view.specs.Gives.{cause_of};
+ghost use Rattle.adb_schema.specs.declared.schema.Which.TheVariants as Tables;
+ghost use Rattle.pkg_core.specs.Contents.{fault_in};
+ghost use Rattle.pkg_core.specs.Opened.{opened_files};
+ghost use Rattle.pkg_core.specs.Whole.{container_fault, package_fault, root_of_schema, whole_fault, IsRefused};
+
+use crate::pack::{Package, PackageFault};
+use adb_block::Blocks;
+use adb_schema::{IDB_WORD, INDEX_WORD, INTENT_WORD, PACKAGE_WORD, Which, read_adb};
+use base_core::Cause;
+use std::alloc::Global;
+
+/// Tests a container (apk-v3(5)) of any of the four schemas to its end: the file's header, its schema, the first block's
+/// framing, its head, its shape, its texts, names that stand twice, and the further blocks, in a package with the
+/// contents of its files.
+///
+/// # Errors
+///
+/// `Bad` with the cause of the first test that fails, or `Memory`. It is `WrongSchema` where the schema is none of the
+/// four.
+#[tactic(auto, unfolding(crate::specs::Whole::container_fault))]
+pub fn verify(alloc: Global, bytes: &[u8]) -> Result<(), PackageFault>
+    ensures bad { IfErr result (λ fault. IsRefused fault (container_fault bytes.now)) }
+    ensures sound { IfOk result (λ _. container_fault bytes.now ≡ None) }
+{
+    let found = Blocks::new(bytes)?.schema();
+    match root_of_schema(found) {
+        Some(which) => verify_as(alloc, bytes, which),
+        None => Err(PackageFault::Bad(Cause::WrongSchema { found })),
+    }
+}
+
+/// The table at the root of a container with this schema.
+fn root_of_schema(schema: u32) -> Option<Which>
+    ensures { result ≡ root_of_schema schema }
+{
+    match schema {
+        PACKAGE_WORD => Some(Which::Package),
+        INDEX_WORD => Some(Which::Index),
+        IDB_WORD => Some(Which::Idb),
+        INTENT_WORD => Some(Which::Intent),
+        _ => None,
+    }
+}
+
+/// Tests a container that is to have this table at its root.
+fn verify_as(alloc: Global, bytes: &[u8], which: Which) -> Result<(), PackageFault>
+    ensures bad { IfErr result (λ fault. IsRefused fault (whole_fault which bytes.now)) }
+    ensures sound { IfOk result (λ _. whole_fault which bytes.now ≡ None) }
+{
+    match which {
+        Which::Package => verify_package(alloc, bytes),
+        _ => verify_other(alloc, bytes, which),
+    }
+}
+
+/// Tests a package, with the contents of its files.
+#[tactic(auto, using(crate::proofs::Steps::files_then, crate::proofs::Steps::values_first))]
+fn verify_package(alloc: Global, bytes: &[u8]) -> Result<(), PackageFault>
+    ensures bad { IfErr result (λ fault. IsRefused fault (package_fault bytes.now)) }
+    ensures sound { IfOk result (λ _. package_fault bytes.now ≡ None) }
+{
+    let mut pkg = Package::new(alloc, bytes)?;
+    check_files(&mut pkg)?;
+    Ok(())
+}
+
+/// Reads the files of a package to the last.
+fn check_files(pkg: &mut Package<'_>) -> Result<(), Cause>
+    ensures { cause_of result ≡ fault_in (opened_files pkg.old) }
+{
+    while pkg.next_file()?.is_some() {}
+    Ok(())
+}
+
+/// Tests a container that has no contents.
+#[tactic(auto, using(crate::proofs::Steps::other_fault))]
+fn verify_other(alloc: Global, bytes: &[u8], which: Which) -> Result<(), PackageFault>
+    requires { which ≢ Tables.Package }
+    ensures bad { IfErr result (λ fault. IsRefused fault (whole_fault which bytes.now)) }
+    ensures sound { IfOk result (λ _. whole_fault which bytes.now ≡ None) }
+{
+    read_adb(alloc, bytes, which)?;
+    Ok(())
+}

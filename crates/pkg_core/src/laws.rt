@@ -1,0 +1,16 @@
+//! What follows from the definitions, for every package.
+ghost use Rattle.std.specs.Prelude.{◌≡◌, ℕ, List, None};
+ghost use Rattle.adb_block.specs.Reading.{Reading};
+ghost use Rattle.pkg_core.specs.Contents.{contents_fault, contents_in, expected_contents, files_of, AreContentsOf, Expected};
+ghost use Rattle.pkg_core.specs.Whole.{package_fault, package_of};
+
+/// Where no test of the blocks fails, they give the contents of each file that is expected, in order, and no others:
+/// each with the positions, the size and the digest of its file.
+pub fn good_blocks_give_the_contents_of_each_file()
+    ensures { (expected : List Expected) (r : Reading) → contents_fault expected r ≡ None → AreContentsOf expected (contents_in (files_of expected r)) }
+{}
+
+/// A package in which no test fails is its value, with the contents of each of its files that has some.
+pub fn a_package_has_the_contents_of_its_files()
+    ensures { (file : List ℕ) → package_fault file ≡ None → AreContentsOf (expected_contents (package_of file).value) (package_of file).contents }
+{}
