@@ -47,7 +47,7 @@ impl<'a> PkgInfo<'a> {
         text!(self, PkgInfo, 1)
     }
 
-    /// The package's id, or its front; empty where none is known.
+    /// A digest: in an index the package's id or the first 20 bytes of it; empty where none is known.
     pub fn hashes(&self) -> &'a [u8]
         ensures { result.now ≡ text_in (entry_in (info_value self.now) 2) }
     {

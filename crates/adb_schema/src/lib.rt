@@ -2,8 +2,10 @@
 //! views of a tested payload, one method a field, which cannot fail.
 //!
 //! `shape` makes a `Shaped` of a payload, `Checked::new` a `Checked` of that, and its four views lend from the payload.
-//! The contracts cite `Schema` and `Listed` (the tables, and the shapes that they give), `Walk` (the first fault of a
-//! walk), `Views` (fields of plain values), `Shown` (the plain value that a view shows) and `Checked` of `specs/`.
+//! `repeated` looks for names that stand twice, and `read_adb` reads a file through all of them. The contracts cite
+//! `Schema` and `Listed` (the tables, and the shapes that they give), `Walk` (the first fault of a walk), `Views` (fields
+//! of plain values), `Shown` (the plain value that a view shows), `Checked`, `Rules`, `Reserved` and `Texts` (the rule of
+//! each place), `Pairs` and `Repeated` (names that stand twice) and `Soundness` (the first failed test) of `specs/`.
 #![tactic(auto)]
 
 mod around;
@@ -38,8 +40,8 @@ pub use dependency::DepView;
 pub use folder::{AclView, DirInfo, FileInfo};
 pub use info::PkgInfo;
 pub use laws::{
-    tables_are_as_listed, tables_are_unrolled_whole, the_first_faulty_visit_is_told,
-    values_of_few_visits_have_no_fault,
+    schema_words_are_as_listed, tables_are_as_listed, tables_are_unrolled_whole,
+    the_first_faulty_visit_is_told, values_of_few_visits_have_no_fault,
 };
 pub use list::{Kinded, List, View};
 pub use read::{IDB_WORD, INDEX_WORD, INTENT_WORD, PACKAGE_WORD, ReadFault, read_adb, schema_word};

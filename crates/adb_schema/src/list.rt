@@ -73,6 +73,12 @@ impl<'a, V: View<'a>> List<'a, V> {
 impl<'a, V: Kinded> Copy for List<'a, V> {}
 
 impl<'a, V: Kinded> Clone for List<'a, V> {
+    ghost use Rattle.std.specs.Prelude.{◌≡◌};
+
+    ghost is_clone = { λ list copy. copy ≡ list };
+
+    ghost is_infallible = { λ _. Unit {0} };
+
     fn clone(&self) -> Result<Self, std::alloc::AllocError> {
         Ok(*self)
     }

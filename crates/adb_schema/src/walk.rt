@@ -17,7 +17,7 @@ use crate::words::{entry_word, object_entries};
 use adb_view::{Adb, Arr, Val};
 use base_core::Cause;
 
-/// How many words a payload may have.
+/// How many visits the walk of a payload may have; a word that stands at two places is visited twice.
 const MOST_VISITS: u32 = 4_194_304;
 
 /// Walks a payload's values from its root, as an object of this table: a word, then its entries in order. Each visit

@@ -33,8 +33,8 @@ pub struct HostTree<'a, R: Files + AllocGlobal + Clone + Drop> {
     reader: Option<Opened<R::File>>,
     writer: Option<Opened<R::File>>,
     touched: Touched,
-    // Whether the host once failed to write something through. It may have dropped what it could not write, so that
-    // a second try would succeed for nothing: it is not believed again.
+    // Whether the host once failed to write something through, or to cut off the front of a piece. It may have dropped
+    // what it could not write, so that a second try would succeed for nothing: it is not believed again.
     has_lost: bool,
 }
 
@@ -99,6 +99,9 @@ impl<'a, R: Files + AllocGlobal + Clone + Drop> HostTree<'a, R> {
     fn add(&mut self, path: &[u8], piece: &[u8]) -> Result<(), TreeFault>
         ensures { self.new.faults ≡ self.old.faults }
     {
+        if self.has_lost {
+            return Err(TreeFault::Disk);
+        }
         let file = file_at(self.rt, self.alloc, &mut self.writer, path, &to_append())?;
         let len = done(file.metadata())?.len();
         let written = done(file.write_all(piece));

@@ -1,5 +1,5 @@
 -- What good blocks give: the contents of each file that is expected.
-use Rattle.std.proofs.Common.{◌≡◌, ℕ, Bool, true, false, not, ◌==◌, ◌&&◌, if◌then◌else◌, nat_lt, List, [], ◌∷◌, length, Option, Some, None, Result, Ok, Err, refl, sym, subst}
+use Rattle.std.proofs.Common.{◌≡◌, ℕ, Bool, true, false, not, ◌==◌, if◌then◌else◌, nat_lt, List, [], ◌∷◌, length, Option, Some, None, Result, Ok, Err, refl, sym, subst}
 use Rattle.std.proofs.lemmas.Bool.{eqb-true}
 use Rattle.base_core.specs.declared.cause.Cause.{Cause}
 use Rattle.base_core.specs.declared.cause.Cause.TheVariants.{Truncated, DataOrder, DataSize}
@@ -8,14 +8,18 @@ use Rattle.adb_block.specs.Reading.{Reading, done, fault, more, reading_of}
 use Rattle.adb_block.specs.Standing.{start_of}
 use Rattle.adb_block.specs.declared.block.BlockKind.{BlockKind}
 use Rattle.adb_block.specs.declared.block.BlockKind.TheVariants as Kinds
-use Rattle.adb_view.specs.Plain.{plain_of}
+use Rattle.adb_view.specs.Head.{head_fault, root_of}
+use Rattle.adb_view.specs.Plain.{Plain, plain_of}
 use Rattle.adb_schema.specs.Schema.{shape_of}
 use Rattle.adb_schema.specs.Views.{value_at}
-use Rattle.adb_schema.specs.Walk.{or_else}
+use Rattle.adb_schema.specs.Walk.{or_else, shape_fault}
+use Rattle.adb_schema.specs.Texts.{text_fault}
+use Rattle.adb_schema.specs.declared.schema.Kind.TheVariants.{Obj}
 use Rattle.adb_schema.specs.Soundness.{blocks_fault, file_fault, file_pair, first_payload, payload_behind, payload_fault, payload_in, root_value, schema_fault}
 use Rattle.adb_schema.specs.declared.schema.Which.TheVariants.{Package}
 use Rattle.pkg_core.specs.Contents as C
-use Rattle.pkg_core.specs.Contents.{Expected, Files, AreContentsOf, IsContentsOf, bytes_in, contents_at, contents_fault, contents_in, expected_contents, fault_in, files_of, hash_fault}
+use Rattle.pkg_core.specs.Contents.{Expected, Files, AreContentsOf, AreTrueTo, IsContentsOf, bytes_in, contents_at, contents_fault, contents_in, expected_contents, fault_in, files_of, hash_fault}
+use Rattle.pkg_core.proofs.Digests.{texts_give_digests, true_contents}
 use Rattle.pkg_core.specs.Whole.{behind_fault, files_behind, files_by_header, files_in_file, package_fault, package_of, whole_fault}
 
 -- the sizes agree, and then the digests
@@ -73,19 +77,31 @@ second_none : (o u : Option Cause) → or_else o u ≡ None → u ≡ None
 second_none None u h = h
 second_none (Some c) u h = (cc)
 
+first_none : (o u : Option Cause) → or_else o u ≡ None → o ≡ None
+first_none None u h = refl
+first_none (Some c) u h = h
+
 nothing_expected : expected_contents (root_value Package []) ≡ []
 unfolding value_at plain_of shape_of
 nothing_expected = refl
 
-blocks_right : (r : Reading) → blocks_fault (behind_fault Package) Package r ≡ None → AreContentsOf (expected_contents (root_value Package (first_payload r))) (contents_in (files_behind r))
-blocks_right done h = let A : List Expected → Type 0 = λ es. AreContentsOf es [] in subst A (sym nothing_expected) tt
-blocks_right (fault c) h = (cc)
-blocks_right (more b at r) h = files_right (expected_contents (root_value Package b.payload)) r (second_none (payload_fault Package b.payload) _ h)
+texts_good : (payload : List ℕ) → payload_fault Package payload ≡ None → text_fault Package (root_value Package payload) ≡ None
+texts_good payload h =
+    let shape = second_none (head_fault payload) _ h in
+    let texts = second_none (shape_fault payload (shape_of (Obj Package)) (root_of payload)) _ shape in
+    first_none (text_fault Package (root_value Package payload)) _ texts
 
-header_right : (file : List ℕ) (h : Result ℕ Cause) → file_fault (behind_fault Package) Package file h ≡ None → AreContentsOf (expected_contents (root_value Package (payload_behind file h))) (contents_in (files_by_header file h))
-header_right file (Ok schema) e = blocks_right (reading_of (start_of schema file)) (second_none (schema_fault Package schema) _ e)
-header_right file (Err c) e = (cc)
+blocks_true : (r : Reading) → blocks_fault (behind_fault Package) Package r ≡ None → AreTrueTo (expected_contents (root_value Package (first_payload r))) (contents_in (files_behind r))
+blocks_true done h = let A : List Expected → Type 0 = λ es. AreTrueTo es [] in subst A (sym nothing_expected) tt
+blocks_true (fault c) h = (cc)
+blocks_true (more b at r) h =
+    let v : Plain = root_value Package b.payload in
+    true_contents (expected_contents v) (contents_in (files_of (expected_contents v) r)) (texts_give_digests v (texts_good b.payload (first_none (payload_fault Package b.payload) _ h))) (files_right (expected_contents v) r (second_none (payload_fault Package b.payload) _ h))
 
-pub package_right : (file : List ℕ) → package_fault file ≡ None → AreContentsOf (expected_contents (package_of file).value) (package_of file).contents
+header_true : (file : List ℕ) (h : Result ℕ Cause) → file_fault (behind_fault Package) Package file h ≡ None → AreTrueTo (expected_contents (root_value Package (payload_behind file h))) (contents_in (files_by_header file h))
+header_true file (Ok schema) e = blocks_true (reading_of (start_of schema file)) (second_none (schema_fault Package schema) _ e)
+header_true file (Err c) e = (cc)
+
+pub package_true : (file : List ℕ) → package_fault file ≡ None → AreTrueTo (expected_contents (package_of file).value) (package_of file).contents
 unfolding whole_fault files_in_file payload_in
-package_right file h = header_right file (header_of file) h
+package_true file h = header_true file (header_of file) h

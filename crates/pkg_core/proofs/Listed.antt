@@ -1,5 +1,5 @@
 -- The files and the folders of a list, one by one.
-use Rattle.std.proofs.Common.{◌≡◌, ℕ, zero, suc, Bool, true, false, if◌then◌else◌, ◌+◌, ◌*◌, ◌-◌, ◌/◌, ◌^◌, ◌<◌, ◌≤◌, List, [], ◌∷◌, ◌++◌, length, drop, refl, ap, sym, ◌∙◌, subst, arith}
+use Rattle.std.proofs.Common.{◌≡◌, ℕ, zero, suc, Bool, true, false, if◌then◌else◌, ◌+◌, ◌-◌, ◌/◌, ◌^◌, ◌<◌, ◌≤◌, List, [], ◌∷◌, ◌++◌, length, drop, refl, ap, sym, ◌∙◌, subst, arith}
 use Rattle.adb_view.specs.Plain.{Plain, Plains, none, more}
 use Rattle.adb_view.specs.Adb.{payload_of}
 use Rattle.adb_view.specs.Entries.{array_entries}
@@ -9,7 +9,7 @@ use Rattle.adb_schema.specs.Shown.{list_value}
 use Rattle.adb_schema.specs.Texts.{is_with_contents}
 use Rattle.adb_schema.specs.declared.list.List as L
 use Rattle.adb_schema.proofs.FieldReads.{entry_count}
-use Rattle.adb_schema.specs.Repeated.{list_of, files_in}
+use Rattle.adb_schema.specs.Repeated.{list_of}
 use Rattle.pkg_core.specs.Contents.{Expected, expected_at, files_from, folders_from}
 use Rattle.pkg_core.specs.Opened.{left_from}
 

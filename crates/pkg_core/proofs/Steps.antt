@@ -1,5 +1,5 @@
 -- The tests of a whole container, by those of its values and those behind them.
-use Rattle.std.proofs.Common.{◌≡◌, ◌≢◌, ℕ, List, [], ◌∷◌, Option, Some, None, Result, Ok, Err, refl}
+use Rattle.std.proofs.Common.{◌≡◌, ◌≢◌, ℕ, List, Option, Some, None, Result, Ok, Err, refl}
 use Rattle.base_core.specs.declared.cause.Cause.{Cause}
 use Rattle.adb_block.specs.Header.{header_of}
 use Rattle.adb_block.specs.Reading.{Reading, done, fault, more, reading_of}

@@ -1,5 +1,5 @@
 -- Which files of a package have contents, and what stands for them in the blocks behind its values.
-use Rattle.std.specs.Prelude.{◌≡◌, ℕ, ◌+◌, ◌==◌, nat_lt, Bool, bytes_eq, not, ◌&&◌, if◌then◌else◌, List, [], ◌∷◌, ◌++◌, length, drop, Option, Some, None}
+use Rattle.std.specs.Prelude.{◌≡◌, ◌⊎◌, ℕ, ◌+◌, ◌==◌, nat_lt, Bool, true, bytes_eq, not, ◌&&◌, if◌then◌else◌, List, [], ◌∷◌, ◌++◌, length, drop, Option, Some, None}
 use Rattle.sha1.specs.Sha1.{sha1}
 use Rattle.sha2.specs.Sha256.{sha256}
 use Rattle.sha2.specs.Sha512.{sha512}
@@ -13,6 +13,7 @@ use Rattle.adb_block.specs.declared.block.BlockKind.TheVariants as Kinds
 use Rattle.adb_view.specs.Plain.{Plain}
 use Rattle.adb_schema.specs.Views.{entry_in, int_in, text_in}
 use Rattle.adb_schema.specs.Repeated.{folders_in, files_in}
+use Rattle.adb_schema.specs.Rules.{is_digest_length}
 use Rattle.adb_schema.specs.Soundness.{file_pair}
 use Rattle.adb_schema.specs.Texts.{is_with_contents}
 
@@ -149,3 +150,27 @@ AreContentsOf [] [] = Unit {0}
 AreContentsOf [] (contents ∷ others) = ⊥
 AreContentsOf (e ∷ es) [] = ⊥
 AreContentsOf (e ∷ es) (contents ∷ others) = IsContentsOf e contents × AreContentsOf es others
+
+-- ---- and of a package whose values are good
+
+-- the digest is that of the bytes, by one of the three functions
+abbrev pub IsDigestOf : List ℕ → List ℕ → Type 0
+IsDigestOf hash bytes = (hash ≡ sha1 bytes) ⊎ ((hash ≡ sha256 bytes) ⊎ (hash ≡ sha512 bytes))
+
+-- the contents are what the file's entry says of them
+pub record IsTrueTo (e : Expected) (contents : Contents) : Type 0 where
+  pub folder : contents.folder ≡ e.folder
+  pub file : contents.file ≡ e.file
+  pub size : length contents.bytes ≡ e.size
+  pub digest : IsDigestOf e.hash contents.bytes
+
+abbrev pub AreTrueTo : List Expected → List Contents → Type 0
+AreTrueTo [] [] = Unit {0}
+AreTrueTo [] (contents ∷ others) = ⊥
+AreTrueTo (e ∷ es) [] = ⊥
+AreTrueTo (e ∷ es) (contents ∷ others) = IsTrueTo e contents × AreTrueTo es others
+
+-- each digest has the length of one of the three functions
+abbrev pub HaveDigests : List Expected → Type 0
+HaveDigests [] = Unit {0}
+HaveDigests (e ∷ es) = (is_digest_length (length e.hash) ≡ true) × HaveDigests es

@@ -1,7 +1,7 @@
 //! What follows from the definitions, for every package.
 ghost use Rattle.std.specs.Prelude.{◌≡◌, ℕ, List, None};
 ghost use Rattle.adb_block.specs.Reading.{Reading};
-ghost use Rattle.pkg_core.specs.Contents.{contents_fault, contents_in, expected_contents, files_of, AreContentsOf, Expected};
+ghost use Rattle.pkg_core.specs.Contents.{contents_fault, contents_in, expected_contents, files_of, AreContentsOf, AreTrueTo, Expected};
 ghost use Rattle.pkg_core.specs.Whole.{package_fault, package_of};
 
 /// Where no test of the blocks fails, they give the contents of each file that is expected, in order, and no others:
@@ -10,7 +10,8 @@ pub fn good_blocks_give_the_contents_of_each_file()
     ensures { (expected : List Expected) (r : Reading) → contents_fault expected r ≡ None → AreContentsOf expected (contents_in (files_of expected r)) }
 {}
 
-/// A package in which no test fails is its value, with the contents of each of its files that has some.
+/// A package in which no test fails has the contents of each of its files without target and with a size above 0, in
+/// order, and no others: their length is the file's size, and their SHA-1, SHA-256 or SHA-512 (FIPS 180-4) its digest.
 pub fn a_package_has_the_contents_of_its_files()
-    ensures { (file : List ℕ) → package_fault file ≡ None → AreContentsOf (expected_contents (package_of file).value) (package_of file).contents }
+    ensures { (file : List ℕ) → package_fault file ≡ None → AreTrueTo (expected_contents (package_of file).value) (package_of file).contents }
 {}

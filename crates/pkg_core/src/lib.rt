@@ -14,7 +14,9 @@ mod rest;
 mod walk;
 
 pub use checks::verify;
-pub use laws::{a_package_has_the_contents_of_its_files, good_blocks_give_the_contents_of_each_file};
+pub use laws::{
+    a_package_has_the_contents_of_its_files, good_blocks_give_the_contents_of_each_file,
+};
 pub use pack::{Package, PackageFault};
 pub use rest::FileContents;
 

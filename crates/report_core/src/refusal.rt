@@ -1,6 +1,6 @@
 use base_core::{Cause, Name, Text};
 
-/// Why a command is refused, in the order in which it is tested. `place` counts the words of the command line from 1,
+/// Why a command is refused, in the order in which the kinds are tested; file operands are tested one by one. `place` counts the words of the command line from 1,
 /// without the program's name. `line` and `repository` count from 1 too.
 #[derive(Drop)]
 pub enum Refusal {
@@ -59,13 +59,13 @@ pub enum Refusal {
     TooMany {
         count: u64,
     },
-    /// The package that this word names is not installed, or no package owns the path that it names.
+    /// The package that this word names is not installed, nor in the world, or no package owns the path that it names.
     NotInstalled {
         place: u32,
     },
     /// No selection of packages satisfies the new world.
     Unsatisfied,
-    /// The file of this package is absent.
+    /// The file of this package is absent, or its path is no name.
     PackageMissing {
         name: Text,
         version: Text,

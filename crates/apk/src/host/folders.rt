@@ -104,10 +104,15 @@ fn take_away<R: Files>(rt: &R, touched: &mut Touched, folder: &[u8]) -> Result<b
     }
 }
 
-// Whether an error says that a folder is not empty, or that another file system stands on it.
+// Whether an error says that a folder is not empty, that another file system stands on it, or that the one around it may
+// not be written, which the host may say before it looks whether the folder is empty.
 fn stays(kind: ErrorKind) -> bool {
     matches!(
         kind,
-        ErrorKind::DirectoryNotEmpty | ErrorKind::AlreadyExists | ErrorKind::ResourceBusy
+        ErrorKind::DirectoryNotEmpty
+            | ErrorKind::AlreadyExists
+            | ErrorKind::ResourceBusy
+            | ErrorKind::PermissionDenied
+            | ErrorKind::ReadOnlyFilesystem
     )
 }

@@ -1,5 +1,5 @@
 -- The next file of a folder is the next one of all, and a folder without one is passed.
-use Rattle.std.proofs.Common.{◌≡◌, ◌+◌, ◌<◌, ◌∷◌, drop, sym, ◌∙◌, ap, arith}
+use Rattle.std.proofs.Common.{◌+◌, ◌∷◌, drop, sym, ◌∙◌, arith}
 use Rattle.adb_schema.specs.Views.{entries_in}
 use Rattle.adb_schema.specs.Repeated.{list_of}
 use Rattle.adb_schema.specs.Shown.{dir_value, list_value}
@@ -14,11 +14,12 @@ returns-in-Some c =
     ∙ (λ k. expected_of c.in-Some.wanted ∷ left_from (sym c.in-Some.ensures.folder k + 1) c.next_in.new.self.file (drop (sym c.in-Some.ensures.folder k) (list_of (entries_in (list_value (sym c.in-Some.ensures.folders k)))))))
 
 pub loop-self-preserved : goal.loop-self-preserved
-loop-self-preserved c =
-    (c.next_in.ensures.folders ∙ c.loop-self.invariant.0,
-     (λ k. left_from (c.next_in.ensures.folder k + 1 + 1) 0 (drop (c.next_in.ensures.folder k + 1) (list_of (entries_in (list_value (c.next_in.ensures.folders k))))))
-     ∙ (sym (folder_left c.loop-self.self.folder c.loop-self.self.file (list_value c.loop-self.self.folders) (dir_value c.get.result) (list_value c.files-files.result) (grind arith) c.get.ensures c.files-files.ensures c.in-None.ensures.taken.0)
-     ∙ c.loop-self.invariant.1))
+loop-self-preserved c = (
+  c.next_in.ensures.folders ∙ c.loop-self.invariant.0,
+  (λ k. left_from (c.next_in.ensures.folder k + 1 + 1) 0 (drop (c.next_in.ensures.folder k + 1) (list_of (entries_in (list_value (c.next_in.ensures.folders k))))))
+      ∙ (sym (folder_left c.loop-self.self.folder c.loop-self.self.file (list_value c.loop-self.self.folders) (dir_value c.get.result) (list_value c.files-files.result) (grind arith) c.get.ensures c.files-files.ensures c.in-None.ensures.taken.0)
+      ∙ c.loop-self.invariant.1),
+)
 
 pub returns : goal.returns
 returns c =

@@ -1,5 +1,5 @@
 -- A file with contents is the next one, and one without is passed.
-use Rattle.std.proofs.Common.{◌≡◌, ◌+◌, ◌<◌, sym, ◌∙◌, ap, arith}
+use Rattle.std.proofs.Common.{◌+◌, sym, ◌∙◌, ap, arith}
 use Rattle.adb_schema.specs.Shown.{file_value, list_value}
 use Rattle.pkg_core.proofs.Listed.{few_listed, some_file, other_file, no_file}
 use Rattle.pkg_core.proofs.walk.Walk.next_in.Goals as goal
@@ -19,9 +19,11 @@ returns-then-has_contents-clause-taken c =
     ∙ some_file (c.args.self.now.folder + 1) (c.loop-self.self.folder + 1) c.loop-self.self.file (list_value c.args.files) (file_value c.get-file.result) c.size.result c.hashes.result.now (grind arith) (ap (λ n. n + 1) c.loop-self.invariant.1) c.get-file.ensures (sym c.has_contents.ensures ∙ c.if-has_contents.true) c.size.ensures c.hashes.ensures
 
 pub loop-self-preserved : goal.loop-self-preserved
-loop-self-preserved c =
-    (c.loop-self.invariant.0, c.loop-self.invariant.1,
-     sym (other_file (c.args.self.now.folder + 1) c.loop-self.self.file (list_value c.args.files) (file_value c.get-file.result) (grind arith) c.get-file.ensures (sym c.has_contents.ensures ∙ c.if-has_contents.false)) ∙ c.loop-self.invariant.2)
+loop-self-preserved c = (
+  c.loop-self.invariant.0,
+  c.loop-self.invariant.1,
+  sym (other_file (c.args.self.now.folder + 1) c.loop-self.self.file (list_value c.args.files) (file_value c.get-file.result) (grind arith) c.get-file.ensures (sym c.has_contents.ensures ∙ c.if-has_contents.false)) ∙ c.loop-self.invariant.2,
+)
 
 pub returns-clause-taken : goal.returns-clause-taken
 returns-clause-taken c =

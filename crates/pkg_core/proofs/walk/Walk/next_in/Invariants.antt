@@ -11,7 +11,7 @@ invariant-loop-self l =
     (l.self.folders ≡ l.initial.self.folders)
     × (l.self.folder ≡ l.initial.self.folder)
     × (files_from (l.initial.self.folder + 1) (l.self.file + 1) (drop l.self.file (list_of (entries_in (list_value l.files))))
-        ≡ files_from (l.initial.self.folder + 1) (l.initial.self.file + 1) (drop l.initial.self.file (list_of (entries_in (list_value l.files)))))
+    ≡ files_from (l.initial.self.folder + 1) (l.initial.self.file + 1) (drop l.initial.self.file (list_of (entries_in (list_value l.files)))))
 
 abbrev pub decreases-loop-self : goal.decreases-loop-self
 decreases-loop-self l = count_of (entries_in (list_value l.files)) - l.self.file

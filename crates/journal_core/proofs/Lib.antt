@@ -1,0 +1,16 @@
+pub mod Agree
+pub mod AtName
+pub mod Compose
+pub mod Container
+pub mod FillRun
+pub mod History
+pub mod Images
+pub mod Joined
+pub mod Proper
+pub mod Refuted
+pub mod Settle
+pub mod Simulate
+pub mod StageNames
+pub mod Steps
+pub mod Suffix
+pub mod Worked

@@ -1,0 +1,114 @@
+-- What each call of a replacement keeps.
+use Rattle.std.proofs.Common.{◌≡◌, ◌≢◌, inl, inr, ⊎_elim, ℕ, ◌<◌, ◌≤◌, Bool, false, cond, List, [], Option, None, Some, refl, sym, ap, subst, ◌∙◌, arith}
+use Rattle.std.proofs.lemmas.Bool.{ne_eqb, eq-eqb}
+use Rattle.base_core.specs.Files.{NameMap}
+use Rattle.base_core.specs.Tree.{File, TreeState, bytes_at, files_by, files_of, set_file, change_at, after_create, remove_at, after_remove, IsMapOf, IsWhole}
+use Rattle.journal_core.specs.Recovery.{IsStill}
+use Rattle.journal_core.specs.Filling.{IsPrivate, IsUntouched, IsFilling}
+use Rattle.journal_core.proofs.AtName.{name_cases, put-at, put-off, drop_name-off}
+use Rattle.journal_core.proofs.Images.{quiet_on, quiet_same}
+use Rattle.journal_core.proofs.Simulate.{file_at, bytes_of_same, rests_off, Simulates, simulated_orderly, simulated_quiet}
+
+pub untouched_start : (name : List ℕ) (v : TreeState) → IsUntouched name v v
+untouched_start name v = record { still = λ X orderly private. record { orderly = orderly; quiet = quiet_same X v; made = omega arith }; others = λ q ne. refl }
+
+still_on : (X : List ℕ → Bool) (start v w : TreeState) → IsStill X start v → Simulates X v w → v.made ≤ w.made → IsStill X start w
+still_on X start v w was simulates more =
+    let orderly = simulated_orderly X v w was.orderly simulates in
+    record { orderly = orderly; quiet = quiet_on X start v w was.quiet (simulated_quiet X v w orderly simulates); made = omega (arith, was.made, more) }
+
+-- a step that simulates and leaves the other files as read
+untouched_on : (name : List ℕ) (start v w : TreeState) → IsUntouched name start v → ((X : List ℕ → Bool) → IsPrivate X name → Simulates X v w) → v.made ≤ w.made → ((q : List ℕ) → q ≢ name → files_of w q ≡ files_of v q) → IsUntouched name start w
+untouched_on name start v w was simulates more others = record {
+  still = λ X orderly private. still_on X start v w (was.still X orderly private) (simulates X private) more;
+  others = λ q ne. others q ne ∙ was.others q ne;
+}
+
+-- ---- remove
+
+remove_simulates : (X : List ℕ → Bool) (name : List ℕ) → IsPrivate X name → (v : TreeState) (n : Option ℕ) → Simulates X v (remove_at name v n)
+remove_simulates X name private v None m among = (m, among, λ q rests. refl)
+remove_simulates X name private v (Some n) m (inl new) =
+    (v.names, inl refl, λ q rests. ap (file_at v.files) (sym (ap (λ (f : NameMap). f q) new ∙ drop_name-off v.names name q (rests_off X name private (files_by v v.names) q rests))))
+remove_simulates X name private v (Some n) m (inr old) = (m, old, λ q rests. refl)
+
+remove_made : (name : List ℕ) (v : TreeState) (n : Option ℕ) → v.made ≤ (remove_at name v n).made
+remove_made name v None = omega arith
+remove_made name v (Some n) = omega arith
+
+remove_others : (name : List ℕ) (v : TreeState) (n : Option ℕ) (q : List ℕ) → q ≢ name → files_of (remove_at name v n) q ≡ files_of v q
+remove_others name v None q ne = refl
+remove_others name v (Some n) q ne = ap (bytes_at v.files) (drop_name-off v.names name q ne)
+
+pub untouched-removed : (name : List ℕ) (start v : TreeState) → IsUntouched name start v → IsUntouched name start (after_remove name v)
+untouched-removed name start v was = untouched_on name start v _ was (λ X private. remove_simulates X name private v (v.names name)) (remove_made name v (v.names name)) (remove_others name v (v.names name))
+
+-- ---- create
+
+set_file-off : (files : ℕ → File) (n : ℕ) (f : File) (k : ℕ) → k ≢ n → set_file files n f k ≡ files k
+set_file-off files n f k ne = ap (λ b. cond b f (files k)) (ne_eqb k n ne)
+
+pub set_file-at : (files : ℕ → File) (n : ℕ) (f : File) (k : ℕ) → k ≡ n → set_file files n f k ≡ f
+set_file-at files n f k is = ap (λ b. cond b f (files k)) (eq-eqb k n is)
+
+pub file_at-set_file : (files : ℕ → File) (n : ℕ) (f : File) (k : Option ℕ) → k ≢ Some n → file_at (set_file files n f) k ≡ file_at files k
+file_at-set_file files n f None ne = refl
+file_at-set_file files n f (Some k) ne = ap Some (set_file-off files n f k (λ is. ne (ap Some is)))
+
+pub bytes_at-set_file : (files : ℕ → File) (n : ℕ) (f : File) (k : Option ℕ) → k ≢ Some n → bytes_at (set_file files n f) k ≡ bytes_at files k
+bytes_at-set_file files n f k ne = bytes_of_same _ _ k k (file_at-set_file files n f k ne)
+
+pub made_later : (v : TreeState) → IsWhole v → (m : NameMap) → IsMapOf v m → (q : List ℕ) → m q ≢ Some v.made
+made_later v whole m among q is = let below : v.made < v.made = whole.made m among q v.made is in absurd (omega arith)
+
+create_simulates : (X : List ℕ → Bool) (name : List ℕ) → IsPrivate X name → (v : TreeState) → IsWhole v → Simulates X v (after_create name v)
+create_simulates X name private v whole m (inl new) = (
+  v.names,
+  inl refl,
+  λ q rests.
+      sym (ap (λ (f : NameMap). file_at (after_create name v).files (f q)) new
+      ∙ ap (file_at (after_create name v).files) (put-off v.names name v.made q (rests_off X name private (files_by v v.names) q rests))
+      ∙ file_at-set_file v.files v.made _ (v.names q) (made_later v whole v.names (inl refl) q)),
+)
+create_simulates X name private v whole m (inr old) = (m, old, λ q rests. sym (file_at-set_file v.files v.made _ (m q) (made_later v whole m old q)))
+
+pub create_others : (name : List ℕ) (v : TreeState) → IsWhole v → (q : List ℕ) → q ≢ name → files_of (after_create name v) q ≡ files_of v q
+create_others name v whole q ne = ap (bytes_at (after_create name v).files) (put-off v.names name v.made q ne) ∙ bytes_at-set_file v.files v.made _ (v.names q) (made_later v whole v.names (inl refl) q)
+
+pub untouched-created : (name : List ℕ) (start v : TreeState) → IsWhole v → IsUntouched name start v → IsUntouched name start (after_create name v)
+untouched-created name start v whole was = untouched_on name start v _ was (λ X private. create_simulates X name private v whole) (omega arith) (create_others name v whole)
+
+pub create_alone : (name : List ℕ) (v : TreeState) → IsWhole v → (m : NameMap) → IsMapOf (after_create name v) m → (q : List ℕ) → m q ≡ Some v.made → q ≡ name
+create_alone name v whole m (inl new) q is = ⊎_elim (λ same. same)
+    (λ off. absurd (made_later v whole v.names (inl refl) q (sym (ap (λ b. cond b (Some v.made) (v.names q)) off) ∙ sym (ap (λ (f : NameMap). f q) new) ∙ is)))
+    (name_cases q name)
+create_alone name v whole m (inr old) q is = absurd (made_later v whole m old q is)
+
+pub filling-created : (name : List ℕ) (start v : TreeState) → IsWhole v → IsUntouched name start v → IsFilling name (record { bytes = []; synced = false }) start (after_create name v)
+filling-created name start v whole was = record {
+  untouched = untouched-created name start v whole was;
+  number = v.made;
+  there = put-at v.names name v.made name refl;
+  holds = set_file-at v.files v.made _ v.made refl;
+  alone = create_alone name v whole;
+}
+
+-- ---- append and sync
+
+change_simulates : (X : List ℕ → Bool) (name : List ℕ) → IsPrivate X name → (change : File → File) (v : TreeState) (n : ℕ) → ((m : NameMap) → IsMapOf v m → (q : List ℕ) → m q ≡ Some n → q ≡ name) → Simulates X v (change_at change v (Some n))
+change_simulates X name private change v n alone m among =
+    (m, among, λ q rests. sym (file_at-set_file v.files n _ (m q) (λ is. rests_off X name private (files_by v m) q rests (alone m among q is))))
+
+filling_at : (name : List ℕ) (change : File → File) (file : File) (start v : TreeState) → (was : IsFilling name file start v) → IsFilling name (change file) start (change_at change v (Some was.number))
+filling_at name change file start v was = record {
+  untouched = untouched_on name start v _ was.untouched (λ X private. change_simulates X name private change v was.number was.alone) (omega arith)
+      (λ q ne. bytes_at-set_file v.files was.number _ (v.names q) (λ is. ne (was.alone v.names (inl refl) q is)));
+  number = was.number;
+  there = was.there;
+  holds = set_file-at v.files was.number _ was.number refl ∙ ap change was.holds;
+  alone = was.alone;
+}
+
+pub filling_on : (name : List ℕ) (change : File → File) (file : File) (start v : TreeState) → IsFilling name file start v → IsFilling name (change file) start (change_at change v (v.names name))
+filling_on name change file start v was =
+    subst (λ n. IsFilling name (change file) start (change_at change v n)) (sym was.there) (filling_at name change file start v was)

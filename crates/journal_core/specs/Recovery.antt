@@ -1,0 +1,126 @@
+-- What files stand for, also in the midst of a change: the intent that is still to be done, and the names that no state has.
+use Rattle.std.specs.Prelude.{◌≡◌, ◌⊎◌, ◌≤◌, ◌<◌, ℕ, ◌+◌, Bool, false, ◌||◌, if◌then◌else◌, List, [], ◌∷◌, ◌++◌, map, length, Option, Some, None, codes, decimal, nat_eq}
+use Rattle.std.specs.Str.{bytes_eq}
+use Rattle.std.specs.List.{starts_with, list_any}
+use Rattle.base_core.specs.Files.{Files, drop_name, move_name}
+use Rattle.base_core.specs.Tree.{TreeState}
+use Rattle.base_core.specs.Crash.{IsImage, IsOrderly}
+use Rattle.base_core.specs.declared.cause.Cause.{Cause}
+use Rattle.adb_view.specs.Plain.{Plain}
+use Rattle.adb_schema.specs.Repeated.{entries_at}
+use Rattle.adb_schema.specs.Soundness.{first_fault, payload_in, root_value}
+use Rattle.adb_schema.specs.Views.{text_in}
+use Rattle.adb_schema.specs.declared.schema.Which.TheVariants.{Intent as IntentTable}
+
+-- ---- names
+
+-- the file that tells what is left to do
+abbrev pub intent_name : List ℕ
+intent_name = codes "lib/apk/intent"
+
+-- where new files wait for their names
+abbrev pub stage_folder : List ℕ
+stage_folder = codes "lib/apk/stage"
+
+abbrev pub is_staged : List ℕ → Bool
+is_staged name = starts_with nat_eq name (stage_folder ++ codes "/")
+
+-- the name of the file that waits as number k, in decimal digits
+abbrev pub stage_name : ℕ → List ℕ
+stage_name k = stage_folder ++ (codes "/" ++ decimal k)
+
+-- ---- the intent
+
+-- the names to be removed, and the names whose new files wait as number 1, 2, and so on
+pub record Intent : Type 0 where
+  pub removals : List (List ℕ)
+  pub writes : List (List ℕ)
+
+-- the two lists of an intent container's plain value
+abbrev pub intent_in : Plain → Intent
+intent_in v = record { removals = map text_in (entries_at 0 v); writes = map text_in (entries_at 1 v) }
+
+abbrev pub intent_unless : Option Cause → Plain → Option Intent
+intent_unless None v = Some (intent_in v)
+intent_unless (Some cause) v = None
+
+-- the intent that a file's bytes spell, or none where they are no intent container
+unfoldable pub read_intent : List ℕ → Option Intent
+read_intent file = intent_unless (first_fault IntentTable file) (root_value IntentTable (payload_in file))
+
+abbrev pub intent_at : Option (List ℕ) → Option Intent
+intent_at None = None
+intent_at (Some file) = read_intent file
+
+abbrev pub intent_of : Files → Option Intent
+intent_of files = intent_at (files intent_name)
+
+-- ---- its actions
+
+-- the files without those of some names
+abbrev pub without : List (List ℕ) → Files → Files
+without names files q = if list_any (bytes_eq q) names then None else files q
+
+-- a file that stands at a name is moved to another name
+abbrev pub move_if : Files → List ℕ → List ℕ → Option (List ℕ) → Files
+move_if files from to None = files
+move_if files from to (Some bytes) = move_name files from to bytes
+
+-- the waiting files from number k on are moved to their names; one that is absent was moved before
+abbrev pub unstaged : ℕ → List (List ℕ) → Files → Files
+unstaged k [] files = files
+unstaged k (name ∷ names) files = unstaged (k + 1) names (move_if files (stage_name k) name (files (stage_name k)))
+
+-- the files once all actions are done
+abbrev pub acted : Intent → Files → Files
+acted intent files = unstaged 1 intent.writes (without intent.removals files)
+
+-- ---- what files stand for
+
+abbrev pub recovered_by : Option Intent → Files → Files
+recovered_by None files = files
+recovered_by (Some intent) files = drop_name (acted intent files) intent_name
+
+-- the files once their intent is done and gone; the same files, where there is none or it is no intent container
+abbrev pub recovered : Files → Files
+recovered files = recovered_by (intent_of files) files
+
+-- the names that no state has: the intent, the waiting files, and further names X
+abbrev pub is_hidden : (List ℕ → Bool) → List ℕ → Bool
+is_hidden X name = bytes_eq name intent_name || (is_staged name || X name)
+
+-- the state that files stand for, apart from the names X
+abbrev pub state_of : (List ℕ → Bool) → Files → Files
+state_of X files q = if is_hidden X q then None else recovered files q
+
+-- ---- order
+
+-- where a file waits for an action of this intent
+abbrev pub IsPlaceOf : Option Intent → List ℕ → Type 0
+IsPlaceOf None q = ⊥
+IsPlaceOf (Some intent) q = (k : ℕ) × (1 ≤ k) × (k < 1 + length intent.writes) × (q ≡ stage_name k)
+
+-- the state of files rests on their intent, on each file that is not hidden, and on those that wait for the intent's actions
+abbrev pub RestsOn : (List ℕ → Bool) → Files → List ℕ → Type 0
+RestsOn X files q = (q ≡ intent_name) ⊎ (((is_staged q || X q) ≡ false) ⊎ IsPlaceOf (intent_of files) q)
+
+-- ---- what a crash leaves, as states
+
+-- each crash leaves a state that one at an earlier moment might have left
+abbrev pub IsQuiet : (List ℕ → Bool) → TreeState → TreeState → Type 0
+IsQuiet X start v = (image : Files) → IsImage v image → (was : Files) × IsImage start was × (state_of X image ≡ state_of X was)
+
+-- each crash leaves the state of these files
+abbrev pub IsSettled : (List ℕ → Bool) → Files → TreeState → Type 0
+IsSettled X files v = (image : Files) → IsImage v image → state_of X image ≡ state_of X files
+
+-- each crash leaves a state that one at an earlier moment might have left, or that of these files
+abbrev pub IsOldOrNew : (List ℕ → Bool) → TreeState → Files → TreeState → Type 0
+IsOldOrNew X start files v = (image : Files) → IsImage v image
+    → ((was : Files) × IsImage start was × (state_of X image ≡ state_of X was)) ⊎ (state_of X image ≡ state_of X files)
+
+-- an orderly moment at which nothing has happened to the state; files may have been made
+pub record IsStill (X : List ℕ → Bool) (start v : TreeState) : Type 0 where
+  pub orderly : IsOrderly (RestsOn X) v
+  pub quiet : IsQuiet X start v
+  pub made : start.made ≤ v.made

@@ -1,0 +1,143 @@
+-- In a package whose texts keep their rules each file with contents has a digest of one of the three functions.
+use Rattle.std.proofs.Common.{◌≡◌, ℕ, zero, suc, ◌+◌, ◌⊎◌, inl, inr, Bool, true, false, ◌||◌, ◌==◌, if◌then◌else◌, List, [], ◌∷◌, ◌++◌, length, Option, Some, None, refl, ap, sym, ◌∙◌, subst, arith, add-zero}
+use Rattle.std.proofs.lemmas.Slice.Eq.{bytes_eq-Decides}
+use Rattle.std.specs.Prelude.{bytes_eq}
+use Rattle.sha1.specs.Sha1.{sha1}
+use Rattle.sha2.specs.Sha256.{sha256}
+use Rattle.sha2.specs.Sha512.{sha512}
+use Rattle.base_core.specs.declared.cause.Cause.{Cause}
+use Rattle.base_core.specs.declared.cause.Cause.TheVariants.{BadText, HashDiffers}
+use Rattle.base_core.specs.declared.cause.Digest.{Digest}
+use Rattle.base_core.specs.declared.cause.Digest.TheVariants.{Sha1, Sha256, Sha512}
+use Rattle.adb_view.specs.Plain.{Plain, null, Plains, none, more, Shape, hash, array, Fields, no_fields, field}
+use Rattle.adb_schema.specs.Walk.{or_else}
+use Rattle.adb_schema.specs.Repeated.{list_of, files_in}
+use Rattle.adb_schema.specs.Rules.{is_digest_length, is_digest_length_or_none}
+use Rattle.adb_schema.specs.Schema.{shape_of, shapes_of, table}
+use Rattle.adb_schema.specs.Texts.{Around, Leaf, text_leaf, keeps_rule, place_of, leaves, field_leaves, each_leaf, inside_of, at_root, first_bad, text_fault, text_rule, is_with_contents, needs_hash}
+use Rattle.adb_schema.specs.Views.{nth, entries_in, entry_in, int_in, text_in}
+use Rattle.adb_schema.specs.declared.schema.Which.{Which}
+use Rattle.adb_schema.specs.declared.schema.Kind.TheVariants.{Obj}
+use Rattle.adb_schema.specs.declared.schema.Which.TheVariants as Tables
+use Rattle.adb_schema.proofs.TextSteps.{first_bad-append}
+use Rattle.pkg_core.specs.Contents.{Contents, Expected, AreContentsOf, AreTrueTo, HaveDigests, IsDigestOf, digest_fault, expected_at, expected_contents, files_from, folders_from, hash_fault}
+
+-- ---- a good walk is good at each part
+
+both_none : (o u : Option Cause) → or_else o u ≡ None → (o ≡ None) × (u ≡ None)
+both_none None u h = (refl, h)
+both_none (Some c) u h = (cc)
+
+parts_good : (xs ys : List Leaf) → first_bad (xs ++ ys) ≡ None → (first_bad xs ≡ None) × (first_bad ys ≡ None)
+parts_good xs ys h = both_none (first_bad xs) (first_bad ys) (sym (first_bad-append xs ys) ∙ h)
+
+abbrev shape_at : Fields → ℕ → Option Shape
+shape_at no_fields i = None
+shape_at (field name s fs) zero = Some s
+shape_at (field name s fs) (suc i) = shape_at fs i
+
+field_good : (fs : Fields) (i place : ℕ) (around : Around) (vs : Plains) (s : Shape) → shape_at fs i ≡ Some s → first_bad (field_leaves fs place around vs) ≡ None → first_bad (leaves s (place + i) around (nth vs i)) ≡ None
+unfolding leaves field_leaves
+field_good no_fields i place around vs s e h = (cc)
+field_good (field name t fs) zero place around none s e h =
+    let same : t ≡ s = (cc) in
+    subst (λ (u : Shape). first_bad (leaves u (place + 0) around null) ≡ None) same (subst (λ n. first_bad (leaves t n around null) ≡ None) (sym (add-zero place)) (parts_good (leaves t place around null) (field_leaves fs (place + 1) around none) h).0)
+field_good (field name t fs) zero place around (more v vs) s e h =
+    let same : t ≡ s = (cc) in
+    subst (λ (u : Shape). first_bad (leaves u (place + 0) around v) ≡ None) same (subst (λ n. first_bad (leaves t n around v) ≡ None) (sym (add-zero place)) (parts_good (leaves t place around v) (field_leaves fs (place + 1) around vs) h).0)
+field_good (field name t fs) (suc i) place around none s e h =
+    let n : place + 1 + i ≡ place + suc i = omega arith in
+    subst (λ m. first_bad (leaves s m around null) ≡ None) n (field_good fs i (place + 1) around none s e (parts_good (leaves t place around null) (field_leaves fs (place + 1) around none) h).1)
+field_good (field name t fs) (suc i) place around (more v vs) s e h =
+    let n : place + 1 + i ≡ place + suc i = omega arith in
+    subst (λ m. first_bad (leaves s m around (nth vs i)) ≡ None) n (field_good fs i (place + 1) around vs s e (parts_good (leaves t place around v) (field_leaves fs (place + 1) around vs) h).1)
+
+-- ---- the digest of a file
+
+leaf_good : (leaf : Leaf) → first_bad (leaf ∷ []) ≡ None → keeps_rule leaf ≡ true
+leaf_good leaf h = kept (keeps_rule leaf) h
+  where
+    kept : (b : Bool) → (if b then None else Some (BadText (place_of leaf))) ≡ None → b ≡ true
+    kept true h = refl
+    kept false h = (cc)
+
+is_needed : (root : Which) (has_contents : Bool) (n : ℕ) → root ≡ Tables.Package → has_contents ≡ true → (if needs_hash root has_contents then is_digest_length n else is_digest_length_or_none n) ≡ true → is_digest_length n ≡ true
+is_needed root has_contents n e c h =
+    let needed : needs_hash root has_contents ≡ true = ap (λ r. needs_hash r has_contents) e ∙ c in
+    subst (λ b. (if b then is_digest_length n else is_digest_length_or_none n) ≡ true) needed h
+
+file_good : (place : ℕ) (around : Around) (f : Plain) → around.root ≡ Tables.Package → is_with_contents f ≡ true → first_bad (leaves (shape_of (Obj Tables.File)) place around f) ≡ None → is_digest_length (length (text_in (entry_in f 4))) ≡ true
+unfolding shape_of leaves text_rule
+file_good place around f root c h =
+    let leaf = field_good (shapes_of (table Tables.File)) 4 401 (inside_of 4 around f) (entries_in f) hash refl h in
+    is_needed around.root (is_with_contents f) (length (text_in (entry_in f 4))) root c (leaf_good (text_leaf 405 (inside_of 4 around f) (text_in (entry_in f 4))) leaf)
+
+-- ---- the digests of all
+
+more_digests : (es fs : List Expected) → HaveDigests es → HaveDigests fs → HaveDigests (es ++ fs)
+more_digests [] fs a b = b
+more_digests (e ∷ es) fs a b = (a.0, more_digests es fs a.1 b)
+
+file_digests : (d i place : ℕ) (around : Around) (f : Plain) → around.root ≡ Tables.Package → first_bad (leaves (shape_of (Obj Tables.File)) place around f) ≡ None → HaveDigests (expected_at d i f)
+file_digests d i place around f root h = by_contents (is_with_contents f) refl
+  where
+    by_contents : (b : Bool) → is_with_contents f ≡ b → HaveDigests (if b then record { folder = d; file = i; size = int_in (entry_in f 2); hash = text_in (entry_in f 4) } ∷ [] else [])
+    by_contents true c = (file_good place around f root c h, tt)
+    by_contents false c = tt
+
+files_digests : (d i place : ℕ) (around : Around) (vs : Plains) → around.root ≡ Tables.Package → first_bad (each_leaf (leaves (shape_of (Obj Tables.File)) place around) vs) ≡ None → HaveDigests (files_from d i (list_of vs))
+files_digests d i place around none root h = tt
+files_digests d i place around (more f vs) root h =
+    let parts = parts_good (leaves (shape_of (Obj Tables.File)) place around f) (each_leaf (leaves (shape_of (Obj Tables.File)) place around) vs) h in
+    more_digests (expected_at d i f) (files_from d (i + 1) (list_of vs)) (file_digests d i place around f root parts.0) (files_digests d (i + 1) place around vs root parts.1)
+
+folder_digests : (d place : ℕ) (around : Around) (folder : Plain) → around.root ≡ Tables.Package → first_bad (leaves (shape_of (Obj Tables.Dir)) place around folder) ≡ None → HaveDigests (files_from d 1 (files_in folder))
+unfolding shape_of leaves
+folder_digests d place around folder root h =
+    let files = field_good (shapes_of (table Tables.Dir)) 2 501 (inside_of 5 around folder) (entries_in folder) (array (shape_of (Obj Tables.File))) refl h in
+    files_digests d 1 503 (inside_of 5 around folder) (entries_in (entry_in folder 2)) root files
+
+folders_digests : (i place : ℕ) (around : Around) (vs : Plains) → around.root ≡ Tables.Package → first_bad (each_leaf (leaves (shape_of (Obj Tables.Dir)) place around) vs) ≡ None → HaveDigests (folders_from i (list_of vs))
+folders_digests i place around none root h = tt
+folders_digests i place around (more d vs) root h =
+    let parts = parts_good (leaves (shape_of (Obj Tables.Dir)) place around d) (each_leaf (leaves (shape_of (Obj Tables.Dir)) place around) vs) h in
+    more_digests (files_from i 1 (files_in d)) (folders_from (i + 1) (list_of vs)) (folder_digests i place around d root parts.0) (folders_digests (i + 1) place around vs root parts.1)
+
+pub texts_give_digests : (v : Plain) → text_fault Tables.Package v ≡ None → HaveDigests (expected_contents v)
+unfolding shape_of leaves
+texts_give_digests v h =
+    let folders = field_good (shapes_of (table Tables.Package)) 1 701 (inside_of 7 (at_root Tables.Package) v) (entries_in v) (array (shape_of (Obj Tables.Dir))) refl h in
+    folders_digests 1 702 (inside_of 7 (at_root Tables.Package) v) (entries_in (entry_in v 1)) refl folders
+
+-- ---- what a good digest says
+
+equal_digests : (as_digest : List ℕ → Digest) (wanted found : List ℕ) → digest_fault as_digest wanted found ≡ None → wanted ≡ found
+equal_digests as_digest wanted found h = (bytes_eq-Decides wanted found).0 (kept (bytes_eq wanted found) h)
+  where
+    kept : (b : Bool) → (if b then None else Some (HashDiffers (as_digest wanted) (as_digest found))) ≡ None → b ≡ true
+    kept true h = refl
+    kept false h = (cc)
+
+one_of_three : (a b c : Bool) (x y z : Option Cause) → ((a || b) || c) ≡ true → (if a then x else if b then y else if c then z else None) ≡ None → (x ≡ None) ⊎ ((y ≡ None) ⊎ (z ≡ None))
+one_of_three true b c x y z h e = inl e
+one_of_three false true c x y z h e = inr (inl e)
+one_of_three false false true x y z h e = inr (inr e)
+one_of_three false false false x y z h e = (cc)
+
+digest_is : (wanted bytes : List ℕ) → is_digest_length (length wanted) ≡ true → hash_fault wanted bytes ≡ None → IsDigestOf wanted bytes
+unfolding hash_fault
+digest_is wanted bytes h e =
+    elim (one_of_three (length wanted == 20) (length wanted == 32) (length wanted == 64) (digest_fault Sha1 wanted (sha1 bytes)) (digest_fault Sha256 wanted (sha256 bytes)) (digest_fault Sha512 wanted (sha512 bytes)) h e) [
+      | inl x ↦ inl (equal_digests Sha1 wanted (sha1 bytes) x)
+      | inr y ↦ elim y [
+        | inl x ↦ inr (inl (equal_digests Sha256 wanted (sha256 bytes) x))
+        | inr x ↦ inr (inr (equal_digests Sha512 wanted (sha512 bytes) x))
+      ]
+    ]
+
+pub true_contents : (es : List Expected) (all : List Contents) → HaveDigests es → AreContentsOf es all → AreTrueTo es all
+true_contents [] [] d h = tt
+true_contents [] (c ∷ cs) d h = h
+true_contents (e ∷ es) [] d h = h
+true_contents (e ∷ es) (c ∷ cs) d h =
+    (record { folder = h.0.folder; file = h.0.file; size = h.0.size; digest = digest_is e.hash c.bytes d.0 h.0.hash }, true_contents es cs d.1 h.1)
