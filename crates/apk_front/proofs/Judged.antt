@@ -23,6 +23,7 @@ use Rattle.outcome.specs.Outcome.{IsFoundOutcome, IsFoundOutcomeOf, IsOutcome, I
 use Rattle.outcome.specs.Reach.{rests_on_words, does_rest_on_words}
 use Rattle.apk_front.specs.Answers.{IsAnswer, IsAnswerOf, LeavesFiles, LeavesAny, HasCauses, IsFaultless, IsComplete, FailedAt}
 use Rattle.apk_front.specs.Shown.{shown, IsTold, IsShown}
+use Rattle.apk_front.proofs.Telling.{either_failed}
 use Rattle.apk_front.specs.declared.answer.Answer.{Answer}
 use Rattle.apk_front.specs.declared.answer.Answer.TheVariants.{Ok as Good, Refused, TreeFault as TreeFailed, OutFault, Memory}
 use Rattle.apk_front.specs.declared.verdict.Verdict.{Verdict}
@@ -114,7 +115,7 @@ complete_by : (words : List (List ℕ)) (files : Files) (Leaves : Outcome → Ty
     → IsAnswer words files Leaves (HasCause before after) answer out err → IsFaultless before after out err → IsComplete words files answer
 complete_by words files Leaves before after Good out err (o, is, stated, leaves) faultless = inr (o, is, stated.same)
 complete_by words files Leaves before after (Refused refusal) out err (o, is, stated, leaves) faultless = inr (o, is, stated.same)
-complete_by words files Leaves before after OutFault out err (o, is, fault, leaves) faultless = absurd (not_failed o before after out err faultless fault.cause)
+complete_by words files Leaves before after OutFault out err (o, is, fault, leaves) faultless = absurd (not_failed o before after out err faultless (either_failed fault.which))
 complete_by words files Leaves before after TreeFailed out err (cause, fault) faultless = absurd (faultless.tree cause.fault)
 complete_by words files Leaves before after Memory out err fault faultless = inl refl
 
@@ -177,7 +178,7 @@ failed_at outcome out err (inr failed) = inr failed.failed
 told_causes : (tree_failed : Type 0) (o : Outcome) (answer : Answer) (out err : Sinking) → IsTold o answer out err → HasCauses answer tree_failed out err
 told_causes tree_failed o Good out err told = tt
 told_causes tree_failed o (Refused refusal) out err told = tt
-told_causes tree_failed o OutFault out err told = failed_at o out err told.cause
+told_causes tree_failed o OutFault out err told = failed_at o out err (either_failed told.which)
 told_causes tree_failed o TreeFailed out err told = absurd told
 told_causes tree_failed o Memory out err told = absurd told
 

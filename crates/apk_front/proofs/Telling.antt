@@ -1,5 +1,5 @@
 -- A report, and the line of a refusal behind it.
-use Rattle.std.proofs.Common.{◌≡◌, ◌≢◌, inl, inr, ℕ, List, [], Option, Some, None, Err, refl, sym, ap, subst, ◌∙◌, append-nil}
+use Rattle.std.proofs.Common.{◌≡◌, ◌≢◌, ◌⊎◌, inl, inr, ℕ, List, [], Option, Some, None, Err, refl, sym, ap, subst, ◌∙◌, append-nil}
 use Rattle.base_core.specs.Files.{Files}
 use Rattle.base_core.specs.Sink.{Adds, AddsSome, Sinking, Gets, GetsSome, Failed, Writes}
 use Rattle.report_core.specs.Texts.{refusal_line}
@@ -25,6 +25,11 @@ none_some old bytes = record { front = []; rest = bytes; whole = refl; added = a
 line_some : (refusal : Refusal) → refusal_line refusal ≢ []
 line_some refusal e = cc
 
+-- which of the two sinks failed
+pub either_failed : {A B C D : Type 0} → (A × C) ⊎ (B × D) → A ⊎ B
+either_failed (inl w) = inl w.0
+either_failed (inr w) = inr w.0
+
 -- the report was written
 pub told_behind : (refusal : Option Refusal) (report : List ℕ) (files : Files) (answer : Answer) (out err : Sinking) → Gets out report → IsRefused refusal answer err → IsTold (told refusal report files) answer out err
 told_behind None report files answer out err got told_it = subst (λ (a : Answer). IsTold (told None report files) a out err) (sym told_it.0) (record { same = refl; out_gets = got; err_gets = told_it.1 })
@@ -32,12 +37,12 @@ told_behind (Some refusal) report files answer out err got (inl (is, gets)) =
     subst (λ (a : Answer). IsTold (told (Some refusal) report files) a out err) (sym is) (record { same = refl; out_gets = got; err_gets = gets })
 told_behind (Some refusal) report files answer out err got (inr (is, gets, failed)) =
     subst (λ (a : Answer). IsTold (told (Some refusal) report files) a out err) (sym is)
-    (record { cause = inr (record { some = line_some refusal; failed = failed }); out_gets = all_some out.told_before out.told_after report got; err_gets = gets })
+    (record { which = inr (record { some = line_some refusal; failed = failed }, got); out_gets = all_some out.told_before out.told_after report got; err_gets = gets })
 
 -- the report was not written
 pub told_not : (refusal : Option Refusal) (report : List ℕ) (files : Files) (out err : Sinking) → report ≢ [] → GetsSome out report → Failed out → err.told_after ≡ err.told_before → IsTold (told refusal report files) OutFault out err
 told_not refusal report files out err some gets failed same = record {
-  cause = inl (record { some = some; failed = failed });
+  which = inl (record { some = some; failed = failed }, subst (λ (t : Option (List ℕ)). Adds err.told_before t []) (sym same) (adds_none err.told_before));
   out_gets = gets;
   err_gets = subst (λ (t : Option (List ℕ)). AddsSome err.told_before t (line_of refusal)) (sym same) (none_some err.told_before (line_of refusal));
 }

@@ -7,6 +7,7 @@ use Rattle.base_core.specs.Tree.{TreeState, files_of}
 use Rattle.apk_front.specs.Answers.{IsAnswer, LeavesFiles, FailedAt, IsUnplanned, IsOutcomeUnlessMemory}
 use Rattle.outcome.specs.Told.{Outcome}
 use Rattle.base_core.specs.Sink.{Sinking, KeepsCount}
+use Rattle.apk_front.proofs.Telling.{either_failed}
 use Rattle.apk_front.specs.declared.answer.Answer.{Answer}
 use Rattle.apk_front.specs.declared.answer.Answer.TheVariants.{Ok as Good, Refused, TreeFault, OutFault, Memory}
 
@@ -32,7 +33,7 @@ ends_as_stated : (words : List (List ℕ)) (files : Files) (Leaves : Outcome →
 ends_as_stated words files Leaves before after Good out err stated same keeps_out keeps_err calm calm_out calm_err = stated
 ends_as_stated words files Leaves before after (Refused refusal) out err stated same keeps_out keeps_err calm calm_out calm_err = stated
 ends_as_stated words files Leaves before after TreeFault out err (cause, fault) same keeps_out keeps_err calm calm_out calm_err = wanted before after calm same cause
-ends_as_stated words files Leaves before after OutFault out err (o, is, fault, leaves) same keeps_out keeps_err calm calm_out calm_err = sink_wanted o out err calm_out calm_err keeps_out keeps_err fault.cause
+ends_as_stated words files Leaves before after OutFault out err (o, is, fault, leaves) same keeps_out keeps_err calm calm_out calm_err = sink_wanted o out err calm_out calm_err keeps_out keeps_err (either_failed fault.which)
 ends_as_stated words files Leaves before after Memory out err fault same keeps_out keeps_err calm calm_out calm_err = tt
 
 pub ends_unless_memory : (reads : Bool) (words : List (List ℕ)) (old now : List TreeState) (before after : Counts) (answer : Answer) (out err : Sinking)

@@ -43,9 +43,9 @@ pub record IsStated (outcome : Outcome) (answer : Answer) (out err : Sinking) : 
   pub out_gets : Gets out outcome.out
   pub err_gets : Gets err outcome.err
 
--- a sink failed in place of an outcome's answer
+-- a sink failed in place of an outcome's answer: out, and then nothing is printed on err; or err, behind the whole report on out
 pub record IsOutFault (outcome : Outcome) (out err : Sinking) : Type 0 where
-  pub cause : FailedAt out outcome.out ⊎ FailedAt err outcome.err
+  pub which : (FailedAt out outcome.out × Gets err []) ⊎ (FailedAt err outcome.err × Gets out outcome.out)
   pub out_gets : GetsSome out outcome.out
   pub err_gets : GetsSome err outcome.err
 

@@ -32,7 +32,7 @@ pub fn apk<T: Tree, O: Sink, E: Sink>(
         (HasCause (T.counts tree.old) (T.counts tree.new)) result
         (sinking O.bytes O.counts out.old out.new) (sinking E.bytes E.counts err.old err.new)) }
 
-    // Where no count rose, the answer is the outcome's, or memory ran out.
+    // Where the tree tells its files and no count rose, the answer is the outcome's, or memory ran out.
     ensures complete { OnTold (T.history tree.old) (λ v.
         IsFaultless (T.counts tree.old) (T.counts tree.new) (sinking O.bytes O.counts out.old out.new) (sinking E.bytes E.counts err.old err.new)
         → IsComplete words.now (files_of v) result) }
@@ -42,8 +42,8 @@ pub fn apk<T: Tree, O: Sink, E: Sink>(
     ensures every_tree { IsTrue (rests_on_words (command_of words.now)) → IsAnswer words.now no_names LeavesAny ⊥ result
         (sinking O.bytes O.counts out.old out.new) (sinking E.bytes E.counts err.old err.new) }
 
-    // For every tree, also one that tells nothing: the answer and the bytes are those by something that was found at
-    // each read, or a fault with its cause or want of memory stands in their place.
+    // For every tree, also one that tells nothing: the answer and the bytes are the outcome's by some bytes, or none, for
+    // each file that is read, or a fault with its cause or want of memory stands in their place.
     ensures found { IsAnswerOf (IsFoundOutcome words.now) LeavesAny (HasCause (T.counts tree.old) (T.counts tree.new)) result
         (sinking O.bytes O.counts out.old out.new) (sinking E.bytes E.counts err.old err.new) }
 
@@ -63,7 +63,7 @@ pub fn apk<T: Tree, O: Sink, E: Sink>(
     ensures proper { OnTold (T.history tree.old) (λ v. IsTrue (reads_only (command_of words.now))
         → (T.counts tree.new).misuses ≡ (T.counts tree.old).misuses) }
 
-    // Where no failure is planned of the tree and the sinks, such a command ends as its outcome says, unless memory ran
+    // Where the tree tells its files, and no failure is planned of it and of the sinks, such a command ends as its outcome says, unless memory ran
     // out: the run's, or the own memory of one of the three.
     ensures unless_memory { OnTold (T.history tree.old) (λ v. IsTrue (reads_only (command_of words.now))
         → IsUnplanned (T.counts tree.old) → IsUnplanned (O.counts out.old) → IsUnplanned (E.counts err.old)

@@ -40,7 +40,7 @@ IsOutcome words files outcome = IsOutcomeOf (command_of words) files outcome
 
 -- ---- over a tree that tells nothing
 
--- the outcome of an applet by what it finds at each of its reads
+-- the outcome of an applet by some bytes, or none, for each of its reads, which are counted from 0
 abbrev pub run_by : Applet → CommandLine → (ℕ → Option (List ℕ)) → Outcome
 run_by Verify command found = verify_by found no_names command.operands
 run_by Version command found = version no_names command.flags command.operands
@@ -49,6 +49,6 @@ abbrev pub IsFoundOutcomeOf : Result CommandLine ℕ → Outcome → Type 0
 IsFoundOutcomeOf (Err place) outcome = outcome ≡ refused no_names (Usage place)
 IsFoundOutcomeOf (Ok command) outcome = (found : ℕ → Option (List ℕ)) × (outcome ≡ run_by command.applet command found)
 
--- the outcome of a command line by something that was found at each read; nothing is said of the files
+-- the outcome of a command line by some bytes, or none, for each read; nothing is said of the files
 abbrev pub IsFoundOutcome : List (List ℕ) → Outcome → Type 0
 IsFoundOutcome words outcome = IsFoundOutcomeOf (command_of words) outcome

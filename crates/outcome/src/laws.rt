@@ -6,7 +6,12 @@ ghost use Rattle.outcome.specs.Told.{Outcome, told};
 ghost use Rattle.outcome.specs.Reach.{reads_only, rests_on_words};
 ghost use Rattle.words_core.specs.Grammar.{command_of};
 
-/// A command line has one outcome over some files.
+/// A command line has an outcome over any files.
+pub fn an_outcome_exists()
+    ensures { (words : List (List ℕ)) (files : Files) → (o : Outcome) × IsOutcome words files o }
+{}
+
+/// A command line has one outcome over some files, and no second one.
 pub fn an_outcome_is_unique()
     ensures { (words : List (List ℕ)) (files : Files) (a b : Outcome) → IsOutcome words files a → IsOutcome words files b → a ≡ b }
 {}

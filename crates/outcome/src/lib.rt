@@ -7,6 +7,6 @@
 mod laws;
 
 pub use laws::{
-    a_command_that_reads_leaves_the_files, an_outcome_is_unique,
+    a_command_that_reads_leaves_the_files, an_outcome_exists, an_outcome_is_unique,
     an_outcome_of_words_is_the_same_everywhere,
 };
