@@ -68,3 +68,11 @@ header_first file (Err d) c e = e
 pub values_first : (file : List ℕ) (c : Cause) → first_fault Package file ≡ Some c → package_fault file ≡ Some c
 unfolding first_fault whole_fault
 values_first file c h = header_first file (header_of file) c h
+
+-- both in one
+pub package_steps : (file : List ℕ) → package_fault file ≡ or_else (first_fault Package file) (fault_in (files_in_file file))
+package_steps file = by_values (first_fault Package file) refl
+  where
+    by_values : (o : Option Cause) → first_fault Package file ≡ o → package_fault file ≡ or_else o (fault_in (files_in_file file))
+    by_values None e = files_then file e
+    by_values (Some c) e = values_first file c e
