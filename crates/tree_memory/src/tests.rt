@@ -1,5 +1,5 @@
 use super::*;
-use base_core::{Disk, Name, Sink, SinkFault, Tree, TreeFault, read_all, write_all};
+use base_core::{Disk, Name, Names, Sink, SinkFault, Tree, TreeFault, read_all, write_all};
 use std::alloc::Global;
 use std::test::Fail;
 
@@ -201,6 +201,49 @@ fn stopped_calls_change_nothing(rt: HostRuntime) -> Result<(), Fail> {
     Ok(())
 }
 
+// A folder, and the names below it, each with a line end.
+#[derive(Clone, Copy)]
+struct Listing {
+    folder: &'static [u8],
+    below: &'static [u8],
+}
+
+const LISTINGS: [Listing; 6] = [
+    Listing {
+        folder: b"b",
+        below: b"b/a-\nb/a/x\nb/c\n",
+    },
+    Listing {
+        folder: b"b/a",
+        below: b"b/a/x\n",
+    },
+    Listing {
+        folder: b"b/c",
+        below: b"",
+    },
+    Listing {
+        folder: b"c",
+        below: b"c/b/d\n",
+    },
+    Listing {
+        folder: b"d",
+        below: b"",
+    },
+    Listing {
+        folder: b"0",
+        below: b"",
+    },
+];
+
+fn joined(alloc: Global, names: &Names) -> Result<Vec<u8>, Fail> {
+    let mut bytes = Vec::new(alloc);
+    for i in 0..names.len() {
+        bytes.extend_from_slice(names.get(i).as_bytes())?;
+        bytes.push(b'\n')?;
+    }
+    Ok(bytes)
+}
+
 #[test]
 fn folders_are_listed(rt: HostRuntime) -> Result<(), Fail> {
     let mut tree = MemoryTree::new(rt.alloc());
@@ -208,21 +251,9 @@ fn folders_are_listed(rt: HostRuntime) -> Result<(), Fail> {
     for name in files {
         put(rt.alloc(), &mut tree, name, b"")?;
     }
-    let rows: [(&[u8], &[&[u8]]); 6] = [
-        (b"b", &[b"b/a-", b"b/a/x", b"b/c"]),
-        (b"b/a", &[b"b/a/x"]),
-        (b"b/c", &[]),
-        (b"c", &[b"c/b/d"]),
-        (b"d", &[]),
-        (b"0", &[]),
-    ];
-    for (folder, below) in rows {
-        let names = tree.list(rt.alloc(), &name_of(rt.alloc(), folder)?)?;
-        assert_eq!(rt; names.len(), below.len());
-        for (i, name) in below.iter().enumerate() {
-            assert!(rt; i < names.len());
-            assert_eq!(rt; names.get(i).as_bytes(), *name);
-        }
+    for row in LISTINGS {
+        let names = tree.list(rt.alloc(), &name_of(rt.alloc(), row.folder)?)?;
+        assert_eq!(rt; joined(rt.alloc(), &names)?.as_slice(), row.below);
     }
     assert_eq!(rt; (tree.calls(), tree.writes(), tree.faults()), (6, 0, 0));
     Ok(())
