@@ -7,3 +7,4 @@ pub mod Gives
 pub mod Adb
 pub mod Entries
 pub mod Width
+pub mod Shaped

@@ -2,8 +2,8 @@
 //!
 //! A payload's bytes and a value's word go in; integers, slices of the payload and views of its arrays and objects
 //! come out. Nothing is copied and no memory is taken. The contracts cite `Head` (the bytes before the values),
-//! `Readers` (what a word means), `Plain` (plain values and the shapes of fields) and `Visits` (the words below a
-//! word) of `specs/`.
+//! `Readers` (what a word means), `Plain` (plain values and the shapes of fields), `Shaped` (the values that a shape
+//! has) and `Visits` (the words below a word) of `specs/`.
 #![tactic(auto)]
 
 mod adb;

@@ -6,7 +6,7 @@ use Rattle.std.proofs.lemmas.Bool.{ltb-false}
 use Rattle.adb_view.specs.Plain.{Plain, null, int, blob, arr, obj, Plains, none, more, trimmed, keep, blob_value, arr_value, obj_of, obj_value, Shape, IsNormal, plain_of, value_of}
 use Rattle.adb_view.specs.Readers.{ARRAY, OBJECT}
 use Rattle.adb_write.specs.Canonical.{Cell, in_place, apart, int_cell, blob_cell, run_cell, keep_word, trimmed_words, Layout, here, placed, stored, put_run, Counts, counts_of, passes, payload_of, MOST_BYTES, MOST_VALUES}
-use Rattle.adb_write.specs.Shaped.{HasShape}
+use Rattle.adb_view.specs.Shaped.{HasShape}
 use Rattle.adb_write.specs.Standing.{Holds, HoldAll, IsWordOf, StandsFor, AllStandFor}
 use Rattle.adb_write.specs.Writing.{Writing, counts, is_over, layout, written_as, unless_over, call, finished, int_call, blob_call, arr_call, obj_call}
 use Rattle.adb_write.proofs.RoundTrip.{neq-eqb, Fits, Grows, Grows-Holds, Grows-HoldAll, MadeRun, stored-grows, put_run-grows, int_made, blob_made, run_made, not_null_word, root_again, plain_of-Holds}

@@ -9,7 +9,7 @@ use Rattle.adb_view.specs.Plain.{IsNormal, AreNormal, Plain, null, int, blob, ar
 use Rattle.adb_view.specs.Head.{root_of}
 use Rattle.adb_view.specs.Readers.{kind_of, low_of, inside, counted_at, counted_words, run_at, int_of, blob_of, run_of, ARRAY, OBJECT}
 use Rattle.adb_write.specs.Canonical.{gap, Item, Cell, in_place, apart, int_cell, blob_cell, run_cell, run_bytes, keep_word, trimmed_words, Layout, start, here, placed, stored, put_run, write, write_all, payload_of, canonical, MOST_BYTES}
-use Rattle.adb_write.specs.Shaped.{Each, HasShape, HaveShapes}
+use Rattle.adb_view.specs.Shaped.{Each, HasShape, HaveShapes}
 use Rattle.adb_write.specs.Standing.{Holds, HoldAll, IsWordOf}
 use Rattle.adb_write.proofs.Placed.{Stands, Stands-append, wide8, wide16, wide32, wide64, number_stands, counted_stands, run_stands, words_len, place, placed_stands, word_kind, word_low}
 

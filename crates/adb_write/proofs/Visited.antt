@@ -7,7 +7,7 @@ use Rattle.adb_view.specs.Head.{root_of}
 use Rattle.adb_view.specs.Visits.{Visit, visits, field_visits, each_visit, or_empty}
 use Rattle.adb_write.specs.Canonical.{start, write, canonical, size_of, count, entries_of, entries_of_all, value_count, MOST_BYTES}
 use Rattle.base_core.specs.declared.cause.Cause.{Cause}
-use Rattle.adb_write.specs.Shaped.{Each, HasShape, HaveShapes}
+use Rattle.adb_view.specs.Shaped.{Each, HasShape, HaveShapes}
 use Rattle.adb_write.specs.Standing.{Holds, HoldAll}
 use Rattle.adb_write.proofs.RoundTrip.{write-made, root_again}
 

@@ -1,7 +1,6 @@
 pub mod Canonical
 pub mod Writing
 pub mod DepthFirst
-pub mod Shaped
 pub mod Standing
 pub mod File
 pub mod Items

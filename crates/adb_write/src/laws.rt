@@ -8,7 +8,7 @@ ghost use Rattle.adb_write.specs.File.{adb_piece, file_of};
 ghost use Rattle.adb_write.specs.Canonical.{canonical, size_of, value_count, passes, overflow_of, written_of, payload_of, MOST_BYTES};
 ghost use Rattle.adb_write.specs.Writing.{Writing, empty, is_over, layout, int_call, blob_call, arr_call, obj_call, finished};
 ghost use Rattle.adb_write.specs.DepthFirst.{Writes, WritesAll, push};
-ghost use Rattle.adb_write.specs.Shaped.{HasShape};
+ghost use Rattle.adb_view.specs.Shaped.{HasShape};
 ghost use Rattle.adb_write.specs.Standing.{StandsFor, AllStandFor};
 
 use adb_block::what_is_written_is_spelled;

@@ -1,7 +1,7 @@
 -- What a sink has got after several writes.
 use Rattle.std.proofs.Common.{◌≡◌, ℕ, List, [], ◌++◌, take, drop, Option, Some, None, refl, ◌-◌, length, arith, take_all, length-drop, sym, ap, ◌∙◌, append_assoc, append-nil, take-append-drop}
 use Rattle.std.specs.Option.{option_map}
-use Rattle.base_core.specs.Faults.{Counts, GoesOn}
+use Rattle.base_core.specs.Faults.{Counts, GoesOn, IsNoFault}
 use Rattle.base_core.specs.Sink.{Adds, AddsSome}
 
 pub Adds-none : (old : Option (List ℕ)) → Adds old old []
@@ -46,3 +46,6 @@ goes_on_twice a b c h k = record {
   wants = omega (arith, h.wants, k.wants);
   fallible = λ now. h.fallible (k.fallible now);
 }
+
+pub no_fault_twice : (a b c : Counts) → IsNoFault a b → IsNoFault b c → IsNoFault a c
+no_fault_twice a b c h k = record { faults = k.faults ∙ h.faults; wants = k.wants ∙ h.wants }

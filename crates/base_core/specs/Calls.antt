@@ -1,7 +1,7 @@
 -- What a call on a tree says of the tree's history and counts.
 use Rattle.std.specs.Prelude.{◌≡◌, ◌⊎◌, List, [], ◌∷◌, Result, OnOk, OnErr}
 use Rattle.base_core.specs.Tree.{TreeState}
-use Rattle.base_core.specs.Faults.{Counts, GoesOn, HasCause, risen}
+use Rattle.base_core.specs.Faults.{Counts, GoesOn, HasCause, IsNoFault, risen}
 
 -- A history is the list of a tree's states so far, the newest first. It is empty where the tree tells nothing.
 
@@ -15,17 +15,17 @@ abbrev pub HasNow : List TreeState → (TreeState → Type 0) → Type 0
 HasNow [] P = ⊥
 HasNow (v ∷ earlier) P = P v
 
--- a call that succeeds adds the state `done`; one that fails adds the state `failed`, or none
-pub record Moves {T E : Type 0} (done failed : TreeState → TreeState) (old new : List TreeState) (result : Result T E) : Type 0 where
+-- a call that succeeds adds the state `done`; one that fails adds the state `failed`, or none, and none where it was a misuse
+pub record Moves {T E : Type 0} (can : TreeState → Type 0) (done failed : TreeState → TreeState) (old new : List TreeState) (result : Result T E) : Type 0 where
   pub untold : old ≡ [] → new ≡ []
   pub ok : OnOk result (OnTold old (λ v. new ≡ done v ∷ old))
-  pub err : OnErr result (OnTold old (λ v. (new ≡ old) ⊎ (new ≡ failed v ∷ old)))
+  pub err : OnErr result (OnTold old (λ v. (new ≡ old) ⊎ (can v × (new ≡ failed v ∷ old))))
 
--- no count falls, an error has its cause, a call that succeeds is no fault and was no misuse, and just the misuses are counted as such
+-- no count falls, an error has its cause, a call that succeeds raises neither faults nor wants and was no misuse, and just the misuses are counted as such
 pub record Counted {T E : Type 0} (can : TreeState → Type 0) (told : List TreeState) (before now : Counts) (result : Result T E) : Type 0 where
   pub goes_on : GoesOn before now
   pub cause : OnErr result (HasCause before now)
-  pub kept : OnOk result (now.faults ≡ before.faults)
+  pub kept : OnOk result (IsNoFault before now)
   pub allowed : OnOk result (OnTold told can)
   pub proper : OnTold told (λ v. can v → now.misuses ≡ before.misuses)
   pub misuse : OnTold told (λ v. (can v → ⊥) → now.misuses ≡ risen before.misuses)

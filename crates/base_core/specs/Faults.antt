@@ -31,7 +31,7 @@ pub record HasCause (before now : Counts) : Type 0 where
   pub fault : Rose before.faults now.faults
   pub reason : IsTrue before.fallible ⊎ (Rose before.misuses now.misuses ⊎ Rose before.wants now.wants)
 
--- no fault was counted
+-- no fault was counted, and no want of memory
 pub record IsNoFault (before now : Counts) : Type 0 where
   pub faults : now.faults ≡ before.faults
   pub wants : now.wants ≡ before.wants
@@ -40,5 +40,5 @@ pub record IsNoFault (before now : Counts) : Type 0 where
 pub record FailsWithCause {T E : Type 0} (before now : Counts) (result : Result T E) : Type 0 where
   pub goes_on : GoesOn before now
   pub cause : OnErr result (HasCause before now)
-  pub kept : OnOk result (now.faults ≡ before.faults)
+  pub kept : OnOk result (IsNoFault before now)
   pub proper : now.misuses ≡ before.misuses

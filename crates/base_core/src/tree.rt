@@ -68,34 +68,34 @@ pub trait Tree {
     /// Makes an empty file, which is not synced. A name that is present, or that would make one name a folder of
     /// another, is a misuse, and a fault.
     fn create(&mut self, name: &Name) -> Result<(), Disk>
-        ensures moves { Moves (after_create name.now) (after_create name.now) (history self.old) (history self.new) result }
+        ensures moves { Moves (CanCreate name.now) (after_create name.now) (after_create name.now) (history self.old) (history self.new) result }
         ensures counts { Counted (CanCreate name.now) (history self.old) (counts self.old) (counts self.new) result };
 
     /// Adds a piece at the file's end. The file is not synced any more, and where the call fails it may not be either.
     /// An absent name is a misuse, and a fault.
     fn append(&mut self, name: &Name, piece: &[u8]) -> Result<(), Disk>
-        ensures moves { Moves (after_append name.now piece.now) (after_failed_append name.now) (history self.old) (history self.new) result }
+        ensures moves { Moves (HasName name.now) (after_append name.now piece.now) (after_failed_append name.now) (history self.old) (history self.new) result }
         ensures counts { Counted (HasName name.now) (history self.old) (counts self.old) (counts self.new) result };
 
     /// Makes a crash leave the file's bytes as they are. An absent name is a misuse, and a fault.
     fn sync(&mut self, name: &Name) -> Result<(), Disk>
-        ensures moves { Moves (after_sync name.now) unchanged (history self.old) (history self.new) result }
+        ensures moves { Moves (HasName name.now) (after_sync name.now) unchanged (history self.old) (history self.new) result }
         ensures counts { Counted (HasName name.now) (history self.old) (counts self.old) (counts self.new) result };
 
     /// Lets `to` lead to the file of `from`, and `from` to none, in one step; what `to` led to is gone. An absent
     /// `from`, the same name twice, or a `to` that would make one name a folder of another is a misuse, and a fault.
     fn rename(&mut self, from: &Name, to: &Name) -> Result<(), Disk>
-        ensures moves { Moves (after_rename from.now to.now) (after_rename from.now to.now) (history self.old) (history self.new) result }
+        ensures moves { Moves (CanRename from.now to.now) (after_rename from.now to.now) (after_rename from.now to.now) (history self.old) (history self.new) result }
         ensures counts { Counted (CanRename from.now to.now) (history self.old) (counts self.old) (counts self.new) result };
 
     /// Takes a name away. An absent name is no fault, and nothing changes.
     fn remove(&mut self, name: &Name) -> Result<(), Disk>
-        ensures moves { Moves (after_remove name.now) (after_remove name.now) (history self.old) (history self.new) result }
+        ensures moves { Moves Anywhere (after_remove name.now) (after_remove name.now) (history self.old) (history self.new) result }
         ensures counts { Counted Anywhere (history self.old) (counts self.old) (counts self.new) result };
 
     /// Makes every later crash leave the names as they are now, or as they are made later.
     fn sync_names(&mut self) -> Result<(), Disk>
-        ensures moves { Moves after_sync_names unchanged (history self.old) (history self.new) result }
+        ensures moves { Moves Anywhere after_sync_names unchanged (history self.old) (history self.new) result }
         ensures counts { Counted Anywhere (history self.old) (counts self.old) (counts self.new) result };
 
     /// All names below a folder, at any depth, in byte order. Want of memory is no fault of the tree.

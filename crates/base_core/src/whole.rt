@@ -1,6 +1,6 @@
 ghost use Rattle.std.specs.Prelude.{◌≡◌, IfOk, OnOk, OnErr, IsErrOf};
 ghost use Rattle.base_core.specs.Calls.{OnTold};
-ghost use Rattle.base_core.specs.Faults.{GoesOn, HasCause, FailsWithCause};
+ghost use Rattle.base_core.specs.Faults.{GoesOn, HasCause, IsNoFault, FailsWithCause};
 ghost use Rattle.base_core.specs.Read.{bytes_in};
 ghost use Rattle.base_core.specs.Sink.{Adds, AddsSome};
 ghost use Rattle.base_core.specs.Tree.{files_of};
@@ -20,8 +20,8 @@ pub fn read_all<T: Tree>(
     ensures same { T.history tree.new ≡ T.history tree.old }
     ensures goes_on { GoesOn (T.counts tree.old) (T.counts tree.new) }
     ensures disk { IsErrOf result TreeFault.Disk → HasCause (T.counts tree.old) (T.counts tree.new) }
-    ensures kept { OnOk result ((T.counts tree.new).faults ≡ (T.counts tree.old).faults) }
-    ensures memory { IsErrOf result TreeFault.Memory → (T.counts tree.new).faults ≡ (T.counts tree.old).faults }
+    ensures kept { OnOk result (IsNoFault (T.counts tree.old) (T.counts tree.new)) }
+    ensures memory { IsErrOf result TreeFault.Memory → IsNoFault (T.counts tree.old) (T.counts tree.new) }
     ensures proper { OnTold (T.history tree.old) (λ v. (T.counts tree.new).misuses ≡ (T.counts tree.old).misuses) }
 {
     let Some(size) = tree.size(name)? else {

@@ -1,9 +1,9 @@
 -- A text behind another on a sink.
 use Rattle.std.proofs.Common.{◌≡◌, ◌∙◌, ℕ, List, ◌++◌, Option, Result, Ok, Err, subst, ap, refl, sym, codes, append_assoc}
-use Rattle.base_core.specs.Faults.{Counts, GoesOn, FailsWithCause}
+use Rattle.base_core.specs.Faults.{Counts, GoesOn, IsNoFault, FailsWithCause}
 use Rattle.base_core.specs.Sink.{Adds, AddsSome, Sinking, Writes}
 use Rattle.report_core.specs.Texts.{package_text}
-use Rattle.report_core.proofs.Counting.{goes_on_twice, fails_after}
+use Rattle.report_core.proofs.Counting.{goes_on_twice, no_fault_twice, fails_after}
 use Rattle.report_core.proofs.Fronts.{Adds-then, AddsSome-grows, AddsSome-after}
 
 -- what a sink makes of a call, from one moment to another
@@ -14,21 +14,21 @@ Between told before told_then after = record { told_before = told; told_after = 
 pub record IsDone (text : List ℕ) (sink : Sinking) : Type 0 where
   pub added : Adds sink.told_before sink.told_after text
   pub goes_on : GoesOn sink.before sink.after
-  pub kept : sink.after.faults ≡ sink.before.faults
+  pub kept : IsNoFault sink.before sink.after
   pub proper : sink.after.misuses ≡ sink.before.misuses
 
 pub done_by : {T E : Type 0} (text : List ℕ) (sink : Sinking) (x : T) → Writes {T = T} {E = E} text sink (Ok x) → IsDone text sink
 done_by text sink x w = record { added = w.ok; goes_on = w.cause.goes_on; kept = w.cause.kept; proper = w.cause.proper }
 
 pub done_then : (a b : List ℕ) (t0 t1 t2 : Option (List ℕ)) (c0 c1 c2 : Counts) → IsDone a (Between t0 c0 t1 c1) → IsDone b (Between t1 c1 t2 c2) → IsDone (a ++ b) (Between t0 c0 t2 c2)
-done_then a b t0 t1 t2 c0 c1 c2 h k = record { added = Adds-then t0 t1 t2 a b h.added k.added; goes_on = goes_on_twice c0 c1 c2 h.goes_on k.goes_on; kept = k.kept ∙ h.kept; proper = k.proper ∙ h.proper }
+done_then a b t0 t1 t2 c0 c1 c2 h k = record { added = Adds-then t0 t1 t2 a b h.added k.added; goes_on = goes_on_twice c0 c1 c2 h.goes_on k.goes_on; kept = no_fault_twice c0 c1 c2 h.kept k.kept; proper = k.proper ∙ h.proper }
 
 pub written_behind : {T E : Type 0} (a b : List ℕ) (t0 t1 t2 : Option (List ℕ)) (c0 c1 c2 : Counts) (result : Result T E)
     → IsDone a (Between t0 c0 t1 c1) → Writes b (Between t1 c1 t2 c2) result → Writes (a ++ b) (Between t0 c0 t2 c2) result
 written_behind a b t0 t1 t2 c0 c1 c2 (Ok x) h k = record {
   ok = Adds-then t0 t1 t2 a b h.added k.ok;
   err = tt;
-  cause = record { goes_on = goes_on_twice c0 c1 c2 h.goes_on k.cause.goes_on; cause = tt; kept = k.cause.kept ∙ h.kept; proper = k.cause.proper ∙ h.proper };
+  cause = record { goes_on = goes_on_twice c0 c1 c2 h.goes_on k.cause.goes_on; cause = tt; kept = no_fault_twice c0 c1 c2 h.kept k.cause.kept; proper = k.cause.proper ∙ h.proper };
 }
 written_behind a b t0 t1 t2 c0 c1 c2 (Err e) h k = record { ok = tt; err = AddsSome-after t0 t1 t2 a b h.added k.err; cause = fails_after c0 c1 c2 e h.goes_on h.proper k.cause }
 

@@ -1,6 +1,6 @@
 -- The counts of several calls.
 use Rattle.std.proofs.Common.{◌≡◌, ◌∙◌, ◌≤◌, ◌⊎◌, inl, inr, ℕ, ◌+◌, ◌-◌, ◌^◌, min, Result, Ok, Err, arith}
-use Rattle.base_core.specs.Faults.{Counts, GoesOn, HasCause, FailsWithCause, Rose, risen}
+use Rattle.base_core.specs.Faults.{Counts, GoesOn, IsNoFault, HasCause, FailsWithCause, Rose, risen}
 
 pub goes_on_twice : (a b c : Counts) → GoesOn a b → GoesOn b c → GoesOn a c
 goes_on_twice a b c h k = record {
@@ -26,3 +26,6 @@ cause_later a b c h k = record {
 -- a call that fails, behind calls that did not
 pub fails_after : {T E : Type 0} (a b c : Counts) (e : E) → GoesOn a b → b.misuses ≡ a.misuses → FailsWithCause {T = T} b c (Err e) → FailsWithCause {T = T} a c (Err e)
 fails_after a b c e h same k = record { goes_on = goes_on_twice a b c h k.goes_on; cause = cause_later a b c h k.cause; kept = tt; proper = k.proper ∙ same }
+
+pub no_fault_twice : (a b c : Counts) → IsNoFault a b → IsNoFault b c → IsNoFault a c
+no_fault_twice a b c h k = record { faults = k.faults ∙ h.faults; wants = k.wants ∙ h.wants }

@@ -159,7 +159,7 @@ module _ (can : TreeState → Type 0) (v : TreeState) (earlier : List TreeState)
   done_counts x goes = let tally = free_tally b writes old new h goes in let can_do = s.good (is_free b writes old new h goes).0 in record {
     goes_on = on old new h.grown h.plan;
     cause = tt;
-    kept = ap (λ (u : Tally). u.faults) tally;
+    kept = record { faults = ap (λ (u : Tally). u.faults) tally; wants = ap (λ (u : Tally). u.wants) tally };
     allowed = can_do;
     proper = λ _. ap (λ (u : Tally). u.misuses) tally;
     misuse = λ cannot. absurd (cannot can_do);
@@ -188,7 +188,7 @@ module _ (can : TreeState → Type 0) (v : TreeState) (earlier : List TreeState)
   ended_counts true (Ok x) end is = let tally = end.tally ∙ free_tally b writes old mid h goes in record {
     goes_on = ended_on true end;
     cause = tt;
-    kept = ap (λ (u : Tally). u.faults) tally;
+    kept = record { faults = ap (λ (u : Tally). u.faults) tally; wants = ap (λ (u : Tally). u.wants) tally };
     allowed = can_do;
     proper = λ _. ap (λ (u : Tally). u.misuses) tally;
     misuse = λ cannot. absurd (cannot can_do);

@@ -203,7 +203,7 @@ impl Tree for MemoryTree {
     }
 
     fn create(&mut self, name: &Name) -> Result<(), Disk>
-        ensures moves { Moves (after_create name.now) (after_create name.now) (history_of self.old) (history_of self.new) result }
+        ensures moves { Moves (CanCreate name.now) (after_create name.now) (after_create name.now) (history_of self.old) (history_of self.new) result }
         ensures counts { Counted (CanCreate name.now) (history_of self.old) (counts_of self.old) (counts_of self.new) result }
 
         // It fails exactly at a misuse, where that is planned, and for want of memory, and then changes nothing.
@@ -216,7 +216,7 @@ impl Tree for MemoryTree {
     }
 
     fn append(&mut self, name: &Name, piece: &[u8]) -> Result<(), Disk>
-        ensures moves { Moves (after_append name.now piece.now) (after_failed_append name.now) (history_of self.old) (history_of self.new) result }
+        ensures moves { Moves (HasName name.now) (after_append name.now piece.now) (after_failed_append name.now) (history_of self.old) (history_of self.new) result }
         ensures counts { Counted (HasName name.now) (history_of self.old) (counts_of self.old) (counts_of self.new) result }
         ensures call { IsWrite (HasName name.now) self.old self.new result }
     {
@@ -227,7 +227,7 @@ impl Tree for MemoryTree {
     }
 
     fn sync(&mut self, name: &Name) -> Result<(), Disk>
-        ensures moves { Moves (after_sync name.now) unchanged (history_of self.old) (history_of self.new) result }
+        ensures moves { Moves (HasName name.now) (after_sync name.now) unchanged (history_of self.old) (history_of self.new) result }
         ensures counts { Counted (HasName name.now) (history_of self.old) (counts_of self.old) (counts_of self.new) result }
         ensures call { IsWrite (HasName name.now) self.old self.new result }
     {
@@ -238,7 +238,7 @@ impl Tree for MemoryTree {
     }
 
     fn rename(&mut self, from: &Name, to: &Name) -> Result<(), Disk>
-        ensures moves { Moves (after_rename from.now to.now) (after_rename from.now to.now) (history_of self.old) (history_of self.new) result }
+        ensures moves { Moves (CanRename from.now to.now) (after_rename from.now to.now) (after_rename from.now to.now) (history_of self.old) (history_of self.new) result }
         ensures counts { Counted (CanRename from.now to.now) (history_of self.old) (counts_of self.old) (counts_of self.new) result }
         ensures call { IsWrite (CanRename from.now to.now) self.old self.new result }
     {
@@ -249,7 +249,7 @@ impl Tree for MemoryTree {
     }
 
     fn remove(&mut self, name: &Name) -> Result<(), Disk>
-        ensures moves { Moves (after_remove name.now) (after_remove name.now) (history_of self.old) (history_of self.new) result }
+        ensures moves { Moves Anywhere (after_remove name.now) (after_remove name.now) (history_of self.old) (history_of self.new) result }
         ensures counts { Counted Anywhere (history_of self.old) (counts_of self.old) (counts_of self.new) result }
         ensures call { IsWrite Anywhere self.old self.new result }
     {
@@ -259,7 +259,7 @@ impl Tree for MemoryTree {
     }
 
     fn sync_names(&mut self) -> Result<(), Disk>
-        ensures moves { Moves after_sync_names unchanged (history_of self.old) (history_of self.new) result }
+        ensures moves { Moves Anywhere after_sync_names unchanged (history_of self.old) (history_of self.new) result }
         ensures counts { Counted Anywhere (history_of self.old) (counts_of self.old) (counts_of self.new) result }
         ensures call { IsWrite Anywhere self.old self.new result }
     {
