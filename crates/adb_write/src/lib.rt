@@ -3,8 +3,9 @@
 //! Values go in, entries before the lists that hold them; each answer is the value's word, and `Writer::finish` gives
 //! the payload. No byte is written twice but the root's word, and the payload is handed out where it was written. The
 //! contracts cite `Canonical` (the layout of a value, its size, the number of its values, and where it overflows),
-//! `Writing` (a writer, and what each call makes of it), `DepthFirst` (what it did between two moments), `Standing` (what a word stands for), `Shaped` (the values of a
-//! shape) and `File` of `specs/`; `laws` says what follows from them, so that nobody needs to look into them.
+//! `Writing` (a writer, and what each call makes of it), `DepthFirst` (what it did between two moments), `Standing`
+//! (what a word stands for) and `File` of `specs/`; `laws` says what follows from them, so that nobody needs to look
+//! into them.
 #![tactic(auto)]
 
 mod counts;
