@@ -1,0 +1,111 @@
+"""Containers as apk-v3(5) lays them out, and the time that a command takes; for the scripts beside this file."""
+import hashlib
+import resource
+import struct
+import subprocess
+import time
+
+
+class Payload:
+    """Writes values one behind another; each call answers the value's word."""
+
+    def __init__(self):
+        self.bytes = bytearray(8)
+
+    def pad(self, align):
+        self.bytes += bytes(-len(self.bytes) % align)
+
+    def blob(self, data):
+        word = 0x80000000 | len(self.bytes)
+        self.bytes += bytes([len(data)]) + data
+        return word
+
+    def int(self, number):
+        if number < 1 << 28:
+            return 0x10000000 | number
+        self.pad(4)
+        word = 0x20000000 | len(self.bytes)
+        self.bytes += struct.pack("<I", number)
+        return word
+
+    def array(self, words):
+        return self.run(0xD0000000, words)
+
+    def object(self, words):
+        return self.run(0xE0000000, words)
+
+    def run(self, kind, words):
+        self.pad(4)
+        word = kind | len(self.bytes)
+        self.bytes += struct.pack("<%dI" % (len(words) + 1), len(words) + 1, *words)
+        return word
+
+    def done(self, root):
+        self.bytes[4:8] = struct.pack("<I", root)
+        return bytes(self.bytes)
+
+
+def block(kind, payload):
+    """A block with its padding: 0 holds values, 2 the contents of a file."""
+    raw = len(payload) + 4
+    head = struct.pack("<I", kind << 30 | raw) if raw < 1 << 30 else struct.pack("<IIQ", 3 << 30 | kind, 0, raw + 12)
+    return head + payload + bytes(-(len(head) + len(payload)) % 8)
+
+
+def package(files, name=b"bench"):
+    """The pieces of a package with these files, (name, bytes) each, in its root folder."""
+    payload = Payload()
+    info = payload.object([payload.blob(name), payload.blob(b"1")])
+    entries = [
+        payload.object([payload.blob(name), 0, payload.int(len(data)), 0, payload.blob(hashlib.sha256(data).digest())])
+        for name, data in files
+    ]
+    folder = payload.object([0, 0, payload.array(entries)])
+    yield b"ADB.pckg" + block(0, payload.done(payload.object([info, payload.array([folder])])))
+    for i, (_, data) in enumerate(files):
+        yield block(2, struct.pack("<II", 1, i + 1) + data)
+
+
+def index_entry(payload, i, packages):
+    name = b"package-%05d" % i
+    fields = [0] * 15
+    fields[0] = payload.blob(name)
+    fields[1] = payload.blob(b"1.%d.%d-r%d" % (i % 7, i % 13, i % 3))
+    fields[2] = payload.blob(hashlib.sha256(name).digest())
+    fields[3] = payload.blob(b"A package that shows how long a test takes")
+    fields[4] = payload.blob(b"x86_64")
+    fields[5] = payload.blob(b"MIT")
+    fields[11] = payload.int(i % 100000)
+    needs = [payload.object([payload.blob(b"package-%05d" % ((i * k) % packages))]) for k in (3, 5, 7)]
+    fields[14] = payload.array(needs)
+    return payload.object(fields)
+
+
+def index(packages):
+    """An index of so many packages, with three dependencies each."""
+    payload = Payload()
+    infos = [index_entry(payload, i, packages) for i in range(packages)]
+    return b"ADB.indx" + block(0, payload.done(payload.object([0, payload.array(infos)])))
+
+
+def best_of(times, command, folder):
+    """The least processor time in seconds that a command takes of so many runs."""
+    best = None
+    for _ in range(times):
+        before = resource.getrusage(resource.RUSAGE_CHILDREN)
+        subprocess.run(command, cwd=folder, check=True, stdout=subprocess.DEVNULL)
+        after = resource.getrusage(resource.RUSAGE_CHILDREN)
+        took = after.ru_utime + after.ru_stime - before.ru_utime - before.ru_stime
+        best = took if best is None else min(best, took)
+    return best
+
+
+def best_wall_of(times, run):
+    """The least time on the clock in seconds that a call takes of so many."""
+    best = None
+    for _ in range(times):
+        start = time.perf_counter()
+        run()
+        took = time.perf_counter() - start
+        best = took if best is None else min(best, took)
+    return best
