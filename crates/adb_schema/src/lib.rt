@@ -44,7 +44,9 @@ pub use laws::{
     the_first_faulty_visit_is_told, values_of_few_visits_have_no_fault,
 };
 pub use list::{Kinded, List, View};
-pub use read::{IDB_WORD, INDEX_WORD, INTENT_WORD, PACKAGE_WORD, ReadFault, read_adb, schema_word};
+pub use read::{
+    IDB_WORD, INDEX_WORD, INTENT_WORD, PACKAGE_WORD, ReadFault, file_pair, read_adb, schema_word,
+};
 pub use repeated_kinds::repeated;
 pub use repeated_laws::{
     the_first_pair_in_one_of_several_lists_is_told, the_first_pair_of_a_list_is_told,

@@ -1,4 +1,4 @@
-ghost use Rattle.std.specs.Prelude.{◌≡◌, ◌≤◌, ◌-◌, ◌==◌, true};
+ghost use Rattle.std.specs.Prelude.{◌≡◌, ◌<◌, ◌≤◌, ◌-◌, ◌^◌, ◌==◌, true};
 ghost use Rattle.adb_view.specs.Adb.{payload_of};
 ghost use Rattle.adb_view.specs.Entries.{array_entries};
 ghost use Rattle.adb_view.specs.Plain.{Plain, blob_value};
@@ -53,7 +53,8 @@ impl<'a, V: View<'a>> List<'a, V> {
     /// How many entries there are.
     #[tactic(auto, using(crate::proofs::FieldReads::entry_count))]
     pub fn len(&self) -> usize
-        ensures { result ≡ count_of (entries_in (list_value self.now)) }
+        ensures value { result ≡ count_of (entries_in (list_value self.now)) }
+        ensures small { result < 2 ^ 32 }
     {
         self.entries.len()
     }

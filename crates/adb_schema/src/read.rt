@@ -195,8 +195,9 @@ fn undue(payload: &[u8], at: u64) -> Cause
     }
 }
 
-/// The positions of the folder and of the file that contents belong to.
-fn file_pair(payload: &[u8]) -> (u32, u32)
+/// The two numbers that contents begin with (apk-v3(5)): the positions of the folder and of the file in it that they
+/// belong to, which count from 1.
+pub fn file_pair(payload: &[u8]) -> (u32, u32)
     requires { 8 ≤ length payload.now }
     ensures { result ≡ file_pair payload.now }
 {

@@ -61,28 +61,53 @@ fn outside(kind: Kind) -> u32 {
     }
 }
 
+/// What is told of an object with these words and one behind them.
+fn fault_behind(
+    alloc: Global,
+    before: &[u32],
+    word: u32,
+    which: Which,
+) -> Result<Option<Cause>, AllocError> {
+    let mut words = Vec::from_slice(alloc, before)?;
+    words.push(word)?;
+    let payload = object(alloc, &words, b"")?;
+    Ok(fault(&payload, which))
+}
+
+/// That both faults are told of this field, behind these words.
+fn each_fault(
+    rt: &impl Abort,
+    alloc: Global,
+    before: &[u32],
+    field: Field,
+    which: Which,
+) -> Result<(), AllocError> {
+    let another = of_another_kind(field.kind);
+    let far = outside(field.kind);
+    let found = (
+        fault_behind(alloc, before, another, which)?,
+        fault_behind(alloc, before, far, which)?,
+    );
+    let want = (
+        Some(Cause::WrongKind { word: another }),
+        Some(Cause::Outside { word: far }),
+    );
+    assert_eq!(rt; found, want, "{}", field.name.text());
+    Ok(())
+}
+
 #[test]
 fn each_fault_at_each_field_of_each_table(rt: HostRuntime) -> Result<(), Fail> {
     for which in TABLES {
-        let mut before = Vec::new(rt.alloc());
+        let mut words = Vec::new(rt.alloc());
         for field in fields_of(which) {
-            for word in [of_another_kind(field.kind), outside(field.kind)] {
-                let mut words = before.clone()?;
-                words.push(word)?;
-                let want = match word {
-                    0x8000_0008 | 0x1000_0001 => Cause::WrongKind { word },
-                    _ => Cause::Outside { word },
-                };
-                let payload = object(rt.alloc(), &words, b"")?;
-                assert_eq!(rt; fault(&payload, which), Some(want), "{}", field.name.text());
-            }
-            before.push(0)?;
+            each_fault(&rt, rt.alloc(), &words, *field, which)?;
+            words.push(0)?;
         }
         // Behind the last field nothing is looked at.
-        before.push(0x1000_0001)?;
-        before.push(0xffff_ffff)?;
-        let payload = object(rt.alloc(), &before, b"")?;
-        assert_eq!(rt; fault(&payload, which), None);
+        words.push(0x1000_0001)?;
+        let found = fault_behind(rt.alloc(), &words, 0xffff_ffff, which)?;
+        assert_eq!(rt; found, None);
     }
     Ok(())
 }
@@ -179,12 +204,16 @@ static ROWS: [Row<'static>; 11] = [
 
 #[test]
 fn payloads_and_what_is_told(rt: HostRuntime) -> Result<(), Fail> {
-    for row in ROWS {
+    for row in &ROWS {
         let payload = object(rt.alloc(), row.words, row.more)?;
         assert_eq!(rt; fault(&payload, row.which), row.fault, "{}", row.name);
     }
-    assert_eq!(rt; fault(b"\0\0\0\0\0\0\0\0", Which::Idb), None);
     Ok(())
+}
+
+#[test]
+fn nothing_at_the_root(rt: HostRuntime) {
+    assert_eq!(rt; fault(b"\0\0\0\0\0\0\0\0", Which::Idb), None);
 }
 
 #[test]
@@ -193,9 +222,12 @@ fn as_many_visits_as_may_be_and_one_more(rt: HostRuntime) -> Result<(), Fail> {
     let adb = Adb::new(&payload)?;
     let entries = adb.obj::<3>(Val::of(ROOT))?.entries();
     let too_large = Err(Cause::TooLarge { count: 4194305 });
-    assert_eq!(rt; walk_table(adb, &DEP, 4194301, entries), Ok(4194304));
-    assert_eq!(rt; walk_table(adb, &DEP, 4194302, entries), too_large);
-    assert_eq!(rt; walk_table(adb, &DEP, 4194304, entries), too_large);
+    let found = [
+        walk_table(adb, &DEP, 4194301, entries),
+        walk_table(adb, &DEP, 4194302, entries),
+        walk_table(adb, &DEP, 4194304, entries),
+    ];
+    assert_eq!(rt; found, [Ok(4194304), too_large, too_large]);
     Ok(())
 }
 
@@ -210,14 +242,19 @@ fn same(alloc: Global, word: u32, count: usize) -> Result<Vec<u8>, AllocError> {
     Ok(run)
 }
 
+/// A package of one folder of 2,049 files at 2,049 places.
+fn one_folder(alloc: Global) -> Result<Vec<u8>, AllocError> {
+    // At 20 a folder, at 36 its files, at 8236 the folders.
+    let mut more = Vec::new(alloc);
+    more.extend_from_slice(b"\x04\0\0\0\0\0\0\0\0\0\0\0\x24\0\0\xd0")?;
+    more.extend_from_slice(&same(alloc, 0, 2049)?)?;
+    more.extend_from_slice(&same(alloc, 0xe000_0014, 2049)?)?;
+    object(alloc, &[0, 0xd000_202c], &more)
+}
+
 #[test]
 fn one_folder_at_two_thousand_places(rt: HostRuntime) -> Result<(), Fail> {
-    // At 20 a folder, at 36 its files, at 8236 the folders.
-    let mut more = Vec::new(rt.alloc());
-    more.extend_from_slice(b"\x04\0\0\0\0\0\0\0\0\0\0\0\x24\0\0\xd0")?;
-    more.extend_from_slice(&same(rt.alloc(), 0, 2049)?)?;
-    more.extend_from_slice(&same(rt.alloc(), 0xe000_0014, 2049)?)?;
-    let payload = object(rt.alloc(), &[0, 0xd000_202c], &more)?;
+    let payload = one_folder(rt.alloc())?;
     let too_large = Some(Cause::TooLarge { count: 4194305 });
     assert_eq!(rt; fault(&payload, Which::Package), too_large);
     Ok(())
@@ -229,15 +266,30 @@ fn a_table_is_walked_by_its_constant(rt: HostRuntime) -> Result<(), Fail> {
     let adb = Adb::new(&payload)?;
     let entries = adb.obj::<3>(Val::of(ROOT))?.entries();
     let wrong = Err(Cause::WrongKind { word: 0x1000_0005 });
-    assert_eq!(rt; walk_table(adb, &DEP, 7, entries), Ok(10));
-    assert_eq!(rt; walk_table(adb, &ACL, 7, entries), wrong);
-    assert_eq!(rt; walk_table(adb, &PKGINFO, 7, entries), wrong);
-    assert_eq!(rt; walk_table(adb, &FILE, 7, entries), Ok(11));
-    assert_eq!(rt; walk_table(adb, &DIR, 7, entries), wrong);
-    assert_eq!(rt; walk_table(adb, &SCRIPTS, 7, entries), wrong);
-    assert_eq!(rt; walk_table(adb, &PACKAGE, 7, entries), wrong);
-    assert_eq!(rt; walk_table(adb, &INDEX, 7, entries), wrong);
-    assert_eq!(rt; walk_table(adb, &IDB, 7, entries), Ok(8));
-    assert_eq!(rt; walk_table(adb, &INTENT, 7, entries), Ok(9));
+    let found = [
+        walk_table(adb, &DEP, 7, entries),
+        walk_table(adb, &ACL, 7, entries),
+        walk_table(adb, &PKGINFO, 7, entries),
+        walk_table(adb, &FILE, 7, entries),
+        walk_table(adb, &DIR, 7, entries),
+        walk_table(adb, &SCRIPTS, 7, entries),
+        walk_table(adb, &PACKAGE, 7, entries),
+        walk_table(adb, &INDEX, 7, entries),
+        walk_table(adb, &IDB, 7, entries),
+        walk_table(adb, &INTENT, 7, entries),
+    ];
+    let want = [
+        Ok(10),
+        wrong,
+        wrong,
+        Ok(11),
+        wrong,
+        wrong,
+        wrong,
+        wrong,
+        Ok(8),
+        Ok(9),
+    ];
+    assert_eq!(rt; found, want);
     Ok(())
 }

@@ -46,19 +46,51 @@ fn sample(alloc: Global, which: Which) -> Result<Vec<u8>, AllocError> {
     Ok(payload)
 }
 
-/// That a list has one entry, this text.
-fn one_text<'a>(rt: &impl Abort, list: List<'a, &'a [u8]>, want: &[u8]) {
-    assert_eq!(rt; list.len(), 1);
+/// The only text of a list, or none.
+fn only_text<'a>(list: List<'a, &'a [u8]>) -> &'a [u8] {
+    if list.len() == 1 { list.get(1) } else { b"" }
+}
+
+/// The name of the only dependency of a list, or none.
+fn only_dependency<'a>(list: List<'a, DepView<'a>>) -> &'a [u8] {
     if list.len() == 1 {
-        assert_eq!(rt; list.get(1), want);
+        list.get(1).name()
+    } else {
+        b""
     }
 }
 
-/// That a list has one dependency, with this name.
-fn one_dependency<'a>(rt: &impl Abort, list: List<'a, DepView<'a>>, want: &[u8]) {
-    assert_eq!(rt; list.len(), 1);
+/// The name of the only file of a list, or none.
+fn only_file<'a>(list: List<'a, FileInfo<'a>>) -> &'a [u8] {
     if list.len() == 1 {
-        assert_eq!(rt; list.get(1).name(), want);
+        list.get(1).name()
+    } else {
+        b""
+    }
+}
+
+/// The name of the only folder of a list, or none.
+fn only_folder<'a>(list: List<'a, DirInfo<'a>>) -> &'a [u8] {
+    if list.len() == 1 {
+        list.get(1).name()
+    } else {
+        b""
+    }
+}
+
+/// The name of the only package of a list, or none.
+fn only_info<'a>(list: List<'a, PkgInfo<'a>>) -> &'a [u8] {
+    if list.len() == 1 {
+        list.get(1).name()
+    } else {
+        b""
+    }
+}
+
+/// That each text is the one beside it.
+fn same_texts(rt: &impl Abort, texts: &[(&[u8], &[u8])]) {
+    for (found, want) in texts {
+        assert_eq!(rt; found, want);
     }
 }
 
@@ -81,11 +113,13 @@ fn each_field_of_rights(rt: HostRuntime) -> Result<(), Fail> {
     let adb = Adb::new(&payload)?;
     shape(adb, Which::Acl)?;
     let acl = AclView::of(adb, adb.root());
-    assert_eq!(rt;
-        (acl.mode(), acl.user(), acl.group()),
-        (1, b"b".as_slice(), b"c".as_slice())
-    );
-    one_text(&rt, acl.xattrs(), b"d");
+    let texts: [(&[u8], &[u8]); 3] = [
+        (acl.user(), b"b"),
+        (acl.group(), b"c"),
+        (only_text(acl.xattrs()), b"d"),
+    ];
+    same_texts(&rt, &texts);
+    assert_eq!(rt; acl.mode(), 1);
     Ok(())
 }
 
@@ -95,11 +129,15 @@ fn each_field_of_a_file(rt: HostRuntime) -> Result<(), Fail> {
     let adb = Adb::new(&payload)?;
     shape(adb, Which::File)?;
     let file = FileInfo::of(adb, adb.root());
-    assert_eq!(rt; (file.name(), file.acl().mode()), (b"a".as_slice(), 2));
-    assert_eq!(rt; (file.size(), file.mtime(), file.unused()), (3, 4, 7));
+    let texts: [(&[u8], &[u8]); 3] = [
+        (file.name(), b"a"),
+        (file.hashes(), b"e"),
+        (file.target(), b"f"),
+    ];
+    same_texts(&rt, &texts);
     assert_eq!(rt;
-        (file.hashes(), file.target()),
-        (b"e".as_slice(), b"f".as_slice())
+        [file.acl().mode(), file.size(), file.mtime(), file.unused()],
+        [2, 3, 4, 7]
     );
     Ok(())
 }
@@ -110,12 +148,9 @@ fn each_field_of_a_folder(rt: HostRuntime) -> Result<(), Fail> {
     let adb = Adb::new(&payload)?;
     shape(adb, Which::Dir)?;
     let dir = DirInfo::of(adb, adb.root());
-    assert_eq!(rt; (dir.name(), dir.acl().mode()), (b"a".as_slice(), 2));
-    let files = dir.files();
-    assert_eq!(rt; files.len(), 1);
-    if files.len() == 1 {
-        assert_eq!(rt; files.get(1).name(), b"c".as_slice());
-    }
+    let texts: [(&[u8], &[u8]); 2] = [(dir.name(), b"a"), (only_file(dir.files()), b"c")];
+    same_texts(&rt, &texts);
+    assert_eq!(rt; dir.acl().mode(), 2);
     Ok(())
 }
 
@@ -125,6 +160,23 @@ fn each_field_of_package_info(rt: HostRuntime) -> Result<(), Fail> {
     let adb = Adb::new(&payload)?;
     shape(adb, Which::PkgInfo)?;
     let info = PkgInfo::of(adb, adb.root());
+    texts_of_info(&rt, &info);
+    lists_of_info(&rt, &info);
+    assert_eq!(rt;
+        [
+            info.build_time(),
+            info.installed_size(),
+            info.file_size(),
+            info.provider_priority(),
+            info.layer(),
+            info.unused(),
+        ],
+        [11, 12, 13, 14, 20, 22]
+    );
+    Ok(())
+}
+
+fn texts_of_info(rt: &impl Abort, info: &PkgInfo<'_>) {
     let texts: [(&[u8], &[u8]); 10] = [
         (info.name(), b"a"),
         (info.version(), b"b"),
@@ -137,24 +189,19 @@ fn each_field_of_package_info(rt: HostRuntime) -> Result<(), Fail> {
         (info.url(), b"i"),
         (info.repo_commit(), b"j"),
     ];
-    for (found, want) in texts {
-        assert_eq!(rt; found, want);
-    }
-    assert_eq!(rt;
-        (info.build_time(), info.installed_size(), info.file_size()),
-        (11, 12, 13)
-    );
-    assert_eq!(rt;
-        (info.provider_priority(), info.layer(), info.unused()),
-        (14, 20, 22)
-    );
-    one_dependency(&rt, info.depends(), b"o");
-    one_dependency(&rt, info.provides(), b"p");
-    one_dependency(&rt, info.replaces(), b"q");
-    one_dependency(&rt, info.install_if(), b"r");
-    one_dependency(&rt, info.recommends(), b"s");
-    one_text(&rt, info.tags(), b"u");
-    Ok(())
+    same_texts(rt, &texts);
+}
+
+fn lists_of_info(rt: &impl Abort, info: &PkgInfo<'_>) {
+    let texts: [(&[u8], &[u8]); 6] = [
+        (only_dependency(info.depends()), b"o"),
+        (only_dependency(info.provides()), b"p"),
+        (only_dependency(info.replaces()), b"q"),
+        (only_dependency(info.install_if()), b"r"),
+        (only_dependency(info.recommends()), b"s"),
+        (only_text(info.tags()), b"u"),
+    ];
+    same_texts(rt, &texts);
 }
 
 #[test]
@@ -172,9 +219,7 @@ fn each_field_of_scripts(rt: HostRuntime) -> Result<(), Fail> {
         (scripts.pre_upgrade(), b"f"),
         (scripts.post_upgrade(), b"g"),
     ];
-    for (found, want) in texts {
-        assert_eq!(rt; found, want);
-    }
+    same_texts(&rt, &texts);
     Ok(())
 }
 
@@ -184,14 +229,13 @@ fn each_field_of_a_package(rt: HostRuntime) -> Result<(), Fail> {
     let adb = Adb::new(&payload)?;
     shape(adb, Which::Package)?;
     let package = PackageView::of(adb, adb.root());
-    assert_eq!(rt; package.info().name(), b"a".as_slice());
-    let paths = package.paths();
-    assert_eq!(rt; paths.len(), 1);
-    if paths.len() == 1 {
-        assert_eq!(rt; paths.get(1).name(), b"b".as_slice());
-    }
-    assert_eq!(rt; package.scripts().trigger(), b"c".as_slice());
-    one_text(&rt, package.triggers(), b"d");
+    let texts: [(&[u8], &[u8]); 4] = [
+        (package.info().name(), b"a"),
+        (only_folder(package.paths()), b"b"),
+        (package.scripts().trigger(), b"c"),
+        (only_text(package.triggers()), b"d"),
+    ];
+    same_texts(&rt, &texts);
     assert_eq!(rt; package.replaces_priority(), 5);
     Ok(())
 }
@@ -202,15 +246,12 @@ fn each_field_of_an_index(rt: HostRuntime) -> Result<(), Fail> {
     let adb = Adb::new(&payload)?;
     shape(adb, Which::Index)?;
     let index = IndexView::of(adb, adb.root());
-    assert_eq!(rt;
-        (index.description(), index.pkgname_spec()),
-        (b"a".as_slice(), b"c".as_slice())
-    );
-    let packages = index.packages();
-    assert_eq!(rt; packages.len(), 1);
-    if packages.len() == 1 {
-        assert_eq!(rt; packages.get(1).name(), b"b".as_slice());
-    }
+    let texts: [(&[u8], &[u8]); 3] = [
+        (index.description(), b"a"),
+        (only_info(index.packages()), b"b"),
+        (index.pkgname_spec(), b"c"),
+    ];
+    same_texts(&rt, &texts);
     Ok(())
 }
 
@@ -220,13 +261,17 @@ fn each_field_of_a_database(rt: HostRuntime) -> Result<(), Fail> {
     let adb = Adb::new(&payload)?;
     shape(adb, Which::Idb)?;
     let packages = IdbView::of(adb, adb.root()).packages();
-    assert_eq!(rt; packages.len(), 1);
-    if packages.len() == 1 {
-        // A package of which nothing is told.
-        assert_eq!(rt; packages.get(1).info().name(), b"".as_slice());
-        assert_eq!(rt; packages.get(1).paths().len(), 0);
-    }
+    assert!(rt; is_one_empty(packages));
     Ok(())
+}
+
+/// Whether a list has one package, of which nothing is told.
+fn is_one_empty<'a>(packages: List<'a, PackageView<'a>>) -> bool {
+    if packages.len() != 1 {
+        return false;
+    }
+    let package = packages.get(1);
+    package.info().name().is_empty() && package.paths().len() == 0
 }
 
 #[test]
@@ -235,7 +280,10 @@ fn each_field_of_an_intent(rt: HostRuntime) -> Result<(), Fail> {
     let adb = Adb::new(&payload)?;
     shape(adb, Which::Intent)?;
     let intent = IntentView::of(adb, adb.root());
-    one_text(&rt, intent.removals(), b"a");
-    one_text(&rt, intent.writes(), b"b");
+    let texts: [(&[u8], &[u8]); 2] = [
+        (only_text(intent.removals()), b"a"),
+        (only_text(intent.writes()), b"b"),
+    ];
+    same_texts(&rt, &texts);
     Ok(())
 }

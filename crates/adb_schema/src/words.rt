@@ -24,6 +24,8 @@ pub(crate) fn entry_word(entries: Arr<'_>, i: usize) -> Val
     requires { i < length (array_entries entries) }
     ensures { result ≡ slice_index (array_entries entries.entry) i }
 {
+    let len = entries.len();
+    prove!(i < len);
     entries.get(i + 1)
 }
 

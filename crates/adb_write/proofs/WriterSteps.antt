@@ -1,8 +1,8 @@
 -- One call of the writer, as the code makes it.
-use Rattle.std.proofs.Common.{◌≡◌, ℕ, ◌+◌, ◌*◌, ◌^◌, Bool, true, false, List, [], ◌∷◌, ◌++◌, length, replicate, if◌then◌else◌, refl, sym, ap, ◌∙◌, arith}
+use Rattle.std.proofs.Common.{◌≡◌, ◌<◌, ℕ, ◌+◌, ◌*◌, ◌^◌, Bool, true, false, List, [], ◌∷◌, ◌++◌, length, replicate, if◌then◌else◌, Result, Ok, Err, OnErr, refl, sym, ap, ◌∙◌, arith}
 use Rattle.std.proofs.lemmas.List.{length-append, length-replicate}
 use Rattle.adb_write.specs.Canonical.{gap, Item, apart, in_place, blob_cell, run_cell, Layout, placed, counts_of, passes}
-use Rattle.adb_write.specs.Writing.{Writing, layout, written_as, call, made}
+use Rattle.adb_write.specs.Writing.{Writing, Grows, layout, written_as, call, made}
 
 pub call_past : (i : Item) (body : List ℕ) (bytes values : ℕ) → passes (bytes, values) ≡ true → call (apart i) (made body bytes values) ≡ (0, made body bytes values)
 unfolding call
@@ -47,6 +47,18 @@ call_fits i body bytes values a e r =
 
     writing_same : (x : Layout) (c : ℕ × ℕ) → counts_of x ≡ c → x.body ≡ body ++ (replicate (gap i.align bytes) 0 ++ i.bytes) → written_as x ≡ made (body ++ (replicate (gap i.align bytes) 0 ++ i.bytes)) c.0 c.1
     writing_same x c f g = ap (λ (b : List ℕ). made b (counts_of x).0 (counts_of x).1) g ∙ ap (λ (k : ℕ × ℕ). made (body ++ (replicate (gap i.align bytes) 0 ++ i.bytes)) k.0 k.1) f
+
+-- an item that fits adds its bytes
+pub call_grows : (i : Item) (body : List ℕ) (bytes values : ℕ) → passes (bytes, values) ≡ false → bytes ≡ 8 + length body → passes (end_of i bytes, values + i.entries) ≡ false → 0 < length i.bytes
+    → Grows (made body bytes values) (call (apart i) (made body bytes values)).1
+call_grows i body bytes values a e r some =
+    let zeros : List ℕ = replicate (gap i.align bytes) 0 in
+    let is : length (call (apart i) (made body bytes values)).1.body ≡ length (body ++ (zeros ++ i.bytes)) = ap (λ (p : ℕ × Writing). length p.1.body) (call_fits i body bytes values a e r) in
+    omega (arith, is, length-append body (zeros ++ i.bytes), length-append zeros i.bytes)
+
+pub on_err : {T E : Type 0} (r : Result T E) (P : Type 0) → P → OnErr r P
+on_err (Ok x) P p = tt
+on_err (Err e) P p = p
 
 pub blob_null : (b : List ℕ) (w : Writing) → length b ≡ 0 → call (blob_cell b) w ≡ (0, w)
 blob_null [] w e = call_null w

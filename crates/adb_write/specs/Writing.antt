@@ -1,5 +1,5 @@
 -- A writer as contracts see it: what it wrote, its two counts, and what each call makes of it.
-use Rattle.std.specs.Prelude.{ℕ, Bool, List, [], ◌∷◌, Result, Ok, Err, if◌then◌else◌}
+use Rattle.std.specs.Prelude.{ℕ, ◌<◌, Bool, List, [], ◌∷◌, length, Result, Ok, Err, if◌then◌else◌}
 use Rattle.adb_view.specs.Plain.{Plain, null, int, blob, arr, obj, Plains, none, more}
 use Rattle.adb_view.specs.Readers.{ARRAY, OBJECT}
 use Rattle.adb_write.specs.Canonical.{Cell, in_place, apart, int_cell, blob_cell, run_cell, trimmed_words, Layout, stored, Counts, counts_of, passes, payload_of}
@@ -39,6 +39,10 @@ unless_over w r = if passes (counts_of r.1) then (0, record (written_as r.1) { b
 unfoldable pub call : Cell → Writing → ℕ × Writing
 call (in_place word) w = ((if is_over w then 0 else word), w)
 call (apart i) w = if is_over w then (0, w) else unless_over w (stored (apart i) (layout w))
+
+-- a call adds bytes between two moments, for which it wants memory
+abbrev pub Grows : Writing → Writing → Type 0
+Grows before later = length before.body < length later.body
 
 -- the calls of the four methods
 abbrev pub int_call : ℕ → Writing → ℕ × Writing

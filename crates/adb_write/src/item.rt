@@ -156,6 +156,7 @@ impl<'a> Parts<'a> {
     /// How many bytes it takes.
     pub(crate) fn len(&self) -> u64
         ensures value { result ≡ length (item_of self.now).bytes }
+        ensures some { 0 < result }
         ensures small { result < 2 ^ 63 + 8 }
     {
         self.width.len() as u64 + self.content.len()

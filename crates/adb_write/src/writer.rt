@@ -2,7 +2,7 @@ ghost use Rattle.std.specs.Prelude.{◌≡◌, ◌<◌, ◌≤◌, ◌+◌, ◌^
 ghost use Rattle.adb_view.specs.Plain.{Plains, int, blob_value, arr_value, obj_value};
 ghost use Rattle.adb_write.specs.DepthFirst.{Writes, WritesAll};
 ghost use Rattle.adb_write.specs.Canonical.{gap, in_place, apart, run_cell, trimmed_words};
-ghost use Rattle.adb_write.specs.Writing.{Writing, empty, call, int_call, blob_call, arr_call, obj_call, finished};
+ghost use Rattle.adb_write.specs.Writing.{Writing, Grows, empty, call, int_call, blob_call, arr_call, obj_call, finished};
 ghost use Rattle.adb_write.specs.Items.{item_of};
 ghost use Rattle.adb_write.specs.Kept.{IsFinished};
 
@@ -17,7 +17,7 @@ use std::marker::Model;
 const HEAD: u64 = 8;
 
 /// Writes the values of one payload. A value's entries are written before it, and each call answers the value's word. A
-/// call whose growth of memory is refused leaves the writer as it was.
+/// call whose growth of memory is refused leaves the writer as it was; one that adds no bytes is never refused.
 ///
 /// A payload has at most 268,435,455 bytes and 4,194,304 values, its root and the entries of its lists. The first value
 /// that brings a count above its limit is counted, but not written, and its answer is NULL; every later call changes
@@ -61,6 +61,7 @@ impl Writer {
         ensures ok { IfOk result (λ word. (word, self.new) ≡ int_call n self.old) }
         ensures written { IfOk result (λ word. Writes self.old (int n) word self.new) }
         ensures err { OnErr result (self.new ≡ self.old) }
+        ensures wants { OnErr result (Grows self.old (int_call n self.old).1) }
     {
         if n < 1 << 28 {
             return Ok(self.in_word(0x1000_0000 + n as u32));
@@ -74,6 +75,7 @@ impl Writer {
         ensures ok { IfOk result (λ word. (word, self.new) ≡ blob_call bytes.now self.old) }
         ensures written { IfOk result (λ word. Writes self.old (blob_value bytes.now) word self.new) }
         ensures err { OnErr result (self.new ≡ self.old) }
+        ensures wants { OnErr result (Grows self.old (blob_call bytes.now self.old).1) }
     {
         if bytes.is_empty() {
             return Ok(Val::of(0));
@@ -87,6 +89,7 @@ impl Writer {
         ensures written { IfOk result (λ word. (vs : Plains) (before : Writing)
             → WritesAll before vs entries.now self.old → Writes before (arr_value vs) word self.new) }
         ensures err { OnErr result (self.new ≡ self.old) }
+        ensures wants { OnErr result (Grows self.old (arr_call entries.now self.old).1) }
     {
         self.run(kind::ARRAY, entries)
     }
@@ -98,6 +101,7 @@ impl Writer {
         ensures written { IfOk result (λ word. (vs : Plains) (before : Writing)
             → WritesAll before vs fields.now self.old → Writes before (obj_value vs) word self.new) }
         ensures err { OnErr result (self.new ≡ self.old) }
+        ensures wants { OnErr result (Grows self.old (obj_call fields.now self.old).1) }
     {
         self.run(kind::OBJECT, trimmed(fields))
     }
@@ -127,6 +131,7 @@ impl Writer {
         requires { kind < 15 }
         ensures ok { IfOk result (λ word. (word, self.new) ≡ call (run_cell kind words.now) self.old) }
         ensures err { OnErr result (self.new ≡ self.old) }
+        ensures wants { OnErr result (Grows self.old (call (run_cell kind words.now) self.old).1) }
     {
         if words.is_empty() {
             return Ok(Val::of(0));
@@ -150,6 +155,7 @@ impl Writer {
         requires { parts.now.kind < 15 }
         ensures ok { IfOk result (λ word. (word, self.new) ≡ call (apart (item_of parts.now)) self.old) }
         ensures err { OnErr result (self.new ≡ self.old) }
+        ensures wants { OnErr result (Grows self.old (call (apart (item_of parts.now)) self.old).1) }
     {
         let before = self.counts;
         if before.passes() {

@@ -1,76 +1,80 @@
 -- In a package whose texts keep their rules each file with contents has a digest of one of the three functions.
 use Rattle.std.proofs.Common.{◌≡◌, ℕ, zero, suc, ◌+◌, ◌⊎◌, inl, inr, Bool, true, false, ◌||◌, ◌==◌, if◌then◌else◌, List, [], ◌∷◌, ◌++◌, length, Option, Some, None, refl, ap, sym, ◌∙◌, subst, arith, add-zero}
+use Rattle.std.proofs.lemmas.Bool.{and_parts}
+use Rattle.std.proofs.lemmas.List.Folds.{list_all-append}
 use Rattle.std.proofs.lemmas.Slice.Eq.{bytes_eq-Decides}
+use Rattle.std.specs.List.{list_all}
 use Rattle.std.specs.Prelude.{bytes_eq}
 use Rattle.sha1.specs.Sha1.{sha1}
 use Rattle.sha2.specs.Sha256.{sha256}
 use Rattle.sha2.specs.Sha512.{sha512}
 use Rattle.base_core.specs.declared.cause.Cause.{Cause}
-use Rattle.base_core.specs.declared.cause.Cause.TheVariants.{BadText, HashDiffers}
+use Rattle.base_core.specs.declared.cause.Cause.TheVariants.{HashDiffers}
 use Rattle.base_core.specs.declared.cause.Digest.{Digest}
 use Rattle.base_core.specs.declared.cause.Digest.TheVariants.{Sha1, Sha256, Sha512}
 use Rattle.adb_view.specs.Plain.{Plain, null, Plains, none, more, Shape, hash, array, Fields, no_fields, field}
-use Rattle.adb_schema.specs.Walk.{or_else}
 use Rattle.adb_schema.specs.Repeated.{list_of, files_in}
 use Rattle.adb_schema.specs.Rules.{is_digest_length, is_digest_length_or_none}
 use Rattle.adb_schema.specs.Schema.{shape_of, shapes_of, table}
-use Rattle.adb_schema.specs.Texts.{Around, Leaf, text_leaf, keeps_rule, place_of, leaves, field_leaves, each_leaf, inside_of, at_root, first_bad, text_fault, text_rule, is_with_contents, needs_hash}
+use Rattle.adb_schema.specs.Texts.{Around, Leaf, text_leaf, keeps_rule, leaves, field_leaves, each_leaf, inside_of, at_root, leaves_of, text_fault, text_rule, TellsFirstBad, is_with_contents, needs_hash}
 use Rattle.adb_schema.specs.Views.{nth, entries_in, entry_in, int_in, text_in}
 use Rattle.adb_schema.specs.declared.schema.Which.{Which}
 use Rattle.adb_schema.specs.declared.schema.Kind.TheVariants.{Obj}
 use Rattle.adb_schema.specs.declared.schema.Which.TheVariants as Tables
-use Rattle.adb_schema.proofs.TextSteps.{first_bad-append}
 use Rattle.pkg_core.specs.Contents.{Contents, Expected, AreContentsOf, AreTrueTo, HaveDigests, IsDigestOf, digest_fault, expected_at, expected_contents, files_from, folders_from, hash_fault}
 
--- ---- a good walk is good at each part
+-- ---- where nothing is told, each text and number keeps its rule
 
-both_none : (o u : Option Cause) → or_else o u ≡ None → (o ≡ None) × (u ≡ None)
-both_none None u h = (refl, h)
-both_none (Some c) u h = (cc)
+-- what is told of texts, as adb_schema's law says
+abbrev pub TellsFirst : Type 0
+TellsFirst = (which : Which) (v : Plain) → TellsFirstBad (leaves_of which v) (text_fault which v)
 
-parts_good : (xs ys : List Leaf) → first_bad (xs ++ ys) ≡ None → (first_bad xs ≡ None) × (first_bad ys ≡ None)
-parts_good xs ys h = both_none (first_bad xs) (first_bad ys) (sym (first_bad-append xs ys) ∙ h)
+abbrev Keep : List Leaf → Type 0
+Keep all = list_all keeps_rule all ≡ true
+
+none_told : (all : List Leaf) (o : Option Cause) → TellsFirstBad all o → o ≡ None → Keep all
+none_told all None t e = t
+none_told all (Some c) t e = (cc)
+
+parts_keep : (xs ys : List Leaf) → Keep (xs ++ ys) → Keep xs × Keep ys
+parts_keep xs ys h = and_parts (list_all keeps_rule xs) (list_all keeps_rule ys) (sym (list_all-append keeps_rule xs ys) ∙ h)
 
 abbrev shape_at : Fields → ℕ → Option Shape
 shape_at no_fields i = None
 shape_at (field name s fs) zero = Some s
 shape_at (field name s fs) (suc i) = shape_at fs i
 
-field_good : (fs : Fields) (i place : ℕ) (around : Around) (vs : Plains) (s : Shape) → shape_at fs i ≡ Some s → first_bad (field_leaves fs place around vs) ≡ None → first_bad (leaves s (place + i) around (nth vs i)) ≡ None
+field_keeps : (fs : Fields) (i place : ℕ) (around : Around) (vs : Plains) (s : Shape) → shape_at fs i ≡ Some s → Keep (field_leaves fs place around vs) → Keep (leaves s (place + i) around (nth vs i))
 unfolding leaves field_leaves
-field_good no_fields i place around vs s e h = (cc)
-field_good (field name t fs) zero place around none s e h =
+field_keeps no_fields i place around vs s e h = (cc)
+field_keeps (field name t fs) zero place around none s e h =
     let same : t ≡ s = (cc) in
-    subst (λ (u : Shape). first_bad (leaves u (place + 0) around null) ≡ None) same (subst (λ n. first_bad (leaves t n around null) ≡ None) (sym (add-zero place)) (parts_good (leaves t place around null) (field_leaves fs (place + 1) around none) h).0)
-field_good (field name t fs) zero place around (more v vs) s e h =
+    subst (λ (u : Shape). Keep (leaves u (place + 0) around null)) same (subst (λ n. Keep (leaves t n around null)) (sym (add-zero place)) (parts_keep (leaves t place around null) (field_leaves fs (place + 1) around none) h).0)
+field_keeps (field name t fs) zero place around (more v vs) s e h =
     let same : t ≡ s = (cc) in
-    subst (λ (u : Shape). first_bad (leaves u (place + 0) around v) ≡ None) same (subst (λ n. first_bad (leaves t n around v) ≡ None) (sym (add-zero place)) (parts_good (leaves t place around v) (field_leaves fs (place + 1) around vs) h).0)
-field_good (field name t fs) (suc i) place around none s e h =
+    subst (λ (u : Shape). Keep (leaves u (place + 0) around v)) same (subst (λ n. Keep (leaves t n around v)) (sym (add-zero place)) (parts_keep (leaves t place around v) (field_leaves fs (place + 1) around vs) h).0)
+field_keeps (field name t fs) (suc i) place around none s e h =
     let n : place + 1 + i ≡ place + suc i = omega arith in
-    subst (λ m. first_bad (leaves s m around null) ≡ None) n (field_good fs i (place + 1) around none s e (parts_good (leaves t place around null) (field_leaves fs (place + 1) around none) h).1)
-field_good (field name t fs) (suc i) place around (more v vs) s e h =
+    subst (λ m. Keep (leaves s m around null)) n (field_keeps fs i (place + 1) around none s e (parts_keep (leaves t place around null) (field_leaves fs (place + 1) around none) h).1)
+field_keeps (field name t fs) (suc i) place around (more v vs) s e h =
     let n : place + 1 + i ≡ place + suc i = omega arith in
-    subst (λ m. first_bad (leaves s m around (nth vs i)) ≡ None) n (field_good fs i (place + 1) around vs s e (parts_good (leaves t place around v) (field_leaves fs (place + 1) around vs) h).1)
+    subst (λ m. Keep (leaves s m around (nth vs i))) n (field_keeps fs i (place + 1) around vs s e (parts_keep (leaves t place around v) (field_leaves fs (place + 1) around vs) h).1)
 
 -- ---- the digest of a file
 
-leaf_good : (leaf : Leaf) → first_bad (leaf ∷ []) ≡ None → keeps_rule leaf ≡ true
-leaf_good leaf h = kept (keeps_rule leaf) h
-  where
-    kept : (b : Bool) → (if b then None else Some (BadText (place_of leaf))) ≡ None → b ≡ true
-    kept true h = refl
-    kept false h = (cc)
+leaf_keeps : (leaf : Leaf) → Keep (leaf ∷ []) → keeps_rule leaf ≡ true
+leaf_keeps leaf h = (and_parts (keeps_rule leaf) true h).0
 
 is_needed : (root : Which) (has_contents : Bool) (n : ℕ) → root ≡ Tables.Package → has_contents ≡ true → (if needs_hash root has_contents then is_digest_length n else is_digest_length_or_none n) ≡ true → is_digest_length n ≡ true
 is_needed root has_contents n e c h =
     let needed : needs_hash root has_contents ≡ true = ap (λ r. needs_hash r has_contents) e ∙ c in
     subst (λ b. (if b then is_digest_length n else is_digest_length_or_none n) ≡ true) needed h
 
-file_good : (place : ℕ) (around : Around) (f : Plain) → around.root ≡ Tables.Package → is_with_contents f ≡ true → first_bad (leaves (shape_of (Obj Tables.File)) place around f) ≡ None → is_digest_length (length (text_in (entry_in f 4))) ≡ true
+file_has : (place : ℕ) (around : Around) (f : Plain) → around.root ≡ Tables.Package → is_with_contents f ≡ true → Keep (leaves (shape_of (Obj Tables.File)) place around f) → is_digest_length (length (text_in (entry_in f 4))) ≡ true
 unfolding shape_of leaves text_rule
-file_good place around f root c h =
-    let leaf = field_good (shapes_of (table Tables.File)) 4 401 (inside_of 4 around f) (entries_in f) hash refl h in
-    is_needed around.root (is_with_contents f) (length (text_in (entry_in f 4))) root c (leaf_good (text_leaf 405 (inside_of 4 around f) (text_in (entry_in f 4))) leaf)
+file_has place around f root c h =
+    let leaf = field_keeps (shapes_of (table Tables.File)) 4 401 (inside_of 4 around f) (entries_in f) hash refl h in
+    is_needed around.root (is_with_contents f) (length (text_in (entry_in f 4))) root c (leaf_keeps (text_leaf 405 (inside_of 4 around f) (text_in (entry_in f 4))) leaf)
 
 -- ---- the digests of all
 
@@ -78,36 +82,39 @@ more_digests : (es fs : List Expected) → HaveDigests es → HaveDigests fs →
 more_digests [] fs a b = b
 more_digests (e ∷ es) fs a b = (a.0, more_digests es fs a.1 b)
 
-file_digests : (d i place : ℕ) (around : Around) (f : Plain) → around.root ≡ Tables.Package → first_bad (leaves (shape_of (Obj Tables.File)) place around f) ≡ None → HaveDigests (expected_at d i f)
+file_digests : (d i place : ℕ) (around : Around) (f : Plain) → around.root ≡ Tables.Package → Keep (leaves (shape_of (Obj Tables.File)) place around f) → HaveDigests (expected_at d i f)
 file_digests d i place around f root h = by_contents (is_with_contents f) refl
   where
     by_contents : (b : Bool) → is_with_contents f ≡ b → HaveDigests (if b then record { folder = d; file = i; size = int_in (entry_in f 2); hash = text_in (entry_in f 4) } ∷ [] else [])
-    by_contents true c = (file_good place around f root c h, tt)
+    by_contents true c = (file_has place around f root c h, tt)
     by_contents false c = tt
 
-files_digests : (d i place : ℕ) (around : Around) (vs : Plains) → around.root ≡ Tables.Package → first_bad (each_leaf (leaves (shape_of (Obj Tables.File)) place around) vs) ≡ None → HaveDigests (files_from d i (list_of vs))
+files_digests : (d i place : ℕ) (around : Around) (vs : Plains) → around.root ≡ Tables.Package → Keep (each_leaf (leaves (shape_of (Obj Tables.File)) place around) vs) → HaveDigests (files_from d i (list_of vs))
 files_digests d i place around none root h = tt
 files_digests d i place around (more f vs) root h =
-    let parts = parts_good (leaves (shape_of (Obj Tables.File)) place around f) (each_leaf (leaves (shape_of (Obj Tables.File)) place around) vs) h in
+    let parts = parts_keep (leaves (shape_of (Obj Tables.File)) place around f) (each_leaf (leaves (shape_of (Obj Tables.File)) place around) vs) h in
     more_digests (expected_at d i f) (files_from d (i + 1) (list_of vs)) (file_digests d i place around f root parts.0) (files_digests d (i + 1) place around vs root parts.1)
 
-folder_digests : (d place : ℕ) (around : Around) (folder : Plain) → around.root ≡ Tables.Package → first_bad (leaves (shape_of (Obj Tables.Dir)) place around folder) ≡ None → HaveDigests (files_from d 1 (files_in folder))
+folder_digests : (d place : ℕ) (around : Around) (folder : Plain) → around.root ≡ Tables.Package → Keep (leaves (shape_of (Obj Tables.Dir)) place around folder) → HaveDigests (files_from d 1 (files_in folder))
 unfolding shape_of leaves
 folder_digests d place around folder root h =
-    let files = field_good (shapes_of (table Tables.Dir)) 2 501 (inside_of 5 around folder) (entries_in folder) (array (shape_of (Obj Tables.File))) refl h in
+    let files = field_keeps (shapes_of (table Tables.Dir)) 2 501 (inside_of 5 around folder) (entries_in folder) (array (shape_of (Obj Tables.File))) refl h in
     files_digests d 1 503 (inside_of 5 around folder) (entries_in (entry_in folder 2)) root files
 
-folders_digests : (i place : ℕ) (around : Around) (vs : Plains) → around.root ≡ Tables.Package → first_bad (each_leaf (leaves (shape_of (Obj Tables.Dir)) place around) vs) ≡ None → HaveDigests (folders_from i (list_of vs))
+folders_digests : (i place : ℕ) (around : Around) (vs : Plains) → around.root ≡ Tables.Package → Keep (each_leaf (leaves (shape_of (Obj Tables.Dir)) place around) vs) → HaveDigests (folders_from i (list_of vs))
 folders_digests i place around none root h = tt
 folders_digests i place around (more d vs) root h =
-    let parts = parts_good (leaves (shape_of (Obj Tables.Dir)) place around d) (each_leaf (leaves (shape_of (Obj Tables.Dir)) place around) vs) h in
+    let parts = parts_keep (leaves (shape_of (Obj Tables.Dir)) place around d) (each_leaf (leaves (shape_of (Obj Tables.Dir)) place around) vs) h in
     more_digests (files_from i 1 (files_in d)) (folders_from (i + 1) (list_of vs)) (folder_digests i place around d root parts.0) (folders_digests (i + 1) place around vs root parts.1)
 
-pub texts_give_digests : (v : Plain) → text_fault Tables.Package v ≡ None → HaveDigests (expected_contents v)
+texts_keep : (v : Plain) → Keep (leaves_of Tables.Package v) → HaveDigests (expected_contents v)
 unfolding shape_of leaves
-texts_give_digests v h =
-    let folders = field_good (shapes_of (table Tables.Package)) 1 701 (inside_of 7 (at_root Tables.Package) v) (entries_in v) (array (shape_of (Obj Tables.Dir))) refl h in
+texts_keep v h =
+    let folders = field_keeps (shapes_of (table Tables.Package)) 1 701 (inside_of 7 (at_root Tables.Package) v) (entries_in v) (array (shape_of (Obj Tables.Dir))) refl h in
     folders_digests 1 702 (inside_of 7 (at_root Tables.Package) v) (entries_in (entry_in v 1)) refl folders
+
+pub texts_give_digests : TellsFirst → (v : Plain) → text_fault Tables.Package v ≡ None → HaveDigests (expected_contents v)
+texts_give_digests told v h = texts_keep v (none_told (leaves_of Tables.Package v) (text_fault Tables.Package v) (told Tables.Package v) h)
 
 -- ---- what a good digest says
 

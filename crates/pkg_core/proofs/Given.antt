@@ -19,7 +19,7 @@ use Rattle.adb_schema.specs.Soundness.{blocks_fault, file_fault, file_pair, firs
 use Rattle.adb_schema.specs.declared.schema.Which.TheVariants.{Package}
 use Rattle.pkg_core.specs.Contents as C
 use Rattle.pkg_core.specs.Contents.{Expected, Files, AreContentsOf, AreTrueTo, IsContentsOf, bytes_in, contents_at, contents_fault, contents_in, expected_contents, fault_in, files_of, hash_fault}
-use Rattle.pkg_core.proofs.Digests.{texts_give_digests, true_contents}
+use Rattle.pkg_core.proofs.Digests.{texts_give_digests, true_contents, TellsFirst}
 use Rattle.pkg_core.specs.Whole.{behind_fault, files_behind, files_by_header, files_in_file, package_fault, package_of, whole_fault}
 
 -- the sizes agree, and then the digests
@@ -91,17 +91,17 @@ texts_good payload h =
     let texts = second_none (shape_fault payload (shape_of (Obj Package)) (root_of payload)) _ shape in
     first_none (text_fault Package (root_value Package payload)) _ texts
 
-blocks_true : (r : Reading) → blocks_fault (behind_fault Package) Package r ≡ None → AreTrueTo (expected_contents (root_value Package (first_payload r))) (contents_in (files_behind r))
-blocks_true done h = let A : List Expected → Type 0 = λ es. AreTrueTo es [] in subst A (sym nothing_expected) tt
-blocks_true (fault c) h = (cc)
-blocks_true (more b at r) h =
+blocks_true : TellsFirst → (r : Reading) → blocks_fault (behind_fault Package) Package r ≡ None → AreTrueTo (expected_contents (root_value Package (first_payload r))) (contents_in (files_behind r))
+blocks_true told done h = let A : List Expected → Type 0 = λ es. AreTrueTo es [] in subst A (sym nothing_expected) tt
+blocks_true told (fault c) h = (cc)
+blocks_true told (more b at r) h =
     let v : Plain = root_value Package b.payload in
-    true_contents (expected_contents v) (contents_in (files_of (expected_contents v) r)) (texts_give_digests v (texts_good b.payload (first_none (payload_fault Package b.payload) _ h))) (files_right (expected_contents v) r (second_none (payload_fault Package b.payload) _ h))
+    true_contents (expected_contents v) (contents_in (files_of (expected_contents v) r)) (texts_give_digests told v (texts_good b.payload (first_none (payload_fault Package b.payload) _ h))) (files_right (expected_contents v) r (second_none (payload_fault Package b.payload) _ h))
 
-header_true : (file : List ℕ) (h : Result ℕ Cause) → file_fault (behind_fault Package) Package file h ≡ None → AreTrueTo (expected_contents (root_value Package (payload_behind file h))) (contents_in (files_by_header file h))
-header_true file (Ok schema) e = blocks_true (reading_of (start_of schema file)) (second_none (schema_fault Package schema) _ e)
-header_true file (Err c) e = (cc)
+header_true : TellsFirst → (file : List ℕ) (h : Result ℕ Cause) → file_fault (behind_fault Package) Package file h ≡ None → AreTrueTo (expected_contents (root_value Package (payload_behind file h))) (contents_in (files_by_header file h))
+header_true told file (Ok schema) e = blocks_true told (reading_of (start_of schema file)) (second_none (schema_fault Package schema) _ e)
+header_true told file (Err c) e = (cc)
 
-pub package_true : (file : List ℕ) → package_fault file ≡ None → AreTrueTo (expected_contents (package_of file).value) (package_of file).contents
+pub package_true : TellsFirst → (file : List ℕ) → package_fault file ≡ None → AreTrueTo (expected_contents (package_of file).value) (package_of file).contents
 unfolding whole_fault files_in_file payload_in
-package_true file h = header_true file (header_of file) h
+package_true told file h = header_true told file (header_of file) h

@@ -1,14 +1,8 @@
 -- The files and the folders of a list, one by one.
-use Rattle.std.proofs.Common.{◌≡◌, ℕ, zero, suc, Bool, true, false, if◌then◌else◌, ◌+◌, ◌-◌, ◌/◌, ◌^◌, ◌<◌, ◌≤◌, List, [], ◌∷◌, ◌++◌, length, drop, refl, ap, sym, ◌∙◌, subst, arith}
+use Rattle.std.proofs.Common.{◌≡◌, ℕ, zero, suc, Bool, true, false, if◌then◌else◌, ◌+◌, ◌-◌, ◌<◌, ◌≤◌, List, [], ◌∷◌, ◌++◌, drop, refl, ap, sym, ◌∙◌, subst, arith}
 use Rattle.adb_view.specs.Plain.{Plain, Plains, none, more}
-use Rattle.adb_view.specs.Adb.{payload_of}
-use Rattle.adb_view.specs.Entries.{array_entries}
-use Rattle.adb_view.proofs.Words.{word_count}
 use Rattle.adb_schema.specs.Views.{nth, count_of, entries_in, entry_in, int_in, text_in}
-use Rattle.adb_schema.specs.Shown.{list_value}
 use Rattle.adb_schema.specs.Texts.{is_with_contents}
-use Rattle.adb_schema.specs.declared.list.List as L
-use Rattle.adb_schema.proofs.FieldReads.{entry_count}
 use Rattle.adb_schema.specs.Repeated.{list_of}
 use Rattle.pkg_core.specs.Contents.{Expected, expected_at, files_from, folders_from}
 use Rattle.pkg_core.specs.Opened.{left_from}
@@ -26,14 +20,6 @@ none_listed none zero h = refl
 none_listed none (suc i) h = refl
 none_listed (more v vs) zero h = absurd (omega arith)
 none_listed (more v vs) (suc i) h = none_listed vs i (omega arith)
-
--- there are fewer than the words that a run counts
-pub few_listed : {V : Type 0} {g : _} (list : L.List V g) → count_of (entries_in (list_value list)) < 2 ^ 32 - 1
-few_listed {g = g} list =
-    let c = entry_count (payload_of list.adb) g.kind (array_entries list.entries) list.sound in
-    let n = word_count (length list.entries.bytes.now / 4) list.entries.bytes.now in
-    let few = list.entries.counted in
-    omega arith
 
 -- a file more, with contents or without
 file_more : (d i : ℕ) (vs : Plains) → i < count_of vs → files_from d (i + 1) (drop i (list_of vs)) ≡ expected_at d (i + 1) (nth vs i) ++ files_from d (i + 1 + 1) (drop (i + 1) (list_of vs))

@@ -7,6 +7,8 @@ ghost use Rattle.adb_schema.specs.declared.schema.Which.TheVariants as Tables;
 ghost use Rattle.pkg_core.specs.Contents.{contents_fault, contents_in, expected_contents, fault_in, files_of, AreContentsOf, AreTrueTo, Expected};
 ghost use Rattle.pkg_core.specs.Whole.{files_in_file, package_fault, package_of};
 
+use adb_schema::first_bad_text_is_told;
+
 /// Where no test of the blocks fails, they give the contents of each file that is expected, in order, and no others:
 /// each with the positions, the size and the digest of its file.
 pub fn good_blocks_give_the_contents_of_each_file()
@@ -22,4 +24,6 @@ pub fn a_package_is_tested_by_its_values_and_then_its_files()
 /// order, and no others: their length is the file's size, and their SHA-1, SHA-256 or SHA-512 (FIPS 180-4) its digest.
 pub fn a_package_has_the_contents_of_its_files()
     ensures { (file : List ℕ) → package_fault file ≡ None → AreTrueTo (expected_contents (package_of file).value) (package_of file).contents }
-{}
+{
+    first_bad_text_is_told();
+}

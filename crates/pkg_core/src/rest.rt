@@ -2,13 +2,13 @@
 
 ghost use Rattle.std.specs.Prelude.{◌≡◌, ◌==◌, ◌≤◌, [], Some, length, drop, IfOk};
 ghost use Rattle.adb_view.specs.Gives.{cause_of};
-ghost use Rattle.adb_schema.specs.Soundness.{file_pair};
 ghost use Rattle.pkg_core.specs.Contents.{bytes_in, file_fault, missing_fault};
 ghost use Rattle.pkg_core.specs.Opened.{expected_of};
 
 use crate::digest::hash_fault;
 use crate::walk::{Walk, Wanted};
 use adb_block::{BlockKind, Blocks};
+use adb_schema::file_pair;
 use base_core::Cause;
 
 /// The bytes in front of a file's own in its contents: the positions of its folder and of itself.
@@ -111,15 +111,4 @@ fn file_fault(payload: &[u8], wanted: Wanted<'_>) -> Option<Cause>
         });
     }
     hash_fault(wanted.hash, bytes)
-}
-
-/// The positions of the folder and of the file that contents belong to.
-fn file_pair(payload: &[u8]) -> (u32, u32)
-    requires { 8 ≤ length payload.now }
-    ensures { result ≡ file_pair payload.now }
-{
-    (
-        u32::from_le_bytes([payload[0], payload[1], payload[2], payload[3]]),
-        u32::from_le_bytes([payload[4], payload[5], payload[6], payload[7]]),
-    )
 }

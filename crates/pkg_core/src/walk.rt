@@ -62,7 +62,7 @@ impl<'a> Walk<'a> {
 
     /// Goes on to the next file of the folder that has contents, or None behind the folder's last.
     fn next_in(&mut self, files: List<'a, FileInfo<'a>>) -> Option<Wanted<'a>>
-        requires { self.old.folder < count_of (entries_in (list_value self.old.folders)) }
+        requires { self.old.folder + 1 < 2 ^ 32 }
         ensures folders { self.new.folders ≡ self.old.folders }
         ensures folder { self.new.folder ≡ self.old.folder }
         ensures taken { IsTaken (files_from (self.old.folder + 1) (self.old.file + 1) (drop self.old.file (list_of (entries_in (list_value files.entry))))) result (files_from (self.old.folder + 1) (self.new.file + 1) (drop self.new.file (list_of (entries_in (list_value files.entry))))) }

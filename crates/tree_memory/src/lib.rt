@@ -21,4 +21,6 @@ pub use sink::MemorySink;
 pub use tree::MemoryTree;
 
 #[cfg(test)]
+mod sink_tests;
+#[cfg(test)]
 mod tests;

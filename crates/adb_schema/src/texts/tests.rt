@@ -209,6 +209,86 @@ impl Values {
         self.object(&[info, paths])
     }
 
+    /// A package that needs this dependency.
+    fn needing(&mut self, name: &[u8], version: &[u8], matching: u32) -> Result<u32, AllocError> {
+        let own = self.text(b"a")?;
+        let own_version = self.text(b"1")?;
+        let name = self.text(name)?;
+        let version = self.text(version)?;
+        let dependency = self.object(&[name, version, 0x1000_0000 + matching % 64])?;
+        let depends = self.array(&[dependency])?;
+        let mut fields = [0; 15];
+        fields[0] = own;
+        fields[1] = own_version;
+        fields[14] = depends;
+        let info = self.object(&fields)?;
+        self.object(&[info])
+    }
+
+    /// A package of a file of this size, with a hash of this length and this target.
+    fn package_of_file(
+        &mut self,
+        size: u32,
+        hash: usize,
+        target: &[u8],
+    ) -> Result<u32, AllocError> {
+        let name = self.text(b"a")?;
+        let hashes = self.text(&LONG[..hash.min(64)])?;
+        let target = self.text(target)?;
+        let file = [name, 0, 0x1000_0000 + size % 64, 0, hashes, target];
+        self.package(b"", &file)
+    }
+
+    /// An intent whose removals, and one whose writes, end with this path.
+    fn intents(&mut self, path: &[u8]) -> Result<(u32, u32), AllocError> {
+        let path = self.text(path)?;
+        let good = self.text(b"a")?;
+        let goods = self.array(&[good])?;
+        let paths = self.array(&[good, path])?;
+        let removals = self.object(&[paths, goods])?;
+        let writes = self.object(&[goods, paths])?;
+        Ok((removals, writes))
+    }
+
+    /// A package whose name, whose folder's, whose file's in the root folder and whose file's in a folder with a name of a
+    /// byte have these lengths.
+    fn long(
+        &mut self,
+        package: usize,
+        folder: usize,
+        file: usize,
+        inner: usize,
+    ) -> Result<u32, AllocError> {
+        let info = self.info(&LONG[..package.min(256)], b"1", 20)?;
+        let first = self.folder(&LONG[..folder.min(1025)], b"")?;
+        let second = self.folder(b"", &LONG[..file.min(1025)])?;
+        let third = self.folder(b"b", &LONG[..inner.min(1025)])?;
+        let paths = self.array(&[first, second, third])?;
+        self.object(&[info, paths])
+    }
+
+    /// The information of a package that is good, that lacks the version, and that lacks the name.
+    fn infos(&mut self) -> Result<(u32, u32, u32), AllocError> {
+        let good = self.info(b"a", b"1", 20)?;
+        let name = self.text(b"a")?;
+        let no_version = self.object(&[name])?;
+        let version = self.text(b"1_")?;
+        let no_name = self.object(&[0, version])?;
+        Ok((good, no_version, no_name))
+    }
+
+    /// The places that are refused of a package of two folders, and of a database of it.
+    fn refused_of_two(
+        &mut self,
+        alloc: Global,
+        info: u32,
+        folders: [u32; 2],
+    ) -> Result<(u16, u16), AllocError> {
+        let paths = self.array(&folders)?;
+        let package = self.object(&[info, paths])?;
+        self.refused_twice(alloc, package)
+    }
+
     /// The place that is refused where the payload has this root and is read as this table.
     fn refused(&self, alloc: Global, which: Which, root: u32) -> Result<u16, AllocError> {
         let mut payload = Vec::from_slice(alloc, &[0; 4])?;
@@ -244,18 +324,7 @@ fn place_of(found: Result<(), Cause>) -> u16 {
 fn dependencies(rt: HostRuntime) -> Result<(), Fail> {
     for (name, version, matching, want) in DEPENDENCIES {
         let mut values = Values::new(rt.alloc());
-        let own = values.text(b"a")?;
-        let version_word = values.text(b"1")?;
-        let name = values.text(name)?;
-        let version = values.text(version)?;
-        let dependency = values.object(&[name, version, 0x1000_0000 + matching % 64])?;
-        let depends = values.array(&[dependency])?;
-        let mut fields = [0; 15];
-        fields[0] = own;
-        fields[1] = version_word;
-        fields[14] = depends;
-        let info = values.object(&fields)?;
-        let package = values.object(&[info])?;
+        let package = values.needing(name, version, *matching)?;
         assert_eq!(rt; values.refused_twice(rt.alloc(), package)?, (*want, *want));
     }
     Ok(())
@@ -267,9 +336,10 @@ fn packages(rt: HostRuntime) -> Result<(), Fail> {
         let mut values = Values::new(rt.alloc());
         let info = values.info(name, version, *hash)?;
         let package = values.object(&[info])?;
+        let (alone, database) = values.refused_twice(rt.alloc(), package)?;
         let index = values.around(2, info)?;
-        assert_eq!(rt; values.refused_twice(rt.alloc(), package)?, (*want, *want));
-        assert_eq!(rt; values.refused(rt.alloc(), Which::Index, index)?, *in_index);
+        let index = values.refused(rt.alloc(), Which::Index, index)?;
+        assert_eq!(rt; (alone, database, index), (*want, *want, *in_index));
     }
     Ok(())
 }
@@ -292,11 +362,7 @@ fn names(rt: HostRuntime) -> Result<(), Fail> {
 fn files(rt: HostRuntime) -> Result<(), Fail> {
     for (size, hash, target, want, in_database) in FILES {
         let mut values = Values::new(rt.alloc());
-        let name = values.text(b"a")?;
-        let hashes = values.text(&LONG[..(*hash).min(64)])?;
-        let target = values.text(target)?;
-        let file = [name, 0, 0x1000_0000 + size % 64, 0, hashes, target];
-        let package = values.package(b"", &file)?;
+        let package = values.package_of_file(*size, *hash, target)?;
         assert_eq!(rt;
             values.refused_twice(rt.alloc(), package)?,
             (*want, *in_database)
@@ -309,12 +375,7 @@ fn files(rt: HostRuntime) -> Result<(), Fail> {
 fn paths_of_an_intent(rt: HostRuntime) -> Result<(), Fail> {
     for (path, is_refused) in PATHS {
         let mut values = Values::new(rt.alloc());
-        let path = values.text(path)?;
-        let good = values.text(b"a")?;
-        let goods = values.array(&[good])?;
-        let paths = values.array(&[good, path])?;
-        let removals = values.object(&[paths, goods])?;
-        let writes = values.object(&[goods, paths])?;
+        let (removals, writes) = values.intents(path)?;
         let want = if *is_refused {
             (1001, 1002)
         } else {
@@ -345,12 +406,7 @@ fn patterns_of_an_index(rt: HostRuntime) -> Result<(), Fail> {
 fn longest_names(rt: HostRuntime) -> Result<(), Fail> {
     for (package, folder, file, inner, want) in LENGTHS {
         let mut values = Values::new(rt.alloc());
-        let info = values.info(&LONG[..(*package).min(256)], b"1", 20)?;
-        let first = values.folder(&LONG[..(*folder).min(1025)], b"")?;
-        let second = values.folder(b"", &LONG[..(*file).min(1025)])?;
-        let third = values.folder(b"b", &LONG[..(*inner).min(1025)])?;
-        let paths = values.array(&[first, second, third])?;
-        let package = values.object(&[info, paths])?;
+        let package = values.long(*package, *folder, *file, *inner)?;
         assert_eq!(rt; values.refused(rt.alloc(), Which::Package, package)?, *want);
     }
     Ok(())
@@ -359,29 +415,26 @@ fn longest_names(rt: HostRuntime) -> Result<(), Fail> {
 #[test]
 fn the_first_place_is_told(rt: HostRuntime) -> Result<(), Fail> {
     let mut values = Values::new(rt.alloc());
-    let good = values.info(b"a", b"1", 20)?;
-    let no_version = values.text(b"a")?;
-    let no_version = values.object(&[no_version])?;
-    let no_name = values.text(b"1_")?;
-    let no_name = values.object(&[0, no_name])?;
+    let (good, no_version, no_name) = values.infos()?;
     let kept = values.folder(b"a", b"a")?;
     let bad_folder = values.folder(b"/", b"a/b")?;
     let bad_file = values.folder(b"a", b"a/b")?;
-    let rows: [(u32, u32, u32, u16); 9] = [
-        (good, kept, kept, KEPT),
-        (no_version, bad_folder, kept, 302),
-        (no_name, bad_folder, kept, 301),
-        (0, bad_folder, kept, 301),
-        (good, bad_folder, kept, 501),
-        (good, bad_file, bad_folder, 401),
-        (good, kept, bad_folder, 501),
-        (good, 0, 0, KEPT),
-        (good, 0, bad_file, 401),
+    let rows: [(u32, [u32; 2], u16); 9] = [
+        (good, [kept, kept], KEPT),
+        (no_version, [bad_folder, kept], 302),
+        (no_name, [bad_folder, kept], 301),
+        (0, [bad_folder, kept], 301),
+        (good, [bad_folder, kept], 501),
+        (good, [bad_file, bad_folder], 401),
+        (good, [kept, bad_folder], 501),
+        (good, [0, 0], KEPT),
+        (good, [0, bad_file], 401),
     ];
-    for (info, first, second, want) in rows {
-        let paths = values.array(&[first, second])?;
-        let package = values.object(&[info, paths])?;
-        assert_eq!(rt; values.refused_twice(rt.alloc(), package)?, (want, want));
+    for (info, folders, want) in rows {
+        assert_eq!(rt;
+            values.refused_of_two(rt.alloc(), info, folders)?,
+            (want, want)
+        );
     }
     Ok(())
 }

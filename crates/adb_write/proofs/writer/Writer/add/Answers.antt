@@ -1,8 +1,8 @@
-use Rattle.std.proofs.Common.{◌≡◌, ℕ, ◌+◌, ◌*◌, ◌^◌, true, false, List, ◌++◌, length, drop, replicate, refl, sym, ap, subst, ◌∙◌}
+use Rattle.std.proofs.Common.{◌≡◌, ◌<◌, ℕ, ◌+◌, ◌*◌, ◌^◌, true, false, List, ◌++◌, length, drop, replicate, refl, sym, ap, subst, ◌∙◌}
 use Rattle.adb_write.specs.Canonical.{gap, Item, apart, passes}
-use Rattle.adb_write.specs.Writing.{Writing, call, made}
+use Rattle.adb_write.specs.Writing.{Writing, Grows, call, made}
 use Rattle.adb_write.specs.Items.{item_of}
-use Rattle.adb_write.proofs.WriterSteps.{end_of, call_past, call_stops, call_fits}
+use Rattle.adb_write.proofs.WriterSteps.{end_of, call_past, call_stops, call_fits, call_grows, on_err}
 use Rattle.adb_write.proofs.Grown.{Grown, grown, grown_len}
 use Rattle.adb_write.proofs.writer.Writer.add.Goals as goal
 
@@ -24,6 +24,19 @@ returns-then-passes-2-clause-ok c =
     let count : s.counts.values + c.entries.result ≡ s.counts.values + i.entries = ap (λ (k : ℕ). s.counts.values + k) c.entries.ensures.value in
     let past : passes (end_of i s.counts.bytes, s.counts.values + i.entries) ≡ true = rw (sym end, sym count) (sym c.passes-2.ensures ∙ c.if-passes-2.true) in
     rw (c.of-then-passes-2.ensures, end, count) (subst (λ (x : Writing). ◌≡◌ {A = ℕ × Writing} (0, made body (end_of i s.counts.bytes) (s.counts.values + i.entries)) (call (apart i) x)) c.self.view_is (sym (call_stops i body s.counts.bytes s.counts.values fine agree past)))
+
+pub returns-in_err-append-clause-wants : goal.returns-in_err-append-clause-wants
+returns-in_err-append-clause-wants c =
+    let s = c.self.inside in
+    let i : Item = item_of c.args.parts.now in
+    let body : List ℕ = drop 8 s.payload.items in
+    let fine : passes (s.counts.bytes, s.counts.values) ≡ false = sym c.passes.ensures ∙ c.if-passes.false in
+    let agree : s.counts.bytes ≡ 8 + length body = c.self.invariant.agree fine in
+    let end : s.counts.bytes + c.gap.result + c.len-2.result ≡ end_of i s.counts.bytes = rw (c.len-2.ensures.value, c.gap.ensures.value, c.len.ensures.value) refl in
+    let count : s.counts.values + c.entries.result ≡ s.counts.values + i.entries = ap (λ (k : ℕ). s.counts.values + k) c.entries.ensures.value in
+    let fits : passes (end_of i s.counts.bytes, s.counts.values + i.entries) ≡ false = rw (sym end, sym count) (sym c.passes-2.ensures ∙ c.if-passes-2.false) in
+    let some : 0 < length i.bytes = subst (λ (k : ℕ). 0 < k) c.len-2.ensures.value c.len-2.ensures.some in
+    on_err c.from_residual.result _ (subst (λ (x : Writing). Grows x (call (apart i) x).1) c.self.view_is (call_grows i body s.counts.bytes s.counts.values fine agree fits some))
 
 pub invariant_of-self-2 : goal.invariant_of-self-2
 invariant_of-self-2 c =

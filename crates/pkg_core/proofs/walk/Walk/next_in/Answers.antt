@@ -1,17 +1,8 @@
 -- A file with contents is the next one, and one without is passed.
 use Rattle.std.proofs.Common.{◌+◌, sym, ◌∙◌, ap, arith}
 use Rattle.adb_schema.specs.Shown.{file_value, list_value}
-use Rattle.pkg_core.proofs.Listed.{few_listed, some_file, other_file, no_file}
+use Rattle.pkg_core.proofs.Listed.{some_file, other_file, no_file}
 use Rattle.pkg_core.proofs.walk.Walk.next_in.Goals as goal
-
-pub overflow_cast-result : goal.overflow_cast-result
-overflow_cast-result c = let few = few_listed c.args.self.now.folders in grind arith
-
-pub overflow_add-result : goal.overflow_add-result
-overflow_add-result c = let few = few_listed c.args.self.now.folders in grind arith
-
-pub overflow_cast-result-then-has_contents : goal.overflow_cast-result-then-has_contents
-overflow_cast-result-then-has_contents c = let few = few_listed c.args.files in grind arith
 
 pub returns-then-has_contents-clause-taken : goal.returns-then-has_contents-clause-taken
 returns-then-has_contents-clause-taken c =
