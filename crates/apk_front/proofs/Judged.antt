@@ -14,7 +14,7 @@ use Rattle.words_core.specs.Grammar.{command_of}
 use Rattle.words_core.specs.declared.read.WordsFault.{WordsFault}
 use Rattle.words_core.specs.declared.read.WordsFault.TheVariants.{Usage as WrongWord}
 use Rattle.words_core.specs.declared.applet.Applet.{Applet}
-use Rattle.words_core.specs.declared.applet.Applet.TheVariants.{Verify, Version}
+use Rattle.words_core.specs.declared.applet.Applet.TheVariants.{Adbdump, Verify, Version}
 use Rattle.words_core.specs.declared.flags.Flags.{Flags}
 use Rattle.words_core.specs.declared.operands.Operand.{Operand}
 use Rattle.outcome.specs.Told.{Outcome, refused}
@@ -33,6 +33,7 @@ use Rattle.apk_front.specs.declared.verdict.Verdict.{Verdict}
 given_any : (applet : Applet) (files : Files) → IsGivenTo applet files tt
 given_any Verify files = tt
 given_any Version files = tt
+given_any Adbdump files = tt
 
 pub usage_over : (words : List (List ℕ)) (place : ℕ) (files : Files) → command_of words ≡ Err place → IsOutcome words files (refused files (Usage place))
 usage_over words place files is = subst (λ (r : Result CommandLine ℕ). IsOutcomeOf r files (refused files (Usage place))) (sym is) refl

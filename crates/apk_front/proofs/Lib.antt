@@ -3,3 +3,4 @@ pub mod Judged
 pub mod Unplanned
 pub mod Telling
 pub mod Operands
+pub mod Dumping

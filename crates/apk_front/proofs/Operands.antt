@@ -8,12 +8,12 @@ use Rattle.base_core.specs.Tree.{TreeState, files_of}
 use Rattle.report_core.specs.declared.refusal.Refusal.{Refusal}
 use Rattle.report_core.specs.declared.refusal.Refusal.TheVariants.{VersionBad}
 use Rattle.version_core.specs.Order.{is_version, version_cmp}
-use Rattle.words_core.specs.Command.{is_file, without_dot}
+use Rattle.words_core.specs.Command.{are_files, is_file, without_dot}
 use Rattle.words_core.specs.declared.operands.Operand.{Operand}
 use Rattle.outcome.specs.Verify.{file_refusal, or_later, refusal_by, verified_lines, verify, verify_by, verify_refusal}
 use Rattle.outcome.specs.Version.{compared, invalid_line, invalid_lines, order_line, version_refusal}
 use Rattle.outcome.specs.Told.{refused, reported, unless}
-use Rattle.apk_front.specs.Shown.{are_files, shown}
+use Rattle.apk_front.specs.Shown.{shown}
 use Rattle.apk_front.specs.declared.verdict.Verdict.{Verdict}
 
 -- what is left of a list where an element stands

@@ -9,6 +9,7 @@ ghost use Rattle.outcome.specs.Outcome.{IsOutcome, IsFoundOutcome, run_of, run_b
 ghost use Rattle.outcome.specs.Reach.{does_rest_on_words, rests_on_words};
 ghost use Rattle.words_core.specs.Grammar.{command_of};
 
+use crate::dump::adbdump;
 use crate::verdict::Verdict;
 use crate::verify::verify;
 use crate::version::version;
@@ -42,6 +43,7 @@ pub(crate) fn judge<T: Tree>(
 }
 
 // Runs an applet.
+#[tactic(auto, using(crate::proofs::Dumping::dump_sound, crate::proofs::Dumping::verify_sound, crate::proofs::Dumping::version_sound))]
 fn run<T: Tree>(alloc: Global, command: &Command, tree: &mut T) -> Result<Verdict, TreeFault>
     ensures found { IfOk result (λ verdict. OnTold (T.history tree.old) (λ v. shown (files_of v) verdict ≡ run_of command.now tt (files_of v))) }
     ensures by_reads { IfOk result (λ verdict. (found : ℕ → Option (List ℕ)) × (shown no_names verdict ≡ run_by command.now.applet command.now found)) }
@@ -58,5 +60,6 @@ fn run<T: Tree>(alloc: Global, command: &Command, tree: &mut T) -> Result<Verdic
             let verdict = version(alloc, command.flags(), command.operands())?;
             Ok(verdict)
         }
+        Applet::Adbdump => adbdump(alloc, command.operands(), tree),
     }
 }

@@ -6,6 +6,7 @@
 #![tactic(auto)]
 
 mod answer;
+mod dump;
 mod front;
 mod judge;
 mod show;

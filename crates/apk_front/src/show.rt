@@ -49,7 +49,7 @@ fn tell<O: Sink, E: Sink>(verdict: Verdict, out: &mut O, err: &mut E) -> Answer
     ensures out_counts { KeepsCount (sinking O.bytes O.counts out.old out.new) }
     ensures err_counts { KeepsCount (sinking E.bytes E.counts err.old err.new) }
 {
-    match report(&verdict.report, out) {
+    match report(verdict.report.as_bytes(), out) {
         Ok(()) => refuse(verdict.refusal, err),
         Err(_) => Answer::OutFault,
     }

@@ -1,4 +1,5 @@
 mod containers;
+mod dump_rows;
 mod failing_rows;
 mod verify_rows;
 mod version_rows;
@@ -6,6 +7,7 @@ mod version_rows;
 use super::*;
 use base_core::{Cause, Name, Words};
 use containers::CONTAINERS;
+use dump_rows::DUMPS;
 use failing_rows::FAILING;
 use std::alloc::Global;
 use std::process::Abort;
@@ -174,6 +176,11 @@ fn one_file(rt: HostRuntime) -> Result<(), Fail> {
 #[test]
 fn whole_containers(rt: HostRuntime) -> Result<(), Fail> {
     check_all(rt.alloc(), &rt, &CONTAINERS)
+}
+
+#[test]
+fn dumps(rt: HostRuntime) -> Result<(), Fail> {
+    check_all(rt.alloc(), &rt, &DUMPS)
 }
 
 #[test]

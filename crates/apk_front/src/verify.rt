@@ -1,7 +1,7 @@
 // `verify`: containers are tested.
 ghost use Rattle.std.specs.Prelude.{◌≡◌, List, Option, ℕ, IsTrue, IfOk, IsErrOf};
 ghost use Rattle.std.specs.List.{list_all};
-ghost use Rattle.apk_front.specs.Shown.{shown, are_files};
+ghost use Rattle.apk_front.specs.Shown.{shown};
 ghost use Rattle.base_core.specs.Calls.{OnTold};
 ghost use Rattle.base_core.specs.Faults.{GoesOn, HasCause};
 ghost use Rattle.base_core.specs.Files.{Files, no_names};
@@ -9,10 +9,10 @@ ghost use Rattle.base_core.specs.Read.{bytes_in};
 ghost use Rattle.base_core.specs.Tree.{files_of};
 ghost use Rattle.outcome.specs.Told.{unless};
 ghost use Rattle.outcome.specs.Verify.{file_refusal, refusal_by, verified_lines, verify, verify_by, verify_refusal};
-ghost use Rattle.words_core.specs.Command.{is_file, without_dot};
+ghost use Rattle.words_core.specs.Command.{are_files, is_file, without_dot};
 
 use crate::verdict::Verdict;
-use base_core::{Name, Tree, TreeFault, read_all};
+use base_core::{Name, Text, Tree, TreeFault, read_all};
 use pkg_core::PackageFault;
 use report_core::Refusal;
 use std::alloc::{AllocError, Global};
@@ -117,13 +117,13 @@ fn refusal_of(
 }
 
 // A line for each operand.
-fn lines(alloc: Global, operands: &Operands) -> Result<Vec<u8>, AllocError>
-    ensures { IfOk result (λ report. report.items ≡ verified_lines operands.now) }
+fn lines(alloc: Global, operands: &Operands) -> Result<Text, AllocError>
+    ensures { IfOk result (λ report. report ≡ verified_lines operands.now) }
 {
     let mut report = Vec::new(alloc);
     for i in 0..operands.len() {
         report.extend_from_slice(operands.get(i).file())?;
         report.extend_from_slice(b": OK\n")?;
     }
-    Ok(report)
+    Ok(Text::from_vec(report))
 }

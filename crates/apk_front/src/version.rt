@@ -7,6 +7,7 @@ ghost use Rattle.outcome.specs.Version.{compared, invalid_line, invalid_lines, o
 ghost use Rattle.words_core.specs.Command.{is_version};
 
 use crate::verdict::Verdict;
+use base_core::Text;
 use report_core::Refusal;
 use std::alloc::{AllocError, Global};
 use std::cmp::Ordering;
@@ -44,7 +45,7 @@ fn compare(alloc: Global, operands: &Operands) -> Result<Verdict, AllocError>
         return Ok(Verdict::refused(alloc, Refusal::VersionBad { place }));
     };
     let line = order_line(version.compare(&other));
-    Ok(Verdict::reported(Vec::from_slice(alloc, line)?))
+    Ok(Verdict::reported(Text::of(alloc, line)?))
 }
 
 fn order_line(order: Ordering) -> &'static [u8]
@@ -81,14 +82,14 @@ fn first_refusal(operands: &Operands) -> Option<Refusal>
 }
 
 // A line for each operand that is no version.
-fn lines(alloc: Global, operands: &Operands) -> Result<Vec<u8>, AllocError>
-    ensures { IfOk result (λ report. report.items ≡ invalid_lines operands.now) }
+fn lines(alloc: Global, operands: &Operands) -> Result<Text, AllocError>
+    ensures { IfOk result (λ report. report ≡ invalid_lines operands.now) }
 {
     let mut report = Vec::new(alloc);
     for i in 0..operands.len() {
         add_line(&mut report, operands.get(i).text.as_bytes())?;
     }
-    Ok(report)
+    Ok(Text::from_vec(report))
 }
 
 // A line for a text that is no version.

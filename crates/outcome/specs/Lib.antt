@@ -1,5 +1,6 @@
 pub mod Outcome
 pub mod Verify
 pub mod Version
+pub mod Dump
 pub mod Reach
 pub mod Told

@@ -5,7 +5,8 @@ use Rattle.report_core.specs.declared.refusal.Refusal.TheVariants.{Usage}
 use Rattle.words_core.specs.Command.{CommandLine}
 use Rattle.words_core.specs.Grammar.{command_of}
 use Rattle.words_core.specs.declared.applet.Applet.{Applet}
-use Rattle.words_core.specs.declared.applet.Applet.TheVariants.{Verify, Version}
+use Rattle.words_core.specs.declared.applet.Applet.TheVariants.{Adbdump, Verify, Version}
+use Rattle.outcome.specs.Dump.{adbdump, adbdump_by}
 use Rattle.outcome.specs.Told.{Outcome, refused}
 use Rattle.outcome.specs.Verify.{verify, verify_by}
 use Rattle.outcome.specs.Version.{version}
@@ -18,6 +19,7 @@ Given = Unit {0}
 abbrev pub IsGivenTo : Applet → Files → Given → Type 0
 IsGivenTo Verify files given = Unit {0}
 IsGivenTo Version files given = Unit {0}
+IsGivenTo Adbdump files given = Unit {0}
 
 abbrev pub IsGiven : CommandLine → Files → Given → Type 0
 IsGiven command files given = IsGivenTo command.applet files given
@@ -25,6 +27,7 @@ IsGiven command files given = IsGivenTo command.applet files given
 abbrev pub run_applet : Applet → CommandLine → Given → Files → Outcome
 run_applet Verify command given files = verify files command.operands
 run_applet Version command given files = version files command.flags command.operands
+run_applet Adbdump command given files = adbdump files command.operands
 
 -- the outcome of a command
 abbrev pub run_of : CommandLine → Given → Files → Outcome
@@ -44,6 +47,7 @@ IsOutcome words files outcome = IsOutcomeOf (command_of words) files outcome
 abbrev pub run_by : Applet → CommandLine → (ℕ → Option (List ℕ)) → Outcome
 run_by Verify command found = verify_by found no_names command.operands
 run_by Version command found = version no_names command.flags command.operands
+run_by Adbdump command found = adbdump_by no_names (λ name. found 0) command.operands
 
 abbrev pub IsFoundOutcomeOf : Result CommandLine ℕ → Outcome → Type 0
 IsFoundOutcomeOf (Err place) outcome = outcome ≡ refused no_names (Usage place)

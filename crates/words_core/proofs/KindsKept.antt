@@ -1,4 +1,5 @@
--- The kinds among the flags of a line that is read: none before the applet, and at most one, of the applet's own, behind it.
+-- The kinds among the flags of a line that is read: none before the applet, and at most one, of the applet's own, with an
+-- option behind it.
 use Rattle.std.proofs.Common.{◌≡◌, ℕ, ◌+◌, Bool, true, false, cond, List, [], ◌∷◌, drop, Option, Some, None, Ok, refl, subst, arith, length, ◌<◌, ◌≤◌, IfOk, if◌then◌else◌}
 use Rattle.std.specs.Prelude.{◌||◌}
 use Rattle.std.specs.List.{find, list_all}
@@ -13,7 +14,7 @@ use Rattle.words_core.specs.declared.start.Start.{Start}
 use Rattle.words_core.specs.Applets.{Entry, applet_of, common, entry_of}
 use Rattle.words_core.specs.Command.{may_have}
 use Rattle.words_core.specs.Flags.{no_flags}
-use Rattle.words_core.specs.Grammar.{is_end, is_option, operand_at, operands_of, options_of, or_at, or_unread, reading_by, reading_from, reading_of, start_at, start_behind_end, start_by, start_of, with_entry, with_operand, with_option}
+use Rattle.words_core.specs.Grammar.{is_end, is_option, options_of, or_at, start_at, start_behind_end, start_by, start_of, with_entry, with_option}
 
 abbrev pub flags_by : Bool → Bool → Bool → Bool → Flags
 flags_by untrusted no_scripts test check = record { allow_untrusted = untrusted; no_scripts = no_scripts; test = test; check = check }
@@ -48,19 +49,19 @@ common_plain u n false false m = refl
 -- the options of an applet leave it at most one kind
 pub options_kept : (applet : Applet) (untrusted no_scripts test check : Bool) → may_have applet (flags_by untrusted no_scripts test check) ≡ true → list_all (λ e. pass_or_none (may_have applet) (with_entry (flags_by untrusted no_scripts test check) e)) (options_of applet) ≡ true
 unfolding common options_of
-options_kept Verify u n true c m = absurd (false≢true m)
-options_kept Verify u n false true m = absurd (false≢true m)
-options_kept Verify u n false false m = refl
 options_kept Version u n true true m = absurd (false≢true m)
 options_kept Version u n true false m = refl
 options_kept Version u n false true m = refl
 options_kept Version u n false false m = refl
+options_kept applet u n true c m = absurd (false≢true m)
+options_kept applet u n false true m = absurd (false≢true m)
+options_kept applet u n false false m = refl
 
 -- flags without a kind are ones of every applet
 pub plain_kept : (applet : Applet) (untrusted no_scripts test check : Bool) → may_have Verify (flags_by untrusted no_scripts test check) ≡ true → may_have applet (flags_by untrusted no_scripts test check) ≡ true
-plain_kept Verify u n t c m = m
 plain_kept Version u n true c m = absurd (false≢true m)
 plain_kept Version u n false c m = refl
+plain_kept applet u n t c m = m
 
 -- what is known of where the applet was found
 pub record IsPlain (start : Start) (behind : ℕ) : Type 0 where
@@ -98,27 +99,3 @@ start_plain flags place behind (word ∷ words) m l =
 -- the applet is among the words, and no kind stands before it
 pub start_known : (words : List (List ℕ)) (start : Start) → start_of no_flags 1 words ≡ Ok start → IsPlain start (1 + length words)
 start_known words start e = IfOk-at_ok (λ s. IsPlain s (1 + length words)) e (start_plain no_flags 1 (1 + length words) words refl (omega arith))
-
-pub reading_kept : (applet : Applet) (flags : Flags) (place : ℕ) (words : List (List ℕ)) → may_have applet flags ≡ true → may_have applet (reading_of (options_of applet) flags place words).flags ≡ true
-reading_kept applet flags place [] m = m
-reading_kept applet flags place (word ∷ words) m =
-    elim (is_end word) as (λ b. may_have applet (if b then reading_by flags (operands_of (place + 1) words) None else if is_option word then or_unread flags place (λ more. reading_of (options_of applet) more (place + 1) words) (with_option (options_of applet) flags word) else with_operand (operand_at place word) (reading_of (options_of applet) flags (place + 1) words)).flags ≡ true) [
-      | true ↦ m
-      | false ↦ elim (is_option word) as (λ b. may_have applet (if b then or_unread flags place (λ more. reading_of (options_of applet) more (place + 1) words) (with_option (options_of applet) flags word) else with_operand (operand_at place word) (reading_of (options_of applet) flags (place + 1) words)).flags ≡ true) [
-        | true ↦ elim (with_option (options_of applet) flags word) as (λ o. with_option (options_of applet) flags word ≡ o → may_have applet (or_unread flags place (λ more. reading_of (options_of applet) more (place + 1) words) o).flags ≡ true) [
-          | None ↦ λ e. m
-          | Some more ↦ λ e. reading_kept applet more (place + 1) words (option_passes (may_have applet) (options_of applet) flags more word (options_kept applet flags.allow_untrusted flags.no_scripts flags.test flags.check m) e)
-        ] refl
-        | false ↦ reading_kept applet flags (place + 1) words m
-      ]
-    ]
-
--- what is read behind the applet has at most one kind, of the applet's own
-pub from_kept : (start : Start) (behind : ℕ) (words : List (List ℕ)) → IsPlain start behind → may_have start.applet (reading_from start words).flags ≡ true
-unfolding reading_from
-from_kept start behind words p =
-    let kept = plain_kept start.applet start.flags.allow_untrusted start.flags.no_scripts start.flags.test start.flags.check p.flags in
-    elim start.ended as (λ b. may_have start.applet (if b then reading_by start.flags (operands_of (start.read + 1) (drop start.read words)) None else reading_of (options_of start.applet) start.flags (start.read + 1) (drop start.read words)).flags ≡ true) [
-      | true ↦ kept
-      | false ↦ reading_kept start.applet start.flags (start.read + 1) (drop start.read words) kept
-    ]

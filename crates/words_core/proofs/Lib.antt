@@ -1,6 +1,7 @@
 pub mod OneMore
 pub mod Found
 pub mod KindsKept
+pub mod GivenKept
 pub mod WhatIsRead
 pub mod LinesRead
 pub mod LinesJudged

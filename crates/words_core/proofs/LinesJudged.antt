@@ -1,25 +1,38 @@
--- Flags and operands of a command are judged good.
-use Rattle.std.proofs.Common.{◌≡◌, ℕ, ◌+◌, Bool, true, false, List, [], ◌∷◌, Option, None, Ok, refl, arith, length, ◌<◌, ◌≤◌}
-use Rattle.std.specs.Prelude.{nat_lt}
+-- Flags, operands and values of a command are judged good.
+use Rattle.std.proofs.Common.{◌≡◌, ℕ, ◌+◌, Bool, true, false, List, [], ◌∷◌, Option, Some, None, Ok, refl, sym, ◌∙◌, ap, arith, length, ◌<◌, ◌≤◌}
+use Rattle.std.specs.Prelude.{◌&&◌, ◌==◌, ◌||◌, nat_lt, not}
 use Rattle.std.specs.List.{list_all}
-use Rattle.std.proofs.lemmas.Bool.{and_parts, eqb-true, false≢true, le-ltb, ltb-true}
+use Rattle.std.proofs.lemmas.Bool.{and_from, and_parts, eqb-true, false≢true, le-ltb, lt-ltb, ltb-true, not_from_true, or_from}
 use Rattle.words_core.specs.declared.applet.Applet.{Applet}
-use Rattle.words_core.specs.declared.applet.Applet.TheVariants.{Verify, Version}
+use Rattle.words_core.specs.declared.applet.Applet.TheVariants.{Adbdump, Verify, Version}
 use Rattle.words_core.specs.declared.operands.Operand.{Operand}
 use Rattle.words_core.specs.declared.reading.Reading.{Reading}
 use Rattle.words_core.specs.declared.rule.OperandRule.{OperandRule}
 use Rattle.words_core.specs.declared.rule.OperandKind.TheVariants.{Any}
+use Rattle.words_core.specs.declared.values.OptionValue.{OptionValue}
 use Rattle.words_core.specs.Applets.{row_of}
-use Rattle.words_core.specs.Command.{is_file, is_sound}
-use Rattle.words_core.specs.Grammar.{command_by, first_refused, judged, lacks, refused_operand}
+use Rattle.words_core.specs.Command.{are_files, are_values, is_plain, is_sound, is_sound_line}
+use Rattle.words_core.specs.Grammar.{command_by, first_refused, has_room, judged, lacks, lacks_operand, lacks_value, refused_operand, takes}
+use Rattle.words_core.specs.Values.{is_file, is_given}
 use Rattle.words_core.proofs.KindsKept.{flags_by}
 use Rattle.words_core.proofs.WhatIsRead.{files, two}
 
-pub files_taken : (before : ℕ) (operands : List Operand) → list_all (λ (o : Operand). is_file o.text) operands ≡ true → first_refused files before operands ≡ None
-files_taken before [] h = refl
-files_taken before (o ∷ os) h =
-    let parts = and_parts (is_file o.text) (list_all (λ (x : Operand). is_file x.text) os) h in
-    rw parts.0 (files_taken (before + 1) os parts.1)
+-- files are taken where any number may stand
+pub files_taken : (least before : ℕ) (operands : List Operand) → are_files operands ≡ true → first_refused (files least None) before operands ≡ None
+files_taken least before [] h = refl
+files_taken least before (o ∷ os) h =
+    let parts = and_parts (is_file o.text) (are_files os) h in
+    rw parts.0 (files_taken least (before + 1) os parts.1)
+
+-- one file is taken where one may stand
+pub one_taken : (operands : List Operand) → (length operands == 1) ≡ true → are_files operands ≡ true → first_refused (files 1 (Some 1)) 0 operands ≡ None
+one_taken [] l h = refl
+one_taken (a ∷ []) l h = (let parts = and_parts (is_file a.text) true h in rw parts.0 refl)
+one_taken (a ∷ (b ∷ os)) l h = absurd (let is : length (a ∷ (b ∷ os)) ≡ 1 = eqb-true (length (a ∷ (b ∷ os))) 1 l in omega arith)
+
+pub none_taken : (operands : List Operand) → (length operands == 0) ≡ true → first_refused (files 0 (Some 0)) 0 operands ≡ None
+none_taken [] l = refl
+none_taken (a ∷ os) l = absurd (let is : length (a ∷ os) ≡ 0 = eqb-true (length (a ∷ os)) 0 l in omega arith)
 
 pub two_taken : (operands : List Operand) → length operands ≡ 2 → first_refused two 0 operands ≡ None
 two_taken [] h = refl
@@ -34,28 +47,35 @@ pub texts_taken : (before : ℕ) (operands : List Operand) → first_refused som
 texts_taken before [] = refl
 texts_taken before (o ∷ os) = texts_taken (before + 1) os
 
--- the operands under some flags are taken, and none is lacking
-abbrev pub IsTaken : Option OperandRule → List Operand → Type 0
-IsTaken rule operands = (refused_operand rule operands ≡ None) × (lacks rule operands ≡ false)
+-- the operands under some flags are taken, and no word is lacking
+pub record AreTaken (applet : Applet) (rule : Option OperandRule) (operands : List Operand) (values : List OptionValue) : Type 0 where
+  pub taken : refused_operand rule operands ≡ None
+  pub enough : lacks_operand rule operands ≡ false
+  pub needed : lacks_value (row_of applet).needed values ≡ false
 
-pub sound_taken : (applet : Applet) (untrusted no_scripts test check : Bool) (operands : List Operand) → is_sound applet (flags_by untrusted no_scripts test check) operands ≡ true → IsTaken ((row_of applet).operands (flags_by untrusted no_scripts test check)) operands
-sound_taken Verify u n true c operands h = absurd (false≢true h)
-sound_taken Verify u n false true operands h = absurd (false≢true h)
-sound_taken Verify u n false false operands h =
-    let parts = and_parts (nat_lt 0 (length operands)) (list_all (λ (o : Operand). is_file o.text) operands) h in
-    let some : 0 < length operands = ltb-true 0 (length operands) parts.0 in
-    (files_taken 0 operands parts.1, le-ltb (length operands) 1 (omega arith))
-sound_taken Version u n true true operands h = absurd (false≢true h)
-sound_taken Version u n true false operands h =
+pub sound_taken : (applet : Applet) (untrusted no_scripts test check : Bool) (operands : List Operand) (values : List OptionValue) → is_sound_line applet (flags_by untrusted no_scripts test check) operands values ≡ true → AreTaken applet ((row_of applet).operands (flags_by untrusted no_scripts test check)) operands values
+sound_taken Verify u n t c operands values h =
+    let parts = and_parts (is_plain (flags_by u n t c) && nat_lt 0 (length operands)) (are_files operands) h in
+    let some : 0 < length operands = ltb-true 0 (length operands) (and_parts (is_plain (flags_by u n t c)) (nat_lt 0 (length operands)) parts.0).1 in
+    record { taken = files_taken 1 0 operands parts.1; enough = le-ltb (length operands) 1 (omega arith); needed = refl }
+sound_taken Adbdump u n t c operands values h =
+    let parts = and_parts (is_plain (flags_by u n t c) && (length operands == 1)) (are_files operands) h in
+    let is = (and_parts (is_plain (flags_by u n t c)) (length operands == 1) parts.0).1 in
+    let one : length operands ≡ 1 = eqb-true (length operands) 1 is in
+    record { taken = one_taken operands is parts.1; enough = le-ltb (length operands) 1 (omega arith); needed = refl }
+sound_taken Version u n true true operands values h = absurd (false≢true h)
+sound_taken Version u n true false operands values h =
     let two_of : length operands ≡ 2 = eqb-true (length operands) 2 h in
-    (two_taken operands two_of, le-ltb (length operands) 2 (omega arith))
-sound_taken Version u n false true operands h =
+    record { taken = two_taken operands two_of; enough = le-ltb (length operands) 2 (omega arith); needed = refl }
+sound_taken Version u n false true operands values h =
     let some : 0 < length operands = ltb-true 0 (length operands) h in
-    (texts_taken 0 operands, le-ltb (length operands) 1 (omega arith))
-sound_taken Version u n false false operands h = absurd (false≢true h)
+    record { taken = texts_taken 0 operands; enough = le-ltb (length operands) 1 (omega arith); needed = refl }
+sound_taken Version u n false false operands values h = absurd (false≢true h)
 
-pub sound_judged : (behind : ℕ) (applet : Applet) (reading : Reading) → reading.unread ≡ None → is_sound applet reading.flags reading.operands ≡ true → judged behind applet reading ≡ Ok (command_by applet reading)
+pub sound_judged : (behind : ℕ) (applet : Applet) (reading : Reading) → reading.unread ≡ None → is_sound applet reading.given.flags reading.operands reading.given.values ≡ true → judged behind applet reading ≡ Ok (command_by behind applet reading)
 unfolding judged
 sound_judged behind applet reading u s =
-    let taken = sound_taken applet reading.flags.allow_untrusted reading.flags.no_scripts reading.flags.test reading.flags.check reading.operands s in
-    rw taken.0 (rw u (rw taken.1 refl))
+    let flags = reading.given.flags in
+    let line = (and_parts (are_values (row_of applet).options reading.given.values) (is_sound_line applet flags reading.operands reading.given.values) s).1 in
+    let taken = sound_taken applet flags.allow_untrusted flags.no_scripts flags.test flags.check reading.operands reading.given.values line in
+    rw taken.taken (rw u (rw taken.enough (rw taken.needed refl)))

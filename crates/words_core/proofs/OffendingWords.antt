@@ -1,16 +1,18 @@
 -- A usage error is at a word, or behind the last one; and where it is at a word, more words change nothing.
 use Rattle.std.proofs.Common.{◌≡◌, ℕ, ◌+◌, Bool, true, false, List, [], ◌∷◌, drop, Option, Some, None, Result, Ok, Err, refl, ◌∙◌, ap, subst, arith, length, length-drop, inl, inr, ◌⊎◌, ◌<◌, ◌≤◌, if◌then◌else◌}
-use Rattle.std.specs.Option.{option_or}
+use Rattle.std.specs.Option.{option_map, option_or}
 use Rattle.std.proofs.lemmas.Option.{none-some, same_Some}
 use Rattle.words_core.specs.declared.applet.Applet.{Applet}
 use Rattle.words_core.specs.declared.flags.Flags.{Flags}
+use Rattle.words_core.specs.declared.given.Given.{Given}
 use Rattle.words_core.specs.declared.operands.Operand.{Operand}
 use Rattle.words_core.specs.declared.reading.Reading.{Reading}
 use Rattle.words_core.specs.declared.rule.OperandRule.{OperandRule}
 use Rattle.words_core.specs.declared.start.Start.{Start}
+use Rattle.words_core.specs.declared.value_rule.ValueRule.{ValueRule}
 use Rattle.words_core.specs.Applets.{Entry, applet_of, common, row_of}
 use Rattle.words_core.specs.Flags.{no_flags}
-use Rattle.words_core.specs.Grammar.{command_by, command_of, first_refused, is_end, is_option, judged, lacks, operand_at, operands_of, options_of, or_at, or_unread, reading_by, reading_from, reading_of, refused_operand, start_at, start_behind_end, start_by, start_of, takes, unless_at, with_operand, with_option, with_start}
+use Rattle.words_core.specs.Grammar.{command_by, command_of, first_refused, given_first, is_end, is_option, is_taken, judged, lacks, operand_at, operands_of, options_of, or_at, or_unread, reading_by, reading_end, reading_from, reading_of, refused_operand, start_at, start_behind_end, start_by, start_of, takes, unless_at, with_operand, with_option, with_start, with_word}
 use Rattle.words_core.proofs.KindsKept.{IsPlain, start_known}
 
 -- operands at places from one on and below another
@@ -39,10 +41,10 @@ refused_between rule before low behind place (o ∷ os) h e =
       | false ↦ λ (here : Some o.place ≡ Some place). subst (λ n. IsBetween low behind n) (same_Some o.place place here) h.0
     ] e
 
--- the places of a reading
+-- the places of a reading: of operands before the end of the words, and of what cannot be read at most there
 pub record IsPlaced (low behind : ℕ) (reading : Reading) : Type 0 where
   pub operands : AllBetween low behind reading.operands
-  pub unread : (place : ℕ) → reading.unread ≡ Some place → IsBetween low behind place
+  pub unread : (place : ℕ) → reading.unread ≡ Some place → IsBetween low (behind + 1) place
 
 pub placed_lower : (low lower behind : ℕ) (reading : Reading) → lower ≤ low → IsPlaced low behind reading → IsPlaced lower behind reading
 placed_lower low lower behind reading l h = record {
@@ -50,23 +52,33 @@ placed_lower low lower behind reading l h = record {
   unread = λ place e. (let is = h.unread place e in (omega (arith, is.0), is.1));
 }
 
-pub placed_operands : (flags : Flags) (low behind : ℕ) (operands : List Operand) → AllBetween low behind operands → IsPlaced low behind (reading_by flags operands None)
-placed_operands flags low behind operands h = record { operands = h; unread = λ place e. absurd (none-some place e) }
+pub placed_operands : (given : Given) (low behind : ℕ) (operands : List Operand) → AllBetween low behind operands → IsPlaced low behind (reading_by given operands None)
+placed_operands given low behind operands h = record { operands = h; unread = λ place e. absurd (none-some place e) }
 
-pub reading_placed : (entries : List Entry) (flags : Flags) (place behind : ℕ) (words : List (List ℕ)) → place + length words ≤ behind → IsPlaced place behind (reading_of entries flags place words)
-reading_placed entries flags place behind [] l = placed_operands flags place behind [] tt
-reading_placed entries flags place behind (word ∷ words) l =
+pub placed_unread : (given : Given) (low behind at : ℕ) → IsBetween low (behind + 1) at → IsPlaced low behind (reading_by given [] (Some at))
+placed_unread given low behind at h = record { operands = tt; unread = λ place e. subst (λ n. IsBetween low (behind + 1) n) (same_Some at place e) h }
+
+pub placed_end : (given : Given) (place behind : ℕ) → place ≤ behind → IsPlaced place behind (reading_end given place)
+placed_end given place behind l =
+    elim given.awaiting as (λ a. IsPlaced place behind (reading_by given [] (option_map (λ (rule : ValueRule). place) a))) [
+      | None ↦ placed_operands given place behind [] tt
+      | Some rule ↦ placed_unread given place behind place (omega arith, omega arith)
+    ]
+
+pub reading_placed : (entries : List Entry) (given : Given) (place behind : ℕ) (words : List (List ℕ)) → place + length words ≤ behind → IsPlaced place behind (reading_of entries given place words)
+reading_placed entries given place behind [] l = placed_end given place behind (omega arith)
+reading_placed entries given place behind (word ∷ words) l =
     let less : place + 1 + length words ≤ behind = omega arith in
     let here : IsBetween place behind place = (omega arith, omega arith) in
-    elim (is_end word) as (λ b. IsPlaced place behind (if b then reading_by flags (operands_of (place + 1) words) None else if is_option word then or_unread flags place (λ more. reading_of entries more (place + 1) words) (with_option entries flags word) else with_operand (operand_at place word) (reading_of entries flags (place + 1) words))) [
-      | true ↦ placed_lower (place + 1) place behind (reading_by flags (operands_of (place + 1) words) None) (omega arith) (placed_operands flags (place + 1) behind (operands_of (place + 1) words) (operands_between (place + 1) behind words less))
-      | false ↦ elim (is_option word) as (λ b. IsPlaced place behind (if b then or_unread flags place (λ more. reading_of entries more (place + 1) words) (with_option entries flags word) else with_operand (operand_at place word) (reading_of entries flags (place + 1) words))) [
-        | true ↦ elim (with_option entries flags word) as (λ m. IsPlaced place behind (or_unread flags place (λ more. reading_of entries more (place + 1) words) m)) [
-          | None ↦ record { operands = tt; unread = λ at e. subst (λ n. IsBetween place behind n) (same_Some place at e) here }
-          | Some more ↦ placed_lower (place + 1) place behind (reading_of entries more (place + 1) words) (omega arith) (reading_placed entries more (place + 1) behind words less)
-        ]
+    elim (is_taken given word) as (λ b. IsPlaced place behind (if b then or_unread given place (λ more. reading_of entries more (place + 1) words) (with_word entries given place word) else if is_end word then reading_by given (operands_of (place + 1) words) None else with_operand (operand_at place word) (reading_of entries given (place + 1) words))) [
+      | true ↦ elim (with_word entries given place word) as (λ m. IsPlaced place behind (or_unread given place (λ more. reading_of entries more (place + 1) words) m)) [
+        | None ↦ placed_unread given place behind place (omega arith, omega arith)
+        | Some more ↦ placed_lower (place + 1) place behind (reading_of entries more (place + 1) words) (omega arith) (reading_placed entries more (place + 1) behind words less)
+      ]
+      | false ↦ elim (is_end word) as (λ b. IsPlaced place behind (if b then reading_by given (operands_of (place + 1) words) None else with_operand (operand_at place word) (reading_of entries given (place + 1) words))) [
+        | true ↦ placed_lower (place + 1) place behind (reading_by given (operands_of (place + 1) words) None) (omega arith) (placed_operands given (place + 1) behind (operands_of (place + 1) words) (operands_between (place + 1) behind words less))
         | false ↦
-            let rest = placed_lower (place + 1) place behind (reading_of entries flags (place + 1) words) (omega arith) (reading_placed entries flags (place + 1) behind words less) in
+            let rest = placed_lower (place + 1) place behind (reading_of entries given (place + 1) words) (omega arith) (reading_placed entries given (place + 1) behind words less) in
             record { operands = (here, rest.operands); unread = rest.unread }
       ]
     ]
@@ -75,39 +87,41 @@ pub from_placed : (start : Start) (words : List (List ℕ)) → start.read ≤ l
 unfolding reading_from
 from_placed start words l =
     let less : start.read + 1 + length (drop start.read words) ≤ length words + 1 = omega (arith, length-drop start.read words) in
-    elim start.ended as (λ b. IsPlaced (start.read + 1) (length words + 1) (if b then reading_by start.flags (operands_of (start.read + 1) (drop start.read words)) None else reading_of (options_of start.applet) start.flags (start.read + 1) (drop start.read words))) [
-      | true ↦ placed_operands start.flags (start.read + 1) (length words + 1) (operands_of (start.read + 1) (drop start.read words)) (operands_between (start.read + 1) (length words + 1) (drop start.read words) less)
-      | false ↦ reading_placed (options_of start.applet) start.flags (start.read + 1) (length words + 1) (drop start.read words) less
+    elim start.ended as (λ b. IsPlaced (start.read + 1) (length words + 1) (if b then reading_by (given_first start.flags) (operands_of (start.read + 1) (drop start.read words)) None else reading_of (options_of start.applet) (given_first start.flags) (start.read + 1) (drop start.read words))) [
+      | true ↦ placed_operands (given_first start.flags) (start.read + 1) (length words + 1) (operands_of (start.read + 1) (drop start.read words)) (operands_between (start.read + 1) (length words + 1) (drop start.read words) less)
+      | false ↦ reading_placed (options_of start.applet) (given_first start.flags) (start.read + 1) (length words + 1) (drop start.read words) less
     ]
 
--- the first that offends, before a place
-pub first_between : (rule : Option OperandRule) (low behind place : ℕ) (reading : Reading) → IsPlaced low behind reading → option_or (refused_operand rule reading.operands) reading.unread ≡ Some place → IsBetween low behind place
+-- the first that offends, at most behind the words
+pub first_between : (rule : Option OperandRule) (low behind place : ℕ) (reading : Reading) → IsPlaced low behind reading → option_or (refused_operand rule reading.operands) reading.unread ≡ Some place → IsBetween low (behind + 1) place
 first_between None low behind place reading p h = p.unread place h
 first_between (Some rule) low behind place reading p h =
-    elim (first_refused rule 0 reading.operands) as (λ o. first_refused rule 0 reading.operands ≡ o → option_or o reading.unread ≡ Some place → IsBetween low behind place) [
+    elim (first_refused rule 0 reading.operands) as (λ o. first_refused rule 0 reading.operands ≡ o → option_or o reading.unread ≡ Some place → IsBetween low (behind + 1) place) [
       | None ↦ λ f e. p.unread place e
-      | Some at ↦ λ f (e : Some at ≡ Some place). refused_between rule 0 low behind place reading.operands p.operands (f ∙ e)
+      | Some at ↦ λ f (e : Some at ≡ Some place).
+          let is = refused_between rule 0 low behind place reading.operands p.operands (f ∙ e) in (is.0, omega (arith, is.1))
     ] refl h
 
 -- what is judged bad: at a place of the reading, or behind the words
-abbrev pub IsJudgedAt : ℕ → ℕ → Option ℕ → ℕ → Type 0
-IsJudgedAt low behind first place = (first ≡ Some place) ⊎ ((first ≡ None) × (place ≡ behind))
+abbrev pub IsJudgedAt : ℕ → Option ℕ → ℕ → Type 0
+IsJudgedAt behind first place = (first ≡ Some place) ⊎ ((first ≡ None) × (place ≡ behind))
 
-pub judged_at : (applet : Applet) (reading : Reading) (low behind place : ℕ) → judged behind applet reading ≡ Err place → IsJudgedAt low behind (option_or (refused_operand ((row_of applet).operands reading.flags) reading.operands) reading.unread) place
+pub judged_at : (applet : Applet) (reading : Reading) (behind place : ℕ) → judged behind applet reading ≡ Err place → IsJudgedAt behind (option_or (refused_operand ((row_of applet).operands reading.given.flags) reading.operands) reading.unread) place
 unfolding judged
-judged_at applet reading low behind place h =
-    elim (option_or (refused_operand ((row_of applet).operands reading.flags) reading.operands) reading.unread) as (λ o. unless_at o (if lacks ((row_of applet).operands reading.flags) reading.operands then Err behind else Ok (command_by applet reading)) ≡ Err place → IsJudgedAt low behind o place) [
-      | None ↦ elim (lacks ((row_of applet).operands reading.flags) reading.operands) as (λ b. (if b then Err behind else Ok (command_by applet reading)) ≡ Err place → IsJudgedAt low behind None place) [
+judged_at applet reading behind place h =
+    let rule = (row_of applet).operands reading.given.flags in
+    elim (option_or (refused_operand rule reading.operands) reading.unread) as (λ o. unless_at o (if lacks applet rule reading then Err behind else Ok (command_by behind applet reading)) ≡ Err place → IsJudgedAt behind o place) [
+      | None ↦ elim (lacks applet rule reading) as (λ b. (if b then Err behind else Ok (command_by behind applet reading)) ≡ Err place → IsJudgedAt behind None place) [
         | true ↦ λ (e : Err behind ≡ Err place). inr (refl, cc)
-        | false ↦ λ (e : Ok (command_by applet reading) ≡ Err place). absurd (cc)
+        | false ↦ λ (e : Ok (command_by behind applet reading) ≡ Err place). absurd (cc)
       ]
       | Some at ↦ λ (e : Err at ≡ Err place). inl cc
     ] h
 
-pub judged_bad : (applet : Applet) (reading : Reading) (behind place : ℕ) → option_or (refused_operand ((row_of applet).operands reading.flags) reading.operands) reading.unread ≡ Some place → judged behind applet reading ≡ Err place
+pub judged_bad : (applet : Applet) (reading : Reading) (behind place : ℕ) → option_or (refused_operand ((row_of applet).operands reading.given.flags) reading.operands) reading.unread ≡ Some place → judged behind applet reading ≡ Err place
 unfolding judged
 judged_bad applet reading behind place h =
-    ap (λ o. unless_at o (if lacks ((row_of applet).operands reading.flags) reading.operands then Err behind else Ok (command_by applet reading))) h
+    ap (λ o. unless_at o (if lacks applet ((row_of applet).operands reading.given.flags) reading then Err behind else Ok (command_by behind applet reading))) h
 
 -- where the search for the applet ends
 abbrev pub IsSearched : ℕ → ℕ → Result Start ℕ → Type 0
@@ -159,7 +173,7 @@ usage_between words place c =
     by_start start s e =
         let known : IsPlain start (1 + length words) = start_known words start s in
         let placed : IsPlaced (start.read + 1) (length words + 1) (reading_from start words) = from_placed start words (omega (arith, known.read)) in
-        elim (judged_at start.applet (reading_from start words) (start.read + 1) (length words + 1) place e) as (λ _. (1 ≤ place) × (place ≤ length words + 1)) [
-          | inl first ↦ (let is = first_between ((row_of start.applet).operands (reading_from start words).flags) (start.read + 1) (length words + 1) place (reading_from start words) placed first in (omega (arith, is.0), omega (arith, is.1)))
+        elim (judged_at start.applet (reading_from start words) (length words + 1) place e) as (λ _. (1 ≤ place) × (place ≤ length words + 1)) [
+          | inl first ↦ (let is = first_between ((row_of start.applet).operands (reading_from start words).given.flags) (start.read + 1) (length words + 1) place (reading_from start words) placed first in (omega (arith, is.0), omega (arith, is.1)))
           | inr last ↦ (omega (arith, last.1), omega (arith, last.1))
         ]

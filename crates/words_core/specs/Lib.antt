@@ -1,7 +1,9 @@
 pub mod Flags
+pub mod Values
 pub mod Applets
 pub mod Command
 pub mod Grammar
+pub mod Taken
 pub mod Entries
 pub mod Lines
 pub mod Faults

@@ -15,10 +15,12 @@ pub enum Applet {
     Verify,
     /// Compare two versions, or check texts for being versions.
     Version,
+    /// Print a container as text.
+    Adbdump,
 }
 
 // All applets.
-const APPLETS: [Applet; 2] = [Applet::Verify, Applet::Version];
+const APPLETS: [Applet; 3] = [Applet::Verify, Applet::Version, Applet::Adbdump];
 
 // The options of every applet, which may also stand before it.
 static COMMON: [Entry; 2] = [
@@ -61,7 +63,7 @@ impl Applet {
     pub(crate) fn of(word: &[u8]) -> Option<Applet>
         ensures { result ≡ applet_of word.now }
     {
-        APPLETS.into_iter().find(|applet| applet.word() == word)
+        APPLETS.iter().copied().find(|applet| applet.word() == word)
     }
 
     // The word of the applet.
@@ -71,6 +73,7 @@ impl Applet {
         match self {
             Applet::Verify => b"verify",
             Applet::Version => b"version",
+            Applet::Adbdump => b"adbdump",
         }
     }
 
@@ -90,8 +93,17 @@ impl Applet {
         ensures { map entry result.now ≡ (row_of self).options }
     {
         match self {
-            Applet::Verify => &[],
+            Applet::Verify | Applet::Adbdump => &[],
             Applet::Version => &VERSION,
+        }
+    }
+
+    /// The letter of the option that has to be given a value, if there is one.
+    pub(crate) fn needed(self) -> Option<u8>
+        ensures { result ≡ (row_of self).needed }
+    {
+        match self {
+            Applet::Verify | Applet::Version | Applet::Adbdump => None,
         }
     }
 
@@ -100,11 +112,8 @@ impl Applet {
         ensures { result ≡ (row_of self).operands flags }
     {
         match self {
-            Applet::Verify => Some(OperandRule {
-                kind: OperandKind::File,
-                least: 1,
-                most: None,
-            }),
+            Applet::Verify => Some(OperandRule::files(1, None)),
+            Applet::Adbdump => Some(OperandRule::files(1, Some(1))),
             Applet::Version if flags.test => Some(OperandRule {
                 kind: OperandKind::Any,
                 least: 2,

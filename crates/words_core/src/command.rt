@@ -4,6 +4,7 @@ ghost use Rattle.words_core.specs.Command.{IsCommand, is_sound};
 use crate::applet::Applet;
 use crate::flags::Flags;
 use crate::operands::Operands;
+use crate::values::Values;
 use std::marker::Model;
 
 /// What a command line asks for. It is made by `read_words` alone.
@@ -12,6 +13,8 @@ pub struct Command {
     applet: Applet,
     flags: Flags,
     operands: Operands,
+    values: Values,
+    behind: u32,
 }
 
 impl Model for Command {
@@ -20,21 +23,29 @@ impl Model for Command {
 
     ghost Value = { CommandLine };
 
-    ghost view = { λ command. record { applet = command.applet; flags = command.flags; operands = command.operands } };
+    ghost view = { λ command. record { applet = command.applet; flags = command.flags; operands = command.operands; values = command.values; behind = command.behind } };
 
-    ghost invariant = { λ command. IsTrue (is_sound command.applet command.flags command.operands) };
+    ghost invariant = { λ command. IsTrue (is_sound command.applet command.flags command.operands command.values) };
 }
 
 impl Command {
     /// A command of its parts.
-    pub(crate) fn of(applet: Applet, flags: Flags, operands: Operands) -> Command
-        requires { IsTrue (is_sound applet flags operands) }
-        ensures { result ≡ record { applet = applet; flags = flags; operands = operands } }
+    pub(crate) fn of(
+        applet: Applet,
+        flags: Flags,
+        operands: Operands,
+        values: Values,
+        behind: u32,
+    ) -> Command
+        requires { IsTrue (is_sound applet flags operands values) }
+        ensures { result ≡ record { applet = applet; flags = flags; operands = operands; values = values; behind = behind } }
     {
         Command {
             applet,
             flags,
             operands,
+            values,
+            behind,
         }
     }
 
@@ -60,5 +71,20 @@ impl Command {
         ensures command { IsCommand self.now }
     {
         &self.operands
+    }
+
+    /// The values that its options were given.
+    pub fn values(&self) -> &Values
+        ensures value { result.now ≡ self.now.values }
+        ensures command { IsCommand self.now }
+    {
+        &self.values
+    }
+
+    /// The place behind the last word, where a word that is missing is refused.
+    pub fn behind(&self) -> u32
+        ensures { result ≡ self.now.behind }
+    {
+        self.behind
     }
 }

@@ -6,8 +6,9 @@ ghost use Rattle.words_core.specs.Entries.{entry};
 ghost use Rattle.words_core.specs.Grammar.{with_entry, with_meaning};
 
 use crate::flags::{Flag, Flags};
+use crate::value_rule::ValueRule;
 
-/// An option without a value.
+/// An option.
 #[derive(Clone, Copy)]
 pub(crate) struct Entry {
     /// The word that spells it.
@@ -25,17 +26,20 @@ pub(crate) enum Meaning {
     Flag(Flag),
     /// A flag that says of which kind the command is: no other kind may stand beside it.
     Kind(Flag),
+    /// A value, which stands in the option's word or is the next word.
+    Value(ValueRule),
 }
 
 impl Meaning {
-    // These flags and what the option says. None comes where it is a second kind.
-    fn with(self, flags: Flags) -> Option<Flags>
+    /// These flags and what the option says. None comes where it says no flag, or a second kind.
+    pub(crate) fn with(self, flags: Flags) -> Option<Flags>
         ensures { result ≡ with_meaning flags self }
     {
         match self {
             Meaning::Flag(flag) => Some(flags.with(flag)),
             Meaning::Kind(flag) if flags.has_kind() && !flags.has(flag) => None,
             Meaning::Kind(flag) => Some(flags.with(flag)),
+            Meaning::Value(_) => None,
         }
     }
 }
@@ -56,7 +60,7 @@ pub(crate) fn find_option(entries: &[Entry], word: &[u8]) -> Option<Entry>
     entries.iter().copied().find(|entry| entry.is_spelled(word))
 }
 
-/// The flags with an option behind them. None comes where there is no option, or where it is a second kind.
+/// The flags with an option behind them. None comes where there is no option, or where it says no flag or a second kind.
 pub(crate) fn with_option(flags: Flags, option: Option<Entry>) -> Option<Flags>
     ensures { result ≡ option_and_then (with_entry flags) (option_map entry option) }
 {

@@ -9,12 +9,15 @@ mod applet;
 mod command;
 mod entry;
 mod flags;
+mod given;
 mod laws;
 mod operands;
 mod read;
 mod reading;
 mod rule;
 mod start;
+mod value_rule;
+mod values;
 mod words;
 
 pub use applet::Applet;
@@ -26,6 +29,7 @@ pub use laws::{
 };
 pub use operands::{Operand, Operands};
 pub use read::{WordsFault, read_words};
+pub use values::{OptionValue, Values};
 
 #[cfg(test)]
 mod tests;

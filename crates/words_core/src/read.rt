@@ -1,7 +1,6 @@
 ghost use Rattle.std.specs.Prelude.{◌≡◌, IsTrue, IfOk, IfErr};
-ghost use Rattle.words_core.specs.Command.{may_have};
 ghost use Rattle.words_core.specs.Faults.{IsWordsFault};
-ghost use Rattle.words_core.specs.Grammar.{command_of, judged};
+ghost use Rattle.words_core.specs.Grammar.{IsSoundReading, command_of, judged};
 
 use crate::applet::Applet;
 use crate::command::Command;
@@ -54,11 +53,11 @@ fn judge(
     reading: Reading,
     behind: u32,
 ) -> Result<Command, WordsFault>
-    requires { IsTrue (may_have applet reading.flags) }
+    requires { IsSoundReading applet reading }
     ensures ok { IfOk result (λ command. judged behind applet reading ≡ Ok command) }
     ensures usage { IfErr result (λ fault. IsWordsFault fault (judged behind applet reading)) }
 {
-    let Some(rule) = applet.operands(reading.flags) else {
+    let Some(rule) = applet.operands(reading.given.flags) else {
         let place = reading.unread.unwrap_or(behind);
         return Err(WordsFault::Usage { place });
     };
@@ -71,5 +70,14 @@ fn judge(
     if reading.operands.len() < rule.least {
         return Err(WordsFault::Usage { place: behind });
     }
-    Ok(Command::of(applet, reading.flags, reading.operands))
+    if !reading.given.has_needed(applet) {
+        return Err(WordsFault::Usage { place: behind });
+    }
+    Ok(Command::of(
+        applet,
+        reading.given.flags,
+        reading.operands,
+        reading.given.values,
+        behind,
+    ))
 }

@@ -1,49 +1,58 @@
 ghost use Rattle.std.specs.Prelude.{◌≡◌, ◌+◌, ◌++◌, ◌≤◌, Some, None, IfOk, OnOk, length, drop};
-ghost use Rattle.words_core.specs.Grammar.{operands_of, options_of, reading_by, reading_from, reading_of};
+ghost use Rattle.words_core.specs.Grammar.{given_first, operands_of, options_of, reading_by, reading_end, reading_from, reading_of};
 
-use crate::entry::with_option;
-use crate::flags::Flags;
+use crate::given::Given;
 use crate::operands::Operands;
 use crate::start::Start;
-use crate::words::{is_end, is_option, place_behind};
+use crate::words::{is_end, place_behind};
 use base_core::Words;
 use std::alloc::{AllocError, Global};
 
 /// What was read of the words behind the applet.
 #[derive(Drop)]
 pub(crate) struct Reading {
-    /// The flags, those before the applet among them.
-    pub flags: Flags,
+    /// What the options have given, those before the applet among them.
+    pub given: Given,
     pub operands: Operands,
-    /// The place of the option that cannot be read. Nothing was read behind it.
+    /// The place of the word that cannot be read. Nothing was read behind it.
     pub unread: Option<u32>,
 }
 
 impl Reading {
     // All words were read.
-    fn whole(flags: Flags, operands: Operands) -> Reading
-        ensures { result ≡ reading_by flags operands None }
+    fn whole(given: Given, operands: Operands) -> Reading
+        ensures { result ≡ reading_by given operands None }
     {
         Reading {
-            flags,
+            given,
             operands,
             unread: None,
         }
     }
 
-    // An option at a place cannot be read.
-    fn up_to(place: u32, flags: Flags, operands: Operands) -> Reading
-        ensures { result ≡ reading_by flags operands (Some place) }
+    // The word at a place cannot be read, or is missing.
+    fn up_to(place: u32, given: Given, operands: Operands) -> Reading
+        ensures { result ≡ reading_by given operands (Some place) }
     {
         Reading {
-            flags,
+            given,
             operands,
             unread: Some(place),
         }
     }
+
+    // The words end at a place, where a value that is awaited is missing.
+    fn ended(place: u32, given: Given, operands: Operands) -> Reading
+        ensures { result ≡ reading_by given operands (reading_end given place).unread }
+    {
+        match given.awaiting {
+            Some(_) => Reading::up_to(place, given, operands),
+            None => Reading::whole(given, operands),
+        }
+    }
 }
 
-/// Reads the words behind the applet, up to the first option that cannot be read.
+/// Reads the words behind the applet, up to the first that cannot be read.
 #[tactic(auto, unfolding(crate::specs::Grammar::reading_from))]
 pub(crate) fn read_behind(
     alloc: Global,
@@ -58,33 +67,32 @@ pub(crate) fn read_behind(
     }
     let mut operands = Operands::new(alloc);
     add_operands(&mut operands, words, start.read)?;
-    Ok(Reading::whole(start.flags, operands))
+    Ok(Reading::whole(Given::first(alloc, start.flags), operands))
 }
 
-// Reads options and operands.
+// Reads options, their values and operands.
 fn read_options(alloc: Global, words: &Words, start: &Start) -> Result<Reading, AllocError>
     requires { start.now.read ≤ length words.now }
     ensures { IfOk result (λ reading.
-        reading ≡ reading_of (options_of start.now.applet) start.now.flags (start.now.read + 1) (drop start.now.read words.now)) }
+        reading ≡ reading_of (options_of start.now.applet) (given_first start.now.flags) (start.now.read + 1) (drop start.now.read words.now)) }
 {
-    let mut flags = start.flags;
+    let mut given = Given::first(alloc, start.flags);
     let mut operands = Operands::new(alloc);
     for i in start.read..words.len() {
         let word = words.word(i);
+        if given.takes(word) {
+            if given.take_word(alloc, start.applet, place_behind(i), word)? {
+                continue;
+            }
+            return Ok(Reading::up_to(place_behind(i), given, operands));
+        }
         if is_end(word) {
             add_operands(&mut operands, words, i + 1)?;
-            return Ok(Reading::whole(flags, operands));
+            return Ok(Reading::whole(given, operands));
         }
-        if !is_option(word) {
-            operands.push(place_behind(i), word)?;
-            continue;
-        }
-        match with_option(flags, start.applet.option(word)) {
-            Some(more) => flags = more,
-            None => return Ok(Reading::up_to(place_behind(i), flags, operands)),
-        }
+        operands.push(place_behind(i), word)?;
     }
-    Ok(Reading::whole(flags, operands))
+    Ok(Reading::ended(place_behind(words.len()), given, operands))
 }
 
 // Adds the words behind so many as operands.

@@ -1,4 +1,5 @@
 ghost use Rattle.std.specs.Prelude.{◌≡◌, ◌<◌, IfOk, length};
+ghost use Rattle.words_core.specs.declared.rule.OperandKind.TheVariants.{File};
 ghost use Rattle.words_core.specs.Grammar.{first_refused, has_room, is_of_kind, lacks, refused_operand, takes};
 
 use crate::operands::Operands;
@@ -36,6 +37,17 @@ pub(crate) struct OperandRule {
 }
 
 impl OperandRule {
+    /// So many files.
+    pub(crate) fn files(least: usize, most: Option<usize>) -> OperandRule
+        ensures { result ≡ record { kind = File; least = least; most = most } }
+    {
+        OperandRule {
+            kind: OperandKind::File,
+            least,
+            most,
+        }
+    }
+
     /// The place of the first operand that is not taken.
     pub(crate) fn first_refused(
         &self,

@@ -86,6 +86,26 @@ const VERSIONS: [Line; 29] = [
     Line(b"--no-scripts version -x -t 1 2", 3),
 ];
 
+// Lines of `adbdump`.
+const DUMPS: [Line; 16] = [
+    Line(b"adbdump", 2),
+    Line(b"adbdump a", 0),
+    Line(b"adbdump ./a", 0),
+    Line(b"adbdump a b", 3),
+    Line(b"adbdump ", 2),
+    Line(b"adbdump /a", 2),
+    Line(b"adbdump --", 3),
+    Line(b"adbdump a --", 0),
+    Line(b"adbdump -- -", 0),
+    Line(b"adbdump -t a", 2),
+    Line(b"adbdump -I name:a a", 2),
+    Line(b"adbdump a b --bad", 3),
+    Line(b"adbdump a --bad b", 3),
+    Line(b"adbdump \xff", 2),
+    Line(b"adbdump a\0", 2),
+    Line(b"--no-scripts adbdump a --allow-untrusted", 0),
+];
+
 // The words of a line.
 fn words_of(alloc: Global, line: &[u8]) -> Result<Words, AllocError> {
     let mut words = Words::new(alloc);
@@ -125,6 +145,12 @@ fn files(rt: HostRuntime) -> Result<(), Fail> {
 #[test]
 fn versions(rt: HostRuntime) -> Result<(), Fail> {
     read_lines(&rt, rt.alloc(), &VERSIONS)?;
+    Ok(())
+}
+
+#[test]
+fn dumps(rt: HostRuntime) -> Result<(), Fail> {
+    read_lines(&rt, rt.alloc(), &DUMPS)?;
     Ok(())
 }
 

@@ -3,13 +3,13 @@ use super::{File, Row, Wanted};
 use base_core::Cause;
 
 // A sound intent: the name `a` is to be written.
-const INTENT: [u8; 48] = [
+pub(super) const INTENT: [u8; 48] = [
     0x41, 0x44, 0x42, 0x2e, 0x69, 0x6e, 0x74, 0x74, 0x28, 0, 0, 0, 0, 0, 0, 0, 0x14, 0, 0, 0xe0, 1,
     0x61, 0, 0, 2, 0, 0, 0, 8, 0, 0, 0x80, 3, 0, 0, 0, 0, 0, 0, 0, 0x0c, 0, 0, 0xd0, 0, 0, 0, 0,
 ];
 
 // The same, with contents behind it.
-const INTENT_WITH_CONTENTS: [u8; 64] = [
+pub(super) const INTENT_WITH_CONTENTS: [u8; 64] = [
     0x41, 0x44, 0x42, 0x2e, 0x69, 0x6e, 0x74, 0x74, 0x28, 0, 0, 0, 0, 0, 0, 0, 0x14, 0, 0, 0xe0, 1,
     0x61, 0, 0, 2, 0, 0, 0, 8, 0, 0, 0x80, 3, 0, 0, 0, 0, 0, 0, 0, 0x0c, 0, 0, 0xd0, 0, 0, 0, 0,
     0x0c, 0, 0, 0x80, 1, 0, 0, 0, 2, 0, 0, 0, 0, 0, 0, 0,

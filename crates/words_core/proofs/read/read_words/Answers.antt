@@ -1,6 +1,7 @@
-use Rattle.std.proofs.Common.{◌+◌, length, sym, ◌∙◌, ap, arith}
-use Rattle.words_core.specs.Command.{may_have}
-use Rattle.words_core.proofs.KindsKept.{IsPlain, from_kept, start_known}
+use Rattle.std.proofs.Common.{◌+◌, length, sym, ◌∙◌, ap, subst, arith}
+use Rattle.words_core.specs.Grammar.{IsSoundReading}
+use Rattle.words_core.proofs.KindsKept.{IsPlain, start_known}
+use Rattle.words_core.proofs.GivenKept.{from_kept}
 use Rattle.words_core.proofs.read.read_words.Goals as goal
 
 pub read_behind-requires : goal.read_behind-requires
@@ -10,6 +11,6 @@ read_behind-requires c =
 
 pub judge-requires : goal.judge-requires
 judge-requires c =
-    ap (λ r. may_have c.in-Ok.start.applet r.flags) c.in_ok-reading.ensures
-    ∙ from_kept c.in-Ok.start (1 + length c.args.words.now) c.args.words.now
-    (start_known c.args.words.now c.in-Ok.start (sym c.find_applet.ensures ∙ c.in-Ok.is))
+    subst (λ r. IsSoundReading c.in-Ok.start.applet r) (sym c.in_ok-reading.ensures)
+    (from_kept c.in-Ok.start (1 + length c.args.words.now) c.args.words.now
+    (start_known c.args.words.now c.in-Ok.start (sym c.find_applet.ensures ∙ c.in-Ok.is)))

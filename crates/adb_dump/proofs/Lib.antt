@@ -1,0 +1,17 @@
+pub mod Worked
+pub mod WordReads
+pub mod Pieces
+pub mod Left
+pub mod Nulls
+pub mod BlockLines
+pub mod Turns
+pub mod WholeText
+pub mod Placed
+pub mod Depth
+pub mod Booleans
+pub mod LineBack
+pub mod ValueBack
+pub mod TextLines
+pub mod ReadOnly
+pub mod ValueLaws
+pub mod ValuesFound

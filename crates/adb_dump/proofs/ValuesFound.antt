@@ -1,0 +1,235 @@
+-- The plain values of a payload's words have the shape that they were read by, and are of bytes.
+use Rattle.std.proofs.Common.{ℕ, ◌+◌, ◌<◌, Bool, true, false, cond, eqb, leb, List, [], ◌∷◌, length, take, drop, Option, Some, None, option_map, option_and_then, Result, Ok, Err}
+use Rattle.std.specs.Prelude.{All, IfSome, if◌then◌else◌}
+use Rattle.std.specs.Int.{Width, w8, w16, w32, byte_len}
+use Rattle.std.specs.List.{AllByRecursion}
+use Rattle.std.proofs.lemmas.List.Elements.{All-head, All-tail, All-take, All-drop}
+use Rattle.adb_view.specs.Bytes.{number_at, range_at}
+use Rattle.adb_view.specs.Plain.{Plain, null, int, blob, arr, obj, Plains, none, more, Shape, number, text, hash, array, object, Fields, no_fields, field, blob_value, arr_value, obj_of, keep, trimmed, obj_value, unless_null, found, then_more, each_plain, plain_of, plains_of}
+use Rattle.adb_view.specs.Readers.{counted_at, inside, int_of, blob_of, run_of, kind_of, low_of, ARRAY, OBJECT}
+use Rattle.adb_view.specs.Shaped.{Each, HasShape, HaveShapes}
+use Rattle.base_core.specs.declared.cause.Cause.{Cause}
+use Rattle.adb_dump.specs.Values.{IsOfBytes, AreOfBytes}
+
+-- whatever a value is, if each way to read it gives such
+unless_null-all : (P : Plain → Type 0) (w : ℕ) (v : Option Plain) → P null → IfSome v P → IfSome (unless_null w v) P
+unless_null-all P w v h k = go (eqb w 0)
+  where
+    go : (b : Bool) → IfSome (cond b (Some null) v) P
+    go true = h
+    go false = k
+
+mapped : (P : Plain → Type 0) (Q : Plains → Type 0) (f : Plains → Plain) → ((vs : Plains) → Q vs → P (f vs)) → (o : Option Plains) → IfSome o Q → IfSome (option_map f o) P
+mapped P Q f h None k = tt
+mapped P Q f h (Some vs) k = h vs k
+
+run_found : (P : Plain → Type 0) (g : List ℕ → Option Plain) → ((ws : List ℕ) → IfSome (g ws) P) → (r : Result (List ℕ) Cause) → IfSome (found g r) P
+run_found P g h (Ok ws) = h ws
+run_found P g h (Err c) = tt
+
+-- ---- shapes
+
+null_shape : (s : Shape) → HasShape s null
+unfolding HasShape
+null_shape number = tt
+null_shape text = tt
+null_shape hash = tt
+null_shape (array s) = tt
+null_shape (object n fs) = tt
+
+int_shape : (r : Result ℕ Cause) → IfSome (found (λ n. Some (int n)) r) (HasShape number)
+unfolding HasShape
+int_shape (Ok n) = tt
+int_shape (Err c) = tt
+
+text_shape : (r : Result (List ℕ) Cause) → IfSome (found (λ b. Some (blob_value b)) r) (HasShape text)
+unfolding HasShape
+text_shape (Ok []) = tt
+text_shape (Ok (c ∷ cs)) = tt
+text_shape (Err c) = tt
+
+hash_shape : (r : Result (List ℕ) Cause) → IfSome (found (λ b. Some (blob_value b)) r) (HasShape hash)
+unfolding HasShape
+hash_shape (Ok []) = tt
+hash_shape (Ok (c ∷ cs)) = tt
+hash_shape (Err c) = tt
+
+arr_shape : (s : Shape) (vs : Plains) → Each (HasShape s) vs → HasShape (array s) (arr_value vs)
+unfolding HasShape
+arr_shape s none h = tt
+arr_shape s (more v vs) h = h
+
+none_shape : (fs : Fields) → HaveShapes fs none
+unfolding HasShape
+none_shape no_fields = tt
+none_shape (field name s fs) = tt
+
+keep_shape : (name : List ℕ) (s : Shape) (fs : Fields) (v : Plain) (vs : Plains) → HasShape s v → HaveShapes fs vs → HaveShapes (field name s fs) (keep v vs)
+unfolding HasShape
+keep_shape name s fs null none h hs = tt
+keep_shape name s fs null (more v vs) h hs = (h, hs)
+keep_shape name s fs (int n) vs h hs = (h, hs)
+keep_shape name s fs (blob b) vs h hs = (h, hs)
+keep_shape name s fs (arr us) vs h hs = (h, hs)
+keep_shape name s fs (obj us) vs h hs = (h, hs)
+
+trimmed_shape : (fs : Fields) (vs : Plains) → HaveShapes fs vs → HaveShapes fs (trimmed vs)
+unfolding HasShape
+trimmed_shape no_fields none h = h
+trimmed_shape no_fields (more v vs) h = absurd h
+trimmed_shape (field name s fs) none h = tt
+trimmed_shape (field name s fs) (more v vs) h = keep_shape name s fs v (trimmed vs) h.0 (trimmed_shape fs vs h.1)
+
+obj_of_shape : (n : ℕ) (fs : Fields) (vs : Plains) → HaveShapes fs vs → HasShape (object n fs) (obj_of vs)
+unfolding HasShape
+obj_of_shape n fs none h = tt
+obj_of_shape n fs (more v vs) h = h
+
+obj_shape : (n : ℕ) (fs : Fields) (vs : Plains) → HaveShapes fs vs → HasShape (object n fs) (obj_value vs)
+obj_shape n fs vs h = obj_of_shape n fs (trimmed vs) (trimmed_shape fs vs h)
+
+each_more : (P : Plain → Type 0) (v : Option Plain) (vs : Option Plains) → IfSome v P → IfSome vs (Each P) → IfSome (then_more v vs) (Each P)
+each_more P (Some v) (Some vs) h hs = (h, hs)
+each_more P (Some v) None h hs = tt
+each_more P None vs h hs = tt
+
+each_shape : (P : Plain → Type 0) (f : ℕ → Option Plain) → ((w : ℕ) → IfSome (f w) P) → (ws : List ℕ) → IfSome (each_plain f ws) (Each P)
+each_shape P f h [] = tt
+each_shape P f h (w ∷ ws) = each_more P (f w) (each_plain f ws) (h w) (each_shape P f h ws)
+
+fields_more : (name : List ℕ) (s : Shape) (fs : Fields) (v : Option Plain) (vs : Option Plains) → IfSome v (HasShape s) → IfSome vs (HaveShapes fs) → IfSome (then_more v vs) (HaveShapes (field name s fs))
+unfolding HasShape
+fields_more name s fs (Some v) (Some vs) h hs = (h, hs)
+fields_more name s fs (Some v) None h hs = tt
+fields_more name s fs None vs h hs = tt
+
+mutual
+  unfolding plain_of
+
+  pub plain_shape : (p : List ℕ) (s : Shape) (w : ℕ) → IfSome (plain_of p s w) (HasShape s)
+  plain_shape p number w = unless_null-all (HasShape number) w _ (null_shape number) (int_shape (int_of p w))
+  plain_shape p text w = unless_null-all (HasShape text) w _ (null_shape text) (text_shape (blob_of p w))
+  plain_shape p hash w = unless_null-all (HasShape hash) w _ (null_shape hash) (hash_shape (blob_of p w))
+  plain_shape p (array s) w =
+      unless_null-all (HasShape (array s)) w _ (null_shape (array s)) (run_found (HasShape (array s)) (λ ws. option_map arr_value (each_plain (plain_of p s) ws)) (λ ws. mapped (HasShape (array s)) (Each (HasShape s)) arr_value (arr_shape s) (each_plain (plain_of p s) ws) (each_shape (HasShape s) (plain_of p s) (plain_shape p s) ws)) (run_of ARRAY p w))
+  plain_shape p (object n fs) w =
+      unless_null-all (HasShape (object n fs)) w _ (null_shape (object n fs)) (run_found (HasShape (object n fs)) (λ ws. option_map obj_value (plains_of p fs ws)) (λ ws. mapped (HasShape (object n fs)) (HaveShapes fs) obj_value (obj_shape n fs) (plains_of p fs ws) (plains_shape p fs ws)) (run_of OBJECT p w))
+
+  pub plains_shape : (p : List ℕ) (fs : Fields) (ws : List ℕ) → IfSome (plains_of p fs ws) (HaveShapes fs)
+  plains_shape p no_fields ws = none_shape no_fields
+  plains_shape p (field name s fs) [] = none_shape (field name s fs)
+  plains_shape p (field name s fs) (w ∷ ws) = fields_more name s fs (plain_of p s w) (plains_of p fs ws) (plain_shape p s w) (plains_shape p fs ws)
+
+-- ---- bytes
+
+abbrev AreBytes : List ℕ → Type 0
+AreBytes b = AllByRecursion (λ c. c < 256) b
+
+by_recursion : (b : List ℕ) → All (λ c. c < 256) b → AreBytes b
+by_recursion [] h = tt
+by_recursion (c ∷ cs) h = (All-head (λ c. c < 256) c cs h, by_recursion cs (All-tail (λ c. c < 256) c cs h))
+
+range_bytes : (p : List ℕ) (at len : ℕ) → All (λ c. c < 256) p → IfSome (range_at p at len) AreBytes
+range_bytes p at len h = go (leb (at + len) (length p))
+  where
+    go : (b : Bool) → IfSome (if b then Some (take len (drop at p)) else None) AreBytes
+    go true = by_recursion (take len (drop at p)) (All-take (λ c. c < 256) len (drop at p) (All-drop (λ c. c < 256) at p h))
+    go false = tt
+
+counted_bytes : (w : Width) (p : List ℕ) (at : ℕ) → All (λ c. c < 256) p → IfSome (counted_at w p at) AreBytes
+counted_bytes w p at h = go (number_at w p at)
+  where
+    go : (o : Option ℕ) → IfSome (option_and_then (λ len. range_at p (at + byte_len w) len) o) AreBytes
+    go (Some len) = range_bytes p (at + byte_len w) len h
+    go None = tt
+
+-- a reader's answer
+abbrev OkBytes : Result (List ℕ) Cause → Type 0
+OkBytes (Ok b) = AreBytes b
+OkBytes (Err c) = Unit {0}
+
+inside_bytes : (w : ℕ) (o : Option (List ℕ)) → IfSome o AreBytes → OkBytes (inside w o)
+inside_bytes w (Some b) h = h
+inside_bytes w None h = tt
+
+chosen_bytes : (b : Bool) (x y : Result (List ℕ) Cause) → OkBytes x → OkBytes y → OkBytes (cond b x y)
+chosen_bytes true x y h k = h
+chosen_bytes false x y h k = k
+
+blob_bytes : (p : List ℕ) (w : ℕ) → All (λ c. c < 256) p → OkBytes (blob_of p w)
+unfolding blob_of
+blob_bytes p w h =
+    chosen_bytes (eqb w 0) _ _ tt
+    (chosen_bytes (eqb (kind_of w) 8) _ _ (inside_bytes w _ (counted_bytes w8 p (low_of w) h))
+    (chosen_bytes (eqb (kind_of w) 9) _ _ (inside_bytes w _ (counted_bytes w16 p (low_of w) h))
+    (chosen_bytes (eqb (kind_of w) 10) _ _ (inside_bytes w _ (counted_bytes w32 p (low_of w) h)) tt)))
+
+int_is_bytes : (r : Result ℕ Cause) → IfSome (found (λ n. Some (int n)) r) IsOfBytes
+unfolding IsOfBytes
+int_is_bytes (Ok n) = tt
+int_is_bytes (Err c) = tt
+
+blob_is_bytes : (r : Result (List ℕ) Cause) → OkBytes r → IfSome (found (λ b. Some (blob_value b)) r) IsOfBytes
+unfolding IsOfBytes
+blob_is_bytes (Ok []) h = tt
+blob_is_bytes (Ok (c ∷ cs)) h = h
+blob_is_bytes (Err c) h = tt
+
+null_bytes : IsOfBytes null
+unfolding IsOfBytes
+null_bytes = tt
+
+arr_bytes : (vs : Plains) → AreOfBytes vs → IsOfBytes (arr_value vs)
+unfolding IsOfBytes
+arr_bytes none h = tt
+arr_bytes (more v vs) h = h
+
+keep_bytes : (v : Plain) (vs : Plains) → IsOfBytes v → AreOfBytes vs → AreOfBytes (keep v vs)
+unfolding IsOfBytes
+keep_bytes null none h hs = tt
+keep_bytes null (more v vs) h hs = (h, hs)
+keep_bytes (int n) vs h hs = (h, hs)
+keep_bytes (blob b) vs h hs = (h, hs)
+keep_bytes (arr us) vs h hs = (h, hs)
+keep_bytes (obj us) vs h hs = (h, hs)
+
+trimmed_bytes : (vs : Plains) → AreOfBytes vs → AreOfBytes (trimmed vs)
+unfolding IsOfBytes
+trimmed_bytes none h = tt
+trimmed_bytes (more v vs) h = keep_bytes v (trimmed vs) h.0 (trimmed_bytes vs h.1)
+
+obj_of_bytes : (vs : Plains) → AreOfBytes vs → IsOfBytes (obj_of vs)
+unfolding IsOfBytes
+obj_of_bytes none h = tt
+obj_of_bytes (more v vs) h = h
+
+obj_bytes : (vs : Plains) → AreOfBytes vs → IsOfBytes (obj_value vs)
+obj_bytes vs h = obj_of_bytes (trimmed vs) (trimmed_bytes vs h)
+
+more_bytes : (v : Option Plain) (vs : Option Plains) → IfSome v IsOfBytes → IfSome vs AreOfBytes → IfSome (then_more v vs) AreOfBytes
+unfolding IsOfBytes
+more_bytes (Some v) (Some vs) h hs = (h, hs)
+more_bytes (Some v) None h hs = tt
+more_bytes None vs h hs = tt
+
+each_bytes : (f : ℕ → Option Plain) → ((w : ℕ) → IfSome (f w) IsOfBytes) → (ws : List ℕ) → IfSome (each_plain f ws) AreOfBytes
+unfolding IsOfBytes
+each_bytes f h [] = tt
+each_bytes f h (w ∷ ws) = more_bytes (f w) (each_plain f ws) (h w) (each_bytes f h ws)
+
+mutual
+  unfolding plain_of IsOfBytes
+
+  pub plain_bytes : (p : List ℕ) → All (λ c. c < 256) p → (s : Shape) (w : ℕ) → IfSome (plain_of p s w) IsOfBytes
+  plain_bytes p h number w = unless_null-all IsOfBytes w _ null_bytes (int_is_bytes (int_of p w))
+  plain_bytes p h text w = unless_null-all IsOfBytes w _ null_bytes (blob_is_bytes (blob_of p w) (blob_bytes p w h))
+  plain_bytes p h hash w = unless_null-all IsOfBytes w _ null_bytes (blob_is_bytes (blob_of p w) (blob_bytes p w h))
+  plain_bytes p h (array s) w =
+      unless_null-all IsOfBytes w _ null_bytes (run_found IsOfBytes (λ ws. option_map arr_value (each_plain (plain_of p s) ws)) (λ ws. mapped IsOfBytes AreOfBytes arr_value arr_bytes (each_plain (plain_of p s) ws) (each_bytes (plain_of p s) (plain_bytes p h s) ws)) (run_of ARRAY p w))
+  plain_bytes p h (object n fs) w =
+      unless_null-all IsOfBytes w _ null_bytes (run_found IsOfBytes (λ ws. option_map obj_value (plains_of p fs ws)) (λ ws. mapped IsOfBytes AreOfBytes obj_value obj_bytes (plains_of p fs ws) (plains_bytes p h fs ws)) (run_of OBJECT p w))
+
+  pub plains_bytes : (p : List ℕ) → All (λ c. c < 256) p → (fs : Fields) (ws : List ℕ) → IfSome (plains_of p fs ws) AreOfBytes
+  plains_bytes p h no_fields ws = tt
+  plains_bytes p h (field name s fs) [] = tt
+  plains_bytes p h (field name s fs) (w ∷ ws) = more_bytes (plain_of p s w) (plains_of p fs ws) (plain_bytes p h s w) (plains_bytes p h fs ws)

@@ -1,0 +1,136 @@
+-- The text of a plain value: its lines, by its shape.
+use Rattle.std.specs.Prelude.{ℕ, Bool, false, ◌&&◌, not, List, [], ◌∷◌, ◌++◌, map, codes, bytes_eq, Option, Some, None, nat_le, ◌==◌, if◌then◌else◌}
+use Rattle.std.specs.Fmt.{decimal}
+use Rattle.std.specs.Int.{w32, to_be_bytes}
+use Rattle.std.specs.List.{flat_map, list_all}
+use Rattle.hex.specs.Hex.{encode_lower}
+use Rattle.adb_view.specs.Plain.{Plain, null, int, blob, Plains, none, more, Shape, number, text, hash, array, object, Fields, no_fields, field}
+use Rattle.adb_schema.specs.Schema.{shape_of}
+use Rattle.adb_schema.specs.Views.{entries_in}
+use Rattle.adb_schema.specs.Soundness.{schema_word}
+use Rattle.adb_schema.specs.declared.schema.Which.{Which}
+use Rattle.adb_schema.specs.declared.schema.Kind.TheVariants.{Obj}
+
+-- a line without its line end
+abbrev pub Line : Type 0
+Line = List ℕ
+
+-- ---- a value on one line
+
+abbrev pub is_printable : ℕ → Bool
+is_printable c = nat_le 0x20 c && nat_le c 0x7e
+
+abbrev pub begins_with : ℕ → List ℕ → Bool
+begins_with c [] = false
+begins_with c (d ∷ ds) = c == d
+
+abbrev pub ends_with : ℕ → List ℕ → Bool
+ends_with c [] = false
+ends_with c (d ∷ []) = c == d
+ends_with c (d ∷ e ∷ ds) = ends_with c (e ∷ ds)
+
+-- a text stands as it is where each byte is printable, no space is first or last, no quote is first, and it is not `null`
+abbrev pub is_bare : List ℕ → Bool
+is_bare b = list_all is_printable b && not (begins_with 0x20 b) && not (ends_with 0x20 b) && not (begins_with 0x22 b) && not (bytes_eq b (codes "null"))
+
+-- a line end, a backslash, a quote, and then any other byte that is not printable
+abbrev pub escaped : ℕ → List ℕ
+escaped c =
+    if c == 0x0a then codes "\\n"
+    else if c == 0x5c then codes "\\\\"
+    else if c == 0x22 then codes "\\\""
+    else if is_printable c then c ∷ []
+    else codes "\\x" ++ encode_lower (c ∷ [])
+
+abbrev pub quoted : List ℕ → Line
+quoted b = codes "\"" ++ flat_map escaped b ++ codes "\""
+
+abbrev pub text_form : List ℕ → Line
+text_form b = if is_bare b then b else quoted b
+
+-- an integer, a text, a hash
+abbrev pub int_line : Plain → Line
+int_line (int n) = decimal n
+int_line v = codes "null"
+
+abbrev pub text_line : Plain → Line
+text_line (blob b) = text_form b
+text_line v = codes "null"
+
+abbrev pub hash_line : Plain → Line
+hash_line (blob b) = encode_lower b
+hash_line v = codes "null"
+
+-- ---- lines of lists
+
+abbrev pub indent : List Line → List Line
+indent ls = map (λ (l : Line). codes "  " ++ l) ls
+
+-- the first line behind a dash, the others below it
+abbrev pub dashed : List Line → List Line
+dashed [] = []
+dashed (l ∷ ls) = (codes "- " ++ l) ∷ indent ls
+
+abbrev pub or_null : Plain → List Line → List Line
+or_null null ls = codes "null" ∷ []
+or_null v ls = ls
+
+-- each entry behind a dash
+abbrev pub entries : (Plain → List Line) → Plains → List Line
+entries f none = []
+entries f (more v vs) = dashed (or_null v (f v)) ++ entries f vs
+
+-- behind a field's name stands a value that has one line, below it one that may have several
+abbrev pub on_line : List ℕ → Line → List Line
+on_line name l = (name ++ (codes ": " ++ l)) ∷ []
+
+abbrev pub below : List ℕ → List Line → List Line
+below name ls = (name ++ codes ":") ∷ indent ls
+
+abbrev pub unless_absent : Plain → List Line → List Line
+unless_absent null ls = []
+unless_absent v ls = ls
+
+unfoldable mutual
+  -- the lines of a value that is not Null
+  pub block_lines : Shape → Plain → List Line
+  block_lines number v = int_line v ∷ []
+  block_lines text v = text_line v ∷ []
+  block_lines hash v = hash_line v ∷ []
+  block_lines (array s) v = entries (block_lines s) (entries_in v)
+  block_lines (object schema fs) v = fields_lines fs (entries_in v)
+
+  -- the same with the name of its field
+  pub named_lines : Shape → List ℕ → Plain → List Line
+  named_lines number name v = on_line name (int_line v)
+  named_lines text name v = on_line name (text_line v)
+  named_lines hash name v = on_line name (hash_line v)
+  named_lines (array s) name v = below name (entries (block_lines s) (entries_in v))
+  named_lines (object schema fs) name v = below name (fields_lines fs (entries_in v))
+
+  -- the fields of an object that are not Null, in order
+  pub fields_lines : Fields → Plains → List Line
+  fields_lines no_fields vs = []
+  fields_lines (field name s fs) none = []
+  fields_lines (field name s fs) (more v vs) = unless_absent v (named_lines s name v) ++ fields_lines fs vs
+
+-- ---- the whole text
+
+-- the schema, in eight hexadecimal digits; only the four roots have one
+abbrev pub schema_line : Option ℕ → Line
+schema_line (Some word) = codes "#%SCHEMA: " ++ encode_lower (to_be_bytes w32 word)
+schema_line None = []
+
+-- the lines of a value of this table: each of its fields
+abbrev pub value_lines : Which → Plain → List Line
+value_lines which v = block_lines (shape_of (Obj which)) v
+
+abbrev pub dump_lines : Which → Plain → List Line
+dump_lines which v = schema_line (schema_word which) ∷ value_lines which v
+
+-- each line with its line end
+abbrev pub text_of : List Line → List ℕ
+text_of ls = flat_map (λ l. l ++ codes "\n") ls
+
+abbrev pub dump_text : Which → Plain → List ℕ
+dump_text which v = text_of (dump_lines which v)

@@ -1,0 +1,5 @@
+pub mod Dump
+pub mod Values
+pub mod ReadBack
+pub mod Words
+pub mod Laid

@@ -1,0 +1,25 @@
+-- The plain values that a dump text can stand for.
+use Rattle.std.specs.Prelude.{◌<◌}
+use Rattle.std.specs.List.{AllByRecursion}
+use Rattle.adb_view.specs.Plain.{Plain, null, int, blob, arr, obj, Plains, none, more, IsNormal}
+use Rattle.adb_view.specs.Shaped.{HasShape}
+use Rattle.adb_schema.specs.Schema.{shape_of}
+use Rattle.adb_schema.specs.declared.schema.Which.{Which}
+use Rattle.adb_schema.specs.declared.schema.Kind.TheVariants.{Obj}
+
+-- its blobs are bytes
+unfoldable mutual
+  pub IsOfBytes : Plain → Type 0
+  IsOfBytes null = Unit {0}
+  IsOfBytes (int n) = Unit {0}
+  IsOfBytes (blob b) = AllByRecursion (λ c. c < 256) b
+  IsOfBytes (arr vs) = AreOfBytes vs
+  IsOfBytes (obj vs) = AreOfBytes vs
+
+  pub AreOfBytes : Plains → Type 0
+  AreOfBytes none = Unit {0}
+  AreOfBytes (more v vs) = IsOfBytes v × AreOfBytes vs
+
+-- a normal value of this table
+abbrev pub IsValueOf : Which → Plain → Type 0
+IsValueOf which v = IsNormal v × HasShape (shape_of (Obj which)) v

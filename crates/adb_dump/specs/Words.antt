@@ -1,0 +1,32 @@
+-- What the code asks of words: whether they have plain values, and whether these are Null.
+use Rattle.std.specs.Prelude.{ℕ, Bool, true, false, ◌&&◌, List, is_some, unwrap_or}
+use Rattle.adb_view.specs.Plain.{Plain, null, Plains, none, more, plains_of}
+use Rattle.adb_schema.specs.Schema.{shapes_of}
+use Rattle.adb_schema.specs.declared.schema.Kind.{Kind}
+use Rattle.adb_schema.specs.declared.schema.Kind.TheVariants.{Int, Text, Hash, Obj, TextArr, ObjArr}
+use Rattle.adb_schema.specs.declared.schema.Field.{Field}
+
+abbrev pub is_null : Plain → Bool
+is_null null = true
+is_null v = false
+
+abbrev pub are_null : Plains → Bool
+are_null none = true
+are_null (more v vs) = is_null v && are_null vs
+
+-- whether each of an object's words that has a field has a plain value
+unfoldable pub fields_sound : List ℕ → List Field → List ℕ → Bool
+fields_sound p fields words = is_some (plains_of p (shapes_of fields) words)
+
+-- those values
+unfoldable pub fields_at : List ℕ → List Field → List ℕ → Plains
+fields_at p fields words = unwrap_or (plains_of p (shapes_of fields) words) none
+
+-- whether a value of the kind stands behind the name of its field, and not below it
+abbrev pub has_one_line : Kind → Bool
+has_one_line Int = true
+has_one_line Text = true
+has_one_line Hash = true
+has_one_line (Obj which) = false
+has_one_line TextArr = false
+has_one_line (ObjArr which) = false

@@ -1,0 +1,55 @@
+//! Which words mean Null.
+ghost use Rattle.std.specs.Prelude.{◌≡◌, true};
+ghost use Rattle.adb_view.specs.Adb.{payload_of};
+ghost use Rattle.adb_view.specs.Entries.{array_entries};
+ghost use Rattle.adb_schema.specs.Views.{is_sound, value_at};
+ghost use Rattle.adb_schema.specs.declared.schema.Kind.TheVariants as Kinds;
+ghost use Rattle.adb_dump.specs.Words.{is_null, are_null, fields_sound, fields_at};
+
+use crate::words::{entry_word, hash_word, object_word, objects_word, text_word, texts_word};
+use adb_schema::{Field, Kind, fields_of};
+use adb_view::{Adb, Arr, Val};
+
+/// Whether a word means Null: NULL itself, or something without a byte, an entry or a value.
+#[cycle(null)]
+#[tactic(auto, using(crate::proofs::Depth::table_rank, crate::proofs::Nulls::blob_null, crate::proofs::Nulls::arr_null, crate::proofs::Nulls::obj_null))]
+pub(crate) fn is_null(adb: Adb<'_>, kind: Kind, word: Val) -> bool
+    requires { is_sound (payload_of adb) kind word ≡ true }
+    ensures { result ≡ is_null (value_at (payload_of adb.entry) kind word) }
+{
+    match kind {
+        Kind::Int => is_null_int(adb, word),
+        Kind::Text => text_word(adb, word).is_empty(),
+        Kind::Hash => hash_word(adb, word).is_empty(),
+        Kind::TextArr => texts_word(adb, word).is_empty(),
+        Kind::ObjArr(which) => objects_word(adb, which, word).is_empty(),
+        Kind::Obj(which) => are_null(adb, fields_of(which), object_word(adb, which, word)),
+    }
+}
+
+/// Whether each of an object's words that has a field means Null.
+#[cycle(null)]
+#[tactic(auto, using(crate::proofs::Depth::field_rank, crate::proofs::Left::field_here, crate::proofs::Left::fields_later, crate::proofs::Left::null_next, crate::proofs::Left::null_stop, crate::proofs::Left::null_done, crate::proofs::Left::null_over))]
+fn are_null(adb: Adb<'_>, fields: &[Field], words: Arr<'_>) -> bool
+    requires { fields_sound (payload_of adb) fields.now (array_entries words) ≡ true }
+    ensures { result ≡ are_null (fields_at (payload_of adb.entry) fields.now (array_entries words.entry)) }
+{
+    for (i, field) in fields.iter().enumerate() {
+        if i >= words.len() {
+            break;
+        }
+        if !is_null(adb, field.kind, entry_word(words, i)) {
+            return false;
+        }
+    }
+    true
+}
+
+/// Whether a word means no integer.
+#[tactic(auto, using(crate::proofs::Nulls::null_test, crate::proofs::Nulls::int_is_null))]
+fn is_null_int(adb: Adb<'_>, word: Val) -> bool
+    requires { is_sound (payload_of adb) Kinds.Int word ≡ true }
+    ensures { result ≡ is_null (value_at (payload_of adb.entry) Kinds.Int word) }
+{
+    word.is_null()
+}
