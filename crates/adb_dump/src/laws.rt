@@ -26,7 +26,7 @@ pub fn only_lines_of_values_are_read()
     ensures { (which : Which) (ls : List Line) (v : Plain) → value_read which ls ≡ Ok v → (value_lines which v ≡ ls) × IsValueOf which v }
 {}
 
-/// The text of a normal value has just its lines, and a text has no others than those it is split into.
+/// The text of a normal value is split into just its lines, and the lines that a text is split into make up that text.
 pub fn texts_are_split_into_their_lines()
     ensures split { (which : Which) (v : Plain) → IsNormal v → lines_of (dump_text which v) ≡ Some (dump_lines which v) }
     ensures joined { (text : List ℕ) (ls : List Line) → lines_of text ≡ Some ls → text_of ls ≡ text }
