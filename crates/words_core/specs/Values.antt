@@ -50,7 +50,7 @@ is_value Script text = is_script text
 abbrev pub is_given : ℕ → List OptionValue → Bool
 is_given letter values = list_any (λ (v : OptionValue). v.letter == letter) values
 
--- whether two values of an option may not stand together, whatever they are
+-- whether two values of an option of some kind exclude each other: of scripts, those of one type do
 abbrev pub excludes : ValueKind → List ℕ → List ℕ → Bool
 excludes Any a b = false
 excludes Nonempty a b = false

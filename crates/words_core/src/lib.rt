@@ -1,8 +1,8 @@
 //! The words of a command line, after apk(8): which are a command, and which word offends first where they are none.
 //!
 //! Words come in, a `Command` goes out. The contract of `read_words` cites `Grammar` (the command of the words, or the
-//! first that offends), `Applets` (the table of applets, options and operands) and `Command` (what a command is) of
-//! `specs/`. `Lines` says which words are a command apart from how they are read, and the functions of `laws` join the two.
+//! first that offends), `Applets` (the table of applets, options and operands), `Values` (what the values of options may
+//! be) and `Command` (what a command is) of `specs/`. `Lines` says which words are a command apart from how they are read, and the functions of `laws` join the two.
 #![tactic(auto)]
 
 mod applet;

@@ -46,7 +46,7 @@ impl ValueKind {
         }
     }
 
-    /// Whether two values of one option may not stand together, whatever they are.
+    /// Whether two values of one option exclude each other: of scripts, those of one type do.
     pub(crate) fn excludes(self, a: &[u8], b: &[u8]) -> bool
         ensures { result ≡ excludes self a.now b.now }
     {
