@@ -1,6 +1,6 @@
 //! The program `apk`: the top call over the folder that it runs in and the two standard streams.
 //!
-//! This room is trusted: its tree and its sinks meet their traits, and what the host did of it is not seen by a
+//! This crate is trusted: its tree and its sinks meet their traits, and what the host did of it is not seen by a
 //! proof. All else is decided below it.
 #![tactic(auto)]
 
