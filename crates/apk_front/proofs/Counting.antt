@@ -1,6 +1,6 @@
 -- The counts of several calls.
-use Rattle.std.proofs.Common.{◌≡◌, ◌∙◌, ◌≤◌, inl, inr, ℕ, Err, arith}
-use Rattle.base_core.specs.Faults.{Counts, GoesOn, HasCause, FailsWithCause, Rose}
+use Rattle.std.proofs.Common.{◌≡◌, ◌∙◌, ◌≤◌, inl, inr, ℕ, Err, refl, arith}
+use Rattle.base_core.specs.Faults.{Counts, GoesOn, HasCause, IsNoFault, FailsWithCause, Rose}
 
 pub goes_on_twice : (a b c : Counts) → GoesOn a b → GoesOn b c → GoesOn a c
 goes_on_twice a b c h k = record {
@@ -29,3 +29,9 @@ fails_after a b c e h same k = record { goes_on = goes_on_twice a b c h k.goes_o
 
 pub goes_on_same : (a : Counts) → GoesOn a a
 goes_on_same a = record { faults = omega arith; misuses = omega arith; wants = omega arith; fallible = λ now. now }
+
+pub no_fault_same : (a : Counts) → IsNoFault a a
+no_fault_same a = record { faults = refl; wants = refl }
+
+pub no_fault_twice : (a b c : Counts) → IsNoFault a b → IsNoFault b c → IsNoFault a c
+no_fault_twice a b c h k = record { faults = k.faults ∙ h.faults; wants = k.wants ∙ h.wants }

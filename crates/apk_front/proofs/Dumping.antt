@@ -1,5 +1,5 @@
 -- The text of a container, by the blocks that are read of it.
-use Rattle.std.proofs.Common.{◌≡◌, ℕ, Bool, true, false, cond, if◌then◌else◌, List, [], ◌∷◌, Option, Some, None, is_some, IfOk, Result, Ok, Err, refl, sym, ap, subst, ◌∙◌, ◌==◌, length, suc, arith}
+use Rattle.std.proofs.Common.{◌≡◌, ℕ, true, false, if◌then◌else◌, List, [], ◌∷◌, Option, Some, None, is_some, IfOk, Result, Ok, Err, refl, sym, ap, subst, ◌∙◌, ◌==◌, length, suc, arith}
 use Rattle.std.specs.List.{slice_get}
 use Rattle.std.specs.Prelude.{◌&&◌, nat_lt}
 use Rattle.std.proofs.lemmas.Bool.{and_parts, eqb-true}
@@ -14,7 +14,7 @@ use Rattle.adb_block.specs.Reading.{Reading, done, fault, more, reading_of}
 use Rattle.adb_block.specs.Standing.{Standing, start_of}
 use Rattle.adb_dump.specs.Dump.{dump_text}
 use Rattle.adb_schema.specs.Checked.{adb_of, shaped_value, table_of}
-use Rattle.adb_schema.specs.Soundness.{first_payload, root_value, schema_word}
+use Rattle.adb_schema.specs.Soundness.{root_value, schema_word}
 use Rattle.adb_schema.specs.Walk.{or_else}
 use Rattle.adb_schema.specs.declared.checked.Shaped.{Shaped}
 use Rattle.adb_schema.specs.declared.read.ReadFault.{ReadFault}
@@ -23,7 +23,7 @@ use Rattle.adb_schema.specs.declared.read.TheConstants.{PACKAGE_WORD, INDEX_WORD
 use Rattle.adb_schema.specs.declared.schema.Which.{Which}
 use Rattle.adb_schema.specs.declared.schema.Which.TheVariants.{Package, Index, Idb, Intent}
 use Rattle.adb_view.specs.Adb.{payload_of}
-use Rattle.outcome.specs.Dump.{adbdump, adbdump_by, dump_fault, dump_found, dump_told, dumped, dumped_as, dumped_blocks, dumped_by, form_fault, framing_fault, or_text}
+use Rattle.outcome.specs.Dump.{adbdump, adbdump_by, dump_found, dump_told, dumped, dumped_as, dumped_blocks, dumped_by, form_fault, framing_fault, or_text}
 use Rattle.outcome.specs.Told.{refused, reported}
 use Rattle.pkg_core.specs.Whole.{root_of_schema}
 use Rattle.report_core.specs.declared.refusal.Refusal.TheVariants.{FileMissing, FileBad}

@@ -1,9 +1,9 @@
 -- What was judged and shown is the answer.
-use Rattle.std.proofs.Common.{◌≡◌, ◌⊎◌, inl, inr, ℕ, List, [], ◌∷◌, Option, None, Result, Ok, Err, IfOk, IsErrOf, IsTrue, MatchResult, refl, sym, ap, subst, ◌∙◌}
+use Rattle.std.proofs.Common.{◌≡◌, ◌⊎◌, inl, inr, ℕ, List, [], ◌∷◌, Option, None, Result, Ok, Err, IfOk, IsErrOf, IsTrue, MatchResult, OnOk, refl, sym, ap, subst, ◌∙◌}
 use Rattle.base_core.specs.Calls.{OnTold, HasNow}
-use Rattle.base_core.specs.Faults.{Counts, HasCause}
+use Rattle.base_core.specs.Faults.{Counts, HasCause, IsNoFault}
 use Rattle.base_core.specs.Files.{Files, no_names}
-use Rattle.base_core.specs.Sink.{Sinking, Failed}
+use Rattle.base_core.specs.Sink.{Sinking, Failed, Gets}
 use Rattle.base_core.specs.Tree.{TreeState, files_of}
 use Rattle.base_core.specs.declared.tree.TreeFault.{TreeFault}
 use Rattle.base_core.specs.declared.tree.TreeFault.TheVariants.{Disk, Memory as NoMemory}
@@ -21,7 +21,7 @@ use Rattle.outcome.specs.Told.{Outcome, refused}
 use Rattle.outcome.specs.Version.{version}
 use Rattle.outcome.specs.Outcome.{IsFoundOutcome, IsFoundOutcomeOf, IsOutcome, IsOutcomeOf, IsGivenTo, run_by, run_of}
 use Rattle.outcome.specs.Reach.{rests_on_words, does_rest_on_words}
-use Rattle.apk_front.specs.Answers.{IsAnswer, IsAnswerOf, LeavesFiles, LeavesAny, HasCauses, IsFaultless, IsComplete, FailedAt}
+use Rattle.apk_front.specs.Answers.{IsAnswer, IsAnswerOf, LeavesFiles, LeavesAny, HasCauses, IsFaultless, IsComplete, DidNotFail, FailedAt}
 use Rattle.apk_front.specs.Shown.{shown, IsTold, IsShown}
 use Rattle.apk_front.proofs.Telling.{either_failed}
 use Rattle.apk_front.specs.declared.answer.Answer.{Answer}
@@ -172,18 +172,20 @@ answered_by_reads words tree_failed (Err NoMemory) answer out err found disk is_
 
 -- ---- causes
 
-failed_at : (outcome : Outcome) (out err : Sinking) → FailedAt out outcome.out ⊎ FailedAt err outcome.err → Failed out ⊎ Failed err
-failed_at outcome out err (inl failed) = inl failed.failed
-failed_at outcome out err (inr failed) = inr failed.failed
+which_failed : (o : Outcome) (out err : Sinking) → (FailedAt out o.out × Gets err [] × DidNotFail err) ⊎ (FailedAt err o.err × Gets out o.out × DidNotFail out)
+    → (Failed out × DidNotFail err) ⊎ (Failed err × DidNotFail out)
+which_failed o out err (inl (failed, gets, kept)) = inl (failed.failed, kept)
+which_failed o out err (inr (failed, gets, kept)) = inr (failed.failed, kept)
 
-told_causes : (tree_failed : Type 0) (o : Outcome) (answer : Answer) (out err : Sinking) → IsTold o answer out err → HasCauses answer tree_failed out err
-told_causes tree_failed o Good out err told = tt
-told_causes tree_failed o (Refused refusal) out err told = tt
-told_causes tree_failed o OutFault out err told = failed_at o out err (either_failed told.which)
-told_causes tree_failed o TreeFailed out err told = absurd told
-told_causes tree_failed o Memory out err told = absurd told
+told_causes : (before after : Counts) (o : Outcome) (answer : Answer) (out err : Sinking) → IsNoFault before after → IsTold o answer out err → HasCauses answer before after out err
+told_causes before after o Good out err kept told = (kept, told.out_kept, told.err_kept)
+told_causes before after o (Refused refusal) out err kept told = (kept, told.out_kept, told.err_kept)
+told_causes before after o OutFault out err kept told = (kept, which_failed o out err told.which)
+told_causes before after o TreeFailed out err kept told = absurd told
+told_causes before after o Memory out err kept told = absurd told
 
-pub caused : (tree_failed : Type 0) (judged : Judged) (answer : Answer) (out err : Sinking) → (IsErrOf judged Disk → tree_failed) → IsShown judged answer out err → HasCauses answer tree_failed out err
-caused tree_failed (Ok verdict) answer out err disk is_shown = told_causes tree_failed (shown no_names verdict) answer out err (is_shown no_names)
-caused tree_failed (Err Disk) answer out err disk is_shown = subst (λ (a : Answer). HasCauses a tree_failed out err) (sym is_shown.0) (disk refl, is_shown.1)
-caused tree_failed (Err NoMemory) answer out err disk is_shown = subst (λ (a : Answer). HasCauses a tree_failed out err) (sym is_shown.0) is_shown.1
+pub caused : (before after : Counts) (judged : Judged) (answer : Answer) (out err : Sinking) → OnOk judged (IsNoFault before after) → (IsErrOf judged Disk → HasCause before after)
+    → (IsErrOf judged NoMemory → IsNoFault before after) → IsShown judged answer out err → HasCauses answer before after out err
+caused before after (Ok verdict) answer out err kept disk memory is_shown = told_causes before after (shown no_names verdict) answer out err kept (is_shown no_names)
+caused before after (Err Disk) answer out err kept disk memory is_shown = subst (λ (a : Answer). HasCauses a before after out err) (sym is_shown.0) (disk refl, is_shown.1)
+caused before after (Err NoMemory) answer out err kept disk memory is_shown = subst (λ (a : Answer). HasCauses a before after out err) (sym is_shown.0) (memory refl, is_shown.1)

@@ -1,7 +1,7 @@
 -- What a run of the top call answers, and leaves of its two sinks.
 use Rattle.std.specs.Prelude.{◌≡◌, ◌≢◌, ◌⊎◌, ◌<◌, ℕ, ◌-◌, ◌^◌, false, List, [], Option, Some, None}
 use Rattle.base_core.specs.Calls.{HasNow}
-use Rattle.base_core.specs.Faults.{Counts, Rose}
+use Rattle.base_core.specs.Faults.{Counts, HasCause, IsNoFault, Rose}
 use Rattle.base_core.specs.Files.{Files}
 use Rattle.base_core.specs.Tree.{TreeState, files_of}
 use Rattle.outcome.specs.Told.{Outcome}
@@ -28,30 +28,37 @@ status_of TreeFault = 2
 status_of OutFault = 3
 status_of Memory = 4
 
+-- its counts of faults and of wants stand as before
+abbrev pub DidNotFail : Sinking → Type 0
+DidNotFail sink = IsNoFault sink.before sink.after
+
 -- a line, or a front of it where the sink failed
 abbrev pub GetsLine : Sinking → List ℕ → Type 0
-GetsLine sink line = Gets sink line ⊎ (GetsSome sink line × Failed sink)
+GetsLine sink line = (Gets sink line × DidNotFail sink) ⊎ (GetsSome sink line × Failed sink)
 
 -- it had something to get, and failed
 pub record FailedAt (sink : Sinking) (bytes : List ℕ) : Type 0 where
   pub some : bytes ≢ []
   pub failed : Failed sink
 
--- the answer and all bytes are those of an outcome
+-- the answer and all bytes are those of an outcome, and no sink failed
 pub record IsStated (outcome : Outcome) (answer : Answer) (out err : Sinking) : Type 0 where
   pub same : answer ≡ answer_of outcome
   pub out_gets : Gets out outcome.out
   pub err_gets : Gets err outcome.err
+  pub out_kept : DidNotFail out
+  pub err_kept : DidNotFail err
 
--- a sink failed in place of an outcome's answer: out, and then nothing is printed on err; or err, behind the whole report on out
+-- just one sink failed, in place of an outcome's answer: out, and then nothing is printed on err; or err, behind the whole report on out
 pub record IsOutFault (outcome : Outcome) (out err : Sinking) : Type 0 where
-  pub which : (FailedAt out outcome.out × Gets err []) ⊎ (FailedAt err outcome.err × Gets out outcome.out)
+  pub which : (FailedAt out outcome.out × Gets err [] × DidNotFail err) ⊎ (FailedAt err outcome.err × Gets out outcome.out × DidNotFail out)
   pub out_gets : GetsSome out outcome.out
   pub err_gets : GetsSome err outcome.err
 
--- a fault in place of every outcome: only its line on err
+-- a fault in place of every outcome: only its line on err, and nothing failed on out
 pub record IsFault (line : List ℕ) (out err : Sinking) : Type 0 where
   pub out_gets : Gets out []
+  pub out_kept : DidNotFail out
   pub err_gets : GetsLine err line
 
 -- The answer of one of these outcomes, with its bytes and what it leaves; a fault that had its cause; or want of memory.
@@ -74,13 +81,15 @@ LeavesFiles now outcome = outcome.refusal ≡ None → HasNow now (λ w. files_o
 abbrev pub LeavesAny : Outcome → Type 0
 LeavesAny outcome = Unit {0}
 
--- each fault has its cause; a fault of the tree, and want of memory, print just their line
-abbrev pub HasCauses : Answer → Type 0 → Sinking → Sinking → Type 0
-HasCauses Ok tree_failed out err = Unit {0}
-HasCauses (Refused refusal) tree_failed out err = Unit {0}
-HasCauses TreeFault tree_failed out err = tree_failed × IsFault tree_line out err
-HasCauses OutFault tree_failed out err = Failed out ⊎ Failed err
-HasCauses Memory tree_failed out err = IsFault memory_line out err
+-- What failed, by the counts of the tree before and after, and of the sinks. Behind Ok and a refusal, nothing failed. A fault of the
+-- tree has its cause there. Behind a fault of a sink, just one sink failed, and not the tree. Want of memory is told only where the
+-- tree did not fail. A fault of the tree, and want of memory, print just their line.
+abbrev pub HasCauses : Answer → Counts → Counts → Sinking → Sinking → Type 0
+HasCauses Ok before after out err = IsNoFault before after × DidNotFail out × DidNotFail err
+HasCauses (Refused refusal) before after out err = IsNoFault before after × DidNotFail out × DidNotFail err
+HasCauses TreeFault before after out err = HasCause before after × IsFault tree_line out err
+HasCauses OutFault before after out err = IsNoFault before after × ((Failed out × DidNotFail err) ⊎ (Failed err × DidNotFail out))
+HasCauses Memory before after out err = IsNoFault before after × IsFault memory_line out err
 
 -- no count rose: neither the tree's, nor a sink's
 pub record IsFaultless (before after : Counts) (out err : Sinking) : Type 0 where

@@ -13,7 +13,7 @@ use Rattle.adb_schema.specs.declared.schema.Which.{Which}
 use Rattle.base_core.specs.declared.cause.Cause.{Cause}
 use Rattle.outcome.specs.Dump.{form_fault}
 use Rattle.outcome.specs.Told.{Outcome, told}
-use Rattle.apk_front.specs.Answers.{IsStated, IsOutFault, IsFault}
+use Rattle.apk_front.specs.Answers.{DidNotFail, IsStated, IsOutFault, IsFault}
 use Rattle.apk_front.specs.declared.answer.Answer.{Answer}
 use Rattle.apk_front.specs.declared.answer.Answer.TheVariants.{Ok as Good, Refused, TreeFault as TreeFailed, OutFault, Memory}
 use Rattle.apk_front.specs.declared.verdict.Verdict.{Verdict}
@@ -32,9 +32,9 @@ IsTold outcome Memory out err = ⊥
 
 -- a refusal told on err, or a fault of it in its place
 abbrev pub IsRefused : Option Refusal → Answer → Sinking → Type 0
-IsRefused None answer err = (answer ≡ Good) × Gets err []
+IsRefused None answer err = (answer ≡ Good) × Gets err [] × DidNotFail err
 IsRefused (Some refusal) answer err =
-    ((answer ≡ Refused refusal) × Gets err (refusal_line refusal)) ⊎ ((answer ≡ OutFault) × GetsSome err (refusal_line refusal) × Failed err)
+    ((answer ≡ Refused refusal) × Gets err (refusal_line refusal) × DidNotFail err) ⊎ ((answer ≡ OutFault) × GetsSome err (refusal_line refusal) × Failed err)
 
 -- what was judged, as the answer and the two sinks show it
 abbrev pub IsShown : Result Verdict TreeFault → Answer → Sinking → Sinking → Type 0

@@ -1,5 +1,5 @@
 // `adbdump`: a container is printed as text.
-ghost use Rattle.std.specs.Prelude.{◌≡◌, List, None, Ok, Option, ℕ, IsTrue, IfOk, IfErr, IsErrOf, is_some, length};
+ghost use Rattle.std.specs.Prelude.{◌≡◌, List, None, Ok, Option, ℕ, IsTrue, IfOk, IfErr, IsErrOf, OnOk, is_some, length};
 ghost use Rattle.adb_block.specs.Reading.{reading_of};
 ghost use Rattle.adb_dump.specs.Dump.{dump_text};
 ghost use Rattle.adb_schema.specs.Checked.{adb_of, shaped_value, table_of};
@@ -8,7 +8,7 @@ ghost use Rattle.adb_view.specs.Adb.{payload_of};
 ghost use Rattle.adb_view.specs.Gives.{cause_of};
 ghost use Rattle.apk_front.specs.Shown.{shown, IsDumpFault, IsShapedFirst, first_refused};
 ghost use Rattle.base_core.specs.Calls.{OnTold};
-ghost use Rattle.base_core.specs.Faults.{GoesOn, HasCause};
+ghost use Rattle.base_core.specs.Faults.{GoesOn, HasCause, IsNoFault};
 ghost use Rattle.base_core.specs.Files.{Files, no_names};
 ghost use Rattle.base_core.specs.Read.{bytes_in};
 ghost use Rattle.base_core.specs.Tree.{files_of};
@@ -42,6 +42,8 @@ pub(crate) fn adbdump<T: Tree>(
     ensures same { T.history tree.new ≡ T.history tree.old }
     ensures goes_on { GoesOn (T.counts tree.old) (T.counts tree.new) }
     ensures disk { IsErrOf result TreeFault.Disk → HasCause (T.counts tree.old) (T.counts tree.new) }
+    ensures kept { OnOk result (IsNoFault (T.counts tree.old) (T.counts tree.new)) }
+    ensures memory { IsErrOf result TreeFault.Memory → IsNoFault (T.counts tree.old) (T.counts tree.new) }
     ensures proper { OnTold (T.history tree.old) (λ v. (T.counts tree.new).misuses ≡ (T.counts tree.old).misuses) }
 {
     dump_file(alloc, operands.get(0), tree)
@@ -55,6 +57,8 @@ fn dump_file<T: Tree>(alloc: Global, operand: &Operand, tree: &mut T) -> Result<
     ensures same { T.history tree.new ≡ T.history tree.old }
     ensures goes_on { GoesOn (T.counts tree.old) (T.counts tree.new) }
     ensures disk { IsErrOf result TreeFault.Disk → HasCause (T.counts tree.old) (T.counts tree.new) }
+    ensures kept { OnOk result (IsNoFault (T.counts tree.old) (T.counts tree.new)) }
+    ensures memory { IsErrOf result TreeFault.Memory → IsNoFault (T.counts tree.old) (T.counts tree.new) }
     ensures proper { OnTold (T.history tree.old) (λ v. (T.counts tree.new).misuses ≡ (T.counts tree.old).misuses) }
 {
     // The operand of `adbdump` names a file, so there is a name.

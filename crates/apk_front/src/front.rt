@@ -47,9 +47,10 @@ pub fn apk<T: Tree, O: Sink, E: Sink>(
     ensures found { IsAnswerOf (IsFoundOutcome words.now) LeavesAny (HasCause (T.counts tree.old) (T.counts tree.new)) result
         (sinking O.bytes O.counts out.old out.new) (sinking E.bytes E.counts err.old err.new) }
 
-    // For every tree and sink: each fault has its cause, a fault of the tree and want of memory print just their line,
-    // and the counts go on.
-    ensures causes { HasCauses result (HasCause (T.counts tree.old) (T.counts tree.new))
+    // For every tree and sink, by their counts: behind `Ok` and a refusal nothing failed, neither the tree nor a sink.
+    // A fault of the tree or of a sink has its cause. Want of memory, and a fault of a sink, hide no fault of the tree.
+    // A fault of the tree and want of memory print just their line, and the counts go on.
+    ensures causes { HasCauses result (T.counts tree.old) (T.counts tree.new)
         (sinking O.bytes O.counts out.old out.new) (sinking E.bytes E.counts err.old err.new) }
     ensures tree_counts { GoesOn (T.counts tree.old) (T.counts tree.new) }
     ensures out_counts { KeepsCount (sinking O.bytes O.counts out.old out.new) }

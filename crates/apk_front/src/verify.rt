@@ -1,9 +1,9 @@
 // `verify`: containers are tested.
-ghost use Rattle.std.specs.Prelude.{◌≡◌, List, Option, ℕ, IsTrue, IfOk, IsErrOf};
+ghost use Rattle.std.specs.Prelude.{◌≡◌, List, Option, ℕ, IsTrue, IfOk, IsErrOf, OnOk};
 ghost use Rattle.std.specs.List.{list_all};
 ghost use Rattle.apk_front.specs.Shown.{shown};
 ghost use Rattle.base_core.specs.Calls.{OnTold};
-ghost use Rattle.base_core.specs.Faults.{GoesOn, HasCause};
+ghost use Rattle.base_core.specs.Faults.{GoesOn, HasCause, IsNoFault};
 ghost use Rattle.base_core.specs.Files.{Files, no_names};
 ghost use Rattle.base_core.specs.Read.{bytes_in};
 ghost use Rattle.base_core.specs.Tree.{files_of};
@@ -30,6 +30,8 @@ pub(crate) fn verify<T: Tree>(
     ensures same { T.history tree.new ≡ T.history tree.old }
     ensures goes_on { GoesOn (T.counts tree.old) (T.counts tree.new) }
     ensures disk { IsErrOf result TreeFault.Disk → HasCause (T.counts tree.old) (T.counts tree.new) }
+    ensures kept { OnOk result (IsNoFault (T.counts tree.old) (T.counts tree.new)) }
+    ensures memory { IsErrOf result TreeFault.Memory → IsNoFault (T.counts tree.old) (T.counts tree.new) }
     ensures proper { OnTold (T.history tree.old) (λ v. (T.counts tree.new).misuses ≡ (T.counts tree.old).misuses) }
 {
     let refusal = first_refusal(alloc, operands, tree)?;
@@ -64,6 +66,8 @@ fn first_refusal<T: Tree>(
     ensures same { T.history tree.new ≡ T.history tree.old }
     ensures goes_on { GoesOn (T.counts tree.old) (T.counts tree.new) }
     ensures disk { IsErrOf result TreeFault.Disk → HasCause (T.counts tree.old) (T.counts tree.new) }
+    ensures kept { OnOk result (IsNoFault (T.counts tree.old) (T.counts tree.new)) }
+    ensures memory { IsErrOf result TreeFault.Memory → IsNoFault (T.counts tree.old) (T.counts tree.new) }
     ensures proper { OnTold (T.history tree.old) (λ v. (T.counts tree.new).misuses ≡ (T.counts tree.old).misuses) }
 {
     for i in 0..operands.len() {
@@ -87,6 +91,8 @@ fn test_file<T: Tree>(
     ensures same { T.history tree.new ≡ T.history tree.old }
     ensures goes_on { GoesOn (T.counts tree.old) (T.counts tree.new) }
     ensures disk { IsErrOf result TreeFault.Disk → HasCause (T.counts tree.old) (T.counts tree.new) }
+    ensures kept { OnOk result (IsNoFault (T.counts tree.old) (T.counts tree.new)) }
+    ensures memory { IsErrOf result TreeFault.Memory → IsNoFault (T.counts tree.old) (T.counts tree.new) }
     ensures proper { OnTold (T.history tree.old) (λ v. (T.counts tree.new).misuses ≡ (T.counts tree.old).misuses) }
 {
     // The operands of `verify` name files, so there is a name.

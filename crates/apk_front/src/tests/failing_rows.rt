@@ -1,7 +1,7 @@
 // Rows in which the tree or a sink fails.
 use super::{Failing, Wanted};
 
-pub(super) const FAILING: [Failing; 12] = [
+pub(super) const FAILING: [Failing; 15] = [
     // The second file of two.
     Failing {
         words: &[b"verify", b"a.apk", b"a.apk"],
@@ -66,6 +66,34 @@ pub(super) const FAILING: [Failing; 12] = [
         err_takes: 99,
         answer: Wanted::Done,
         out: b"a.apk: OK\n",
+        err: b"",
+    },
+    Failing {
+        words: &[b"adbdump", b"a.apk"],
+        call: Some(1),
+        out_takes: 99,
+        err_takes: 99,
+        answer: Wanted::TreeFault,
+        out: b"",
+        err: b"ERROR: the tree failed\n",
+    },
+    Failing {
+        words: &[b"adbdump", b"a.apk"],
+        call: Some(2),
+        out_takes: 99,
+        err_takes: 99,
+        answer: Wanted::TreeFault,
+        out: b"",
+        err: b"ERROR: the tree failed\n",
+    },
+    // The file is read by two calls, so a third does not fail.
+    Failing {
+        words: &[b"adbdump", b"a.apk"],
+        call: Some(3),
+        out_takes: 99,
+        err_takes: 99,
+        answer: Wanted::Done,
+        out: b"#%SCHEMA: 676b6370\ninfo:\n  name: a\n  version: 1\n",
         err: b"",
     },
     // A usage error makes no call on the tree.

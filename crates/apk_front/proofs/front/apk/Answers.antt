@@ -14,7 +14,7 @@ pub returns-clause-every_tree : goal.returns-clause-every_tree
 returns-clause-every_tree g c = answered_by_words _ c.judge-judged.result _ _ _ c.judge-judged.ensures.by_words c.show.ensures.shown
 
 pub returns-clause-causes : goal.returns-clause-causes
-returns-clause-causes g c = caused _ c.judge-judged.result _ _ _ c.judge-judged.ensures.disk c.show.ensures.shown
+returns-clause-causes g c = caused _ _ c.judge-judged.result _ _ _ c.judge-judged.ensures.kept c.judge-judged.ensures.disk c.judge-judged.ensures.memory c.show.ensures.shown
 
 pub returns-clause-unless_memory : goal.returns-clause-unless_memory
 returns-clause-unless_memory g c =

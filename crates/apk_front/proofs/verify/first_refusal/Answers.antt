@@ -1,7 +1,7 @@
 use Rattle.std.proofs.Common.{◌∙◌, refl}
 use Rattle.base_core.specs.Tree.{files_of}
 use Rattle.outcome.specs.Verify.{verify_refusal}
-use Rattle.apk_front.proofs.Counting.{goes_on_same, goes_on_twice}
+use Rattle.apk_front.proofs.Counting.{goes_on_same, goes_on_twice, no_fault_same, no_fault_twice}
 use Rattle.apk_front.proofs.Operands.{file_here, files_more, found_here, found_more, proper_more, read_here, read_more, read_none, proper_none, told_same}
 use Rattle.apk_front.proofs.verify.first_refusal.Goals as goal
 
@@ -12,6 +12,7 @@ loop-i-init g c = record {
   by_reads = read_none c.args.operands.now;
   same = refl;
   goes_on = goes_on_same _;
+  kept = no_fault_same _;
   proper = proper_none _ _;
 }
 
@@ -31,5 +32,6 @@ loop-i-preserved g c = record {
   by_reads = read_more c.args.operands.now c.loop-i.i c.get.result.now _ c.get.ensures c.loop-i.invariant.by_reads c.in_ok-refusal.ensures.by_reads c.if-is_some.ensures;
   same = c.test_file.ensures.same ∙ c.loop-i.invariant.same;
   goes_on = goes_on_twice _ _ _ c.loop-i.invariant.goes_on c.test_file.ensures.goes_on;
+  kept = no_fault_twice _ _ _ c.loop-i.invariant.kept c.in_ok-refusal.ensures.kept;
   proper = proper_more _ _ _ _ _ c.loop-i.invariant.same c.loop-i.invariant.proper c.test_file.ensures.proper;
 }

@@ -1,6 +1,6 @@
 use Rattle.std.proofs.Common.{◌≡◌, drop, IsTrue}
 use Rattle.base_core.specs.Calls.{OnTold}
-use Rattle.base_core.specs.Faults.{GoesOn}
+use Rattle.base_core.specs.Faults.{GoesOn, IsNoFault}
 use Rattle.base_core.specs.Tree.{files_of}
 use Rattle.outcome.specs.Verify.{verify_refusal}
 use Rattle.words_core.specs.Command.{are_files}
@@ -14,5 +14,6 @@ invariant-loop-i g l = record {
   by_reads : IsReadTo l.operands l.i;
   same : g.T.Tree.history l.tree ≡ g.T.Tree.history l.initial.tree;
   goes_on : GoesOn (g.T.Tree.counts l.initial.tree) (g.T.Tree.counts l.tree);
+  kept : IsNoFault (g.T.Tree.counts l.initial.tree) (g.T.Tree.counts l.tree);
   proper : OnTold (g.T.Tree.history l.initial.tree) (λ v. (g.T.Tree.counts l.tree).misuses ≡ (g.T.Tree.counts l.initial.tree).misuses);
 }
