@@ -1,10 +1,9 @@
 -- What options have given while a line is read: flags of the applet's own, and values that may stand together.
-use Rattle.std.proofs.Common.{◌≡◌, ℕ, ◌+◌, Bool, true, false, cond, List, [], ◌∷◌, ◌++◌, drop, Option, Some, None, Ok, refl, sym, ◌∙◌, ap, subst, length, ◌<◌, if◌then◌else◌, option_and_then}
+use Rattle.std.proofs.Common.{◌≡◌, ℕ, ◌+◌, Bool, true, false, cond, List, [], ◌∷◌, ◌++◌, drop, Option, Some, None, refl, ◌∙◌, ap, subst, if◌then◌else◌}
 use Rattle.std.specs.Prelude.{◌&&◌, ◌||◌, ◌==◌, not}
-use Rattle.std.specs.List.{list_all, list_any}
-use Rattle.std.specs.Option.{option_map}
+use Rattle.std.specs.List.{list_all}
 use Rattle.std.specs.Str.{bytes_eq}
-use Rattle.std.proofs.lemmas.Bool.{and_from, and_parts, eqb-true, false≢true, not-true, or_parts}
+use Rattle.std.proofs.lemmas.Bool.{and_from, and_parts, eqb-true, or_parts}
 use Rattle.std.proofs.lemmas.List.Folds.{list_all-append}
 use Rattle.std.proofs.lemmas.Option.{none-some, option_and_then_some, same_Some}
 use Rattle.words_core.specs.declared.applet.Applet.{Applet}
@@ -18,7 +17,7 @@ use Rattle.words_core.specs.declared.value_rule.ValueRule.{ValueRule}
 use Rattle.words_core.specs.declared.values.OptionValue.{OptionValue}
 use Rattle.words_core.specs.Applets.{Entry, common, entry_of, row_of, rule_of}
 use Rattle.words_core.specs.Command.{are_apart, are_values, excludes_by, is_value_by, may_have}
-use Rattle.words_core.specs.Grammar.{IsSoundReading, given_by, given_first, held_value, is_end, is_excluded, is_spent, is_taken, name_of, operand_at, operands_of, options_of, or_unread, reading_by, reading_end, reading_from, reading_of, value_at, with_entry, with_flags, with_held, with_meaning, with_operand, with_rule, with_said, with_spelled, with_value, with_word, with_word_by}
+use Rattle.words_core.specs.Grammar.{IsSoundReading, given_by, given_first, held_value, is_end, is_excluded, is_spent, is_taken, name_of, operand_at, operands_of, options_of, or_unread, reading_by, reading_from, reading_of, value_at, with_entry, with_flags, with_held, with_meaning, with_operand, with_rule, with_said, with_spelled, with_value, with_word, with_word_by}
 use Rattle.words_core.specs.Values.{excludes, is_given, is_value}
 use Rattle.words_core.proofs.KindsKept.{IsPlain, find_passes, options_kept, pass_or_none, plain_kept}
 

@@ -1,6 +1,6 @@
 -- The kinds among the flags of a line that is read: none before the applet, and at most one, of the applet's own, with an
 -- option behind it.
-use Rattle.std.proofs.Common.{◌≡◌, ℕ, ◌+◌, Bool, true, false, cond, List, [], ◌∷◌, drop, Option, Some, None, Ok, refl, subst, arith, length, ◌<◌, ◌≤◌, IfOk, if◌then◌else◌}
+use Rattle.std.proofs.Common.{◌≡◌, ℕ, ◌+◌, Bool, true, false, cond, List, [], ◌∷◌, Option, Some, None, Ok, refl, subst, arith, length, ◌<◌, ◌≤◌, IfOk, if◌then◌else◌}
 use Rattle.std.specs.Prelude.{◌||◌}
 use Rattle.std.specs.List.{find, list_all}
 use Rattle.std.specs.Str.{bytes_eq}

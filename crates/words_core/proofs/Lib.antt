@@ -8,3 +8,6 @@ pub mod LinesJudged
 pub mod LinesMade
 pub mod OffendingWords
 pub mod MoreWords
+pub mod Worked
+pub mod WordsCompleted
+pub mod TextsCompleted

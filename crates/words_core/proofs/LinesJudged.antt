@@ -1,8 +1,7 @@
 -- Flags, operands and values of a command are judged good.
-use Rattle.std.proofs.Common.{◌≡◌, ℕ, ◌+◌, Bool, true, false, List, [], ◌∷◌, Option, Some, None, Ok, refl, sym, ◌∙◌, ap, arith, length, ◌<◌, ◌≤◌}
-use Rattle.std.specs.Prelude.{◌&&◌, ◌==◌, ◌||◌, nat_lt, not}
-use Rattle.std.specs.List.{list_all}
-use Rattle.std.proofs.lemmas.Bool.{and_from, and_parts, eqb-true, false≢true, le-ltb, lt-ltb, ltb-true, not_from_true, or_from}
+use Rattle.std.proofs.Common.{◌≡◌, ℕ, ◌+◌, Bool, true, false, List, [], ◌∷◌, Option, Some, None, Ok, refl, arith, length, ◌<◌, ◌≤◌}
+use Rattle.std.specs.Prelude.{◌&&◌, ◌==◌, nat_lt}
+use Rattle.std.proofs.lemmas.Bool.{and_parts, eqb-true, false≢true, le-ltb, ltb-true}
 use Rattle.words_core.specs.declared.applet.Applet.{Applet}
 use Rattle.words_core.specs.declared.applet.Applet.TheVariants.{Adbdump, Verify, Version}
 use Rattle.words_core.specs.declared.operands.Operand.{Operand}
@@ -12,8 +11,8 @@ use Rattle.words_core.specs.declared.rule.OperandKind.TheVariants.{Any}
 use Rattle.words_core.specs.declared.values.OptionValue.{OptionValue}
 use Rattle.words_core.specs.Applets.{row_of}
 use Rattle.words_core.specs.Command.{are_files, are_values, is_plain, is_sound, is_sound_line}
-use Rattle.words_core.specs.Grammar.{command_by, first_refused, has_room, judged, lacks, lacks_operand, lacks_value, refused_operand, takes}
-use Rattle.words_core.specs.Values.{is_file, is_given}
+use Rattle.words_core.specs.Grammar.{command_by, first_refused, judged, lacks_operand, lacks_value, refused_operand}
+use Rattle.words_core.specs.Values.{is_file}
 use Rattle.words_core.proofs.KindsKept.{flags_by}
 use Rattle.words_core.proofs.WhatIsRead.{files, two}
 

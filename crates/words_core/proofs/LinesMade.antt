@@ -1,5 +1,5 @@
 -- Words that are a command are read as it.
-use Rattle.std.proofs.Common.{◌≡◌, ℕ, suc, ◌+◌, ◌-◌, Bool, true, false, not, List, [], ◌∷◌, ◌++◌, drop, take, Option, Some, None, Ok, refl, sym, ◌∙◌, ap, subst, arith, length, ◌≤◌, if◌then◌else◌, option_and_then, append-nil, append_assoc}
+use Rattle.std.proofs.Common.{◌≡◌, ℕ, suc, ◌+◌, ◌-◌, Bool, true, false, not, List, [], ◌∷◌, ◌++◌, drop, take, Option, Some, None, Ok, refl, sym, ◌∙◌, ap, subst, arith, length, ◌≤◌, if◌then◌else◌, option_and_then, append-nil}
 use Rattle.std.specs.Prelude.{◌&&◌, ◌||◌, ◌==◌, is_some}
 use Rattle.std.specs.List.{list_all}
 use Rattle.std.specs.Option.{option_map}
@@ -24,13 +24,13 @@ use Rattle.words_core.specs.declared.values.OptionValue.{OptionValue}
 use Rattle.words_core.specs.Applets.{Entry, applet_of, common, entry_of, row_of, rule_of}
 use Rattle.words_core.specs.Command.{CommandLine, are_apart, are_values, excludes_by, is_sound, is_sound_line, is_value_by, may_have}
 use Rattle.words_core.specs.Flags.{has_flag, has_kind, no_flags, with_flag}
-use Rattle.words_core.specs.Grammar.{command_by, command_of, given_by, given_first, held_value, is_end, is_excluded, is_option, is_spent, is_taken, judged, name_of, operand_at, operands_of, options_of, or_at, or_unread, reading_by, reading_end, reading_from, reading_of, start_at, start_behind_end, start_by, start_of, value_at, with_entry, with_held, with_meaning, with_option, with_said, with_spelled, with_start, with_value, with_word_by}
-use Rattle.words_core.specs.Lines.{IsLineOf, flags_of, flags_with, free_words, held_at, is_early, option_words, rule_at, rule_behind, rule_in, rule_unless, values_of}
+use Rattle.words_core.specs.Grammar.{command_by, command_of, given_by, given_first, held_value, is_end, is_excluded, is_option, is_spent, judged, name_of, operand_at, operands_of, options_of, or_at, reading_by, reading_from, reading_of, start_at, start_behind_end, start_by, start_of, value_at, with_entry, with_meaning, with_option, with_said, with_spelled, with_start, with_value, with_word_by}
+use Rattle.words_core.specs.Lines.{IsLineOf, flags_of, flags_with, free_words, held_at, is_early, option_words, rule_behind, rule_in, rule_unless, values_of}
 use Rattle.words_core.specs.Values.{excludes, is_given, is_value}
 use Rattle.words_core.proofs.GivenKept.{IsOwn, all_own, found_own}
 use Rattle.words_core.proofs.KindsKept.{find_passes, flags_by}
 use Rattle.words_core.proofs.LinesJudged.{sound_judged}
-use Rattle.words_core.proofs.LinesRead.{IsFrom, awaited_taken, earlier, end_kept, flag_says, flags_here, free_end, free_here, free_kept, free_option, free_rest, no_rule_behind, one_joined, option_rest, option_taken, options_behind, options_end, options_here, rule_at_is, start_from, step_end, step_free, step_taken, value_rest, values_behind, values_end, values_joined, values_option, values_same}
+use Rattle.words_core.proofs.LinesRead.{IsFrom, awaited_taken, earlier, end_kept, free_end, free_here, free_kept, free_option, free_rest, no_rule_behind, one_joined, option_rest, option_taken, options_behind, options_end, options_here, rule_at_is, start_from, step_end, step_free, step_taken, value_rest, values_behind, values_end, values_joined, values_option, values_same}
 
 pub same_head : {A : Type 0} (x y : A) (xs ys : List A) → x ∷ xs ≡ y ∷ ys → x ≡ y
 same_head x y xs ys e = cc

@@ -21,9 +21,9 @@ use Rattle.words_core.specs.declared.start.Start.{Start}
 use Rattle.words_core.specs.declared.value_rule.ValueRule.{ValueRule}
 use Rattle.words_core.specs.declared.values.OptionValue.{OptionValue}
 use Rattle.words_core.specs.Applets.{Entry, applet_of, common, entry_of, row_of}
-use Rattle.words_core.specs.Command.{CommandLine, are_values, is_sound, is_sound_line}
+use Rattle.words_core.specs.Command.{CommandLine, are_values, is_sound}
 use Rattle.words_core.specs.Flags.{has_flag, has_kind, no_flags, with_flag}
-use Rattle.words_core.specs.Grammar.{IsSoundReading, command_by, command_of, given_by, given_first, held_value, is_end, is_excluded, is_option, is_spent, is_taken, judged, lacks, lacks_operand, lacks_value, name_of, operand_at, operands_of, options_of, or_at, or_unread, reading_by, reading_end, reading_from, reading_of, refused_operand, start_at, start_behind_end, start_by, start_of, unless_at, value_at, with_entry, with_flags, with_held, with_meaning, with_operand, with_option, with_rule, with_said, with_spelled, with_start, with_value, with_word, with_word_by}
+use Rattle.words_core.specs.Grammar.{IsSoundReading, command_by, command_of, given_by, given_first, held_value, is_end, is_excluded, is_option, is_spent, is_taken, judged, lacks, lacks_operand, lacks_value, name_of, operand_at, operands_of, options_of, or_at, or_unread, reading_by, reading_from, reading_of, refused_operand, start_at, start_behind_end, start_by, start_of, unless_at, value_at, with_entry, with_flags, with_held, with_meaning, with_operand, with_option, with_said, with_spelled, with_start, with_value, with_word, with_word_by}
 use Rattle.words_core.specs.Lines.{IsLineOf, flags_of, flags_with, free_words, held_at, is_early, option_words, rule_at, rule_behind, rule_in, rule_unless, values_of}
 use Rattle.words_core.specs.Values.{is_value}
 use Rattle.words_core.proofs.Found.{found_first}

@@ -19,7 +19,7 @@ use Rattle.words_core.specs.declared.start.Start.{Start}
 use Rattle.words_core.specs.declared.value_rule.ValueRule.{ValueRule}
 use Rattle.words_core.specs.Applets.{Entry, common, entry_of, row_of}
 use Rattle.words_core.specs.Flags.{no_flags}
-use Rattle.words_core.specs.Grammar.{command_of, first_refused, given_by, given_first, held_value, is_end, is_option, is_spent, is_taken, judged, name_of, operand_at, operands_of, options_of, or_at, or_unread, reading_by, reading_end, reading_from, reading_of, refused_operand, start_at, start_behind_end, start_of, takes, with_entry, with_flags, with_held, with_meaning, with_operand, with_option, with_said, with_start, with_word, with_word_by}
+use Rattle.words_core.specs.Grammar.{command_of, first_refused, given_by, given_first, held_value, is_end, is_option, is_spent, is_taken, judged, name_of, operand_at, operands_of, options_of, or_at, or_unread, reading_by, reading_from, reading_of, refused_operand, start_at, start_behind_end, start_of, takes, with_entry, with_flags, with_held, with_meaning, with_operand, with_option, with_said, with_start, with_word, with_word_by}
 use Rattle.words_core.proofs.KindsKept.{IsPlain, find_passes, flags_by, pass_or_none, start_known}
 use Rattle.words_core.proofs.LinesMade.{start_end, start_here, start_option}
 use Rattle.words_core.proofs.LinesRead.{value_says}

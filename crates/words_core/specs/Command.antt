@@ -8,7 +8,7 @@ use Rattle.words_core.specs.declared.flags.Flags.{Flags}
 use Rattle.words_core.specs.declared.operands.Operand.{Operand}
 use Rattle.words_core.specs.declared.values.OptionValue.{OptionValue}
 use Rattle.words_core.specs.Applets.{Entry, row_of, rule_of}
-use Rattle.words_core.specs.Values.{excludes, is_given, is_value}
+use Rattle.words_core.specs.Values.{excludes, is_value}
 pub use Rattle.words_core.specs.Values.{is_file, without_dot}
 
 -- an applet, the flags given, the operands, each with its place and its text as given, the values of options, and the

@@ -5,7 +5,6 @@ use Rattle.std.specs.Str.{bytes_eq}
 use Rattle.base_core.specs.Name.{is_name}
 use Rattle.words_core.specs.declared.value_rule.ValueKind.{ValueKind}
 use Rattle.words_core.specs.declared.value_rule.ValueKind.TheVariants.{Any, Nonempty, File, Output, Uncompressed, Script}
-use Rattle.words_core.specs.declared.value_rule.ValueRule.{ValueRule}
 use Rattle.words_core.specs.declared.values.OptionValue.{OptionValue}
 
 -- a word without one leading `./`

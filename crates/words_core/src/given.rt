@@ -85,8 +85,8 @@ impl Given {
         }
     }
 
-    // Takes what an option says whose word holds a value or none.
-    fn take(
+    /// Takes what an option says whose word holds a value or none.
+    pub(crate) fn take(
         &mut self,
         alloc: Global,
         place: u32,

@@ -1,6 +1,8 @@
-ghost use Rattle.std.specs.Prelude.{◌≡◌, ◌≤◌, ◌+◌, ◌++◌, ℕ, List, Ok, Err, length};
+ghost use Rattle.std.specs.Prelude.{◌≡◌, ◌≤◌, ◌+◌, ◌-◌, ◌++◌, ℕ, List, Ok, Err, IsTrue, codes, length, not, take, ◌&&◌};
+ghost use Rattle.std.specs.List.{list_any};
+ghost use Rattle.std.specs.Str.{bytes_eq};
 ghost use Rattle.words_core.specs.Command.{CommandLine};
-ghost use Rattle.words_core.specs.Grammar.{command_of};
+ghost use Rattle.words_core.specs.Grammar.{command_of, is_end};
 ghost use Rattle.words_core.specs.Lines.{IsLineOf};
 
 /// Words of which a command is read are that command: its applet, its operands and its options, and nothing else.
@@ -21,4 +23,10 @@ pub fn usage_errors_are_at_words()
 /// A word that offends does so whatever follows.
 pub fn words_offend_whatever_follows()
     ensures { (words more : List (List ℕ)) (place : ℕ) → command_of words ≡ Err place → place ≤ length words → command_of (words ++ more) ≡ Err place }
+{}
+
+/// The words before a usage error do not offend: they can be completed to a command, unless both `--` and `version` are
+/// among them. (Behind `--` no option can follow, so that a `version` without its kind stays without.)
+pub fn words_before_a_usage_error_can_be_completed()
+    ensures { (words : List (List ℕ)) (place : ℕ) → IsTrue (not (list_any is_end (take (place - 1) words) && list_any (λ word. bytes_eq (codes "version") word) (take (place - 1) words))) → command_of words ≡ Err place → (more : List (List ℕ)) × (command : CommandLine) × (command_of (take (place - 1) words ++ more) ≡ Ok command) }
 {}

@@ -1,6 +1,7 @@
 ghost use Rattle.std.specs.Prelude.{◌≡◌, IsTrue, IfOk, IfErr};
-ghost use Rattle.words_core.specs.Faults.{IsWordsFault};
-ghost use Rattle.words_core.specs.Grammar.{IsSoundReading, command_of, judged};
+ghost use Rattle.words_core.specs.Faults.{IsBehindApplet, IsWordsFault};
+ghost use Rattle.words_core.specs.Flags.{no_flags};
+ghost use Rattle.words_core.specs.Grammar.{IsSoundReading, command_of, judged, start_of};
 
 use crate::applet::Applet;
 use crate::command::Command;
@@ -31,11 +32,12 @@ impl From<AllocError> for WordsFault {
 }
 
 /// The command of the words of a command line. `Usage` comes exactly outside the grammar, at the first word that
-/// offends once the whole line is known.
+/// offends once the whole line is known. `Memory` comes only where an applet was found.
 #[tactic(auto, unfolding(crate::specs::Grammar::command_of))]
 pub fn read_words(alloc: Global, words: &Words) -> Result<Command, WordsFault>
     ensures ok { IfOk result (λ command. command_of words.now ≡ Ok command) }
     ensures usage { IfErr result (λ fault. IsWordsFault fault (command_of words.now)) }
+    ensures memory { IfErr result (λ fault. IsBehindApplet fault (start_of no_flags 1 words.now)) }
 {
     let start = match find_applet(words) {
         Ok(start) => start,

@@ -1,4 +1,7 @@
 use super::*;
+use crate::entry::Meaning;
+use crate::given::Given;
+use crate::value_rule::{ValueKind, ValueRule};
 use base_core::Words;
 use std::alloc::{AllocError, Global};
 use std::process::Abort;
@@ -54,7 +57,9 @@ const FILES: [Line; 39] = [
 ];
 
 // Lines of `version`.
-const VERSIONS: [Line; 29] = [
+const VERSIONS: [Line; 31] = [
+    Line(b"-- version", 3),
+    Line(b"version -- 1 2", 5),
     Line(b"version", 2),
     Line(b"version 1 2", 4),
     Line(b"version 1 2 --bad", 4),
@@ -192,5 +197,78 @@ fn many_words(rt: HostRuntime) -> Result<(), Fail> {
     assert!(rt; words.len() < 10000);
     words.push(b"--bad")?;
     assert_eq!(rt; place_of(rt.alloc(), &words)?, 10000);
+    Ok(())
+}
+
+// A kind of values, a text, and whether it is one of them.
+struct Kinded(ValueKind, &'static [u8], bool);
+
+const KINDS: [Kinded; 12] = [
+    Kinded(ValueKind::Any, b"", true),
+    Kinded(ValueKind::Nonempty, b"a", true),
+    Kinded(ValueKind::Nonempty, b"", false),
+    Kinded(ValueKind::File, b"./a", true),
+    Kinded(ValueKind::File, b"/a", false),
+    Kinded(ValueKind::Output, b"a", true),
+    Kinded(ValueKind::Output, b".", false),
+    Kinded(ValueKind::Uncompressed, b"none", true),
+    Kinded(ValueKind::Uncompressed, b"gzip", false),
+    Kinded(ValueKind::Script, b"trigger:a:b", true),
+    Kinded(ValueKind::Script, b"trigger:", false),
+    Kinded(ValueKind::Script, b"trigge:a", false),
+];
+
+#[test]
+fn kinds(rt: HostRuntime) -> Result<(), Fail> {
+    for row in &KINDS {
+        let text = row.1;
+        assert_eq!(rt; row.0.has(rt.alloc(), text)?, row.2, "at {text:?}");
+    }
+    Ok(())
+}
+
+// Texts of one or more bytes, under the letter `o`.
+const TEXTS: ValueRule = ValueRule {
+    letter: b'o',
+    single: true,
+    kind: ValueKind::Nonempty,
+};
+
+#[test]
+fn values(rt: HostRuntime) -> Result<(), Fail> {
+    let mut values = Values::new(rt.alloc());
+    assert!(rt; values.is_empty());
+    values.push(2, b's', b"trigger:./a")?;
+    assert_eq!(rt; values.len(), 1);
+    assert_eq!(rt; values.get(0).place, 2);
+    assert_eq!(rt; values.get(0).letter, b's');
+    assert_eq!(rt; values.get(0).script_type(), b"trigger".as_slice());
+    assert_eq!(rt; values.get(0).script_file(), b"a".as_slice());
+    Ok(())
+}
+
+#[test]
+fn awaited_value(rt: HostRuntime) -> Result<(), Fail> {
+    let mut given = Given {
+        flags: Flags::none(),
+        values: Values::new(rt.alloc()),
+        awaiting: Some(TEXTS),
+    };
+    assert!(rt; given.take_word(rt.alloc(), Applet::Verify, 3, b"--")?);
+    assert!(rt; given.awaiting.is_none());
+    assert_eq!(rt; given.values.len(), 1);
+    assert_eq!(rt; given.values.get(0).text.as_bytes(), b"--".as_slice());
+    Ok(())
+}
+
+#[test]
+fn held_value(rt: HostRuntime) -> Result<(), Fail> {
+    let mut given = Given::first(rt.alloc(), Flags::none());
+    let option = Meaning::Value(TEXTS);
+    assert!(rt; !given.take(rt.alloc(), 2, Some(b"".as_slice()), option)?);
+    assert!(rt; given.take(rt.alloc(), 3, Some(b"a".as_slice()), option)?);
+    assert!(rt; !given.take(rt.alloc(), 4, None, option)?);
+    assert_eq!(rt; given.values.len(), 1);
+    assert_eq!(rt; given.values.get(0).text.as_bytes(), b"a".as_slice());
     Ok(())
 }

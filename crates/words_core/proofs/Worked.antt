@@ -1,0 +1,213 @@
+-- Worked words of options with values, of a made-up table: what the definitions say of them, by computation.
+use Rattle.std.proofs.Common.{◌≡◌, ℕ, true, false, List, [], ◌∷◌, ◌++◌, Some, None, codes, refl}
+use Rattle.std.specs.List.{repeat}
+use Rattle.std.specs.Str.{chars, is_utf8}
+use lib.Utf8.{encode}
+use Rattle.base_core.specs.Name.{is_name}
+use Rattle.words_core.specs.declared.entry.Meaning.TheVariants.{Flag as Plain, Kind, Value}
+use Rattle.words_core.specs.declared.flags.Flag.TheVariants.{NoScripts, Test}
+use Rattle.words_core.specs.declared.given.Given.{Given}
+use Rattle.words_core.specs.declared.reading.Reading.{Reading}
+use Rattle.words_core.specs.declared.value_rule.ValueKind.TheVariants.{Any, File, Nonempty, Output, Script, Uncompressed}
+use Rattle.words_core.specs.declared.value_rule.ValueRule.{ValueRule}
+use Rattle.words_core.specs.declared.values.OptionValue.{OptionValue}
+use Rattle.words_core.specs.Applets.{Entry}
+use Rattle.words_core.specs.Flags.{no_flags, with_flag}
+use Rattle.words_core.specs.Grammar.{given_by, given_first, held_value, name_of, operand_at, reading_by, reading_of, value_at}
+use Rattle.words_core.specs.Values.{is_value}
+
+-- `-o` stands once and has any value, `-f` stands once and has a file, `-I` has texts and `-s` has scripts; `-t` and `-n`
+-- have none
+abbrev output : ValueRule
+output = record { letter = 111; single = true; kind = Any }
+
+abbrev info : ValueRule
+info = record { letter = 73; single = false; kind = Nonempty }
+
+abbrev table : List Entry
+table =
+    record { long = codes "--output"; short = codes "-o"; meaning = Value output } ∷
+    (record { long = codes "--file"; short = codes "-f"; meaning = Value (record { letter = 102; single = true; kind = File }) } ∷
+    (record { long = codes "--info"; short = codes "-I"; meaning = Value info } ∷
+    (record { long = codes "--script"; short = codes "-s"; meaning = Value (record { letter = 115; single = false; kind = Script }) } ∷
+    (record { long = codes "--test"; short = codes "-t"; meaning = Kind Test } ∷
+    (record { long = codes "--no-scripts"; short = codes "-n"; meaning = Plain NoScripts } ∷ [])))))
+
+-- words behind an applet that is the first word
+abbrev read : List (List ℕ) → Reading
+read words = reading_of table (given_first no_flags) 2 words
+
+-- values that were given, and no flags
+abbrev giving : List OptionValue → Given
+giving values = given_by no_flags values None
+
+-- all words were read, and they gave values
+abbrev whole : List OptionValue → Reading
+whole values = reading_by (giving values) [] None
+
+-- the values were read, but not the word at a place
+abbrev up_to : List OptionValue → ℕ → Reading
+up_to values place = reading_by (giving values) [] (Some place)
+
+-- ---- where the value of an option is, and whose place it has
+
+behind_short : read (codes "-o" ∷ (codes "a" ∷ [])) ≡ whole (value_at 3 111 (codes "a") ∷ [])
+unfolding name_of held_value
+behind_short = refl
+
+in_short : read (codes "-oa" ∷ []) ≡ whole (value_at 2 111 (codes "a") ∷ [])
+unfolding name_of held_value
+in_short = refl
+
+behind_long : read (codes "--output" ∷ (codes "a" ∷ [])) ≡ whole (value_at 3 111 (codes "a") ∷ [])
+unfolding name_of held_value
+behind_long = refl
+
+in_long : read (codes "--output=a" ∷ []) ≡ whole (value_at 2 111 (codes "a") ∷ [])
+unfolding name_of held_value
+in_long = refl
+
+-- what is behind the first `=` is the value, and behind a letter even the `=` is of it
+empty_in_long : read (codes "--output=" ∷ []) ≡ whole (value_at 2 111 [] ∷ [])
+unfolding name_of held_value
+empty_in_long = refl
+
+equals_in_long : read (codes "--output=a=b" ∷ []) ≡ whole (value_at 2 111 (codes "a=b") ∷ [])
+unfolding name_of held_value
+equals_in_long = refl
+
+equals_in_short : read (codes "-o=a" ∷ []) ≡ whole (value_at 2 111 (codes "=a") ∷ [])
+unfolding name_of held_value
+equals_in_short = refl
+
+-- the word behind an option is its value, whatever it looks like
+end_is_value : read (codes "-o" ∷ (codes "--" ∷ [])) ≡ whole (value_at 3 111 (codes "--") ∷ [])
+unfolding name_of held_value
+end_is_value = refl
+
+option_is_value : read (codes "-o" ∷ (codes "-o" ∷ [])) ≡ whole (value_at 3 111 (codes "-o") ∷ [])
+unfolding name_of held_value
+option_is_value = refl
+
+empty_is_value : read (codes "-o" ∷ ([] ∷ [])) ≡ whole (value_at 3 111 [] ∷ [])
+unfolding name_of held_value
+empty_is_value = refl
+
+-- and behind a value that its word holds comes the next word: an operand, or the end of the options
+operands_behind : read (codes "-oa" ∷ (codes "b" ∷ (codes "--" ∷ (codes "-o" ∷ [])))) ≡ reading_by (giving (value_at 2 111 (codes "a") ∷ [])) (operand_at 3 (codes "b") ∷ (operand_at 5 (codes "-o") ∷ [])) None
+unfolding name_of held_value
+operands_behind = refl
+
+-- ---- a value that is missing is so behind the last word
+
+missing : read (codes "-o" ∷ []) ≡ reading_by (given_by no_flags [] (Some output)) [] (Some 3)
+unfolding name_of held_value
+missing = refl
+
+missing_behind_others : read (codes "b" ∷ (codes "-oa" ∷ (codes "--info" ∷ []))) ≡ reading_by (given_by no_flags (value_at 3 111 (codes "a") ∷ []) (Some info)) (operand_at 2 (codes "b") ∷ []) (Some 5)
+unfolding name_of held_value
+missing_behind_others = refl
+
+-- ---- which options may stand again
+
+single_twice : read (codes "-o" ∷ (codes "a" ∷ (codes "-o" ∷ (codes "b" ∷ [])))) ≡ up_to (value_at 3 111 (codes "a") ∷ []) 4
+unfolding name_of held_value
+single_twice = refl
+
+single_twice_at_end : read (codes "-o" ∷ (codes "a" ∷ (codes "-o" ∷ []))) ≡ up_to (value_at 3 111 (codes "a") ∷ []) 4
+unfolding name_of held_value
+single_twice_at_end = refl
+
+single_in_both_words : read (codes "--output=a" ∷ (codes "-oa" ∷ [])) ≡ up_to (value_at 2 111 (codes "a") ∷ []) 3
+unfolding name_of held_value
+single_in_both_words = refl
+
+repeated : read (codes "-I" ∷ (codes "a" ∷ (codes "-Ia" ∷ (codes "--info=b" ∷ [])))) ≡ whole (value_at 3 73 (codes "a") ∷ (value_at 4 73 (codes "a") ∷ (value_at 5 73 (codes "b") ∷ [])))
+unfolding name_of held_value
+repeated = refl
+
+two_options : read (codes "-Ia" ∷ (codes "-ob" ∷ [])) ≡ whole (value_at 2 73 (codes "a") ∷ (value_at 3 111 (codes "b") ∷ []))
+unfolding name_of held_value
+two_options = refl
+
+-- ---- scripts: one of a type
+
+scripts : read (codes "-s" ∷ (codes "trigger:a" ∷ (codes "--script=pre-install:./a" ∷ []))) ≡ whole (value_at 3 115 (codes "trigger:a") ∷ (value_at 4 115 (codes "pre-install:./a") ∷ []))
+unfolding name_of held_value is_name is_utf8 chars encode
+scripts = refl
+
+type_twice : read (codes "-s" ∷ (codes "trigger:a" ∷ (codes "-s" ∷ (codes "trigger:b" ∷ [])))) ≡ reading_by (given_by no_flags (value_at 3 115 (codes "trigger:a") ∷ []) (Some (record { letter = 115; single = false; kind = Script }))) [] (Some 5)
+unfolding name_of held_value is_name is_utf8 chars encode
+type_twice = refl
+
+type_twice_in_word : read (codes "-strigger:a" ∷ (codes "-strigger:a" ∷ [])) ≡ up_to (value_at 2 115 (codes "trigger:a") ∷ []) 3
+unfolding name_of held_value is_name is_utf8 chars encode
+type_twice_in_word = refl
+
+no_type : read (codes "-strigge:a" ∷ []) ≡ up_to [] 2
+unfolding name_of held_value is_name is_utf8 chars encode
+no_type = refl
+
+no_colon : read (codes "-strigger" ∷ []) ≡ up_to [] 2
+unfolding name_of held_value is_name is_utf8 chars encode
+no_colon = refl
+
+-- ---- a value that its option does not have is at its own word
+
+bad_behind : read (codes "-f" ∷ (codes "/a" ∷ [])) ≡ reading_by (given_by no_flags [] (Some (record { letter = 102; single = true; kind = File }))) [] (Some 3)
+unfolding name_of held_value is_name is_utf8 chars encode
+bad_behind = refl
+
+bad_in_short : read (codes "-f/a" ∷ []) ≡ up_to [] 2
+unfolding name_of held_value is_name is_utf8 chars encode
+bad_in_short = refl
+
+empty_behind : read (codes "-I" ∷ ([] ∷ [])) ≡ reading_by (given_by no_flags [] (Some info)) [] (Some 3)
+unfolding name_of held_value
+empty_behind = refl
+
+bad_in_long : read (codes "-Ia" ∷ (codes "--info=" ∷ [])) ≡ up_to (value_at 2 73 (codes "a") ∷ []) 3
+unfolding name_of held_value
+bad_in_long = refl
+
+-- ---- words that spell no option, and values of options that have none
+
+flag_with_value : read (codes "--test=x" ∷ []) ≡ up_to [] 2
+unfolding name_of held_value
+flag_with_value = refl
+
+flag_with_empty_value : read (codes "--test=" ∷ []) ≡ up_to [] 2
+unfolding name_of held_value
+flag_with_empty_value = refl
+
+flag_with_more : read (codes "-nt" ∷ []) ≡ up_to [] 2
+unfolding name_of held_value
+flag_with_more = refl
+
+flag_alone : read (codes "-t" ∷ (codes "a" ∷ [])) ≡ reading_by (given_by (with_flag Test no_flags) [] None) (operand_at 3 (codes "a") ∷ []) None
+unfolding name_of held_value
+flag_alone = refl
+
+no_option : read (codes "-oa" ∷ (codes "--outpu=b" ∷ [])) ≡ up_to (value_at 2 111 (codes "a") ∷ []) 3
+unfolding name_of held_value
+no_option = refl
+
+-- ---- kinds of values
+
+none_is_uncompressed : is_value Uncompressed (codes "none") ≡ true
+none_is_uncompressed = refl
+
+level_is_not : is_value Uncompressed (codes "none:9") ≡ false
+level_is_not = refl
+
+output_of_1016 : is_value Output (codes "./" ++ repeat 1016 (codes "a")) ≡ true
+unfolding is_name is_utf8 chars encode
+output_of_1016 = refl
+
+output_of_1017 : is_value Output (repeat 1017 (codes "a")) ≡ false
+unfolding is_name is_utf8 chars encode
+output_of_1017 = refl
+
+file_of_1017 : is_value File (repeat 1017 (codes "a")) ≡ true
+unfolding is_name is_utf8 chars encode
+file_of_1017 = refl
