@@ -11,3 +11,4 @@ pub mod MoreWords
 pub mod Worked
 pub mod WordsCompleted
 pub mod TextsCompleted
+pub mod WhatFollows

@@ -1,4 +1,4 @@
-ghost use Rattle.std.specs.Prelude.{◌≡◌, ◌≤◌, ◌+◌, ◌-◌, ◌++◌, ℕ, List, Ok, Err, IsTrue, codes, length, not, take, ◌&&◌};
+ghost use Rattle.std.specs.Prelude.{◌≡◌, ◌≤◌, ◌<◌, ◌+◌, ◌-◌, ◌++◌, ℕ, List, Ok, Err, IsTrue, codes, length, not, take, ◌&&◌};
 ghost use Rattle.std.specs.List.{list_any};
 ghost use Rattle.std.specs.Str.{bytes_eq};
 ghost use Rattle.words_core.specs.Command.{CommandLine};
@@ -29,4 +29,9 @@ pub fn words_offend_whatever_follows()
 /// among them. (Behind `--` no option can follow, so that a `version` without its kind stays without.)
 pub fn words_before_a_usage_error_can_be_completed()
     ensures { (words : List (List ℕ)) (place : ℕ) → IsTrue (not (list_any is_end (take (place - 1) words) && list_any (λ word. bytes_eq (codes "version") word) (take (place - 1) words))) → command_of words ≡ Err place → (more : List (List ℕ)) × (command : CommandLine) × (command_of (take (place - 1) words ++ more) ≡ Ok command) }
+{}
+
+/// What follows a command offends behind it: no word of a command becomes the one that offends.
+pub fn what_follows_a_command_offends_behind_it()
+    ensures { (words more : List (List ℕ)) (command : CommandLine) (place : ℕ) → command_of words ≡ Ok command → command_of (words ++ more) ≡ Err place → length words < place }
 {}

@@ -25,7 +25,8 @@ pub use command::Command;
 pub use flags::Flags;
 pub use laws::{
     commands_are_read, read_words_are_a_command, usage_errors_are_at_words,
-    words_before_a_usage_error_can_be_completed, words_offend_whatever_follows,
+    what_follows_a_command_offends_behind_it, words_before_a_usage_error_can_be_completed,
+    words_offend_whatever_follows,
 };
 pub use operands::{Operand, Operands};
 pub use read::{WordsFault, read_words};
