@@ -7,7 +7,7 @@ use Rattle.std.proofs.lemmas.Bool.{and_from, and_parts, eqb-true, or_parts}
 use Rattle.std.proofs.lemmas.List.Folds.{list_all-append}
 use Rattle.std.proofs.lemmas.Option.{none-some, option_and_then_some, same_Some}
 use Rattle.words_core.specs.declared.applet.Applet.{Applet}
-use Rattle.words_core.specs.declared.applet.Applet.TheVariants.{Adbdump, Verify, Version}
+use Rattle.words_core.specs.declared.applet.Applet.TheVariants.{Adbdump, Mkndx, Mkpkg, Verify, Version}
 use Rattle.words_core.specs.declared.entry.Meaning.{Meaning}
 use Rattle.words_core.specs.declared.entry.Meaning.TheVariants.{Flag as Plain, Kind, Value}
 use Rattle.words_core.specs.declared.flags.Flags.{Flags}
@@ -36,6 +36,8 @@ unfolding common options_of
 all_own Verify = (tt, (tt, tt))
 all_own Version = (tt, (tt, (tt, (tt, tt))))
 all_own Adbdump = (tt, (tt, tt))
+all_own Mkpkg = (tt, (tt, (refl, (refl, (refl, (refl, (refl, (refl, tt))))))))
+all_own Mkndx = (tt, (tt, (refl, (refl, (refl, tt)))))
 
 pub found_own : (applet : Applet) (entries : List Entry) (word : List ℕ) (e : Entry) → AllOwn applet entries → entry_of entries word ≡ Some e → IsOwn applet e.meaning
 found_own applet [] word e own f = absurd (none-some e f)

@@ -9,6 +9,8 @@ pub mod LinesMade
 pub mod OffendingWords
 pub mod MoreWords
 pub mod Worked
+pub mod GoneOn
 pub mod WordsCompleted
-pub mod TextsCompleted
+pub mod AppletCompleted
 pub mod WhatFollows
+pub mod StuckWords

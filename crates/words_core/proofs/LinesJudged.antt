@@ -1,9 +1,9 @@
 -- Flags, operands and values of a command are judged good.
 use Rattle.std.proofs.Common.{◌≡◌, ℕ, ◌+◌, Bool, true, false, List, [], ◌∷◌, Option, Some, None, Ok, refl, arith, length, ◌<◌, ◌≤◌}
 use Rattle.std.specs.Prelude.{◌&&◌, ◌==◌, nat_lt}
-use Rattle.std.proofs.lemmas.Bool.{and_parts, eqb-true, false≢true, le-ltb, ltb-true}
+use Rattle.std.proofs.lemmas.Bool.{and_parts, eqb-true, false≢true, le-ltb, ltb-true, not_from_true}
 use Rattle.words_core.specs.declared.applet.Applet.{Applet}
-use Rattle.words_core.specs.declared.applet.Applet.TheVariants.{Adbdump, Verify, Version}
+use Rattle.words_core.specs.declared.applet.Applet.TheVariants.{Adbdump, Mkndx, Mkpkg, Verify, Version}
 use Rattle.words_core.specs.declared.operands.Operand.{Operand}
 use Rattle.words_core.specs.declared.reading.Reading.{Reading}
 use Rattle.words_core.specs.declared.rule.OperandRule.{OperandRule}
@@ -12,7 +12,7 @@ use Rattle.words_core.specs.declared.values.OptionValue.{OptionValue}
 use Rattle.words_core.specs.Applets.{row_of}
 use Rattle.words_core.specs.Command.{are_files, are_values, is_plain, is_sound, is_sound_line}
 use Rattle.words_core.specs.Grammar.{command_by, first_refused, judged, lacks_operand, lacks_value, refused_operand}
-use Rattle.words_core.specs.Values.{is_file}
+use Rattle.words_core.specs.Values.{is_file, is_given}
 use Rattle.words_core.proofs.KindsKept.{flags_by}
 use Rattle.words_core.proofs.WhatIsRead.{files, two}
 
@@ -62,6 +62,13 @@ sound_taken Adbdump u n t c operands values h =
     let is = (and_parts (is_plain (flags_by u n t c)) (length operands == 1) parts.0).1 in
     let one : length operands ≡ 1 = eqb-true (length operands) 1 is in
     record { taken = one_taken operands is parts.1; enough = le-ltb (length operands) 1 (omega arith); needed = refl }
+sound_taken Mkpkg u n t c operands values h =
+    let none = (and_parts (is_plain (flags_by u n t c)) (length operands == 0) h).1 in
+    record { taken = none_taken operands none; enough = le-ltb (length operands) 0 (omega arith); needed = refl }
+sound_taken Mkndx u n t c operands values h =
+    let parts = and_parts (is_plain (flags_by u n t c) && are_files operands) (is_given 111 values) h in
+    let some = (and_parts (is_plain (flags_by u n t c)) (are_files operands) parts.0).1 in
+    record { taken = files_taken 0 0 operands some; enough = le-ltb (length operands) 0 (omega arith); needed = not_from_true (is_given 111 values) parts.1 }
 sound_taken Version u n true true operands values h = absurd (false≢true h)
 sound_taken Version u n true false operands values h =
     let two_of : length operands ≡ 2 = eqb-true (length operands) 2 h in

@@ -9,7 +9,7 @@ use Rattle.std.proofs.lemmas.List.Folds.{list_all-append}
 use Rattle.std.proofs.lemmas.Option.{none-some, option_and_then_some, same_Some}
 use Rattle.std.proofs.lemmas.Result.{IfOk-at_ok}
 use Rattle.words_core.specs.declared.applet.Applet.{Applet}
-use Rattle.words_core.specs.declared.applet.Applet.TheVariants.{Adbdump, Verify, Version}
+use Rattle.words_core.specs.declared.applet.Applet.TheVariants.{Adbdump, Mkndx, Mkpkg, Verify, Version}
 use Rattle.words_core.specs.declared.entry.Meaning.{Meaning}
 use Rattle.words_core.specs.declared.entry.Meaning.TheVariants.{Flag as Plain, Kind, Value}
 use Rattle.words_core.specs.declared.flags.Flag.{Flag}
@@ -473,6 +473,12 @@ sound_flags Verify u n false false operands values h = refl
 sound_flags Adbdump u n true c operands values h = absurd (false≢true h)
 sound_flags Adbdump u n false true operands values h = absurd (false≢true h)
 sound_flags Adbdump u n false false operands values h = refl
+sound_flags Mkpkg u n true c operands values h = absurd (false≢true h)
+sound_flags Mkpkg u n false true operands values h = absurd (false≢true h)
+sound_flags Mkpkg u n false false operands values h = refl
+sound_flags Mkndx u n true c operands values h = absurd (false≢true h)
+sound_flags Mkndx u n false true operands values h = absurd (false≢true h)
+sound_flags Mkndx u n false false operands values h = refl
 sound_flags Version u n true true operands values h = absurd (false≢true h)
 sound_flags Version u n true false operands values h = refl
 sound_flags Version u n false c operands values h = refl

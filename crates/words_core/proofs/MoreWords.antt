@@ -7,7 +7,7 @@ use Rattle.std.specs.Str.{bytes_eq}
 use Rattle.std.proofs.lemmas.Bool.{and_parts, cases_lt}
 use Rattle.std.proofs.lemmas.Option.{none-some, option_and_then_some, same_Some}
 use Rattle.words_core.specs.declared.applet.Applet.{Applet}
-use Rattle.words_core.specs.declared.applet.Applet.TheVariants.{Adbdump, Verify, Version}
+use Rattle.words_core.specs.declared.applet.Applet.TheVariants.{Adbdump, Mkndx, Mkpkg, Verify, Version}
 use Rattle.words_core.specs.declared.entry.Meaning.{Meaning}
 use Rattle.words_core.specs.declared.entry.Meaning.TheVariants.{Flag as Plain, Kind, Value}
 use Rattle.words_core.specs.declared.flags.Flags.{Flags}
@@ -132,6 +132,8 @@ pub rule_by : (applet : Applet) (given more : Given) (place : ℕ) (word : List 
 rule_by Version given more place word rule w r = version_rule given.flags.allow_untrusted given.flags.no_scripts given.flags.test given.flags.check given more place word rule refl w r
 rule_by Verify given more place word rule w r = r
 rule_by Adbdump given more place word rule w r = r
+rule_by Mkpkg given more place word rule w r = r
+rule_by Mkndx given more place word rule w r = r
 
 pub rule_stays : (applet : Applet) (given : Given) (place : ℕ) (words : List (List ℕ)) (rule : OperandRule) → (row_of applet).operands given.flags ≡ Some rule → (row_of applet).operands (reading_of (options_of applet) given place words).given.flags ≡ Some rule
 rule_stays applet given place [] rule r = r

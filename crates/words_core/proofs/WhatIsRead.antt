@@ -4,7 +4,7 @@ use Rattle.std.specs.Prelude.{◌&&◌, ◌==◌, nat_lt, not}
 use Rattle.std.proofs.lemmas.Bool.{and_from, and_parts, eq-eqb, false≢true, lt-ltb, ltb-true}
 use Rattle.std.proofs.lemmas.Option.{none-some, same_Some}
 use Rattle.words_core.specs.declared.applet.Applet.{Applet}
-use Rattle.words_core.specs.declared.applet.Applet.TheVariants.{Adbdump, Verify, Version}
+use Rattle.words_core.specs.declared.applet.Applet.TheVariants.{Adbdump, Mkndx, Mkpkg, Verify, Version}
 use Rattle.words_core.specs.declared.flags.Flags.{Flags}
 use Rattle.words_core.specs.declared.operands.Operand.{Operand}
 use Rattle.words_core.specs.declared.rule.OperandRule.{OperandRule}
@@ -71,6 +71,13 @@ taken_sound Adbdump u n t c operands values rule m r f l v =
     let least : 1 ≤ length operands = taken.1 in
     let most : 0 + length operands ≤ 1 = no_more (files 1 (Some 1)) 1 0 operands refl (omega arith) taken.2 in
     and_from (is_plain (flags_by u n t c) && (length operands == 1)) _ (and_from (is_plain (flags_by u n t c)) _ m (eq-eqb (length operands) 1 (omega arith))) taken.0
+taken_sound Mkpkg u n t c operands values rule m r f l v =
+    let taken = files_taken_by rule 0 (Some 0) operands r f l in
+    let most : 0 + length operands ≤ 0 = no_more (files 0 (Some 0)) 0 0 operands refl (omega arith) taken.2 in
+    and_from (is_plain (flags_by u n t c)) _ m (eq-eqb (length operands) 0 (omega arith))
+taken_sound Mkndx u n t c operands values rule m r f l v =
+    let taken = files_taken_by rule 0 None operands r f l in
+    and_from (is_plain (flags_by u n t c) && are_files operands) _ (and_from (is_plain (flags_by u n t c)) _ m taken.0) (given_needed 111 values v)
 taken_sound Version u n true true operands values rule m r f l v = absurd (false≢true m)
 taken_sound Version u n true false operands values rule m r f l v =
     let is : two ≡ rule = cc in

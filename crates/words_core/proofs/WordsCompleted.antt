@@ -1,101 +1,40 @@
--- Words that lack a word can be completed where an applet and no `--` is among them.
-use Rattle.std.proofs.Common.{◌≡◌, ℕ, zero, suc, ◌+◌, Bool, true, false, not, List, [], ◌∷◌, ◌++◌, drop, codes, inl, inr, Option, Some, None, Ok, Err, refl, sym, ◌∙◌, ap, subst, arith, length, length-drop, ◌<◌, ◌≤◌, if◌then◌else◌, IfOk}
-use Rattle.std.specs.Prelude.{◌||◌, nat_lt, is_some}
-use Rattle.std.specs.List.{list_all}
-use Rattle.std.specs.Option.{option_map, option_or}
+-- Words that lack a word can be completed, unless they are stuck: where their applet was found.
+use Rattle.std.proofs.Common.{◌≡◌, ℕ, ◌+◌, Bool, true, false, not, List, [], ◌∷◌, ◌++◌, drop, codes, append-nil, inl, inr, Option, Some, None, Ok, Err, refl, sym, ◌∙◌, ap, subst, arith, length, ◌<◌, ◌≤◌, if◌then◌else◌}
+use Rattle.std.specs.Prelude.{◌&&◌, ◌||◌, ◌==◌, nat_lt}
+use Rattle.std.specs.List.{list_all, list_any}
+use Rattle.std.specs.Option.{option_or}
 use Rattle.std.specs.Str.{bytes_eq, chars, is_utf8}
 use lib.Utf8.{encode}
-use Rattle.std.proofs.lemmas.Bool.{and_parts, false≢true, le-ltb}
-use Rattle.std.proofs.lemmas.Option.{none-some, option_and_then_some, same_Some}
-use Rattle.std.proofs.lemmas.Result.{IfOk-at_ok}
+use Rattle.std.proofs.lemmas.Bool.{and_from, and_parts, and_right, false≢true, le-ltb, not_from_false, not_from_true, or_from, or_parts, or_right, true≢false}
+use Rattle.std.proofs.lemmas.Option.{none-some, same_Some}
+use Rattle.std.proofs.lemmas.Slice.Eq.{bytes_eq-Decides}
 use Rattle.base_core.specs.Name.{is_name}
 use Rattle.words_core.specs.declared.applet.Applet.{Applet}
-use Rattle.words_core.specs.declared.applet.Applet.TheVariants.{Adbdump, Verify, Version}
+use Rattle.words_core.specs.declared.applet.Applet.TheVariants.{Adbdump, Mkndx, Mkpkg, Verify, Version}
 use Rattle.words_core.specs.declared.flags.Flags.{Flags}
 use Rattle.words_core.specs.declared.given.Given.{Given}
 use Rattle.words_core.specs.declared.operands.Operand.{Operand}
 use Rattle.words_core.specs.declared.reading.Reading.{Reading}
 use Rattle.words_core.specs.declared.rule.OperandRule.{OperandRule}
 use Rattle.words_core.specs.declared.start.Start.{Start}
+use Rattle.words_core.specs.declared.value_rule.ValueKind.{ValueKind}
+use Rattle.words_core.specs.declared.value_rule.ValueKind.TheVariants.{Any, File, Nonempty, Output, Script, Uncompressed}
 use Rattle.words_core.specs.declared.value_rule.ValueRule.{ValueRule}
 use Rattle.words_core.specs.declared.values.OptionValue.{OptionValue}
-use Rattle.words_core.specs.Applets.{Entry, applet_of, common, entry_of, row_of}
+use Rattle.words_core.specs.Applets.{Entry, common, output_rule, row_of}
 use Rattle.words_core.specs.Command.{CommandLine}
 use Rattle.words_core.specs.Flags.{no_flags}
-use Rattle.words_core.specs.Grammar.{command_by, command_of, first_refused, given_by, given_first, held_value, is_end, is_option, is_taken, judged, lacks, name_of, operand_at, operands_of, options_of, or_at, or_unread, reading_by, reading_from, reading_of, refused_operand, start_at, start_behind_end, start_by, start_of, with_operand, with_option, with_said, with_start, with_word, with_word_by, takes}
-use Rattle.words_core.specs.Lines.{rule_in, rule_unless}
-use Rattle.words_core.proofs.KindsKept.{IsPlain, find_passes, flags_by, start_known}
+use Rattle.words_core.specs.Grammar.{command_by, command_of, first_refused, given_by, held_value, is_excluded, judged, lacks, name_of, operand_at, operands_of, options_of, reading_by, reading_from, reading_of, refused_operand, start_of, takes, value_at, with_start, with_word_by}
+use Rattle.words_core.specs.Stuck.{awaits_none, has_script, have_ended, is_full, is_stuck, lacks_option}
+use Rattle.words_core.specs.Values.{excludes, is_given, is_script, is_value, script_type, script_types}
+use Rattle.words_core.proofs.GoneOn.{IsGoing, from_going, is_not}
+use Rattle.words_core.proofs.KindsKept.{IsPlain, flags_by, start_known}
 use Rattle.words_core.proofs.LinesJudged.{texts_taken}
-use Rattle.words_core.proofs.LinesRead.{Says, said_says}
-use Rattle.words_core.proofs.MoreWords.{IsKnown, drop_append, start_stays}
-use Rattle.words_core.proofs.OffendingWords.{AllBetween, judged_at, reading_placed, refused_between}
+use Rattle.words_core.proofs.LinesRead.{awaited_taken, step_taken}
+use Rattle.words_core.proofs.MoreWords.{IsKnown, start_stays}
+use Rattle.words_core.proofs.OffendingWords.{AllBetween, IsJudgedAt, from_placed, judged_at, refused_between}
 use Rattle.words_core.proofs.OneMore.{behind}
-use Rattle.words_core.proofs.WhatIsRead.{files, no_more, two}
-
-abbrev pub have_no_end : List (List ℕ) → Bool
-have_no_end words = list_all (λ word. not (is_end word)) words
-
-pub is_not : (b : Bool) → not b ≡ true → b ≡ false
-is_not true h = sym h
-is_not false h = refl
-
-pub none_dropped : (count : ℕ) (words : List (List ℕ)) → have_no_end words ≡ true → have_no_end (drop count words) ≡ true
-none_dropped zero words h = h
-none_dropped (suc count) [] h = h
-none_dropped (suc count) (word ∷ words) h = none_dropped count words (and_parts (not (is_end word)) (have_no_end words) h).1
-
--- the options of today's applets have no values
-pub have_no_values : (applet : Applet) → list_all (λ (e : Entry). not (is_some (rule_in e.meaning))) (options_of applet) ≡ true
-unfolding common options_of
-have_no_values Verify = refl
-have_no_values Version = refl
-have_no_values Adbdump = refl
-
-pub no_rule_there : (held : Option (List ℕ)) (rule : Option ValueRule) → not (is_some rule) ≡ true → rule_unless held rule ≡ None
-no_rule_there held (Some rule) h = absurd (false≢true h)
-no_rule_there None None h = refl
-no_rule_there (Some text) None h = refl
-
-pub none_awaited : (applet : Applet) (given more : Given) (place : ℕ) (word : List ℕ) → given.awaiting ≡ None → with_word (options_of applet) given place word ≡ Some more → more.awaiting ≡ None
-none_awaited applet given more place word a w =
-    option_and_then_some (λ (e : Entry). with_said given place (held_value word) e.meaning) (entry_of (options_of applet) (name_of word)) more (ap (with_word_by (options_of applet) given place word) (sym a) ∙ w)
-    (λ found is made.
-    (let says : Says given place (held_value word) found.meaning more = said_says given more place (held_value word) found.meaning a made in
-    sym says.awaiting ∙ no_rule_there (held_value word) (rule_in found.meaning) (find_passes (λ (e : Entry). not (is_some (rule_in e.meaning))) (λ (e : Entry). bytes_eq e.long (name_of word) || bytes_eq e.short (name_of word)) (options_of applet) found (have_no_values applet) is)))
-
--- a reading goes on with more words
-pub record IsReadOn (entries : List Entry) (end : ℕ) (more : List (List ℕ)) (reading longer : Reading) : Type 0 where
-  pub early : (at : ℕ) → reading.unread ≡ Some at → at < end
-  pub awaits : reading.unread ≡ None → reading.given.awaiting ≡ None
-  pub goes_on : reading.unread ≡ None → longer ≡ behind reading.operands (reading_of entries reading.given end more)
-
-pub read_on : (applet : Applet) (given : Given) (end place : ℕ) (words more : List (List ℕ)) → place + length words ≡ end → have_no_end words ≡ true → given.awaiting ≡ None → IsReadOn (options_of applet) end more (reading_of (options_of applet) given place words) (reading_of (options_of applet) given place (words ++ more))
-read_on applet given end place [] more l n a = record {
-  early = λ at h. absurd (none-some at (ap (option_map (λ (rule : ValueRule). place)) (sym a) ∙ h));
-  awaits = λ u. a;
-  goes_on = λ u. (let same : place ≡ end = omega arith in ap (λ k. reading_of (options_of applet) given k more) same);
-}
-read_on applet given end place (word ∷ words) more l n a =
-    let next : place + 1 + length words ≡ end = omega arith in
-    let here : place < end = omega arith in
-    let parts = and_parts (not (is_end word)) (have_no_end words) n in
-    let e : is_end word ≡ false = is_not (is_end word) parts.0 in
-    elim (is_taken given word) as (λ b. IsReadOn (options_of applet) end more (if b then or_unread given place (λ m. reading_of (options_of applet) m (place + 1) words) (with_word (options_of applet) given place word) else if is_end word then reading_by given (operands_of (place + 1) words) None else with_operand (operand_at place word) (reading_of (options_of applet) given (place + 1) words)) (if b then or_unread given place (λ m. reading_of (options_of applet) m (place + 1) (words ++ more)) (with_word (options_of applet) given place word) else if is_end word then reading_by given (operands_of (place + 1) (words ++ more)) None else with_operand (operand_at place word) (reading_of (options_of applet) given (place + 1) (words ++ more)))) [
-      | true ↦ elim (with_word (options_of applet) given place word) as (λ w. with_word (options_of applet) given place word ≡ w → IsReadOn (options_of applet) end more (or_unread given place (λ m. reading_of (options_of applet) m (place + 1) words) w) (or_unread given place (λ m. reading_of (options_of applet) m (place + 1) (words ++ more)) w)) [
-        | None ↦ λ w. record {
-          early = λ at h. subst (λ n. n < end) (same_Some place at h) here;
-          awaits = λ u. absurd (none-some place (sym u));
-          goes_on = λ u. absurd (none-some place (sym u));
-        }
-        | Some g ↦ λ w. read_on applet g end (place + 1) words more next parts.1 (none_awaited applet given g place word a w)
-      ] refl
-      | false ↦ subst (λ b. IsReadOn (options_of applet) end more (if b then reading_by given (operands_of (place + 1) words) None else with_operand (operand_at place word) (reading_of (options_of applet) given (place + 1) words)) (if b then reading_by given (operands_of (place + 1) (words ++ more)) None else with_operand (operand_at place word) (reading_of (options_of applet) given (place + 1) (words ++ more)))) (sym e)
-          (let rest = read_on applet given end (place + 1) words more next parts.1 a in record {
-            early = rest.early;
-            awaits = rest.awaits;
-            goes_on = λ u. ap (with_operand (operand_at place word)) (rest.goes_on u);
-          })
-    ]
+use Rattle.words_core.proofs.WhatIsRead.{files, given_needed, no_more, two}
 
 -- operands that are taken, and more of them
 pub refused_then : (rule : OperandRule) (before : ℕ) (os more : List Operand) → first_refused rule before os ≡ None → first_refused rule before (os ++ more) ≡ first_refused rule (before + length os) more
@@ -115,97 +54,199 @@ pub judged_good : (applet : Applet) (reading : Reading) (end : ℕ) → refused_
 unfolding judged
 judged_good applet reading end taken u enough = rw taken (rw u (rw enough refl))
 
+abbrev pub IsJudgedGood : Applet → Reading → Type 0
+IsJudgedGood applet reading = (end : ℕ) → judged end applet reading ≡ Ok (command_by end applet reading)
+
+-- ---- operands that can follow
+
+-- words that are operands wherever they stand
+abbrev pub AreTexts : List (List ℕ) → Type 0
+AreTexts more = (entries : List Entry) (given : Given) (place : ℕ) → given.awaiting ≡ None → reading_of entries given place more ≡ reading_by given (operands_of place more) None
+
+pub no_texts : AreTexts []
+no_texts entries given place a = rw a refl
+
+pub a_text : AreTexts (codes "a" ∷ [])
+a_text entries given place a = rw a refl
+
+pub two_texts : AreTexts (codes "a" ∷ (codes "a" ∷ []))
+two_texts entries given place a = rw a refl
+
+-- such words behind what was read
+abbrev pub with_texts : Given → List Operand → ℕ → List (List ℕ) → Reading
+with_texts given os at more = behind os (reading_by given (operands_of at more) None)
+
+abbrev pub CanHaveTexts : Applet → Given → List Operand → ℕ → Type 0
+CanHaveTexts applet given os at = (more : List (List ℕ)) × AreTexts more × IsJudgedGood applet (with_texts given os at more)
+
+pub files_good : (given : Given) (os : List Operand) (at : ℕ) → first_refused (files 1 None) 0 os ≡ None → IsJudgedGood Verify (with_texts given os at (codes "a" ∷ []))
+unfolding is_name is_utf8 chars encode
+files_good given os at h end = judged_good Verify (with_texts given os at (codes "a" ∷ [])) end
+    (refused_then (files 1 None) 0 os (operand_at at (codes "a") ∷ []) h) refl (rw (one_more os (operand_at at (codes "a"))) refl)
+
+pub file_good : (given : Given) (os : List Operand) (at : ℕ) → first_refused (files 1 (Some 1)) 0 os ≡ None → CanHaveTexts Adbdump given os at
+unfolding is_name is_utf8 chars encode
+file_good given [] at h = (codes "a" ∷ [], a_text, λ end. judged_good Adbdump (with_texts given [] at (codes "a" ∷ [])) end refl refl refl)
+file_good given (o ∷ []) at h = ([], no_texts, λ end. judged_good Adbdump (with_texts given (o ∷ []) at []) end h refl refl)
+file_good given (o ∷ (p ∷ os)) at h = absurd (let most : 0 + length (o ∷ (p ∷ os)) ≤ 1 = no_more (files 1 (Some 1)) 1 0 (o ∷ (p ∷ os)) refl (omega arith) h in omega arith)
+
+pub package_good : (given : Given) (os : List Operand) (at : ℕ) → first_refused (files 0 (Some 0)) 0 os ≡ None → CanHaveTexts Mkpkg given os at
+package_good given [] at h = ([], no_texts, λ end. judged_good Mkpkg (with_texts given [] at []) end refl refl refl)
+package_good given (o ∷ os) at h = absurd (let most : 0 + length (o ∷ os) ≤ 0 = no_more (files 0 (Some 0)) 0 0 (o ∷ os) refl (omega arith) h in omega arith)
+
+pub index_good : (given : Given) (os : List Operand) → first_refused (files 0 None) 0 os ≡ None → is_given 111 given.values ≡ true → IsJudgedGood Mkndx (behind os (reading_by given [] None))
+index_good given os h g end = judged_good Mkndx (behind os (reading_by given [] None)) end
+    (ap (first_refused (files 0 None) 0) (append-nil os) ∙ h) refl
+    (or_from (nat_lt (length (os ++ [])) 0) (not (is_given 111 given.values)) (le-ltb (length (os ++ [])) 0 (omega arith)) (not_from_true (is_given 111 given.values) g))
+
+pub compared_good : (u n c : Bool) (values : List OptionValue) (awaiting : Option ValueRule) (os : List Operand) (at : ℕ) → first_refused two 0 os ≡ None → CanHaveTexts Version (given_by (flags_by u n true c) values awaiting) os at
+compared_good u n c values awaiting [] at h = (codes "a" ∷ (codes "a" ∷ []), two_texts, λ end. judged_good Version (with_texts (given_by (flags_by u n true c) values awaiting) [] at (codes "a" ∷ (codes "a" ∷ []))) end refl refl refl)
+compared_good u n c values awaiting (o ∷ []) at h = (codes "a" ∷ [], a_text, λ end. judged_good Version (with_texts (given_by (flags_by u n true c) values awaiting) (o ∷ []) at (codes "a" ∷ [])) end refl refl refl)
+compared_good u n c values awaiting (o ∷ (p ∷ [])) at h = ([], no_texts, λ end. judged_good Version (with_texts (given_by (flags_by u n true c) values awaiting) (o ∷ (p ∷ [])) at []) end refl refl refl)
+compared_good u n c values awaiting (o ∷ (p ∷ (q ∷ os))) at h = absurd (let most : 0 + length (o ∷ (p ∷ (q ∷ os))) ≤ 2 = no_more two 2 0 (o ∷ (p ∷ (q ∷ os))) refl (omega arith) h in omega arith)
+
+pub version_texts : (u n t c : Bool) (values : List OptionValue) (awaiting : Option ValueRule) (os : List Operand) (at : ℕ) → lacks_option Version (given_by (flags_by u n t c) values awaiting) ≡ false → refused_operand ((row_of Version).operands (flags_by u n t c)) os ≡ None → CanHaveTexts Version (given_by (flags_by u n t c) values awaiting) os at
+version_texts u n true c values awaiting os at k h = compared_good u n c values awaiting os at h
+version_texts u n false true values awaiting os at k h = (codes "a" ∷ [], a_text, λ end. judged_good Version (with_texts (given_by (flags_by u n false true) values awaiting) os at (codes "a" ∷ [])) end (texts_taken 0 (os ++ (operand_at at (codes "a") ∷ []))) refl (rw (one_more os (operand_at at (codes "a"))) refl))
+version_texts u n false false values awaiting os at k h = absurd (true≢false k)
+
+-- where no option is lacking, operands complete what was read
+pub can_have_texts : (applet : Applet) (given : Given) (os : List Operand) (at : ℕ) → lacks_option applet given ≡ false → refused_operand ((row_of applet).operands given.flags) os ≡ None → CanHaveTexts applet given os at
+can_have_texts Verify given os at k h = (codes "a" ∷ [], a_text, files_good given os at h)
+can_have_texts Adbdump given os at k h = file_good given os at h
+can_have_texts Mkpkg given os at k h = package_good given os at h
+can_have_texts Mkndx given os at k h = ([], no_texts, index_good given os h (given_needed 111 given.values k))
+can_have_texts Version given os at k h = version_texts given.flags.allow_untrusted given.flags.no_scripts given.flags.test given.flags.check given.values given.awaiting os at k h
+
+-- ---- values that can follow
+
+abbrev pub rule_by : ℕ → Bool → ValueKind → ValueRule
+rule_by letter single kind = record { letter = letter; single = single; kind = kind }
+
+abbrev pub IsFitting : ValueRule → List OptionValue → List ℕ → Type 0
+IsFitting rule values text = (is_value rule.kind text && not (is_excluded rule text values)) ≡ true
+
+pub none_excluded : (letter : ℕ) (kind : ValueKind) (text : List ℕ) (values : List OptionValue) → ((a b : List ℕ) → excludes kind a b ≡ false) → list_any (λ (v : OptionValue). (v.letter == letter) && excludes kind v.text text) values ≡ false
+none_excluded letter kind text [] n = refl
+none_excluded letter kind text (v ∷ vs) n =
+    or_from ((v.letter == letter) && excludes kind v.text text) _ (and_right (v.letter == letter) (excludes kind v.text text) (n v.text text)) (none_excluded letter kind text vs n)
+
+pub some_fails : (p q : List ℕ → Bool) (xs : List (List ℕ)) → list_all q xs ≡ true → list_all p xs ≡ false → (x : List ℕ) × (q x ≡ true) × (p x ≡ false)
+some_fails p q [] a h = absurd (true≢false h)
+some_fails p q (x ∷ xs) a h =
+    let parts = and_parts (q x) (list_all q xs) a in
+    elim (p x) as (λ b. p x ≡ b → (b && list_all p xs) ≡ false → (y : List ℕ) × (q y ≡ true) × (p y ≡ false)) [
+      | true ↦ λ e rest. some_fails p q xs parts.1 rest
+      | false ↦ λ e rest. (x, parts.0, e)
+    ] refl h
+
+-- a script of a type
+abbrev pub a_script : List ℕ → List ℕ
+a_script t = t ++ codes ":a"
+
+abbrev pub is_its_script : List ℕ → Bool
+is_its_script t = is_script (a_script t) && bytes_eq (script_type (a_script t)) t
+
+pub all_scripts : list_all is_its_script script_types ≡ true
+unfolding is_name is_utf8 chars encode
+all_scripts = refl
+
+pub script_fits : (letter : ℕ) (single : Bool) (values : List OptionValue) (t : List ℕ) → is_its_script t ≡ true → has_script letter values t ≡ false → IsFitting (rule_by letter single Script) values (a_script t)
+script_fits letter single values t is none =
+    let parts = and_parts (is_script (a_script t)) (bytes_eq (script_type (a_script t)) t) is in
+    let same : script_type (a_script t) ≡ t = (bytes_eq-Decides (script_type (a_script t)) t).0 parts.1 in
+    and_from (is_script (a_script t)) _ parts.0 (not_from_false _ (ap (has_script letter values) same ∙ none))
+
+pub fitting : (letter : ℕ) (single : Bool) (kind : ValueKind) (values : List OptionValue) → is_full kind letter values ≡ false → (text : List ℕ) × IsFitting (rule_by letter single kind) values text
+unfolding is_name is_utf8 chars encode
+fitting letter single Any values h = (codes "a", not_from_false _ (none_excluded letter Any (codes "a") values (λ a b. refl)))
+fitting letter single Nonempty values h = (codes "a", not_from_false _ (none_excluded letter Nonempty (codes "a") values (λ a b. refl)))
+fitting letter single File values h = (codes "a", not_from_false _ (none_excluded letter File (codes "a") values (λ a b. refl)))
+fitting letter single Output values h = (codes "a", not_from_false _ (none_excluded letter Output (codes "a") values (λ a b. refl)))
+fitting letter single Uncompressed values h = (codes "none", not_from_false _ (none_excluded letter Uncompressed (codes "none") values (λ a b. refl)))
+fitting letter single Script values h = (let some = some_fails (has_script letter values) is_its_script script_types all_scripts h in (a_script some.0, script_fits letter single values some.0 some.1 some.2))
+
+pub value_read : (entries : List Entry) (given : Given) (at : ℕ) (text : List ℕ) (rule : ValueRule) (more : List (List ℕ)) → given.awaiting ≡ Some rule → IsFitting rule given.values text → reading_of entries given at (text ∷ more) ≡ reading_of entries (given_by given.flags (given.values ++ (value_at at rule.letter text ∷ [])) None) (at + 1) more
+value_read entries given at text rule more a f =
+    let next : Given = given_by given.flags (given.values ++ (value_at at rule.letter text ∷ [])) None in
+    step_taken entries given at text more (Some next) (awaited_taken given text rule a)
+    (ap (with_word_by entries given at text) a ∙ ap (λ b. if b then Some next else None) f)
+
+-- ---- options that can follow
+
 -- what was read of words, and more words behind it
 abbrev pub gone_on : Applet → Flags → List OptionValue → List Operand → ℕ → List (List ℕ) → Reading
 gone_on applet flags values os at more = behind os (reading_of (options_of applet) (given_by flags values None) at more)
 
-abbrev pub IsJudgedGood : Applet → Reading → Type 0
-IsJudgedGood applet reading = (end : ℕ) → judged end applet reading ≡ Ok (command_by end applet reading)
-
-pub verify_good : (flags : Flags) (values : List OptionValue) (os : List Operand) (at : ℕ) → first_refused (files 1 None) 0 os ≡ None → IsJudgedGood Verify (gone_on Verify flags values os at (codes "a" ∷ []))
-unfolding is_name is_utf8 chars encode
-verify_good flags values os at h end = judged_good Verify (gone_on Verify flags values os at (codes "a" ∷ [])) end
-    (refused_then (files 1 None) 0 os (operand_at at (codes "a") ∷ []) h) refl (rw (one_more os (operand_at at (codes "a"))) refl)
-
 abbrev pub CanGoOn : Applet → Flags → List OptionValue → List Operand → ℕ → Type 0
 CanGoOn applet flags values os at = (more : List (List ℕ)) × IsJudgedGood applet (gone_on applet flags values os at more)
 
-pub dump_good : (flags : Flags) (values : List OptionValue) (os : List Operand) (at : ℕ) → first_refused (files 1 (Some 1)) 0 os ≡ None → CanGoOn Adbdump flags values os at
-unfolding is_name is_utf8 chars encode
-dump_good flags values [] at h = (codes "a" ∷ [], λ end. judged_good Adbdump (gone_on Adbdump flags values [] at (codes "a" ∷ [])) end refl refl refl)
-dump_good flags values (o ∷ []) at h = ([], λ end. judged_good Adbdump (gone_on Adbdump flags values (o ∷ []) at []) end h refl refl)
-dump_good flags values (o ∷ (p ∷ os)) at h = absurd (let most : 0 + length (o ∷ (p ∷ os)) ≤ 1 = no_more (files 1 (Some 1)) 1 0 (o ∷ (p ∷ os)) refl (omega arith) h in omega arith)
+pub output_read : (flags : Flags) (values : List OptionValue) (at : ℕ) → is_given 111 values ≡ false → reading_of (options_of Mkndx) (given_by flags values None) at (codes "-o" ∷ (codes "a" ∷ [])) ≡ reading_by (given_by flags (values ++ (value_at (at + 1) 111 (codes "a") ∷ [])) None) [] None
+unfolding common options_of name_of held_value is_name is_utf8 chars encode
+output_read flags values at g =
+    step_taken (options_of Mkndx) (given_by flags values None) at (codes "-o") (codes "a" ∷ []) (Some (given_by flags values (Some output_rule))) refl
+    (ap (λ b. if b then None else Some (given_by flags values (Some output_rule))) g)
+    ∙ value_read (options_of Mkndx) (given_by flags values (Some output_rule)) (at + 1) (codes "a") output_rule [] refl
+    (not_from_false _ (none_excluded 111 Output (codes "a") values (λ a b. refl)))
 
-pub compared_good : (u n c : Bool) (values : List OptionValue) (os : List Operand) (at : ℕ) → first_refused two 0 os ≡ None → CanGoOn Version (flags_by u n true c) values os at
-compared_good u n c values [] at h = (codes "1" ∷ (codes "1" ∷ []), λ end. judged_good Version (gone_on Version (flags_by u n true c) values [] at (codes "1" ∷ (codes "1" ∷ []))) end refl refl refl)
-compared_good u n c values (o ∷ []) at h = (codes "1" ∷ [], λ end. judged_good Version (gone_on Version (flags_by u n true c) values (o ∷ []) at (codes "1" ∷ [])) end refl refl refl)
-compared_good u n c values (o ∷ (p ∷ [])) at h = ([], λ end. judged_good Version (gone_on Version (flags_by u n true c) values (o ∷ (p ∷ [])) at []) end refl refl refl)
-compared_good u n c values (o ∷ (p ∷ (q ∷ os))) at h = absurd (let most : 0 + length (o ∷ (p ∷ (q ∷ os))) ≤ 2 = no_more two 2 0 (o ∷ (p ∷ (q ∷ os))) refl (omega arith) h in omega arith)
+pub given_last : (place letter : ℕ) (text : List ℕ) (values : List OptionValue) → (letter == letter) ≡ true → is_given letter (values ++ (value_at place letter text ∷ [])) ≡ true
+given_last place letter text [] e = rw e refl
+given_last place letter text (v ∷ vs) e = or_right (v.letter == letter) _ (given_last place letter text vs e)
 
-pub can_go_on : (applet : Applet) (u n t c : Bool) (values : List OptionValue) (os : List Operand) (at : ℕ) → refused_operand ((row_of applet).operands (flags_by u n t c)) os ≡ None → CanGoOn applet (flags_by u n t c) values os at
+-- where an option is lacking, it completes what was read
+pub options_follow : (applet : Applet) (u n t c : Bool) (values : List OptionValue) (os : List Operand) (at : ℕ) → lacks_option applet (given_by (flags_by u n t c) values None) ≡ true → refused_operand ((row_of applet).operands (flags_by u n t c)) os ≡ None → CanGoOn applet (flags_by u n t c) values os at
 unfolding common options_of name_of held_value
-can_go_on Verify u n t c values os at h = (codes "a" ∷ [], verify_good (flags_by u n t c) values os at h)
-can_go_on Adbdump u n t c values os at h = dump_good (flags_by u n t c) values os at h
-can_go_on Version u n true c values os at h = compared_good u n c values os at h
-can_go_on Version u n false true values os at h = (codes "1" ∷ [], λ end. judged_good Version (gone_on Version (flags_by u n false true) values os at (codes "1" ∷ [])) end (texts_taken 0 (os ++ (operand_at at (codes "1") ∷ []))) refl (rw (one_more os (operand_at at (codes "1"))) refl))
-can_go_on Version u n false false values os at h = (codes "-c" ∷ (codes "1" ∷ []), λ end. judged_good Version (gone_on Version (flags_by u n false false) values os at (codes "-c" ∷ (codes "1" ∷ []))) end (texts_taken 0 (os ++ (operand_at (at + 1) (codes "1") ∷ []))) refl (rw (one_more os (operand_at (at + 1) (codes "1"))) refl))
+options_follow Verify u n t c values os at k h = absurd (false≢true k)
+options_follow Adbdump u n t c values os at k h = absurd (false≢true k)
+options_follow Mkpkg u n t c values os at k h = absurd (false≢true k)
+options_follow Mkndx u n t c values os at k h =
+    let flags = flags_by u n t c in
+    let more : List OptionValue = values ++ (value_at (at + 1) 111 (codes "a") ∷ []) in
+    (codes "-o" ∷ (codes "a" ∷ []), subst (λ r. IsJudgedGood Mkndx (behind os r)) (sym (output_read flags values at (is_not (is_given 111 values) k))) (index_good (given_by flags more None) os h (given_last (at + 1) 111 (codes "a") values refl)))
+options_follow Version u n true c values os at k h = absurd (false≢true k)
+options_follow Version u n false true values os at k h = absurd (false≢true k)
+options_follow Version u n false false values os at k h = (codes "-c" ∷ (codes "a" ∷ []), λ end. judged_good Version (gone_on Version (flags_by u n false false) values os at (codes "-c" ∷ (codes "a" ∷ []))) end (texts_taken 0 (os ++ (operand_at (at + 1) (codes "a") ∷ []))) refl (rw (one_more os (operand_at (at + 1) (codes "a"))) refl))
 
--- the options have not ended before the applet
-pub named_open : (flags : Flags) (place : ℕ) (word : List ℕ) → IfOk (start_at flags false place word) (λ s. s.ended ≡ false)
-unfolding start_at
-named_open flags place word =
-    elim (applet_of word) as (λ o. IfOk (or_at place (λ applet. Ok (start_by flags false place applet)) o) (λ s. s.ended ≡ false)) [
-      | None ↦ tt
-      | Some applet ↦ refl
-    ]
+pub can_go_on : (applet : Applet) (flags : Flags) (values : List OptionValue) (os : List Operand) (at : ℕ) → refused_operand ((row_of applet).operands flags) os ≡ None → CanGoOn applet flags values os at
+can_go_on applet flags values os at h =
+    elim (lacks_option applet (given_by flags values None)) as (λ b. lacks_option applet (given_by flags values None) ≡ b → CanGoOn applet flags values os at) [
+      | true ↦ λ k. options_follow applet flags.allow_untrusted flags.no_scripts flags.test flags.check values os at k h
+      | false ↦ λ k. (let can = can_have_texts applet (given_by flags values None) os at k h in
+          (can.0, subst (λ r. IsJudgedGood applet (behind os r)) (sym (can.1 (options_of applet) (given_by flags values None) at refl)) can.2))
+    ] refl
 
-pub start_open : (flags : Flags) (place : ℕ) (words : List (List ℕ)) → have_no_end words ≡ true → IfOk (start_of flags place words) (λ s. s.ended ≡ false)
-start_open flags place [] n = tt
-start_open flags place (word ∷ words) n =
-    let parts = and_parts (not (is_end word)) (have_no_end words) n in
-    subst (λ b. IfOk (if b then start_behind_end flags (place + 1) words else if is_option word then or_at place (λ more. start_of more (place + 1) words) (with_option common flags word) else start_at flags false place word) (λ s. s.ended ≡ false)) (sym (is_not (is_end word) parts.0))
-    (elim (is_option word) as (λ b. IfOk (if b then or_at place (λ more. start_of more (place + 1) words) (with_option common flags word) else start_at flags false place word) (λ s. s.ended ≡ false)) [
-      | true ↦ elim (with_option common flags word) as (λ o. IfOk (or_at place (λ more. start_of more (place + 1) words) o) (λ s. s.ended ≡ false)) [
-        | None ↦ tt
-        | Some more ↦ start_open more (place + 1) words parts.1
-      ]
-      | false ↦ named_open flags place word
-    ])
-
--- what is read behind the applet where the options have not ended
-pub from_open : (start : Start) (words : List (List ℕ)) → start.ended ≡ false → reading_from start words ≡ reading_of (options_of start.applet) (given_first start.flags) (start.read + 1) (drop start.read words)
-unfolding reading_from
-from_open start words e = rw e refl
-
--- the applet and a file behind words that lack an applet
-pub named_behind : (words : List (List ℕ)) (word : List ℕ) (more : List (List ℕ)) → drop (1 + length words) (words ++ (word ∷ more)) ≡ more
-named_behind [] word more = refl
-named_behind (w ∷ words) word more = (let same : 1 + length (w ∷ words) ≡ suc (1 + length words) = omega arith in ap (λ k. drop k ((w ∷ words) ++ (word ∷ more))) same ∙ named_behind words word more)
+-- ---- words that lack a word
 
 abbrev pub CanBeCompleted : List (List ℕ) → Type 0
 CanBeCompleted words = (more : List (List ℕ)) × (command : CommandLine) × (command_of (words ++ more) ≡ Ok command)
 
--- nothing that was read offends
-pub none_refused : (rule : Option OperandRule) (low end : ℕ) (operands : List Operand) (unread : Option ℕ) → AllBetween low end operands → ((at : ℕ) → unread ≡ Some at → at < end) → option_or (refused_operand rule operands) unread ≡ Some end → ⊥
-none_refused None low end operands unread p early h = (let less : end < end = early end h in omega arith)
-none_refused (Some rule) low end operands unread p early h =
-    elim (first_refused rule 0 operands) as (λ o. first_refused rule 0 operands ≡ o → option_or o unread ≡ Some end → ⊥) [
-      | None ↦ λ f e. (let less : end < end = early end e in omega arith)
-      | Some at ↦ λ f (e : Some at ≡ Some end). (let is = refused_between rule 0 low end end operands p (f ∙ e) in omega (arith, is.1))
-    ] refl h
+-- no operand offends where words offend at their end
+pub none_refused : (rule : Option OperandRule) (low end : ℕ) (operands : List Operand) (unread : Option ℕ) → AllBetween low end operands → IsJudgedAt end (option_or (refused_operand rule operands) unread) end → refused_operand rule operands ≡ None
+none_refused None low end operands unread p j = refl
+none_refused (Some rule) low end operands unread p j =
+    elim (first_refused rule 0 operands) as (λ o. first_refused rule 0 operands ≡ o → IsJudgedAt end (option_or o unread) end → o ≡ None) [
+      | None ↦ λ f j. refl
+      | Some at ↦ λ f j. absurd (elim j as (λ _. ⊥) [
+        | inl e ↦ (let is = refused_between rule 0 low end end operands p (f ∙ e) in omega (arith, is.1))
+        | inr e ↦ none-some at (sym e.0)
+      ])
+    ] refl j
+
+-- a word that cannot be read offends before their end
+pub not_stopped : (rule : Option OperandRule) (end at : ℕ) (operands : List Operand) (unread : Option ℕ) → refused_operand rule operands ≡ None → unread ≡ Some at → at < end → IsJudgedAt end (option_or (refused_operand rule operands) unread) end → ⊥
+not_stopped rule end at operands unread r u l j =
+    elim (subst (λ o. IsJudgedAt end o end) (ap (λ o. option_or o unread) r ∙ u) j) as (λ _. ⊥) [
+      | inl e ↦ (let same : at ≡ end = same_Some at end e in omega arith)
+      | inr e ↦ none-some at (sym e.0)
+    ]
 
 pub both_none : (o unread : Option ℕ) → option_or o unread ≡ None → (o ≡ None) × (unread ≡ None)
 both_none None unread h = (refl, h)
 both_none (Some at) unread h = absurd (none-some at (sym h))
 
--- words that lack a kind or an operand
-pub completed_from : (words : List (List ℕ)) (start : Start) → have_no_end words ≡ true → start_of no_flags 1 words ≡ Ok start → judged (length words + 1) start.applet (reading_from start words) ≡ Err (length words + 1) → CanBeCompleted words
+pub completed_from : (words : List (List ℕ)) (start : Start) → is_stuck words start ≡ false → start_of no_flags 1 words ≡ Ok start → judged (length words + 1) start.applet (reading_from start words) ≡ Err (length words + 1) → CanBeCompleted words
 unfolding command_of
-completed_from words start n s h =
-    elim (judged_at start.applet reading end end (ap (judged end start.applet) (sym (from_open start words open_at)) ∙ h)) as (λ _. CanBeCompleted words) [
-      | inl first ↦ absurd (none_refused ((row_of start.applet).operands reading.given.flags) (start.read + 1) end reading.operands reading.unread (reading_placed entries given (start.read + 1) end left (omega (arith, ends))).operands (on []).early first)
-      | inr last ↦ by_good (both_none (refused_operand ((row_of start.applet).operands reading.given.flags) reading.operands) reading.unread last.0)
-    ]
+completed_from words start k s h = by_going (from_going start words low)
   where
     end : ℕ
     end = length words + 1
@@ -213,14 +254,11 @@ completed_from words start n s h =
     entries : List Entry
     entries = options_of start.applet
 
-    given : Given
-    given = given_first start.flags
-
-    left : List (List ℕ)
-    left = drop start.read words
-
     reading : Reading
-    reading = reading_of entries given (start.read + 1) left
+    reading = reading_from start words
+
+    ended : Bool
+    ended = start.ended || have_ended (options_of start.applet) None (drop start.read words)
 
     known : IsPlain start (1 + length words)
     known = start_known words start s
@@ -228,26 +266,34 @@ completed_from words start n s h =
     low : start.read ≤ length words
     low = omega (arith, known.read)
 
-    open_at : start.ended ≡ false
-    open_at = IfOk-at_ok (λ (x : Start). x.ended ≡ false) s (start_open no_flags 1 words n)
+    at_end : IsJudgedAt end (option_or (refused_operand ((row_of start.applet).operands reading.given.flags) reading.operands) reading.unread) end
+    at_end = judged_at start.applet reading end end h
 
-    ends : start.read + 1 + length left ≡ end
-    ends = omega (arith, low, length-drop start.read words)
+    taken : refused_operand ((row_of start.applet).operands reading.given.flags) reading.operands ≡ None
+    taken = none_refused ((row_of start.applet).operands reading.given.flags) (start.read + 1) end reading.operands reading.unread (from_placed start words low).operands at_end
 
-    on : (more : List (List ℕ)) → IsReadOn entries end more reading (reading_of entries given (start.read + 1) (left ++ more))
-    on more = read_on start.applet given end (start.read + 1) left more ends (none_dropped start.read words n) refl
+    free : ((ended && lacks_option start.applet reading.given) ≡ false) × (awaits_none reading.given.awaiting reading.given.values ≡ false)
+    free = or_parts (ended && lacks_option start.applet reading.given) (awaits_none reading.given.awaiting reading.given.values) k
 
-    by_good : (refused_operand ((row_of start.applet).operands reading.given.flags) reading.operands ≡ None) × (reading.unread ≡ None) → CanBeCompleted words
-    by_good both =
-        let flags = reading.given.flags in
-        let can = can_go_on start.applet flags.allow_untrusted flags.no_scripts flags.test flags.check reading.given.values reading.operands end both.0 in
-        let longer : reading_from start (words ++ can.0) ≡ gone_on start.applet flags reading.given.values reading.operands end can.0 =
-        from_open start (words ++ can.0) open_at
-        ∙ (ap (reading_of entries given (start.read + 1)) (drop_append start.read words can.0 low)
-        ∙ ((on can.0).goes_on both.1
-        ∙ ap (λ a. behind reading.operands (reading_of entries (given_by flags reading.given.values a) end can.0)) ((on can.0).awaits both.1))) in (
-          can.0,
-          command_by (length (words ++ can.0) + 1) start.applet (gone_on start.applet flags reading.given.values reading.operands end can.0),
-          ap (with_start (words ++ can.0)) (start_stays no_flags 1 words can.0 (subst (λ r. IsKnown (1 + length words) r) (sym s) tt) ∙ s)
-              ∙ (ap (judged (length (words ++ can.0) + 1) start.applet) longer ∙ can.1 (length (words ++ can.0) + 1)),
-        )
+    complete : (more : List (List ℕ)) → IsJudgedGood start.applet (reading_from start (words ++ more)) → CanBeCompleted words
+    complete more good = (
+      more,
+      command_by (length (words ++ more) + 1) start.applet (reading_from start (words ++ more)),
+      ap (with_start (words ++ more)) (start_stays no_flags 1 words more (subst (λ r. IsKnown (1 + length words) r) (sym s) tt) ∙ s) ∙ good (length (words ++ more) + 1),
+    )
+
+    by_awaiting : (awaiting : Option ValueRule) → reading.given.awaiting ≡ awaiting → ((more : List (List ℕ)) → reading_from start (words ++ more) ≡ behind reading.operands (reading_of entries reading.given end more)) → CanBeCompleted words
+    by_awaiting None a on =
+        let can = can_go_on start.applet reading.given.flags reading.given.values reading.operands end taken in
+        complete can.0 (subst (λ r. IsJudgedGood start.applet r) (sym (on can.0 ∙ ap (λ o. behind reading.operands (reading_of entries (given_by reading.given.flags reading.given.values o) end can.0)) a)) can.1)
+    by_awaiting (Some rule) a on =
+        let text = fitting rule.letter rule.single rule.kind reading.given.values (ap (λ o. awaits_none o reading.given.values) (sym a) ∙ free.1) in
+        let can = can_go_on start.applet reading.given.flags (reading.given.values ++ (value_at end rule.letter text.0 ∷ [])) reading.operands (end + 1) taken in
+        complete (text.0 ∷ can.0) (subst (λ r. IsJudgedGood start.applet r) (sym (on (text.0 ∷ can.0) ∙ ap (behind reading.operands) (value_read entries reading.given end text.0 rule can.0 a text.1))) can.1)
+
+    by_going : IsGoing entries end ended reading (λ more. reading_from start (words ++ more)) → CanBeCompleted words
+    by_going (inl stopped) = absurd (not_stopped ((row_of start.applet).operands reading.given.flags) end stopped.0 reading.operands reading.unread taken stopped.1 stopped.2 at_end)
+    by_going (inr (inl on)) = by_awaiting reading.given.awaiting refl on.goes_on
+    by_going (inr (inr off)) =
+        let can = can_have_texts start.applet reading.given reading.operands end (ap (λ b. b && lacks_option start.applet reading.given) (sym off.over) ∙ free.0) taken in
+        complete can.0 (subst (λ r. IsJudgedGood start.applet r) (sym (off.goes_on can.0)) can.2)

@@ -1,4 +1,5 @@
--- Worked words of options with values, of a made-up table: what the definitions say of them, by computation.
+-- Worked words of options with values, of a made-up table, and words that are stuck: what the definitions say of them, by
+-- computation.
 use Rattle.std.proofs.Common.{◌≡◌, ℕ, true, false, List, [], ◌∷◌, ◌++◌, Some, None, codes, refl}
 use Rattle.std.specs.List.{repeat}
 use Rattle.std.specs.Str.{chars, is_utf8}
@@ -11,9 +12,10 @@ use Rattle.words_core.specs.declared.reading.Reading.{Reading}
 use Rattle.words_core.specs.declared.value_rule.ValueKind.TheVariants.{Any, File, Nonempty, Output, Script, Uncompressed}
 use Rattle.words_core.specs.declared.value_rule.ValueRule.{ValueRule}
 use Rattle.words_core.specs.declared.values.OptionValue.{OptionValue}
-use Rattle.words_core.specs.Applets.{Entry}
 use Rattle.words_core.specs.Flags.{no_flags, with_flag}
-use Rattle.words_core.specs.Grammar.{given_by, given_first, held_value, name_of, operand_at, reading_by, reading_of, value_at}
+use Rattle.words_core.specs.Applets.{Entry, common}
+use Rattle.words_core.specs.Grammar.{given_by, given_first, held_value, name_of, operand_at, options_of, reading_by, reading_from, reading_of, start_at, start_behind_end, value_at}
+use Rattle.words_core.specs.Stuck.{are_stuck}
 use Rattle.words_core.specs.Values.{is_value}
 
 -- `-o` stands once and has any value, `-f` stands once and has a file, `-I` has texts and `-s` has scripts; `-t` and `-n`
@@ -211,3 +213,61 @@ output_of_1017 = refl
 file_of_1017 : is_value File (repeat 1017 (codes "a")) ≡ true
 unfolding is_name is_utf8 chars encode
 file_of_1017 = refl
+
+-- ---- words that are stuck
+
+-- the options have ended, and the kind is lacking
+no_kind_follows : are_stuck (codes "version" ∷ (codes "a" ∷ (codes "--" ∷ []))) ≡ true
+unfolding are_stuck reading_from start_at start_behind_end common options_of name_of held_value is_name is_utf8 chars encode
+no_kind_follows = refl
+
+no_kind_follows_early : are_stuck (codes "--" ∷ (codes "version" ∷ [])) ≡ true
+unfolding are_stuck reading_from start_at start_behind_end common options_of name_of held_value is_name is_utf8 chars encode
+no_kind_follows_early = refl
+
+kind_is_given : are_stuck (codes "version" ∷ (codes "-t" ∷ (codes "--" ∷ (codes "a" ∷ [])))) ≡ false
+unfolding are_stuck reading_from start_at start_behind_end common options_of name_of held_value is_name is_utf8 chars encode
+kind_is_given = refl
+
+kind_follows : are_stuck (codes "version" ∷ (codes "a" ∷ [])) ≡ false
+unfolding are_stuck reading_from start_at start_behind_end common options_of name_of held_value is_name is_utf8 chars encode
+kind_follows = refl
+
+no_output_follows : are_stuck (codes "mkndx" ∷ (codes "--" ∷ (codes "a" ∷ []))) ≡ true
+unfolding are_stuck reading_from start_at start_behind_end common options_of name_of held_value is_name is_utf8 chars encode
+no_output_follows = refl
+
+output_is_given : are_stuck (codes "mkndx" ∷ (codes "-oi" ∷ (codes "--" ∷ []))) ≡ false
+unfolding are_stuck reading_from start_at start_behind_end common options_of name_of held_value is_name is_utf8 chars encode
+output_is_given = refl
+
+-- `--` as a value ends nothing
+end_as_value : are_stuck (codes "mkndx" ∷ (codes "-d" ∷ (codes "--" ∷ []))) ≡ false
+unfolding are_stuck reading_from start_at start_behind_end common options_of name_of held_value is_name is_utf8 chars encode
+end_as_value = refl
+
+end_behind_value : are_stuck (codes "mkndx" ∷ (codes "-d" ∷ (codes "--" ∷ (codes "--" ∷ [])))) ≡ true
+unfolding are_stuck reading_from start_at start_behind_end common options_of name_of held_value is_name is_utf8 chars encode
+end_behind_value = refl
+
+nothing_is_lacking : are_stuck (codes "--" ∷ (codes "mkpkg" ∷ [])) ≡ false
+unfolding are_stuck reading_from start_at start_behind_end common options_of name_of held_value is_name is_utf8 chars encode
+nothing_is_lacking = refl
+
+-- a script is awaited, and there is one of each type
+no_script_follows : are_stuck (codes "mkpkg" ∷ (codes "-strigger:a" ∷ (codes "-spre-install:a" ∷ (codes "-spost-install:a" ∷ (codes "-spre-deinstall:a" ∷ (codes "-spost-deinstall:a" ∷ (codes "-spre-upgrade:a" ∷ (codes "-spost-upgrade:a" ∷ (codes "-s" ∷ []))))))))) ≡ true
+unfolding are_stuck reading_from start_at start_behind_end common options_of name_of held_value is_name is_utf8 chars encode
+no_script_follows = refl
+
+script_follows : are_stuck (codes "mkpkg" ∷ (codes "-spre-install:a" ∷ (codes "-spost-install:a" ∷ (codes "-spre-deinstall:a" ∷ (codes "-spost-deinstall:a" ∷ (codes "-spre-upgrade:a" ∷ (codes "-spost-upgrade:a" ∷ (codes "-s" ∷ [])))))))) ≡ false
+unfolding are_stuck reading_from start_at start_behind_end common options_of name_of held_value is_name is_utf8 chars encode
+script_follows = refl
+
+scripts_are_given : are_stuck (codes "mkpkg" ∷ (codes "-strigger:a" ∷ (codes "-spre-install:a" ∷ (codes "-spost-install:a" ∷ (codes "-spre-deinstall:a" ∷ (codes "-spost-deinstall:a" ∷ (codes "-spre-upgrade:a" ∷ (codes "-spost-upgrade:a" ∷ [])))))))) ≡ false
+unfolding are_stuck reading_from start_at start_behind_end common options_of name_of held_value is_name is_utf8 chars encode
+scripts_are_given = refl
+
+-- an applet can follow
+no_applet : are_stuck (codes "--" ∷ []) ≡ false
+unfolding are_stuck reading_from start_at start_behind_end common options_of name_of held_value is_name is_utf8 chars encode
+no_applet = refl

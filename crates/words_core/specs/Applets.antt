@@ -1,11 +1,12 @@
 -- The applets, after apk(8), as rows of a table: each with its word, its options and its operands.
-use Rattle.std.specs.Prelude.{ℕ, ◌||◌, ◌==◌, if◌then◌else◌, List, [], ◌∷◌, codes, Option, Some, None}
+use Rattle.std.specs.Prelude.{ℕ, true, false, ◌||◌, ◌==◌, if◌then◌else◌, List, [], ◌∷◌, codes, Option, Some, None}
 use Rattle.std.specs.List.{find}
 use Rattle.std.specs.Str.{bytes_eq}
 use Rattle.words_core.specs.declared.applet.Applet.{Applet}
-use Rattle.words_core.specs.declared.applet.Applet.TheVariants.{Adbdump, Verify, Version}
+use Rattle.words_core.specs.declared.applet.Applet.TheVariants.{Adbdump, Mkndx, Mkpkg, Verify, Version}
 use Rattle.words_core.specs.declared.entry.Meaning.{Meaning}
 use Rattle.words_core.specs.declared.entry.Meaning.TheVariants.{Flag as Plain, Kind, Value}
+use Rattle.words_core.specs.declared.value_rule.ValueKind.TheVariants.{Any as AnyText, File as FileName, Nonempty, Output, Script, Uncompressed}
 use Rattle.words_core.specs.declared.value_rule.ValueRule.{ValueRule}
 use Rattle.words_core.specs.declared.flags.Flag.TheVariants.{AllowUntrusted, NoScripts, Test, Check}
 use Rattle.words_core.specs.declared.flags.Flags.{Flags}
@@ -48,13 +49,38 @@ version_options =
     record { long = codes "--test"; short = codes "-t"; meaning = Kind Test } ∷
     (record { long = codes "--check"; short = codes "-c"; meaning = Kind Check } ∷ [])
 
+-- the letters of the options that have values are those of their short words
+abbrev pub output_rule : ValueRule
+output_rule = record { letter = 111; single = true; kind = Output }
+
+abbrev pub output_option : Entry
+output_option = record { long = codes "--output"; short = codes "-o"; meaning = Value output_rule }
+
+abbrev pub compression_option : Entry
+compression_option = record { long = codes "--compression"; short = codes "-c"; meaning = Value (record { letter = 99; single = true; kind = Uncompressed }) }
+
+abbrev pub mkpkg_options : List Entry
+mkpkg_options =
+    record { long = codes "--info"; short = codes "-I"; meaning = Value (record { letter = 73; single = false; kind = AnyText }) } ∷
+    (record { long = codes "--script"; short = codes "-s"; meaning = Value (record { letter = 115; single = false; kind = Script }) } ∷
+    (record { long = codes "--trigger"; short = codes "-t"; meaning = Value (record { letter = 116; single = false; kind = Nonempty }) } ∷
+    (record { long = codes "--files"; short = codes "-F"; meaning = Value (record { letter = 70; single = true; kind = FileName }) } ∷
+    (output_option ∷ (compression_option ∷ [])))))
+
+abbrev pub mkndx_options : List Entry
+mkndx_options =
+    record { long = codes "--description"; short = codes "-d"; meaning = Value (record { letter = 100; single = true; kind = AnyText }) } ∷
+    (output_option ∷ (compression_option ∷ []))
+
 abbrev pub row_of : Applet → Row
 row_of Verify = record { word = codes "verify"; options = []; needed = None; operands = files_from 1 None }
 row_of Version = record { word = codes "version"; options = version_options; needed = None; operands = version_operands }
 row_of Adbdump = record { word = codes "adbdump"; options = []; needed = None; operands = files_from 1 (Some 1) }
+row_of Mkpkg = record { word = codes "mkpkg"; options = mkpkg_options; needed = None; operands = files_from 0 (Some 0) }
+row_of Mkndx = record { word = codes "mkndx"; options = mkndx_options; needed = Some 111; operands = files_from 0 None }
 
 abbrev pub applets : List Applet
-applets = Verify ∷ (Version ∷ (Adbdump ∷ []))
+applets = Verify ∷ (Version ∷ (Adbdump ∷ (Mkpkg ∷ (Mkndx ∷ []))))
 
 -- the applet that a word names
 abbrev pub applet_of : List ℕ → Option Applet

@@ -2,13 +2,13 @@
 use Rattle.std.specs.Prelude.{ℕ, Bool, true, false, not, ◌&&◌, ◌||◌, ◌==◌, nat_lt, if◌then◌else◌, List, [], ◌∷◌, length, Option, Some, None, IsTrue}
 use Rattle.std.specs.List.{list_all}
 use Rattle.words_core.specs.declared.applet.Applet.{Applet}
-use Rattle.words_core.specs.declared.applet.Applet.TheVariants.{Adbdump, Verify, Version}
+use Rattle.words_core.specs.declared.applet.Applet.TheVariants.{Adbdump, Mkndx, Mkpkg, Verify, Version}
 use Rattle.words_core.specs.declared.value_rule.ValueRule.{ValueRule}
 use Rattle.words_core.specs.declared.flags.Flags.{Flags}
 use Rattle.words_core.specs.declared.operands.Operand.{Operand}
 use Rattle.words_core.specs.declared.values.OptionValue.{OptionValue}
 use Rattle.words_core.specs.Applets.{Entry, row_of, rule_of}
-use Rattle.words_core.specs.Values.{excludes, is_value}
+use Rattle.words_core.specs.Values.{excludes, is_given, is_value}
 pub use Rattle.words_core.specs.Values.{is_file, without_dot}
 
 -- an applet, the flags given, the operands, each with its place and its text as given, the values of options, and the
@@ -57,12 +57,16 @@ abbrev pub may_have : Applet → Flags → Bool
 may_have Verify flags = is_plain flags
 may_have Version flags = not (flags.test && flags.check)
 may_have Adbdump flags = is_plain flags
+may_have Mkpkg flags = is_plain flags
+may_have Mkndx flags = is_plain flags
 
 -- what holds of the flags, operands and values of every command of an applet
 abbrev pub is_sound_line : Applet → Flags → List Operand → List OptionValue → Bool
 is_sound_line Verify flags operands values = is_plain flags && nat_lt 0 (length operands) && are_files operands
 is_sound_line Version flags operands values = is_version flags operands
 is_sound_line Adbdump flags operands values = is_plain flags && (length operands == 1) && are_files operands
+is_sound_line Mkpkg flags operands values = is_plain flags && (length operands == 0)
+is_sound_line Mkndx flags operands values = is_plain flags && are_files operands && is_given 111 values
 
 abbrev pub is_sound : Applet → Flags → List Operand → List OptionValue → Bool
 is_sound applet flags operands values =

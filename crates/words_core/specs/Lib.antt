@@ -6,4 +6,5 @@ pub mod Grammar
 pub mod Taken
 pub mod Entries
 pub mod Lines
+pub mod Stuck
 pub mod Faults

@@ -7,6 +7,7 @@ ghost use Rattle.words_core.specs.Entries.{entry};
 use crate::entry::{Entry, Meaning, find_option};
 use crate::flags::{Flag, Flags};
 use crate::rule::{OperandKind, OperandRule};
+use crate::value_rule::{ValueKind, ValueRule};
 
 /// What a command does.
 #[derive(Clone, Copy, Debug, PartialEq, Eq)]
@@ -17,10 +18,20 @@ pub enum Applet {
     Version,
     /// Print a container as text.
     Adbdump,
+    /// Make a package.
+    Mkpkg,
+    /// Make an index of packages.
+    Mkndx,
 }
 
 // All applets.
-const APPLETS: [Applet; 3] = [Applet::Verify, Applet::Version, Applet::Adbdump];
+const APPLETS: [Applet; 5] = [
+    Applet::Verify,
+    Applet::Version,
+    Applet::Adbdump,
+    Applet::Mkpkg,
+    Applet::Mkndx,
+];
 
 // The options of every applet, which may also stand before it.
 static COMMON: [Entry; 2] = [
@@ -50,6 +61,85 @@ static VERSION: [Entry; 2] = [
     },
 ];
 
+// The option of `mkpkg` and `mkndx` that names what they write.
+const OUTPUT: Entry = Entry {
+    long: b"--output",
+    short: b"-o",
+    meaning: Meaning::Value(ValueRule {
+        letter: b'o',
+        single: true,
+        kind: ValueKind::Output,
+    }),
+};
+
+// The option of `mkpkg` and `mkndx` that says how what they write is compressed.
+const COMPRESSION: Entry = Entry {
+    long: b"--compression",
+    short: b"-c",
+    meaning: Meaning::Value(ValueRule {
+        letter: b'c',
+        single: true,
+        kind: ValueKind::Uncompressed,
+    }),
+};
+
+// The options of `mkpkg`.
+static MKPKG: [Entry; 6] = [
+    Entry {
+        long: b"--info",
+        short: b"-I",
+        meaning: Meaning::Value(ValueRule {
+            letter: b'I',
+            single: false,
+            kind: ValueKind::Any,
+        }),
+    },
+    Entry {
+        long: b"--script",
+        short: b"-s",
+        meaning: Meaning::Value(ValueRule {
+            letter: b's',
+            single: false,
+            kind: ValueKind::Script,
+        }),
+    },
+    Entry {
+        long: b"--trigger",
+        short: b"-t",
+        meaning: Meaning::Value(ValueRule {
+            letter: b't',
+            single: false,
+            kind: ValueKind::Nonempty,
+        }),
+    },
+    Entry {
+        long: b"--files",
+        short: b"-F",
+        meaning: Meaning::Value(ValueRule {
+            letter: b'F',
+            single: true,
+            kind: ValueKind::File,
+        }),
+    },
+    OUTPUT,
+    COMPRESSION,
+];
+
+// The options of `mkndx`.
+static MKNDX: [Entry; 3] = [
+    Entry {
+        long: b"--description",
+        short: b"-d",
+        meaning: Meaning::Value(ValueRule {
+            letter: b'd',
+            single: true,
+            kind: ValueKind::Any,
+        }),
+    },
+    OUTPUT,
+    COMPRESSION,
+];
+
 /// The option that a word spells, among those of every applet.
 #[tactic(auto, unfolding(crate::specs::Applets::common))]
 pub(crate) fn common_option(word: &[u8]) -> Option<Entry>
@@ -74,6 +164,8 @@ impl Applet {
             Applet::Verify => b"verify",
             Applet::Version => b"version",
             Applet::Adbdump => b"adbdump",
+            Applet::Mkpkg => b"mkpkg",
+            Applet::Mkndx => b"mkndx",
         }
     }
 
@@ -95,6 +187,8 @@ impl Applet {
         match self {
             Applet::Verify | Applet::Adbdump => &[],
             Applet::Version => &VERSION,
+            Applet::Mkpkg => &MKPKG,
+            Applet::Mkndx => &MKNDX,
         }
     }
 
@@ -103,7 +197,8 @@ impl Applet {
         ensures { result ≡ (row_of self).needed }
     {
         match self {
-            Applet::Verify | Applet::Version | Applet::Adbdump => None,
+            Applet::Mkndx => Some(b'o'),
+            Applet::Verify | Applet::Version | Applet::Adbdump | Applet::Mkpkg => None,
         }
     }
 
@@ -114,6 +209,8 @@ impl Applet {
         match self {
             Applet::Verify => Some(OperandRule::files(1, None)),
             Applet::Adbdump => Some(OperandRule::files(1, Some(1))),
+            Applet::Mkpkg => Some(OperandRule::files(0, Some(0))),
+            Applet::Mkndx => Some(OperandRule::files(0, None)),
             Applet::Version if flags.test => Some(OperandRule {
                 kind: OperandKind::Any,
                 least: 2,

@@ -1,9 +1,8 @@
-ghost use Rattle.std.specs.Prelude.{◌≡◌, ◌≤◌, ◌<◌, ◌+◌, ◌-◌, ◌++◌, ℕ, List, Ok, Err, IsTrue, codes, length, not, take, ◌&&◌};
-ghost use Rattle.std.specs.List.{list_any};
-ghost use Rattle.std.specs.Str.{bytes_eq};
+ghost use Rattle.std.specs.Prelude.{◌≡◌, ◌≤◌, ◌<◌, ◌+◌, ◌-◌, ◌++◌, ℕ, List, Ok, Err, IsTrue, length, not, take};
 ghost use Rattle.words_core.specs.Command.{CommandLine};
-ghost use Rattle.words_core.specs.Grammar.{command_of, is_end};
+ghost use Rattle.words_core.specs.Grammar.{command_of};
 ghost use Rattle.words_core.specs.Lines.{IsLineOf};
+ghost use Rattle.words_core.specs.Stuck.{are_stuck};
 
 /// Words of which a command is read are that command: its applet, its operands and its options, and nothing else.
 pub fn read_words_are_a_command()
@@ -25,10 +24,16 @@ pub fn words_offend_whatever_follows()
     ensures { (words more : List (List ℕ)) (place : ℕ) → command_of words ≡ Err place → place ≤ length words → command_of (words ++ more) ≡ Err place }
 {}
 
-/// The words before a usage error do not offend: they can be completed to a command, unless both `--` and `version` are
-/// among them. (Behind `--` no option can follow, so that a `version` without its kind stays without.)
+/// The words before a usage error do not offend: they can be completed to a command, unless they are stuck. They are
+/// where `--`, other than as a value, has ended their options while `version` lacks its kind or `mkndx` its `-o`, and
+/// where `mkpkg` awaits one more script and has one of each of the seven types.
 pub fn words_before_a_usage_error_can_be_completed()
-    ensures { (words : List (List ℕ)) (place : ℕ) → IsTrue (not (list_any is_end (take (place - 1) words) && list_any (λ word. bytes_eq (codes "version") word) (take (place - 1) words))) → command_of words ≡ Err place → (more : List (List ℕ)) × (command : CommandLine) × (command_of (take (place - 1) words ++ more) ≡ Ok command) }
+    ensures { (words : List (List ℕ)) (place : ℕ) → IsTrue (not (are_stuck (take (place - 1) words))) → command_of words ≡ Err place → (more : List (List ℕ)) × (command : CommandLine) × (command_of (take (place - 1) words ++ more) ≡ Ok command) }
+{}
+
+/// Stuck words are no command, whatever follows.
+pub fn stuck_words_are_no_command()
+    ensures { (words more : List (List ℕ)) → IsTrue (are_stuck words) → (place : ℕ) × (command_of (words ++ more) ≡ Err place) }
 {}
 
 /// What follows a command offends behind it: no word of a command becomes the one that offends.

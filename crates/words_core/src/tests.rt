@@ -111,6 +111,121 @@ const DUMPS: [Line; 16] = [
     Line(b"--no-scripts adbdump a --allow-untrusted", 0),
 ];
 
+// Lines of `mkpkg`.
+const PACKAGES: [Line; 78] = [
+    Line(b"mkpkg", 0),
+    Line(b"mkpkg a", 2),
+    Line(b"mkpkg ", 2),
+    Line(b"mkpkg -", 2),
+    Line(b"mkpkg --", 0),
+    Line(b"mkpkg -- -I", 3),
+    Line(b"mkpkg ---", 2),
+    Line(b"mkpkg -=", 2),
+    Line(b"mkpkg --=x", 2),
+    Line(b"mkpkg \xff", 2),
+    Line(b"mkpkg -\xff", 2),
+    Line(b"mkpkg -\0", 2),
+    Line(b"-I name:a mkpkg", 1),
+    Line(b"--info=name:a mkpkg", 1),
+    Line(b"mkpkg -I name:a -I version:1 -o a.apk", 0),
+    Line(b"mkpkg -Iname:a --info=version:1 --info origin:b", 0),
+    Line(b"mkpkg -I", 3),
+    Line(b"mkpkg --info", 3),
+    Line(b"mkpkg --info=", 0),
+    Line(b"mkpkg -I ", 0),
+    Line(b"mkpkg -I -I", 0),
+    Line(b"mkpkg -I -- -I --info=", 0),
+    Line(b"mkpkg -I -- --", 0),
+    Line(b"mkpkg -I --bad --bad", 4),
+    Line(b"mkpkg -I \0 --info=\xff -I\xff", 0),
+    Line(b"mkpkg --inf=x", 2),
+    Line(b"mkpkg --infox", 2),
+    Line(b"mkpkg -i x", 2),
+    Line(b"mkpkg --allow-untrusted=x", 2),
+    Line(b"mkpkg --no-scripts -I x --allow-untrusted", 0),
+    Line(b"mkpkg a -I", 2),
+    Line(b"mkpkg -I x a -I", 4),
+    Line(b"mkpkg -F in", 0),
+    Line(b"mkpkg -F ./in", 0),
+    Line(b"mkpkg -F .", 3),
+    Line(b"mkpkg -F ./", 3),
+    Line(b"mkpkg -F in/", 3),
+    Line(b"mkpkg -F /in", 3),
+    Line(b"mkpkg -Fin/", 2),
+    Line(b"mkpkg --files=", 2),
+    Line(b"mkpkg --files a\0", 3),
+    Line(b"mkpkg -F -- a", 4),
+    Line(b"mkpkg -F in -F in", 4),
+    Line(b"mkpkg -F in --files", 4),
+    Line(b"mkpkg -F in --files=.", 4),
+    Line(b"mkpkg -F", 3),
+    Line(b"mkpkg a -F .", 2),
+    Line(b"mkpkg -F . a", 3),
+    Line(b"mkpkg -c none", 0),
+    Line(b"mkpkg --compression=none", 0),
+    Line(b"mkpkg -c gzip", 3),
+    Line(b"mkpkg -cgzip", 2),
+    Line(b"mkpkg --compression= -c none", 2),
+    Line(b"mkpkg -c none -c gzip", 4),
+    Line(b"mkpkg -o a -c", 5),
+    Line(b"mkpkg -o -c -c none", 0),
+    Line(b"mkpkg -o /a", 3),
+    Line(b"mkpkg -o \xff", 3),
+    Line(b"mkpkg --output=a -o", 3),
+    Line(b"mkpkg -t ", 3),
+    Line(b"mkpkg --trigger=", 2),
+    Line(b"mkpkg -t", 3),
+    Line(b"mkpkg -t -t -t/ --trigger=\xff", 0),
+    Line(b"mkpkg -s trigger:a", 0),
+    Line(b"mkpkg -spre-install:a:b --script post-install:./a", 0),
+    Line(b"mkpkg -s trigger:a -s trigger:b", 5),
+    Line(b"mkpkg -s trigger:a --script=trigger:a", 4),
+    Line(b"mkpkg -s trigger:a -s", 5),
+    Line(b"mkpkg -s post:a", 3),
+    Line(b"mkpkg -s trigger", 3),
+    Line(b"mkpkg -s trigger:", 3),
+    Line(b"mkpkg -s trigger:/a", 3),
+    Line(b"mkpkg -s trigger:\0", 3),
+    Line(b"mkpkg -s :a", 3),
+    Line(b"mkpkg -s Trigger:a", 3),
+    Line(b"mkpkg -d x", 2),
+    Line(
+        b"mkpkg -s trigger:a -spre-install:a -spost-install:a -spre-deinstall:a -spost-deinstall:a -spre-upgrade:a -spost-upgrade:a",
+        0,
+    ),
+    Line(
+        b"mkpkg -s trigger:a -spre-install:a -spost-install:a -spre-deinstall:a -spost-deinstall:a -spre-upgrade:a -spost-upgrade:a -s trigger:b",
+        11,
+    ),
+];
+
+// Lines of `mkndx`.
+const INDEXES: [Line; 23] = [
+    Line(b"mkndx", 2),
+    Line(b"mkndx a", 3),
+    Line(b"mkndx -o i", 0),
+    Line(b"mkndx -o i ./a b -- -c", 0),
+    Line(b"mkndx a -oi b", 0),
+    Line(b"mkndx -o", 3),
+    Line(b"mkndx /a", 2),
+    Line(b"mkndx -o i /a", 4),
+    Line(b"mkndx -o i ", 4),
+    Line(b"mkndx /a -o .", 2),
+    Line(b"mkndx -o . /a", 3),
+    Line(b"mkndx -- -o i", 5),
+    Line(b"mkndx -d -- -o i", 0),
+    Line(b"mkndx -o i -o i", 4),
+    Line(b"mkndx -c none", 4),
+    Line(b"mkndx -c none --output=i", 0),
+    Line(b"mkndx --description= -o i", 0),
+    Line(b"mkndx -d \xff\0 -o i", 0),
+    Line(b"mkndx -d -o -o i", 0),
+    Line(b"mkndx -d x -d", 4),
+    Line(b"mkndx -d x --description=x", 4),
+    Line(b"mkndx a -o i -d", 6),
+    Line(b"mkndx -o i -I x", 4),
+];
+
 // The words of a line.
 fn words_of(alloc: Global, line: &[u8]) -> Result<Words, AllocError> {
     let mut words = Words::new(alloc);
@@ -156,6 +271,69 @@ fn versions(rt: HostRuntime) -> Result<(), Fail> {
 #[test]
 fn dumps(rt: HostRuntime) -> Result<(), Fail> {
     read_lines(&rt, rt.alloc(), &DUMPS)?;
+    Ok(())
+}
+
+#[test]
+fn packages(rt: HostRuntime) -> Result<(), Fail> {
+    read_lines(&rt, rt.alloc(), &PACKAGES)?;
+    Ok(())
+}
+
+#[test]
+fn indexes(rt: HostRuntime) -> Result<(), Fail> {
+    read_lines(&rt, rt.alloc(), &INDEXES)?;
+    Ok(())
+}
+
+// The words `mkpkg -o` and a text, which begins with some bytes and goes on with so many letters.
+fn output_of(alloc: Global, front: &[u8], letters: usize) -> Result<Words, AllocError> {
+    let mut words = words_of(alloc, b"mkpkg -o")?;
+    let mut output = Vec::from_slice(alloc, front)?;
+    for _ in 0..letters {
+        output.push(b'a')?;
+    }
+    if words.len() < 100 {
+        words.push(&output)?;
+    }
+    Ok(words)
+}
+
+#[test]
+fn outputs(rt: HostRuntime) -> Result<(), Fail> {
+    let alloc = rt.alloc();
+    assert_eq!(rt; place_of(alloc, &output_of(alloc, b"", 1016)?)?, 0);
+    assert_eq!(rt; place_of(alloc, &output_of(alloc, b"", 1017)?)?, 3);
+    assert_eq!(rt; place_of(alloc, &output_of(alloc, b"./", 1016)?)?, 0);
+    assert_eq!(rt; place_of(alloc, &output_of(alloc, b"./", 1017)?)?, 3);
+    Ok(())
+}
+
+#[test]
+fn values_of_options(rt: HostRuntime) -> Result<(), Fail> {
+    let words = words_of(
+        rt.alloc(),
+        b"mkpkg -I name:a --no-scripts --script=pre-install:./b:c -o ./-x",
+    )?;
+    let command = read_words(rt.alloc(), &words)?;
+    assert_eq!(rt; command.applet(), Applet::Mkpkg);
+    assert_eq!(rt; command.behind(), 8);
+    assert!(rt; command.flags().no_scripts);
+    assert!(rt; command.operands().is_empty());
+    let values = command.values();
+    assert!(rt; !values.is_empty());
+    assert_eq!(rt; values.len(), 3);
+    assert_eq!(rt; values.get(0).place, 3);
+    assert_eq!(rt; values.get(0).letter, b'I');
+    assert_eq!(rt; values.get(0).text.as_bytes(), b"name:a".as_slice());
+    assert_eq!(rt; values.get(1).place, 5);
+    assert_eq!(rt; values.get(1).letter, b's');
+    assert_eq!(rt; values.get(1).script_type(), b"pre-install".as_slice());
+    assert_eq!(rt; values.get(1).script_file(), b"b:c".as_slice());
+    assert_eq!(rt; values.get(2).place, 7);
+    assert_eq!(rt; values.get(2).file(), b"-x".as_slice());
+    assert_eq!(rt; values.first(b's').map(|value| value.place), Some(5));
+    assert!(rt; values.first(b'F').is_none());
     Ok(())
 }
 

@@ -1,4 +1,7 @@
 ghost use Rattle.std.specs.Prelude.{◌≡◌, ◌<◌, ◌==◌, ◌++◌, ◌∷◌, [], length, slice_get, Some, OnOk};
+ghost use Rattle.std.specs.List.{find};
+ghost use Rattle.std.specs.Option.{option_map};
+ghost use Rattle.words_core.specs.declared.values.OptionValue.{OptionValue};
 ghost use Rattle.words_core.specs.Grammar.{is_excluded, is_spent};
 ghost use Rattle.words_core.specs.Values.{is_given, script_file, script_type, without_dot};
 
@@ -116,6 +119,13 @@ impl Values {
         ensures { result ≡ (length self.now == 0) }
     {
         self.values.is_empty()
+    }
+
+    /// The first value that the option with a letter was given, if there is one.
+    pub fn first(&self, letter: u8) -> Option<&OptionValue>
+        ensures { option_map (λ value. value.now) result ≡ find (λ (v : OptionValue). v.letter == letter) self.entry.now }
+    {
+        self.values.iter().find(|value| value.letter == letter)
     }
 
     /// The value at a place in this list, counted from 0.
