@@ -1,0 +1,288 @@
+-- The folders of names that are listed below a folder, and the files in them, may stand in a package.
+use Rattle.std.proofs.Common.{◌≡◌, ◌≢◌, ◌⊎◌, inl, inr, ℕ, ◌+◌, ◌^◌, ◌<◌, Bool, true, false, cond, if◌then◌else◌, List, [], ◌∷◌, ◌++◌, length, drop, map, bytes_eq, filter, Result, Ok, Err, refl, sym, ap, subst, ◌∙◌, append_assoc, arith}
+use Rattle.std.specs.Prelude.{sum_by}
+use Rattle.std.specs.List.{flat_map}
+use Rattle.std.proofs.lemmas.Bool.{eqb-true}
+use Rattle.std.proofs.lemmas.List.{drop_at, length-append}
+use Rattle.std.proofs.lemmas.List.Concat.{flat_map-cons}
+use Rattle.std.proofs.lemmas.List.Sums.{sum_by-cons}
+use Rattle.std.proofs.lemmas.Slice.Eq.{bytes_eq-Decides}
+use Rattle.base_core.specs.Name.{is_name}
+use Rattle.adb_schema.specs.Pairs.{IsIn}
+use Rattle.adb_schema.specs.Reserved.{path_of}
+use Rattle.adb_schema.specs.Rules.{is_file_name, is_folder_name}
+use Rattle.make_core.specs.Folders.{Listed, before_slashes, below, files_in, folder_names, folder_of, folders_of, folders_over, is_slash, listed, part_of}
+use Rattle.make_core.specs.Package.{Source, SourceFolder, kind_of, installed_size, size_in, size_of}
+use Rattle.make_core.specs.Sources.{Reads, after, each_from, file_at, files_from, folder_at, folders_from, found_at}
+use Rattle.make_core.specs.declared.fault.MakeFault.{MakeFault}
+use Rattle.make_core.proofs.Apart.{AreApartFiles, IsApart, Rises, folder_names_of, in_order_in, in_order_rises, rises_apart, source_names}
+use Rattle.make_core.proofs.NameParts.{folder_good, path_good, same_part, sides}
+use Rattle.make_core.proofs.PackageFiles.{AreGoodFiles, AreGoodFolders}
+
+-- names below a folder, each a name
+abbrev pub AreListed : List ℕ → List (List ℕ) → Type 0
+AreListed dir [] = Unit {0}
+AreListed dir (name ∷ names) = ((path : List ℕ) × (name ≡ dir ++ 47 ∷ path) × (is_name name ≡ true)) × AreListed dir names
+
+-- ---- a name and its path
+
+below_is : (dir path : List ℕ) → below dir (dir ++ 47 ∷ path) ≡ path
+below_is dir path =
+    ap (drop (length dir + 1)) (sym (append_assoc dir (47 ∷ []) path)) ∙ drop_at (dir ++ 47 ∷ []) path (length dir + 1) (omega (arith, length-append dir (47 ∷ [])))
+
+record IsListed (dir name : List ℕ) : Type 0 where
+  is : name ≡ dir ++ 47 ∷ below dir name
+  named : is_name (below dir name) ≡ true
+
+listed_name : (dir name path : List ℕ) → name ≡ dir ++ 47 ∷ path → is_name name ≡ true → IsListed dir name
+listed_name dir name path is named =
+    let same : below dir name ≡ path = ap (below dir) is ∙ below_is dir path in
+    record {
+      is = is ∙ ap (λ (p : List ℕ). dir ++ 47 ∷ p) (sym same);
+      named = ap is_name same ∙ (sides dir path (ap is_name (sym is) ∙ named)).1;
+    }
+
+listed_in : (dir : List ℕ) (names : List (List ℕ)) (name : List ℕ) → AreListed dir names → IsIn name names → IsListed dir name
+listed_in dir [] name all h = absurd h
+listed_in dir (x ∷ xs) name all (inl is) = subst (IsListed dir) (sym is) (listed_name dir x all.0.0 all.0.1 all.0.2)
+listed_in dir (x ∷ xs) name all (inr h) = listed_in dir xs name all.1 h
+
+-- ---- folders
+
+in_map : (f : List ℕ → List ℕ) (q : List ℕ) (xs : List (List ℕ)) → IsIn q (map f xs) → (x : List ℕ) × IsIn x xs × (q ≡ f x)
+in_map f q [] h = absurd h
+in_map f q (x ∷ xs) (inl is) = (x, inl refl, is)
+in_map f q (x ∷ xs) (inr h) = let (y, here, is) = in_map f q xs h in (y, inr here, is)
+
+in_append : (q : List ℕ) (xs ys : List (List ℕ)) → IsIn q (xs ++ ys) → IsIn q xs ⊎ IsIn q ys
+in_append q [] ys h = inr h
+in_append q (x ∷ xs) ys (inl is) = inl (inl is)
+in_append q (x ∷ xs) ys (inr h) = shift (in_append q xs ys h)
+  where
+    shift : IsIn q xs ⊎ IsIn q ys → IsIn q (x ∷ xs) ⊎ IsIn q ys
+    shift (inl here) = inl (inr here)
+    shift (inr here) = inr here
+
+in_flat : (f : List ℕ → List (List ℕ)) (q : List ℕ) (xs : List (List ℕ)) → IsIn q (flat_map f xs) → (x : List ℕ) × IsIn x xs × IsIn q (f x)
+in_flat f q [] h = absurd h
+in_flat f q (x ∷ xs) h = by_side (in_flat f q xs) (in_append q (f x) (flat_map f xs) (subst (IsIn q) (flat_map-cons f x xs) h))
+  where
+    by_side : (IsIn q (flat_map f xs) → (y : List ℕ) × IsIn y xs × IsIn q (f y)) → IsIn q (f x) ⊎ IsIn q (flat_map f xs) → (y : List ℕ) × IsIn y (x ∷ xs) × IsIn q (f y)
+    by_side further (inl here) = (x, inl refl, here)
+    by_side further (inr there) = let (y, at, is) = further there in (y, inr at, is)
+
+abbrev IsBefore : List ℕ → List ℕ → Type 0
+IsBefore path f = (rest : List ℕ) × (path ≡ f ++ 47 ∷ rest)
+
+one_more : (b : ℕ) (bs : List ℕ) → ((f : List ℕ) → IsIn f (before_slashes bs) → IsBefore bs f) → (f : List ℕ) → IsIn f (map (λ folder. b ∷ folder) (before_slashes bs)) → IsBefore (b ∷ bs) f
+one_more b bs further f h =
+    let (x, here, is) = in_map (λ folder. b ∷ folder) f (before_slashes bs) h in
+    let (rest, e) = further x here in
+    (rest, ap (λ (xs : List ℕ). b ∷ xs) e ∙ ap (λ (xs : List ℕ). xs ++ 47 ∷ rest) (sym is))
+
+at_byte : (b : ℕ) (bs : List ℕ) (c : Bool) → is_slash b ≡ c → ((f : List ℕ) → IsIn f (before_slashes bs) → IsBefore bs f)
+    → (f : List ℕ) → IsIn f (if c then [] ∷ map (λ folder. b ∷ folder) (before_slashes bs) else map (λ folder. b ∷ folder) (before_slashes bs)) → IsBefore (b ∷ bs) f
+at_byte b bs false e further f h = one_more b bs further f h
+at_byte b bs true e further f (inl is) = (bs, ap (λ (n : ℕ). n ∷ bs) (eqb-true b 47 e) ∙ ap (λ (xs : List ℕ). xs ++ 47 ∷ bs) (sym is))
+at_byte b bs true e further f (inr h) = one_more b bs further f h
+
+before_slash : (path f : List ℕ) → IsIn f (before_slashes path) → IsBefore path f
+before_slash [] f h = absurd h
+before_slash (b ∷ bs) f h = at_byte b bs (is_slash b) refl (before_slash bs) f h
+
+over_good : (path f : List ℕ) → is_name path ≡ true → IsIn f (folders_over path) → is_folder_name f ≡ true
+over_good path f name (inl is) = ap is_folder_name is
+over_good path f name (inr h) = let (rest, e) = before_slash path f h in folder_good f rest (ap is_name (sym e) ∙ name)
+
+pub folder_named : (dir : List ℕ) (names : List (List ℕ)) (f : List ℕ) → AreListed dir names → IsIn f (folder_names (map (below dir) names)) → is_folder_name f ≡ true
+folder_named dir names f all h =
+    let (path, at, over) = in_flat folders_over f (map (below dir) names) (in_order_in f (flat_map folders_over (map (below dir) names)) h) in
+    let (name, here, is) = in_map (below dir) path names at in
+    over_good path f (ap is_name is ∙ (listed_in dir names name all here).named) over
+
+-- ---- files
+
+-- the names of a folder's files
+abbrev pub AreFileNames : List ℕ → List (List ℕ) → Type 0
+AreFileNames f [] = Unit {0}
+AreFileNames f (part ∷ parts) = (is_file_name f part ≡ true) × AreFileNames f parts
+
+abbrev stands_in : List ℕ → List ℕ → List ℕ → Bool
+stands_in dir f name = bytes_eq (folder_of (below dir name)) f
+
+part_is : (dir name : List ℕ) → IsListed dir name → part_of name ≡ part_of (below dir name)
+part_is dir name l = ap part_of l.is ∙ same_part dir (below dir name)
+
+file_named : (dir f name : List ℕ) → IsListed dir name → stands_in dir f name ≡ true → is_file_name f (part_of name) ≡ true
+file_named dir f name l here =
+    let path : List ℕ = below dir name in
+    let folder : folder_of path ≡ f = (bytes_eq-Decides (folder_of path) f).0 here in
+    let part = part_is dir name l in
+    (λ k. is_file_name (sym folder k) (part k)) ∙ (path_good path l.named).good
+
+recovered : (dir f name : List ℕ) → IsListed dir name → stands_in dir f name ≡ true → name ≡ dir ++ 47 ∷ path_of f (part_of name)
+recovered dir f name l here =
+    let path : List ℕ = below dir name in
+    let folder : folder_of path ≡ f = (bytes_eq-Decides (folder_of path) f).0 here in
+    let part = part_is dir name l in
+    let whole : path_of f (part_of name) ≡ path = (λ k. path_of (sym folder k) (part k)) ∙ (path_good path l.named).is in
+    l.is ∙ ap (λ (p : List ℕ). dir ++ 47 ∷ p) (sym whole)
+
+files_named : (dir f : List ℕ) (names : List (List ℕ)) → AreListed dir names → AreFileNames f (map part_of (files_in dir names f))
+files_named dir f [] all = tt
+files_named dir f (name ∷ names) all = by_folder (stands_in dir f name) refl (files_named dir f names all.1)
+  where
+    by_folder : (b : Bool) → stands_in dir f name ≡ b → AreFileNames f (map part_of (files_in dir names f)) → AreFileNames f (map part_of (cond b (name ∷ files_in dir names f) (files_in dir names f)))
+    by_folder true e further = (file_named dir f name (listed_name dir name all.0.0 all.0.1 all.0.2) e, further)
+    by_folder false e further = further
+
+filter_in : (p : List ℕ → Bool) (z : List ℕ) (xs : List (List ℕ)) → IsIn z (filter p xs) → IsIn z xs × (p z ≡ true)
+filter_in p z [] h = absurd h
+filter_in p z (x ∷ xs) h = by_test (p x) refl (filter_in p z xs) h
+  where
+    by_test : (b : Bool) → p x ≡ b → (IsIn z (filter p xs) → IsIn z xs × (p z ≡ true)) → IsIn z (cond b (x ∷ filter p xs) (filter p xs)) → IsIn z (x ∷ xs) × (p z ≡ true)
+    by_test true e further (inl is) = (inl is, ap p is ∙ e)
+    by_test true e further (inr h) = let both = further h in (inr both.0, both.1)
+    by_test false e further h = let both = further h in (inr both.0, both.1)
+
+other_part : (dir f name : List ℕ) (names : List (List ℕ)) → IsListed dir name → AreListed dir names → stands_in dir f name ≡ true → ((q : List ℕ) → IsIn q names → name ≢ q)
+    → (q : List ℕ) → IsIn q (map part_of (files_in dir names f)) → part_of name ≢ q
+other_part dir f name names l all here apart q h same =
+    let (z, at, is) = in_map part_of q (files_in dir names f) h in
+    let both = filter_in (stands_in dir f) z names at in
+    let one = recovered dir f name l here in
+    let two = recovered dir f z (listed_in dir names z all both.0) both.1 in
+    apart z both.0 (one ∙ (ap (λ (p : List ℕ). dir ++ 47 ∷ path_of f p) (same ∙ is) ∙ sym two))
+
+files_apart : (dir f : List ℕ) (names : List (List ℕ)) → AreListed dir names → IsApart names → IsApart (map part_of (files_in dir names f))
+files_apart dir f [] all apart = tt
+files_apart dir f (name ∷ names) all apart = by_folder (stands_in dir f name) refl (files_apart dir f names all.1 apart.1)
+  where
+    by_folder : (b : Bool) → stands_in dir f name ≡ b → IsApart (map part_of (files_in dir names f)) → IsApart (map part_of (cond b (name ∷ files_in dir names f) (files_in dir names f)))
+    by_folder true e further = (other_part dir f name names (listed_name dir name all.0.0 all.0.1 all.0.2) all.1 e apart.0, further)
+    by_folder false e further = further
+
+-- ---- what was read of them
+
+pub record IsAfter {A B : Type 0} (r : Result A MakeFault) (next : A → Result B MakeFault) (y : B) : Type 0 where
+  pub x : A
+  pub is : r ≡ Ok x
+  pub gives : next x ≡ Ok y
+
+pub after_ok : {A B : Type 0} (r : Result A MakeFault) (next : A → Result B MakeFault) (y : B) → after r next ≡ Ok y → IsAfter r next y
+after_ok (Ok x) next y e = record { x = x; is = refl; gives = e }
+after_ok (Err f) next y e = absurd (cc (e))
+
+-- one for each, in order
+abbrev pub AllOf : {X Y : Type 0} → (X → Y → Type 0) → List X → List Y → Type 0
+AllOf R [] [] = Unit {0}
+AllOf R [] (y ∷ ys) = ⊥
+AllOf R (x ∷ xs) [] = ⊥
+AllOf R (x ∷ xs) (y ∷ ys) = R x y × AllOf R xs ys
+
+each_read : {X Y : Type 0} (R : X → Y → Type 0) (count : X → ℕ) (of : ℕ → X → Result Y MakeFault) → ((n : ℕ) (x : X) (y : Y) → of n x ≡ Ok y → R x y)
+    → (n : ℕ) (xs : List X) (ys : List Y) → each_from count of n xs ≡ Ok ys → AllOf R xs ys
+each_read R count of h n [] ys e = let same : [] ≡ ys = cc (e) in subst (AllOf R []) same tt
+each_read R count of h n (x ∷ xs) ys e =
+    let one = after_ok (of n x) (λ y. after (each_from count of (n + count x) xs) (λ zs. Ok (y ∷ zs))) ys e in
+    let two = after_ok (each_from count of (n + count x) xs) (λ zs. Ok (one.x ∷ zs)) ys one.gives in
+    let gives = two.gives in
+    let same : one.x ∷ two.x ≡ ys = cc (gives) in
+    subst (AllOf R (x ∷ xs)) same (h n x one.x one.is, each_read R count of h (n + count x) xs two.x two.is)
+
+abbrev IsFileOf : List ℕ → Source → Type 0
+IsFileOf name file = file.name ≡ part_of name
+
+file_read : (place : ℕ) (read : Reads) (n : ℕ) (name : List ℕ) (file : Source) → file_at place read n name ≡ Ok file → IsFileOf name file
+file_read place read n name file e =
+    let one = after_ok (found_at place (read n name)) (λ bytes. Ok (record { name = part_of name; bytes = bytes })) file e in
+    let gives = one.gives in
+    let same : record { name = part_of name; bytes = one.x } ≡ file = cc (gives) in
+    ap (λ (f : Source). f.name) (sym same)
+
+names_read : (names : List (List ℕ)) (files : List Source) → AllOf IsFileOf names files → source_names files ≡ map part_of names
+names_read [] [] h = refl
+names_read [] (file ∷ files) h = absurd h
+names_read (name ∷ names) [] h = absurd h
+names_read (name ∷ names) (file ∷ files) h = λ k. h.0 k ∷ (names_read names files h.1) k
+
+-- a folder and its files have their names
+abbrev IsFolderOf : Listed → SourceFolder → Type 0
+IsFolderOf l s = (s.name ≡ l.name) × (source_names s.files ≡ map part_of l.files)
+
+folder_read : (place : ℕ) (read : Reads) (n : ℕ) (folder : Listed) (source : SourceFolder) → folder_at place read n folder ≡ Ok source → IsFolderOf folder source
+folder_read place read n folder source e =
+    let one = after_ok (files_from place read n folder.files) (λ files. Ok (record { name = folder.name; files = files })) source e in
+    let gives = one.gives in
+    let same : record { name = folder.name; files = one.x } ≡ source = cc (gives) in
+    let names = names_read folder.files one.x (each_read IsFileOf (λ name. 1) (file_at place read) (file_read place read) n folder.files one.x one.is) in
+    subst (IsFolderOf folder) same (refl, names)
+
+abbrev AreOf : List Listed → List SourceFolder → Type 0
+AreOf folders sources = AllOf IsFolderOf folders sources
+
+folders_read : (place : ℕ) (read : Reads) (n : ℕ) (folders : List Listed) (sources : List SourceFolder) → folders_from place read n folders ≡ Ok sources → AreOf folders sources
+folders_read place read n folders sources e =
+    each_read IsFolderOf (λ (folder : Listed). length folder.files) (folder_at place read) (folder_read place read) n folders sources e
+
+-- ---- so they may stand in a package
+
+abbrev pub AreNamedFolders : List SourceFolder → Type 0
+AreNamedFolders [] = Unit {0}
+AreNamedFolders (s ∷ ss) = (is_folder_name s.name ≡ true) × AreFileNames s.name (source_names s.files) × AreNamedFolders ss
+
+pub record AreSources (sources : List SourceFolder) : Type 0 where
+  pub named : AreNamedFolders sources
+  pub apart : IsApart (folder_names_of sources)
+  pub files_apart : AreApartFiles sources
+
+module _ (dir : List ℕ) (names : List (List ℕ)) where
+  all_named : (fs : List (List ℕ)) (sources : List SourceFolder) → AreListed dir names → ((f : List ℕ) → IsIn f fs → is_folder_name f ≡ true) → AreOf (map (listed dir names) fs) sources → AreNamedFolders sources
+  all_named [] [] all named are = tt
+  all_named [] (s ∷ ss) all named are = absurd are
+  all_named (f ∷ fs) [] all named are = absurd are
+  all_named (f ∷ fs) (s ∷ ss) all named are = (
+    ap is_folder_name are.0.0 ∙ named f (inl refl),
+    subst (λ (g : List ℕ). AreFileNames g (source_names s.files)) (sym are.0.0) (subst (AreFileNames f) (sym are.0.1) (files_named dir f names all)),
+    all_named fs ss all (λ g here. named g (inr here)) are.1,
+  )
+
+  all_apart : (fs : List (List ℕ)) (sources : List SourceFolder) → AreListed dir names → IsApart names → AreOf (map (listed dir names) fs) sources → AreApartFiles sources
+  all_apart [] [] all apart are = tt
+  all_apart [] (s ∷ ss) all apart are = absurd are
+  all_apart (f ∷ fs) [] all apart are = absurd are
+  all_apart (f ∷ fs) (s ∷ ss) all apart are = (subst IsApart (sym are.0.1) (files_apart dir f names all apart), all_apart fs ss all apart are.1)
+
+  names_are : (fs : List (List ℕ)) (sources : List SourceFolder) → AreOf (map (listed dir names) fs) sources → folder_names_of sources ≡ fs
+  names_are [] [] are = refl
+  names_are [] (s ∷ ss) are = absurd are
+  names_are (f ∷ fs) [] are = absurd are
+  names_are (f ∷ fs) (s ∷ ss) are = λ k. are.0.0 k ∷ (names_are fs ss are.1) k
+
+  pub sources_good : (place : ℕ) (read : Reads) (n : ℕ) (sources : List SourceFolder) → AreListed dir names → Rises names → folders_from place read n (folders_of dir names) ≡ Ok sources → AreSources sources
+  unfolding folders_of
+  sources_good place read n sources all rises e =
+      let fs : List (List ℕ) = folder_names (map (below dir) names) in
+      let are = folders_read place read n (map (listed dir names) fs) sources e in
+      record {
+        named = all_named fs sources all (λ f here. folder_named dir names f all here) are;
+        apart = subst IsApart (sym (names_are fs sources are)) (rises_apart fs (in_order_rises (flat_map folders_over (map (below dir) names))));
+        files_apart = all_apart fs sources all (rises_apart names rises) are;
+      }
+
+-- ---- where their sizes are small
+
+abbrev file_size : Source → ℕ
+file_size file = size_of (kind_of file.bytes)
+
+files_sized : (f : List ℕ) (files : List Source) → AreFileNames f (source_names files) → sum_by file_size files < 2 ^ 64 → AreGoodFiles f files
+files_sized f [] named small = tt
+files_sized f (file ∷ files) named small =
+    let sum = sum_by-cons file_size file files in
+    (named.0, omega arith, files_sized f files named.1 (omega arith))
+
+pub folders_sized : (sources : List SourceFolder) → AreNamedFolders sources → installed_size sources < 2 ^ 64 → AreGoodFolders sources
+folders_sized [] named small = tt
+folders_sized (s ∷ ss) named small =
+    let sum = sum_by-cons size_in s ss in
+    (named.0, files_sized s.name s.files named.1 (omega arith), folders_sized ss named.2 (omega arith))

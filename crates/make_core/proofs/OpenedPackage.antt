@@ -1,0 +1,124 @@
+-- The value of a package in which no test fails is normal, has its shape and keeps the rules.
+use Rattle.std.proofs.Common.{◌≡◌, ◌↔◌, ℕ, ◌-◌, ◌<◌, Bool, true, false, if◌then◌else◌, List, drop, Option, Some, None, Result, Ok, Err, refl, subst, length, ◌≤◌}
+use Rattle.std.specs.Prelude.{All, IfSome, is_some, unwrap_or}
+use Rattle.std.proofs.lemmas.List.Elements.{All-drop, All-take}
+use Rattle.base_core.specs.declared.cause.Cause.{Cause}
+use Rattle.base_core.specs.declared.cause.Cause.TheVariants.{BlockOrder, Truncated}
+use Rattle.adb_block.specs.Container.{Piece, comes_after}
+use Rattle.adb_block.specs.Framing.{HeadFields, Step, ended, failed, block, head_of, headed, kind_numbered, ordered, sized, step}
+use Rattle.adb_block.specs.Header.{header_of}
+use Rattle.adb_block.specs.Reading.{Reading, reading_from, reading_of, stepped}
+use Rattle.adb_block.specs.declared.block.BlockKind.{BlockKind}
+use Rattle.adb_view.specs.Head.{head_fault, root_of}
+use Rattle.adb_view.specs.Plain.{Plain, null, IsNormal, Shape, plain_of}
+use Rattle.adb_view.specs.Visits.{visits}
+use Rattle.adb_view.specs.Shaped.{HasShape}
+use Rattle.adb_schema.specs.Schema.{shape_of}
+use Rattle.adb_schema.specs.Views.{value_at}
+use Rattle.adb_schema.specs.Walk.{LIMIT, or_else, shape_fault}
+use Rattle.adb_schema.specs.Texts.{text_fault}
+use Rattle.adb_schema.specs.Soundness.{blocks_fault, file_fault, first_payload, payload_behind, payload_fault, payload_in, root_value, schema_fault}
+use Rattle.adb_schema.specs.declared.schema.Which.TheVariants.{Package}
+use Rattle.adb_schema.specs.declared.schema.Kind.TheVariants.{Obj}
+use Rattle.pkg_core.specs.Whole.{behind_fault, package_fault, package_of, whole_fault}
+use Rattle.make_core.proofs.FoundShapes.{found_shaped}
+
+-- what the layers below say of values that are found
+pub record Values : Type 0 where
+  pub normal : (payload : List ℕ) → All (λ b. b < 256) payload → (shape : Shape) (word : ℕ) → IfSome (plain_of payload shape word) IsNormal
+  pub faultless : (payload : List ℕ) (shape : Shape) (word : ℕ) → (shape_fault payload shape word ≡ None) ↔ ((is_some (plain_of payload shape word) ≡ true) × (length (visits payload shape word) ≤ LIMIT))
+
+abbrev AreBytes : List ℕ → Type 0
+AreBytes bytes = All (λ b. b < 256) bytes
+
+pub front_none : (o u : Option Cause) → or_else o u ≡ None → o ≡ None
+front_none None u h = refl
+front_none (Some c) u h = h
+
+pub back_none : (o u : Option Cause) → or_else o u ≡ None → u ≡ None
+back_none None u h = h
+back_none (Some c) u h = (cc)
+
+-- ---- the first block holds bytes of the file
+
+unfoldable IsFirst : Step → Type 0
+IsFirst ended = ⊥
+IsFirst (failed c) = Unit {0}
+IsFirst (block b size) = AreBytes b.payload
+
+failed_first : (c : Cause) → IsFirst (failed c)
+unfolding IsFirst
+failed_first c = tt
+
+block_first : (b : Piece) (size : ℕ) → AreBytes b.payload → IsFirst (block b size)
+unfolding IsFirst
+block_first b size h = h
+
+either : (b : Bool) (x y : Step) → IsFirst x → IsFirst y → IsFirst (if b then x else y)
+either true x y a c = a
+either false x y a c = c
+
+sized_first : (at : ℕ) (bytes : List ℕ) (head : HeadFields) (kind : BlockKind) → AreBytes bytes → IsFirst (sized at bytes head kind)
+sized_first at bytes head kind h =
+    either _ _ _ (failed_first (Truncated at)) (either _ _ _ (failed_first (Truncated at))
+    (block_first _ _ (All-take (λ b. b < 256) (head.raw - head.len) (drop head.len bytes) (All-drop (λ b. b < 256) head.len bytes h))))
+
+ordered_first : (at : ℕ) (bytes : List ℕ) (head : HeadFields) (kind : Option BlockKind) → AreBytes bytes → IsFirst (ordered None at bytes head kind)
+ordered_first at bytes head None h = failed_first (BlockOrder at)
+ordered_first at bytes head (Some kind) h = either (comes_after None kind) _ _ (sized_first at bytes head kind h) (failed_first (BlockOrder at))
+
+headed_first : (at : ℕ) (bytes : List ℕ) (head : Option HeadFields) → AreBytes bytes → IsFirst (headed None at bytes head)
+headed_first at bytes None h = failed_first (Truncated at)
+headed_first at bytes (Some head) h = ordered_first at bytes head (kind_numbered head.kind) h
+
+step_first : (at : ℕ) (bytes : List ℕ) → AreBytes bytes → IsFirst (step None at bytes)
+unfolding step
+step_first at bytes h = either _ _ _ (failed_first (Truncated at)) (headed_first at bytes (head_of bytes) h)
+
+-- ---- so its payload is good
+
+abbrev IsPayload : List ℕ → Type 0
+IsPayload payload = AreBytes payload × (payload_fault Package payload ≡ None)
+
+first_passed : (at : ℕ) (further : Piece → ℕ → Reading) (s : Step) → IsFirst s → blocks_fault (behind_fault Package) Package (stepped at further s) ≡ None → IsPayload (first_payload (stepped at further s))
+unfolding IsFirst
+first_passed at further ended f h = absurd f
+first_passed at further (failed c) f h = absurd cc
+first_passed at further (block b size) f h = (f, front_none (payload_fault Package b.payload) _ h)
+
+header_passed : (file : List ℕ) (h : Result ℕ Cause) → AreBytes file → file_fault (behind_fault Package) Package file h ≡ None → IsPayload (payload_behind file h)
+unfolding reading_of reading_from
+header_passed file (Ok schema) bytes e =
+    first_passed 8 _ (step None 8 (drop 8 file)) (step_first 8 (drop 8 file) (All-drop (λ b. b < 256) 8 file bytes)) (back_none (schema_fault Package schema) _ e)
+header_passed file (Err c) bytes e = absurd cc
+
+passed : (file : List ℕ) → AreBytes file → package_fault file ≡ None → IsPayload (payload_in file)
+unfolding whole_fault payload_in
+passed file bytes e = header_passed file (header_of file) bytes e
+
+-- ---- and its value
+
+pub record IsOpened (v : Plain) : Type 0 where
+  pub normal : IsNormal v
+  pub shaped : HasShape (shape_of (Obj Package)) v
+  pub kept : text_fault Package v ≡ None
+
+some_is : (o : Option Plain) → is_some o ≡ true → o ≡ Some (unwrap_or o null)
+some_is (Some v) e = refl
+some_is None e = absurd cc
+
+value_opened : Values → (payload : List ℕ) → IsPayload payload → IsOpened (root_value Package payload)
+unfolding value_at
+value_opened laws payload p =
+    let shape = back_none (head_fault payload) _ p.1 in
+    let texts = back_none (shape_fault payload (shape_of (Obj Package)) (root_of payload)) _ shape in
+    let found = (laws.faultless payload (shape_of (Obj Package)) (root_of payload)).0 (front_none _ _ shape) in
+    let is = some_is (plain_of payload (shape_of (Obj Package)) (root_of payload)) found.0 in
+    record {
+      normal = subst (λ (o : Option Plain). IfSome o IsNormal) is (laws.normal payload p.0 (shape_of (Obj Package)) (root_of payload));
+      shaped = found_shaped payload (shape_of (Obj Package)) (root_of payload) _ is;
+      kept = front_none _ _ texts;
+    }
+
+pub opened : Values → (file : List ℕ) → AreBytes file → package_fault file ≡ None → IsOpened (package_of file).value
+opened laws file bytes e = value_opened laws (payload_in file) (passed file bytes e)

@@ -1,0 +1,46 @@
+-- A good value of which a payload was written may stand at the root of a container.
+use Rattle.std.proofs.Common.{◌≡◌, ℕ, ◌||◌, Bool, true, false, List, Option, Some, None, Ok, refl, ap, sym, ◌∙◌}
+use Rattle.std.specs.Prelude.{is_some}
+use Rattle.std.proofs.lemmas.Bool.{ltb-false}
+use Rattle.adb_view.specs.Plain.{IsNormal, Plain}
+use Rattle.adb_schema.specs.Schema.{shape_of}
+use Rattle.adb_schema.specs.Texts.{at_root}
+use Rattle.adb_schema.specs.Repeated.{repeated_fault}
+use Rattle.adb_schema.specs.declared.schema.Which.{Which}
+use Rattle.adb_schema.specs.declared.schema.Kind.TheVariants.{Obj}
+use Rattle.adb_write.specs.Canonical.{Counts, canonical, or_overflow, overflow_of, passes, size_of, value_count, written_of, MOST_BYTES, MOST_VALUES}
+use Rattle.make_core.specs.Sound.{IsRootOf}
+use Rattle.make_core.proofs.GoodValues.{IsGood}
+
+pub record IsWritten (v : Plain) (payload : List ℕ) : Type 0 where
+  pub none : overflow_of v ≡ None
+  pub is : canonical v ≡ payload
+
+written_by : (v : Plain) (payload : List ℕ) (o : Option Counts) → overflow_of v ≡ o → or_overflow (canonical v) o ≡ Ok payload → IsWritten v payload
+written_by v payload None e h = record { none = e; is = cc (h) }
+written_by v payload (Some c) e h = absurd (cc (h))
+
+pub written : (v : Plain) (payload : List ℕ) → written_of v ≡ Ok payload → IsWritten v payload
+unfolding written_of
+written v payload h = written_by v payload (overflow_of v) refl h
+
+both_false : (a b : Bool) → (a || b) ≡ false → (a ≡ false) × (b ≡ false)
+both_false false b e = (refl, e)
+both_false true b e = (cc)
+
+-- a normal value overflows exactly past a limit
+abbrev pub Exact : Type 0
+Exact = (v : Plain) → IsNormal v → is_some (overflow_of v) ≡ passes (size_of v, value_count v)
+
+pub root_good : Exact → (which : Which) (v : Plain) (payload : List ℕ) → IsGood (shape_of (Obj which)) 0 (at_root which) v → repeated_fault which v ≡ None → IsWritten v payload → IsRootOf which v
+root_good exact which v payload g once w =
+    let within : passes (size_of v, value_count v) ≡ false = sym (exact v g.normal) ∙ ap is_some w.none in
+    let limits = both_false _ _ within in
+    record {
+      normal = g.normal;
+      shaped = g.shaped;
+      fits = ltb-false MOST_BYTES (size_of v) limits.0;
+      few = ltb-false MOST_VALUES (value_count v) limits.1;
+      texts = g.kept;
+      once = once;
+    }

@@ -1,0 +1,134 @@
+-- A package that is made is sound.
+use Rattle.std.proofs.Common.{◌≡◌, inl, inr, ℕ, ◌^◌, ◌<◌, List, [], ◌∷◌, length, Option, Some, None, Result, Ok, Err, refl, ap, sym, subst, ◌∙◌, arith}
+use Rattle.std.specs.Prelude.{All}
+use Rattle.std.proofs.lemmas.List.Elements.{All-cons, All-head, All-nil, All-tail}
+use Rattle.base_core.specs.Files.{IsFolderOf}
+use Rattle.base_core.specs.Listed.{IsListOf}
+use Rattle.base_core.specs.Name.{IsName}
+use Rattle.base_core.specs.Tree.{TreeState, files_of}
+use Rattle.adb_schema.specs.Pairs.{IsIn}
+use Rattle.adb_view.specs.Plain.{Plain}
+use Rattle.adb_schema.specs.declared.read.TheConstants.{PACKAGE_WORD}
+use Rattle.adb_schema.specs.declared.schema.Which.TheVariants.{Package}
+use Rattle.adb_write.specs.Canonical.{Counts, canonical, overflow_of}
+use Rattle.pkg_core.specs.Contents.{AreContentsOf, Contents, expected_contents}
+use Rattle.pkg_core.specs.Whole.{container_fault}
+use Rattle.words_core.specs.Command.{CommandLine}
+use Rattle.words_core.specs.Values.{without_dot}
+use Rattle.words_core.specs.declared.values.OptionValue.{OptionValue}
+use Rattle.make_core.specs.Information.{Item, info_value, information, replaces_priority}
+use Rattle.make_core.specs.Laid.{laid}
+use Rattle.make_core.specs.Making.{AreBelow, IsMadeIn, file_unless, made_package, or_info_bad, package_file, package_of}
+use Rattle.make_core.specs.Package.{Script, SourceFolder, contents_of, installed_size, package_value}
+use Rattle.make_core.specs.Sound.{AreNamesFor, IsNameBelow, IsRootOf, AreNamesBelow, AreTreeNames}
+use Rattle.make_core.specs.Sources.{Reads, after, folders_below, given, scripts_from, texts}
+use Rattle.make_core.proofs.Apart.{Tells, at_index, package_once, rises_from_pairs}
+use Rattle.make_core.proofs.InformationGood.{IsInformation, Needs, info_good, information_good, priority_good}
+use Rattle.make_core.proofs.ListedNames.{AreListed, AreSources, after_ok, folders_sized, sources_good}
+use Rattle.make_core.proofs.PackageContents.{installed_total, package_contents}
+use Rattle.make_core.proofs.LaidSizes.{laid_total}
+use Rattle.make_core.proofs.PackageFiles.{package_value_good}
+use Rattle.make_core.proofs.Roots.{root_good, Exact}
+
+-- a package of a good value and its contents is sound
+abbrev pub Sound : Type 0
+Sound = (v : Plain) (contents : List Contents) → IsRootOf Package v → AreContentsOf (expected_contents v) contents → length (laid PACKAGE_WORD v contents) < 2 ^ 64 → container_fault (laid PACKAGE_WORD v contents) ≡ None
+
+-- ---- of its parts
+
+value_sound : Sound → Exact → Needs → Tells → (items : List Item) (sources : List SourceFolder) (scripts : List Script) (triggers : List (List ℕ)) → IsInformation items → AreSources sources
+    → (v : Plain) → v ≡ package_value (info_value items (installed_size sources)) sources scripts triggers (replaces_priority items)
+    → overflow_of v ≡ None → length (laid PACKAGE_WORD v (contents_of 1 sources)) < 2 ^ 64 → container_fault (laid PACKAGE_WORD v (contents_of 1 sources)) ≡ None
+value_sound sound exact needs tells items sources scripts triggers about are v is fits short =
+    let contents : List Contents = contents_of 1 sources in
+    let bound = laid_total PACKAGE_WORD v contents short in
+    let sum = installed_total 1 sources in
+    let small : installed_size sources < 2 ^ 64 = omega arith in
+    let info : Plain = info_value items (installed_size sources) in
+    let priority : Option ℕ = replaces_priority items in
+    let good = package_value_good info sources scripts triggers priority (info_good needs items about (installed_size sources) small) (folders_sized sources are.named small) (priority_good needs items about) in
+    let once = package_once info sources scripts triggers priority tells are.apart are.files_apart in
+    let made : Plain = package_value info sources scripts triggers priority in
+    let root = root_good exact Package made (canonical made) good once (record { none = ap overflow_of (sym is) ∙ fits; is = refl }) in
+    let whole = sound made contents root (package_contents info sources scripts triggers priority) (subst (λ (u : Plain). length (laid PACKAGE_WORD u contents) < 2 ^ 64) is short) in
+    ap (λ (u : Plain). container_fault (laid PACKAGE_WORD u contents)) is ∙ whole
+
+file_sound : (v : Plain) (contents : List Contents) (o : Option Counts) (bytes : List ℕ) → overflow_of v ≡ o → length bytes < 2 ^ 64
+    → (overflow_of v ≡ None → length (laid PACKAGE_WORD v contents) < 2 ^ 64 → container_fault (laid PACKAGE_WORD v contents) ≡ None) → file_unless o v contents ≡ Ok bytes → container_fault bytes ≡ None
+file_sound v contents (Some counts) bytes is short sound e = absurd (cc (e))
+file_sound v contents None bytes is short sound e =
+    let same : laid PACKAGE_WORD v contents ≡ bytes = cc (e) in
+    ap container_fault (sym same) ∙ sound is (subst (λ (b : List ℕ). length b < 2 ^ 64) (sym same) short)
+
+package_sound : Sound → Exact → Needs → Tells → (command : CommandLine) (scripts : List Script) (items : List Item) (sources : List SourceFolder) (bytes : List ℕ) → IsInformation items → AreSources sources
+    → length bytes < 2 ^ 64 → package_of command scripts items sources ≡ Ok bytes → container_fault bytes ≡ None
+unfolding package_file
+package_sound sound exact needs tells command scripts items sources bytes about are short e =
+    let triggers : List (List ℕ) = texts (given 116 command.values) in
+    let v : Plain = package_value (info_value items (installed_size sources)) sources scripts triggers (replaces_priority items) in
+    file_sound v (contents_of 1 sources) (overflow_of v) bytes refl short (value_sound sound exact needs tells items sources scripts triggers about are v refl) e
+
+-- ---- of a command
+
+are_listed : (folder : List ℕ) (names : List (List ℕ)) → All (IsNameBelow folder) names → AreListed folder names
+are_listed folder [] all = tt
+are_listed folder (name ∷ names) all =
+    let first = All-head (IsNameBelow folder) name names all in
+    ((first.below.0, first.below.1, first.named), are_listed folder names (All-tail (IsNameBelow folder) name names all))
+
+sources_are : (read : Reads) (n : ℕ) (values : List OptionValue) (names : List (List ℕ)) (sources : List SourceFolder) → AreNamesFor values names → folders_below read n values names ≡ Ok sources → AreSources sources
+sources_are read n [] names sources below e =
+    let same : [] ≡ sources = cc (e) in
+    subst AreSources same (record { named = tt; apart = tt; files_apart = tt })
+sources_are read n (v ∷ vs) names sources below e =
+    sources_good (without_dot v.text) names v.place read n sources (are_listed (without_dot v.text) names below.each) (rises_from_pairs names below.rising) e
+
+info_ok : (r : Result (List Item) ℕ) (items : List Item) → or_info_bad r ≡ Ok items → r ≡ Ok items
+info_ok (Ok x) items e = let same : x ≡ items = cc (e) in ap Ok same
+info_ok (Err place) items e = absurd (cc (e))
+
+pub made_sound : Sound → Exact → Needs → Tells → (command : CommandLine) (names : List (List ℕ)) (read : Reads) (bytes : List ℕ) → AreNamesFor (given 70 command.values) names
+    → made_package command names read ≡ Ok bytes → length bytes < 2 ^ 64 → container_fault bytes ≡ None
+unfolding made_package
+made_sound sound exact needs tells command names read bytes below e short =
+    let one = after_ok (scripts_from read 0 (given 115 command.values)) (λ scripts.
+    after (or_info_bad (information command)) (λ about.
+    after (folders_below read (length scripts) (given 70 command.values) names) (package_of command scripts about))) bytes e in
+    let two = after_ok (or_info_bad (information command)) (λ about.
+    after (folders_below read (length one.x) (given 70 command.values) names) (package_of command one.x about)) bytes one.gives in
+    let three = after_ok (folders_below read (length one.x) (given 70 command.values) names) (package_of command one.x two.x) bytes two.gives in
+    package_sound sound exact needs tells command one.x two.x three.x bytes
+    (information_good command.values command.behind two.x (info_ok (information command) two.x two.is))
+    (sources_are read (length one.x) (given 70 command.values) names three.x below three.is) short three.gives
+
+-- ---- of a tree's listing
+
+each_below : (folder : List ℕ) (names : List (List ℕ)) → All IsName names → ((q : List ℕ) → IsIn q names → IsFolderOf folder q) → All (IsNameBelow folder) names
+each_below folder [] named below = All-nil (IsNameBelow folder)
+each_below folder (name ∷ names) named below =
+    All-cons (IsNameBelow folder) name names (record { named = All-head IsName name names named; below = below name (inl refl) })
+    (each_below folder names (All-tail IsName name names named) (λ q here. below q (inr here)))
+
+pub names_below : (folder : List ℕ) (v : TreeState) (names : List (List ℕ)) → IsListOf folder v names → All IsName names → AreNamesBelow folder names
+names_below folder v names listed named = record {
+  rising = listed.rising;
+  each = each_below folder names named (λ q here. ((listed.each q).0 (at_index q names here)).1);
+}
+
+all_named : (names : List (List ℕ)) → ((q : List ℕ) → IsIn q names → IsName q) → All IsName names
+all_named [] each = All-nil IsName
+all_named (name ∷ names) each = All-cons IsName name names (each name (inl refl)) (all_named names (λ q here. each q (inr here)))
+
+names_for : (values : List OptionValue) (v : TreeState) (names : List (List ℕ)) → AreTreeNames v → AreBelow values v names → AreNamesFor values names
+names_for [] v names named below = tt
+names_for (dir ∷ dirs) v names named below =
+    names_below (without_dot dir.text) v names below (all_named names (λ q here. named q ((below.each q).0 (at_index q names here)).0))
+
+-- a package that is made of names and reads is sound
+abbrev pub MadeSound : Type 0
+MadeSound = (command : CommandLine) (names : List (List ℕ)) (read : Reads) (bytes : List ℕ) → AreNamesFor (given 70 command.values) names
+    → made_package command names read ≡ Ok bytes → length bytes < 2 ^ 64 → container_fault bytes ≡ None
+
+pub sound_in_tree : MadeSound → (command : CommandLine) (v : TreeState) (bytes : List ℕ) → AreTreeNames v → IsMadeIn command v (Ok bytes) → length bytes < 2 ^ 64 → container_fault bytes ≡ None
+sound_in_tree sound command v bytes named made short =
+    sound command made.names (λ n name. files_of v name) bytes (names_for (given 70 command.values) v made.names named made.below) made.is short

@@ -1,0 +1,17 @@
+use Rattle.make_core.specs.Sources.{given}
+use Rattle.make_core.proofs.MadeParts.{first_is, first_none, folder_allowed}
+use Rattle.make_core.proofs.MadeRuns.{listed_for, nothing_below}
+use Rattle.make_core.proofs.listing.list_names.Goals as goal
+
+pub list_below-requires : goal.list_below-requires
+list_below-requires g c =
+    let first = first_is (given 70 c.args.values.now) c.folder_given.result c.in-Some.value c.folder_given.ensures c.in-Some.is in
+    folder_allowed c.args.values.now c.in-Some.value.now first.0 c.requires first.1
+
+pub returns-in-Some-clause-names : goal.returns-in-Some-clause-names
+returns-in-Some-clause-names g c =
+    let first = first_is (given 70 c.args.values.now) c.folder_given.result c.in-Some.value c.folder_given.ensures c.in-Some.is in
+    listed_for _ (given 70 c.args.values.now) c.in-Some.value.now first.0 c.list_below.result first.1 c.list_below.ensures.names
+
+pub returns-in-None-clause-names : goal.returns-in-None-clause-names
+returns-in-None-clause-names g c = nothing_below _ (given 70 c.args.values.now) _ (first_none (given 70 c.args.values.now) c.folder_given.result c.folder_given.ensures c.in-None.is)

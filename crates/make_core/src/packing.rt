@@ -1,0 +1,172 @@
+//! Reads the files of a package, each once, and packs them: what they are, and their contents.
+ghost use Rattle.std.specs.Prelude.{◌≡◌, [], ◌∷◌, ◌++◌, ◌<◌, ◌^◌, ℕ, length, map, OnOk};
+ghost use Rattle.make_core.specs.Blocks.{blocks_of};
+ghost use Rattle.make_core.specs.Package.{kind_of, contents_at};
+ghost use Rattle.make_core.specs.FolderPlaces.{listed_as};
+ghost use Rattle.make_core.specs.Folders.{folders_of};
+ghost use Rattle.make_core.specs.Packed.{IsPackedFile, ArePackedFiles, IsPackedFolder, IsPacking};
+ghost use Rattle.make_core.specs.Runs.{OnlyReads, Explains, IsAnswer};
+ghost use Rattle.make_core.specs.Sources.{found_at, file_at, files_from, folder_at, folders_from};
+
+use crate::blocks::append_block;
+use crate::fault::MakeFault;
+use crate::file::{File, FileKind, Folder, Packing};
+use crate::folders::{FolderNames, files_in, folder_names, part_of};
+use base_core::{Name, Names, Tree, read_all};
+use std::alloc::{AllocError, Global};
+
+/// Packs the files of these names, which the word at a place lists below a folder of the tree: folder by folder.
+pub(crate) fn pack_names<'a, T: Tree>(
+    alloc: Global,
+    tree: &mut T,
+    place: u32,
+    dir: &[u8],
+    names: &'a Names,
+) -> Result<Packing<'a>, MakeFault>
+    ensures tree { OnlyReads (T.history tree.old) (T.history tree.new) (T.counts tree.old) (T.counts tree.new) result }
+    ensures read { (n : ℕ) → Explains (T.history tree.old) (λ read. IsAnswer IsPacking result (folders_from place read n (folders_of dir.now names.now))) }
+{
+    let folders = folder_names(alloc, dir, names)?;
+    let files = files_in(alloc, dir, names, &folders)?;
+    let packing = pack_folders(alloc, tree, place, &folders, &files)?;
+    Ok(packing)
+}
+
+/// Packs the files of these folders, of each of which the names of its files are given. The word at a place lists them.
+fn pack_folders<'a, T: Tree>(
+    alloc: Global,
+    tree: &mut T,
+    place: u32,
+    folders: &FolderNames<'a>,
+    files: &[Vec<&'a Name>],
+) -> Result<Packing<'a>, MakeFault>
+    requires { length files.now ≡ length folders.now }
+    ensures tree { OnlyReads (T.history tree.old) (T.history tree.new) (T.counts tree.old) (T.counts tree.new) result }
+    ensures read { (n : ℕ) → Explains (T.history tree.old) (λ read. IsAnswer IsPacking result (folders_from place read n (listed_as folders.now files.now))) }
+{
+    let mut packed = Vec::new(alloc);
+    let mut blocks = Vec::new(alloc);
+    for i in 0..folders.len() {
+        let name = folders.get(i);
+        let folder = pack_folder(
+            alloc,
+            tree,
+            place,
+            i as u64 + 1,
+            name,
+            &files[i],
+            &mut blocks,
+        )?;
+        push_folder(&mut packed, folder)?;
+    }
+    Ok(Packing {
+        folders: packed,
+        blocks,
+    })
+}
+
+/// Adds a folder at the end.
+fn push_folder<'a>(folders: &mut Vec<Folder<'a>>, folder: Folder<'a>) -> Result<(), AllocError>
+    ensures { OnOk result (folders.new.items ≡ folders.old.items ++ folder.entry ∷ []) }
+{
+    folders.push(folder)?;
+    Ok(())
+}
+
+/// Packs the folder at a position, with the files of these names.
+fn pack_folder<'a, T: Tree>(
+    alloc: Global,
+    tree: &mut T,
+    place: u32,
+    position: u64,
+    name: &'a [u8],
+    names: &[&'a Name],
+    blocks: &mut Vec<u8>,
+) -> Result<Folder<'a>, MakeFault>
+    ensures tree { OnlyReads (T.history tree.old) (T.history tree.new) (T.counts tree.old) (T.counts tree.new) result }
+    ensures read { (n : ℕ) → Explains (T.history tree.old) (λ read. IsAnswer (IsPackedFolder position blocks.old.items blocks.new.items) result (folder_at place read n (record { name = name.now; files = map (λ name. name.now) names.now }))) }
+{
+    let files = pack_files(alloc, tree, place, position, names, blocks)?;
+    Ok(Folder { name, files })
+}
+
+/// Packs the files of these names, which stand in the folder at a position: their contents are appended to the blocks.
+fn pack_files<'a, T: Tree>(
+    alloc: Global,
+    tree: &mut T,
+    place: u32,
+    folder: u64,
+    names: &[&'a Name],
+    blocks: &mut Vec<u8>,
+) -> Result<Vec<File<'a>>, MakeFault>
+    ensures tree { OnlyReads (T.history tree.old) (T.history tree.new) (T.counts tree.old) (T.counts tree.new) result }
+    ensures read { (n : ℕ) → Explains (T.history tree.old) (λ read. IsAnswer (ArePackedFiles folder blocks.old.items blocks.new.items) result (files_from place read n (map (λ name. name.now) names.now))) }
+{
+    let mut files = Vec::new(alloc);
+    for i in 0..names.len() {
+        let file = pack_file(alloc, tree, place, (folder, i as u64 + 1), names[i], blocks)?;
+        push_file(&mut files, file)?;
+    }
+    Ok(files)
+}
+
+/// Adds a file at the end.
+fn push_file<'a>(files: &mut Vec<File<'a>>, file: File<'a>) -> Result<(), AllocError>
+    ensures { OnOk result (files.new.items ≡ files.old.items ++ file.entry ∷ []) }
+{
+    files.push(file)?;
+    Ok(())
+}
+
+/// Packs the file of a name, which has these positions: of its folder, and of itself in it.
+fn pack_file<'a, T: Tree>(
+    alloc: Global,
+    tree: &mut T,
+    place: u32,
+    position: (u64, u64),
+    name: &'a Name,
+    blocks: &mut Vec<u8>,
+) -> Result<File<'a>, MakeFault>
+    ensures tree { OnlyReads (T.history tree.old) (T.history tree.new) (T.counts tree.old) (T.counts tree.new) result }
+    ensures read { (n : ℕ) → Explains (T.history tree.old) (λ read. IsAnswer (IsPackedFile position.0 position.1 blocks.old.items blocks.new.items) result (file_at place read n name.now)) }
+{
+    let bytes = read_file(alloc, tree, place, name)?;
+    let kind = FileKind::of(alloc, &bytes)?;
+    append_contents(blocks, position, &kind, &bytes)?;
+    let name = part_of(name.as_bytes());
+    Ok(File { name, kind })
+}
+
+/// Appends the contents of a file, if it has some.
+fn append_contents(
+    blocks: &mut Vec<u8>,
+    position: (u64, u64),
+    kind: &FileKind,
+    bytes: &[u8],
+) -> Result<(), AllocError>
+    requires kind { kind.now ≡ kind_of bytes.now }
+    requires short { length bytes.now < 2 ^ 63 }
+    ensures { OnOk result (blocks.new.items ≡ blocks.old.items ++ blocks_of (contents_at position.0 position.1 bytes.now)) }
+{
+    if !kind.has_contents() {
+        return Ok(());
+    }
+    append_block(blocks, position.0, position.1, bytes)?;
+    Ok(())
+}
+
+/// Reads the file under a name, which the word at a place gives or lists.
+pub(crate) fn read_file<T: Tree>(
+    alloc: Global,
+    tree: &mut T,
+    place: u32,
+    name: &Name,
+) -> Result<Vec<u8>, MakeFault>
+    ensures tree { OnlyReads (T.history tree.old) (T.history tree.new) (T.counts tree.old) (T.counts tree.new) result }
+    ensures read { (n : ℕ) → Explains (T.history tree.old) (λ read. IsAnswer (λ bytes found. found ≡ bytes.items) result (found_at place (read n name.now))) }
+{
+    match read_all(alloc, tree, name)? {
+        Some(bytes) => Ok(bytes),
+        None => Err(MakeFault::FileMissing { place }),
+    }
+}
