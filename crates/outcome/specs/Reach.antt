@@ -2,19 +2,23 @@
 use Rattle.std.specs.Prelude.{ℕ, Bool, true, false, Result, Ok, Err}
 use Rattle.words_core.specs.Command.{CommandLine}
 use Rattle.words_core.specs.declared.applet.Applet.{Applet}
-use Rattle.words_core.specs.declared.applet.Applet.TheVariants.{Adbdump, Verify, Version}
+use Rattle.words_core.specs.declared.applet.Applet.TheVariants.{Adbdump, Mkndx, Mkpkg, Verify, Version}
 
 -- whether an applet leaves the tree as it is, whatever it answers
 abbrev pub does_read_only : Applet → Bool
 does_read_only Verify = true
 does_read_only Version = true
 does_read_only Adbdump = true
+does_read_only Mkpkg = false
+does_read_only Mkndx = false
 
 -- whether what an applet comes to rests on the words alone, and not on the tree
 abbrev pub does_rest_on_words : Applet → Bool
 does_rest_on_words Verify = false
 does_rest_on_words Version = true
 does_rest_on_words Adbdump = false
+does_rest_on_words Mkpkg = false
+does_rest_on_words Mkndx = false
 
 -- a usage error looks at nothing, and changes nothing
 abbrev pub reads_only : Result CommandLine ℕ → Bool

@@ -40,12 +40,12 @@ verified_lines (o ∷ operands) = verified_line (without_dot o.text) ++ verified
 abbrev pub verify : Files → List Operand → Outcome
 verify files operands = unless files (verify_refusal files operands) (verified_lines operands)
 
--- ---- by what is found at each read, also over a tree that tells nothing, where that may differ from read to read
+-- ---- by what reads find, also over a tree that tells nothing, where that may differ from read to read
 
 -- the first refusal, where the first of the operands is the read with this number, counted from 0
-abbrev pub refusal_by : (ℕ → Option (List ℕ)) → ℕ → List Operand → Option Refusal
-refusal_by found n [] = None
-refusal_by found n (o ∷ operands) = or_later (file_refusal o.place (found n)) (refusal_by found (n + 1) operands)
+abbrev pub refusal_by : (ℕ → List ℕ → Option (List ℕ)) → ℕ → List Operand → Option Refusal
+refusal_by read n [] = None
+refusal_by read n (o ∷ operands) = or_later (file_refusal o.place (read n (without_dot o.text))) (refusal_by read (n + 1) operands)
 
-abbrev pub verify_by : (ℕ → Option (List ℕ)) → Files → List Operand → Outcome
-verify_by found files operands = unless files (refusal_by found 0 operands) (verified_lines operands)
+abbrev pub verify_by : (ℕ → List ℕ → Option (List ℕ)) → Files → List Operand → Outcome
+verify_by read files operands = unless files (refusal_by read 0 operands) (verified_lines operands)

@@ -1,20 +1,26 @@
 //! What follows from the definitions of outcomes, for all words and files.
 ghost use Rattle.std.specs.Prelude.{◌≡◌, ℕ, List, IsTrue};
-ghost use Rattle.base_core.specs.Files.{Files};
+ghost use Rattle.base_core.specs.Files.{Files, IsWithin};
 ghost use Rattle.outcome.specs.Outcome.{IsOutcome};
 ghost use Rattle.outcome.specs.Told.{Outcome, told};
 ghost use Rattle.outcome.specs.Reach.{reads_only, rests_on_words};
 ghost use Rattle.words_core.specs.Grammar.{command_of};
 
-/// A command line has an outcome over any files.
+use base_core::files_have_one_list_of_names;
+
+/// A command line has an outcome over any files under finitely many names.
 pub fn an_outcome_exists()
-    ensures { (words : List (List ℕ)) (files : Files) → (o : Outcome) × IsOutcome words files o }
-{}
+    ensures { (words within : List (List ℕ)) (files : Files) → IsWithin within files → (o : Outcome) × IsOutcome words files o }
+{
+    files_have_one_list_of_names();
+}
 
 /// A command line has one outcome over some files, and no second one.
 pub fn an_outcome_is_unique()
     ensures { (words : List (List ℕ)) (files : Files) (a b : Outcome) → IsOutcome words files a → IsOutcome words files b → a ≡ b }
-{}
+{
+    files_have_one_list_of_names();
+}
 
 /// A command that only reads leaves the files as they are.
 pub fn a_command_that_reads_leaves_the_files()

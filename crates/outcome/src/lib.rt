@@ -1,6 +1,6 @@
 //! What every command answers, prints and leaves, as a function of its words and of the files of the tree.
 //!
-//! It is a crate of definitions: `Outcome` (what a command line comes to), `Verify`, `Version` and `Dump` (the single commands)
+//! It is a crate of definitions: `Outcome` (what a command line comes to), `Verify`, `Version`, `Dump` and `Make` (the single commands)
 //! and `Reach` (what a command looks at and changes) of `specs/`. Its functions are laws: they do nothing, and their contracts say what follows from the definitions.
 #![tactic(auto)]
 
