@@ -13,7 +13,7 @@ goes_on_twice a b c h k = record {
 rose_later : (a b c : ℕ) → a ≤ b → Rose b c → Rose a c
 rose_later a b c h k = omega arith
 
-cause_later : (a b c : Counts) → GoesOn a b → HasCause b c → HasCause a c
+pub cause_later : (a b c : Counts) → GoesOn a b → HasCause b c → HasCause a c
 cause_later a b c h k = record {
   fault = rose_later a.faults b.faults c.faults h.faults k.fault;
   reason = elim k.reason [
@@ -35,3 +35,16 @@ no_fault_same a = record { faults = refl; wants = refl }
 
 pub no_fault_twice : (a b c : Counts) → IsNoFault a b → IsNoFault b c → IsNoFault a c
 no_fault_twice a b c h k = record { faults = k.faults ∙ h.faults; wants = k.wants ∙ h.wants }
+
+rose_sooner : (a b c : ℕ) → Rose a b → b ≤ c → Rose a c
+rose_sooner a b c h k = omega arith
+
+pub cause_sooner : (a b c : Counts) → HasCause a b → GoesOn b c → HasCause a c
+cause_sooner a b c h k = record {
+  fault = rose_sooner a.faults b.faults c.faults h.fault k.faults;
+  reason = elim h.reason [
+    | inl fallible ↦ inl fallible
+    | inr (inl misuse) ↦ inr (inl (rose_sooner a.misuses b.misuses c.misuses misuse k.misuses))
+    | inr (inr want) ↦ inr (inr (rose_sooner a.wants b.wants c.wants want k.wants))
+  ];
+}

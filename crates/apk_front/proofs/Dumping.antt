@@ -102,8 +102,8 @@ dump_one (v ∷ old) os o verdict n x told = told ∙ ap (adbdump (files_of v)) 
 
 pub dump_read : (os : List Operand) (o : Operand) (verdict : Verdict) → length os ≡ 1 → slice_get os 0 ≡ Some o
     → (found : Option (List ℕ)) × (shown no_names verdict ≡ dump_found no_names o.place found)
-    → (found : ℕ → Option (List ℕ)) × (shown no_names verdict ≡ adbdump_by no_names (λ name. found 0) os)
-dump_read os o verdict n x (found, told) = (λ k. found, told ∙ ap (adbdump_by no_names (λ name. found)) (sym (one_of os o n x)))
+    → (read : ℕ → List ℕ → Option (List ℕ)) × (shown no_names verdict ≡ adbdump_by no_names (read 0) os)
+dump_read os o verdict n x (found, told) = (λ k name. found, told ∙ ap (adbdump_by no_names (λ name. found)) (sym (one_of os o n x)))
 
 pub found_text : (old : List TreeState) (place : ℕ) (text name : List ℕ) (verdict : Verdict) (bytes : Option (List ℕ)) → ((files : Files) → shown files verdict ≡ dump_found files place bytes) → OnTold old (λ v. bytes ≡ files_of v name) → name ≡ without_dot text
     → OnTold old (λ v. shown (files_of v) verdict ≡ dump_found (files_of v) place (files_of v (without_dot text)))
@@ -148,6 +148,6 @@ dump_bad place bytes file view p q why verdict is at same bad of told files =
 
 pub dump_read_by : (result : Result Verdict TreeFault) (os : List Operand) (o : Operand) → length os ≡ 1 → slice_get os 0 ≡ Some o
     → IfOk result (λ verdict. (found : Option (List ℕ)) × (shown no_names verdict ≡ dump_found no_names o.place found))
-    → IfOk result (λ verdict. (found : ℕ → Option (List ℕ)) × (shown no_names verdict ≡ adbdump_by no_names (λ name. found 0) os))
+    → IfOk result (λ verdict. (read : ℕ → List ℕ → Option (List ℕ)) × (shown no_names verdict ≡ adbdump_by no_names (read 0) os))
 dump_read_by (Ok verdict) os o n x read = dump_read os o verdict n x read
 dump_read_by (Err e) os o n x read = tt

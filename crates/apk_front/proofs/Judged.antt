@@ -1,5 +1,5 @@
 -- What was judged and shown is the answer.
-use Rattle.std.proofs.Common.{◌≡◌, ◌⊎◌, inl, inr, ℕ, List, [], ◌∷◌, Option, None, Result, Ok, Err, IfOk, IsErrOf, IsTrue, MatchResult, OnOk, refl, sym, ap, subst, ◌∙◌}
+use Rattle.std.proofs.Common.{◌≡◌, ◌⊎◌, inl, inr, ℕ, List, [], ◌∷◌, Option, None, true, Result, Ok, Err, OnOk, IfOk, IsErrOf, IsTrue, MatchResult, refl, sym, ap, subst, ◌∙◌}
 use Rattle.base_core.specs.Calls.{OnTold, HasNow}
 use Rattle.base_core.specs.Faults.{Counts, HasCause, IsNoFault}
 use Rattle.base_core.specs.Files.{Files, no_names}
@@ -14,15 +14,16 @@ use Rattle.words_core.specs.Grammar.{command_of}
 use Rattle.words_core.specs.declared.read.WordsFault.{WordsFault}
 use Rattle.words_core.specs.declared.read.WordsFault.TheVariants.{Usage as WrongWord}
 use Rattle.words_core.specs.declared.applet.Applet.{Applet}
-use Rattle.words_core.specs.declared.applet.Applet.TheVariants.{Adbdump, Verify, Version}
+use Rattle.words_core.specs.declared.applet.Applet.TheVariants.{Adbdump, Mkndx, Mkpkg, Verify, Version}
 use Rattle.words_core.specs.declared.flags.Flags.{Flags}
 use Rattle.words_core.specs.declared.operands.Operand.{Operand}
 use Rattle.outcome.specs.Told.{Outcome, refused}
 use Rattle.outcome.specs.Version.{version}
 use Rattle.outcome.specs.Outcome.{IsFoundOutcome, IsFoundOutcomeOf, IsOutcome, IsOutcomeOf, IsGivenTo, run_by, run_of}
-use Rattle.outcome.specs.Reach.{rests_on_words, does_rest_on_words}
+use Rattle.outcome.specs.Reach.{does_read_only, does_rest_on_words, reads_only, rests_on_words}
 use Rattle.apk_front.specs.Answers.{IsAnswer, IsAnswerOf, LeavesFiles, LeavesAny, HasCauses, IsFaultless, IsComplete, DidNotFail, FailedAt}
-use Rattle.apk_front.specs.Shown.{shown, IsTold, IsShown}
+use Rattle.apk_front.specs.Moments.{IsRun, output}
+use Rattle.apk_front.specs.Shown.{shown, IsTold, IsShown, TellsOne}
 use Rattle.apk_front.proofs.Telling.{either_failed}
 use Rattle.apk_front.specs.declared.answer.Answer.{Answer}
 use Rattle.apk_front.specs.declared.answer.Answer.TheVariants.{Ok as Good, Refused, TreeFault as TreeFailed, OutFault, Memory}
@@ -30,28 +31,32 @@ use Rattle.apk_front.specs.declared.verdict.Verdict.{Verdict}
 
 -- ---- the words and the outcome
 
-given_any : (applet : Applet) (files : Files) → IsGivenTo applet files tt
-given_any Verify files = tt
-given_any Version files = tt
-given_any Adbdump files = tt
-
 pub usage_over : (words : List (List ℕ)) (place : ℕ) (files : Files) → command_of words ≡ Err place → IsOutcome words files (refused files (Usage place))
 usage_over words place files is = subst (λ (r : Result CommandLine ℕ). IsOutcomeOf r files (refused files (Usage place))) (sym is) refl
 
-pub ran_over : (words : List (List ℕ)) (command : CommandLine) (files : Files) (o : Outcome) → command_of words ≡ Ok command → o ≡ run_of command tt files → IsOutcome words files o
-ran_over words command files o is ran = subst (λ (r : Result CommandLine ℕ). IsOutcomeOf r files o) (sym is) (tt, given_any command.applet files, ran)
+pub given_none : (applet : Applet) (command : CommandLine) (files : Files) → does_read_only applet ≡ true → IsGivenTo applet command files []
+given_none Verify command files reads = refl
+given_none Version command files reads = refl
+given_none Adbdump command files reads = refl
+given_none Mkpkg command files reads = cc
+given_none Mkndx command files reads = cc
 
-pub ran_told : (words : List (List ℕ)) (command : CommandLine) (old : List TreeState) (judged : Result Verdict TreeFault) → command_of words ≡ Ok command
-    → IfOk judged (λ verdict. OnTold old (λ v. shown (files_of v) verdict ≡ run_of command tt (files_of v)))
-    → IfOk judged (λ verdict. OnTold old (λ v. IsOutcome words (files_of v) (shown (files_of v) verdict)))
-ran_told words command [] (Ok verdict) is ran = tt
-ran_told words command (v ∷ old) (Ok verdict) is ran = ran_over words command (files_of v) (shown (files_of v) verdict) is ran
-ran_told words command old (Err fault) is ran = tt
+words_read : (applet : Applet) → does_rest_on_words applet ≡ true → does_read_only applet ≡ true
+words_read Verify rests = refl
+words_read Version rests = refl
+words_read Adbdump rests = refl
+words_read Mkpkg rests = cc
+words_read Mkndx rests = cc
+
+pub ran_over : (words : List (List ℕ)) (command : CommandLine) (files : Files) (o : Outcome) → command_of words ≡ Ok command → does_read_only command.applet ≡ true → o ≡ run_of command [] files → IsOutcome words files o
+ran_over words command files o is reads ran = subst (λ (r : Result CommandLine ℕ). IsOutcomeOf r files o) (sym is) ([], given_none command.applet command files reads, ran)
 
 pub ran_by_words : (words : List (List ℕ)) (command : CommandLine) (judged : Result Verdict TreeFault) → command_of words ≡ Ok command
-    → (IsTrue (does_rest_on_words command.applet) → MatchResult judged (λ verdict. (files : Files) → shown files verdict ≡ run_of command tt files) (λ fault. fault ≡ NoMemory))
+    → (IsTrue (does_rest_on_words command.applet) → MatchResult judged (λ verdict. (files : Files) → shown files verdict ≡ run_of command [] files) (λ fault. fault ≡ NoMemory))
     → IsTrue (rests_on_words (command_of words)) → MatchResult judged (λ verdict. (files : Files) → IsOutcome words files (shown files verdict)) (λ fault. fault ≡ NoMemory)
-ran_by_words words command (Ok verdict) is ran rests = λ files. ran_over words command files (shown files verdict) is (ran (subst (λ (r : Result CommandLine ℕ). IsTrue (rests_on_words r)) is rests) files)
+ran_by_words words command (Ok verdict) is ran rests = λ files.
+    let on_words = subst (λ (r : Result CommandLine ℕ). IsTrue (rests_on_words r)) is rests in
+    ran_over words command files (shown files verdict) is (words_read command.applet on_words) (ran on_words files)
 ran_by_words words command (Err fault) is ran rests = ran (subst (λ (r : Result CommandLine ℕ). IsTrue (rests_on_words r)) is rests)
 
 pub rests_on : (words : List (List ℕ)) (command : CommandLine) → command_of words ≡ Ok command → IsTrue (rests_on_words (command_of words)) → IsTrue (does_rest_on_words command.applet)
@@ -82,29 +87,40 @@ told_one IsOne Leaves tree_failed o Memory out err is leaves told = absurd told
 told_answer : (words : List (List ℕ)) (files : Files) (Leaves : Outcome → Type 0) (tree_failed : Type 0) (o : Outcome) (answer : Answer) (out err : Sinking) → IsOutcome words files o → Leaves o → IsTold o answer out err → IsAnswer words files Leaves tree_failed answer out err
 told_answer words files Leaves tree_failed o answer out err is leaves told = told_one (IsOutcome words files) Leaves tree_failed o answer out err is leaves told
 
-left : (v : TreeState) (rest now : List TreeState) (verdict : Verdict) → now ≡ v ∷ rest → LeavesFiles now (shown (files_of v) verdict)
-left v rest now verdict is none = subst (λ (h : List TreeState). HasNow h (λ w. files_of w ≡ (shown (files_of v) verdict).files)) (sym is) refl
+-- what stands for one outcome
+tells_answer : (IsOne Leaves : Outcome → Type 0) (tree_failed : Type 0) (verdict : Verdict) (answer : Answer) (out err : Sinking) → TellsOne IsOne verdict → ((o : Outcome) → IsOne o → Leaves o)
+    → ((files : Files) → IsTold (shown files verdict) answer out err) → IsAnswerOf IsOne Leaves tree_failed answer out err
+tells_answer IsOne Leaves tree_failed verdict answer out err (o, is, tells) leaves is_shown =
+    told_one IsOne Leaves tree_failed o answer out err is (leaves o is) (subst (λ (x : Outcome). IsTold x answer out err) tells (is_shown o.files))
 
-judged_answer : (words : List (List ℕ)) (v : TreeState) (rest now : List TreeState) (tree_failed : Type 0) (judged : Judged) (answer : Answer) (out err : Sinking)
-    → IfOk judged (λ verdict. IsOutcome words (files_of v) (shown (files_of v) verdict)) → now ≡ v ∷ rest → (IsErrOf judged Disk → tree_failed) → IsShown judged answer out err
-    → IsAnswer words (files_of v) (LeavesFiles now) tree_failed answer out err
-judged_answer words v rest now tree_failed (Ok verdict) answer out err found same disk is_shown =
-    told_answer words (files_of v) (LeavesFiles now) tree_failed (shown (files_of v) verdict) answer out err found (left v rest now verdict same) (is_shown (files_of v))
-judged_answer words v rest now tree_failed (Err Disk) answer out err found same disk is_shown =
-    subst (λ (a : Answer). IsAnswer words (files_of v) (LeavesFiles now) tree_failed a out err) (sym is_shown.0) (disk refl, is_shown.1)
-judged_answer words v rest now tree_failed (Err NoMemory) answer out err found same disk is_shown =
-    subst (λ (a : Answer). IsAnswer words (files_of v) (LeavesFiles now) tree_failed a out err) (sym is_shown.0) is_shown.1
+judged_answer : (IsOne Leaves : Outcome → Type 0) (tree_failed : Type 0) (judged : Judged) (answer : Answer) (out err : Sinking)
+    → IfOk judged (TellsOne IsOne) → ((o : Outcome) → IsOne o → OnOk judged (Leaves o)) → (IsErrOf judged Disk → tree_failed) → IsShown judged answer out err
+    → IsAnswerOf IsOne Leaves tree_failed answer out err
+judged_answer IsOne Leaves tree_failed (Ok verdict) answer out err found leaves disk is_shown = tells_answer IsOne Leaves tree_failed verdict answer out err found leaves is_shown
+judged_answer IsOne Leaves tree_failed (Err Disk) answer out err found leaves disk is_shown =
+    subst (λ (a : Answer). IsAnswerOf IsOne Leaves tree_failed a out err) (sym is_shown.0) (disk refl, is_shown.1)
+judged_answer IsOne Leaves tree_failed (Err NoMemory) answer out err found leaves disk is_shown =
+    subst (λ (a : Answer). IsAnswerOf IsOne Leaves tree_failed a out err) (sym is_shown.0) is_shown.1
 
 found_at : (v : TreeState) (rest : List TreeState) (judged : Judged) (P : Verdict → TreeState → Type 0) → IfOk judged (λ verdict. OnTold (v ∷ rest) (P verdict)) → IfOk judged (λ verdict. P verdict v)
 found_at v rest (Ok verdict) P found = found
 found_at v rest (Err e) P found = found
 
+leaves_if : (judged : Judged) (P Q : Type 0) → (P → OnOk judged Q) → OnOk judged (P → Q)
+leaves_if (Ok verdict) P Q f = f
+leaves_if (Err e) P Q f = tt
+
+-- the runs of a command line
+abbrev pub Runs : List (List ℕ) → Judged → List TreeState → List TreeState → Type 0
+Runs words judged old now = OnTold old (λ v. IsRun (IsOutcome words (files_of v)) (reads_only (command_of words)) (output words) judged v old now)
+
 pub answered : (words : List (List ℕ)) (old now : List TreeState) (tree_failed : Type 0) (judged : Judged) (answer : Answer) (out err : Sinking)
-    → IfOk judged (λ verdict. OnTold old (λ v. IsOutcome words (files_of v) (shown (files_of v) verdict))) → now ≡ old → (IsErrOf judged Disk → tree_failed) → IsShown judged answer out err
+    → IfOk judged (λ verdict. OnTold old (λ v. TellsOne (IsOutcome words (files_of v)) verdict)) → Runs words judged old now → (IsErrOf judged Disk → tree_failed) → IsShown judged answer out err
     → OnTold old (λ v. IsAnswer words (files_of v) (LeavesFiles now) tree_failed answer out err)
-answered words [] now tree_failed judged answer out err found same disk is_shown = tt
-answered words (v ∷ rest) now tree_failed judged answer out err found same disk is_shown =
-    judged_answer words v rest now tree_failed judged answer out err (found_at v rest judged (λ verdict w. IsOutcome words (files_of w) (shown (files_of w) verdict)) found) same disk is_shown
+answered words [] now tree_failed judged answer out err found run disk is_shown = tt
+answered words (v ∷ rest) now tree_failed judged answer out err found run disk is_shown =
+    judged_answer (IsOutcome words (files_of v)) (LeavesFiles now) tree_failed judged answer out err (found_at v rest judged (λ verdict w. TellsOne (IsOutcome words (files_of w)) verdict) found)
+    (λ o is. leaves_if judged (o.refusal ≡ None) (HasNow now (λ w. files_of w ≡ o.files)) (run.leaves o is)) disk is_shown
 
 -- ---- no count rose
 
@@ -140,35 +156,33 @@ answered_by_words words (Err NoMemory) answer out err by_words is_shown rests =
 -- ---- by what was found
 
 pub usage_found : (words : List (List ℕ)) (p q : ℕ) (fault : WordsFault) (verdict : Verdict) → p ≡ q → fault ≡ WrongWord q → IsWordsFault fault (command_of words)
-    → ((files : Files) → shown files verdict ≡ refused files (Usage p)) → IsFoundOutcome words (shown no_names verdict)
+    → ((files : Files) → shown files verdict ≡ refused files (Usage p)) → TellsOne (IsFoundOutcome words) verdict
 usage_found words p q fault verdict same is of is_shown =
     let read : command_of words ≡ Err q = subst (λ (f : WordsFault). IsWordsFault f (command_of words)) is of in
-    subst (λ (r : Result CommandLine ℕ). IsFoundOutcomeOf r (shown no_names verdict)) (sym read) (is_shown no_names ∙ ap (λ (n : ℕ). refused no_names (Usage n)) same)
+    (shown no_names verdict, subst (λ (r : Result CommandLine ℕ). IsFoundOutcomeOf r (shown no_names verdict)) (sym read) (is_shown no_names ∙ ap (λ (n : ℕ). refused no_names (Usage n)) same), refl)
 
 pub ran_by_reads : (words : List (List ℕ)) (command : CommandLine) (judged : Judged) → command_of words ≡ Ok command
-    → IfOk judged (λ verdict. (found : ℕ → Option (List ℕ)) × (shown no_names verdict ≡ run_by command.applet command found))
-    → IfOk judged (λ verdict. IsFoundOutcome words (shown no_names verdict))
-ran_by_reads words command (Ok verdict) is ran = subst (λ (r : Result CommandLine ℕ). IsFoundOutcomeOf r (shown no_names verdict)) (sym is) ran
-ran_by_reads words command (Err fault) is ran = tt
+    → IfOk judged (TellsOne (IsFoundOutcomeOf (Ok command))) → IfOk judged (TellsOne (IsFoundOutcome words))
+ran_by_reads words command judged is ran = subst (λ (r : Result CommandLine ℕ). IfOk judged (TellsOne (IsFoundOutcomeOf r))) (sym is) ran
 
 pub ran_version : (command : CommandLine) (applet : Applet) (flags : Flags) (operands : List Operand) (verdict : Verdict) → applet ≡ command.applet → applet ≡ Version → flags ≡ command.flags → operands ≡ command.operands
-    → ((files : Files) → shown files verdict ≡ version files flags operands) → (found : ℕ → Option (List ℕ)) × (shown no_names verdict ≡ run_by command.applet command found)
+    → ((files : Files) → shown files verdict ≡ version files flags operands) → (read : ℕ → List ℕ → Option (List ℕ)) × (shown no_names verdict ≡ run_by command.applet command [] read)
 ran_version command applet flags operands verdict same is flags_same operands_same told =
-    let nothing : ℕ → Option (List ℕ) = λ k. None in (
+    let nothing : ℕ → List ℕ → Option (List ℕ) = λ k name. None in (
       nothing,
       told no_names ∙ ap (λ (f : Flags). version no_names f operands) flags_same ∙ ap (λ (o : List Operand). version no_names command.flags o) operands_same
-          ∙ sym (ap (λ (a : Applet). run_by a command nothing) (sym same ∙ is)),
+          ∙ sym (ap (λ (a : Applet). run_by a command [] nothing) (sym same ∙ is)),
     )
 
 pub answered_by_reads : (words : List (List ℕ)) (tree_failed : Type 0) (judged : Judged) (answer : Answer) (out err : Sinking)
-    → IfOk judged (λ verdict. IsFoundOutcome words (shown no_names verdict)) → (IsErrOf judged Disk → tree_failed) → IsShown judged answer out err
+    → IfOk judged (TellsOne (IsFoundOutcome words)) → (IsErrOf judged Disk → tree_failed) → IsShown judged answer out err
     → IsAnswerOf (IsFoundOutcome words) LeavesAny tree_failed answer out err
-answered_by_reads words tree_failed (Ok verdict) answer out err found disk is_shown =
-    told_one (IsFoundOutcome words) LeavesAny tree_failed (shown no_names verdict) answer out err found tt (is_shown no_names)
-answered_by_reads words tree_failed (Err Disk) answer out err found disk is_shown =
-    subst (λ (a : Answer). IsAnswerOf (IsFoundOutcome words) LeavesAny tree_failed a out err) (sym is_shown.0) (disk refl, is_shown.1)
-answered_by_reads words tree_failed (Err NoMemory) answer out err found disk is_shown =
-    subst (λ (a : Answer). IsAnswerOf (IsFoundOutcome words) LeavesAny tree_failed a out err) (sym is_shown.0) is_shown.1
+answered_by_reads words tree_failed judged answer out err found disk is_shown =
+    judged_answer (IsFoundOutcome words) LeavesAny tree_failed judged answer out err found (λ o is. any_ok judged) disk is_shown
+  where
+    any_ok : (j : Judged) → OnOk j (Unit {0})
+    any_ok (Ok verdict) = tt
+    any_ok (Err e) = tt
 
 -- ---- causes
 

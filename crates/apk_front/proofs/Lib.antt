@@ -4,3 +4,8 @@ pub mod Unplanned
 pub mod Telling
 pub mod Operands
 pub mod Dumping
+pub mod Runs
+pub mod BelowFolder
+pub mod Containers
+pub mod NothingFailed
+pub mod Carried

@@ -10,6 +10,7 @@ use Rattle.report_core.specs.declared.refusal.Refusal.TheVariants.{VersionBad}
 use Rattle.version_core.specs.Order.{is_version, version_cmp}
 use Rattle.words_core.specs.Command.{are_files, is_file, without_dot}
 use Rattle.words_core.specs.declared.operands.Operand.{Operand}
+use Rattle.make_core.specs.Sources.{Reads}
 use Rattle.outcome.specs.Verify.{file_refusal, or_later, refusal_by, verified_lines, verify, verify_by, verify_refusal}
 use Rattle.outcome.specs.Version.{compared, invalid_line, invalid_lines, order_line, version_refusal}
 use Rattle.outcome.specs.Told.{refused, reported, unless}
@@ -134,25 +135,29 @@ cmp_same v w a b h k = rw h (rw k refl)
 -- ---- what verify finds at each read
 
 -- what is found at each read, and what at this one
-abbrev pub found_with : (ℕ → Option (List ℕ)) → ℕ → Option (List ℕ) → ℕ → Option (List ℕ)
-found_with found i f k = if k == i then f else found k
+abbrev pub read_with : Reads → ℕ → Option (List ℕ) → Reads
+read_with read i f k name = if k == i then f else read k name
 
-found_with_at : (found : ℕ → Option (List ℕ)) (i : ℕ) (f : Option (List ℕ)) → found_with found i f i ≡ f
-found_with_at found i f = ap (λ b. if b then f else found i) (eq-eqb i i refl)
+read_with_at : (read : Reads) (i : ℕ) (f : Option (List ℕ)) (name : List ℕ) → read_with read i f i name ≡ f
+read_with_at read i f name = ap (λ b. if b then f else read i name) (eq-eqb i i refl)
 
-found_with_before : (found : ℕ → Option (List ℕ)) (i k : ℕ) (f : Option (List ℕ)) → k < i → found_with found i f k ≡ found k
-found_with_before found i k f lt = ap (λ b. if b then f else found k) (ne_eqb k i (λ same. omega (lt, same, arith)))
+read_with_before : (read : Reads) (i k : ℕ) (f : Option (List ℕ)) (name : List ℕ) → k < i → read_with read i f k name ≡ read k name
+read_with_before read i k f name lt = ap (λ b. if b then f else read k name) (ne_eqb k i (λ same. omega (lt, same, arith)))
+
+-- reads find the same before a place
+abbrev pub AgreeBefore : Reads → Reads → ℕ → Type 0
+AgreeBefore later read i = (k : ℕ) (name : List ℕ) → k < i → later k name ≡ read k name
 
 -- the operands before a place were read, and none of them is refused
 pub record IsReadTo (os : List Operand) (i : ℕ) : Type 0 where
-  pub found : ℕ → Option (List ℕ)
-  pub rest : (later : ℕ → Option (List ℕ)) → ((k : ℕ) → k < i → later k ≡ found k) → refusal_by later 0 os ≡ refusal_by later i (drop i os)
+  pub read : Reads
+  pub rest : (later : Reads) → AgreeBefore later read i → refusal_by later 0 os ≡ refusal_by later i (drop i os)
 
 pub read_none : (os : List Operand) → IsReadTo os 0
-read_none os = record { found = λ k. None; rest = λ later agree. refl }
+read_none os = record { read = λ k name. None; rest = λ later agree. refl }
 
 -- the operands that are left, where one was read
-read_one : (os : List Operand) (i : ℕ) (o : Operand) (r : Option Refusal) (f : Option (List ℕ)) (later : ℕ → Option (List ℕ)) → slice_get os i ≡ Some o → r ≡ file_refusal o.place f → later i ≡ f
+read_one : (os : List Operand) (i : ℕ) (o : Operand) (r : Option Refusal) (f : Option (List ℕ)) (later : Reads) → slice_get os i ≡ Some o → r ≡ file_refusal o.place f → later i (without_dot o.text) ≡ f
     → refusal_by later i (drop i os) ≡ or_later r (refusal_by later (i + 1) (drop (i + 1) os))
 read_one os i o r f later at is here =
     ap (refusal_by later i) (left_at os i o at)
@@ -161,25 +166,25 @@ read_one os i o r f later at is here =
 
 pub read_more : (os : List Operand) (i : ℕ) (o : Operand) (r : Option Refusal) → slice_get os i ≡ Some o → IsReadTo os i → (found : Option (List ℕ)) × (r ≡ file_refusal o.place found) → false ≡ is_some r → IsReadTo os (i + 1)
 read_more os i o r at so (f, is) none = record {
-  found = found_with so.found i f;
+  read = read_with so.read i f;
   rest = λ later agree.
-      so.rest later (λ k lt. agree k (omega (lt, arith)) ∙ found_with_before so.found i k f lt)
-      ∙ read_one os i o r f later at is (agree i (omega arith) ∙ found_with_at so.found i f)
+      so.rest later (λ k name lt. agree k name (omega (lt, arith)) ∙ read_with_before so.read i k f name lt)
+      ∙ read_one os i o r f later at is (agree i (without_dot o.text) (omega arith) ∙ read_with_at so.read i f (without_dot o.text))
       ∙ or_next r (refusal_by later (i + 1) (drop (i + 1) os)) none;
 }
 
 pub read_here : (os : List Operand) (i : ℕ) (o : Operand) (r : Option Refusal) → slice_get os i ≡ Some o → IsReadTo os i → (found : Option (List ℕ)) × (r ≡ file_refusal o.place found) → true ≡ is_some r
-    → (found : ℕ → Option (List ℕ)) × (r ≡ refusal_by found 0 os)
+    → (read : Reads) × (r ≡ refusal_by read 0 os)
 read_here os i o r at so (f, is) some =
-    let now = found_with so.found i f in
-    (now, sym (so.rest now (λ k lt. found_with_before so.found i k f lt) ∙ read_one os i o r f now at is (found_with_at so.found i f) ∙ or_here r (refusal_by now (i + 1) (drop (i + 1) os)) some))
+    let now = read_with so.read i f in
+    (now, sym (so.rest now (λ k name lt. read_with_before so.read i k f name lt) ∙ read_one os i o r f now at is (read_with_at so.read i f (without_dot o.text)) ∙ or_here r (refusal_by now (i + 1) (drop (i + 1) os)) some))
 
-pub read_all_of : (os : List Operand) (i : ℕ) → drop i os ≡ [] → IsReadTo os i → (found : ℕ → Option (List ℕ)) × (None ≡ refusal_by found 0 os)
-read_all_of os i ended so = (so.found, sym (so.rest so.found (λ k lt. refl) ∙ ap (refusal_by so.found i) ended))
+pub read_all_of : (os : List Operand) (i : ℕ) → drop i os ≡ [] → IsReadTo os i → (read : Reads) × (None ≡ refusal_by read 0 os)
+read_all_of os i ended so = (so.read, sym (so.rest so.read (λ k name lt. refl) ∙ ap (refusal_by so.read i) ended))
 
-pub verify_read : (os : List Operand) (verdict : Verdict) (r : Option Refusal) → (found : ℕ → Option (List ℕ)) × (r ≡ refusal_by found 0 os)
-    → ((files : Files) → shown files verdict ≡ unless files r (verified_lines os)) → (found : ℕ → Option (List ℕ)) × (shown no_names verdict ≡ verify_by found no_names os)
-verify_read os verdict r (found, is) told = (found, told no_names ∙ ap (λ (x : Option Refusal). unless no_names x (verified_lines os)) is)
+pub verify_read : (os : List Operand) (verdict : Verdict) (r : Option Refusal) → (read : Reads) × (r ≡ refusal_by read 0 os)
+    → ((files : Files) → shown files verdict ≡ unless files r (verified_lines os)) → (read : Reads) × (shown no_names verdict ≡ verify_by read no_names os)
+verify_read os verdict r (read, is) told = (read, told no_names ∙ ap (λ (x : Option Refusal). unless no_names x (verified_lines os)) is)
 
 pub found_file : (old : List TreeState) (place : ℕ) (text file : List ℕ) (found : Option (List ℕ)) (r : Option Refusal) → r ≡ file_refusal place found
     → OnTold old (λ v. found ≡ files_of v file) → file ≡ without_dot text → OnTold old (λ v. r ≡ file_refusal place (files_of v (without_dot text)))

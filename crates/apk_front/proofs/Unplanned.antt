@@ -1,5 +1,5 @@
 -- Where no failure is planned, only want of memory stands in the place of an outcome.
-use Rattle.std.proofs.Common.{◌≡◌, ◌⊎◌, inl, inr, ℕ, ◌<◌, ◌-◌, ◌^◌, Bool, true, false, IsTrue, List, [], ◌∷◌, sym, ◌∙◌, arith}
+use Rattle.std.proofs.Common.{◌≡◌, ◌⊎◌, inl, inr, ℕ, ◌<◌, ◌-◌, ◌^◌, true, false, List, [], ◌∷◌, sym, ◌∙◌, arith}
 use Rattle.base_core.specs.Calls.{OnTold}
 use Rattle.base_core.specs.Faults.{Counts, HasCause, Rose}
 use Rattle.base_core.specs.Files.{Files}
@@ -36,12 +36,12 @@ ends_as_stated words files Leaves before after TreeFault out err (cause, fault) 
 ends_as_stated words files Leaves before after OutFault out err (o, is, fault, leaves) same keeps_out keeps_err calm calm_out calm_err = sink_wanted o out err calm_out calm_err keeps_out keeps_err (either_failed fault.which)
 ends_as_stated words files Leaves before after Memory out err fault same keeps_out keeps_err calm calm_out calm_err = tt
 
-pub ends_unless_memory : (reads : Bool) (words : List (List ℕ)) (old now : List TreeState) (before after : Counts) (answer : Answer) (out err : Sinking)
+pub ends_unless_memory : (Room : TreeState → Type 0) (words : List (List ℕ)) (old now : List TreeState) (before after : Counts) (answer : Answer) (out err : Sinking)
     → OnTold old (λ v. IsAnswer words (files_of v) (LeavesFiles now) (HasCause before after) answer out err)
-    → OnTold old (λ v. after.misuses ≡ before.misuses)
+    → OnTold old (λ v. Room v → after.misuses ≡ before.misuses)
     → KeepsCount out → KeepsCount err
-    → OnTold old (λ v. IsTrue reads → IsUnplanned before → IsUnplanned out.before → IsUnplanned err.before
+    → OnTold old (λ v. Room v → IsUnplanned before → IsUnplanned out.before → IsUnplanned err.before
     → IsOutcomeUnlessMemory words (files_of v) (LeavesFiles now) answer before after out err)
-ends_unless_memory reads words [] now before after answer out err stated proper keeps_out keeps_err = tt
-ends_unless_memory reads words (v ∷ rest) now before after answer out err stated proper keeps_out keeps_err = λ only calm calm_out calm_err.
-    ends_as_stated words (files_of v) (LeavesFiles now) before after answer out err stated proper keeps_out keeps_err calm calm_out calm_err
+ends_unless_memory Room words [] now before after answer out err stated proper keeps_out keeps_err = tt
+ends_unless_memory Room words (v ∷ rest) now before after answer out err stated proper keeps_out keeps_err = λ room calm calm_out calm_err.
+    ends_as_stated words (files_of v) (LeavesFiles now) before after answer out err stated (proper room) keeps_out keeps_err calm calm_out calm_err

@@ -38,7 +38,7 @@ pub(crate) fn adbdump<T: Tree>(
     requires one { length operands.now ≡ 1 }
     requires files { IsTrue (are_files operands.now) }
     ensures found { IfOk result (λ verdict. OnTold (T.history tree.old) (λ v. shown (files_of v) verdict ≡ adbdump (files_of v) operands.now)) }
-    ensures by_reads { IfOk result (λ verdict. (found : ℕ → Option (List ℕ)) × (shown no_names verdict ≡ adbdump_by no_names (λ name. found 0) operands.now)) }
+    ensures by_reads { IfOk result (λ verdict. (read : ℕ → List ℕ → Option (List ℕ)) × (shown no_names verdict ≡ adbdump_by no_names (read 0) operands.now)) }
     ensures same { T.history tree.new ≡ T.history tree.old }
     ensures goes_on { GoesOn (T.counts tree.old) (T.counts tree.new) }
     ensures disk { IsErrOf result TreeFault.Disk → HasCause (T.counts tree.old) (T.counts tree.new) }

@@ -1,13 +1,18 @@
-ghost use Rattle.std.specs.Prelude.{◌≡◌, IsTrue};
+ghost use Rattle.std.specs.Prelude.{◌≡◌, ℕ, Bool, List, None, IsSome, IsTrue};
 ghost use Rattle.apk_front.specs.Answers.{IsAnswer, IsAnswerOf, LeavesFiles, LeavesAny, HasCauses, IsFaultless, IsComplete, IsUnplanned, IsOutcomeUnlessMemory};
-ghost use Rattle.base_core.specs.Sink.{sinking, KeepsCount};
-ghost use Rattle.outcome.specs.Outcome.{IsFoundOutcome};
-ghost use Rattle.outcome.specs.Reach.{reads_only, rests_on_words};
-ghost use Rattle.words_core.specs.Grammar.{command_of};
-ghost use Rattle.base_core.specs.Calls.{OnTold};
+ghost use Rattle.apk_front.specs.Moments.{HidesScratchOf, IsCarriedOut, IsLeftUndone, LeavesRoom, output};
+ghost use Rattle.base_core.specs.Calls.{HasNow, OnTold};
+ghost use Rattle.base_core.specs.Crash.{IsOrderly, Since};
 ghost use Rattle.base_core.specs.Faults.{GoesOn, HasCause};
-ghost use Rattle.base_core.specs.Files.{Files, no_names};
+ghost use Rattle.base_core.specs.Files.{no_names};
+ghost use Rattle.base_core.specs.Sink.{sinking, KeepsCount};
 ghost use Rattle.base_core.specs.Tree.{files_of};
+ghost use Rattle.journal_core.specs.Recovery.{IsSettled, RestsOn};
+ghost use Rattle.journal_core.specs.Replacing.{IsReplacing};
+ghost use Rattle.outcome.specs.Outcome.{IsFoundOutcome, IsOutcome};
+ghost use Rattle.outcome.specs.Reach.{reads_only, rests_on_words};
+ghost use Rattle.outcome.specs.Told.{Outcome};
+ghost use Rattle.words_core.specs.Grammar.{command_of};
 
 use crate::answer::Answer;
 use crate::judge::judge;
@@ -59,14 +64,32 @@ pub fn apk<T: Tree, O: Sink, E: Sink>(
     // Where the outcome rests on the words alone, no call is made on the tree.
     ensures untouched { IsTrue (rests_on_words (command_of words.now)) → tree.new ≡ tree.old }
 
-    // A command that only reads leaves the tree as it is, and makes no misuse of it.
+    // A command that only reads leaves the tree as it is, and so does a run that is refused, or for which there is no memory.
     ensures same { IsTrue (reads_only (command_of words.now)) → T.history tree.new ≡ T.history tree.old }
-    ensures proper { OnTold (T.history tree.old) (λ v. IsTrue (reads_only (command_of words.now))
-        → (T.counts tree.new).misuses ≡ (T.counts tree.old).misuses) }
+    ensures undone { IsLeftUndone result → T.history tree.new ≡ T.history tree.old }
 
-    // Where the tree tells its files, and no failure is planned of it and of the sinks, such a command ends as its outcome says, unless memory ran
+    // Nothing is written for an outcome that is a refusal, whatever is answered in its place.
+    ensures unwritten { OnTold (T.history tree.old) (λ v. (outcome : Outcome) → IsOutcome words.now (files_of v) outcome → IsSome outcome.refusal
+        → T.history tree.new ≡ T.history tree.old) }
+
+    // In an orderly tree, with names X that hold the output's scratch name: at each moment a crash leaves a state from before or that of the
+    // outcome's files, apart from X. The tree stays orderly, whatever is answered.
+    ensures crash { OnTold (T.history tree.old) (λ v. (X : List ℕ → Bool) (outcome : Outcome) → IsOrderly (RestsOn X) v → HidesScratchOf (output words.now) X
+        → IsOutcome words.now (files_of v) outcome → Since (IsReplacing X outcome.files v) (T.history tree.old) (T.history tree.new)) }
+    ensures orderly { OnTold (T.history tree.old) (λ v. (X : List ℕ → Bool) → IsOrderly (RestsOn X) v → HidesScratchOf (output words.now) X
+        → HasNow (T.history tree.new) (IsOrderly (RestsOn X))) }
+
+    // Once the outcome is carried out, each crash leaves the state of its files; of a command that only reads, where all was settled before.
+    ensures settled { OnTold (T.history tree.old) (λ v. (X : List ℕ → Bool) (outcome : Outcome) → IsOrderly (RestsOn X) v → HidesScratchOf (output words.now) X
+        → (IsTrue (reads_only (command_of words.now)) → IsSettled X (files_of v) v) → IsOutcome words.now (files_of v) outcome → outcome.refusal ≡ None
+        → IsCarriedOut result → HasNow (T.history tree.new) (IsSettled X outcome.files)) }
+
+    // Where the tree tells its files, and they leave room for the output, no call is a misuse. There is room for each command that only reads.
+    ensures proper { OnTold (T.history tree.old) (λ v. LeavesRoom words.now (files_of v) → (T.counts tree.new).misuses ≡ (T.counts tree.old).misuses) }
+
+    // Where besides no failure is planned of the tree and of the sinks, the run ends as its outcome says, unless memory ran
     // out: the run's, or the own memory of one of the three.
-    ensures unless_memory { OnTold (T.history tree.old) (λ v. IsTrue (reads_only (command_of words.now))
+    ensures unless_memory { OnTold (T.history tree.old) (λ v. LeavesRoom words.now (files_of v)
         → IsUnplanned (T.counts tree.old) → IsUnplanned (O.counts out.old) → IsUnplanned (E.counts err.old)
         → IsOutcomeUnlessMemory words.now (files_of v) (LeavesFiles (T.history tree.new)) result (T.counts tree.old) (T.counts tree.new)
         (sinking O.bytes O.counts out.old out.new) (sinking E.bytes E.counts err.old err.new)) }

@@ -1,14 +1,16 @@
 //! The top call of the package keeper: words, a tree of files and two sinks come in, an answer goes out.
 //!
-//! A run is first judged, by the words and the tree, and then shown on the sinks. The contract of `apk` cites
-//! `outcome` (what a command answers, prints and leaves), `words_core` (what the words ask for), and `Answers` of
-//! `specs/` (how an answer relates to an outcome, and what stands in its place).
+//! A run is first judged, by the words and the tree, and carried out on the tree, and then shown on the sinks. The
+//! contract of `apk` cites `outcome` (what a command answers, prints and leaves), `words_core` (what the words ask for),
+//! `journal_core` (what a crash leaves), and of `specs/` `Answers` (how an answer relates to an outcome, and what stands
+//! in its place) and `Moments` (what a run does to the tree).
 #![tactic(auto)]
 
 mod answer;
 mod dump;
 mod front;
 mod judge;
+mod make;
 mod show;
 mod verdict;
 mod verify;

@@ -1,6 +1,7 @@
 mod containers;
 mod dump_rows;
 mod failing_rows;
+mod make_rows;
 mod verify_rows;
 mod version_rows;
 
@@ -9,6 +10,7 @@ use base_core::{Cause, Name, Words};
 use containers::CONTAINERS;
 use dump_rows::DUMPS;
 use failing_rows::FAILING;
+use make_rows::{INDEXES, PACKAGES};
 use std::alloc::Global;
 use std::process::Abort;
 use std::test::Fail;
@@ -55,6 +57,8 @@ enum Wanted {
     Missing(u32),
     Bad(u32, Cause),
     NoVersion(u32),
+    NoInfo(u32),
+    Reserved,
     TreeFault,
     OutFault,
     // What no row gives.
@@ -77,6 +81,8 @@ fn kind_of_refusal(refusal: &Refusal) -> Wanted {
         Refusal::FileMissing { place } => Wanted::Missing(*place),
         Refusal::FileBad { place, cause } => Wanted::Bad(*place, *cause),
         Refusal::VersionBad { place } => Wanted::NoVersion(*place),
+        Refusal::InfoBad { place } => Wanted::NoInfo(*place),
+        Refusal::Reserved { path: _ } => Wanted::Reserved,
         _ => Wanted::Other,
     }
 }
@@ -260,6 +266,137 @@ fn check_failing(alloc: Global, rt: &impl Abort, case: &Failing) -> Result<(), F
 fn failures(rt: HostRuntime) -> Result<(), Fail> {
     for case in &FAILING {
         check_failing(rt.alloc(), &rt, case)?;
+    }
+    Ok(())
+}
+
+// A command that makes a container, and what then stands under a name.
+#[derive(Clone, Copy)]
+struct Made {
+    words: &'static [&'static [u8]],
+    answer: Wanted,
+    out: &'static [u8],
+    err: &'static [u8],
+    name: &'static [u8],
+    file: Option<&'static [u8]>,
+}
+
+fn name_of(alloc: Global, name: &[u8]) -> Result<Name, Fail> {
+    let name = Name::read(alloc, name)?.ok_or("a name")?;
+    Ok(name)
+}
+
+// A tree with a package as `a.apk` and another file as `old.adb`.
+fn tree_to_make_in(alloc: Global) -> Result<MemoryTree, Fail> {
+    let package = file_bytes(alloc, File::Bytes(&PACKAGE))?;
+    let mut tree = tree_with(alloc, &package)?;
+    let old = name_of(alloc, b"old.adb")?;
+    if tree.can_put(&old) {
+        tree.put(&old, b"old")?;
+    }
+    Ok(tree)
+}
+
+fn check_made(alloc: Global, rt: &impl Abort, row: &Made) -> Result<(), Fail> {
+    let mut tree = tree_to_make_in(alloc)?;
+    let words = words_of(alloc, row.words)?;
+    let mut out = MemorySink::new(alloc);
+    let mut err = MemorySink::new(alloc);
+    let answer = apk(alloc, &words, &mut tree, &mut out, &mut err);
+    assert_eq!(rt; kind_of(&answer), row.answer);
+    assert_eq!(rt; out.bytes(), row.out);
+    assert_eq!(rt; err.bytes(), row.err);
+    assert_eq!(rt; tree.faults(), 0);
+    assert_eq!(rt; tree.wants(), 0);
+    let name = name_of(alloc, row.name)?;
+    assert_eq!(rt; tree.file(&name), row.file);
+    Ok(())
+}
+
+#[test]
+fn indexes(rt: HostRuntime) -> Result<(), Fail> {
+    for row in &INDEXES {
+        check_made(rt.alloc(), &rt, row)?;
+    }
+    Ok(())
+}
+
+#[test]
+fn packages(rt: HostRuntime) -> Result<(), Fail> {
+    for row in &PACKAGES {
+        check_made(rt.alloc(), &rt, row)?;
+    }
+    Ok(())
+}
+
+// A command that reads nothing and writes `old.adb` anew.
+#[derive(Clone, Copy)]
+struct Anew {
+    words: &'static [&'static [u8]],
+    file: &'static [u8],
+}
+
+const ANEW: [Anew; 2] = [
+    Anew {
+        words: &[b"mkndx", b"-o", b"old.adb"],
+        file: b"ADB.indx\x0c\0\0\0\0\0\0\0\0\0\0\0\0\0\0\0",
+    },
+    Anew {
+        words: &[
+            b"mkpkg",
+            b"-I",
+            b"name:a",
+            b"-I",
+            b"version:1",
+            b"-o",
+            b"old.adb",
+        ],
+        file: &PACKAGE,
+    },
+];
+
+// Whether crashes leave the old file as `old.adb`, and whether they leave the new one. Nothing else is left.
+fn seen_after_crashes(alloc: Global, tree: &MemoryTree, new: &[u8]) -> Result<(bool, bool), Fail> {
+    let name = name_of(alloc, b"old.adb")?;
+    let mut seen = (false, false);
+    for choice in 0..tree.maps().saturating_mul(3) {
+        let image = tree.pick_image(alloc, choice)?;
+        match image.file(&name) {
+            Some(b"old") => seen.0 = true,
+            Some(file) if file == new => seen.1 = true,
+            _ => Err("neither the old file nor the new")?,
+        }
+    }
+    Ok(seen)
+}
+
+// Six calls write a file.
+fn check_cut_off(alloc: Global, rt: &impl Abort, anew: &Anew, stop: u64) -> Result<(), Fail> {
+    let words = words_of(alloc, anew.words)?;
+    let mut tree = tree_to_make_in(alloc)?;
+    tree.stop_after(stop);
+    let mut out = MemorySink::new(alloc);
+    let mut err = MemorySink::new(alloc);
+    let answer = apk(alloc, &words, &mut tree, &mut out, &mut err);
+    let done = stop >= 6;
+    let wanted = if done {
+        Wanted::Done
+    } else {
+        Wanted::TreeFault
+    };
+    assert_eq!(rt; kind_of(&answer), wanted);
+    let seen = seen_after_crashes(alloc, &tree, anew.file)?;
+    assert!(rt; seen.0 != done);
+    assert!(rt; seen.1 || !done);
+    Ok(())
+}
+
+#[test]
+fn outputs_that_are_cut_off(rt: HostRuntime) -> Result<(), Fail> {
+    for anew in &ANEW {
+        for stop in 0..8u64 {
+            check_cut_off(rt.alloc(), &rt, anew, stop)?;
+        }
     }
     Ok(())
 }

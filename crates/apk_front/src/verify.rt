@@ -26,7 +26,7 @@ pub(crate) fn verify<T: Tree>(
 ) -> Result<Verdict, TreeFault>
     requires { IsTrue (are_files operands.now) }
     ensures found { IfOk result (λ verdict. OnTold (T.history tree.old) (λ v. shown (files_of v) verdict ≡ verify (files_of v) operands.now)) }
-    ensures by_reads { IfOk result (λ verdict. (found : ℕ → Option (List ℕ)) × (shown no_names verdict ≡ verify_by found no_names operands.now)) }
+    ensures by_reads { IfOk result (λ verdict. (read : ℕ → List ℕ → Option (List ℕ)) × (shown no_names verdict ≡ verify_by read no_names operands.now)) }
     ensures same { T.history tree.new ≡ T.history tree.old }
     ensures goes_on { GoesOn (T.counts tree.old) (T.counts tree.new) }
     ensures disk { IsErrOf result TreeFault.Disk → HasCause (T.counts tree.old) (T.counts tree.new) }
@@ -62,7 +62,7 @@ fn first_refusal<T: Tree>(
 ) -> Result<Option<Refusal>, TreeFault>
     requires { IsTrue (are_files operands.now) }
     ensures found { IfOk result (λ refusal. OnTold (T.history tree.old) (λ v. refusal ≡ verify_refusal (files_of v) operands.now)) }
-    ensures by_reads { IfOk result (λ refusal. (found : ℕ → Option (List ℕ)) × (refusal ≡ refusal_by found 0 operands.now)) }
+    ensures by_reads { IfOk result (λ refusal. (read : ℕ → List ℕ → Option (List ℕ)) × (refusal ≡ refusal_by read 0 operands.now)) }
     ensures same { T.history tree.new ≡ T.history tree.old }
     ensures goes_on { GoesOn (T.counts tree.old) (T.counts tree.new) }
     ensures disk { IsErrOf result TreeFault.Disk → HasCause (T.counts tree.old) (T.counts tree.new) }

@@ -1,7 +1,7 @@
 // Rows in which the tree or a sink fails.
 use super::{Failing, Wanted};
 
-pub(super) const FAILING: [Failing; 15] = [
+pub(super) const FAILING: [Failing; 25] = [
     // The second file of two.
     Failing {
         words: &[b"verify", b"a.apk", b"a.apk"],
@@ -142,5 +142,124 @@ pub(super) const FAILING: [Failing; 15] = [
         answer: Wanted::OutFault,
         out: b"",
         err: b"ERROR: word 2:",
+    },
+    // A package of no files is written by six calls.
+    Failing {
+        words: &[
+            b"mkpkg",
+            b"-I",
+            b"name:a",
+            b"-I",
+            b"version:1",
+            b"-o",
+            b"new.apk",
+        ],
+        call: Some(1),
+        out_takes: 99,
+        err_takes: 99,
+        answer: Wanted::TreeFault,
+        out: b"",
+        err: b"ERROR: the tree failed\n",
+    },
+    Failing {
+        words: &[
+            b"mkpkg",
+            b"-I",
+            b"name:a",
+            b"-I",
+            b"version:1",
+            b"-o",
+            b"new.apk",
+        ],
+        call: Some(6),
+        out_takes: 99,
+        err_takes: 99,
+        answer: Wanted::TreeFault,
+        out: b"",
+        err: b"ERROR: the tree failed\n",
+    },
+    Failing {
+        words: &[
+            b"mkpkg",
+            b"-I",
+            b"name:a",
+            b"-I",
+            b"version:1",
+            b"-o",
+            b"new.apk",
+        ],
+        call: Some(7),
+        out_takes: 99,
+        err_takes: 99,
+        answer: Wanted::Done,
+        out: b"",
+        err: b"",
+    },
+    // A package is read by two calls before the index is written.
+    Failing {
+        words: &[b"mkndx", b"-o", b"new.adb", b"a.apk"],
+        call: Some(2),
+        out_takes: 99,
+        err_takes: 99,
+        answer: Wanted::TreeFault,
+        out: b"",
+        err: b"ERROR: the tree failed\n",
+    },
+    Failing {
+        words: &[b"mkndx", b"-o", b"new.adb", b"a.apk"],
+        call: Some(8),
+        out_takes: 99,
+        err_takes: 99,
+        answer: Wanted::TreeFault,
+        out: b"",
+        err: b"ERROR: the tree failed\n",
+    },
+    Failing {
+        words: &[b"mkndx", b"-o", b"new.adb", b"a.apk"],
+        call: Some(9),
+        out_takes: 99,
+        err_takes: 99,
+        answer: Wanted::Done,
+        out: b"Index has 1 packages\n",
+        err: b"",
+    },
+    // A refusal makes no call that writes.
+    Failing {
+        words: &[b"mkndx", b"-o", b"lib/apk/intent", b"a.apk"],
+        call: Some(3),
+        out_takes: 99,
+        err_takes: 99,
+        answer: Wanted::Reserved,
+        out: b"",
+        err: b"ERROR: lib/apk/intent: reserved name\n",
+    },
+    Failing {
+        words: &[b"mkpkg", b"-I", b"name:a", b"-o", b"new.apk"],
+        call: Some(1),
+        out_takes: 99,
+        err_takes: 99,
+        answer: Wanted::NoInfo(6),
+        out: b"",
+        err: b"ERROR: word 6: invalid package information\n",
+    },
+    // What is made stays, though it cannot be told.
+    Failing {
+        words: &[b"mkndx", b"-o", b"new.adb"],
+        call: None,
+        out_takes: 5,
+        err_takes: 99,
+        answer: Wanted::OutFault,
+        out: b"Index",
+        err: b"",
+    },
+    // No folder can be made below a file.
+    Failing {
+        words: &[b"mkndx", b"-o", b"a.apk/i"],
+        call: None,
+        out_takes: 99,
+        err_takes: 99,
+        answer: Wanted::TreeFault,
+        out: b"",
+        err: b"ERROR: the tree failed\n",
     },
 ];

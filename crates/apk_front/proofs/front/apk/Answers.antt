@@ -1,14 +1,15 @@
+use Rattle.apk_front.proofs.Carried.{crash_told, orderly_told, settled_told, undone_told, unwritten_told}
 use Rattle.apk_front.proofs.Judged.{answered, completed, answered_by_reads, answered_by_words, caused}
 use Rattle.apk_front.proofs.Unplanned.{ends_unless_memory}
 use Rattle.apk_front.proofs.front.apk.Goals as goal
 
 pub returns-clause-stated : goal.returns-clause-stated
-returns-clause-stated g c = answered _ _ _ _ c.judge-judged.result _ _ _ c.judge-judged.ensures.found c.judge-judged.ensures.same c.judge-judged.ensures.disk c.show.ensures.shown
+returns-clause-stated g c = answered _ _ _ _ c.judge-judged.result _ _ _ c.judge-judged.ensures.found c.judge-judged.ensures.run c.judge-judged.ensures.disk c.show.ensures.shown
 
 pub returns-clause-complete : goal.returns-clause-complete
 returns-clause-complete g c =
     completed _ _ (g.T.Tree.history c.judge-judged.new.tree) _ _ _ _ _
-    (answered _ _ _ _ c.judge-judged.result _ _ _ c.judge-judged.ensures.found c.judge-judged.ensures.same c.judge-judged.ensures.disk c.show.ensures.shown)
+    (answered _ _ _ _ c.judge-judged.result _ _ _ c.judge-judged.ensures.found c.judge-judged.ensures.run c.judge-judged.ensures.disk c.show.ensures.shown)
 
 pub returns-clause-every_tree : goal.returns-clause-every_tree
 returns-clause-every_tree g c = answered_by_words _ c.judge-judged.result _ _ _ c.judge-judged.ensures.by_words c.show.ensures.shown
@@ -16,11 +17,26 @@ returns-clause-every_tree g c = answered_by_words _ c.judge-judged.result _ _ _ 
 pub returns-clause-causes : goal.returns-clause-causes
 returns-clause-causes g c = caused _ _ c.judge-judged.result _ _ _ c.judge-judged.ensures.kept c.judge-judged.ensures.disk c.judge-judged.ensures.memory c.show.ensures.shown
 
+pub returns-clause-found : goal.returns-clause-found
+returns-clause-found g c = answered_by_reads _ _ c.judge-judged.result _ _ _ c.judge-judged.ensures.by_reads c.judge-judged.ensures.disk c.show.ensures.shown
+
+pub returns-clause-undone : goal.returns-clause-undone
+returns-clause-undone g c = undone_told c.judge-judged.result c.show.result _ _ _ c.show.ensures.shown c.judge-judged.ensures.refused c.judge-judged.ensures.undone
+
+pub returns-clause-unwritten : goal.returns-clause-unwritten
+returns-clause-unwritten g c = unwritten_told c.args.words.now c.judge-judged.result _ _ c.judge-judged.ensures.run
+
+pub returns-clause-crash : goal.returns-clause-crash
+returns-clause-crash g c = crash_told c.args.words.now c.judge-judged.result _ _ c.judge-judged.ensures.run
+
+pub returns-clause-orderly : goal.returns-clause-orderly
+returns-clause-orderly g c = orderly_told c.args.words.now c.judge-judged.result _ _ c.judge-judged.ensures.run
+
+pub returns-clause-settled : goal.returns-clause-settled
+returns-clause-settled g c = settled_told c.args.words.now c.judge-judged.result c.show.result _ _ _ _ c.show.ensures.shown c.judge-judged.ensures.run
+
 pub returns-clause-unless_memory : goal.returns-clause-unless_memory
 returns-clause-unless_memory g c =
     ends_unless_memory _ _ _ (g.T.Tree.history c.judge-judged.new.tree) _ _ _ _ _
-    (answered _ _ _ _ c.judge-judged.result _ _ _ c.judge-judged.ensures.found c.judge-judged.ensures.same c.judge-judged.ensures.disk c.show.ensures.shown)
+    (answered _ _ _ _ c.judge-judged.result _ _ _ c.judge-judged.ensures.found c.judge-judged.ensures.run c.judge-judged.ensures.disk c.show.ensures.shown)
     c.judge-judged.ensures.proper c.show.ensures.out_counts c.show.ensures.err_counts
-
-pub returns-clause-found : goal.returns-clause-found
-returns-clause-found g c = answered_by_reads _ _ c.judge-judged.result _ _ _ c.judge-judged.ensures.by_reads c.judge-judged.ensures.disk c.show.ensures.shown

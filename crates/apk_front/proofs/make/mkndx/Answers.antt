@@ -1,0 +1,28 @@
+use Rattle.std.proofs.Common.{◌∙◌, List, ap, length}
+use Rattle.outcome.specs.Make.{index_line}
+use Rattle.words_core.specs.declared.operands.Operand.{Operand}
+use Rattle.apk_front.proofs.Containers.{index_outcomes, index_read, proper_by, runs, tells_one}
+use Rattle.apk_front.proofs.NothingFailed.{kept_both, memory_both}
+use Rattle.apk_front.proofs.make.mkndx.Goals as goal
+
+pub returns-clause-found : goal.returns-clause-found
+returns-clause-found g c =
+    tells_one _ _ _ _ (index_outcomes c.args.command.now _ (c.in_ok-report.ensures ∙ ap index_line (c.len.ensures ∙ ap (λ (os : List Operand). length os) c.operands.ensures.value))) c.index-container.result c.finish.result _ c.index-container.ensures.told c.finish.ensures.done c.finish.ensures.told
+
+pub returns-clause-by_reads : goal.returns-clause-by_reads
+returns-clause-by_reads g c =
+    index_read c.args.command.now _ c.index-container.result c.finish.result (c.in_ok-report.ensures ∙ ap index_line (c.len.ensures ∙ ap (λ (os : List Operand). length os) c.operands.ensures.value)) c.index-container.ensures.found c.finish.ensures.done c.finish.ensures.told
+
+pub returns-clause-run : goal.returns-clause-run
+returns-clause-run g c =
+    runs _ _ _ _ (index_outcomes c.args.command.now _ (c.in_ok-report.ensures ∙ ap index_line (c.len.ensures ∙ ap (λ (os : List Operand). length os) c.operands.ensures.value))) c.index-container.result c.finish.result _ _ _ c.index-container.ensures.same c.index-container.ensures.told c.finish.ensures.done c.finish.ensures.cut c.finish.ensures.run
+
+pub returns-clause-proper : goal.returns-clause-proper
+returns-clause-proper g c =
+    proper_by _ _ _ _ (index_outcomes c.args.command.now _ (c.in_ok-report.ensures ∙ ap index_line (c.len.ensures ∙ ap (λ (os : List Operand). length os) c.operands.ensures.value))) c.index-container.result _ _ _ _ _ c.index-container.ensures.same c.index-container.ensures.told c.index-container.ensures.proper c.finish.ensures.proper
+
+pub returns-clause-kept : goal.returns-clause-kept
+returns-clause-kept g c = kept_both c.index-container.result c.finish.result _ _ _ c.index-container.ensures.kept c.finish.ensures.done c.finish.ensures.kept
+
+pub returns-clause-memory : goal.returns-clause-memory
+returns-clause-memory g c = memory_both c.index-container.result c.finish.result _ _ _ c.index-container.ensures.kept c.finish.ensures.lost c.finish.ensures.memory

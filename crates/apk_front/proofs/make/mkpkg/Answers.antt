@@ -1,0 +1,29 @@
+use Rattle.std.proofs.Common.{◌∙◌}
+use Rattle.apk_front.proofs.Containers.{package_outcomes, package_output, package_read, proper_by, runs, tells_one}
+use Rattle.apk_front.proofs.NothingFailed.{kept_both, memory_both}
+use Rattle.apk_front.proofs.make.mkpkg.Goals as goal
+
+pub finish-requires-clause-output : goal.finish-requires-clause-output
+finish-requires-clause-output g c = package_output c.args.command.now c.package-container.result c.package-container.ensures.found (c.a_package_with_information_has_an_output.ensures c.args.command.now c.requires.applet)
+
+pub returns-clause-found : goal.returns-clause-found
+returns-clause-found g c =
+    tells_one _ _ _ _ (package_outcomes c.files_have_one_list_of_names.ensures.one c.args.command.now _ (c.from_vec-report.ensures ∙ c.new.ensures.items)) c.package-container.result c.finish.result _ c.package-container.ensures.told c.finish.ensures.done c.finish.ensures.told
+
+pub returns-clause-by_reads : goal.returns-clause-by_reads
+returns-clause-by_reads g c =
+    package_read c.args.command.now _ c.package-container.result c.finish.result (c.from_vec-report.ensures ∙ c.new.ensures.items) c.package-container.ensures.found c.finish.ensures.done c.finish.ensures.told
+
+pub returns-clause-run : goal.returns-clause-run
+returns-clause-run g c =
+    runs _ _ _ _ (package_outcomes c.files_have_one_list_of_names.ensures.one c.args.command.now _ (c.from_vec-report.ensures ∙ c.new.ensures.items)) c.package-container.result c.finish.result _ _ _ c.package-container.ensures.same c.package-container.ensures.told c.finish.ensures.done c.finish.ensures.cut c.finish.ensures.run
+
+pub returns-clause-proper : goal.returns-clause-proper
+returns-clause-proper g c =
+    proper_by _ _ _ _ (package_outcomes c.files_have_one_list_of_names.ensures.one c.args.command.now _ (c.from_vec-report.ensures ∙ c.new.ensures.items)) c.package-container.result _ _ _ _ _ c.package-container.ensures.same c.package-container.ensures.told c.package-container.ensures.proper c.finish.ensures.proper
+
+pub returns-clause-kept : goal.returns-clause-kept
+returns-clause-kept g c = kept_both c.package-container.result c.finish.result _ _ _ c.package-container.ensures.kept c.finish.ensures.done c.finish.ensures.kept
+
+pub returns-clause-memory : goal.returns-clause-memory
+returns-clause-memory g c = memory_both c.package-container.result c.finish.result _ _ _ c.package-container.ensures.kept c.finish.ensures.lost c.finish.ensures.memory

@@ -1,0 +1,227 @@
+// `mkpkg` and `mkndx`: a container is made, and stands whole under its name.
+ghost use Rattle.std.specs.Prelude.{◌≡◌, ◌≢◌, ◌⊎◌, ℕ, false, true, List, None, Ok, Err, IsSome, IfOk, IsErrOf, OnOk};
+ghost use Rattle.apk_front.specs.Moments.{HasRoomFor, IsRun};
+ghost use Rattle.apk_front.specs.Shown.{IsIndex, IsIndexFound, IsIndexOutcome, IsPackage, IsPackageFound, IsPackageOutcome, OnMade, Tells, TellsOne, is_cut, is_cut_off, made_in};
+ghost use Rattle.base_core.specs.Calls.{OnTold};
+ghost use Rattle.base_core.specs.Faults.{GoesOn, HasCause, IsNoFault};
+ghost use Rattle.base_core.specs.Files.{Files, no_names};
+ghost use Rattle.base_core.specs.Tree.{files_of};
+ghost use Rattle.make_core.specs.MadeOf.{UnlessDisk};
+ghost use Rattle.make_core.specs.Output.{output_name};
+ghost use Rattle.make_core.specs.Sources.{Reads};
+ghost use Rattle.outcome.specs.Make.{index_line, made, mkndx, mkndx_by, mkpkg_by, unless_reserved};
+ghost use Rattle.outcome.specs.Told.{Outcome, refused};
+ghost use Rattle.report_core.specs.declared.refusal.Refusal.TheVariants.{ResultTooLarge};
+ghost use Rattle.words_core.specs.Command.{IsCommand};
+ghost use Rattle.words_core.specs.declared.applet.Applet.TheVariants.{Mkndx, Mkpkg};
+
+use crate::verdict::Verdict;
+use adb_schema::is_reserved;
+use base_core::{Name, Text, Tree, TreeFault, files_have_one_list_of_names};
+use journal_core::replace;
+use make_core::{
+    MakeFault, a_package_with_information_has_an_output, an_index_has_an_output,
+    an_output_is_short, output_name,
+};
+use report_core::Refusal;
+use std::alloc::{AllocError, Global};
+use words_core::Command;
+
+/// Makes a package, and writes it under the output's name. It tells nothing.
+pub(crate) fn mkpkg<T: Tree>(
+    alloc: Global,
+    command: &Command,
+    tree: &mut T,
+) -> Result<Verdict, TreeFault>
+    requires command { IsCommand command.now }
+    requires applet { command.now.applet ≡ Mkpkg }
+    ensures found { IfOk result (λ verdict. OnTold (T.history tree.old) (λ v. TellsOne (IsPackageOutcome command.now (files_of v)) verdict)) }
+    ensures by_reads { IfOk result (λ verdict. (names : List (List ℕ)) × (read : Reads) × Tells verdict (mkpkg_by no_names read command.now names)) }
+    ensures run { OnTold (T.history tree.old) (λ v. IsRun (IsPackageOutcome command.now (files_of v)) false (output_name command.now) result v (T.history tree.old) (T.history tree.new)) }
+    ensures refused { IfOk result (λ verdict. IsSome verdict.refusal → T.history tree.new ≡ T.history tree.old) }
+    ensures undone { IsErrOf result TreeFault.Memory → T.history tree.new ≡ T.history tree.old }
+    ensures goes_on { GoesOn (T.counts tree.old) (T.counts tree.new) }
+    ensures disk { IsErrOf result TreeFault.Disk → HasCause (T.counts tree.old) (T.counts tree.new) }
+    ensures kept { OnOk result (IsNoFault (T.counts tree.old) (T.counts tree.new)) }
+    ensures memory { IsErrOf result TreeFault.Memory → IsNoFault (T.counts tree.old) (T.counts tree.new) }
+    ensures proper { OnTold (T.history tree.old) (λ v. ((outcome : Outcome) → IsPackageOutcome command.now (files_of v) outcome → outcome.refusal ≡ None → HasRoomFor (output_name command.now) (files_of v))
+        → (T.counts tree.new).misuses ≡ (T.counts tree.old).misuses) }
+{
+    files_have_one_list_of_names();
+    a_package_with_information_has_an_output();
+    let container = package(alloc, command, tree);
+    let report = Text::from_vec(Vec::new(alloc));
+    finish(alloc, command, container, report, tree)
+}
+
+/// Makes an index, and writes it under the output's name. It tells how many packages it has.
+pub(crate) fn mkndx<T: Tree>(
+    alloc: Global,
+    command: &Command,
+    tree: &mut T,
+) -> Result<Verdict, TreeFault>
+    requires command { IsCommand command.now }
+    requires applet { command.now.applet ≡ Mkndx }
+    ensures found { IfOk result (λ verdict. OnTold (T.history tree.old) (λ v. TellsOne (IsIndexOutcome command.now (files_of v)) verdict)) }
+    ensures by_reads { IfOk result (λ verdict. (read : Reads) × Tells verdict (mkndx_by no_names read command.now)) }
+    ensures run { OnTold (T.history tree.old) (λ v. IsRun (IsIndexOutcome command.now (files_of v)) false (output_name command.now) result v (T.history tree.old) (T.history tree.new)) }
+    ensures refused { IfOk result (λ verdict. IsSome verdict.refusal → T.history tree.new ≡ T.history tree.old) }
+    ensures undone { IsErrOf result TreeFault.Memory → T.history tree.new ≡ T.history tree.old }
+    ensures goes_on { GoesOn (T.counts tree.old) (T.counts tree.new) }
+    ensures disk { IsErrOf result TreeFault.Disk → HasCause (T.counts tree.old) (T.counts tree.new) }
+    ensures kept { OnOk result (IsNoFault (T.counts tree.old) (T.counts tree.new)) }
+    ensures memory { IsErrOf result TreeFault.Memory → IsNoFault (T.counts tree.old) (T.counts tree.new) }
+    ensures proper { OnTold (T.history tree.old) (λ v. ((outcome : Outcome) → IsIndexOutcome command.now (files_of v) outcome → outcome.refusal ≡ None → HasRoomFor (output_name command.now) (files_of v))
+        → (T.counts tree.new).misuses ≡ (T.counts tree.old).misuses) }
+{
+    an_index_has_an_output();
+    let report = index_line(alloc, command.operands().len())?;
+    let container = index(alloc, command, tree);
+    finish(alloc, command, container, report, tree)
+}
+
+// What a package is made of, read and made.
+fn package<T: Tree>(alloc: Global, command: &Command, tree: &mut T) -> Result<Vec<u8>, MakeFault>
+    requires { command.now.applet ≡ Mkpkg }
+    ensures told { OnTold (T.history tree.old) (λ v. OnMade result (IsPackage command.now (files_of v))) }
+    ensures found { OnMade result (IsPackageFound command.now) }
+    ensures same { T.history tree.new ≡ T.history tree.old }
+    ensures goes_on { GoesOn (T.counts tree.old) (T.counts tree.new) }
+    ensures disk { IsErrOf result MakeFault.Disk → HasCause (T.counts tree.old) (T.counts tree.new) }
+    ensures kept { UnlessDisk result (IsNoFault (T.counts tree.old) (T.counts tree.new)) }
+    ensures proper { OnTold (T.history tree.old) (λ v. (T.counts tree.new).misuses ≡ (T.counts tree.old).misuses) }
+{
+    make_core::mkpkg(alloc, command, tree)
+}
+
+// The packages of an index, read, and the index made.
+fn index<T: Tree>(alloc: Global, command: &Command, tree: &mut T) -> Result<Vec<u8>, MakeFault>
+    requires { command.now.applet ≡ Mkndx }
+    ensures told { OnTold (T.history tree.old) (λ v. OnMade result (IsIndex command.now (files_of v))) }
+    ensures found { OnMade result (IsIndexFound command.now) }
+    ensures same { T.history tree.new ≡ T.history tree.old }
+    ensures goes_on { GoesOn (T.counts tree.old) (T.counts tree.new) }
+    ensures disk { IsErrOf result MakeFault.Disk → HasCause (T.counts tree.old) (T.counts tree.new) }
+    ensures kept { UnlessDisk result (IsNoFault (T.counts tree.old) (T.counts tree.new)) }
+    ensures proper { OnTold (T.history tree.old) (λ v. (T.counts tree.new).misuses ≡ (T.counts tree.old).misuses) }
+{
+    make_core::mkndx(alloc, command, tree)
+}
+
+// What is told of an index.
+fn index_line(alloc: Global, count: usize) -> Result<Text, AllocError>
+    ensures { IfOk result (λ line. line ≡ index_line count) }
+{
+    let line = format!(in alloc; "Index has {count} packages\n")?;
+    Text::of(alloc, line.as_bytes())
+}
+
+// Writes what was made, or refuses.
+fn finish<T: Tree>(
+    alloc: Global,
+    command: &Command,
+    container: Result<Vec<u8>, MakeFault>,
+    report: Text,
+    tree: &mut T,
+) -> Result<Verdict, TreeFault>
+    requires command { IsCommand command.now }
+    requires output { IfOk container (λ file. IsSome (output_name command.now)) }
+    ensures told { IfOk result (λ verdict. (files : Files) → Tells verdict (made files (output_name command.now) report (made_in container))) }
+    ensures run { OnTold (T.history tree.old) (λ v. IsRun (λ outcome. outcome ≡ made (files_of v) (output_name command.now) report (made_in container)) false (output_name command.now) result v (T.history tree.old) (T.history tree.new)) }
+    ensures done { IfOk result (λ verdict. is_cut_off container ≡ false) }
+    ensures cut { is_cut_off container ≡ true → T.history tree.new ≡ T.history tree.old }
+    ensures refused { IfOk result (λ verdict. IsSome verdict.refusal → T.history tree.new ≡ T.history tree.old) }
+    ensures undone { IsErrOf result TreeFault.Memory → T.history tree.new ≡ T.history tree.old }
+    ensures goes_on { GoesOn (T.counts tree.old) (T.counts tree.new) }
+    ensures disk { IsErrOf result TreeFault.Disk → IsErrOf container MakeFault.Disk ⊎ HasCause (T.counts tree.old) (T.counts tree.new) }
+    ensures kept { OnOk result (IsNoFault (T.counts tree.old) (T.counts tree.new)) }
+    ensures memory { IsErrOf result TreeFault.Memory → IsNoFault (T.counts tree.old) (T.counts tree.new) }
+    ensures lost { IsErrOf result TreeFault.Memory → container ≢ Err MakeFault.Disk }
+    ensures proper { OnTold (T.history tree.old) (λ v. (IfOk container (λ file. (made (files_of v) (output_name command.now) report (Ok file.items)).refusal ≡ None → HasRoomFor (output_name command.now) (files_of v)))
+        → (T.counts tree.new).misuses ≡ (T.counts tree.old).misuses) }
+{
+    match container {
+        Ok(file) => write(alloc, command, &file, report, tree),
+        Err(fault) => refuse(alloc, command, fault),
+    }
+}
+
+// Writes a container under the output's name, unless that is reserved.
+fn write<T: Tree>(
+    alloc: Global,
+    command: &Command,
+    file: &[u8],
+    report: Text,
+    tree: &mut T,
+) -> Result<Verdict, TreeFault>
+    requires command { IsCommand command.now }
+    requires output { IsSome (output_name command.now) }
+    ensures told { IfOk result (λ verdict. (files : Files) → Tells verdict (made files (output_name command.now) report (Ok file.now))) }
+    ensures run { OnTold (T.history tree.old) (λ v. IsRun (λ outcome. outcome ≡ made (files_of v) (output_name command.now) report (Ok file.now)) false (output_name command.now) result v (T.history tree.old) (T.history tree.new)) }
+    ensures refused { IfOk result (λ verdict. IsSome verdict.refusal → T.history tree.new ≡ T.history tree.old) }
+    ensures undone { IsErrOf result TreeFault.Memory → T.history tree.new ≡ T.history tree.old }
+    ensures goes_on { GoesOn (T.counts tree.old) (T.counts tree.new) }
+    ensures disk { IsErrOf result TreeFault.Disk → HasCause (T.counts tree.old) (T.counts tree.new) }
+    ensures kept { OnOk result (IsNoFault (T.counts tree.old) (T.counts tree.new)) }
+    ensures memory { IsErrOf result TreeFault.Memory → IsNoFault (T.counts tree.old) (T.counts tree.new) }
+    ensures proper { OnTold (T.history tree.old) (λ v. ((made (files_of v) (output_name command.now) report (Ok file.now)).refusal ≡ None → HasRoomFor (output_name command.now) (files_of v))
+        → (T.counts tree.new).misuses ≡ (T.counts tree.old).misuses) }
+{
+    an_output_is_short();
+    // A command of which a container was made has an output.
+    let Some(output) = output_name(alloc, command)? else {
+        unreachable!()
+    };
+    if is_reserved(output.as_bytes()) {
+        return Ok(Verdict::refused(alloc, Refusal::Reserved { path: output }));
+    }
+    replace(alloc, tree, &output, file)?;
+    Ok(Verdict::reported(report))
+}
+
+// Refuses what was not made.
+fn refuse(alloc: Global, command: &Command, fault: MakeFault) -> Result<Verdict, TreeFault>
+    ensures told { IfOk result (λ verdict. (files : Files) (report : List ℕ) → Tells verdict (made files (output_name command.now) report (Err fault))) }
+    ensures refused { IfOk result (λ verdict. IsSome verdict.refusal) }
+    ensures done { IfOk result (λ verdict. is_cut fault ≡ false) }
+    ensures disk { IsErrOf result TreeFault.Disk → fault ≡ MakeFault.Disk }
+    ensures lost { IsErrOf result TreeFault.Memory → fault ≢ MakeFault.Disk }
+{
+    let refusal = refusal_of(alloc, command, fault)?;
+    Ok(Verdict::refused(alloc, refusal))
+}
+
+// Why it was not made.
+fn refusal_of(alloc: Global, command: &Command, fault: MakeFault) -> Result<Refusal, TreeFault>
+    ensures told { IfOk result (λ refusal. (files : Files) (report : List ℕ) → made files (output_name command.now) report (Err fault) ≡ refused files refusal) }
+    ensures done { IfOk result (λ refusal. is_cut fault ≡ false) }
+    ensures disk { IsErrOf result TreeFault.Disk → fault ≡ MakeFault.Disk }
+    ensures lost { IsErrOf result TreeFault.Memory → fault ≢ MakeFault.Disk }
+{
+    match fault {
+        MakeFault::FileMissing { place } => Ok(Refusal::FileMissing { place }),
+        MakeFault::FileBad { place, cause } => Ok(Refusal::FileBad { place, cause }),
+        MakeFault::InfoBad { place } => Ok(Refusal::InfoBad { place }),
+        MakeFault::TooLarge { bytes, values } => {
+            let refusal = too_large(alloc, command, bytes, values)?;
+            Ok(refusal)
+        }
+        MakeFault::Disk => Err(TreeFault::Disk),
+        MakeFault::Memory => Err(TreeFault::Memory),
+    }
+}
+
+// The refusal of a container that is too large: a reserved output is told before that.
+fn too_large(
+    alloc: Global,
+    command: &Command,
+    bytes: u64,
+    values: u64,
+) -> Result<Refusal, AllocError>
+    ensures { IfOk result (λ refusal. (files : Files) → refused files refusal ≡ unless_reserved files (output_name command.now) (refused files (ResultTooLarge bytes values))) }
+{
+    match output_name(alloc, command)? {
+        Some(path) if is_reserved(path.as_bytes()) => Ok(Refusal::Reserved { path }),
+        _ => Ok(Refusal::ResultTooLarge { bytes, values }),
+    }
+}
