@@ -5,6 +5,7 @@ pub mod GivenKept
 pub mod WhatIsRead
 pub mod LinesRead
 pub mod LinesJudged
+pub mod LinesFit
 pub mod LinesMade
 pub mod OffendingWords
 pub mod MoreWords
