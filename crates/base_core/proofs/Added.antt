@@ -1,7 +1,6 @@
 -- What a sink has got after several writes.
 use Rattle.std.proofs.Common.{◌≡◌, ℕ, List, [], ◌++◌, take, drop, Option, Some, None, refl, ◌-◌, length, arith, take_all, length-drop, sym, ap, ◌∙◌, append_assoc, append-nil, take-append-drop}
 use Rattle.std.specs.Option.{option_map}
-use Rattle.base_core.specs.Faults.{Counts, GoesOn, IsNoFault}
 use Rattle.base_core.specs.Sink.{Adds, AddsSome}
 
 pub Adds-none : (old : Option (List ℕ)) → Adds old old []
@@ -37,15 +36,3 @@ cut old mid new all rest h e = record { front = h.front; rest = rest; whole = h.
 -- the range behind the first n
 pub take-behind : (n : ℕ) (l : List ℕ) → take (length l - n) (drop n l) ≡ drop n l
 take-behind n l = take_all (length l - n) (drop n l) (omega (arith, length-drop n l))
-
--- the counts of two calls
-pub goes_on_twice : (a b c : Counts) → GoesOn a b → GoesOn b c → GoesOn a c
-goes_on_twice a b c h k = record {
-  faults = omega (arith, h.faults, k.faults);
-  misuses = omega (arith, h.misuses, k.misuses);
-  wants = omega (arith, h.wants, k.wants);
-  fallible = λ now. h.fallible (k.fallible now);
-}
-
-pub no_fault_twice : (a b c : Counts) → IsNoFault a b → IsNoFault b c → IsNoFault a c
-no_fault_twice a b c h k = record { faults = k.faults ∙ h.faults; wants = k.wants ∙ h.wants }

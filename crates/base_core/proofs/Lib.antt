@@ -1,4 +1,5 @@
 pub mod Added
+pub mod Counting
 pub mod Left
 pub mod Rising
 pub mod OneList

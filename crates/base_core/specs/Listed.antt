@@ -1,9 +1,10 @@
 -- The listing of a folder.
-use Rattle.std.specs.Prelude.{◌≡◌, ◌↔◌, ℕ, List, Option, IsSome, AllPairs, Contains}
+use Rattle.std.specs.Prelude.{◌≡◌, ◌↔◌, ℕ, List, Option, IsSome, All, AllPairs, Contains}
 use Rattle.std.specs.Ordering.{nat_cmp}
 use Rattle.std.specs.Cmp.Lexicographic.{slice_cmp}
 use Rattle.std.specs.declared.cmp.Ordering.TheVariants.{Less}
 use Rattle.base_core.specs.Files.{IsFolderOf}
+use Rattle.base_core.specs.Name.{IsName}
 use Rattle.base_core.specs.Tree.{TreeState}
 
 -- names in byte order, each once
@@ -19,3 +20,13 @@ pub record IsNamesOf {X : Type 0} (map : List ℕ → Option X) (names : List (L
 pub record IsListOf (folder : List ℕ) (v : TreeState) (names : List (List ℕ)) : Type 0 where
   pub rising : IsRising names
   pub each : (q : List ℕ) → Contains names q ↔ (IsSome (v.names q) × IsFolderOf folder q)
+
+-- a name below the folder
+pub record IsNameBelow (folder name : List ℕ) : Type 0 where
+  pub named : IsName name
+  pub below : IsFolderOf folder name
+
+-- names below the folder in byte order, each once
+pub record AreNamesBelow (folder : List ℕ) (names : List (List ℕ)) : Type 0 where
+  pub rising : IsRising names
+  pub each : All (IsNameBelow folder) names

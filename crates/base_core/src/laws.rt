@@ -1,6 +1,7 @@
-//! What follows from the definitions of a crash and of a listing, for every state of a tree.
+//! What follows from the definitions of a crash and of a listing, for every state of a tree, and from those of the counts.
 ghost use Rattle.std.specs.Prelude.{◌≡◌, ℕ, List, Option, Bool, true};
 ghost use Rattle.base_core.specs.Crash.{IsImage, IsImageBy, IsCrashOf, IsOrderly};
+ghost use Rattle.base_core.specs.Faults.{Counts, GoesOn, HasCause, IsNoFault};
 ghost use Rattle.base_core.specs.Files.{Files, NameMap, IsWithin};
 ghost use Rattle.base_core.specs.Listed.{IsNamesOf, IsListOf};
 ghost use Rattle.base_core.specs.Tree.{TreeState, IsMapOf, IsWhole, files_of, files_by};
@@ -48,4 +49,13 @@ pub fn files_have_one_list_of_names()
 /// The files as read stand under just the names as read.
 pub fn the_files_as_read_have_the_names_as_read()
     ensures { (v : TreeState) (names : List (List ℕ)) → IsNamesOf v.names names → IsNamesOf (files_of v) names }
+{}
+
+/// What is said of the counts over each of two calls in a row holds over both, and with no call no count changes.
+pub fn counts_of_calls_in_a_row_join()
+    ensures goes_on { (a b c : Counts) → GoesOn a b → GoesOn b c → GoesOn a c }
+    ensures cause_before { (a b c : Counts) → HasCause a b → GoesOn b c → HasCause a c }
+    ensures cause_behind { (a b c : Counts) → GoesOn a b → HasCause b c → HasCause a c }
+    ensures no_fault { (a b c : Counts) → IsNoFault a b → IsNoFault b c → IsNoFault a c }
+    ensures stays { (a : Counts) → GoesOn a a × IsNoFault a a }
 {}

@@ -1,6 +1,7 @@
-ghost use Rattle.std.specs.Prelude.{◌≡◌, ◌<◌, ◌==◌, ◌++◌, ◌∷◌, [], length, slice_get, Some, IfOk, IfSome, OnOk, OnErr, is_some};
+ghost use Rattle.std.specs.Prelude.{◌≡◌, ◌↔◌, ◌<◌, ◌==◌, ◌++◌, ◌∷◌, [], length, slice_get, Some, IfOk, IfSome, OnOk, OnErr, is_some, IsTrue, All};
 ghost use Rattle.std.specs.List.{list_all};
 ghost use Rattle.std.specs.Str.{is_utf8};
+ghost use Rattle.base_core.specs.Files.{IsFolderOf};
 ghost use Rattle.base_core.specs.Name.{IsName, is_name, is_part, parts_of};
 
 use std::alloc::{AllocError, Global};
@@ -90,6 +91,16 @@ fn is_part(part: &[u8]) -> bool
     !part.is_empty() && part != b".".as_slice() && part != b"..".as_slice()
 }
 
+/// Whether the first name and a slash begin the second.
+pub fn is_folder_of(folder: &[u8], name: &[u8]) -> bool
+    ensures { IsTrue result ↔ IsFolderOf folder.now name.now }
+{
+    match name.strip_prefix(folder) {
+        Some(rest) => rest.starts_with(b"/"),
+        None => false,
+    }
+}
+
 /// A list of names.
 #[derive(Drop)]
 pub struct Names {
@@ -97,11 +108,14 @@ pub struct Names {
 }
 
 impl Model for Names {
-    ghost use Rattle.std.specs.Prelude.{ℕ, List};
+    ghost use Rattle.std.specs.Prelude.{ℕ, List, All};
+    ghost use Rattle.base_core.specs.Name.{IsName};
 
     ghost Value = { List (List ℕ) };
 
     ghost view = { λ names. names.names.items };
+
+    ghost invariant = { λ names. All IsName names.names.items };
 }
 
 impl Names {
@@ -135,6 +149,13 @@ impl Names {
         ensures { result ≡ (length self.now == 0) }
     {
         self.names.is_empty()
+    }
+
+    /// Each of them is a name.
+    pub fn are_names(&self)
+        ensures { All IsName self.now }
+    {
+        let _ = &self.names;
     }
 
     /// The name at a place, counted from 0.

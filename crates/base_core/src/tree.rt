@@ -3,7 +3,7 @@ ghost use Rattle.std.specs.Option.{option_map};
 ghost use Rattle.base_core.specs.Tree.{TreeState, files_of, after_create, after_append, after_failed_append, after_sync, after_rename, after_remove, after_sync_names, unchanged, Anywhere, HasName, CanRead, CanCreate, CanRename, IsWhole};
 ghost use Rattle.base_core.specs.Faults.{Counts, GoesOn, HasCause, IsNoFault};
 ghost use Rattle.base_core.specs.Calls.{Counted, Moves, OnTold};
-ghost use Rattle.base_core.specs.Listed.{IsListOf};
+ghost use Rattle.base_core.specs.Listed.{AreNamesBelow, IsListOf};
 ghost use Rattle.base_core.specs.declared.tree.TreeFault.TheVariants.{Memory, Disk as DiskFault};
 
 use crate::name::{Name, Names};
@@ -98,7 +98,8 @@ pub trait Tree {
         ensures moves { Moves Anywhere after_sync_names unchanged (history self.old) (history self.new) result }
         ensures counts { Counted Anywhere (history self.old) (counts self.old) (counts self.new) result };
 
-    /// All names below a folder, at any depth, in byte order. Want of memory is no fault of the tree.
+    /// All names below a folder, at any depth. They are names below the folder in byte order, each once, whatever the
+    /// tree tells. Want of memory is no fault of the tree.
     fn list(&mut self, alloc: Global, folder: &Name) -> Result<Names, TreeFault>
         ensures same { history self.new ≡ history self.old }
         ensures goes_on { GoesOn (counts self.old) (counts self.new) }
@@ -106,7 +107,8 @@ pub trait Tree {
         ensures kept { OnOk result (IsNoFault (counts self.old) (counts self.new)) }
         ensures memory { IsErrOf result Memory → IsNoFault (counts self.old) (counts self.new) }
         ensures proper { (counts self.new).misuses ≡ (counts self.old).misuses }
-        ensures value { IfOk result (λ names. OnTold (history self.old) (λ v. IsListOf folder.now v names)) };
+        ensures value { IfOk result (λ names. OnTold (history self.old) (λ v. IsListOf folder.now v names)) }
+        ensures order { IfOk result (λ names. AreNamesBelow folder.now names) };
 
     /// Each state that is told has finitely many names, and led to no file that was never made.
     ghost whole: { (tree : Self) → All IsWhole (history tree) };

@@ -1,4 +1,5 @@
 pub mod AtName
+pub mod Below
 pub mod Changed
 pub mod Counting
 pub mod Folders

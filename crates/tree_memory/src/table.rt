@@ -2,10 +2,10 @@ ghost use Rattle.std.specs.Prelude.{◌≡◌, ◌↔◌, ℕ, [], ◌∷◌, �
 ghost use Rattle.std.specs.Ordering.{nat_cmp, is_lt};
 ghost use Rattle.std.specs.Str.{bytes_eq};
 ghost use Rattle.std.specs.Cmp.Lexicographic.{slice_cmp};
-ghost use Rattle.base_core.specs.Files.{put, drop_name, IsFolderOf};
+ghost use Rattle.base_core.specs.Files.{put, drop_name};
 ghost use Rattle.tree_memory.specs.Table.{IsTable, IsFit, lookup, names_of, IsNamed, IsPlace, IsStart, IsBelow, HasFolderBut, HasBelowBut};
 
-use base_core::{Name, Names};
+use base_core::{Name, Names, is_folder_of};
 use std::alloc::{AllocError, Global};
 use std::cmp::Ordering;
 
@@ -173,14 +173,4 @@ fn against_folder(name: &[u8], folder: &[u8]) -> Ordering
     ensures { result ≡ slice_cmp nat_cmp name.now (folder.now ++ 47 ∷ []) }
 {
     name.iter().cmp(folder.iter().chain(b"/"))
-}
-
-/// Whether the first name and a slash begin the second.
-pub fn is_folder_of(folder: &[u8], name: &[u8]) -> bool
-    ensures { IsTrue result ↔ IsFolderOf folder.now name.now }
-{
-    match name.strip_prefix(folder) {
-        Some(rest) => rest.starts_with(b"/"),
-        None => false,
-    }
 }

@@ -4,7 +4,7 @@ ghost use Rattle.base_core.specs.Calls.{Counted, Moves, OnTold};
 ghost use Rattle.base_core.specs.Crash.{IsCrashOf};
 ghost use Rattle.base_core.specs.Faults.{GoesOn, HasCause, IsNoFault, risen};
 ghost use Rattle.base_core.specs.Files.{put};
-ghost use Rattle.base_core.specs.Listed.{IsNamesOf, IsListOf};
+ghost use Rattle.base_core.specs.Listed.{AreNamesBelow, IsNamesOf, IsListOf};
 ghost use Rattle.base_core.specs.Tree.{files_of, after_create, after_append, after_failed_append, after_sync, after_rename, after_remove, after_sync_names, unchanged, Anywhere, HasName, CanRead, CanCreate, CanRename};
 ghost use Rattle.base_core.specs.declared.tree.TreeFault.TheVariants.{Memory, Disk as DiskFault};
 ghost use Rattle.tree_memory.specs.Changes.{empty_state, after_put};
@@ -276,6 +276,7 @@ impl Tree for MemoryTree {
         ensures memory { IsErrOf result Memory → IsNoFault (counts_of self.old) (counts_of self.new) }
         ensures proper { (counts_of self.new).misuses ≡ (counts_of self.old).misuses }
         ensures value { IfOk result (λ names. OnTold (history_of self.old) (λ v. IsListOf folder.now v names)) }
+        ensures order { IfOk result (λ names. AreNamesBelow folder.now names) }
 
         // The tree fails exactly where that is planned.
         ensures when { IsErrOf result DiskFault ↔ (is_next (plan_of self.old) ≡ true) }
@@ -287,6 +288,7 @@ impl Tree for MemoryTree {
     {
         self.calls.begin(true)?;
         let names = self.store.list(alloc, folder)?;
+        names.are_names();
         Ok(names)
     }
 }

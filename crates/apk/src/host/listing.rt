@@ -1,17 +1,25 @@
 // The files below a folder.
+ghost use Rattle.std.specs.Prelude.{◌≡◌, ◌↔◌, ◌-◌, [], ◌∷◌, ◌++◌, ℕ, List, All, Contains, IfOk, IsTrue, OnErr, OnOk, Some, length, slice_get};
+ghost use Rattle.std.specs.Cmp.Lexicographic.{slice_cmp};
+ghost use Rattle.std.specs.List.Sorted.{IsSorted};
+ghost use Rattle.std.specs.Ordering.{nat_cmp};
+ghost use Rattle.base_core.specs.Files.{IsFolderOf};
+ghost use Rattle.base_core.specs.Listed.{AreNamesBelow, IsRising};
 
 use super::look::{Found, done, find, look, text};
-use base_core::{Name, Names, TreeFault};
+use base_core::{Name, Names, TreeFault, is_folder_of};
 use std::alloc::{AllocError, Global};
 use std::fs;
 use std::fs::Files;
 
-/// The names of all regular files below a folder, at any depth, in byte order.
+/// The names of all regular files below a folder, at any depth, in byte order, each once.
 pub fn list_below<R: Files + AllocGlobal + Clone + Drop>(
     rt: &R,
     alloc: Global,
     folder: &Name,
-) -> Result<Names, TreeFault> {
+) -> Result<Names, TreeFault>
+    ensures { IfOk result (AreNamesBelow folder.now) }
+{
     let mut walk = Walk {
         alloc,
         folders: Vec::new(alloc),
@@ -21,10 +29,10 @@ pub fn list_below<R: Files + AllocGlobal + Clone + Drop>(
         keep(&mut walk.folders, folder.copy(alloc)?)?;
     }
     for _ in 0..u64::MAX {
-        let Some(folder) = walk.folders.pop() else {
+        let Some(next) = walk.folders.pop() else {
             break;
         };
-        walk.visit(rt, &folder)?;
+        walk.visit(rt, folder, &next)?;
     }
     Ok(walk.sorted()?)
 }
@@ -38,24 +46,35 @@ struct Walk {
 }
 
 impl Walk {
-    // Finds what stands in a folder.
+    // Finds what stands in a folder, which is the root or below it.
     fn visit<R: Files + AllocGlobal + Clone + Drop>(
         &mut self,
         rt: &R,
+        root: &Name,
         folder: &Name,
-    ) -> Result<(), TreeFault> {
+    ) -> Result<(), TreeFault>
+        requires { All (IsFolderOf root.now) self.old.files.items }
+        ensures { All (IsFolderOf root.now) self.new.files.items }
+    {
         for entry in done(fs::read_dir(rt, text(folder.as_bytes())?))? {
             let entry = done(entry)?;
-            self.meet(rt, entry.path().as_str().as_bytes())?;
+            self.meet(rt, root, entry.path().as_str().as_bytes())?;
         }
         Ok(())
     }
 
-    // Keeps what stands at a path. A path that is no name is a fault, so the walk is as deep as a name at most.
-    fn meet<R: Files>(&mut self, rt: &R, path: &[u8]) -> Result<(), TreeFault> {
+    // Keeps what stands at a path. A path that is no name is a fault, so the walk is as deep as a name at most, and so is
+    // a path that is not below the root.
+    fn meet<R: Files>(&mut self, rt: &R, root: &Name, path: &[u8]) -> Result<(), TreeFault>
+        requires { All (IsFolderOf root.now) self.old.files.items }
+        ensures { All (IsFolderOf root.now) self.new.files.items }
+    {
         let Some(name) = Name::read(self.alloc, path)? else {
             return Err(TreeFault::Disk);
         };
+        if !is_folder_of(root.as_bytes(), path) {
+            return Err(TreeFault::Disk);
+        }
         match look(rt, path)? {
             Found::Folder => keep(&mut self.folders, name)?,
             Found::File { .. } => keep(&mut self.files, name)?,
@@ -64,18 +83,47 @@ impl Walk {
         Ok(())
     }
 
-    // The files that were found, in byte order.
-    fn sorted(mut self) -> Result<Names, AllocError> {
+    // The files that were found, in byte order, each once: a host that changes under a walk may show one twice.
+    fn sorted(mut self) -> Result<Names, AllocError>
+        ensures { (root : List ℕ) → All (IsFolderOf root) self.files.items → IfOk result (AreNamesBelow root) }
+    {
         self.files.sort_by(|a, b| a.as_bytes().cmp(b.as_bytes()))?;
-        let mut names = Names::new(self.alloc);
-        for name in self.files {
-            names.push(name)?;
-        }
+        let names = each_once(self.alloc, self.files)?;
+        names.are_names();
         Ok(names)
     }
 }
 
-fn keep(list: &mut Vec<Name>, name: Name) -> Result<(), AllocError> {
+// Names in order, each once.
+fn each_once(alloc: Global, sorted: Vec<Name>) -> Result<Names, AllocError>
+    requires { IsSorted (slice_cmp nat_cmp) sorted.items }
+    ensures rising { IfOk result IsRising }
+    ensures each { IfOk result (All (Contains sorted.items)) }
+{
+    let mut names = Names::new(alloc);
+    for name in sorted {
+        if is_last(&names, &name) {
+            continue;
+        }
+        names.push(name)?;
+    }
+    Ok(names)
+}
+
+// Whether a name is the last one of the list.
+fn is_last(names: &Names, name: &Name) -> bool
+    ensures { IsTrue result ↔ (slice_get names.now (length names.now - 1) ≡ Some name.now) }
+{
+    if names.is_empty() {
+        return false;
+    }
+    names.get(names.len() - 1).as_bytes() == name.as_bytes()
+}
+
+fn keep(list: &mut Vec<Name>, name: Name) -> Result<(), AllocError>
+    ensures ok { OnOk result (list.new.items ≡ list.old.items ++ name ∷ []) }
+    ensures err { OnErr result (list.new.items ≡ list.old.items) }
+{
     list.push(name)?;
     Ok(())
 }

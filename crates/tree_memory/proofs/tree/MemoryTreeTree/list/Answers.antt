@@ -1,5 +1,6 @@
 use Rattle.std.proofs.Common.{true, sym}
 use Rattle.tree_memory.specs.Memory.{writes_of}
+use Rattle.tree_memory.proofs.Below.{names_below}
 use Rattle.tree_memory.proofs.Counting.{IsBegun, begun_on, planned_cause}
 use Rattle.tree_memory.proofs.tree.MemoryTreeTree.list.Goals as goal
 
@@ -26,3 +27,6 @@ returns-clause-goes_on c =
     let old = c.args.self.now in
     let h : IsBegun true (writes_of old) old.calls c.begin.new.self = record { plan = c.begin.ensures.plan; tally = c.begin.ensures.tally; grown = c.begin.ensures.grown } in
     begun_on true (writes_of old) old.calls c.begin.new.self h
+
+pub returns-clause-order : goal.returns-clause-order
+returns-clause-order c = names_below _ _ _ c.in_ok-names.ensures c.are_names.ensures
