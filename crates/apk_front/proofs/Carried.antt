@@ -12,10 +12,11 @@ use Rattle.base_core.specs.declared.tree.TreeFault.TheVariants.{Disk, Memory as 
 use Rattle.journal_core.specs.Recovery.{IsSettled, RestsOn}
 use Rattle.journal_core.specs.Replacing.{IsReplacing}
 use Rattle.make_core.specs.Output.{output_name}
-use Rattle.make_core.specs.Sources.{Reads}
+use Rattle.make_core.specs.Sound.{AreNamesFor}
+use Rattle.make_core.specs.Sources.{Reads, given}
 use Rattle.outcome.specs.Dump.{adbdump_by, dump_found, dump_told, dumped}
 use Rattle.outcome.specs.Make.{mkndx_by, mkpkg_by}
-use Rattle.outcome.specs.Outcome.{IsFoundOutcomeOf, IsGivenTo, IsOutcome, IsOutcomeOf, run_applet, run_by, run_of}
+use Rattle.outcome.specs.Outcome.{IsFoundOutcomeOf, IsGivenBySome, IsGivenTo, IsOutcome, IsOutcomeOf, run_applet, run_by, run_of}
 use Rattle.outcome.specs.Reach.{does_read_only, reads_only}
 use Rattle.outcome.specs.Told.{Outcome, refused, told, unless}
 use Rattle.outcome.specs.Verify.{verify_refusal, verified_lines}
@@ -36,7 +37,7 @@ use Rattle.apk_front.specs.Shown.{IsIndexOutcome, IsPackageOutcome, IsShown, Tel
 use Rattle.apk_front.specs.declared.answer.Answer.{Answer}
 use Rattle.apk_front.specs.declared.answer.Answer.TheVariants.{Ok as Done, Refused, TreeFault as TreeFailed, OutFault, Memory}
 use Rattle.apk_front.specs.declared.verdict.Verdict.{Verdict}
-use Rattle.apk_front.proofs.Judged.{Runs, given_none}
+use Rattle.apk_front.proofs.Judged.{Runs, given_none, given_none_by_some}
 use Rattle.apk_front.proofs.Runs.{History, Judged, run_among, told_failed, told_idle, told_refused}
 
 -- ---- an applet that only reads
@@ -77,9 +78,9 @@ look_found command old (Err e) reads found = tt
 look_found command [] (Ok verdict) reads found = tt
 look_found command (v ∷ rest) (Ok verdict) reads found = (shown (files_of v) verdict, ([], given_none command.applet command (files_of v) reads, found), refl)
 
-pub look_read : (command : CommandLine) (judged : Judged) → IfOk judged (λ verdict. (read : Reads) × (shown no_names verdict ≡ run_by command.applet command [] read)) → IfOk judged (TellsOne (IsFoundOutcomeOf (Ok command)))
-look_read command (Err e) found = tt
-look_read command (Ok verdict) (read, is) = (shown no_names verdict, ([], read, is), refl)
+pub look_read : (command : CommandLine) (judged : Judged) → does_read_only command.applet ≡ true → IfOk judged (λ verdict. (read : Reads) × (shown no_names verdict ≡ run_by command.applet command [] read)) → IfOk judged (TellsOne (IsFoundOutcomeOf (Ok command)))
+look_read command (Err e) reads found = tt
+look_read command (Ok verdict) reads (read, is) = (shown no_names verdict, ([], given_none_by_some command.applet command reads, read, is), refl)
 
 always : (P : Type 0) (judged : Judged) → P → OnOk judged P
 always P (Ok verdict) p = p
@@ -122,15 +123,17 @@ pub index_found_one : (command : CommandLine) (old : History) (judged : Judged) 
     → IfOk judged (λ verdict. OnTold old (λ v. TellsOne (Ones command v) verdict))
 index_found_one command old judged same found = tells_among (λ v. IsIndexOutcome command (files_of v)) (Ones command) old judged (λ v o one. index_one command (files_of v) o same one) found
 
-pub package_read_one : (command : CommandLine) (judged : Judged) → Mkpkg ≡ command.applet → IfOk judged (λ verdict. (names : List (List ℕ)) × (read : Reads) × Tells verdict (mkpkg_by no_names read command names))
+pub package_read_one : (command : CommandLine) (judged : Judged) → Mkpkg ≡ command.applet → IfOk judged (λ verdict. (names : List (List ℕ)) × AreNamesFor (given 70 command.values) names × (read : Reads) × Tells verdict (mkpkg_by no_names read command names))
     → IfOk judged (TellsOne (IsFoundOutcomeOf (Ok command)))
 package_read_one command (Err e) same found = tt
-package_read_one command (Ok verdict) same (names, read, tells) = (mkpkg_by no_names read command names, (names, read, ap (λ (a : Applet). run_by a command names read) same), tells)
+package_read_one command (Ok verdict) same (names, named, read, tells) =
+    (mkpkg_by no_names read command names, (names, subst (λ (a : Applet). IsGivenBySome a command names) same named, read, ap (λ (a : Applet). run_by a command names read) same), tells)
 
 pub index_read_one : (command : CommandLine) (judged : Judged) → Mkndx ≡ command.applet → IfOk judged (λ verdict. (read : Reads) × Tells verdict (mkndx_by no_names read command))
     → IfOk judged (TellsOne (IsFoundOutcomeOf (Ok command)))
 index_read_one command (Err e) same found = tt
-index_read_one command (Ok verdict) same (read, tells) = (mkndx_by no_names read command, ([], read, ap (λ (a : Applet). run_by a command [] read) same), tells)
+index_read_one command (Ok verdict) same (read, tells) =
+    (mkndx_by no_names read command, ([], subst (λ (a : Applet). IsGivenBySome a command []) same refl, read, ap (λ (a : Applet). run_by a command [] read) same), tells)
 
 runs_among : (A B : TreeState → Outcome → Type 0) (reads : Bool) (out : Option (List ℕ)) (judged : Judged) (old now : History) → ((v : TreeState) (o : Outcome) → B v o → A v o) → OnTold old (λ v. IsRun (A v) reads out judged v old now)
     → OnTold old (λ v. IsRun (B v) reads out judged v old now)

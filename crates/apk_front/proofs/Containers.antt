@@ -13,6 +13,7 @@ use Rattle.make_core.specs.IndexKept.{IsMadeBy}
 use Rattle.make_core.specs.IndexTold.{told_reads}
 use Rattle.make_core.specs.Making.{IsMadeBySome, IsMadeIn, OnRefusal, made_package}
 use Rattle.make_core.specs.Output.{output_name}
+use Rattle.make_core.specs.Sound.{AreFiles, AreNamesFor}
 use Rattle.make_core.specs.Sources.{Reads, given}
 use Rattle.make_core.specs.declared.fault.MakeFault.{MakeFault}
 use Rattle.make_core.specs.declared.fault.MakeFault.TheVariants as Faults
@@ -76,7 +77,7 @@ package_told command container old ok err =
 
 pub package_found : (command : CommandLine) (container : Container) → IfOk container (λ file. IsMadeBySome command (Ok file.items)) → IfErr container (λ why. OnRefusal why (IsMadeBySome command)) → OnMade container (IsPackageFound command)
 package_found command container ok err =
-    weaker container (IsMadeBySome command) (IsPackageFound command) (λ made m. record { names = m.names; read = m.read; is = m.is }) (means container (IsMadeBySome command) ok err)
+    weaker container (IsMadeBySome command) (IsPackageFound command) (λ made m. record { names = m.names; named = m.named; read = m.read; is = m.is }) (means container (IsMadeBySome command) ok err)
 
 made_means : (container : Container) (answer : Result (List ℕ) MakeFault) → IsMadeBy (λ (file : Vec ℕ Global). file.items) container answer → OnMade container (λ made. answer ≡ made)
 made_means (Ok file) answer h = h
@@ -92,8 +93,8 @@ index_told command container old told =
     on_told_map old (λ v. IsMadeBy (λ (file : Vec ℕ Global). file.items) container (made_index command (told_reads v))) (λ v. OnMade container (IsIndex command (files_of v)))
     (λ v m. made_means container (made_index command (told_reads v)) m) told
 
-pub index_found : (command : CommandLine) (container : Container) → (read : Reads) × IsMadeBy (λ (file : Vec ℕ Global). file.items) container (made_index command read) → OnMade container (IsIndexFound command)
-index_found command container (read, m) =
+pub index_found : (command : CommandLine) (container : Container) → (read : Reads) × AreFiles read 0 command.operands × IsMadeBy (λ (file : Vec ℕ Global). file.items) container (made_index command read) → OnMade container (IsIndexFound command)
+index_found command container (read, files, m) =
     weaker container (λ made. made_index command read ≡ made) (IsIndexFound command) (λ made is. record { read = read; is = is }) (made_means container (made_index command read) m)
 
 -- ---- there is an output
@@ -204,13 +205,13 @@ package_outcomes one command report none = record {
 
 pub package_read : (command : CommandLine) (report : List ℕ) (container : Container) (judged : Judged) → report ≡ [] → OnMade container (IsPackageFound command) → IfOk judged (λ verdict. is_cut_off container ≡ false)
     → IfOk judged (λ verdict. (files : Files) → Tells verdict (made files (output_name command) report (made_in container)))
-    → IfOk judged (λ verdict. (names : List (List ℕ)) × (read : Reads) × Tells verdict (mkpkg_by no_names read command names))
+    → IfOk judged (λ verdict. (names : List (List ℕ)) × AreNamesFor (given 70 command.values) names × (read : Reads) × Tells verdict (mkpkg_by no_names read command names))
 package_read command report container (Err e) none found whole tells = tt
 package_read command report container (Ok verdict) none found whole tells =
     let m = meant container (IsPackageFound command) whole found in
     let same : made no_names (output_name command) report (made_in container) ≡ mkpkg_by no_names m.read command m.names =
     ap (λ r. made no_names (output_name command) r (made_in container)) none ∙ ap (made no_names (output_name command) []) (sym m.is) in
-    (m.names, m.read, subst (Tells verdict) same (tells no_names))
+    (m.names, m.named, m.read, subst (Tells verdict) same (tells no_names))
 
 -- ---- of an index
 

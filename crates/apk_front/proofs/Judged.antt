@@ -19,7 +19,7 @@ use Rattle.words_core.specs.declared.flags.Flags.{Flags}
 use Rattle.words_core.specs.declared.operands.Operand.{Operand}
 use Rattle.outcome.specs.Told.{Outcome, refused}
 use Rattle.outcome.specs.Version.{version}
-use Rattle.outcome.specs.Outcome.{IsFoundOutcome, IsFoundOutcomeOf, IsOutcome, IsOutcomeOf, IsGivenTo, run_by, run_of}
+use Rattle.outcome.specs.Outcome.{IsFoundOutcome, IsFoundOutcomeOf, IsGivenBySome, IsOutcome, IsOutcomeOf, IsGivenTo, run_by, run_of}
 use Rattle.outcome.specs.Reach.{does_read_only, does_rest_on_words, reads_only, rests_on_words}
 use Rattle.apk_front.specs.Answers.{IsAnswer, IsAnswerOf, LeavesFiles, LeavesAny, HasCauses, IsFaultless, IsComplete, DidNotFail, FailedAt}
 use Rattle.apk_front.specs.Moments.{IsRun, output}
@@ -40,6 +40,13 @@ given_none Version command files reads = refl
 given_none Adbdump command files reads = refl
 given_none Mkpkg command files reads = cc
 given_none Mkndx command files reads = cc
+
+pub given_none_by_some : (applet : Applet) (command : CommandLine) → does_read_only applet ≡ true → IsGivenBySome applet command []
+given_none_by_some Verify command reads = refl
+given_none_by_some Version command reads = refl
+given_none_by_some Adbdump command reads = refl
+given_none_by_some Mkpkg command reads = cc
+given_none_by_some Mkndx command reads = cc
 
 words_read : (applet : Applet) → does_rest_on_words applet ≡ true → does_read_only applet ≡ true
 words_read Verify rests = refl

@@ -14,6 +14,7 @@ use Rattle.adb_schema.specs.declared.schema.Which.{Which}
 use Rattle.base_core.specs.declared.cause.Cause.{Cause}
 use Rattle.make_core.specs.IndexCommand.{made_index}
 use Rattle.make_core.specs.Making.{made_package}
+use Rattle.make_core.specs.Sound.{AreNamesFor}
 use Rattle.make_core.specs.Sources.{Reads, given}
 use Rattle.make_core.specs.declared.fault.MakeFault.{MakeFault}
 use Rattle.make_core.specs.declared.fault.MakeFault.TheVariants.{FileMissing, FileBad, InfoBad, TooLarge}
@@ -123,9 +124,10 @@ IsPackageOutcome command files outcome = (names : List (List ℕ)) × IsBelow (g
 abbrev pub IsIndexOutcome : CommandLine → Files → Outcome → Type 0
 IsIndexOutcome command files outcome = outcome ≡ mkndx files command
 
--- by some names and reads
+-- by some names below the folder, and some reads
 pub record IsPackageFound (command : CommandLine) (made : Result (List ℕ) MakeFault) : Type 0 where
   pub names : List (List ℕ)
+  pub named : AreNamesFor (given 70 command.values) names
   pub read : Reads
   pub is : made_package command names read ≡ made
 

@@ -47,8 +47,9 @@ pub fn apk<T: Tree, O: Sink, E: Sink>(
     ensures every_tree { IsTrue (rests_on_words (command_of words.now)) → IsAnswer words.now no_names LeavesAny ⊥ result
         (sinking O.bytes O.counts out.old out.new) (sinking E.bytes E.counts err.old err.new) }
 
-    // For every tree, also one that tells nothing: the answer and the bytes are the outcome's by some bytes, or none, for
-    // each file that is read, or a fault with its cause or want of memory stands in their place.
+    // For every tree, also one that tells nothing: the answer and the bytes are the outcome's by some names below its
+    // folder, and by some bytes, or none, for each file that is read, or a fault with its cause or want of memory stands
+    // in their place.
     ensures found { IsAnswerOf (IsFoundOutcome words.now) LeavesAny (HasCause (T.counts tree.old) (T.counts tree.new)) result
         (sinking O.bytes O.counts out.old out.new) (sinking E.bytes E.counts err.old err.new) }
 

@@ -13,6 +13,7 @@ use Rattle.words_core.specs.declared.operands.Operand.{Operand}
 use Rattle.make_core.specs.Index.{and_entries, found_entries, found_entry}
 use Rattle.make_core.specs.IndexKept.{IsMade, IsMadeBy}
 use Rattle.make_core.specs.IndexTold.{told_reads}
+use Rattle.make_core.specs.Sound.{AreFiles, IsFile}
 use Rattle.make_core.specs.declared.fault.MakeFault.{MakeFault}
 use Rattle.make_core.specs.declared.fault.MakeFault.TheVariants.{FileMissing, FileBad, InfoBad, TooLarge, Disk, Memory}
 
@@ -104,10 +105,11 @@ so_far_err view read os i o es fault r at so one made e = subst (λ x. IsMadeBy 
 -- by reads so far, and whatever is read later
 pub record IsReadTo (os : List Operand) (i : ℕ) (es : List Plain) : Type 0 where
   pub found : ℕ → List ℕ → Option (List ℕ)
+  pub files : (k : ℕ) (q : List ℕ) → IfSome (found k q) IsFile
   pub rest : (later : ℕ → List ℕ → Option (List ℕ)) → ((k : ℕ) → k < i → later k ≡ found k) → IsSoFar later os i es
 
 pub read_none : (os : List Operand) → IsReadTo os 0 []
-read_none os = record { found = λ k q. None; rest = λ later agree. so_far_none later os }
+read_none os = record { found = λ k q. None; files = λ k q. tt; rest = λ later agree. so_far_none later os }
 
 found_with : (ℕ → List ℕ → Option (List ℕ)) → ℕ → Option (List ℕ) → ℕ → List ℕ → Option (List ℕ)
 found_with found i f k q = if k == i then f else found k q
@@ -120,9 +122,22 @@ with_at : (found : ℕ → List ℕ → Option (List ℕ)) (i : ℕ) (f : Option
 unfolding found_with
 with_at found i f q = ap (λ (b : Bool). if b then f else found i q) (eq-eqb i i refl)
 
-pub read_more : (os : List Operand) (i : ℕ) (o : Operand) (es new : List Plain) (e : Plain) → slice_get os i ≡ Some o → IsReadTo os i es → (f : Option (List ℕ)) → found_entry o.place f ≡ Ok e → new ≡ es ++ e ∷ [] → IsReadTo os (i + 1) new
-read_more os i o es new e at so f one is = record {
+with_files : (found : ℕ → List ℕ → Option (List ℕ)) (i : ℕ) (f : Option (List ℕ)) → IfSome f IsFile → ((k : ℕ) (q : List ℕ) → IfSome (found k q) IsFile) → (k : ℕ) (q : List ℕ) → IfSome (found_with found i f k q) IsFile
+unfolding found_with
+with_files found i f one files k q =
+    elim (k == i) as (λ b. IfSome (if b then f else found k q) IsFile) [
+      | true ↦ one
+      | false ↦ files k q
+    ]
+
+files_all : (read : ℕ → List ℕ → Option (List ℕ)) → ((k : ℕ) (q : List ℕ) → IfSome (read k q) IsFile) → (n : ℕ) (os : List Operand) → AreFiles read n os
+files_all read files n [] = tt
+files_all read files n (o ∷ os) = (λ file is. subst (λ (x : Option (List ℕ)). IfSome x IsFile) is (files n (without_dot o.text)), files_all read files (n + 1) os)
+
+pub read_more : (os : List Operand) (i : ℕ) (o : Operand) (es new : List Plain) (e : Plain) → slice_get os i ≡ Some o → IsReadTo os i es → (f : Option (List ℕ)) → IfSome f IsFile → found_entry o.place f ≡ Ok e → new ≡ es ++ e ∷ [] → IsReadTo os (i + 1) new
+read_more os i o es new e at so f file one is = record {
   found = found_with so.found i f;
+  files = with_files so.found i f file so.files;
   rest = λ later agree.
       so_far_more later os i o es new e at
       (so.rest later (λ k lt. agree k (omega (lt, arith)) ∙ with_before so.found i f k lt))
@@ -130,15 +145,16 @@ read_more os i o es new e at so f one is = record {
       is;
 }
 
-pub read_all_is : (os : List Operand) (i : ℕ) (es : List Plain) → length os ≤ i → IsReadTo os i es → (read : ℕ → List ℕ → Option (List ℕ)) × (found_entries read 0 os ≡ Ok es)
-read_all_is os i es past so = (so.found, so_far_all so.found os i es past (so.rest so.found (λ k lt. refl)))
+pub read_all_is : (os : List Operand) (i : ℕ) (es : List Plain) → length os ≤ i → IsReadTo os i es → (read : ℕ → List ℕ → Option (List ℕ)) × AreFiles read 0 os × (found_entries read 0 os ≡ Ok es)
+read_all_is os i es past so = (so.found, files_all so.found so.files 0 os, so_far_all so.found os i es past (so.rest so.found (λ k lt. refl)))
 
-pub read_err : {A B : Type 0} (view : A → List Plain) (one : B → Plain) (os : List Operand) (i : ℕ) (o : Operand) (es : List Plain) (fault : MakeFault) (r : Result A MakeFault) → slice_get os i ≡ Some o → IsReadTo os i es → (found : Option (List ℕ)) × IsMadeBy one (Err fault) (found_entry o.place found) → r ≡ Err fault → (read : ℕ → List ℕ → Option (List ℕ)) × IsMadeBy view r (found_entries read 0 os)
+pub read_err : {A B : Type 0} (view : A → List Plain) (one : B → Plain) (os : List Operand) (i : ℕ) (o : Operand) (es : List Plain) (fault : MakeFault) (r : Result A MakeFault) → slice_get os i ≡ Some o → IsReadTo os i es → (found : Option (List ℕ)) × IfSome found IsFile × IsMadeBy one (Err fault) (found_entry o.place found) → r ≡ Err fault → (read : ℕ → List ℕ → Option (List ℕ)) × AreFiles read 0 os × IsMadeBy view r (found_entries read 0 os)
 read_err view one os i o es fault r at so made e =
     let f : Option (List ℕ) = made.0 in (
       found_with so.found i f,
+      files_all (found_with so.found i f) (with_files so.found i f made.1 so.files) 0 os,
       so_far_err view (found_with so.found i f) os i o es fault r at (so.rest (found_with so.found i f) (λ k lt. with_before so.found i f k lt)) one
-          (subst (λ x. IsMadeBy one (Err fault) (found_entry o.place x)) (sym (with_at so.found i f (without_dot o.text))) made.1) e,
+          (subst (λ x. IsMadeBy one (Err fault) (found_entry o.place x)) (sym (with_at so.found i f (without_dot o.text))) made.2) e,
     )
 
 -- ---- over a tree that tells its files

@@ -11,6 +11,7 @@ use Rattle.make_core.specs.Index.{found_entries, index_of, index_of_found}
 use Rattle.make_core.specs.IndexCommand.{description_in, made_index}
 use Rattle.make_core.specs.IndexKept.{IsMade, IsMadeBy}
 use Rattle.make_core.specs.IndexTold.{told_reads}
+use Rattle.make_core.specs.Sound.{AreFiles}
 use Rattle.make_core.specs.declared.fault.MakeFault.{MakeFault}
 use Rattle.make_core.specs.declared.fault.MakeFault.TheVariants.{FileMissing, FileBad, InfoBad, TooLarge, Disk, Memory}
 use Rattle.make_core.proofs.IndexReads.{both_true, by_made}
@@ -40,16 +41,16 @@ module _ (command : CommandLine) (d : List ℕ) (os : List Operand) (is_d : d �
   told_made view [] es r so made = tt
   told_made view (v ∷ earlier) es r so made = by_command view (told_reads v) r (made_all view d r _ es so made)
 
-  pub found_made : {A : Type 0} (view : A → List ℕ) (es : List Plain) (r : Result A MakeFault) → (read : ℕ → List ℕ → Option (List ℕ)) × (found_entries read 0 os ≡ Ok es) → IsMade view r (index_of d es) → (read : ℕ → List ℕ → Option (List ℕ)) × IsMadeBy view r (made_index command read)
-  found_made view es r so made = (so.0, by_command view so.0 r (made_all view d r _ es so.1 made))
+  pub found_made : {A : Type 0} (view : A → List ℕ) (es : List Plain) (r : Result A MakeFault) → (read : ℕ → List ℕ → Option (List ℕ)) × AreFiles read 0 os × (found_entries read 0 os ≡ Ok es) → IsMade view r (index_of d es) → (read : ℕ → List ℕ → Option (List ℕ)) × AreFiles read 0 command.operands × IsMadeBy view r (made_index command read)
+  found_made view es r so made = (so.0, subst (AreFiles so.0 0) is_os so.1, by_command view so.0 r (made_all view d r _ es so.2 made))
 
 module _ (command : CommandLine) (os : List Operand) (is_os : os ≡ command.operands) where
   pub told_refused : {A B : Type 0} (one : B → List Plain) (view : A → List ℕ) (history : List TreeState) (fault : MakeFault) (r : Result A MakeFault) → OnTold history (λ v. IsMadeBy one (Err fault) (found_entries (told_reads v) 0 os)) → r ≡ Err fault → OnTold history (λ v. IsMadeBy view r (made_index command (told_reads v)))
   told_refused one view [] fault r so e = tt
   told_refused one view (v ∷ earlier) fault r so e = by_command command (description_in command.values) os refl is_os view (told_reads v) r (subst (λ x. IsMadeBy view x (index_of_found (description_in command.values) (found_entries (told_reads v) 0 os))) (sym e) (refused_all one view (description_in command.values) fault _ so))
 
-  pub found_refused : {A B : Type 0} (one : B → List Plain) (view : A → List ℕ) (fault : MakeFault) (r : Result A MakeFault) → (read : ℕ → List ℕ → Option (List ℕ)) × IsMadeBy one (Err fault) (found_entries read 0 os) → r ≡ Err fault → (read : ℕ → List ℕ → Option (List ℕ)) × IsMadeBy view r (made_index command read)
-  found_refused one view fault r so e = (so.0, by_command command (description_in command.values) os refl is_os view so.0 r (subst (λ x. IsMadeBy view x (index_of_found (description_in command.values) (found_entries so.0 0 os))) (sym e) (refused_all one view (description_in command.values) fault _ so.1)))
+  pub found_refused : {A B : Type 0} (one : B → List Plain) (view : A → List ℕ) (fault : MakeFault) (r : Result A MakeFault) → (read : ℕ → List ℕ → Option (List ℕ)) × AreFiles read 0 os × IsMadeBy one (Err fault) (found_entries read 0 os) → r ≡ Err fault → (read : ℕ → List ℕ → Option (List ℕ)) × AreFiles read 0 command.operands × IsMadeBy view r (made_index command read)
+  found_refused one view fault r so e = (so.0, subst (AreFiles so.0 0) is_os so.1, by_command command (description_in command.values) os refl is_os view so.0 r (subst (λ x. IsMadeBy view x (index_of_found (description_in command.values) (found_entries so.0 0 os))) (sym e) (refused_all one view (description_in command.values) fault _ so.2)))
 
 pub files_by : (command : CommandLine) (os : List Operand) → IsCommand command → command.applet ≡ Mkndx → os ≡ command.operands → are_files os ≡ true
 files_by command os h e is = ap are_files is ∙ command_files command h e

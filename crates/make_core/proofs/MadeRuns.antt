@@ -5,7 +5,7 @@ use Rattle.std.specs.Prelude.{IsErrOf}
 use Rattle.std.specs.Result.{IsErrAnd}
 use Rattle.std.proofs.lemmas.List.{map-append, take-append-drop}
 use Rattle.base_core.specs.Calls.{OnTold}
-use Rattle.base_core.specs.Listed.{IsListOf}
+use Rattle.base_core.specs.Listed.{AreNamesBelow, IsListOf}
 use Rattle.base_core.specs.Faults.{Counts, GoesOn, HasCause, IsNoFault}
 use Rattle.base_core.specs.Tree.{TreeState}
 use Rattle.words_core.specs.Command.{CommandLine}
@@ -21,7 +21,7 @@ use Rattle.make_core.specs.Package.{SourceFolder}
 use Rattle.make_core.specs.Packed.{IsPacking}
 use Rattle.make_core.specs.Runs.{IsQuiet, OnlyReads, Explains, IsAnswer}
 use Rattle.make_core.specs.ScriptsRead.{AreScripts, IsScript, script_view, scripts_view}
-use Rattle.make_core.specs.Sound.{AreTreeNames}
+use Rattle.make_core.specs.Sound.{AreNamesFor}
 use Rattle.pkg_core.specs.Whole.{container_fault}
 use Rattle.make_core.specs.Sources.{Reads, after, each_from, folder_at, folders_below, folders_from, found_at, given, script_at, scripts_from}
 use Rattle.make_core.specs.declared.fault.MakeFault.{MakeFault}
@@ -171,22 +171,22 @@ module _ (command : CommandLine) (names : List (List ℕ)) (read : Reads) where
 
 -- ---- a run, of what is made
 
-pub made_by : (told : List TreeState) (command : CommandLine) (names : List (List ℕ)) (r : Result (Vec ℕ Global) MakeFault) → OnTold told (λ v. AreBelow (given 70 command.values) v names)
+pub made_by : (told : List TreeState) (command : CommandLine) (names : List (List ℕ)) (r : Result (Vec ℕ Global) MakeFault) → AreNamesFor (given 70 command.values) names → OnTold told (λ v. AreBelow (given 70 command.values) v names)
     → Explains told (λ read. IsAnswer IsBytes r (made_package command names read)) → IsMadeRun told command r
-made_by told command names (Ok file) below p = record { names = names; below = below; reads = record { read = p.read; as_told = p.as_told; is = p.is.1 ∙ ap Ok p.is.2 } }
-made_by told command names (Err Disk) below p = tt
-made_by told command names (Err Memory) below p = tt
-made_by told command names (Err (FileMissing q)) below p = record { names = names; below = below; reads = p }
-made_by told command names (Err (FileBad q c)) below p = record { names = names; below = below; reads = p }
-made_by told command names (Err (InfoBad q)) below p = record { names = names; below = below; reads = p }
-made_by told command names (Err (TooLarge b v)) below p = record { names = names; below = below; reads = p }
+made_by told command names (Ok file) named below p = record { names = names; named = named; below = below; reads = record { read = p.read; as_told = p.as_told; is = p.is.1 ∙ ap Ok p.is.2 } }
+made_by told command names (Err Disk) named below p = tt
+made_by told command names (Err Memory) named below p = tt
+made_by told command names (Err (FileMissing q)) named below p = record { names = names; named = named; below = below; reads = p }
+made_by told command names (Err (FileBad q c)) named below p = record { names = names; named = named; below = below; reads = p }
+made_by told command names (Err (InfoBad q)) named below p = record { names = names; named = named; below = below; reads = p }
+made_by told command names (Err (TooLarge b v)) named below p = record { names = names; named = named; below = below; reads = p }
 
 -- the tree was asked before the run, and stayed as it was
-pub run_as : (t0 t1 : List TreeState) (command : CommandLine) (names : List (List ℕ)) (r : Result (Vec ℕ Global) MakeFault) → t1 ≡ t0 → OnTold t0 (λ v. AreBelow (given 70 command.values) v names)
+pub run_as : (t0 t1 : List TreeState) (command : CommandLine) (names : List (List ℕ)) (r : Result (Vec ℕ Global) MakeFault) → t1 ≡ t0 → AreNamesFor (given 70 command.values) names → OnTold t0 (λ v. AreBelow (given 70 command.values) v names)
     → Explains t1 (λ read. IsAnswer IsBytes r (made_package command names read)) → IsMadeRun t0 command r
-run_as t0 t1 command names r e below p =
+run_as t0 t1 command names r e named below p =
     let P : List TreeState → Type 0 = λ t. Explains t (λ read. IsAnswer IsBytes r (made_package command names read)) in
-    made_by t0 command names r below (subst P e p)
+    made_by t0 command names r named below (subst P e p)
 
 made_in : (told : List TreeState) (command : CommandLine) (made : Result (List ℕ) MakeFault) → IsMadeOf told command made → OnTold told (λ v. IsMadeIn command v made)
 made_in [] command made m = tt
@@ -197,7 +197,7 @@ made_in (v ∷ vs) command made m = record {
 }
 
 made_by_some : (told : List TreeState) (command : CommandLine) (made : Result (List ℕ) MakeFault) → IsMadeOf told command made → IsMadeBySome command made
-made_by_some told command made m = record { names = m.names; read = m.reads.read; is = m.reads.is }
+made_by_some told command made m = record { names = m.names; named = m.named; read = m.reads.read; is = m.reads.is }
 
 refused_as : (fault : MakeFault) (P Q : Result (List ℕ) MakeFault → Type 0) → ((made : Result (List ℕ) MakeFault) → P made → Q made) → OnRefusal fault P → OnRefusal fault Q
 refused_as Disk P Q f h = tt
@@ -282,6 +282,12 @@ pub below_as : (told : List TreeState) (command : CommandLine) (values : List Op
     → OnTold told (λ v. AreBelow (given 70 command.values) v names)
 below_as told command values names e h = let P : List OptionValue → Type 0 = λ vs. OnTold told (λ v. AreBelow (given 70 vs) v names) in subst P e h
 
+pub named_as : (command : CommandLine) (values : List OptionValue) (names : List (List ℕ)) → values ≡ command.values → AreNamesFor (given 70 values) names → AreNamesFor (given 70 command.values) names
+named_as command values names e h = let P : List OptionValue → Type 0 = λ vs. AreNamesFor (given 70 vs) names in subst P e h
+
+pub nothing_named : (dirs : List OptionValue) (names : List (List ℕ)) → dirs ≡ [] → AreNamesFor dirs names
+nothing_named dirs names e = let P : List OptionValue → Type 0 = λ l. AreNamesFor l names in subst P (sym e) tt
+
 pub nothing_below : (told : List TreeState) (dirs : List OptionValue) (names : List (List ℕ)) → dirs ≡ [] → OnTold told (λ v. AreBelow dirs v names)
 nothing_below [] dirs names e = tt
 nothing_below (v ∷ vs) dirs names e = let P : List OptionValue → Type 0 = λ l. AreBelow l v names in subst P (sym e) tt
@@ -325,6 +331,10 @@ pub listed_for : (told : List TreeState) (dirs : List OptionValue) (v : OptionVa
     → IfOk r (λ names. OnTold told (λ w. IsListOf (without_dot v.text) w names)) → IfOk r (λ names. OnTold told (λ w. AreBelow dirs w names))
 listed_for told dirs v others r e h = let P : List OptionValue → Type 0 = λ l. IfOk r (λ names. OnTold told (λ w. AreBelow l w names)) in subst P (sym e) h
 
+pub named_for : (dirs : List OptionValue) (v : OptionValue) (others : List OptionValue) (r : Result (List (List ℕ)) MakeFault) → dirs ≡ v ∷ others
+    → IfOk r (λ names. AreNamesBelow (without_dot v.text) names) → IfOk r (λ names. AreNamesFor dirs names)
+named_for dirs v others r e h = let P : List OptionValue → Type 0 = λ l. IfOk r (λ names. AreNamesFor l names) in subst P (sym e) h
+
 pub packed_for : (told : List TreeState) (dirs : List OptionValue) (v : OptionValue) (others : List OptionValue) (dir : List ℕ) (names : List (List ℕ)) (r : Result Packing MakeFault) (n : ℕ) → dirs ≡ v ∷ others
     → dir ≡ without_dot v.text → Explains told (λ read. IsAnswer IsPacking r (folders_from v.place read n (folders_of dir names))) → Explains told (λ read. IsAnswer IsPacking r (folders_below read n dirs names))
 packed_for told dirs v others dir names r n e d h =
@@ -338,20 +348,16 @@ nothing_packed told dirs names packing n e b f =
     let P : List OptionValue → Type 0 = λ l. Explains told (λ read. IsAnswer IsPacking (Ok packing) (folders_below read n l names)) in
     subst P (sym e) (explained told (λ read. IsAnswer IsPacking (Ok packing) (Ok [])) (λ read. ([], refl, folders_none packing.blocks.items packing.folders b f)))
 
--- ---- what is made in a tree is sound
+-- ---- what is made is sound
 
-abbrev pub SoundInTree : Type 0
-SoundInTree = (command : CommandLine) (v : TreeState) (bytes : List ℕ) → AreTreeNames v → IsMadeIn command v (Ok bytes) → length bytes < 2 ^ 64 → container_fault bytes ≡ None
+abbrev pub SoundPackage : Type 0
+SoundPackage = (command : CommandLine) (names : List (List ℕ)) (read : Reads) (bytes : List ℕ) → AreNamesFor (given 70 command.values) names
+    → made_package command names read ≡ Ok bytes → length bytes < 2 ^ 64 → container_fault bytes ≡ None
 
-sound_told : SoundInTree → (told : List TreeState) (command : CommandLine) (file : Vec ℕ Global) → OnTold told (λ v. IsMadeIn command v (Ok file.items)) → OnTold told (λ v. AreTreeNames v → container_fault file.items ≡ None)
-sound_told law [] command file m = tt
-sound_told law (v ∷ vs) command file m = λ named.
+pub run_sound : SoundPackage → (told : List TreeState) (command : CommandLine) (r : Result (Vec ℕ Global) MakeFault) → IsMadeRun told command r → IfOk r (λ file. container_fault file.items ≡ None)
+run_sound law told command (Ok file) h =
     let same = file.ok in
     let small = file.small in
     let short : length file.items < 2 ^ 64 = omega arith in
-    law command v file.items named m short
-
-pub run_sound : SoundInTree → (told : List TreeState) (command : CommandLine) (r : Result (Vec ℕ Global) MakeFault) → IsMadeRun told command r
-    → IfOk r (λ file. OnTold told (λ v. AreTreeNames v → container_fault file.items ≡ None))
-run_sound law told command (Ok file) h = sound_told law told command file (made_in told command (Ok file.items) h)
+    law command h.names h.reads.read file.items h.named h.reads.is short
 run_sound law told command (Err fault) h = tt

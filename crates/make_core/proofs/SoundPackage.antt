@@ -1,12 +1,8 @@
 -- A package that is made is sound.
-use Rattle.std.proofs.Common.{◌≡◌, inl, inr, ℕ, ◌^◌, ◌<◌, List, [], ◌∷◌, length, Option, Some, None, Result, Ok, Err, refl, ap, sym, subst, ◌∙◌, arith}
+use Rattle.std.proofs.Common.{◌≡◌, ℕ, ◌^◌, ◌<◌, List, [], ◌∷◌, length, Option, Some, None, Result, Ok, Err, refl, ap, sym, subst, ◌∙◌, arith}
 use Rattle.std.specs.Prelude.{All}
-use Rattle.std.proofs.lemmas.List.Elements.{All-cons, All-head, All-nil, All-tail}
-use Rattle.base_core.specs.Files.{IsFolderOf}
-use Rattle.base_core.specs.Listed.{IsListOf}
-use Rattle.base_core.specs.Name.{IsName}
-use Rattle.base_core.specs.Tree.{TreeState, files_of}
-use Rattle.adb_schema.specs.Pairs.{IsIn}
+use Rattle.std.proofs.lemmas.List.Elements.{All-head, All-tail}
+use Rattle.base_core.specs.Listed.{IsNameBelow}
 use Rattle.adb_view.specs.Plain.{Plain}
 use Rattle.adb_schema.specs.declared.read.TheConstants.{PACKAGE_WORD}
 use Rattle.adb_schema.specs.declared.schema.Which.TheVariants.{Package}
@@ -18,11 +14,11 @@ use Rattle.words_core.specs.Values.{without_dot}
 use Rattle.words_core.specs.declared.values.OptionValue.{OptionValue}
 use Rattle.make_core.specs.Information.{Item, info_value, information, replaces_priority}
 use Rattle.make_core.specs.Laid.{laid}
-use Rattle.make_core.specs.Making.{AreBelow, IsMadeIn, file_unless, made_package, or_info_bad, package_file, package_of}
+use Rattle.make_core.specs.Making.{file_unless, made_package, or_info_bad, package_file, package_of}
 use Rattle.make_core.specs.Package.{Script, SourceFolder, contents_of, installed_size, package_value}
-use Rattle.make_core.specs.Sound.{AreNamesFor, IsNameBelow, IsRootOf, AreNamesBelow, AreTreeNames}
+use Rattle.make_core.specs.Sound.{AreNamesFor, IsRootOf}
 use Rattle.make_core.specs.Sources.{Reads, after, folders_below, given, scripts_from, texts}
-use Rattle.make_core.proofs.Apart.{Tells, at_index, package_once, rises_from_pairs}
+use Rattle.make_core.proofs.Apart.{Tells, package_once, rises_from_pairs}
 use Rattle.make_core.proofs.InformationGood.{IsInformation, Needs, info_good, information_good, priority_good}
 use Rattle.make_core.proofs.ListedNames.{AreListed, AreSources, after_ok, folders_sized, sources_good}
 use Rattle.make_core.proofs.PackageContents.{installed_total, package_contents}
@@ -100,35 +96,3 @@ made_sound sound exact needs tells command names read bytes below e short =
     package_sound sound exact needs tells command one.x two.x three.x bytes
     (information_good command.values command.behind two.x (info_ok (information command) two.x two.is))
     (sources_are read (length one.x) (given 70 command.values) names three.x below three.is) short three.gives
-
--- ---- of a tree's listing
-
-each_below : (folder : List ℕ) (names : List (List ℕ)) → All IsName names → ((q : List ℕ) → IsIn q names → IsFolderOf folder q) → All (IsNameBelow folder) names
-each_below folder [] named below = All-nil (IsNameBelow folder)
-each_below folder (name ∷ names) named below =
-    All-cons (IsNameBelow folder) name names (record { named = All-head IsName name names named; below = below name (inl refl) })
-    (each_below folder names (All-tail IsName name names named) (λ q here. below q (inr here)))
-
-pub names_below : (folder : List ℕ) (v : TreeState) (names : List (List ℕ)) → IsListOf folder v names → All IsName names → AreNamesBelow folder names
-names_below folder v names listed named = record {
-  rising = listed.rising;
-  each = each_below folder names named (λ q here. ((listed.each q).0 (at_index q names here)).1);
-}
-
-all_named : (names : List (List ℕ)) → ((q : List ℕ) → IsIn q names → IsName q) → All IsName names
-all_named [] each = All-nil IsName
-all_named (name ∷ names) each = All-cons IsName name names (each name (inl refl)) (all_named names (λ q here. each q (inr here)))
-
-names_for : (values : List OptionValue) (v : TreeState) (names : List (List ℕ)) → AreTreeNames v → AreBelow values v names → AreNamesFor values names
-names_for [] v names named below = tt
-names_for (dir ∷ dirs) v names named below =
-    names_below (without_dot dir.text) v names below (all_named names (λ q here. named q ((below.each q).0 (at_index q names here)).0))
-
--- a package that is made of names and reads is sound
-abbrev pub MadeSound : Type 0
-MadeSound = (command : CommandLine) (names : List (List ℕ)) (read : Reads) (bytes : List ℕ) → AreNamesFor (given 70 command.values) names
-    → made_package command names read ≡ Ok bytes → length bytes < 2 ^ 64 → container_fault bytes ≡ None
-
-pub sound_in_tree : MadeSound → (command : CommandLine) (v : TreeState) (bytes : List ℕ) → AreTreeNames v → IsMadeIn command v (Ok bytes) → length bytes < 2 ^ 64 → container_fault bytes ≡ None
-sound_in_tree sound command v bytes named made short =
-    sound command made.names (λ n name. files_of v name) bytes (names_for (given 70 command.values) v made.names named made.below) made.is short

@@ -8,6 +8,7 @@ use Rattle.words_core.specs.Command.{CommandLine}
 use Rattle.words_core.specs.declared.values.OptionValue.{OptionValue}
 use Rattle.make_core.specs.Making.{AreBelow, OnRefusal, made_package}
 use Rattle.make_core.specs.Runs.{Explains}
+use Rattle.make_core.specs.Sound.{AreNamesFor}
 use Rattle.make_core.specs.Sources.{given}
 use Rattle.make_core.specs.declared.fault.MakeFault.{MakeFault}
 use Rattle.make_core.specs.declared.fault.MakeFault.TheVariants.{Disk, Memory}
@@ -41,6 +42,7 @@ UnlessDisk result P = P
 -- what is made of the names below the folder, and of reads which are as the tree tells
 pub record IsMadeOf (told : List TreeState) (command : CommandLine) (made : Result (List ℕ) MakeFault) : Type 0 where
   pub names : List (List ℕ)
+  pub named : AreNamesFor (given 70 command.values) names
   pub below : OnTold told (λ v. AreBelow (given 70 command.values) v names)
   pub reads : Explains told (λ read. made_package command names read ≡ made)
 

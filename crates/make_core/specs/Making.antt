@@ -11,6 +11,7 @@ use Rattle.words_core.specs.declared.values.OptionValue.{OptionValue}
 use Rattle.make_core.specs.Information.{Item, information, info_value, replaces_priority}
 use Rattle.make_core.specs.Laid.{laid}
 use Rattle.make_core.specs.Package.{SourceFolder, Script, package_value, installed_size, contents_of}
+use Rattle.make_core.specs.Sound.{AreNamesFor}
 use Rattle.make_core.specs.Sources.{Reads, after, given, texts, scripts_from, folders_below}
 use Rattle.make_core.specs.declared.fault.MakeFault.{MakeFault}
 use Rattle.make_core.specs.declared.fault.MakeFault.TheVariants.{InfoBad, TooLarge, Disk, Memory}
@@ -58,9 +59,10 @@ pub record IsMadeIn (command : CommandLine) (v : TreeState) (made : Result (List
   pub below : AreBelow (given 70 command.values) v names
   pub is : made_package command names (λ n name. files_of v name) ≡ made
 
--- what is made of a command by some names and some reads
+-- what is made of a command by some names below its folder and some reads
 pub record IsMadeBySome (command : CommandLine) (made : Result (List ℕ) MakeFault) : Type 0 where
   pub names : List (List ℕ)
+  pub named : AreNamesFor (given 70 command.values) names
   pub read : Reads
   pub is : made_package command names read ≡ made
 

@@ -32,6 +32,7 @@ pub(crate) struct Entry {
 
 impl Entry {
     ghost use Rattle.make_core.specs.IndexTold.{entry_told};
+    ghost use Rattle.make_core.specs.Sound.{IsFile};
 
     /// The entry of the package in this file, which an operand at this place names. The file is dropped, but where its
     /// entry alone passes a limit of the writer.
@@ -40,7 +41,8 @@ impl Entry {
     ///
     /// `FileBad` with the cause of the first test that fails, or `Memory`.
     pub(crate) fn of(alloc: Global, place: u32, file: Vec<u8>) -> Result<Entry, MakeFault>
-        ensures { IsMade entry_told result (found_entry place (Some file.items)) }
+        ensures made { IsMade entry_told result (found_entry place (Some file.items)) }
+        ensures bytes { IsFile file.items }
     {
         let parts = read_parts(alloc, place, &file)?;
         Ok(Entry {

@@ -1,8 +1,5 @@
 //! What is made is sound: no test of a container fails (apk-v3(5)).
-ghost use Rattle.std.specs.Prelude.{◌≡◌, ◌≢◌, ◌<◌, ◌^◌, ℕ, List, length, All, Some, None, Ok};
-ghost use Rattle.base_core.specs.Listed.{IsListOf};
-ghost use Rattle.base_core.specs.Name.{IsName};
-ghost use Rattle.base_core.specs.Tree.{TreeState};
+ghost use Rattle.std.specs.Prelude.{◌≡◌, ◌≢◌, ◌<◌, ◌^◌, ℕ, List, length, Some, None, Ok};
 ghost use Rattle.adb_view.specs.Plain.{Plain};
 ghost use Rattle.adb_schema.specs.Soundness.{schema_word};
 ghost use Rattle.adb_schema.specs.declared.schema.Which.{Which};
@@ -15,8 +12,8 @@ ghost use Rattle.pkg_core.specs.Whole.{container_fault};
 ghost use Rattle.words_core.specs.Command.{CommandLine};
 ghost use Rattle.make_core.specs.IndexCommand.{made_index};
 ghost use Rattle.make_core.specs.Laid.{laid};
-ghost use Rattle.make_core.specs.Making.{IsMadeIn, made_package};
-ghost use Rattle.make_core.specs.Sound.{AreFiles, AreNamesBelow, AreNamesFor, AreTreeNames, IsRootOf};
+ghost use Rattle.make_core.specs.Making.{made_package};
+ghost use Rattle.make_core.specs.Sound.{AreFiles, AreNamesFor, IsRootOf};
 ghost use Rattle.make_core.specs.Sources.{Reads, given};
 
 use adb_block::{what_is_spelled_is_read, what_is_written_is_spelled};
@@ -82,19 +79,4 @@ pub fn a_made_package_is_sound()
     read_texts_are_spelled();
     values_are_read_back();
     the_first_pair_in_one_of_several_lists_is_told();
-}
-
-/// The names that a tree lists below a folder are such names, where each of them is a name.
-pub fn listed_names_are_below()
-    ensures { (folder : List ℕ) (v : TreeState) (names : List (List ℕ))
-        → IsListOf folder v names → All IsName names → AreNamesBelow folder names }
-{}
-
-/// A package that `mkpkg` makes in a tree that tells its files is sound, where each name that is present there is a name, and
-/// the package has fewer than 2^64 bytes.
-pub fn a_package_made_in_a_tree_is_sound()
-    ensures { (command : CommandLine) (v : TreeState) (bytes : List ℕ)
-        → AreTreeNames v → IsMadeIn command v (Ok bytes) → length bytes < 2 ^ 64 → container_fault bytes ≡ None }
-{
-    a_made_package_is_sound();
 }

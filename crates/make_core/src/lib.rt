@@ -42,8 +42,7 @@ pub use index_laws::an_entry_is_an_info;
 pub use information::{Information, read_information};
 pub use laws::{
     a_container_of_a_good_value_is_sound, a_made_index_is_sound, a_made_package_is_sound,
-    a_package_made_in_a_tree_is_sound, a_package_of_a_good_value_and_its_contents_is_sound,
-    listed_names_are_below,
+    a_package_of_a_good_value_and_its_contents_is_sound,
 };
 pub use making::mkpkg;
 pub use output::output_name;

@@ -1,7 +1,7 @@
 //! The folder of the tree whose files a package holds: what is listed below it, and packed (apk(8), `mkpkg`).
 ghost use Rattle.std.specs.Prelude.{◌≡◌, ℕ, IfOk, IsTrue};
 ghost use Rattle.base_core.specs.Calls.{OnTold};
-ghost use Rattle.base_core.specs.Listed.{IsListOf};
+ghost use Rattle.base_core.specs.Listed.{AreNamesBelow, IsListOf};
 ghost use Rattle.words_core.specs.Applets.{row_of};
 ghost use Rattle.words_core.specs.Command.{are_values};
 ghost use Rattle.words_core.specs.Values.{is_file, without_dot};
@@ -10,6 +10,7 @@ ghost use Rattle.make_core.specs.MadeOf.{IsCutOff, IsFirstOf};
 ghost use Rattle.make_core.specs.Making.{AreBelow};
 ghost use Rattle.make_core.specs.Packed.{IsPacking};
 ghost use Rattle.make_core.specs.Runs.{OnlyReads, Explains, IsAnswer};
+ghost use Rattle.make_core.specs.Sound.{AreNamesFor};
 ghost use Rattle.make_core.specs.Sources.{folders_below, given};
 
 use crate::fault::MakeFault;
@@ -19,7 +20,8 @@ use base_core::{Name, Names, Tree};
 use std::alloc::Global;
 use words_core::{OptionValue, Values};
 
-/// The names below the folder that an option gives; none where no folder is given.
+/// The names below the folder that an option gives, in byte order and each once, whatever the tree tells; none where no
+/// folder is given.
 pub(crate) fn list_names<T: Tree>(
     alloc: Global,
     tree: &mut T,
@@ -29,6 +31,7 @@ pub(crate) fn list_names<T: Tree>(
     ensures tree { OnlyReads (T.history tree.old) (T.history tree.new) (T.counts tree.old) (T.counts tree.new) result }
     ensures cut { IsCutOff result }
     ensures names { IfOk result (λ names. OnTold (T.history tree.old) (λ v. AreBelow (given 70 values.now) v names)) }
+    ensures order { IfOk result (λ names. AreNamesFor (given 70 values.now) names) }
 {
     match folder_given(values) {
         Some(value) => list_below(alloc, tree, value),
@@ -42,6 +45,7 @@ fn list_below<T: Tree>(alloc: Global, tree: &mut T, value: &OptionValue) -> Resu
     ensures tree { OnlyReads (T.history tree.old) (T.history tree.new) (T.counts tree.old) (T.counts tree.new) result }
     ensures cut { IsCutOff result }
     ensures names { IfOk result (λ names. OnTold (T.history tree.old) (λ v. IsListOf (without_dot value.now.text) v names)) }
+    ensures order { IfOk result (λ names. AreNamesBelow (without_dot value.now.text) names) }
 {
     // The value gives a folder, so there is a name.
     let Some(folder) = Name::read(alloc, value.file())? else {

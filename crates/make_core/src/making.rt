@@ -6,12 +6,11 @@ ghost use Rattle.pkg_core.specs.Whole.{container_fault};
 ghost use Rattle.make_core.specs.MadeOf.{IsBytes, IsMadeRun, UnlessDisk};
 ghost use Rattle.make_core.specs.Making.{IsMadeIn, IsMadeBySome, OnRefusal, made_package};
 ghost use Rattle.make_core.specs.Runs.{OnlyReads, Explains, IsAnswer};
-ghost use Rattle.make_core.specs.Sound.{AreTreeNames};
 
 use crate::assembly::package;
 use crate::fault::MakeFault;
 use crate::information::read_information;
-use crate::laws::a_package_made_in_a_tree_is_sound;
+use crate::laws::a_made_package_is_sound;
 use crate::listing::{list_names, pack_below};
 use crate::script_files::read_scripts;
 use base_core::{Names, Tree};
@@ -32,14 +31,14 @@ pub fn mkpkg<T: Tree>(alloc: Global, command: &Command, tree: &mut T) -> Result<
     ensures err { IfErr result (λ fault. OnRefusal fault (λ made. OnTold (T.history tree.old) (λ v. IsMadeIn command.now v made))) }
     ensures found { IfOk result (λ file. IsMadeBySome command.now (Ok file.items)) }
     ensures found_err { IfErr result (λ fault. OnRefusal fault (IsMadeBySome command.now)) }
-    ensures sound { IfOk result (λ file. OnTold (T.history tree.old) (λ v. AreTreeNames v → container_fault file.items ≡ None)) }
+    ensures sound { IfOk result (λ file. container_fault file.items ≡ None) }
     ensures same { T.history tree.new ≡ T.history tree.old }
     ensures goes_on { GoesOn (T.counts tree.old) (T.counts tree.new) }
     ensures disk { IsErrOf result MakeFault.Disk → HasCause (T.counts tree.old) (T.counts tree.new) }
     ensures kept { UnlessDisk result (IsNoFault (T.counts tree.old) (T.counts tree.new)) }
     ensures proper { OnTold (T.history tree.old) (λ v. (T.counts tree.new).misuses ≡ (T.counts tree.old).misuses) }
 {
-    a_package_made_in_a_tree_is_sound();
+    a_made_package_is_sound();
     make(alloc, command, tree)
 }
 

@@ -1,5 +1,5 @@
 //! `mkndx`: an index of packages is made.
-ghost use Rattle.std.specs.Prelude.{◌≡◌, ◌++◌, ◌∷◌, [], ℕ, List, Option, Ok, None, IfOk, IsErrOf, IsTrue, OnOk, map};
+ghost use Rattle.std.specs.Prelude.{◌≡◌, ◌++◌, ◌∷◌, [], ℕ, List, Option, Ok, None, IfOk, IfSome, IsErrOf, IsTrue, OnOk, map};
 ghost use Rattle.base_core.specs.Calls.{OnTold};
 ghost use Rattle.base_core.specs.Faults.{GoesOn, HasCause, IsNoFault};
 ghost use Rattle.base_core.specs.Read.{bytes_in};
@@ -9,7 +9,7 @@ ghost use Rattle.make_core.specs.Index.{found_entries, found_entry};
 ghost use Rattle.make_core.specs.IndexCommand.{made_index};
 ghost use Rattle.make_core.specs.IndexKept.{IsMade, IsMadeBy};
 ghost use Rattle.make_core.specs.MadeOf.{UnlessDisk};
-ghost use Rattle.make_core.specs.Sound.{AreTreeFiles};
+ghost use Rattle.make_core.specs.Sound.{AreFiles, IsFile};
 ghost use Rattle.pkg_core.specs.Whole.{container_fault};
 ghost use Rattle.make_core.specs.IndexTold.{all_told, entry_told, told_reads};
 
@@ -32,8 +32,8 @@ use words_core::{Applet, Command, Operand, Operands};
 pub fn mkndx<T: Tree>(alloc: Global, command: &Command, tree: &mut T) -> Result<Vec<u8>, MakeFault>
     requires { command.now.applet ≡ Applet.Mkndx }
     ensures told { OnTold (T.history tree.old) (λ v. IsMadeBy (λ file. file.items) result (made_index command.now (told_reads v))) }
-    ensures found { (read : ℕ → List ℕ → Option (List ℕ)) × IsMadeBy (λ file. file.items) result (made_index command.now read) }
-    ensures sound { IfOk result (λ file. OnTold (T.history tree.old) (λ v. AreTreeFiles v → container_fault file.items ≡ None)) }
+    ensures found { (read : ℕ → List ℕ → Option (List ℕ)) × AreFiles read 0 command.now.operands × IsMadeBy (λ file. file.items) result (made_index command.now read) }
+    ensures sound { IfOk result (λ file. container_fault file.items ≡ None) }
     ensures same { T.history tree.new ≡ T.history tree.old }
     ensures goes_on { GoesOn (T.counts tree.old) (T.counts tree.new) }
     ensures disk { IsErrOf result MakeFault.Disk → HasCause (T.counts tree.old) (T.counts tree.new) }
@@ -54,7 +54,7 @@ fn read_entries<T: Tree>(
 ) -> Result<Vec<Entry>, MakeFault>
     requires { IsTrue (are_files operands.now) }
     ensures told { OnTold (T.history tree.old) (λ v. IsMadeBy all_told result (found_entries (told_reads v) 0 operands.now)) }
-    ensures found { (read : ℕ → List ℕ → Option (List ℕ)) × IsMadeBy all_told result (found_entries read 0 operands.now) }
+    ensures found { (read : ℕ → List ℕ → Option (List ℕ)) × AreFiles read 0 operands.now × IsMadeBy all_told result (found_entries read 0 operands.now) }
     ensures same { T.history tree.new ≡ T.history tree.old }
     ensures goes_on { GoesOn (T.counts tree.old) (T.counts tree.new) }
     ensures disk { IsErrOf result MakeFault.Disk → HasCause (T.counts tree.old) (T.counts tree.new) }
@@ -81,7 +81,7 @@ fn keep(entries: &mut Vec<Entry>, entry: Entry) -> Result<(), AllocError>
 fn read_entry<T: Tree>(alloc: Global, operand: &Operand, tree: &mut T) -> Result<Entry, MakeFault>
     requires { IsTrue (is_file operand.now.text) }
     ensures told { OnTold (T.history tree.old) (λ v. IsMadeBy entry_told result (found_entry operand.now.place (files_of v (without_dot operand.now.text)))) }
-    ensures found { (found : Option (List ℕ)) × IsMadeBy entry_told result (found_entry operand.now.place found) }
+    ensures found { (found : Option (List ℕ)) × IfSome found IsFile × IsMadeBy entry_told result (found_entry operand.now.place found) }
     ensures same { T.history tree.new ≡ T.history tree.old }
     ensures goes_on { GoesOn (T.counts tree.old) (T.counts tree.new) }
     ensures disk { IsErrOf result MakeFault.Disk → HasCause (T.counts tree.old) (T.counts tree.new) }
@@ -97,7 +97,8 @@ fn read_entry<T: Tree>(alloc: Global, operand: &Operand, tree: &mut T) -> Result
 
 /// The entry of what was found.
 fn entry_of(alloc: Global, place: u32, found: Option<Vec<u8>>) -> Result<Entry, MakeFault>
-    ensures { IsMade entry_told result (found_entry place (bytes_in found)) }
+    ensures made { IsMade entry_told result (found_entry place (bytes_in found)) }
+    ensures bytes { IfSome (bytes_in found) IsFile }
 {
     match found {
         Some(file) => Entry::of(alloc, place, file),

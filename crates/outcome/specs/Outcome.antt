@@ -1,6 +1,7 @@
 -- What a command line answers, prints and leaves over the files of a tree.
 use Rattle.std.specs.Prelude.{◌≡◌, ℕ, List, [], Option, Result, Ok, Err}
 use Rattle.base_core.specs.Files.{Files, no_names}
+use Rattle.make_core.specs.Sound.{AreNamesFor}
 use Rattle.make_core.specs.Sources.{given}
 use Rattle.report_core.specs.declared.refusal.Refusal.TheVariants.{Usage}
 use Rattle.words_core.specs.Command.{CommandLine}
@@ -57,10 +58,21 @@ run_by Adbdump command names read = adbdump_by no_names (read 0) command.operand
 run_by Mkpkg command names read = mkpkg_by no_names read command names
 run_by Mkndx command names read = mkndx_by no_names read command
 
+-- whether a command may be given this where nothing is said of the files: `mkpkg` names below its folder, in byte order and
+-- each once, the others none
+abbrev pub IsGivenBySome : Applet → CommandLine → Given → Type 0
+IsGivenBySome Verify command names = names ≡ []
+IsGivenBySome Version command names = names ≡ []
+IsGivenBySome Adbdump command names = names ≡ []
+IsGivenBySome Mkpkg command names = AreNamesFor (given 70 command.values) names
+IsGivenBySome Mkndx command names = names ≡ []
+
 abbrev pub IsFoundOutcomeOf : Result CommandLine ℕ → Outcome → Type 0
 IsFoundOutcomeOf (Err place) outcome = outcome ≡ refused no_names (Usage place)
-IsFoundOutcomeOf (Ok command) outcome = (names : Given) × (read : ℕ → List ℕ → Option (List ℕ)) × (outcome ≡ run_by command.applet command names read)
+IsFoundOutcomeOf (Ok command) outcome =
+    (names : Given) × IsGivenBySome command.applet command names × (read : ℕ → List ℕ → Option (List ℕ)) × (outcome ≡ run_by command.applet command names read)
 
--- the outcome of a command line by some names, and by some bytes, or none, for each read; nothing is said of the files
+-- the outcome of a command line by some names below its folder, and by some bytes, or none, for each read; nothing is said
+-- of the files
 abbrev pub IsFoundOutcome : List (List ℕ) → Outcome → Type 0
 IsFoundOutcome words outcome = IsFoundOutcomeOf (command_of words) outcome

@@ -19,7 +19,7 @@ returns-in-Verify g c =
     let reads = reads_one c.args.command.now c.applet.result c.applet.ensures.value c.in-Verify.is in
     record {
       found = look_found c.args.command.now _ c.look.result reads c.look.ensures.found;
-      by_reads = look_read c.args.command.now c.look.result c.look.ensures.by_reads;
+      by_reads = look_read c.args.command.now c.look.result reads c.look.ensures.by_reads;
       by_words = c.look.ensures.by_words;
       untouched = c.look.ensures.untouched;
       run = look_run c.args.command.now _ _ c.look.result reads c.look.ensures.same;

@@ -1,6 +1,6 @@
 use Rattle.make_core.specs.Sources.{given}
 use Rattle.make_core.proofs.MadeParts.{first_is, first_none, folder_allowed}
-use Rattle.make_core.proofs.MadeRuns.{listed_for, nothing_below}
+use Rattle.make_core.proofs.MadeRuns.{listed_for, named_for, nothing_below, nothing_named}
 use Rattle.make_core.proofs.listing.list_names.Goals as goal
 
 pub list_below-requires : goal.list_below-requires
@@ -15,3 +15,11 @@ returns-in-Some-clause-names g c =
 
 pub returns-in-None-clause-names : goal.returns-in-None-clause-names
 returns-in-None-clause-names g c = nothing_below _ (given 70 c.args.values.now) _ (first_none (given 70 c.args.values.now) c.folder_given.result c.folder_given.ensures c.in-None.is)
+
+pub returns-in-Some-clause-order : goal.returns-in-Some-clause-order
+returns-in-Some-clause-order g c =
+    let first = first_is (given 70 c.args.values.now) c.folder_given.result c.in-Some.value c.folder_given.ensures c.in-Some.is in
+    named_for (given 70 c.args.values.now) c.in-Some.value.now first.0 c.list_below.result first.1 c.list_below.ensures.order
+
+pub returns-in-None-clause-order : goal.returns-in-None-clause-order
+returns-in-None-clause-order g c = nothing_named (given 70 c.args.values.now) _ (first_none (given 70 c.args.values.now) c.folder_given.result c.folder_given.ensures c.in-None.is)

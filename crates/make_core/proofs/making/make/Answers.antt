@@ -1,5 +1,5 @@
 use Rattle.make_core.proofs.MadeParts.{values_allowed}
-use Rattle.make_core.proofs.MadeRuns.{below_as, cut_run, run_as}
+use Rattle.make_core.proofs.MadeRuns.{below_as, cut_run, named_as, run_as}
 use Rattle.make_core.proofs.making.make.Goals as goal
 
 pub list_names-requires : goal.list_names-requires
@@ -11,4 +11,5 @@ returns-in_err-names-clause-made g c = cut_run _ c.args.command.now c.from_resid
 pub returns-clause-made : goal.returns-clause-made
 returns-clause-made g c =
     run_as _ _ c.args.command.now c.in_ok-names.names c.pack.result c.in_ok-names.ensures.tree.same
+    (named_as c.args.command.now _ c.in_ok-names.names c.values.ensures.value c.in_ok-names.ensures.order)
     (below_as _ c.args.command.now _ c.in_ok-names.names c.values.ensures.value c.in_ok-names.ensures.names) c.pack.ensures.read

@@ -29,4 +29,4 @@ pub returns-clause-proper : goal.returns-clause-proper
 returns-clause-proper g c = (any_run _ _ _ _ c.make.result c.make.ensures.tree).proper
 
 pub returns-clause-sound : goal.returns-clause-sound
-returns-clause-sound g c = run_sound c.a_package_made_in_a_tree_is_sound.ensures _ c.args.command.now c.make.result c.make.ensures.made
+returns-clause-sound g c = run_sound c.a_made_package_is_sound.ensures _ c.args.command.now c.make.result c.make.ensures.made

@@ -38,5 +38,5 @@ returns-clause-kept g c = whatever c.index_file.result _ c.in_ok-entries.ensures
 
 pub returns-clause-sound : goal.returns-clause-sound
 returns-clause-sound g c =
-    index_sound c.a_made_index_is_sound.ensures _ c.args.command.now c.index_file.result
-    (told_made c.args.command.now c.description.result.now _ (c.description.ensures ∙ ap description_in c.values.ensures.value) c.operands.ensures.value (λ file. file.items) _ (all_told c.in_ok-entries.entries) c.index_file.result c.in_ok-entries.ensures.told c.index_file.ensures)
+    index_sound c.a_made_index_is_sound.ensures c.args.command.now c.index_file.result
+    (found_made c.args.command.now c.description.result.now _ (c.description.ensures ∙ ap description_in c.values.ensures.value) c.operands.ensures.value (λ file. file.items) (all_told c.in_ok-entries.entries) c.index_file.result c.in_ok-entries.ensures.found c.index_file.ensures)

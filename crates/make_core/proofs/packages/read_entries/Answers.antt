@@ -34,7 +34,7 @@ pub loop-i-preserved : goal.loop-i-preserved
 loop-i-preserved g c = record {
   files = files_more c.args.operands.now c.loop-i.i c.get.result.now c.get.ensures c.loop-i.invariant.files;
   told = told_more _ _ c.args.operands.now c.loop-i.i c.get.result.now _ _ (entry_told c.in_ok-entry.entry) c.get.ensures c.loop-i.invariant.same c.loop-i.invariant.told c.in_ok-entry.ensures.told c.in_ok-keep.ensures;
-  found = read_more c.args.operands.now c.loop-i.i c.get.result.now _ _ (entry_told c.in_ok-entry.entry) c.get.ensures c.loop-i.invariant.found c.in_ok-entry.ensures.found.0 c.in_ok-entry.ensures.found.1 c.in_ok-keep.ensures;
+  found = read_more c.args.operands.now c.loop-i.i c.get.result.now _ _ (entry_told c.in_ok-entry.entry) c.get.ensures c.loop-i.invariant.found c.in_ok-entry.ensures.found.0 c.in_ok-entry.ensures.found.1 c.in_ok-entry.ensures.found.2 c.in_ok-keep.ensures;
   same = c.read_entry.ensures.same ∙ c.loop-i.invariant.same;
   goes_on = goes_on_twice _ _ _ c.loop-i.invariant.goes_on c.read_entry.ensures.goes_on;
   kept = no_fault_twice _ _ _ c.loop-i.invariant.kept c.in_ok-entry.ensures.kept;
