@@ -17,7 +17,7 @@ use Rattle.make_core.specs.Sources.{Reads, given}
 use Rattle.outcome.specs.Dump.{adbdump_by, dump_found, dump_told, dumped}
 use Rattle.outcome.specs.Make.{mkndx_by, mkpkg_by}
 use Rattle.outcome.specs.Outcome.{IsFoundOutcomeOf, IsGivenBySome, IsGivenTo, IsOutcome, IsOutcomeOf, run_applet, run_by, run_of}
-use Rattle.outcome.specs.Reach.{does_read_only, reads_only}
+use Rattle.outcome.specs.Reach.{does_read_only, output, output_by, output_of, reads_only}
 use Rattle.outcome.specs.Told.{Outcome, refused, told, unless}
 use Rattle.outcome.specs.Verify.{verify_refusal, verified_lines}
 use Rattle.outcome.specs.Version.{compared, invalid_lines, version_refusal}
@@ -32,7 +32,7 @@ use Rattle.words_core.specs.declared.applet.Applet.{Applet}
 use Rattle.words_core.specs.declared.applet.Applet.TheVariants.{Adbdump, Mkndx, Mkpkg, Verify, Version}
 use Rattle.words_core.specs.declared.operands.Operand.{Operand}
 use Rattle.apk_front.specs.Answers.{answer_by}
-use Rattle.apk_front.specs.Moments.{HasRoomFor, HidesScratchOf, IsCarriedOut, IsLeftUndone, IsRun, output, output_by, output_of}
+use Rattle.apk_front.specs.Moments.{HasRoomFor, HidesScratchOf, IsCarriedOut, IsLeftUndone, IsRun}
 use Rattle.apk_front.specs.Shown.{IsIndexOutcome, IsPackageOutcome, IsShown, Tells, TellsOne, shown}
 use Rattle.apk_front.specs.declared.answer.Answer.{Answer}
 use Rattle.apk_front.specs.declared.answer.Answer.TheVariants.{Ok as Done, Refused, TreeFault as TreeFailed, OutFault, Memory}

@@ -20,9 +20,9 @@ use Rattle.words_core.specs.declared.operands.Operand.{Operand}
 use Rattle.outcome.specs.Told.{Outcome, refused}
 use Rattle.outcome.specs.Version.{version}
 use Rattle.outcome.specs.Outcome.{IsFoundOutcome, IsFoundOutcomeOf, IsGivenBySome, IsOutcome, IsOutcomeOf, IsGivenTo, run_by, run_of}
-use Rattle.outcome.specs.Reach.{does_read_only, does_rest_on_words, reads_only, rests_on_words}
+use Rattle.outcome.specs.Reach.{does_read_only, does_rest_on_words, output, reads_only, rests_on_words}
 use Rattle.apk_front.specs.Answers.{IsAnswer, IsAnswerOf, LeavesFiles, LeavesAny, HasCauses, IsFaultless, IsComplete, DidNotFail, FailedAt}
-use Rattle.apk_front.specs.Moments.{IsRun, output}
+use Rattle.apk_front.specs.Moments.{IsRun}
 use Rattle.apk_front.specs.Shown.{shown, IsTold, IsShown, TellsOne}
 use Rattle.apk_front.proofs.Telling.{either_failed}
 use Rattle.apk_front.specs.declared.answer.Answer.{Answer}

@@ -1,5 +1,5 @@
 -- What a run of the top call does to the tree, moment by moment.
-use Rattle.std.specs.Prelude.{◌≡◌, ℕ, Bool, IsTrue, IsSome, List, Option, Some, None, Result, Ok, Err, OnOk}
+use Rattle.std.specs.Prelude.{◌≡◌, ℕ, Bool, IsTrue, IsSome, List, Option, Some, None, Result, OnOk}
 use Rattle.base_core.specs.Calls.{HasNow}
 use Rattle.base_core.specs.Crash.{IsOrderly, Since}
 use Rattle.base_core.specs.Files.{Files}
@@ -7,34 +7,14 @@ use Rattle.base_core.specs.Tree.{TreeState, files_of}
 use Rattle.base_core.specs.declared.tree.TreeFault.{TreeFault}
 use Rattle.journal_core.specs.Recovery.{RestsOn, IsSettled}
 use Rattle.journal_core.specs.Replacing.{HasRoom, HidesScratch, IsReplacing}
-use Rattle.make_core.specs.Output.{output_name}
 use Rattle.outcome.specs.Outcome.{IsOutcome}
+use Rattle.outcome.specs.Reach.{output}
 use Rattle.outcome.specs.Told.{Outcome}
-use Rattle.words_core.specs.Command.{CommandLine}
-use Rattle.words_core.specs.Grammar.{command_of}
-use Rattle.words_core.specs.declared.applet.Applet.{Applet}
-use Rattle.words_core.specs.declared.applet.Applet.TheVariants.{Adbdump, Mkndx, Mkpkg, Verify, Version}
 use Rattle.apk_front.specs.declared.answer.Answer.{Answer}
 use Rattle.apk_front.specs.declared.answer.Answer.TheVariants.{Ok as Done, Refused, TreeFault as TreeFailed, OutFault, Memory}
 use Rattle.apk_front.specs.declared.verdict.Verdict.{Verdict}
 
 -- ---- the output
-
--- the name under which an applet writes a file, if it writes one
-abbrev pub output_of : Applet → CommandLine → Option (List ℕ)
-output_of Verify command = None
-output_of Version command = None
-output_of Adbdump command = None
-output_of Mkpkg command = output_name command
-output_of Mkndx command = output_name command
-
-abbrev pub output_by : Result CommandLine ℕ → Option (List ℕ)
-output_by (Err place) = None
-output_by (Ok command) = output_of command.applet command
-
--- the output of a command line
-abbrev pub output : List (List ℕ) → Option (List ℕ)
-output words = output_by (command_of words)
 
 -- the names X that no state has hold the scratch name of an output, and not the intent's
 abbrev pub HidesScratchOf : Option (List ℕ) → (List ℕ → Bool) → Type 0

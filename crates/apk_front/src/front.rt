@@ -1,6 +1,6 @@
 ghost use Rattle.std.specs.Prelude.{◌≡◌, ℕ, Bool, List, None, IsSome, IsTrue};
 ghost use Rattle.apk_front.specs.Answers.{IsAnswer, IsAnswerOf, LeavesFiles, LeavesAny, HasCauses, IsFaultless, IsComplete, IsUnplanned, IsOutcomeUnlessMemory};
-ghost use Rattle.apk_front.specs.Moments.{HidesScratchOf, IsCarriedOut, IsLeftUndone, LeavesRoom, output};
+ghost use Rattle.apk_front.specs.Moments.{HidesScratchOf, IsCarriedOut, IsLeftUndone, LeavesRoom};
 ghost use Rattle.base_core.specs.Calls.{HasNow, OnTold};
 ghost use Rattle.base_core.specs.Crash.{IsOrderly, Since};
 ghost use Rattle.base_core.specs.Faults.{GoesOn, HasCause};
@@ -10,7 +10,7 @@ ghost use Rattle.base_core.specs.Tree.{files_of};
 ghost use Rattle.journal_core.specs.Recovery.{IsSettled, RestsOn};
 ghost use Rattle.journal_core.specs.Replacing.{IsReplacing};
 ghost use Rattle.outcome.specs.Outcome.{IsFoundOutcome, IsOutcome};
-ghost use Rattle.outcome.specs.Reach.{reads_only, rests_on_words};
+ghost use Rattle.outcome.specs.Reach.{output, reads_only, rests_on_words};
 ghost use Rattle.outcome.specs.Told.{Outcome};
 ghost use Rattle.words_core.specs.Grammar.{command_of};
 

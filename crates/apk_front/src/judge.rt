@@ -1,13 +1,13 @@
 // A command line judged: its words are read, and its applet is run.
 ghost use Rattle.std.specs.Prelude.{◌≡◌, ℕ, List, [], Option, None, Ok, IfOk, IsErrOf, IsSome, IsTrue, MatchResult, OnOk};
-ghost use Rattle.apk_front.specs.Moments.{HasRoomFor, IsRun, LeavesRoom, output, output_of};
+ghost use Rattle.apk_front.specs.Moments.{HasRoomFor, IsRun, LeavesRoom};
 ghost use Rattle.apk_front.specs.Shown.{TellsOne, shown};
 ghost use Rattle.base_core.specs.Calls.{OnTold};
 ghost use Rattle.base_core.specs.Faults.{GoesOn, HasCause, IsNoFault};
 ghost use Rattle.base_core.specs.Files.{Files, no_names};
 ghost use Rattle.base_core.specs.Tree.{files_of};
 ghost use Rattle.outcome.specs.Outcome.{IsFoundOutcome, IsFoundOutcomeOf, IsOutcome, IsOutcomeOf, run_by, run_of};
-ghost use Rattle.outcome.specs.Reach.{does_read_only, does_rest_on_words, reads_only, rests_on_words};
+ghost use Rattle.outcome.specs.Reach.{does_read_only, does_rest_on_words, output, output_of, reads_only, rests_on_words};
 ghost use Rattle.outcome.specs.Told.{Outcome};
 ghost use Rattle.words_core.specs.Grammar.{command_of};
 

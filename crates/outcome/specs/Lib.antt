@@ -5,3 +5,4 @@ pub mod Dump
 pub mod Make
 pub mod Reach
 pub mod Told
+pub mod Sound

@@ -9,7 +9,6 @@ use Rattle.journal_core.specs.Replacing.{replaced}
 use Rattle.make_core.specs.IndexCommand.{made_index}
 use Rattle.make_core.specs.Making.{made_package}
 use Rattle.make_core.specs.Output.{output_name}
-use Rattle.make_core.specs.Sources.{given}
 use Rattle.make_core.specs.declared.fault.MakeFault.{MakeFault}
 use Rattle.make_core.specs.declared.fault.MakeFault.TheVariants.{FileMissing as NoFile, FileBad as BadFile, InfoBad as BadInfo, TooLarge, Disk, Memory}
 use Rattle.report_core.specs.declared.refusal.Refusal.TheVariants.{FileMissing, FileBad, InfoBad, Reserved, ResultTooLarge}

@@ -1,6 +1,8 @@
 -- What a command looks at, and what it changes.
-use Rattle.std.specs.Prelude.{ℕ, Bool, true, false, Result, Ok, Err}
+use Rattle.std.specs.Prelude.{ℕ, Bool, true, false, List, Option, None, Result, Ok, Err}
+use Rattle.make_core.specs.Output.{output_name}
 use Rattle.words_core.specs.Command.{CommandLine}
+use Rattle.words_core.specs.Grammar.{command_of}
 use Rattle.words_core.specs.declared.applet.Applet.{Applet}
 use Rattle.words_core.specs.declared.applet.Applet.TheVariants.{Adbdump, Mkndx, Mkpkg, Verify, Version}
 
@@ -28,3 +30,19 @@ reads_only (Err place) = true
 abbrev pub rests_on_words : Result CommandLine ℕ → Bool
 rests_on_words (Ok command) = does_rest_on_words command.applet
 rests_on_words (Err place) = true
+
+-- the name under which an applet writes a file, if it writes one
+abbrev pub output_of : Applet → CommandLine → Option (List ℕ)
+output_of Verify command = None
+output_of Version command = None
+output_of Adbdump command = None
+output_of Mkpkg command = output_name command
+output_of Mkndx command = output_name command
+
+abbrev pub output_by : Result CommandLine ℕ → Option (List ℕ)
+output_by (Err place) = None
+output_by (Ok command) = output_of command.applet command
+
+-- the output of a command line
+abbrev pub output : List (List ℕ) → Option (List ℕ)
+output words = output_by (command_of words)

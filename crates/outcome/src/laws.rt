@@ -1,12 +1,14 @@
 //! What follows from the definitions of outcomes, for all words and files.
-ghost use Rattle.std.specs.Prelude.{◌≡◌, ℕ, List, IsTrue};
+ghost use Rattle.std.specs.Prelude.{◌≡◌, ℕ, List, None, Some, IsTrue};
 ghost use Rattle.base_core.specs.Files.{Files, IsWithin};
 ghost use Rattle.outcome.specs.Outcome.{IsOutcome};
 ghost use Rattle.outcome.specs.Told.{Outcome, told};
-ghost use Rattle.outcome.specs.Reach.{reads_only, rests_on_words};
+ghost use Rattle.outcome.specs.Reach.{output, reads_only, rests_on_words};
+ghost use Rattle.outcome.specs.Sound.{AreNamedFiles, IsSoundAt};
 ghost use Rattle.words_core.specs.Grammar.{command_of};
 
 use base_core::files_have_one_list_of_names;
+use make_core::{a_made_index_is_sound, a_made_package_is_sound};
 
 /// A command line has an outcome over any files under finitely many names.
 pub fn an_outcome_exists()
@@ -32,3 +34,13 @@ pub fn an_outcome_of_words_is_the_same_everywhere()
     ensures { (words : List (List ℕ)) (files others : Files) (o : Outcome) → IsTrue (rests_on_words (command_of words))
         → IsOutcome words files o → IsOutcome words others (told o.refusal o.out others) }
 {}
+
+/// What `mkpkg` or `mkndx` leaves under its output's name passes all tests of a container: where each file that is there before
+/// stands under a name and has fewer than 2^64 bytes, and the container has fewer than 2^64 bytes.
+pub fn what_is_made_is_sound()
+    ensures { (words : List (List ℕ)) (files : Files) (o : Outcome) (name : List ℕ) → AreNamedFiles files → IsOutcome words files o → o.refusal ≡ None → output words ≡ Some name
+        → IsSoundAt name o.files }
+{
+    a_made_package_is_sound();
+    a_made_index_is_sound();
+}
