@@ -4,6 +4,7 @@ use Rattle.std.proofs.lemmas.Bool.{eq-eqb, ne_eqb}
 use Rattle.std.proofs.Common.{◌≤◌}
 use Rattle.std.proofs.Math.ListN.{drop_of_length-le}
 use Rattle.std.specs.List.{slice_get}
+use Rattle.std.specs.Result.{IsErrAnd}
 use Rattle.base_core.specs.Calls.{OnTold}
 use Rattle.base_core.specs.Faults.{Counts, GoesOn}
 use Rattle.base_core.specs.Tree.{TreeState, files_of}
@@ -156,6 +157,14 @@ read_err view one os i o es fault r at so made e =
       so_far_err view (found_with so.found i f) os i o es fault r at (so.rest (found_with so.found i f) (λ k lt. with_before so.found i f k lt)) one
           (subst (λ x. IsMadeBy one (Err fault) (found_entry o.place x)) (sym (with_at so.found i f (without_dot o.text))) made.2) e,
     )
+
+-- for want of memory nothing is said of what was found
+pub read_stopped : {A : Type 0} (view : A → List Plain) (os : List Operand) (r : Result A MakeFault) → IsErrAnd r (λ e. e ≡ Memory) → (read : ℕ → List ℕ → Option (List ℕ)) × AreFiles read 0 os × IsMadeBy view r (found_entries read 0 os)
+read_stopped view os (Ok x) e = absurd e
+read_stopped view os (Err fault) e =
+    let nothing : ℕ → List ℕ → Option (List ℕ) = λ k q. None in
+    let P : MakeFault → Type 0 = λ f. IsMadeBy view (Err f) (found_entries nothing 0 os) in
+    (nothing, files_all nothing (λ k q. tt) 0 os, subst P (sym e) tt)
 
 -- ---- over a tree that tells its files
 

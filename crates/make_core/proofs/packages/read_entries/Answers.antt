@@ -2,7 +2,7 @@ use Rattle.std.proofs.Common.{◌∙◌, ap, refl, map, Err, List}
 use Rattle.std.proofs.lemmas.Result.{err_from_is_err_and}
 use Rattle.make_core.specs.IndexTold.{all_told, entry_told}
 use Rattle.make_core.specs.declared.entry.Entry.{Entry}
-use Rattle.make_core.proofs.IndexReads.{file_here, files_more, goes_on_same, goes_on_twice, proper_more, proper_none, read_err, read_more, read_start, told_err, told_more, told_start}
+use Rattle.make_core.proofs.IndexReads.{file_here, files_more, goes_on_same, goes_on_twice, proper_more, proper_none, read_err, read_more, read_start, read_stopped, told_err, told_more, told_start}
 use Rattle.make_core.proofs.KeptCounts.{kept_on, no_fault_same, no_fault_twice, whatever}
 use Rattle.make_core.proofs.packages.read_entries.Goals as goal
 
@@ -29,6 +29,9 @@ pub returns-in_err-entry-clause-found : goal.returns-in_err-entry-clause-found
 returns-in_err-entry-clause-found g c =
     let p = err_from_is_err_and c.from_residual.result c.from_residual.ensures.1 in
     read_err all_told entry_told c.args.operands.now c.loop-i.i c.get.result.now _ c.in_err-entry.field-0.0 c.from_residual.result c.get.ensures c.loop-i.invariant.found c.in_err-entry.ensures.found (p.1 ∙ ap Err p.2)
+
+pub returns-in_err-keep-clause-found : goal.returns-in_err-keep-clause-found
+returns-in_err-keep-clause-found g c = read_stopped all_told c.args.operands.now c.from_residual-in_err-keep.result c.from_residual-in_err-keep.ensures.1
 
 pub loop-i-preserved : goal.loop-i-preserved
 loop-i-preserved g c = record {
