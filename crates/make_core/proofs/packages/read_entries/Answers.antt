@@ -1,8 +1,8 @@
-use Rattle.std.proofs.Common.{◌∙◌, ap, refl, map, Err, List}
+use Rattle.std.proofs.Common.{◌≤◌, ◌∙◌, ap, refl, length, map, Err, List, arith}
 use Rattle.std.proofs.lemmas.Result.{err_from_is_err_and}
 use Rattle.make_core.specs.IndexTold.{all_told, entry_told}
 use Rattle.make_core.specs.declared.entry.Entry.{Entry}
-use Rattle.make_core.proofs.IndexReads.{file_here, files_more, goes_on_same, goes_on_twice, proper_more, proper_none, read_err, read_more, read_start, read_stopped, told_err, told_more, told_start}
+use Rattle.make_core.proofs.IndexReads.{file_here, files_more, goes_on_same, goes_on_twice, proper_more, proper_none, read_all_is, read_err, read_more, read_start, read_stopped, told_err, told_more, told_start}
 use Rattle.make_core.proofs.KeptCounts.{kept_on, no_fault_same, no_fault_twice, whatever}
 use Rattle.make_core.proofs.packages.read_entries.Goals as goal
 
@@ -47,6 +47,11 @@ loop-i-preserved g c = record {
 pub returns-in_err-entry-clause-kept : goal.returns-in_err-entry-clause-kept
 returns-in_err-entry-clause-kept g c =
     kept_on Entry c.from_residual.result c.in_err-entry.field-0.0 _ _ (no_fault_twice _ _ _ c.loop-i.invariant.kept) c.from_residual.ensures.1 c.in_err-entry.ensures.kept
+
+pub returns-clause-found : goal.returns-clause-found
+returns-clause-found g c =
+    let past : length c.args.operands.now ≤ c.loop-i.i = omega arith in
+    read_all_is c.args.operands.now c.loop-i.i _ past c.loop-i.invariant.found
 
 pub returns-in_err-keep-clause-kept : goal.returns-in_err-keep-clause-kept
 returns-in_err-keep-clause-kept g c =
