@@ -9,7 +9,7 @@ use Rattle.adb_schema.specs.Reserved.{is_reserved}
 use Rattle.adb_view.specs.Plain.{Plain}
 use Rattle.adb_write.specs.Canonical.{Counts, overflow_of, written_of}
 use Rattle.base_core.specs.Files.{Files, IsFolderOf, drop_name}
-use Rattle.base_core.specs.Listed.{IsNamesOf}
+use Rattle.base_core.specs.Listed.{AreNamesBelow, IsNameBelow, IsNamesOf}
 use Rattle.base_core.specs.declared.cause.Cause.{Cause}
 use Rattle.journal_core.specs.Replacing.{replaced, scratch_of}
 use Rattle.make_core.specs.Folders.{Listed, folders_of, part_of}
@@ -20,7 +20,7 @@ use Rattle.make_core.specs.Information.{Item, info_value, information, replaces_
 use Rattle.make_core.specs.Making.{file_unless, made_package, or_info_bad, package_file, package_of}
 use Rattle.make_core.specs.Output.{output_name}
 use Rattle.make_core.specs.Package.{Script, Source, SourceFolder, contents_of, installed_size, package_value}
-use Rattle.make_core.specs.Sound.{AreFiles, AreNamesBelow, AreNamesFor, IsNameBelow}
+use Rattle.make_core.specs.Sound.{AreFiles, AreNamesFor}
 use Rattle.make_core.specs.Sources.{Reads, after, each_from, file_at, files_from, folder_at, folders_below, found_at, given, script_at, scripts_from, texts}
 use Rattle.make_core.specs.declared.fault.MakeFault.{MakeFault}
 use Rattle.make_core.specs.declared.fault.MakeFault.TheVariants.{FileMissing, FileBad, InfoBad, TooLarge, Disk, Memory}
