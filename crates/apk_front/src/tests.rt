@@ -270,10 +270,12 @@ fn failures(rt: HostRuntime) -> Result<(), Fail> {
     Ok(())
 }
 
-// A command that makes a container, and what then stands under a name.
+// A command that makes a container, how many calls it makes of the tree, and what then stands under a name. A package is
+// read by two calls, of its size and of its bytes, and a file is written by six.
 #[derive(Clone, Copy)]
 struct Made {
     words: &'static [&'static [u8]],
+    calls: u64,
     answer: Wanted,
     out: &'static [u8],
     err: &'static [u8],
@@ -306,6 +308,7 @@ fn check_made(alloc: Global, rt: &impl Abort, row: &Made) -> Result<(), Fail> {
     assert_eq!(rt; kind_of(&answer), row.answer);
     assert_eq!(rt; out.bytes(), row.out);
     assert_eq!(rt; err.bytes(), row.err);
+    assert_eq!(rt; tree.calls(), row.calls);
     assert_eq!(rt; tree.faults(), 0);
     assert_eq!(rt; tree.wants(), 0);
     let name = name_of(alloc, row.name)?;

@@ -6,6 +6,7 @@ pub(super) const INDEXES: [Made; 10] = [
     // No package: the file is a header and a block whose payload has no value.
     Made {
         words: &[b"mkndx", b"-o", b"new.adb"],
+        calls: 6,
         answer: Wanted::Done,
         out: b"Index has 0 packages\n",
         err: b"",
@@ -15,6 +16,7 @@ pub(super) const INDEXES: [Made; 10] = [
     // In the place of an old file.
     Made {
         words: &[b"mkndx", b"--output=./old.adb"],
+        calls: 6,
         answer: Wanted::Done,
         out: b"Index has 0 packages\n",
         err: b"",
@@ -24,6 +26,7 @@ pub(super) const INDEXES: [Made; 10] = [
     // One package, with the hash of its block and its file's length of 48.
     Made {
         words: &[b"mkndx", b"-o", b"new.adb", b"a.apk"],
+        calls: 8,
         answer: Wanted::Done,
         out: b"Index has 1 packages\n",
         err: b"",
@@ -35,6 +38,7 @@ pub(super) const INDEXES: [Made; 10] = [
     // The second package is absent: the old file stays.
     Made {
         words: &[b"mkndx", b"-o", b"old.adb", b"a.apk", b"b.apk"],
+        calls: 3,
         answer: Wanted::Missing(5),
         out: b"",
         err: b"ERROR: word 5: no such file\n",
@@ -44,6 +48,7 @@ pub(super) const INDEXES: [Made; 10] = [
     // The old file is no package.
     Made {
         words: &[b"mkndx", b"-o", b"new.adb", b"old.adb"],
+        calls: 2,
         answer: Wanted::Bad(4, Cause::Truncated { at: 0 }),
         out: b"",
         err: b"ERROR: word 4: truncated at 0\n",
@@ -53,6 +58,7 @@ pub(super) const INDEXES: [Made; 10] = [
     // In the place of the package that is indexed.
     Made {
         words: &[b"mkndx", b"-o", b"a.apk", b"a.apk", b"a.apk", b"old.adb"],
+        calls: 6,
         answer: Wanted::Bad(6, Cause::Truncated { at: 0 }),
         out: b"",
         err: b"ERROR: word 6: truncated at 0\n",
@@ -62,6 +68,7 @@ pub(super) const INDEXES: [Made; 10] = [
     // Reserved names.
     Made {
         words: &[b"mkndx", b"-o", b"lib/apk/intent"],
+        calls: 0,
         answer: Wanted::Reserved,
         out: b"",
         err: b"ERROR: lib/apk/intent: reserved name\n",
@@ -70,6 +77,7 @@ pub(super) const INDEXES: [Made; 10] = [
     },
     Made {
         words: &[b"mkndx", b"-o", b"lib/apk/db/index.adb", b"a.apk"],
+        calls: 2,
         answer: Wanted::Reserved,
         out: b"",
         err: b"ERROR: lib/apk/db/index.adb: reserved name\n",
@@ -79,6 +87,7 @@ pub(super) const INDEXES: [Made; 10] = [
     // A package that is absent is told before a reserved output.
     Made {
         words: &[b"mkndx", b"-o", b"lib/apk/intent", b"b.apk"],
+        calls: 1,
         answer: Wanted::Missing(4),
         out: b"",
         err: b"ERROR: word 4: no such file\n",
@@ -88,6 +97,7 @@ pub(super) const INDEXES: [Made; 10] = [
     // No output is named.
     Made {
         words: &[b"mkndx", b"a.apk"],
+        calls: 0,
         answer: Wanted::Usage(3),
         out: b"",
         err: b"ERROR: usage error at word 3\n",
@@ -96,7 +106,7 @@ pub(super) const INDEXES: [Made; 10] = [
     },
 ];
 
-pub(super) const PACKAGES: [Made; 5] = [
+pub(super) const PACKAGES: [Made; 6] = [
     // The sound package that stands as `a.apk`, byte for byte.
     Made {
         words: &[
@@ -108,6 +118,7 @@ pub(super) const PACKAGES: [Made; 5] = [
             b"-o",
             b"new.apk",
         ],
+        calls: 6,
         answer: Wanted::Done,
         out: b"",
         err: b"",
@@ -117,6 +128,7 @@ pub(super) const PACKAGES: [Made; 5] = [
     // Its own name, where no output is named.
     Made {
         words: &[b"mkpkg", b"-I", b"version:1", b"-I", b"name:a"],
+        calls: 6,
         answer: Wanted::Done,
         out: b"",
         err: b"",
@@ -126,9 +138,28 @@ pub(super) const PACKAGES: [Made; 5] = [
     // The version is lacking: it is told behind the last word.
     Made {
         words: &[b"mkpkg", b"-I", b"name:a"],
+        calls: 0,
         answer: Wanted::NoInfo(4),
         out: b"",
         err: b"ERROR: word 4: invalid package information\n",
+        name: b"a-1.apk",
+        file: None,
+    },
+    // The same behind a script and a folder: the folder is listed once, and the script read once.
+    Made {
+        words: &[
+            b"mkpkg",
+            b"-I",
+            b"name:a",
+            b"-s",
+            b"trigger:old.adb",
+            b"-F",
+            b"in",
+        ],
+        calls: 3,
+        answer: Wanted::NoInfo(8),
+        out: b"",
+        err: b"ERROR: word 8: invalid package information\n",
         name: b"a-1.apk",
         file: None,
     },
@@ -143,6 +174,7 @@ pub(super) const PACKAGES: [Made; 5] = [
             b"-I",
             b"version:1",
         ],
+        calls: 0,
         answer: Wanted::NoInfo(5),
         out: b"",
         err: b"ERROR: word 5: invalid package information\n",
@@ -159,6 +191,7 @@ pub(super) const PACKAGES: [Made; 5] = [
             b"-o",
             b"lib/apk/intent",
         ],
+        calls: 0,
         answer: Wanted::Reserved,
         out: b"",
         err: b"ERROR: lib/apk/intent: reserved name\n",
