@@ -1,5 +1,5 @@
 -- What a run of the top call answers, and leaves of its two sinks.
-use Rattle.std.specs.Prelude.{◌≡◌, ◌≢◌, ◌⊎◌, ◌<◌, ℕ, ◌-◌, ◌^◌, false, List, [], Option, Some, None}
+use Rattle.std.specs.Prelude.{◌≡◌, ◌≢◌, ◌⊎◌, ◌<◌, ℕ, ◌-◌, ◌^◌, false, Bool, List, [], Option, Some, None, is_ok}
 use Rattle.base_core.specs.Calls.{HasNow}
 use Rattle.base_core.specs.Faults.{Counts, HasCause, IsNoFault, Rose}
 use Rattle.base_core.specs.Files.{Files}
@@ -11,6 +11,8 @@ use Rattle.report_core.specs.Texts.{tree_line, memory_line}
 use Rattle.apk_front.specs.declared.answer.Answer.{Answer}
 use Rattle.apk_front.specs.declared.answer.Answer.TheVariants.{Ok, Refused, TreeFault, OutFault, Memory}
 use Rattle.report_core.specs.declared.refusal.Refusal.{Refusal}
+use Rattle.words_core.specs.Flags.{no_flags}
+use Rattle.words_core.specs.Grammar.{start_of}
 
 -- the answer of an outcome
 abbrev pub answer_by : Option Refusal → Answer
@@ -113,3 +115,7 @@ IsOutcomeUnlessMemory words files Leaves (Refused refusal) before after out err 
 IsOutcomeUnlessMemory words files Leaves TreeFault before after out err = Rose before.wants after.wants
 IsOutcomeUnlessMemory words files Leaves OutFault before after out err = Rose out.before.wants out.after.wants ⊎ Rose err.before.wants err.after.wants
 IsOutcomeUnlessMemory words files Leaves Memory before after out err = Unit {0}
+
+-- whether words name an applet behind the options that stand first
+abbrev pub name_an_applet : List (List ℕ) → Bool
+name_an_applet words = is_ok (start_of no_flags 1 words)

@@ -1,5 +1,5 @@
 ghost use Rattle.std.specs.Prelude.{◌≡◌, ℕ, Bool, List, None, IsSome, IsTrue};
-ghost use Rattle.apk_front.specs.Answers.{IsAnswer, IsAnswerOf, LeavesFiles, LeavesAny, HasCauses, IsFaultless, IsComplete, IsUnplanned, IsOutcomeUnlessMemory};
+ghost use Rattle.apk_front.specs.Answers.{name_an_applet, IsAnswer, IsAnswerOf, LeavesFiles, LeavesAny, HasCauses, IsFaultless, IsComplete, IsUnplanned, IsOutcomeUnlessMemory};
 ghost use Rattle.apk_front.specs.Moments.{HidesScratchOf, IsCarriedOut, IsLeftUndone, LeavesRoom};
 ghost use Rattle.base_core.specs.Calls.{HasNow, OnTold};
 ghost use Rattle.base_core.specs.Crash.{IsOrderly, Since};
@@ -61,6 +61,9 @@ pub fn apk<T: Tree, O: Sink, E: Sink>(
     ensures tree_counts { GoesOn (T.counts tree.old) (T.counts tree.new) }
     ensures out_counts { KeepsCount (sinking O.bytes O.counts out.old out.new) }
     ensures err_counts { KeepsCount (sinking E.bytes E.counts err.old err.new) }
+
+    // Want of memory is answered only where the words name an applet.
+    ensures memory { result ≡ Answer.Memory → IsTrue (name_an_applet words.now) }
 
     // Where the outcome rests on the words alone, no call is made on the tree.
     ensures untouched { IsTrue (rests_on_words (command_of words.now)) → tree.new ≡ tree.old }

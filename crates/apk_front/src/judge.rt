@@ -1,5 +1,6 @@
 // A command line judged: its words are read, and its applet is run.
 ghost use Rattle.std.specs.Prelude.{◌≡◌, ℕ, List, [], Option, None, Ok, IfOk, IsErrOf, IsSome, IsTrue, MatchResult, OnOk};
+ghost use Rattle.apk_front.specs.Answers.{name_an_applet};
 ghost use Rattle.apk_front.specs.Moments.{HasRoomFor, IsRun, LeavesRoom};
 ghost use Rattle.apk_front.specs.Shown.{TellsOne, shown};
 ghost use Rattle.base_core.specs.Calls.{OnTold};
@@ -39,6 +40,7 @@ pub(crate) fn judge<T: Tree>(
     ensures disk { IsErrOf result TreeFault.Disk → HasCause (T.counts tree.old) (T.counts tree.new) }
     ensures kept { OnOk result (IsNoFault (T.counts tree.old) (T.counts tree.new)) }
     ensures memory { IsErrOf result TreeFault.Memory → IsNoFault (T.counts tree.old) (T.counts tree.new) }
+    ensures named { IsErrOf result TreeFault.Memory → IsTrue (name_an_applet words.now) }
     ensures proper { OnTold (T.history tree.old) (λ v. LeavesRoom words.now (files_of v) → (T.counts tree.new).misuses ≡ (T.counts tree.old).misuses) }
 {
     match read_words(alloc, words) {

@@ -1,6 +1,7 @@
 use Rattle.apk_front.proofs.Carried.{crash_told, orderly_told, settled_told, undone_told, unwritten_told}
 use Rattle.apk_front.proofs.Judged.{answered, completed, answered_by_reads, answered_by_words, caused}
 use Rattle.apk_front.proofs.Unplanned.{ends_unless_memory}
+use Rattle.apk_front.proofs.Named.{memory_told}
 use Rattle.apk_front.proofs.front.apk.Goals as goal
 
 pub returns-clause-stated : goal.returns-clause-stated
@@ -40,3 +41,6 @@ returns-clause-unless_memory g c =
     ends_unless_memory _ _ _ (g.T.Tree.history c.judge-judged.new.tree) _ _ _ _ _
     (answered _ _ _ _ c.judge-judged.result _ _ _ c.judge-judged.ensures.found c.judge-judged.ensures.run c.judge-judged.ensures.disk c.show.ensures.shown)
     c.judge-judged.ensures.proper c.show.ensures.out_counts c.show.ensures.err_counts
+
+pub returns-clause-memory : goal.returns-clause-memory
+returns-clause-memory g c = memory_told c.judge-judged.result c.show.result _ _ _ c.show.ensures.shown c.judge-judged.ensures.named

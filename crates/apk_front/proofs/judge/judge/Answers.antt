@@ -1,5 +1,6 @@
 use Rattle.apk_front.proofs.Carried.{proper_by_command, run_by_command, usage_told}
 use Rattle.apk_front.proofs.Judged.{usage_found, usage_verdict}
+use Rattle.apk_front.proofs.Named.{command_named}
 use Rattle.apk_front.proofs.judge.judge.Goals as goal
 
 pub returns-in-Ok-clause-run : goal.returns-in-Ok-clause-run
@@ -16,3 +17,6 @@ returns-in-Err-Usage-clause-by_reads g c = usage_found c.args.words.now _ _ _ c.
 
 pub returns-in-Err-Usage-clause-by_words : goal.returns-in-Err-Usage-clause-by_words
 returns-in-Err-Usage-clause-by_words g c = λ rests. usage_verdict c.args.words.now _ _ _ c.refused.result c.in-Err-Usage.place-is c.in-Err-Usage.field-0-is c.in-Err-Usage.ensures.usage c.refused.ensures
+
+pub returns-in-Ok-clause-named : goal.returns-in-Ok-clause-named
+returns-in-Ok-clause-named g c = λ memory. command_named c.args.words.now _ c.in-Ok.ensures.ok
