@@ -1,4 +1,5 @@
 //! What is seen of a run, beside what is wanted.
+use crate::program::Program;
 use crate::report::{RowFault, compare, compare_numbers, differs};
 use crate::run::Run;
 use crate::start::{are_alike, bytes_of};
@@ -8,15 +9,16 @@ use std::alloc::Global;
 use tree_memory::MemoryTree;
 
 /// All that is wanted of a run is seen.
-pub(crate) fn check_run(
+pub(crate) fn check_run<P: Program>(
     alloc: Global,
+    program: &P,
     step: &Step,
     before: &MemoryTree,
     run: &Run,
 ) -> Result<(), RowFault> {
     check_streams(alloc, step, run)?;
     check_counts(alloc, step, run)?;
-    check_files(alloc, step, before, &run.tree)?;
+    check_files(alloc, program, step, before, &run.tree)?;
     check_names(alloc, step, &run.tree)
 }
 
@@ -45,8 +47,9 @@ fn check_counts(alloc: Global, step: &Step, run: &Run) -> Result<(), RowFault> {
 }
 
 /// Each file is as it is wanted, or as it was before where nothing is said of it.
-fn check_files(
+fn check_files<P: Program>(
     alloc: Global,
+    program: &P,
     step: &Step,
     before: &MemoryTree,
     after: &MemoryTree,
@@ -54,24 +57,25 @@ fn check_files(
     for tree in [before, after] {
         let names = tree.names(alloc)?;
         for i in 0..names.len() {
-            check_file(alloc, step, before, after, names.get(i))?;
+            check_file(alloc, program, step, before, after, names.get(i))?;
         }
     }
     for file in &step.files {
-        check_file(alloc, step, before, after, &file.name)?;
+        check_file(alloc, program, step, before, after, &file.name)?;
     }
     Ok(())
 }
 
-fn check_file(
+fn check_file<P: Program>(
     alloc: Global,
+    program: &P,
     step: &Step,
     before: &MemoryTree,
     after: &MemoryTree,
     name: &Name,
 ) -> Result<(), RowFault> {
     let wanted = match wanted_file(step, name) {
-        Some(file) => bytes_of(alloc, &file.content)?,
+        Some(file) => bytes_of(alloc, program, &file.content)?,
         None => match before.file(name) {
             Some(bytes) => Some(Vec::from_slice(alloc, bytes)?),
             None => None,

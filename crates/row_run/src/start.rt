@@ -1,20 +1,21 @@
 //! Trees in memory: what a row begins with, and copies.
+use crate::program::Program;
 use crate::report::{RowFault, differs};
 use base_core::Name;
-use row_dump::{DumpFault, container_of};
 use row_text::{Content, NamedFile, Row};
 use std::alloc::{AllocError, Global};
 use tree_memory::MemoryTree;
 
 /// The tree that a row begins with: what an earlier row left, and its own files.
-pub(crate) fn tree_of(
+pub(crate) fn tree_of<P: Program>(
     alloc: Global,
+    program: &P,
     row: &Row,
     left: &[Option<MemoryTree>],
 ) -> Result<MemoryTree, RowFault> {
     let mut tree = first_tree(alloc, row, left)?;
     for file in &row.files {
-        put(alloc, row.line, &mut tree, file)?;
+        put(alloc, program, row.line, &mut tree, file)?;
     }
     Ok(tree)
 }
@@ -33,8 +34,14 @@ fn first_tree(
     }
 }
 
-fn put(alloc: Global, line: u64, tree: &mut MemoryTree, file: &NamedFile) -> Result<(), RowFault> {
-    let Some(bytes) = bytes_of(alloc, &file.content)? else {
+fn put<P: Program>(
+    alloc: Global,
+    program: &P,
+    line: u64,
+    tree: &mut MemoryTree,
+    file: &NamedFile,
+) -> Result<(), RowFault> {
+    let Some(bytes) = bytes_of(alloc, program, &file.content)? else {
         return Ok(());
     };
     if !tree.can_put(&file.name) {
@@ -46,14 +53,17 @@ fn put(alloc: Global, line: u64, tree: &mut MemoryTree, file: &NamedFile) -> Res
 }
 
 /// The bytes of what stands at a path, or None where nothing does.
-pub(crate) fn bytes_of(alloc: Global, content: &Content) -> Result<Option<Vec<u8>>, RowFault> {
+pub(crate) fn bytes_of<P: Program>(
+    alloc: Global,
+    program: &P,
+    content: &Content,
+) -> Result<Option<Vec<u8>>, RowFault> {
     match content {
         Content::Absent => Ok(None),
         Content::Bytes(bytes) => Ok(Some(Vec::from_slice(alloc, bytes)?)),
-        Content::Dump { text, line } => match container_of(alloc, text) {
-            Ok(bytes) => Ok(Some(bytes)),
-            Err(DumpFault::NoDump) => Err(differs(alloc, *line, &[b"no dump text"])),
-            Err(DumpFault::Memory) => Err(RowFault::Memory),
+        Content::Dump { text, line } => match program.container_of(alloc, text)? {
+            Some(bytes) => Ok(Some(bytes)),
+            None => Err(differs(alloc, *line, &[b"no dump text"])),
         },
     }
 }

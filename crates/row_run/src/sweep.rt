@@ -1,7 +1,8 @@
 //! A command line with each of its calls failing in turn, and cut off behind each of them.
 use crate::check::{check_images, check_run, check_streams};
+use crate::program::Program;
 use crate::report::{RowFault, compare, compare_numbers, differs, digits};
-use crate::run::{Run, run};
+use crate::run::{Run, run_once};
 use crate::start::{are_alike, copy_of};
 use row_text::Step;
 use std::alloc::Global;
@@ -17,8 +18,9 @@ const TREE_FAULT_TEXT: &[u8] = b"ERROR: the tree failed\n";
 
 /// Lets each call fail in turn. A crash then leaves the files of before or of after, and the same command line ends well
 /// when it is run once more.
-pub(crate) fn fail_each(
+pub(crate) fn fail_each<P: Program>(
     alloc: Global,
+    program: &P,
     step: &Step,
     before: &MemoryTree,
     after: &MemoryTree,
@@ -26,23 +28,24 @@ pub(crate) fn fail_each(
     for call in 1..MOST_CALLS {
         let mut tree = copy_of(alloc, before)?;
         tree.fail_at(&[call])?;
-        let failed = run(alloc, step, tree);
+        let failed = run_once(alloc, program, step, tree);
         if failed.tree.calls() < call {
-            return check_run(alloc, step, before, &failed);
+            return check_run(alloc, program, step, before, &failed);
         }
         check_fault(alloc, step, call, &failed)?;
         look(alloc, step, call, &failed.tree, before, after)?;
         let Run { mut tree, .. } = failed;
         tree.fail_at(&[])?;
-        check_again(alloc, step, tree, after)?;
+        check_again(alloc, program, step, tree, after)?;
     }
     Err(too_many(alloc, step))
 }
 
 /// Stops behind each call in turn. A crash then leaves the files of before or of after, both are seen, and the same
 /// command line ends well when it is run on what is left.
-pub(crate) fn stop_each(
+pub(crate) fn stop_each<P: Program>(
     alloc: Global,
+    program: &P,
     step: &Step,
     before: &MemoryTree,
     after: &MemoryTree,
@@ -51,18 +54,18 @@ pub(crate) fn stop_each(
     for calls in 0..MOST_CALLS {
         let mut tree = copy_of(alloc, before)?;
         tree.stop_after(calls);
-        let cut = run(alloc, step, tree);
+        let cut = run_once(alloc, program, step, tree);
         if cut.tree.calls() <= calls {
             if !new_seen {
                 let what: &[u8] = b"no stop leaves the files of after";
                 return Err(differs(alloc, step.line, &[what]));
             }
-            return check_run(alloc, step, before, &cut);
+            return check_run(alloc, program, step, before, &cut);
         }
         check_fault(alloc, step, calls, &cut)?;
         let seen = look(alloc, step, calls, &cut.tree, before, after)?;
         new_seen = new_seen || seen;
-        run_on_images(alloc, step, &cut.tree, after)?;
+        run_on_images(alloc, program, step, &cut.tree, after)?;
     }
     Err(too_many(alloc, step))
 }
@@ -116,27 +119,29 @@ fn look(
 }
 
 /// Runs the command line once more on each image that a crash may leave.
-fn run_on_images(
+fn run_on_images<P: Program>(
     alloc: Global,
+    program: &P,
     step: &Step,
     tree: &MemoryTree,
     after: &MemoryTree,
 ) -> Result<(), RowFault> {
     for choice in 0..tree.maps().saturating_mul(3) {
         let image = tree.pick_image(alloc, choice)?;
-        check_again(alloc, step, image, after)?;
+        check_again(alloc, program, step, image, after)?;
     }
     Ok(())
 }
 
 /// A second run prints what is wanted, and leaves the files of after, also behind a crash.
-fn check_again(
+fn check_again<P: Program>(
     alloc: Global,
+    program: &P,
     step: &Step,
     tree: MemoryTree,
     after: &MemoryTree,
 ) -> Result<(), RowFault> {
-    let again = run(alloc, step, tree);
+    let again = run_once(alloc, program, step, tree);
     check_streams(alloc, step, &again)?;
     check_images(alloc, step, &again.tree, after)
 }

@@ -1,11 +1,17 @@
 //! A whole text of rows.
+use crate::program::Program;
 use crate::report::{RowFault, add_number};
 use crate::run::run_row;
 use row_text::{Fault, read_rows};
 use std::alloc::{AllocError, Global};
 
 /// Runs all rows of a text, and adds a line for each. Answers whether the text is one of rows and none failed.
-pub fn run_text(alloc: Global, text: &[u8], report: &mut Vec<u8>) -> Result<bool, AllocError> {
+pub fn run_text<P: Program>(
+    alloc: Global,
+    program: &P,
+    text: &[u8],
+    report: &mut Vec<u8>,
+) -> Result<bool, AllocError> {
     let rows = match read_rows(alloc, text) {
         Ok(rows) => rows,
         Err(fault) => {
@@ -16,7 +22,7 @@ pub fn run_text(alloc: Global, text: &[u8], report: &mut Vec<u8>) -> Result<bool
     let mut left = Vec::new(alloc);
     let mut failed = 0u64;
     for row in &rows {
-        let end = match run_row(alloc, row, &left) {
+        let end = match run_row(alloc, program, row, &left) {
             Ok(tree) => {
                 add_line(report, b"ok ", &row.name, b"")?;
                 Some(tree)

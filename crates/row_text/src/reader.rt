@@ -7,7 +7,7 @@ use base_core::Name;
 use std::alloc::{AllocError, Global};
 
 /// What the next line of text belongs to.
-#[derive(Clone, Copy, PartialEq, Eq)]
+#[derive(Clone, Copy)]
 enum Target {
     Nothing,
     /// A file that stands there before, by its form.
@@ -19,7 +19,7 @@ enum Target {
 }
 
 /// How the bytes of a file are written.
-#[derive(Clone, Copy, PartialEq, Eq)]
+#[derive(Clone, Copy)]
 enum Form {
     Text,
     Hex,
