@@ -1,5 +1,5 @@
 -- What the program's values stand for.
-use Rattle.dep_core.specs.Seen.{dependency}
+use Rattle.dep_core.specs.Meets.{dependency}
 use Rattle.make_core.specs.declared.given.Given.{Given as GivenSlice}
 use Rattle.make_core.specs.declared.said.Value.{Value}
 use Rattle.make_core.specs.declared.said.Value.TheVariants.{Text, Bytes, Number, Need}

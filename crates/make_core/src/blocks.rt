@@ -1,6 +1,6 @@
 //! The contents blocks of a package (apk-package(5)), and what stands in front of them.
 ghost use Rattle.std.specs.Prelude.{◌≡◌, ◌++◌, ◌<◌, ◌+◌, ◌^◌, length, replicate, OnOk, IfOk};
-ghost use Rattle.adb_block.specs.Container.{padding_of};
+ghost use Rattle.adb_block.specs.Piece.{padding_of};
 ghost use Rattle.make_core.specs.Blocks.{block_of};
 
 use adb_block::{BlockKind, block_head};

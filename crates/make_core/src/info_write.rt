@@ -2,7 +2,7 @@
 ghost use Rattle.std.specs.Prelude.{◌≡◌, IfOk};
 ghost use Rattle.adb_view.specs.Plain.{blob_value, null};
 ghost use Rattle.adb_write.specs.DepthFirst.{Writes, WritesAll};
-ghost use Rattle.dep_core.specs.Seen.{dependency};
+ghost use Rattle.dep_core.specs.Meets.{dependency};
 ghost use Rattle.dep_core.specs.Value.{dep_value, matching_of};
 ghost use Rattle.make_core.specs.Columns.{column_value, column_values};
 ghost use Rattle.make_core.specs.Information.{info_value, listed, need_value, number_said, number_value, replaces_priority, said_value, single};

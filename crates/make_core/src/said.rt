@@ -5,7 +5,7 @@ ghost use Rattle.std.specs.List.{find};
 ghost use Rattle.hex.specs.Hex.{decode_of};
 ghost use Rattle.make_core.specs.Fields.{bytes_said, kind_of, need_of, needs_of, number, number_of, part_of, parts_of, said_as, text_if, texts_of};
 ghost use Rattle.make_core.specs.Information.{is_of, item_of, with_said};
-ghost use Rattle.dep_core.specs.Seen.{dependency};
+ghost use Rattle.dep_core.specs.Meets.{dependency};
 ghost use Rattle.make_core.specs.Seen.{entry_view, given_view, said_view};
 
 use crate::field::{Field, Kind};
