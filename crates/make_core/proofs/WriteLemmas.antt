@@ -8,7 +8,7 @@ use Rattle.words_core.specs.declared.values.OptionValue.{OptionValue}
 use Rattle.make_core.specs.Sources.{given, texts}
 use Rattle.std.proofs.lemmas.List.{take_more, map-append}
 use Rattle.adb_view.specs.Plain.{Plain, Plains, more}
-use Rattle.adb_write.specs.DepthFirst.{WritesAll, push}
+use Rattle.adb_write.specs.DepthFirst.{WritesValues, push}
 use Rattle.adb_write.specs.Writing.{Writing}
 use Rattle.make_core.specs.Package.{plains}
 
@@ -24,10 +24,10 @@ module _ {X : Type 0} (f : X → Plain) where
       ∙ ap plains (map-append f (take i xs) (x ∷ [])) ∙ plains_push (map f (take i xs)) (f x)
 
   pub written_more : (xs : List X) (i : ℕ) (x d : X) (words later : List ℕ) (a b : Writing) → i < length xs → x ≡ get_or xs i d
-      → later ≡ words → WritesAll a (push (plains (map f (take i xs))) (f x)) words b → WritesAll a (plains (map f (take (i + 1) xs))) later b
+      → later ≡ words → WritesValues a (push (plains (map f (take i xs))) (f x)) words b → WritesValues a (plains (map f (take (i + 1) xs))) later b
   written_more xs i x d words later a b lt e same h =
-      let P : Plains → Type 0 = λ vs. WritesAll a vs words b in
-      let Q : List ℕ → Type 0 = λ ws. WritesAll a (plains (map f (take (i + 1) xs))) ws b in
+      let P : Plains → Type 0 = λ vs. WritesValues a vs words b in
+      let Q : List ℕ → Type 0 = λ ws. WritesValues a (plains (map f (take (i + 1) xs))) ws b in
       subst Q (sym same) (subst P (sym (plains_more xs i x d lt e)) h)
 
 -- ---- the values of an option
@@ -63,17 +63,17 @@ blobs_push values v =
     ∙ ap plains (map-append blob_value (texts values) (v.text ∷ [])) ∙ plains_push (map blob_value (texts values)) (blob_value v.text)
 
 pub blob_more : (letter : ℕ) (values : List OptionValue) (i : ℕ) (v : OptionValue) (words later : List ℕ) (a b b' : Writing) → slice_get values i ≡ Some v → v.letter ≡ letter → b' ≡ b
-    → later ≡ words → WritesAll a (push (blobs (given letter (take i values))) (blob_value v.text)) words b → WritesAll a (blobs (given letter (take (i + 1) values))) later b'
+    → later ≡ words → WritesValues a (push (blobs (given letter (take i values))) (blob_value v.text)) words b → WritesValues a (blobs (given letter (take (i + 1) values))) later b'
 blob_more letter values i v words later a b b' here e w l h =
-    let P : Plains → Type 0 = λ vs. WritesAll a vs words b in
-    let Q : List ℕ → Type 0 = λ ws. WritesAll a (blobs (given letter (take (i + 1) values))) ws b in
-    let R : Writing → Type 0 = λ x. WritesAll a (blobs (given letter (take (i + 1) values))) later x in
+    let P : Plains → Type 0 = λ vs. WritesValues a vs words b in
+    let Q : List ℕ → Type 0 = λ ws. WritesValues a (blobs (given letter (take (i + 1) values))) ws b in
+    let R : Writing → Type 0 = λ x. WritesValues a (blobs (given letter (take (i + 1) values))) later x in
     subst R (sym w) (subst Q (sym l) (subst P (sym (ap blobs (given_one letter values i v here e) ∙ blobs_push (given letter (take i values)) v)) h))
 
 pub blob_same : (letter : ℕ) (values : List OptionValue) (i : ℕ) (v : OptionValue) (words later : List ℕ) (a b b' : Writing) → slice_get values i ≡ Some v → (v.letter ≡ letter → ⊥) → b' ≡ b
-    → later ≡ words → WritesAll a (blobs (given letter (take i values))) words b → WritesAll a (blobs (given letter (take (i + 1) values))) later b'
+    → later ≡ words → WritesValues a (blobs (given letter (take i values))) words b → WritesValues a (blobs (given letter (take (i + 1) values))) later b'
 blob_same letter values i v words later a b b' here ne w l h =
-    let P : Plains → Type 0 = λ vs. WritesAll a vs words b in
-    let Q : List ℕ → Type 0 = λ ws. WritesAll a (blobs (given letter (take (i + 1) values))) ws b in
-    let R : Writing → Type 0 = λ x. WritesAll a (blobs (given letter (take (i + 1) values))) later x in
+    let P : Plains → Type 0 = λ vs. WritesValues a vs words b in
+    let Q : List ℕ → Type 0 = λ ws. WritesValues a (blobs (given letter (take (i + 1) values))) ws b in
+    let R : Writing → Type 0 = λ x. WritesValues a (blobs (given letter (take (i + 1) values))) later x in
     subst R (sym w) (subst Q (sym l) (subst P (sym (ap blobs (given_other letter values i v here ne))) h))

@@ -2,8 +2,8 @@
 use Rattle.std.specs.Prelude.{◌≡◌}
 use Rattle.base_core.specs.declared.tree.TreeFault.{TreeFault}
 use Rattle.base_core.specs.declared.tree.TreeFault.TheVariants as Trees
-use Rattle.adb_write.specs.declared.fault.WriteFault.{WriteFault}
-use Rattle.adb_write.specs.declared.fault.WriteFault.TheVariants as Writes
+use Rattle.adb_write.specs.declared.writer.WriteFault.{WriteFault}
+use Rattle.adb_write.specs.declared.writer.WriteFault.TheVariants as Writes
 use Rattle.make_core.specs.declared.fault.MakeFault.{MakeFault}
 use Rattle.make_core.specs.declared.fault.MakeFault.TheVariants.{TooLarge, Disk, Memory}
 

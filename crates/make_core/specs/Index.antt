@@ -3,7 +3,7 @@ use Rattle.std.specs.Prelude.{ℕ, ◌+◌, List, [], ◌∷◌, Option, Some, N
 use Rattle.base_core.specs.declared.cause.Cause.{Cause}
 use Rattle.adb_view.specs.Plain.{Plain, Plains, none, more, blob_value, arr_value, obj_value}
 use Rattle.adb_schema.specs.declared.read.TheConstants.{INDEX_WORD}
-use Rattle.adb_write.specs.Canonical.{Counts, written_of}
+use Rattle.adb_write.specs.Canonical.{PayloadCounts, written_of}
 use Rattle.adb_write.specs.File.{file_of}
 use Rattle.pkg_core.specs.Whole.{package_fault}
 use Rattle.words_core.specs.Command.{without_dot}
@@ -48,7 +48,7 @@ found_entries read n (o ∷ operands) = and_entries (found_entry o.place (read n
 -- ---- the file
 
 -- the container of a payload, unless it passes a limit
-abbrev pub index_file : Result (List ℕ) Counts → Result (List ℕ) MakeFault
+abbrev pub index_file : Result (List ℕ) PayloadCounts → Result (List ℕ) MakeFault
 index_file (Ok payload) = Ok (file_of INDEX_WORD payload)
 index_file (Err counts) = Err (TooLarge counts.0 counts.1)
 

@@ -7,7 +7,7 @@ use Rattle.adb_schema.specs.Soundness.{root_value}
 use Rattle.adb_schema.specs.Views.{entry_in, int_in, is_sound, text_in}
 use Rattle.adb_schema.specs.declared.schema.Which.TheVariants.{PkgInfo}
 use Rattle.adb_schema.specs.declared.schema.Kind.TheVariants.{Obj}
-use Rattle.adb_write.specs.Canonical.{Counts}
+use Rattle.adb_write.specs.Canonical.{PayloadCounts}
 use Rattle.version_core.specs.Order.{is_version}
 use Rattle.make_core.specs.IndexEntries.{entry_of, entry_value}
 use Rattle.make_core.specs.IndexOrder.{id_in, name_in, version_in}
@@ -52,7 +52,7 @@ IsRefusedAt place Memory told = Unit {0}
 IsRefusedAt place fault told = ⊥
 
 -- nothing is written for what the writer tells
-abbrev pub IsOverflow : MakeFault → Result (List ℕ) Counts → Type 0
+abbrev pub IsOverflow : MakeFault → Result (List ℕ) PayloadCounts → Type 0
 IsOverflow (TooLarge bytes values) told = told ≡ Err (bytes, values)
 IsOverflow Memory told = Unit {0}
 IsOverflow fault told = ⊥

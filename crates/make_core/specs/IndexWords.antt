@@ -2,7 +2,7 @@
 use Rattle.std.specs.Prelude.{ℕ, List, [], ◌∷◌}
 use Rattle.adb_view.specs.Plain.{Plains, none, more, blob_value}
 use Rattle.adb_write.specs.Writing.{Writing}
-use Rattle.adb_write.specs.DepthFirst.{WritesAll}
+use Rattle.adb_write.specs.DepthFirst.{WritesValues}
 use Rattle.make_core.specs.IndexEntries.{int_value}
 
 -- values behind others
@@ -12,7 +12,7 @@ joined (more u us) vs = more u (joined us vs)
 
 -- these values were written behind those that stood there, and their words behind the others
 abbrev pub GoOn : Writing → List ℕ → Plains → Writing → List ℕ → Type 0
-GoOn old words vs new further = (before : Writing) (us : Plains) → WritesAll before us words old → WritesAll before (joined us vs) further new
+GoOn old words vs new further = (before : Writing) (us : Plains) → WritesValues before us words old → WritesValues before (joined us vs) further new
 
 abbrev pub texts_of : List (List ℕ) → Plains
 texts_of [] = none

@@ -4,7 +4,7 @@ use Rattle.base_core.specs.Listed.{IsListOf}
 use Rattle.base_core.specs.Tree.{TreeState, files_of}
 use Rattle.adb_view.specs.Plain.{Plain}
 use Rattle.adb_schema.specs.declared.read.TheConstants.{PACKAGE_WORD}
-use Rattle.adb_write.specs.Canonical.{Counts, overflow_of}
+use Rattle.adb_write.specs.Canonical.{PayloadCounts, overflow_of}
 use Rattle.pkg_core.specs.Contents.{Contents}
 use Rattle.words_core.specs.Command.{CommandLine, without_dot}
 use Rattle.words_core.specs.declared.values.OptionValue.{OptionValue}
@@ -18,7 +18,7 @@ use Rattle.make_core.specs.declared.fault.MakeFault.TheVariants.{InfoBad, TooLar
 
 -- ---- the file
 
-abbrev pub file_unless : Option Counts → Plain → List Contents → Result (List ℕ) MakeFault
+abbrev pub file_unless : Option PayloadCounts → Plain → List Contents → Result (List ℕ) MakeFault
 file_unless None v contents = Ok (laid PACKAGE_WORD v contents)
 file_unless (Some counts) v contents = Err (TooLarge counts.0 counts.1)
 

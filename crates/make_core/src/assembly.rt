@@ -2,7 +2,7 @@
 ghost use Rattle.std.specs.Prelude.{◌≡◌, ◌≤◌, ◌<◌, ◌^◌, ◌++◌, Ok, List, length, map, IfOk, IfErr};
 ghost use Rattle.adb_schema.specs.declared.read.TheConstants.{PACKAGE_WORD};
 ghost use Rattle.adb_write.specs.Canonical.{MOST_BYTES, written_of};
-ghost use Rattle.adb_write.specs.DepthFirst.{Writes};
+ghost use Rattle.adb_write.specs.DepthFirst.{WritesValue};
 ghost use Rattle.adb_write.specs.File.{file_of};
 ghost use Rattle.make_core.specs.IndexKept.{IsOverflow};
 ghost use Rattle.make_core.specs.Information.{info_value, replaces_priority};
@@ -105,7 +105,7 @@ fn write_root(
     scripts: &[Script<'_>],
     size: u64,
 ) -> Result<Val, AllocError>
-    ensures { IfOk result (λ root. Writes writer.old (package_with (info_value about.now size) (map packed_folder folders.now) (scripts_view scripts.now) (texts (given 116 values.now)) (replaces_priority about.now)) root writer.new) }
+    ensures { IfOk result (λ root. WritesValue writer.old (package_with (info_value about.now size) (map packed_folder folders.now) (scripts_view scripts.now) (texts (given 116 values.now)) (replaces_priority about.now)) root writer.new) }
 {
     let info = about.write(writer, size)?;
     let priority = about.replaces_priority();

@@ -1,7 +1,7 @@
 //! An entry of an index, and its place among the others.
 ghost use Rattle.std.specs.Prelude.{◌≡◌, Some, None, IfOk, IfErr, IfSome, IsTrue};
 ghost use Rattle.version_core.specs.Order.{is_version, version_cmp};
-ghost use Rattle.adb_write.specs.DepthFirst.{Writes};
+ghost use Rattle.adb_write.specs.DepthFirst.{WritesValue};
 ghost use Rattle.make_core.specs.Index.{found_entry};
 ghost use Rattle.adb_schema.specs.Soundness.{first_fault};
 ghost use Rattle.adb_schema.specs.declared.schema.Which.TheVariants as Tables;
@@ -77,7 +77,7 @@ impl Entry {
 
     /// Writes the entry.
     pub(crate) fn write(&self, alloc: Global, writer: &mut Writer) -> Result<Val, AllocError>
-        ensures { IfOk result (λ word. Writes writer.old (entry_told self.now) word writer.new) }
+        ensures { IfOk result (λ word. WritesValue writer.old (entry_told self.now) word writer.new) }
     {
         self.kept.write(alloc, writer)
     }

@@ -2,7 +2,7 @@
 ghost use Rattle.std.specs.Prelude.{◌≡◌, ◌≤◌, Ok, IfOk, IfErr, length, map};
 ghost use Rattle.adb_view.specs.Plain.{arr_value};
 ghost use Rattle.adb_write.specs.Canonical.{written_of};
-ghost use Rattle.adb_write.specs.DepthFirst.{Writes};
+ghost use Rattle.adb_write.specs.DepthFirst.{WritesValue};
 ghost use Rattle.make_core.specs.Index.{index_of, index_value, plains};
 ghost use Rattle.make_core.specs.IndexKept.{IsMade, IsOverflow};
 ghost use Rattle.make_core.specs.IndexOrder.{entry_cmp, in_order};
@@ -52,7 +52,7 @@ fn write_index(
     description: &[u8],
     entries: &[Entry],
 ) -> Result<Val, AllocError>
-    ensures { IfOk result (λ root. Writes writer.old (index_value description.now (map entry_told entries.now)) root writer.new) }
+    ensures { IfOk result (λ root. WritesValue writer.old (index_value description.now (map entry_told entries.now)) root writer.new) }
 {
     values_are_written_depth_first();
     let description = writer.blob(description)?;
@@ -63,7 +63,7 @@ fn write_index(
 
 /// Writes an array of entries.
 fn write_entries(alloc: Global, writer: &mut Writer, entries: &[Entry]) -> Result<Val, AllocError>
-    ensures { IfOk result (λ word. Writes writer.old (arr_value (plains (map entry_told entries.now))) word writer.new) }
+    ensures { IfOk result (λ word. WritesValue writer.old (arr_value (plains (map entry_told entries.now))) word writer.new) }
 {
     values_are_written_depth_first();
     let mut words = Vec::with_capacity(alloc, entries.len())?;

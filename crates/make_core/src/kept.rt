@@ -5,7 +5,7 @@ ghost use Rattle.adb_schema.specs.Soundness.{root_value};
 ghost use Rattle.adb_schema.specs.Views.{entry_in};
 ghost use Rattle.adb_schema.specs.declared.schema.Which.TheVariants as Tables;
 ghost use Rattle.adb_write.specs.Canonical.{written_of};
-ghost use Rattle.adb_write.specs.DepthFirst.{Writes};
+ghost use Rattle.adb_write.specs.DepthFirst.{WritesValue};
 ghost use Rattle.pkg_core.specs.Opened.{opened_payload, opened_value};
 ghost use Rattle.make_core.specs.IndexEntries.{entry_value, entry_of};
 ghost use Rattle.make_core.specs.IndexKept.{again, kept_value};
@@ -30,7 +30,7 @@ pub(crate) enum Kept {
 impl Kept {
     /// Writes the entry.
     pub(crate) fn write(&self, alloc: Global, writer: &mut Writer) -> Result<Val, AllocError>
-        ensures { IfOk result (λ word. Writes writer.old (kept_value self.now) word writer.new) }
+        ensures { IfOk result (λ word. WritesValue writer.old (kept_value self.now) word writer.new) }
     {
         match self {
             Kept::Payload(own) => own.write(alloc, writer),
@@ -42,7 +42,7 @@ impl Kept {
 impl OwnPayload {
     /// Writes the entry.
     fn write(&self, alloc: Global, writer: &mut Writer) -> Result<Val, AllocError>
-        ensures { IfOk result (λ word. Writes writer.old (again (root_value Tables.PkgInfo self.now.payload.items)) word writer.new) }
+        ensures { IfOk result (λ word. WritesValue writer.old (again (root_value Tables.PkgInfo self.now.payload.items)) word writer.new) }
     {
         let Ok(adb) = Adb::new(&self.payload) else {
             unreachable!()
@@ -55,7 +55,7 @@ impl OwnPayload {
 impl OwnFile {
     /// Writes the entry.
     fn write(&self, alloc: Global, writer: &mut Writer) -> Result<Val, AllocError>
-        ensures { IfOk result (λ word. Writes writer.old (entry_of self.now.file.items) word writer.new) }
+        ensures { IfOk result (λ word. WritesValue writer.old (entry_of self.now.file.items) word writer.new) }
     {
         match Package::new(alloc, &self.file) {
             Ok(pkg) => write_package(alloc, writer, &pkg, self.file.len() as u64),
@@ -72,7 +72,7 @@ pub(crate) fn write_package(
     pkg: &Package<'_>,
     len: u64,
 ) -> Result<Val, AllocError>
-    ensures { IfOk result (λ word. Writes writer.old (entry_value (entry_in (opened_value pkg.now) 0) (sha256 (opened_payload pkg.now)) len) word writer.new) }
+    ensures { IfOk result (λ word. WritesValue writer.old (entry_value (entry_in (opened_value pkg.now) 0) (sha256 (opened_payload pkg.now)) len) word writer.new) }
 {
     let id = pkg.id();
     let info = pkg.view().info();

@@ -1,7 +1,7 @@
 //! Writes the folders of a package and the files in them (apk-v3(5)).
 ghost use Rattle.std.specs.Prelude.{map, IfOk};
 ghost use Rattle.adb_view.specs.Plain.{arr_value};
-ghost use Rattle.adb_write.specs.DepthFirst.{Writes};
+ghost use Rattle.adb_write.specs.DepthFirst.{WritesValue};
 ghost use Rattle.make_core.specs.Package.{plains, size_value, acl_value};
 ghost use Rattle.make_core.specs.Packed.{packed_file, packed_folder};
 
@@ -22,7 +22,7 @@ pub(crate) fn write_paths(
     writer: &mut Writer,
     folders: &[Folder<'_>],
 ) -> Result<Val, AllocError>
-    ensures { IfOk result (λ word. Writes writer.old (arr_value (plains (map packed_folder folders.now))) word writer.new) }
+    ensures { IfOk result (λ word. WritesValue writer.old (arr_value (plains (map packed_folder folders.now))) word writer.new) }
 {
     values_are_written_depth_first();
     let mut words = Vec::with_capacity(alloc, folders.len())?;
@@ -36,7 +36,7 @@ pub(crate) fn write_paths(
 
 /// Writes a folder with its files.
 fn write_folder(alloc: Global, writer: &mut Writer, folder: &Folder<'_>) -> Result<Val, AllocError>
-    ensures { IfOk result (λ word. Writes writer.old (packed_folder folder.now) word writer.new) }
+    ensures { IfOk result (λ word. WritesValue writer.old (packed_folder folder.now) word writer.new) }
 {
     values_are_written_depth_first();
     let name = writer.blob(folder.name)?;
@@ -48,7 +48,7 @@ fn write_folder(alloc: Global, writer: &mut Writer, folder: &Folder<'_>) -> Resu
 
 /// Writes the files of a folder.
 fn write_files(alloc: Global, writer: &mut Writer, files: &[File<'_>]) -> Result<Val, AllocError>
-    ensures { IfOk result (λ word. Writes writer.old (arr_value (plains (map packed_file files.now))) word writer.new) }
+    ensures { IfOk result (λ word. WritesValue writer.old (arr_value (plains (map packed_file files.now))) word writer.new) }
 {
     values_are_written_depth_first();
     let mut words = Vec::with_capacity(alloc, files.len())?;
@@ -62,7 +62,7 @@ fn write_files(alloc: Global, writer: &mut Writer, files: &[File<'_>]) -> Result
 
 /// Writes a file.
 fn write_file(writer: &mut Writer, file: &File<'_>) -> Result<Val, AllocError>
-    ensures { IfOk result (λ word. Writes writer.old (packed_file file.now) word writer.new) }
+    ensures { IfOk result (λ word. WritesValue writer.old (packed_file file.now) word writer.new) }
 {
     values_are_written_depth_first();
     let name = writer.blob(file.name)?;
@@ -77,7 +77,7 @@ fn write_file(writer: &mut Writer, file: &File<'_>) -> Result<Val, AllocError>
 
 /// Writes an access list: this mode, and `root` as user and as group.
 fn write_acl(writer: &mut Writer, mode: u64) -> Result<Val, AllocError>
-    ensures { IfOk result (λ word. Writes writer.old (acl_value mode) word writer.new) }
+    ensures { IfOk result (λ word. WritesValue writer.old (acl_value mode) word writer.new) }
 {
     values_are_written_depth_first();
     let mode = writer.int(mode)?;
@@ -89,7 +89,7 @@ fn write_acl(writer: &mut Writer, mode: u64) -> Result<Val, AllocError>
 
 /// Writes a size; one of 0 is Null.
 fn write_size(writer: &mut Writer, size: u64) -> Result<Val, AllocError>
-    ensures { IfOk result (λ word. Writes writer.old (size_value size) word writer.new) }
+    ensures { IfOk result (λ word. WritesValue writer.old (size_value size) word writer.new) }
 {
     values_are_written_depth_first();
     if size == 0 {

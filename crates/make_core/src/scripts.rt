@@ -1,7 +1,7 @@
 //! The scripts of a package, and its value (apk-v3(5)).
 ghost use Rattle.std.specs.Prelude.{◌≡◌, map, IfOk, Option};
 ghost use Rattle.adb_view.specs.Plain.{Plain, blob_value, arr_value};
-ghost use Rattle.adb_write.specs.DepthFirst.{Writes, WritesAll};
+ghost use Rattle.adb_write.specs.DepthFirst.{WritesValue, WritesValues};
 ghost use Rattle.adb_write.specs.Writing.{Writing};
 ghost use Rattle.make_core.specs.Package.{plains, script_in, scripts_value, int_or_null, package_with};
 ghost use Rattle.make_core.specs.Packed.{packed_folder};
@@ -26,7 +26,7 @@ pub(crate) struct Script<'a> {
 
 /// Writes the scripts: a field for each type, in order.
 pub(crate) fn write_scripts(writer: &mut Writer, scripts: &[Script<'_>]) -> Result<Val, AllocError>
-    ensures { IfOk result (λ word. Writes writer.old (scripts_value (scripts_view scripts.now)) word writer.new) }
+    ensures { IfOk result (λ word. WritesValue writer.old (scripts_value (scripts_view scripts.now)) word writer.new) }
 {
     values_are_written_depth_first();
     let trigger = writer.blob(script_of(scripts, b"trigger"))?;
@@ -62,7 +62,7 @@ fn script_of<'a>(scripts: &'a [Script<'_>], kind: &[u8]) -> &'a [u8]
 
 /// Writes a number that may be lacking.
 fn write_number(writer: &mut Writer, number: Option<u64>) -> Result<Val, AllocError>
-    ensures { IfOk result (λ word. Writes writer.old (int_or_null number) word writer.new) }
+    ensures { IfOk result (λ word. WritesValue writer.old (int_or_null number) word writer.new) }
 {
     values_are_written_depth_first();
     match number {
@@ -81,8 +81,8 @@ pub(crate) fn write_package(
     values: &Values,
     priority: Option<u64>,
 ) -> Result<Val, AllocError>
-    ensures { IfOk result (λ word. (before : Writing) (about : Plain) → Writes before about info writer.old
-        → Writes before (package_with about (map packed_folder folders.now) (scripts_view scripts.now) (texts (given 116 values.now)) priority) word writer.new) }
+    ensures { IfOk result (λ word. (before : Writing) (about : Plain) → WritesValue before about info writer.old
+        → WritesValue before (package_with about (map packed_folder folders.now) (scripts_view scripts.now) (texts (given 116 values.now)) priority) word writer.new) }
 {
     values_are_written_depth_first();
     let paths = write_paths(alloc, writer, folders)?;
@@ -95,7 +95,7 @@ pub(crate) fn write_package(
 
 /// Writes the triggers: the values of the option for them, in the order given.
 fn write_triggers(alloc: Global, writer: &mut Writer, values: &Values) -> Result<Val, AllocError>
-    ensures { IfOk result (λ word. Writes writer.old (arr_value (plains (map blob_value (texts (given 116 values.now))))) word writer.new) }
+    ensures { IfOk result (λ word. WritesValue writer.old (arr_value (plains (map blob_value (texts (given 116 values.now))))) word writer.new) }
 {
     values_are_written_depth_first();
     let mut words = Vec::new(alloc);
