@@ -9,7 +9,7 @@ use Rattle.adb_schema.specs.Repeated.{repeated_fault}
 use Rattle.adb_schema.specs.declared.schema.Which.{Which}
 use Rattle.adb_schema.specs.declared.schema.Kind.TheVariants.{Obj}
 use Rattle.adb_write.specs.Canonical.{Counts, canonical, or_overflow, overflow_of, passes, size_of, value_count, written_of, MOST_BYTES, MOST_VALUES}
-use Rattle.make_core.specs.Sound.{IsRootOf}
+use Rattle.adb_sound.specs.Root.{IsRootOf}
 use Rattle.make_core.proofs.GoodValues.{IsGood}
 
 pub record IsWritten (v : Plain) (payload : List ℕ) : Type 0 where

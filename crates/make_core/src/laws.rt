@@ -10,11 +10,13 @@ ghost use Rattle.adb_write.specs.File.{file_of};
 ghost use Rattle.pkg_core.specs.Contents.{AreContentsOf, Contents, expected_contents};
 ghost use Rattle.pkg_core.specs.Whole.{container_fault};
 ghost use Rattle.words_core.specs.Command.{CommandLine};
-ghost use Rattle.make_core.specs.IndexCommand.{made_index};
-ghost use Rattle.make_core.specs.Laid.{laid};
-ghost use Rattle.make_core.specs.Making.{made_package};
-ghost use Rattle.make_core.specs.Sound.{AreFiles, AreNamesFor, IsRootOf};
-ghost use Rattle.make_core.specs.Sources.{Reads, given};
+ghost use Rattle.make_index.specs.Index.{made_index};
+ghost use Rattle.adb_sound.specs.Container.{container_of};
+ghost use Rattle.make_package.specs.Making.{made_package};
+ghost use Rattle.make_index.specs.Files.{AreFiles};
+ghost use Rattle.make_package.specs.Sources.{AreNamesFor, values_of};
+ghost use Rattle.adb_sound.specs.Root.{IsRootOf};
+ghost use Rattle.make_info.specs.Reads.{Reads};
 
 use adb_block::{what_is_spelled_is_read, what_is_written_is_spelled};
 use adb_schema::{
@@ -46,8 +48,8 @@ pub fn a_container_of_a_good_value_is_sound()
 pub fn a_package_of_a_good_value_and_its_contents_is_sound()
     ensures { (v : Plain) (contents : List Contents)
         → IsRootOf Tables.Package v → AreContentsOf (expected_contents v) contents
-        → length (laid PACKAGE_WORD v contents) < 2 ^ 64
-        → container_fault (laid PACKAGE_WORD v contents) ≡ None }
+        → length (container_of PACKAGE_WORD v contents) < 2 ^ 64
+        → container_fault (container_of PACKAGE_WORD v contents) ≡ None }
 {
     what_is_written_is_spelled();
     what_is_spelled_is_read();
@@ -71,7 +73,7 @@ pub fn a_made_index_is_sound()
 /// below its folder, in byte order and each once.
 pub fn a_made_package_is_sound()
     ensures { (command : CommandLine) (names : List (List ℕ)) (read : Reads) (bytes : List ℕ)
-        → AreNamesFor (given 70 command.values) names → made_package command names read ≡ Ok bytes → length bytes < 2 ^ 64
+        → AreNamesFor (values_of 70 command.values) names → made_package command names read ≡ Ok bytes → length bytes < 2 ^ 64
         → container_fault bytes ≡ None }
 {
     a_package_of_a_good_value_and_its_contents_is_sound();

@@ -1,5 +1,5 @@
-use Rattle.make_core.proofs.Lower.{Lower}
-use Rattle.make_core.proofs.SoundFiles.{value_good}
+use Rattle.adb_sound.proofs.Lower.{Lower}
+use Rattle.adb_sound.proofs.SoundFiles.{value_good}
 use Rattle.make_core.proofs.laws.a_container_of_a_good_value_is_sound.Goals as goal
 
 pub returns : goal.returns

@@ -1,0 +1,13 @@
+use Rattle.std.proofs.Common.{take}
+use Rattle.make_package.specs.Runs.{IsQuiet}
+use Rattle.make_package.specs.Scripts.{AreScripts}
+use Rattle.make_package.specs.Sources.{values_of, script_at}
+use Rattle.make_package.proofs.MadeRuns.{one_read}
+use Rattle.make_package.proofs.ReadLemmas.{IsSoFar}
+use Rattle.make_package.proofs.reading.read_scripts.Given as goal
+
+abbrev pub invariant-loop-i : goal.invariant-loop-i
+invariant-loop-i g l = record {
+  tree : IsQuiet (g.T.Tree.history l.initial.tree) (g.T.Tree.history l.tree) (g.T.Tree.counts l.initial.tree) (g.T.Tree.counts l.tree);
+  so_far : IsSoFar (g.T.Tree.history l.initial.tree) one_read script_at (values_of 115 (take l.i l.values)) (AreScripts l.scripts);
+}
