@@ -1,5 +1,5 @@
 -- What a call on a tree says of the tree's history and counts.
-use Rattle.std.specs.Prelude.{◌≡◌, ◌⊎◌, List, [], ◌∷◌, Result, OnOk, OnErr}
+use Rattle.std.specs.Prelude.{◌≡◌, ◌⊎◌, List, [], ◌∷◌, Result, OnOk, OnErr, IfErr, IsErrOf}
 use Rattle.base_core.specs.Tree.{TreeState}
 use Rattle.base_core.specs.Faults.{Counts, GoesOn, HasCause, IsNoFault, next_count}
 
@@ -29,3 +29,18 @@ pub record IsCounted {T E : Type 0} (can : TreeState → Type 0) (told : List Tr
   pub allowed : OnOk result (IfObservable told can)
   pub proper : IfObservable told (λ v. can v → now.misuses ≡ before.misuses)
   pub misuse : IfObservable told (λ v. (can v → ⊥) → now.misuses ≡ next_count before.misuses)
+
+-- a call that only reads; `disk_fault` is its answer where the tree failed
+pub record OnlyReads {A E : Type 0} (disk_fault : E) (old new : List TreeState) (before now : Counts)
+    (result : Result A E) : Type 0 where
+  -- the states stay
+  pub same : new ≡ old
+  -- no count falls
+  pub goes_on : GoesOn before now
+  -- the tree failed only where that has its cause
+  pub disk : IsErrOf result disk_fault → HasCause before now
+  -- an answer that is no fault of the tree raised neither faults nor wants
+  pub kept : OnOk result (IsNoFault before now)
+  pub others : IfErr result (λ fault. (fault ≡ disk_fault → ⊥) → IsNoFault before now)
+  -- where the history is observable, no call was a misuse
+  pub proper : IfObservable old (λ v. now.misuses ≡ before.misuses)

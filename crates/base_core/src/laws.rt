@@ -1,6 +1,7 @@
 //! What follows from the definitions of a crash and of a listing, for every state of a tree, and from those of the counts.
-ghost use Rattle.std.specs.Prelude.{◌≡◌, ℕ, List, Option, Bool, true};
+ghost use Rattle.std.specs.Prelude.{◌≡◌, ℕ, List, Option, Result, Bool, true};
 ghost use Rattle.base_core.specs.Crash.{IsImage, IsImageBy, IsCrashOf, IsOrderly};
+ghost use Rattle.base_core.specs.Calls.{OnlyReads};
 ghost use Rattle.base_core.specs.Faults.{Counts, GoesOn, HasCause, IsNoFault};
 ghost use Rattle.base_core.specs.Files.{Files, NameMap, IsWithin};
 ghost use Rattle.base_core.specs.Listed.{IsNamesOf, IsListOf};
@@ -58,4 +59,13 @@ pub fn counts_of_calls_in_a_row_join()
     ensures cause_behind { (a b c : Counts) → GoesOn a b → HasCause b c → HasCause a c }
     ensures no_fault { (a b c : Counts) → IsNoFault a b → IsNoFault b c → IsNoFault a c }
     ensures stays { (a : Counts) → GoesOn a a × IsNoFault a a }
+{}
+
+/// A call that only reads, behind others that do so and succeeded: together they only read.
+pub fn readings_in_a_row_join<A, B, E>()
+    ensures none { (disk_fault : E) (h : List TreeState) (a : Counts) (value : A)
+        → OnlyReads disk_fault h h a a (Ok value) }
+    ensures two { (disk_fault : E) (h0 h1 h2 : List TreeState) (a b c : Counts) (value : A) (then : Result B E)
+        → OnlyReads disk_fault h0 h1 a b (Ok value) → OnlyReads disk_fault h1 h2 b c then
+        → OnlyReads disk_fault h0 h2 a c then }
 {}

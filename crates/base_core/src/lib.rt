@@ -18,7 +18,7 @@ pub use cause::{Cause, Digest};
 pub use laws::{
     a_crash_leaves_order, a_crash_may_leave_the_files_as_read, a_crash_settles,
     a_folder_has_one_listing, a_map_has_one_list_of_names, counts_of_calls_in_a_row_join,
-    files_have_one_list_of_names, order_outlasts_a_crash, the_files_as_read_have_the_names_as_read,
+    files_have_one_list_of_names, order_outlasts_a_crash, readings_in_a_row_join, the_files_as_read_have_the_names_as_read,
 };
 pub use name::{Name, Names, is_folder_of, is_name};
 pub use sink::{Sink, SinkFault};
