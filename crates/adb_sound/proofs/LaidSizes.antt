@@ -11,11 +11,8 @@ use Rattle.adb_view.specs.Plain.{Plain}
 use Rattle.adb_write.specs.Canonical.{canonical}
 use Rattle.adb_write.specs.File.{adb_piece}
 use Rattle.pkg_core.specs.Contents.{Contents}
+use Rattle.adb_sound.specs.Contents.{contents_size}
 use Rattle.adb_sound.specs.Container.{contents_payload, contents_piece, container_of}
-
-abbrev pub total : List Contents → ℕ
-total [] = 0
-total (c ∷ cs) = length c.bytes + total cs
 
 -- each block's size fits in its header
 abbrev pub AreShort : List Contents → Type 0
@@ -45,7 +42,7 @@ laid_blocks cs = flat_map block_bytes (map contents_piece cs)
 blocks_cons : (c : Contents) (cs : List Contents) → length (laid_blocks (c ∷ cs)) ≡ length (block_bytes (contents_piece c)) + length (laid_blocks cs)
 blocks_cons c cs = ap length (flat_map-cons block_bytes (contents_piece c) (map contents_piece cs)) ∙ length-append (block_bytes (contents_piece c)) (laid_blocks cs)
 
-pub total_held : (cs : List Contents) → total cs ≤ length (laid_blocks cs)
+pub total_held : (cs : List Contents) → contents_size cs ≤ length (laid_blocks cs)
 total_held [] = omega arith
 total_held (c ∷ cs) = omega (arith, blocks_cons c cs, block_long (contents_piece c), contents_long c, total_held cs)
 
@@ -67,5 +64,5 @@ laid_long schema v cs =
 pub laid_short : (schema : ℕ) (v : Plain) (cs : List Contents) → length (container_of schema v cs) < 2 ^ 64 → AreShort cs
 laid_short schema v cs h = short_held cs (omega (arith, laid_long schema v cs))
 
-pub laid_total : (schema : ℕ) (v : Plain) (cs : List Contents) → length (container_of schema v cs) < 2 ^ 64 → total cs < 2 ^ 64
+pub laid_total : (schema : ℕ) (v : Plain) (cs : List Contents) → length (container_of schema v cs) < 2 ^ 64 → contents_size cs < 2 ^ 64
 laid_total schema v cs h = omega (arith, laid_long schema v cs, total_held cs)

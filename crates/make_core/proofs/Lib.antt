@@ -6,6 +6,7 @@ pub mod IndexEntry
 pub mod InformationGood
 pub mod ListedNames
 pub mod MadeIndex
+pub mod MadePackage
 pub mod NameParts
 pub mod OpenedPackage
 pub mod PackageContents

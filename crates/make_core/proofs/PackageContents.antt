@@ -1,4 +1,4 @@
--- The contents that are laid behind the value of a package are those that it expects, and what they say of sizes.
+-- The contents that stand behind the value of a package are those that it expects.
 use Rattle.std.proofs.Common.{◌≡◌, ℕ, ◌+◌, Bool, true, false, ◌&&◌, ◌==◌, eqb, nat_lt, if◌then◌else◌, List, [], ◌∷◌, ◌++◌, length, map, bytes_eq, None, refl, ap, sym, subst, ◌∙◌, arith, Option}
 use Rattle.std.specs.Prelude.{sum_by}
 use Rattle.std.proofs.lemmas.Bool.{ltb-false}
@@ -13,7 +13,6 @@ use Rattle.pkg_core.specs.Contents.{AreContentsOf, Contents, Expected, expected_
 use Rattle.make_package.specs.Package.{Script, Source, SourceFolder, contents_of_file, contents_of_files, contents_of_folders, kind_of_file, value_of_kind, value_of_file, value_of_folder, has_contents, installed_size, is_link_file, link_text, value_of_package, size_of_folder, size_of_kind}
 use Rattle.make_package.specs.declared.file.FileKind.{FileKind}
 use Rattle.make_package.specs.declared.file.FileKind.TheVariants.{Link, Regular}
-use Rattle.adb_sound.proofs.LaidSizes.{total}
 use Rattle.make_core.proofs.PackageFiles.{files_stand, folders_stand, hash_stands, size_stands, target_stands, with_contents}
 
 -- ---- a file
@@ -98,31 +97,3 @@ pub package_contents : (info : Plain) (folders : List SourceFolder) (scripts : L
     → AreContentsOf (expected_contents (value_of_package info folders scripts triggers priority)) (contents_of_folders 1 folders)
 package_contents info folders scripts triggers priority =
     subst (λ (vs : List Plain). AreContentsOf (folders_from 1 vs) (contents_of_folders 1 folders)) (sym (folders_stand info folders scripts triggers priority)) (folders_contents 1 folders)
-
--- ---- how many bytes they are
-
-total-append : (cs ds : List Contents) → total (cs ++ ds) ≡ total cs + total ds
-total-append [] ds = omega arith
-total-append (c ∷ cs) ds = omega (arith, total-append cs ds)
-
-size_by : (d i : ℕ) (bytes : List ℕ) (kind : FileKind) → IsOf kind bytes → (b : Bool) → has_contents kind ≡ b → size_of_kind kind ≡ total (if b then record { folder = d; file = i; bytes = bytes } ∷ [] else [])
-size_by d i bytes (Link target) of true e = absurd (cc (e))
-size_by d i bytes (Link target) of false e = refl
-size_by d i bytes (Regular size digest) of true e = omega (arith, of.0)
-size_by d i bytes (Regular size digest) of false e = omega (arith, ltb-false 0 size e)
-
-file_total : (d i : ℕ) (bytes : List ℕ) → size_of_kind (kind_of_file bytes) ≡ total (contents_of_file d i bytes)
-file_total d i bytes = size_by d i bytes (kind_of_file bytes) (entry_is_of bytes) (has_contents (kind_of_file bytes)) refl
-
-abbrev file_size : Source → ℕ
-file_size file = size_of_kind (kind_of_file file.bytes)
-
-files_total : (d i : ℕ) (files : List Source) → sum_by file_size files ≡ total (contents_of_files d i files)
-files_total d i [] = refl
-files_total d i (file ∷ files) =
-    omega (arith, sum_by-cons file_size file files, file_total d i file.bytes, files_total d (i + 1) files, total-append (contents_of_file d i file.bytes) (contents_of_files d (i + 1) files))
-
-pub installed_total : (i : ℕ) (folders : List SourceFolder) → installed_size folders ≡ total (contents_of_folders i folders)
-installed_total i [] = refl
-installed_total i (folder ∷ folders) =
-    omega (arith, sum_by-cons size_of_folder folder folders, files_total i 1 folder.files, installed_total (i + 1) folders, total-append (contents_of_files i 1 folder.files) (contents_of_folders (i + 1) folders))

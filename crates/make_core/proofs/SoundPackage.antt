@@ -13,6 +13,7 @@ use Rattle.words_core.specs.Command.{CommandLine}
 use Rattle.words_core.specs.Values.{without_dot}
 use Rattle.words_core.specs.declared.values.OptionValue.{OptionValue}
 use Rattle.make_info.specs.Information.{InfoItem, information_value, information, replaces_priority}
+use Rattle.adb_sound.specs.Contents.{contents_size}
 use Rattle.adb_sound.specs.Container.{container_of}
 use Rattle.make_package.specs.Making.{container_unless, made_package, or_info_bad, package_container, package_of_parts}
 use Rattle.make_package.specs.Package.{Script, SourceFolder, contents_of_folders, installed_size, value_of_package}
@@ -22,8 +23,7 @@ use Rattle.make_info.specs.Reads.{Reads}
 use Rattle.make_core.proofs.Apart.{Tells, package_once, rises_from_pairs}
 use Rattle.make_core.proofs.InformationGood.{IsInformation, Needs, info_good, information_good, priority_good}
 use Rattle.make_core.proofs.ListedNames.{AreListed, AreSources, after_ok, folders_sized, sources_good}
-use Rattle.make_core.proofs.PackageContents.{installed_total, package_contents}
-use Rattle.adb_sound.proofs.LaidSizes.{laid_total}
+use Rattle.make_core.proofs.PackageContents.{package_contents}
 use Rattle.make_core.proofs.PackageFiles.{package_value_good}
 use Rattle.make_core.proofs.Roots.{root_good, Exact}
 
@@ -31,15 +31,20 @@ use Rattle.make_core.proofs.Roots.{root_good, Exact}
 abbrev pub Sound : Type 0
 Sound = (v : Plain) (contents : List Contents) → IsRootOf Package v → AreContentsOf (expected_contents v) contents → length (container_of PACKAGE_WORD v contents) < 2 ^ 64 → container_fault (container_of PACKAGE_WORD v contents) ≡ None
 
+-- what the layers below say of sizes
+pub record Sizes : Type 0 where
+  pub installed : (i : ℕ) (folders : List SourceFolder) → installed_size folders ≡ contents_size (contents_of_folders i folders)
+  pub container : (schema : ℕ) (v : Plain) (contents : List Contents) → length (container_of schema v contents) < 2 ^ 64 → contents_size contents < 2 ^ 64
+
 -- ---- of its parts
 
-value_sound : Sound → Exact → Needs → Tells → (items : List InfoItem) (sources : List SourceFolder) (scripts : List Script) (triggers : List (List ℕ)) → IsInformation items → AreSources sources
+value_sound : Sound → Sizes → Exact → Needs → Tells → (items : List InfoItem) (sources : List SourceFolder) (scripts : List Script) (triggers : List (List ℕ)) → IsInformation items → AreSources sources
     → (v : Plain) → v ≡ value_of_package (information_value items (installed_size sources)) sources scripts triggers (replaces_priority items)
     → overflow_of v ≡ None → length (container_of PACKAGE_WORD v (contents_of_folders 1 sources)) < 2 ^ 64 → container_fault (container_of PACKAGE_WORD v (contents_of_folders 1 sources)) ≡ None
-value_sound sound exact needs tells items sources scripts triggers about are v is fits short =
+value_sound sound sizes exact needs tells items sources scripts triggers about are v is fits short =
     let contents : List Contents = contents_of_folders 1 sources in
-    let bound = laid_total PACKAGE_WORD v contents short in
-    let sum = installed_total 1 sources in
+    let bound = sizes.container PACKAGE_WORD v contents short in
+    let sum = sizes.installed 1 sources in
     let small : installed_size sources < 2 ^ 64 = omega arith in
     let info : Plain = information_value items (installed_size sources) in
     let priority : Option ℕ = replaces_priority items in
@@ -57,13 +62,13 @@ file_sound v contents None bytes is short sound e =
     let same : container_of PACKAGE_WORD v contents ≡ bytes = cc (e) in
     ap container_fault (sym same) ∙ sound is (subst (λ (b : List ℕ). length b < 2 ^ 64) (sym same) short)
 
-package_sound : Sound → Exact → Needs → Tells → (command : CommandLine) (scripts : List Script) (items : List InfoItem) (sources : List SourceFolder) (bytes : List ℕ) → IsInformation items → AreSources sources
+package_sound : Sound → Sizes → Exact → Needs → Tells → (command : CommandLine) (scripts : List Script) (items : List InfoItem) (sources : List SourceFolder) (bytes : List ℕ) → IsInformation items → AreSources sources
     → length bytes < 2 ^ 64 → package_of_parts command scripts items sources ≡ Ok bytes → container_fault bytes ≡ None
 unfolding package_container
-package_sound sound exact needs tells command scripts items sources bytes about are short e =
+package_sound sound sizes exact needs tells command scripts items sources bytes about are short e =
     let triggers : List (List ℕ) = texts_of (values_of 116 command.values) in
     let v : Plain = value_of_package (information_value items (installed_size sources)) sources scripts triggers (replaces_priority items) in
-    file_sound v (contents_of_folders 1 sources) (overflow_of v) bytes refl short (value_sound sound exact needs tells items sources scripts triggers about are v refl) e
+    file_sound v (contents_of_folders 1 sources) (overflow_of v) bytes refl short (value_sound sound sizes exact needs tells items sources scripts triggers about are v refl) e
 
 -- ---- of a command
 
@@ -84,16 +89,16 @@ info_ok : (r : Result (List InfoItem) ℕ) (items : List InfoItem) → or_info_b
 info_ok (Ok x) items e = let same : x ≡ items = cc (e) in ap Ok same
 info_ok (Err place) items e = absurd (cc (e))
 
-pub made_sound : Sound → Exact → Needs → Tells → (command : CommandLine) (names : List (List ℕ)) (read : Reads) (bytes : List ℕ) → AreNamesFor (values_of 70 command.values) names
+pub made_sound : Sound → Sizes → Exact → Needs → Tells → (command : CommandLine) (names : List (List ℕ)) (read : Reads) (bytes : List ℕ) → AreNamesFor (values_of 70 command.values) names
     → made_package command names read ≡ Ok bytes → length bytes < 2 ^ 64 → container_fault bytes ≡ None
 unfolding made_package
-made_sound sound exact needs tells command names read bytes below e short =
+made_sound sound sizes exact needs tells command names read bytes below e short =
     let one = after_ok (scripts_from read 0 (values_of 115 command.values)) (λ scripts.
     unless_refused (or_info_bad (information command)) (λ about.
     unless_refused (folders_below read (length scripts) (values_of 70 command.values) names) (package_of_parts command scripts about))) bytes e in
     let two = after_ok (or_info_bad (information command)) (λ about.
     unless_refused (folders_below read (length one.x) (values_of 70 command.values) names) (package_of_parts command one.x about)) bytes one.gives in
     let three = after_ok (folders_below read (length one.x) (values_of 70 command.values) names) (package_of_parts command one.x two.x) bytes two.gives in
-    package_sound sound exact needs tells command one.x two.x three.x bytes
+    package_sound sound sizes exact needs tells command one.x two.x three.x bytes
     (information_good command.values command.behind two.x (info_ok (information command) two.x two.is))
     (sources_are read (length one.x) (values_of 70 command.values) names three.x below three.is) short three.gives

@@ -6,7 +6,6 @@ use Rattle.std.proofs.Math.ListN.{drop_of_length-le}
 use Rattle.std.specs.List.{slice_get}
 use Rattle.std.specs.Result.{IsErrAnd}
 use Rattle.base_core.specs.Calls.{IfObservable}
-use Rattle.base_core.specs.Faults.{Counts, GoesOn}
 use Rattle.base_core.specs.Tree.{TreeState, files_of}
 use Rattle.adb_view.specs.Plain.{Plain}
 use Rattle.words_core.specs.Command.{are_files, is_file, without_dot}
@@ -185,27 +184,6 @@ pub told_err : {A B : Type 0} (view : A → List Plain) (one : B → Plain) (old
 told_err view one [] now os i o es fault r at same so made e = tt
 told_err view one (v ∷ earlier) now os i o es fault r at same so made e =
     so_far_err view (reads_of v) os i o es fault r at so one (subst (λ (t : List TreeState). IfObservable t (λ w. IsMadeBy one (Err fault) (found_entry o.place (files_of w (without_dot o.text))))) same made) e
-
--- ---- the counts
-
-pub proper_none : (old : List TreeState) (a : ℕ) → IfObservable old (λ v. a ≡ a)
-proper_none [] a = tt
-proper_none (v ∷ old) a = refl
-
-pub proper_more : (old now : List TreeState) (a b c : ℕ) → now ≡ old → IfObservable old (λ v. b ≡ a) → IfObservable now (λ v. c ≡ b) → IfObservable old (λ v. c ≡ a)
-proper_more [] now a b c same h k = tt
-proper_more (v ∷ old) now a b c same h k = subst (λ (t : List TreeState). IfObservable t (λ w. c ≡ b)) same k ∙ h
-
-pub goes_on_twice : (a b c : Counts) → GoesOn a b → GoesOn b c → GoesOn a c
-goes_on_twice a b c h k = record {
-  faults = omega (arith, h.faults, k.faults);
-  misuses = omega (arith, h.misuses, k.misuses);
-  wants = omega (arith, h.wants, k.wants);
-  fallible = λ now. h.fallible (k.fallible now);
-}
-
-pub goes_on_same : (a : Counts) → GoesOn a a
-goes_on_same a = record { faults = omega arith; misuses = omega arith; wants = omega arith; fallible = λ now. now }
 
 pub told_start : (history : List TreeState) (os : List Operand) (es : List Plain) → es ≡ [] → IfObservable history (λ v. IsSoFar (reads_of v) os 0 es)
 told_start history os es e = subst (λ (xs : List Plain). IfObservable history (λ v. IsSoFar (reads_of v) os 0 xs)) (sym e) (told_none history os)

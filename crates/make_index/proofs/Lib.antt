@@ -11,4 +11,3 @@ pub mod IndexSorting
 pub mod IndexSound
 pub mod IndexWhole
 pub mod IndexZeros
-pub mod KeptCounts

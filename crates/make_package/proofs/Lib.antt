@@ -1,3 +1,4 @@
+pub mod ContentSizes
 pub mod FolderLemmas
 pub mod MadeParts
 pub mod MadeRuns

@@ -25,6 +25,7 @@ use Rattle.words_core.specs.declared.values.OptionValue.{OptionValue}
 use Rattle.make_package.specs.Blocks.{contents_block, contents_blocks}
 use Rattle.make_info.specs.Faults.{IsOverflow}
 use Rattle.make_info.specs.Information.{InfoItem, information_value, replaces_priority}
+use Rattle.adb_sound.specs.Contents.{contents_size}
 use Rattle.adb_sound.specs.Container.{contents_piece, container_of}
 use Rattle.make_package.specs.Answers.{IsBytes, IsFirstValue, IsNotDisk}
 use Rattle.make_package.specs.Making.{container_unless, package_container}
@@ -36,9 +37,14 @@ use Rattle.make_info.specs.declared.fault.MakeFault.{MakeFault}
 use Rattle.make_info.specs.declared.fault.MakeFault.TheVariants.{FileMissing, FileBad, InfoBad, TooLarge, Disk, Memory}
 use Rattle.make_package.specs.declared.file.File.{File}
 use Rattle.make_package.specs.declared.file.Folder.{Folder}
-use Rattle.adb_sound.proofs.LaidSizes.{total_held}
-use Rattle.make_info.proofs.Left.{left_at}
-use Rattle.make_core.proofs.PackageContents.{installed_total}
+use Rattle.make_package.proofs.ContentSizes.{installed_total}
+
+-- what is left of a list where an element stands
+left_at : {X : Type 0} (xs : List X) (i : ℕ) (x : X) → slice_get xs i ≡ Some x → drop i xs ≡ x ∷ drop (i + 1) xs
+left_at [] i x e = cc
+left_at (y ∷ xs) zero x e = cc
+left_at (y ∷ xs) (suc i) x e =
+    let next : suc (i + 1) ≡ suc i + 1 = omega arith in left_at xs i x e ∙ ap (λ n. x ∷ drop n (y ∷ xs)) next
 
 -- ---- the values of a command
 
@@ -142,11 +148,15 @@ blocks_laid [] = refl
 blocks_laid (c ∷ cs) =
     flat_map-cons contents_block c cs ∙ ap (λ (l : List ℕ). contents_block c ++ l) (blocks_laid cs) ∙ sym (flat_map-cons block_bytes (contents_piece c) (map contents_piece cs))
 
-pub sizes_held : (blocks : List ℕ) (folders : Vec Folder Global) (sources : List SourceFolder) → ArePackedFolders blocks folders sources → packed_size folders.items ≤ length blocks
-sizes_held blocks folders sources h =
+-- contents stand in their blocks
+abbrev pub Held : Type 0
+Held = (contents : List Contents) → contents_size contents ≤ length (flat_map block_bytes (map contents_piece contents))
+
+pub sizes_held : Held → (blocks : List ℕ) (folders : Vec Folder Global) (sources : List SourceFolder) → ArePackedFolders blocks folders sources → packed_size folders.items ≤ length blocks
+sizes_held held blocks folders sources h =
     let sum : packed_size folders.items ≡ installed_size sources = folders_sized folders.items sources h.are in
     let same : length blocks ≡ length (flat_map block_bytes (map contents_piece (contents_of_folders 1 sources))) = ap length (h.blocks ∙ blocks_laid (contents_of_folders 1 sources)) in
-    omega (arith, sum, same, installed_total 1 sources, total_held (contents_of_folders 1 sources))
+    omega (arith, sum, same, installed_total 1 sources, held (contents_of_folders 1 sources))
 
 -- ---- the file
 

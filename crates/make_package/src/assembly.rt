@@ -1,5 +1,5 @@
 //! The container of a package: its payload, and the contents blocks behind it.
-ghost use Rattle.std.specs.Prelude.{◌≡◌, ◌≤◌, ◌<◌, ◌^◌, ◌++◌, Ok, List, length, map, IfOk, IfErr};
+ghost use Rattle.std.specs.Prelude.{ℕ, ◌≡◌, ◌≤◌, ◌<◌, ◌^◌, ◌++◌, Ok, List, length, map, IfOk, IfErr};
 ghost use Rattle.adb_schema.specs.declared.read.TheConstants.{PACKAGE_WORD};
 ghost use Rattle.adb_write.specs.Canonical.{MOST_BYTES, written_of};
 ghost use Rattle.adb_write.specs.DepthFirst.{Writes};
@@ -8,7 +8,8 @@ ghost use Rattle.make_info.specs.Faults.{IsOverflow};
 ghost use Rattle.make_info.specs.Information.{information_value, replaces_priority};
 ghost use Rattle.make_package.specs.Answers.{IsBytes, IsNotDisk};
 ghost use Rattle.make_package.specs.Making.{package_of_parts};
-ghost use Rattle.make_package.specs.Package.{SourceFolder, package_with};
+ghost use Rattle.adb_sound.specs.Contents.{contents_size};
+ghost use Rattle.make_package.specs.Package.{SourceFolder, contents_of_folders, installed_size, package_with};
 ghost use Rattle.make_package.specs.Packed.{IsPacking, files_size, packed_folder, packed_size};
 ghost use Rattle.make_package.specs.Runs.{IsAnswer};
 ghost use Rattle.make_package.specs.Scripts.{scripts_view};
@@ -122,3 +123,9 @@ fn package_file(alloc: Global, payload: &[u8], mut blocks: Vec<u8>) -> Result<Ve
     put_in_front(&mut blocks, &front)?;
     Ok(blocks)
 }
+
+/// The size that a package is told to have installed is that of the contents behind it.
+pub fn the_installed_size_is_that_of_the_contents()
+    ensures { (first : ℕ) (folders : List SourceFolder)
+        → installed_size folders ≡ contents_size (contents_of_folders first folders) }
+{}

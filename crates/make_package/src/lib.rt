@@ -12,4 +12,5 @@ mod packing;
 mod reading;
 mod writing;
 
+pub use assembly::the_installed_size_is_that_of_the_contents;
 pub use making::make;

@@ -6,6 +6,7 @@ ghost use Rattle.std.specs.Prelude.{◌≡◌};
 
 use crate::assembly::package;
 use crate::reading::{list_names, pack_below, read_scripts};
+use adb_sound::contents_stand_in_their_container;
 use base_core::{Names, Tree};
 use make_info::{MakeFault, read_information};
 use std::alloc::Global;
@@ -41,6 +42,7 @@ fn pack<T: Tree>(
     ensures tree { OnlyReads (T.history tree.old) (T.history tree.new) (T.counts tree.old) (T.counts tree.new) result }
     ensures read { Explains (T.history tree.old) (λ read. IsAnswer IsBytes result (made_package command.now names.now read)) }
 {
+    contents_stand_in_their_container();
     let values = command.values();
     let scripts = read_scripts(alloc, tree, values)?;
     let about = read_information(alloc, command)?;

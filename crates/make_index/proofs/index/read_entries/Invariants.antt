@@ -1,9 +1,10 @@
-use Rattle.std.proofs.Common.{◌≡◌, drop, IsTrue}
-use Rattle.base_core.specs.Calls.{IfObservable}
-use Rattle.base_core.specs.Faults.{GoesOn, IsNoFault}
+use Rattle.std.proofs.Common.{ℕ, drop, IsTrue, Ok}
+use Rattle.base_core.specs.Calls.{IfObservable, OnlyReads}
 use Rattle.words_core.specs.Command.{are_files}
-use Rattle.make_index.specs.Views.{entries_view}
 use Rattle.make_info.specs.Reads.{reads_of}
+use Rattle.make_info.specs.declared.fault.MakeFault.{MakeFault}
+use Rattle.make_info.specs.declared.fault.MakeFault.TheVariants.{Disk}
+use Rattle.make_index.specs.Views.{entries_view}
 use Rattle.make_index.proofs.IndexReads.{IsReadTo, IsSoFar}
 use Rattle.make_index.proofs.index.read_entries.Given as goal
 
@@ -12,8 +13,5 @@ invariant-loop-i g l = record {
   files : IsTrue (are_files (drop l.i l.operands));
   told : IfObservable (g.T.Tree.history l.initial.tree) (λ v. IsSoFar (reads_of v) l.operands l.i (entries_view l.entries));
   found : IsReadTo l.operands l.i (entries_view l.entries);
-  same : g.T.Tree.history l.tree ≡ g.T.Tree.history l.initial.tree;
-  goes_on : GoesOn (g.T.Tree.counts l.initial.tree) (g.T.Tree.counts l.tree);
-  kept : IsNoFault (g.T.Tree.counts l.initial.tree) (g.T.Tree.counts l.tree);
-  proper : IfObservable (g.T.Tree.history l.initial.tree) (λ v. (g.T.Tree.counts l.tree).misuses ≡ (g.T.Tree.counts l.initial.tree).misuses);
+  tree : OnlyReads {A = ℕ} {E = MakeFault} Disk (g.T.Tree.history l.initial.tree) (g.T.Tree.history l.tree) (g.T.Tree.counts l.initial.tree) (g.T.Tree.counts l.tree) (Ok 0);
 }

@@ -1,14 +1,10 @@
 use Rattle.std.proofs.Common.{◌∙◌}
 use Rattle.base_core.specs.Read.{bytes_in}
 use Rattle.make_index.proofs.IndexReads.{by_made, found_told, some_is}
-use Rattle.make_index.proofs.KeptCounts.{whatever}
 use Rattle.make_index.proofs.index.read_entry.Goals as goal
 
-pub returns-clause-told : goal.returns-clause-told
-returns-clause-told g c = found_told _ _ _ c.args.operand.now.place _ _ (bytes_in c.in_ok-found.found) c.in_ok-found.ensures.answer (some_is _ _ _ c.in_ok-file.ensures.value c.in-Some.is ∙ c.file.ensures) c.entry_of.ensures.made
+pub returns-clause-made : goal.returns-clause-made
+returns-clause-made g c = found_told _ _ _ c.args.operand.now.place _ _ (bytes_in c.in_ok-found.found) c.in_ok-found.ensures.answer (some_is _ _ _ c.in_ok-file.ensures.value c.in-Some.is ∙ c.file.ensures) c.entry_of.ensures.made
 
 pub returns-clause-found : goal.returns-clause-found
 returns-clause-found g c = (bytes_in c.in_ok-found.found, c.entry_of.ensures.bytes, by_made _ _ _ c.entry_of.ensures.made)
-
-pub returns-clause-kept : goal.returns-clause-kept
-returns-clause-kept g c = whatever c.entry_of.result _ c.in_ok-found.ensures.kept

@@ -8,7 +8,7 @@ pub read_scripts-requires : goal.read_scripts-requires
 read_scripts-requires g c = values_allowed c.args.command.now _ c.values-values.ensures.command c.requires c.values-values.ensures.value
 
 pub package-requires : goal.package-requires
-package-requires g c = sizes_held _ _ _ (c.in_ok-packing.ensures.read 0).is.2
+package-requires g c = sizes_held c.contents_stand_in_their_container.ensures.blocks _ _ _ (c.in_ok-packing.ensures.read 0).is.2
 
 pub returns-in_err-scripts-clause-read : goal.returns-in_err-scripts-clause-read
 returns-in_err-scripts-clause-read g c =

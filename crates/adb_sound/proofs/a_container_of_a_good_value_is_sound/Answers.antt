@@ -1,6 +1,6 @@
 use Rattle.adb_sound.proofs.Lower.{Lower}
 use Rattle.adb_sound.proofs.SoundFiles.{value_good}
-use Rattle.make_core.proofs.laws.a_container_of_a_good_value_is_sound.Goals as goal
+use Rattle.adb_sound.proofs.a_container_of_a_good_value_is_sound.Goals as goal
 
 pub returns : goal.returns
 returns c =

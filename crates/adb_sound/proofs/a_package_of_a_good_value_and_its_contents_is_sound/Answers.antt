@@ -1,6 +1,6 @@
 use Rattle.adb_sound.proofs.Lower.{Lower}
 use Rattle.adb_sound.proofs.SoundFiles.{package_good}
-use Rattle.make_core.proofs.laws.a_package_of_a_good_value_and_its_contents_is_sound.Goals as goal
+use Rattle.adb_sound.proofs.a_package_of_a_good_value_and_its_contents_is_sound.Goals as goal
 
 pub returns : goal.returns
 returns c =
