@@ -10,7 +10,7 @@ use Rattle.dep_core.specs.Dependency.{Dependency, IsDependency, is_dep_name, is_
 use Rattle.dep_core.specs.Reading.{dependency_of}
 use Rattle.dep_core.specs.Spelling.{Spells}
 use Rattle.dep_core.specs.Value.{DepValue, dep_value, dependency_of_value, is_matching, is_version_or_empty}
-use Rattle.words_core.specs.declared.values.OptionValue.{OptionValue}
+use Rattle.command_core.specs.declared.values.OptionValue.{OptionValue}
 use Rattle.adb_view.specs.Plain.{Plain, null, Plains, none, more, text as text_shape, hash, number as number_shape, array, blob_value, obj_value}
 use Rattle.adb_view.specs.Shaped.{Each}
 use Rattle.adb_schema.specs.Schema.{shape_of, shapes_of, table}

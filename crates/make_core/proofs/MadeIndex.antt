@@ -2,7 +2,7 @@
 use Rattle.std.proofs.Common.{◌≡◌, ℕ, List, None, Result, Ok, Err, Vec, IfOk}
 use Rattle.std.specs.declared.alloc.Global.{Global}
 use Rattle.pkg_core.specs.Whole.{container_fault}
-use Rattle.words_core.specs.Command.{CommandLine}
+use Rattle.command_core.specs.Command.{CommandLine}
 use Rattle.make_index.specs.Index.{made_index}
 use Rattle.make_index.specs.Kept.{IsMadeBy}
 use Rattle.make_index.specs.Files.{AreFiles}

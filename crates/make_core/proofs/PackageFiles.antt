@@ -15,7 +15,7 @@ use Rattle.adb_schema.specs.Texts.{Around, at_root, inside_of, is_file_hash, num
 use Rattle.adb_schema.specs.Views.{entries_in, entry_in, int_in, text_in}
 use Rattle.adb_schema.specs.declared.schema.Which.TheVariants.{Acl, File, Dir, Scripts, PkgInfo, Package}
 use Rattle.adb_schema.specs.declared.schema.Kind.TheVariants.{Obj}
-use Rattle.words_core.specs.Values.{script_types}
+use Rattle.command_core.specs.Values.{script_types}
 use Rattle.make_package.specs.Package.{Source, SourceFolder, Script, access_value, kind_of_file, value_of_kind, value_of_file, value_of_folder, hash_of_kind, is_link_file, link_text, value_of_package, script_in, value_of_scripts, size_of_kind, target_of_kind}
 use Rattle.make_info.specs.Values.{number_value, plains_of, size_value}
 use Rattle.make_package.specs.declared.file.FileKind.{FileKind}

@@ -17,11 +17,11 @@ use Rattle.adb_schema.specs.declared.read.TheConstants.{INDEX_WORD}
 use Rattle.adb_write.specs.Canonical.{Counts, written_of, canonical}
 use Rattle.adb_write.specs.File.{file_of}
 use Rattle.pkg_core.specs.Whole.{container_fault, package_fault}
-use Rattle.words_core.specs.Command.{without_dot}
-use Rattle.words_core.specs.declared.operands.Operand.{Operand}
+use Rattle.command_core.specs.Files.{without_dot}
+use Rattle.command_core.specs.declared.operands.Operand.{Operand}
 use Rattle.make_index.specs.Index.{and_entries, found_entries, found_entry, index_by, index_container, index_of, index_of_found, value_of_index, entry_unless, description_in, made_index}
 use Rattle.make_info.specs.Values.{plains_of}
-use Rattle.words_core.specs.Command.{CommandLine}
+use Rattle.command_core.specs.Command.{CommandLine}
 use Rattle.make_index.specs.Entries.{entry_of_package}
 use Rattle.make_index.specs.EntryOrder.{entry_cmp, sorted_by, with_element}
 use Rattle.make_index.specs.Files.{AreFiles, IsFile}

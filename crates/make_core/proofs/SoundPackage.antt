@@ -9,9 +9,9 @@ use Rattle.adb_schema.specs.declared.schema.Which.TheVariants.{Package}
 use Rattle.adb_write.specs.Canonical.{Counts, canonical, overflow_of}
 use Rattle.pkg_core.specs.Contents.{AreContentsOf, Contents, expected_contents}
 use Rattle.pkg_core.specs.Whole.{container_fault}
-use Rattle.words_core.specs.Command.{CommandLine}
-use Rattle.words_core.specs.Values.{without_dot}
-use Rattle.words_core.specs.declared.values.OptionValue.{OptionValue}
+use Rattle.command_core.specs.Command.{CommandLine}
+use Rattle.command_core.specs.Files.{without_dot}
+use Rattle.command_core.specs.declared.values.OptionValue.{OptionValue}
 use Rattle.make_info.specs.Information.{InfoItem, information_value, information, replaces_priority}
 use Rattle.adb_sound.specs.Contents.{contents_size}
 use Rattle.adb_sound.specs.Container.{container_of}

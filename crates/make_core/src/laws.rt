@@ -6,7 +6,7 @@ ghost use Rattle.make_package.specs.Making.{made_package};
 ghost use Rattle.make_package.specs.Sources.{AreNamesFor, values_of};
 ghost use Rattle.pkg_core.specs.Whole.{container_fault};
 ghost use Rattle.std.specs.Prelude.{◌≡◌, ◌<◌, ◌^◌, ℕ, List, length, None, Ok};
-ghost use Rattle.words_core.specs.Command.{CommandLine};
+ghost use Rattle.command_core.specs.Command.{CommandLine};
 
 use adb_schema::{
     the_first_pair_in_one_of_several_lists_is_told, values_of_few_visits_have_no_fault,

@@ -8,8 +8,10 @@ use Rattle.std.specs.Result.{IsErrAnd}
 use Rattle.base_core.specs.Calls.{IfObservable}
 use Rattle.base_core.specs.Tree.{TreeState, files_of}
 use Rattle.adb_view.specs.Plain.{Plain}
-use Rattle.words_core.specs.Command.{are_files, is_file, without_dot}
-use Rattle.words_core.specs.declared.operands.Operand.{Operand}
+use Rattle.command_core.specs.Operands.{are_files}
+use Rattle.command_core.specs.Files.{is_file}
+use Rattle.command_core.specs.Files.{without_dot}
+use Rattle.command_core.specs.declared.operands.Operand.{Operand}
 use Rattle.make_index.specs.Index.{and_entries, found_entries, found_entry}
 use Rattle.make_index.specs.Kept.{IsMade, IsMadeBy}
 use Rattle.make_info.specs.Reads.{reads_of}

@@ -3,10 +3,11 @@ use Rattle.std.proofs.Common.{◌≡◌, ℕ, true, List, [], ◌∷◌, Option,
 use Rattle.base_core.specs.Calls.{IfObservable}
 use Rattle.base_core.specs.Tree.{TreeState}
 use Rattle.adb_view.specs.Plain.{Plain}
-use Rattle.words_core.specs.Command.{CommandLine, IsCommand, are_files, is_plain, is_sound}
-use Rattle.words_core.specs.declared.operands.Operand.{Operand}
-use Rattle.words_core.specs.declared.applet.Applet.{Applet}
-use Rattle.words_core.specs.declared.applet.Applet.TheVariants.{Mkndx}
+use Rattle.command_core.specs.Command.{CommandLine, IsCommand, is_plain, is_sound}
+use Rattle.command_core.specs.Operands.{are_files}
+use Rattle.command_core.specs.declared.operands.Operand.{Operand}
+use Rattle.command_core.specs.declared.command.Applet.{Applet}
+use Rattle.command_core.specs.declared.command.Applet.TheVariants.{Mkndx}
 use Rattle.make_index.specs.Index.{found_entries, index_of, index_of_found, description_in, made_index}
 use Rattle.make_index.specs.Kept.{IsMade, IsMadeBy}
 use Rattle.make_info.specs.Reads.{reads_of}

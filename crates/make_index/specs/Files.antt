@@ -1,7 +1,7 @@
 -- The files that the operands of `mkndx` name.
 use Rattle.std.specs.Prelude.{◌≡◌, ℕ, ◌+◌, ◌^◌, ◌<◌, List, [], ◌∷◌, length, All, Some}
-use Rattle.words_core.specs.Values.{without_dot}
-use Rattle.words_core.specs.declared.operands.Operand.{Operand}
+use Rattle.command_core.specs.Files.{without_dot}
+use Rattle.command_core.specs.declared.operands.Operand.{Operand}
 use Rattle.make_info.specs.Reads.{Reads}
 
 -- bytes, fewer than 2 ^ 64

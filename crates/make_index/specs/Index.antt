@@ -7,9 +7,10 @@ use Rattle.adb_schema.specs.declared.read.TheConstants.{INDEX_WORD}
 use Rattle.adb_write.specs.Canonical.{Counts, written_of}
 use Rattle.adb_write.specs.File.{file_of}
 use Rattle.pkg_core.specs.Whole.{package_fault}
-use Rattle.words_core.specs.Command.{CommandLine, without_dot}
-use Rattle.words_core.specs.declared.operands.Operand.{Operand}
-use Rattle.words_core.specs.declared.values.OptionValue.{OptionValue}
+use Rattle.command_core.specs.Command.{CommandLine}
+use Rattle.command_core.specs.Files.{without_dot}
+use Rattle.command_core.specs.declared.operands.Operand.{Operand}
+use Rattle.command_core.specs.declared.values.OptionValue.{OptionValue}
 use Rattle.make_info.specs.Reads.{Reads}
 use Rattle.make_info.specs.Values.{plains_of}
 use Rattle.make_info.specs.declared.fault.MakeFault.{MakeFault}

@@ -22,7 +22,9 @@ ghost use Rattle.make_info.specs.Reads.{Reads, reads_of};
 ghost use Rattle.make_info.specs.Values.{plains_of};
 ghost use Rattle.std.specs.Prelude.{◌≡◌, ◌≤◌, Ok, IfOk, IfErr, length, map, ◌<◌, ◌^◌, ℕ, List, All, true, None, ◌++◌, ◌∷◌, [], Option, IfSome, IsTrue};
 ghost use Rattle.version_core.specs.Order.{is_version};
-ghost use Rattle.words_core.specs.Command.{are_files, is_file, without_dot};
+ghost use Rattle.command_core.specs.Operands.{are_files};
+ghost use Rattle.command_core.specs.Files.{is_file};
+ghost use Rattle.command_core.specs.Files.{without_dot};
 
 use crate::entry::Entry;
 use adb_schema::INDEX_WORD;
@@ -34,7 +36,7 @@ use base_core::{Name, Tree, read_all};
 use make_info::MakeFault;
 use std::alloc::{AllocError, Global};
 use version_core::order_is_total;
-use words_core::{Applet, Command, Operand, Operands, Values};
+use command_core::{Applet, Command, Operand, Operands, Values};
 
 /// The letter of the option that gives a description.
 const DESCRIPTION: u8 = b'd';

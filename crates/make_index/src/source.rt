@@ -46,7 +46,7 @@ pub(crate) enum EntrySource {
 }
 
 impl EntrySource {
-    ghost use Rattle.make_index.specs.Kept.{kept_value};
+    ghost use Rattle.make_index.specs.Kept.{kept_value, copy_of_entry};
 
     /// Writes the entry.
     pub(crate) fn write(&self, alloc: Global, writer: &mut Writer) -> Result<Val, AllocError>
@@ -60,7 +60,6 @@ impl EntrySource {
 }
 
 impl EntryPayload {
-    ghost use Rattle.make_index.specs.Kept.{copy_of_entry};
 
     /// Writes the entry.
     fn write(&self, alloc: Global, writer: &mut Writer) -> Result<Val, AllocError>

@@ -11,7 +11,7 @@ use Rattle.std.proofs.lemmas.Str.{IsUtf8-from_ascii, is_utf8-from_IsUtf8}
 use Rattle.base_core.specs.Name.{is_name, is_part, parts_of}
 use Rattle.dep_core.specs.Dependency.{begins_with_punctuation, is_dep_name, is_mark, is_name_byte, is_package_name}
 use Rattle.version_core.specs.Order.{is_version}
-use Rattle.words_core.specs.declared.values.OptionValue.{OptionValue}
+use Rattle.command_core.specs.declared.values.OptionValue.{OptionValue}
 use Rattle.make_info.specs.declared.field.Field.TheVariants as Fields
 use Rattle.make_info.specs.FieldTexts.{first_text_for, if_passes, package_name, default_output, package_file_name, package_file_name_of, package_version}
 use Rattle.make_info.proofs.VersionBytes.{AreSpelled, all-append, all-imp, is_version_byte, version-bytes}

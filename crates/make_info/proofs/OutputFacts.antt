@@ -8,11 +8,15 @@ use Rattle.std.proofs.lemmas.Option.{none-some}
 use Rattle.version_core.specs.Order.{is_version}
 use Rattle.dep_core.specs.Dependency.{is_package_name}
 use Rattle.words_core.specs.Applets.{row_of}
-use Rattle.words_core.specs.Command.{CommandLine, IsCommand, are_files, are_values, is_plain, is_sound, is_sound_line}
-use Rattle.words_core.specs.Values.{is_file, is_given, without_dot}
-use Rattle.words_core.specs.declared.applet.Applet.{Applet}
-use Rattle.words_core.specs.declared.applet.Applet.TheVariants.{Adbdump, Mkndx, Mkpkg, Verify, Version}
-use Rattle.words_core.specs.declared.values.OptionValue.{OptionValue}
+use Rattle.command_core.specs.Command.{CommandLine, IsCommand, is_plain, is_sound, is_sound_line}
+use Rattle.command_core.specs.Values.{are_values}
+use Rattle.command_core.specs.Operands.{are_files}
+use Rattle.command_core.specs.Values.{is_given}
+use Rattle.command_core.specs.Files.{is_file}
+use Rattle.command_core.specs.Files.{without_dot}
+use Rattle.command_core.specs.declared.command.Applet.{Applet}
+use Rattle.command_core.specs.declared.command.Applet.TheVariants.{Adbdump, Mkndx, Mkpkg, Verify, Version}
+use Rattle.command_core.specs.declared.values.OptionValue.{OptionValue}
 use Rattle.make_info.specs.declared.field.Field.{Field}
 use Rattle.make_info.specs.declared.field.Field.TheVariants as Fields
 use Rattle.make_info.specs.Fields.{kind_of_field, values_by_kind, text_if}

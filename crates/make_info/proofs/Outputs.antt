@@ -8,11 +8,15 @@ use Rattle.std.proofs.lemmas.Bool.Decides.{nat_tests}
 use Rattle.base_core.specs.Name.{is_name}
 use Rattle.version_core.specs.Order.{is_version}
 use Rattle.words_core.specs.Applets.{Entry, row_of, rule_of}
-use Rattle.words_core.specs.Command.{CommandLine, IsCommand, are_apart, are_values, is_sound_line, is_value_by}
-use Rattle.words_core.specs.Values.{is_file, without_dot}
-use Rattle.words_core.specs.declared.applet.Applet.{Applet}
-use Rattle.words_core.specs.declared.applet.Applet.TheVariants.{Adbdump, Mkndx, Mkpkg, Verify, Version}
-use Rattle.words_core.specs.declared.values.OptionValue.{OptionValue}
+use Rattle.command_core.specs.Command.{CommandLine, IsCommand, is_sound_line}
+use Rattle.command_core.specs.Values.{are_apart}
+use Rattle.command_core.specs.Values.{is_value_by}
+use Rattle.command_core.specs.Values.{are_values}
+use Rattle.command_core.specs.Files.{is_file}
+use Rattle.command_core.specs.Files.{without_dot}
+use Rattle.command_core.specs.declared.command.Applet.{Applet}
+use Rattle.command_core.specs.declared.command.Applet.TheVariants.{Adbdump, Mkndx, Mkpkg, Verify, Version}
+use Rattle.command_core.specs.declared.values.OptionValue.{OptionValue}
 use Rattle.make_info.specs.declared.field.Field.{Field}
 use Rattle.make_info.specs.declared.field.Field.TheVariants as Fields
 use Rattle.make_info.specs.FieldTexts.{FieldText, file_name_in, first_text_for, field_text_in, if_passes, info_options, is_for, is_text_for, is_info_option, is_long_name, is_output_option, is_too_long, package_name, named_output, default_output, package_file_name_of, text_for, text_when_for}

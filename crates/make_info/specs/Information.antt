@@ -1,8 +1,8 @@
 -- The information of a package, as the values of `-I` say it (apk(8), `mkpkg`), and its value (apk-v3(5)).
 use Rattle.std.specs.Prelude.{ℕ, ◌==◌, Bool, false, ◌&&◌, ◌||◌, not, if◌then◌else◌, List, [], ◌∷◌, ◌++◌, map, Option, Some, None, option_map, option_and_then, is_some, unwrap_or, Result, Ok, Err}
 use Rattle.std.specs.List.{find, flat_map, list_any}
-use Rattle.words_core.specs.Command.{CommandLine}
-use Rattle.words_core.specs.declared.values.OptionValue.{OptionValue}
+use Rattle.command_core.specs.Command.{CommandLine}
+use Rattle.command_core.specs.declared.values.OptionValue.{OptionValue}
 use Rattle.adb_view.specs.Plain.{Plain, null, int, Plains, none, more, blob_value, arr_value, obj_value}
 use Rattle.dep_core.specs.Value.{DepValue, dep_value}
 use Rattle.make_info.specs.declared.field.Field.{Field}

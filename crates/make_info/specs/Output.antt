@@ -1,9 +1,9 @@
 -- Under which name a container is written (apk(8), `mkpkg` and `mkndx`).
 use Rattle.std.specs.Prelude.{ℕ, Bool, true, false, if◌then◌else◌, List, Option, None, Result, Ok, Err}
 use Rattle.std.specs.Option.{option_or}
-use Rattle.words_core.specs.Command.{CommandLine}
-use Rattle.words_core.specs.declared.applet.Applet.{Applet}
-use Rattle.words_core.specs.declared.applet.Applet.TheVariants.{Adbdump, Mkndx, Mkpkg, Verify, Version}
+use Rattle.command_core.specs.Command.{CommandLine}
+use Rattle.command_core.specs.declared.command.Applet.{Applet}
+use Rattle.command_core.specs.declared.command.Applet.TheVariants.{Adbdump, Mkndx, Mkpkg, Verify, Version}
 use Rattle.make_info.specs.FieldTexts.{named_output, default_output}
 use Rattle.make_info.specs.Information.{InfoItem, information}
 

@@ -19,7 +19,7 @@ use hex::FromHexError;
 use std::alloc::{AllocError, Global};
 use std::marker::Model;
 use version_core::Version;
-use words_core::{Command, Values};
+use command_core::{Command, Values};
 
 /// A field, and the value that is given for it.
 #[derive(Clone, Copy)]

@@ -4,8 +4,8 @@ ghost use Rattle.make_info.specs.Information.{information};
 ghost use Rattle.make_info.specs.Output.{is_mkpkg, output_name, package_output};
 ghost use Rattle.std.specs.Option.{option_map};
 ghost use Rattle.std.specs.Prelude.{◌≡◌, ◌||◌, IfOk, is_ok, ◌≤◌, List, ℕ, Some, IsSome, IsTrue, length};
-ghost use Rattle.words_core.specs.Command.{CommandLine, IsCommand};
-ghost use Rattle.words_core.specs.declared.applet.Applet.TheVariants.{Mkndx, Mkpkg};
+ghost use Rattle.command_core.specs.Command.{CommandLine, IsCommand};
+ghost use Rattle.command_core.specs.declared.command.Applet.TheVariants.{Mkndx, Mkpkg};
 
 use base_core::Name;
 use crate::fault::MakeFault;
@@ -14,7 +14,7 @@ use crate::information::{FieldText, read_information};
 use dep_core::is_package_name;
 use std::alloc::{AllocError, Global};
 use version_core::{Version, read_is_spelled};
-use words_core::{Applet, Command, OptionValue, Values};
+use command_core::{Applet, Command, OptionValue, Values};
 
 /// How long a file's name may be, so that a scratch name beside it is a name too.
 const LONGEST_OUTPUT: usize = 1016;

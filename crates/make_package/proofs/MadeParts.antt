@@ -17,11 +17,15 @@ use Rattle.adb_write.specs.Canonical.{Counts, canonical, or_overflow, overflow_o
 use Rattle.adb_write.specs.File.{adb_piece, file_of}
 use Rattle.pkg_core.specs.Contents.{Contents}
 use Rattle.words_core.specs.Applets.{Entry, row_of, rule_of}
-use Rattle.words_core.specs.Command.{CommandLine, IsCommand, are_apart, are_values, is_sound, is_sound_line, is_value_by}
-use Rattle.words_core.specs.Values.{is_file, script_file, script_type, script_types}
-use Rattle.words_core.specs.declared.applet.Applet.{Applet}
-use Rattle.words_core.specs.declared.applet.Applet.TheVariants.{Mkpkg}
-use Rattle.words_core.specs.declared.values.OptionValue.{OptionValue}
+use Rattle.command_core.specs.Command.{CommandLine, IsCommand, is_sound, is_sound_line}
+use Rattle.command_core.specs.Values.{are_apart}
+use Rattle.command_core.specs.Values.{is_value_by}
+use Rattle.command_core.specs.Values.{are_values}
+use Rattle.command_core.specs.Values.{script_file, script_type, script_types}
+use Rattle.command_core.specs.Files.{is_file}
+use Rattle.command_core.specs.declared.command.Applet.{Applet}
+use Rattle.command_core.specs.declared.command.Applet.TheVariants.{Mkpkg}
+use Rattle.command_core.specs.declared.values.OptionValue.{OptionValue}
 use Rattle.make_package.specs.Blocks.{contents_block, contents_blocks}
 use Rattle.make_info.specs.Faults.{IsOverflow}
 use Rattle.make_info.specs.Information.{InfoItem, information_value, replaces_priority}

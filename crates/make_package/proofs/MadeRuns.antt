@@ -8,9 +8,10 @@ use Rattle.base_core.specs.Calls.{IfObservable}
 use Rattle.base_core.specs.Listed.{AreNamesBelow, IsListOf}
 use Rattle.base_core.specs.Faults.{Counts, GoesOn, HasCause, IsNoFault}
 use Rattle.base_core.specs.Tree.{TreeState}
-use Rattle.words_core.specs.Command.{CommandLine}
-use Rattle.words_core.specs.Values.{without_dot, script_file}
-use Rattle.words_core.specs.declared.values.OptionValue.{OptionValue}
+use Rattle.command_core.specs.Command.{CommandLine}
+use Rattle.command_core.specs.Values.{script_file}
+use Rattle.command_core.specs.Files.{without_dot}
+use Rattle.command_core.specs.declared.values.OptionValue.{OptionValue}
 use Rattle.make_package.specs.Folders.{folders_of}
 use Rattle.make_info.specs.Faults.{IsInfoFault, UnlessDisk}
 use Rattle.make_info.specs.Information.{InfoItem, information}

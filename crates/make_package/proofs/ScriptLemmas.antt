@@ -1,7 +1,8 @@
 -- One script of what was read.
 use Rattle.std.proofs.Common.{◌≡◌, ◌∙◌, ℕ, List, Option, Some, Result, Ok, Err, sym, ap, subst, IfSome}
-use Rattle.words_core.specs.Values.{without_dot, script_type, script_file}
-use Rattle.words_core.specs.declared.values.OptionValue.{OptionValue}
+use Rattle.command_core.specs.Values.{script_type, script_file}
+use Rattle.command_core.specs.Files.{without_dot}
+use Rattle.command_core.specs.declared.values.OptionValue.{OptionValue}
 use Rattle.make_package.specs.Package as packages
 use Rattle.make_package.specs.Runs.{IsAnswer}
 use Rattle.make_package.specs.Scripts.{IsScript}

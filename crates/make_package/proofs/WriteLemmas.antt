@@ -4,7 +4,7 @@ use borrow.Author.Tests.{ne_eqb, eq-eqb}
 use Rattle.std.proofs.lemmas.Option.{get_or_from_slice_get, slice_get_within}
 use Rattle.std.proofs.lemmas.List.Elements.{filter-append}
 use Rattle.adb_view.specs.Plain.{blob_value}
-use Rattle.words_core.specs.declared.values.OptionValue.{OptionValue}
+use Rattle.command_core.specs.declared.values.OptionValue.{OptionValue}
 use Rattle.make_package.specs.Sources.{values_of, texts_of}
 use Rattle.std.proofs.lemmas.List.{take_more, map-append}
 use Rattle.adb_view.specs.Plain.{Plain, Plains, more}

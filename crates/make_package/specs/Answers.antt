@@ -5,9 +5,9 @@ use Rattle.std.specs.declared.alloc.Global.{Global}
 use Rattle.base_core.specs.Calls.{IfObservable}
 use Rattle.base_core.specs.Listed.{IsListOf}
 use Rattle.base_core.specs.Tree.{TreeState, files_of}
-use Rattle.words_core.specs.Command.{CommandLine}
-use Rattle.words_core.specs.Values.{without_dot}
-use Rattle.words_core.specs.declared.values.OptionValue.{OptionValue}
+use Rattle.command_core.specs.Command.{CommandLine}
+use Rattle.command_core.specs.Files.{without_dot}
+use Rattle.command_core.specs.declared.values.OptionValue.{OptionValue}
 use Rattle.make_info.specs.Reads.{Reads}
 use Rattle.make_info.specs.declared.fault.MakeFault.{MakeFault}
 use Rattle.make_info.specs.declared.fault.MakeFault.TheVariants.{Disk, Memory}

@@ -5,7 +5,7 @@ use Rattle.adb_view.specs.Plain.{Plain}
 use Rattle.adb_schema.specs.declared.read.TheConstants.{PACKAGE_WORD}
 use Rattle.adb_write.specs.Canonical.{Counts, overflow_of}
 use Rattle.pkg_core.specs.Contents.{Contents}
-use Rattle.words_core.specs.Command.{CommandLine}
+use Rattle.command_core.specs.Command.{CommandLine}
 use Rattle.adb_sound.specs.Container.{container_of}
 use Rattle.make_info.specs.Information.{InfoItem, information, information_value, replaces_priority}
 use Rattle.make_info.specs.Reads.{Reads}

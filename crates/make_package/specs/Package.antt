@@ -4,7 +4,7 @@ use Rattle.std.specs.Str.{is_utf8}
 use Rattle.sha2.specs.Sha256.{sha256}
 use Rattle.adb_view.specs.Plain.{Plain, null, int, none, more, blob_value, arr_value, obj_value}
 use Rattle.pkg_core.specs.Contents.{Contents}
-use Rattle.words_core.specs.Values.{script_types}
+use Rattle.command_core.specs.Values.{script_types}
 use Rattle.make_info.specs.Values.{number_value, plains_of, size_value}
 use Rattle.make_package.specs.declared.file.FileKind.{FileKind}
 use Rattle.make_package.specs.declared.file.FileKind.TheVariants.{Link, Regular}

@@ -1,8 +1,9 @@
 -- What a package is made of, as reads find it: the script files, and the files of each folder.
 use Rattle.std.specs.Prelude.{ℕ, ◌+◌, ◌==◌, List, [], ◌∷◌, length, map, filter, Option, Some, None, Result, Ok, Err}
 use Rattle.base_core.specs.Listed.{AreNamesBelow}
-use Rattle.words_core.specs.Values.{without_dot, script_type, script_file}
-use Rattle.words_core.specs.declared.values.OptionValue.{OptionValue}
+use Rattle.command_core.specs.Values.{script_type, script_file}
+use Rattle.command_core.specs.Files.{without_dot}
+use Rattle.command_core.specs.declared.values.OptionValue.{OptionValue}
 use Rattle.make_info.specs.Reads.{Reads}
 use Rattle.make_info.specs.declared.fault.MakeFault.{MakeFault}
 use Rattle.make_info.specs.declared.fault.MakeFault.TheVariants.{FileMissing}

@@ -24,7 +24,7 @@ use adb_write::{Writer, a_value_written_depth_first_is_canonical, file_of};
 use make_info::{Information, MakeFault};
 use make_info::{Information, MakeFault};
 use std::alloc::{AllocError, Global};
-use words_core::{Command, Values};
+use command_core::{Command, Values};
 
 /// The package of a command, with this information, these files and these scripts.
 pub(crate) fn package(

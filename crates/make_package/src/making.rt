@@ -10,7 +10,7 @@ use adb_sound::contents_stand_in_their_container;
 use base_core::{Names, Tree};
 use make_info::{MakeFault, read_information};
 use std::alloc::Global;
-use words_core::{Applet, Command};
+use command_core::{Applet, Command};
 
 /// Makes the package that a command asks for: lists the names below its folder, reads the scripts and
 /// the files, each once, and writes the container's bytes. The tree stays as it is, whatever the

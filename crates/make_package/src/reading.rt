@@ -9,9 +9,11 @@ ghost use Rattle.make_package.specs.Scripts.{AreScripts, IsScript};
 ghost use Rattle.make_package.specs.Sources.{AreNamesFor, folders_below, values_of, script_at, scripts_from};
 ghost use Rattle.std.specs.Prelude.{◌≡◌, ℕ, IfOk, IsTrue, ◌++◌, ◌∷◌, [], OnOk};
 ghost use Rattle.words_core.specs.Applets.{row_of};
-ghost use Rattle.words_core.specs.Command.{are_values};
-ghost use Rattle.words_core.specs.Values.{is_file, without_dot, script_file};
-ghost use Rattle.words_core.specs.declared.applet.Applet.TheVariants.{Mkpkg};
+ghost use Rattle.command_core.specs.Values.{are_values};
+ghost use Rattle.command_core.specs.Values.{script_file};
+ghost use Rattle.command_core.specs.Files.{is_file};
+ghost use Rattle.command_core.specs.Files.{without_dot};
+ghost use Rattle.command_core.specs.declared.command.Applet.TheVariants.{Mkpkg};
 
 use base_core::{Name, Names, Tree};
 use crate::file::Packing;
@@ -20,7 +22,7 @@ use crate::writing::Script;
 use make_info::MakeFault;
 use make_info::MakeFault;
 use std::alloc::{AllocError, Global};
-use words_core::{OptionValue, Values};
+use command_core::{OptionValue, Values};
 
 /// The names below the folder that an option gives, in byte order and each once, whatever the tree tells; none where no
 /// folder is given.

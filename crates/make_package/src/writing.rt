@@ -13,7 +13,7 @@ use adb_view::Val;
 use adb_write::{Writer, values_are_written_depth_first};
 use crate::file::{File, Folder};
 use std::alloc::{AllocError, Global};
-use words_core::Values;
+use command_core::Values;
 
 /// The mode of every folder.
 const FOLDER_MODE: u64 = 0o755;

@@ -1,6 +1,6 @@
 use Rattle.std.proofs.Common.{ℕ, drop, IsTrue, Ok}
 use Rattle.base_core.specs.Calls.{IfObservable, OnlyReads}
-use Rattle.words_core.specs.Command.{are_files}
+use Rattle.command_core.specs.Operands.{are_files}
 use Rattle.make_info.specs.Reads.{reads_of}
 use Rattle.make_info.specs.declared.fault.MakeFault.{MakeFault}
 use Rattle.make_info.specs.declared.fault.MakeFault.TheVariants.{Disk}

@@ -1,6 +1,6 @@
 use Rattle.std.proofs.Common.{◌≡◌, ◌+◌, true, false, cond, List, ◌∷◌, drop, Some, None, sym, ◌∙◌, ap, subst, arith}
 use Rattle.std.proofs.lemmas.Bool.Decides.{nat_tests}
-use Rattle.words_core.specs.declared.values.OptionValue.{OptionValue}
+use Rattle.command_core.specs.declared.values.OptionValue.{OptionValue}
 use Rattle.make_info.specs.FieldTexts.{info_options, is_info_option}
 use Rattle.make_info.specs.Reading.{items_with}
 use Rattle.make_info.proofs.Left.{info_here, info_not_here}

@@ -1,5 +1,6 @@
 use Rattle.std.proofs.Common.{◌≡◌, ◌∙◌}
-use Rattle.words_core.specs.Values.{without_dot, script_file}
+use Rattle.command_core.specs.Values.{script_file}
+use Rattle.command_core.specs.Files.{without_dot}
 use Rattle.make_package.proofs.ReadLemmas.{explained, explained_as, same_fault, memory_fault}
 use Rattle.make_package.proofs.ScriptLemmas.{some_is, script_fault, script_is}
 use Rattle.make_package.proofs.reading.read_script.Goals as goal

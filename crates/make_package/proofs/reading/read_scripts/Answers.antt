@@ -1,5 +1,5 @@
 use Rattle.std.proofs.Common.{◌≡◌, ◌≤◌, ◌∙◌, ap, sym, length, take_all, List, arith}
-use Rattle.words_core.specs.declared.values.OptionValue.{OptionValue}
+use Rattle.command_core.specs.declared.values.OptionValue.{OptionValue}
 use Rattle.make_package.specs.Scripts.{AreScripts}
 use Rattle.make_package.specs.Sources.{values_of, script_at, scripts_from}
 use Rattle.make_package.proofs.MadeParts.{script_allowed}
