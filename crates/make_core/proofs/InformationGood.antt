@@ -6,10 +6,12 @@ use Rattle.std.proofs.lemmas.Bool.{and_parts, ltb-true}
 use Rattle.std.proofs.lemmas.List.Concat.{flat_map-cons}
 use Rattle.std.proofs.lemmas.List.Folds.{list_any-append}
 use Rattle.version_core.specs.Order.{is_version}
-use Rattle.dep_core.specs.Dependency.{Dependency, IsDependency, is_dep_name, is_package_name}
+use Rattle.dep_core.specs.Dependency.{Dependency, is_dep_name, is_package_name}
+use Rattle.dep_core.specs.DependencyText.{IsDependency}
 use Rattle.dep_core.specs.Reading.{dependency_of}
-use Rattle.dep_core.specs.Spelling.{Spells}
-use Rattle.dep_core.specs.Value.{DepValue, dep_value, dependency_of_value, is_matching, is_version_or_empty}
+use Rattle.dep_core.specs.Spelling.{SpellsDependency}
+use Rattle.dep_core.specs.Value.{DepValue, dep_value, is_matching, is_version_or_empty}
+use Rattle.dep_core.specs.ValueReading.{dependency_of_value}
 use Rattle.command_core.specs.declared.values.OptionValue.{OptionValue}
 use Rattle.adb_view.specs.Plain.{Plain, null, Plains, none, more, text as text_shape, hash, number as number_shape, array, blob_value, obj_value}
 use Rattle.adb_view.specs.Shaped.{Each}
@@ -31,7 +33,7 @@ use Rattle.make_core.proofs.SaidGood.{AreSaidAs, IsNeed, IsSaidAs, said_good, sa
 
 -- what the layer of dependencies says of them
 pub record Needs : Type 0 where
-  pub spelled : (t : List ℕ) (d : Dependency) → dependency_of t ≡ Some d → Spells t d
+  pub spelled : (t : List ℕ) (d : Dependency) → dependency_of t ≡ Some d → SpellsDependency t d
   pub back : (d : Dependency) → IsDependency d → d.tag ≡ None → dependency_of_value (dep_value d).name (dep_value d).version (unwrap_or (dep_value d).matching 0) ≡ Some d
 
 -- ---- items

@@ -1,5 +1,5 @@
 -- What the program's values stand for.
-use Rattle.dep_core.specs.Seen.{dependency}
+use Rattle.dep_core.specs.Meets.{dependency}
 use Rattle.make_info.specs.declared.information.FieldText.{FieldText as FieldSlices}
 use Rattle.make_info.specs.declared.information.Value.{Value}
 use Rattle.make_info.specs.declared.information.Value.TheVariants.{Text, Bytes, Number, Need}

@@ -1,5 +1,5 @@
 //! The information of a package, read from the values of `-I` of `mkpkg` (apk(8)).
-ghost use Rattle.dep_core.specs.Seen.{dependency};
+ghost use Rattle.dep_core.specs.Meets.{dependency};
 ghost use Rattle.hex.specs.Hex.{decode_of};
 ghost use Rattle.make_info.specs.Faults.{IsInfoFault};
 ghost use Rattle.make_info.specs.FieldTexts.{field_text_in};

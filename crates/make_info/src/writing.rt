@@ -1,7 +1,7 @@
 //! Writes the information of a package as a value of schema 3 (apk-v3(5)), column by column.
 ghost use Rattle.adb_view.specs.Plain.{blob_value, null};
 ghost use Rattle.adb_write.specs.DepthFirst.{Writes, WritesAll};
-ghost use Rattle.dep_core.specs.Seen.{dependency};
+ghost use Rattle.dep_core.specs.Meets.{dependency};
 ghost use Rattle.dep_core.specs.Value.{dep_value, matching_of};
 ghost use Rattle.make_info.specs.Columns.{column_value, column_values};
 ghost use Rattle.make_info.specs.Information.{information_value, value_of_list, need_value, number_in, replaces_priority, plain_value, value_of_single};
