@@ -4,6 +4,7 @@
 //! They cite `Root` (a value that may stand at the root of a container) and `Container` (a container
 //! that is made of a value and of contents) of `specs/`.
 #![tactic(auto)]
+
 ghost use Rattle.adb_block.specs.Written.{block_bytes};
 ghost use Rattle.adb_schema.specs.Soundness.{schema_word};
 ghost use Rattle.adb_schema.specs.declared.read.TheConstants.{PACKAGE_WORD};

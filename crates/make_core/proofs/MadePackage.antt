@@ -1,4 +1,5 @@
 -- What a run that makes a package answers.
+use Rattle.command_core.specs.declared.values.TheConstants.{FILES}
 use Rattle.std.proofs.Common.{◌≡◌, ℕ, ◌^◌, ◌<◌, List, [], ◌∷◌, length, None, Result, Ok, Err, Vec, IfOk, IfErr, sym, ◌∙◌, ap, arith}
 use Rattle.std.specs.declared.alloc.Global.{Global}
 use Rattle.base_core.specs.Calls.{IfObservable}
@@ -17,7 +18,7 @@ made_in [] command made m = tt
 made_in (v ∷ vs) command made m = record {
   names = m.names;
   below = m.below;
-  is = ap (λ (read : Reads). made_package command m.names read) (λ j n name. sym (m.reads.as_told n name) j) ∙ m.reads.is;
+  is = ap (λ (read : Reads). made_package command m.names read) (λ j n name. sym (m.reads.observed n name) j) ∙ m.reads.is;
 }
 
 made_by_some : (told : List TreeState) (command : CommandLine) (made : Result (List ℕ) MakeFault) → IsMadeOf told command made → IsMadeBySome command made
@@ -51,7 +52,7 @@ module _ (told : List TreeState) (command : CommandLine) where
 -- ---- what is made is sound
 
 abbrev pub SoundPackage : Type 0
-SoundPackage = (command : CommandLine) (names : List (List ℕ)) (read : Reads) (bytes : List ℕ) → AreNamesFor (values_of 70 command.values) names
+SoundPackage = (command : CommandLine) (names : List (List ℕ)) (read : Reads) (bytes : List ℕ) → AreNamesFor (values_of FILES command.values) names
     → made_package command names read ≡ Ok bytes → length bytes < 2 ^ 64 → container_fault bytes ≡ None
 
 pub run_sound : SoundPackage → (told : List TreeState) (command : CommandLine) (r : Result (Vec ℕ Global) MakeFault) → IsMadeRun told command r → IfOk r (λ file. container_fault file.items ≡ None)

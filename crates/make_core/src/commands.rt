@@ -10,9 +10,9 @@ ghost use Rattle.std.specs.Prelude.{◌≡◌, Ok, None, IfOk, IfErr};
 
 use crate::laws::{a_made_index_is_sound, a_made_package_is_sound};
 use base_core::Tree;
+use command_core::{Applet, Command};
 use make_info::MakeFault;
 use std::alloc::Global;
-use command_core::{Applet, Command};
 
 /// Makes the package that a command asks for (apk(8), `mkpkg`): the container's bytes, which pass all
 /// tests of a package. The tree stays as it is, whatever the answer.

@@ -1,4 +1,5 @@
 //! What is made is sound: no test of a container fails (apk-v3(5)).
+ghost use Rattle.command_core.specs.declared.values.TheConstants.{FILES};
 ghost use Rattle.make_index.specs.Files.{AreFiles};
 ghost use Rattle.make_index.specs.Index.{made_index};
 ghost use Rattle.make_info.specs.Reads.{Reads};
@@ -37,7 +38,7 @@ pub fn a_made_index_is_sound()
 /// 2^64 bytes: of names below its folder, in byte order and each once.
 pub fn a_made_package_is_sound()
     ensures { (command : CommandLine) (names : List (List ℕ)) (read : Reads) (bytes : List ℕ)
-        → AreNamesFor (values_of 70 command.values) names
+        → AreNamesFor (values_of FILES command.values) names
         → made_package command names read ≡ Ok bytes → length bytes < 2 ^ 64
         → container_fault bytes ≡ None }
 {

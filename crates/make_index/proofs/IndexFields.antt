@@ -1,7 +1,6 @@
 -- The fields of an object without zeros, as they are written one by one.
-use Rattle.std.proofs.Common.{◌≡◌, ℕ, suc, zero, false, List, refl, ap, sym, subst, ◌∙◌}
+use Rattle.std.proofs.Common.{◌≡◌, ℕ, suc, zero, false, List, refl, ap, sym, subst, ◌∙◌, ◌+◌, arith, inl, inr}
 use Rattle.std.specs.Prelude.{◌==◌, if◌then◌else◌}
-use Rattle.std.proofs.Common.{◌+◌, arith, inl, inr}
 use Rattle.std.proofs.lemmas.Bool.Decides.{eqb_tells}
 use Rattle.adb_view.specs.Plain.{Plain, null, int, blob, Plains, none, more, Shape, number, text, hash, array, object, Fields, no_fields, field, blob_value, obj_of, obj_value}
 use Rattle.adb_view.specs.Shaped.{HasShape, HaveShapes}

@@ -1,9 +1,7 @@
 -- An entry in a payload of its own.
-use Rattle.std.proofs.Common.{◌≡◌, ℕ, suc, zero, ◌+◌, ◌<◌, ◌≤◌, ◌^◌, Bool, true, false, List, [], ◌++◌, length, Option, Some, None, Result, Ok, Err, refl, ap, sym, subst, ◌∙◌, arith, true≢false}
-use Rattle.std.specs.Prelude.{is_some, is_none, unwrap_or, nat_lt, ◌||◌, IfSome, All}
-use Rattle.std.specs.Prelude.{if◌then◌else◌}
+use Rattle.std.proofs.Common.{◌≡◌, ℕ, suc, zero, ◌+◌, ◌<◌, ◌≤◌, ◌^◌, Bool, true, false, List, [], ◌++◌, length, Option, Some, None, Result, Ok, Err, refl, ap, sym, subst, ◌∙◌, arith, true≢false, length-append, get_or}
+use Rattle.std.specs.Prelude.{is_some, is_none, unwrap_or, nat_lt, ◌||◌, IfSome, All, if◌then◌else◌, Vec}
 use Rattle.std.proofs.lemmas.Bool.{ltb-false, le-ltb}
-use Rattle.std.proofs.Common.{length-append}
 use Rattle.base_core.specs.declared.cause.Cause.TheVariants.{Truncated}
 use Rattle.std.specs.Int.{w32, to_le_bytes}
 use Rattle.adb_view.specs.Head.{head_fault, root_of}
@@ -20,12 +18,10 @@ use Rattle.pkg_core.specs.Whole.{package_id}
 use Rattle.make_index.specs.Entries.{entry_of_package, entry_value}
 use Rattle.make_index.specs.Kept.{HoldsEntry, IsKeyed, copy_of_entry}
 use Rattle.version_core.specs.Order.{is_version}
-use Rattle.std.proofs.Common.{get_or}
 use Rattle.std.proofs.lemmas.List.{get_or_default}
 use Rattle.make_index.proofs.IndexAgain.{entry_again, entry_id, entry_name, entry_normal, entry_shape, entry_version}
 use Rattle.make_index.proofs.IndexRules.{package_version}
 use Rattle.sha2.specs.Sha256.{sha256}
-use Rattle.std.specs.Prelude.{Vec}
 use Rattle.std.specs.declared.alloc.Global.{Global}
 use Rattle.make_index.proofs.IndexShapes.{info_of_package, value_shape}
 use Rattle.make_index.proofs.IndexSound.{payload_all}

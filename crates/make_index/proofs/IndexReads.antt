@@ -1,16 +1,15 @@
 -- Packages that are read, operand by operand.
-use Rattle.std.proofs.Common.{◌≡◌, ℕ, zero, suc, ◌+◌, ◌<◌, ◌==◌, Bool, true, false, ◌&&◌, if◌then◌else◌, List, [], ◌∷◌, ◌++◌, length, drop, Option, Some, None, IfSome, Result, Ok, Err, refl, sym, ◌∙◌, ap, subst, arith, append_assoc, append-nil}
+use Rattle.std.proofs.Common.{◌≡◌, ℕ, zero, suc, ◌+◌, ◌<◌, ◌==◌, Bool, true, false, ◌&&◌, if◌then◌else◌, List, [], ◌∷◌, ◌++◌, length, drop, Option, Some, None, IfSome, Result, Ok, Err, refl, sym, ◌∙◌, ap, subst, arith, append_assoc, append-nil, ◌≤◌}
 use Rattle.std.proofs.lemmas.Bool.{eq-eqb, ne_eqb}
-use Rattle.std.proofs.Common.{◌≤◌}
 use Rattle.std.proofs.Math.ListN.{drop_of_length-le}
 use Rattle.std.specs.List.{slice_get}
 use Rattle.std.specs.Result.{IsErrAnd}
 use Rattle.base_core.specs.Calls.{IfObservable}
 use Rattle.base_core.specs.Tree.{TreeState, files_of}
 use Rattle.adb_view.specs.Plain.{Plain}
-use Rattle.command_core.specs.Operands.{are_files}
-use Rattle.command_core.specs.Files.{is_file}
-use Rattle.command_core.specs.Files.{without_dot}
+use Rattle.std.specs.Option.{option_map}
+use Rattle.command_core.specs.Operands.{are_files, file_of}
+use Rattle.command_core.specs.Files.{is_file, without_dot}
 use Rattle.command_core.specs.declared.operands.Operand.{Operand}
 use Rattle.make_index.specs.Index.{and_entries, found_entries, found_entry}
 use Rattle.make_index.specs.Kept.{IsMade, IsMadeBy}
@@ -28,14 +27,21 @@ by_made view (Err (TooLarge b v)) told h = h
 by_made view (Err Disk) told h = tt
 by_made view (Err Memory) told h = tt
 
-pub some_is : (x : Option (List ℕ)) (a b : List ℕ) → IfSome x (λ y. y ≡ b) → x ≡ Some a → a ≡ b
-some_is (Some y) a b h e = let same : y ≡ a = cc in sym same ∙ h
-some_is None a b h e = cc
+pub found_told : {A : Type 0} (view : A → Plain) (history : List TreeState) (r : Result A MakeFault) (place : ℕ) (name : List ℕ) (found : Option (List ℕ)) → IfObservable history (λ v. found ≡ files_of v name) → IsMade view r (found_entry place found)
+    → IfObservable history (λ v. IsMadeBy view r (found_entry place (files_of v name)))
+found_told view [] r place name found h made = tt
+found_told view (v ∷ earlier) r place name found h made =
+    by_made view r (found_entry place (files_of v name)) (subst (λ (o : Option (List ℕ)). IsMade view r (found_entry place o)) h made)
 
-pub found_told : {A : Type 0} (view : A → Plain) (history : List TreeState) (r : Result A MakeFault) (place : ℕ) (name text : List ℕ) (found : Option (List ℕ)) → IfObservable history (λ v. found ≡ files_of v name) → name ≡ text → IsMade view r (found_entry place found) → IfObservable history (λ v. IsMadeBy view r (found_entry place (files_of v text)))
-found_told view [] r place name text found h e made = tt
-found_told view (v ∷ earlier) r place name text found h e made =
-    by_made view r (found_entry place (files_of v text)) (subst (λ (o : Option (List ℕ)). IsMade view r (found_entry place o)) (h ∙ ap (files_of v) e) made)
+-- the file that an operand names
+pub operand_name : (os : List Operand) (i : ℕ) (o : Operand) (name : List ℕ) → slice_get os i ≡ Some o → option_map file_of (slice_get os i) ≡ Some name → name ≡ without_dot o.text
+operand_name os i o name at e =
+    let both : Some name ≡ Some (without_dot o.text) = sym e ∙ ap (option_map file_of) at in
+    cc (both)
+
+pub named_as : {A : Type 0} (view : A → Plain) (history : List TreeState) (r : Result A MakeFault) (place : ℕ) (file name : List ℕ) → file ≡ name
+    → IfObservable history (λ v. IsMadeBy view r (found_entry place (files_of v file))) → IfObservable history (λ v. IsMadeBy view r (found_entry place (files_of v name)))
+named_as view history r place file name e h = let P : List ℕ → Type 0 = λ f. IfObservable history (λ v. IsMadeBy view r (found_entry place (files_of v f))) in subst P e h
 
 -- ---- the operands
 
@@ -49,12 +55,6 @@ pub both_true : (a b : Bool) → a && b ≡ true → (a ≡ true) × (b ≡ true
 both_true true true h = (refl, refl)
 both_true true false h = cc
 both_true false b h = cc
-
-pub file_here : (os : List Operand) (i : ℕ) (o : Operand) → slice_get os i ≡ Some o → are_files (drop i os) ≡ true → is_file o.text ≡ true
-file_here os i o at all = (both_true (is_file o.text) (are_files (drop (i + 1) os)) (subst (λ (l : List Operand). are_files l ≡ true) (left_at os i o at) all)).0
-
-pub files_more : (os : List Operand) (i : ℕ) (o : Operand) → slice_get os i ≡ Some o → are_files (drop i os) ≡ true → are_files (drop (i + 1) os) ≡ true
-files_more os i o at all = (both_true (is_file o.text) (are_files (drop (i + 1) os)) (subst (λ (l : List Operand). are_files l ≡ true) (left_at os i o at) all)).1
 
 -- ---- entries in front of those that are left
 

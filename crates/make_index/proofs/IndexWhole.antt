@@ -1,10 +1,13 @@
 -- The index that a command asks for, over any tree.
-use Rattle.std.proofs.Common.{◌≡◌, ℕ, true, List, [], ◌∷◌, Option, Result, Ok, Err, refl, sym, ◌∙◌, ap, subst}
+use Rattle.std.proofs.Common.{◌≡◌, ℕ, true, List, [], ◌∷◌, Option, Result, Ok, Err, refl, sym, ◌∙◌, ap, subst, Bool, not, ◌&&◌, length}
+use Rattle.std.specs.Prelude.{nat_le}
 use Rattle.base_core.specs.Calls.{IfObservable}
 use Rattle.base_core.specs.Tree.{TreeState}
 use Rattle.adb_view.specs.Plain.{Plain}
-use Rattle.command_core.specs.Command.{CommandLine, IsCommand, is_plain, is_sound}
-use Rattle.command_core.specs.Operands.{are_files}
+use Rattle.command_core.specs.Command.{CommandLine, IsCommand}
+use Rattle.command_core.specs.Applets.{may_have, needed_option, operand_rule, value_rules}
+use Rattle.command_core.specs.Operands.{are_files, are_operands}
+use Rattle.command_core.specs.Values.{are_values, lacks_value}
 use Rattle.command_core.specs.declared.operands.Operand.{Operand}
 use Rattle.command_core.specs.declared.command.Applet.{Applet}
 use Rattle.command_core.specs.declared.command.Applet.TheVariants.{Mkndx}
@@ -18,8 +21,12 @@ use Rattle.make_index.proofs.IndexReads.{both_true, by_made}
 
 pub command_files : (command : CommandLine) → IsCommand command → command.applet ≡ Mkndx → are_files command.operands ≡ true
 command_files command h e =
-    let whole : is_sound Mkndx command.flags command.operands command.values ≡ true = subst (λ (a : Applet). is_sound a command.flags command.operands command.values ≡ true) e h in
-    (both_true (is_plain command.flags) (are_files command.operands) (both_true _ _ (both_true _ _ whole).1).0).1
+    let operands : Bool = are_operands (operand_rule command.applet command.flags) command.operands in
+    let values : Bool = are_values (value_rules command.applet) command.values in
+    let all : (may_have command.applet command.flags && operands && values) ≡ true = (both_true (may_have command.applet command.flags && operands && values) (not (lacks_value (needed_option command.applet) command.values)) h).0 in
+    let taken : operands ≡ true = (both_true (may_have command.applet command.flags) operands (both_true (may_have command.applet command.flags && operands) values all).0).1 in
+    let own : are_operands (operand_rule Mkndx command.flags) command.operands ≡ true = subst (λ (a : Applet). are_operands (operand_rule a command.flags) command.operands ≡ true) e taken in
+    (both_true (nat_le 0 (length command.operands) && true) (are_files command.operands) own).1
 
 made_all : {A : Type 0} (view : A → List ℕ) (d : List ℕ) (r : Result A MakeFault) (told : Result (List Plain) MakeFault) (es : List Plain) → told ≡ Ok es → IsMade view r (index_of d es) → IsMadeBy view r (index_of_found d told)
 made_all view d r told es e h = subst (λ (t : Result (List Plain) MakeFault). IsMadeBy view r (index_of_found d t)) (sym e) (by_made view r (index_of d es) h)

@@ -1,4 +1,5 @@
 -- What `mkndx` makes (apk(8)): an index of packages.
+use Rattle.command_core.specs.declared.values.TheConstants.{DESCRIPTION}
 use Rattle.std.specs.Prelude.{ℕ, ◌+◌, ◌==◌, List, [], ◌∷◌, Option, Some, None, Result, Ok, Err}
 use Rattle.std.specs.List.{find}
 use Rattle.base_core.specs.declared.cause.Cause.{Cause}
@@ -80,7 +81,7 @@ text_or_empty (Some v) = v.text
 
 -- the value of the first `-d`, or nothing
 abbrev pub description_in : List OptionValue → List ℕ
-description_in values = text_or_empty (find (λ (v : OptionValue). v.letter == 100) values)
+description_in values = text_or_empty (find (λ (v : OptionValue). v.letter == DESCRIPTION) values)
 
 -- the container's bytes, or the first refusal, by what each read finds under a name; reads are
 -- numbered from 0

@@ -14,12 +14,12 @@ ghost use Rattle.std.specs.Prelude.{◌≡◌, Some, None, IfOk, IfErr, IfSome, 
 ghost use Rattle.version_core.specs.Order.{is_version, version_cmp};
 ghost use Rattle.adb_schema.specs.declared.schema.Which.TheVariants as Tables;
 
+use crate::source::{EntryPayload, EntrySource, PackageFile, entry_payload};
 use adb_view::{Val, values_are_normal};
 use adb_write::{Writer, a_canonical_payload_is_read_back, a_value_overflows_exactly_past_a_limit};
 use base_core::Cause;
-use crate::source::{EntryPayload, EntrySource, PackageFile, entry_payload};
-use pkg_core::{Package, PackageFault, a_package_is_tested_by_its_values_and_then_its_files};
 use make_info::MakeFault;
+use pkg_core::{Package, PackageFault, a_package_is_tested_by_its_values_and_then_its_files};
 use std::alloc::{AllocError, Global};
 use std::cmp::Ordering;
 use version_core::Version;

@@ -23,8 +23,6 @@ ghost use Rattle.make_info.specs.Values.{plains_of};
 ghost use Rattle.std.specs.Prelude.{◌≡◌, ◌≤◌, Ok, IfOk, IfErr, length, map, ◌<◌, ◌^◌, ℕ, List, All, true, None, ◌++◌, ◌∷◌, [], Option, IfSome, IsTrue};
 ghost use Rattle.version_core.specs.Order.{is_version};
 ghost use Rattle.command_core.specs.Operands.{are_files};
-ghost use Rattle.command_core.specs.Files.{is_file};
-ghost use Rattle.command_core.specs.Files.{without_dot};
 
 use crate::entry::Entry;
 use adb_schema::INDEX_WORD;
@@ -33,13 +31,10 @@ use adb_write::{
     Writer, a_value_written_depth_first_is_canonical, file_of, values_are_written_depth_first,
 };
 use base_core::{Name, Tree, read_all};
+use command_core::{Applet, Command, DESCRIPTION, Operands, Values};
 use make_info::MakeFault;
 use std::alloc::{AllocError, Global};
 use version_core::order_is_total;
-use command_core::{Applet, Command, Operand, Operands, Values};
-
-/// The letter of the option that gives a description.
-const DESCRIPTION: u8 = b'd';
 
 /// Makes an index of the packages that the operands of a command name: the container's bytes. Each
 /// package passes all its tests. The tree stays as it is, whatever the answer.
@@ -89,7 +84,8 @@ fn read_entries<T: Tree>(
 {
     let mut entries = Vec::new(alloc);
     for i in 0..operands.len() {
-        let entry = read_entry(alloc, operands.get(i), tree)?;
+        let place = operands.get(i).place;
+        let entry = read_entry(alloc, place, operands.file(i), tree)?;
         add_entry(&mut entries, entry)?;
     }
     Ok(entries)
@@ -104,22 +100,23 @@ fn add_entry(entries: &mut Vec<Entry>, entry: Entry) -> Result<(), AllocError>
     Ok(())
 }
 
-/// Reads the package that an operand names, and makes all tests of it.
-fn read_entry<T: Tree>(alloc: Global, operand: &Operand, tree: &mut T) -> Result<Entry, MakeFault>
-    requires { IsTrue (is_file operand.now.text) }
+/// Reads the package in the file of this name, and makes all tests of it. The operand at a place names
+/// it.
+fn read_entry<T: Tree>(
+    alloc: Global,
+    place: u32,
+    file: &Name,
+    tree: &mut T,
+) -> Result<Entry, MakeFault>
     ensures made { IfObservable (T.history tree.old) (λ v.
-        IsMadeBy entry_view result
-        (found_entry operand.now.place (files_of v (without_dot operand.now.text)))) }
+        IsMadeBy entry_view result (found_entry place (files_of v file.now))) }
     ensures found { (found : Option (List ℕ)) × IfSome found IsFile
-        × IsMadeBy entry_view result (found_entry operand.now.place found) }
+        × IsMadeBy entry_view result (found_entry place found) }
     ensures tree { OnlyReads MakeFault.Disk (T.history tree.old) (T.history tree.new)
         (T.counts tree.old) (T.counts tree.new) result }
 {
-    let Some(file) = Name::read(alloc, operand.file())? else {
-        unreachable!()
-    };
-    let found = read_all(alloc, tree, &file)?;
-    entry_of(alloc, operand.place, found)
+    let found = read_all(alloc, tree, file)?;
+    entry_of(alloc, place, found)
 }
 
 /// The entry of what was found.
@@ -138,11 +135,7 @@ fn entry_of(alloc: Global, place: u32, found: Option<Vec<u8>>) -> Result<Entry, 
 /// # Errors
 ///
 /// `TooLarge` where the payload passes a limit of the writer, or `Memory`.
-fn index_file(
-    alloc: Global,
-    description: &[u8],
-    entries: Vec<Entry>,
-) -> Result<Vec<u8>, MakeFault>
+fn index_file(alloc: Global, description: &[u8], entries: Vec<Entry>) -> Result<Vec<u8>, MakeFault>
     ensures { IsMade (λ file. file.items) result
         (index_of description.now (map entry_view entries.items)) }
 {

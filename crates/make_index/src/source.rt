@@ -11,10 +11,10 @@ ghost use Rattle.std.specs.Prelude.{◌≡◌, true, is_none, ◌<◌, ◌^◌, 
 ghost use Rattle.adb_schema.specs.declared.schema.Kind.TheVariants as Kinds;
 ghost use Rattle.adb_schema.specs.declared.schema.Which.TheVariants as Tables;
 
+use crate::writing::write_info;
 use adb_schema::{PkgInfo, View};
 use adb_view::{Adb, Val};
 use adb_write::{WriteFault, Writer, a_value_written_depth_first_is_canonical};
-use crate::writing::write_info;
 use pkg_core::{Package, PackageFault};
 use std::alloc::{AllocError, Global};
 
@@ -23,9 +23,7 @@ use std::alloc::{AllocError, Global};
 pub(crate) struct EntryPayload {
     pub(crate) payload: Vec<u8>,
     ghost head: { is_none (head_fault payload.items) ≡ true },
-    ghost sound: {
-        is_sound payload.items (Kinds.Obj Tables.PkgInfo) (root_of payload.items) ≡ true
-    },
+    ghost sound: { is_sound payload.items (Kinds.Obj Tables.PkgInfo) (root_of payload.items) ≡ true },
 }
 
 /// The file of a package.
@@ -60,7 +58,6 @@ impl EntrySource {
 }
 
 impl EntryPayload {
-
     /// Writes the entry.
     fn write(&self, alloc: Global, writer: &mut Writer) -> Result<Val, AllocError>
         ensures { IfOk result (λ word. Writes writer.old

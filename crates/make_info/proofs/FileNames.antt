@@ -5,16 +5,30 @@ use Rattle.std.specs.List.{list_all, list_any, slice_split, onto_first}
 use Rattle.std.specs.Option.{option_and_then}
 use Rattle.std.specs.Str.{bytes_eq}
 use Rattle.std.specs.Cmp.Lexicographic.{bytes_decides}
+use Rattle.std.proofs.lemmas.List.Folds.{list_all-append}
 use Rattle.std.proofs.lemmas.Bool.{and_parts, and_from, lt-ltb, ltb-true}
 use Rattle.std.proofs.lemmas.Bool.Decides.{nat_tests}
 use Rattle.std.proofs.lemmas.Str.{IsUtf8-from_ascii, is_utf8-from_IsUtf8}
 use Rattle.base_core.specs.Name.{is_name, is_part, parts_of}
 use Rattle.dep_core.specs.Dependency.{begins_with_punctuation, is_dep_name, is_mark, is_name_byte, is_package_name}
+use Rattle.version_core.specs.Grammar.{is_version_byte}
 use Rattle.version_core.specs.Order.{is_version}
 use Rattle.command_core.specs.declared.values.OptionValue.{OptionValue}
 use Rattle.make_info.specs.declared.field.Field.TheVariants as Fields
 use Rattle.make_info.specs.FieldTexts.{first_text_for, if_passes, package_name, default_output, package_file_name, package_file_name_of, package_version}
-use Rattle.make_info.proofs.VersionBytes.{AreSpelled, all-append, all-imp, is_version_byte, version-bytes}
+
+-- what the layer of versions says of them
+abbrev pub HaveVersionBytes : Type 0
+HaveVersionBytes = (text : List ℕ) → is_version text ≡ true → list_all is_version_byte text ≡ true
+
+all-imp : (P Q : ℕ → Bool) → ((b : ℕ) → P b ≡ true → Q b ≡ true) → (xs : List ℕ) → list_all P xs ≡ true → list_all Q xs ≡ true
+all-imp P Q imp [] h = refl
+all-imp P Q imp (x ∷ xs) h =
+    let parts : (P x ≡ true) × (list_all P xs ≡ true) = and_parts (P x) (list_all P xs) h in
+    and_from (Q x) (list_all Q xs) (imp x parts.0) (all-imp P Q imp xs parts.1)
+
+all-append : (P : ℕ → Bool) (xs ys : List ℕ) → list_all P xs ≡ true → list_all P ys ≡ true → list_all P (xs ++ ys) ≡ true
+all-append P xs ys hx hy = list_all-append P xs ys ∙ and_from (list_all P xs) (list_all P ys) hx hy
 
 -- printable, and no slash
 abbrev pub is_file_byte : ℕ → Bool
@@ -105,10 +119,10 @@ file_name xs h long short =
     ap (list_all is_part) (one_part (λ b. eqb b 47) xs (none_is 47 not_slash xs h)) ∙ and_from (is_part xs) true (is_a_part xs long) refl in
     and_from _ _ (and_from _ _ (and_from _ _ (and_from _ _ some fits) no_zero) (is_utf8-from_IsUtf8 xs (IsUtf8-from_ascii xs (ascii xs h)))) parts
 
-package_file_name : AreSpelled → (name version : List ℕ) → is_package_name name ≡ true → is_version version ≡ true → length (package_file_name name version) ≤ 1016 → is_name (package_file_name name version) ≡ true
-package_file_name spelled name version n v short =
+package_file_is_name : HaveVersionBytes → (name version : List ℕ) → is_package_name name ≡ true → is_version version ≡ true → length (package_file_name name version) ≤ 1016 → is_name (package_file_name name version) ≡ true
+package_file_is_name spelled name version n v short =
     let named = package_name_bytes name n in
-    let versioned : list_all is_file_byte version ≡ true = all-imp is_version_byte is_file_byte version_byte version (version-bytes spelled version v) in
+    let versioned : list_all is_file_byte version ≡ true = all-imp is_version_byte is_file_byte version_byte version (spelled version v) in
     let bytes : list_all is_file_byte (package_file_name name version) ≡ true =
     all-append is_file_byte name (45 ∷ version ++ codes ".apk") named.0 (all-append is_file_byte (45 ∷ version) (codes ".apk") versioned refl) in
     let whole = length-append name (45 ∷ version ++ codes ".apk") in
@@ -125,13 +139,13 @@ good : (p : List ℕ → Bool) (o : Option (List ℕ)) (x : List ℕ) → option
 good p None x h = cc
 good p (Some y) x h = by_good p (p y) y x refl h
 
-both_given : AreSpelled → (name version : Option (List ℕ)) (file : List ℕ) → ((x : List ℕ) → name ≡ Some x → is_package_name x ≡ true) → ((x : List ℕ) → version ≡ Some x → is_version x ≡ true) → package_file_name_of name version ≡ Some file → length file ≤ 1016 → is_name file ≡ true
+both_given : HaveVersionBytes → (name version : Option (List ℕ)) (file : List ℕ) → ((x : List ℕ) → name ≡ Some x → is_package_name x ≡ true) → ((x : List ℕ) → version ≡ Some x → is_version x ≡ true) → package_file_name_of name version ≡ Some file → length file ≤ 1016 → is_name file ≡ true
 both_given spelled None version file n v h short = cc
 both_given spelled (Some name) None file n v h short = cc
 both_given spelled (Some name) (Some version) file n v h short =
     let same : package_file_name name version ≡ file = cc in
-    subst (λ f. is_name f ≡ true) same (package_file_name spelled name version (n name refl) (v version refl) (subst (λ f. length f ≤ 1016) (sym same) short))
+    subst (λ f. is_name f ≡ true) same (package_file_is_name spelled name version (n name refl) (v version refl) (subst (λ f. length f ≤ 1016) (sym same) short))
 
-pub own_file_name : AreSpelled → (values : List OptionValue) (file : List ℕ) → default_output values ≡ Some file → length file ≤ 1016 → is_name file ≡ true
+pub own_file_name : HaveVersionBytes → (values : List OptionValue) (file : List ℕ) → default_output values ≡ Some file → length file ≤ 1016 → is_name file ≡ true
 own_file_name spelled values file h short =
     both_given spelled (package_name values) (package_version values) file (λ x e. good is_package_name (first_text_for Fields.Name values) x e) (λ x e. good is_version (first_text_for Fields.Version values) x e) h short

@@ -6,5 +6,4 @@ pub mod Outputs
 pub mod Reading
 pub mod Saying
 pub mod Seeing
-pub mod VersionBytes
 pub mod Written

@@ -1,4 +1,5 @@
 -- What the output is called.
+use Rattle.command_core.specs.declared.values.TheConstants.{OUTPUT}
 use Rattle.std.proofs.Common.{◌≡◌, ℕ, ◌≤◌, Bool, true, false, not, cond, List, [], ◌∷◌, ◌++◌, length, Option, Some, None, Result, Ok, Err, refl, sym, ◌∙◌, ap, subst, arith}
 use Rattle.std.specs.Prelude.{IfOk, IfSome, is_ok, is_some, nat_lt, nat_le, ◌&&◌, ◌||◌}
 use Rattle.std.specs.List.{find, list_all}
@@ -7,47 +8,51 @@ use Rattle.std.proofs.lemmas.Bool.{and_parts, ltb-false}
 use Rattle.std.proofs.lemmas.Bool.Decides.{nat_tests}
 use Rattle.base_core.specs.Name.{is_name}
 use Rattle.version_core.specs.Order.{is_version}
-use Rattle.words_core.specs.Applets.{Entry, row_of, rule_of}
-use Rattle.command_core.specs.Command.{CommandLine, IsCommand, is_sound_line}
-use Rattle.command_core.specs.Values.{are_apart}
-use Rattle.command_core.specs.Values.{is_value_by}
-use Rattle.command_core.specs.Values.{are_values}
-use Rattle.command_core.specs.Files.{is_file}
-use Rattle.command_core.specs.Files.{without_dot}
+use Rattle.command_core.specs.Applets.{may_have, needed_option, operand_rule, value_rules}
+use Rattle.command_core.specs.Operands.{are_operands}
+use Rattle.command_core.specs.declared.values.ValueRule.{ValueRule}
+use Rattle.command_core.specs.Command.{CommandLine, IsCommand}
+use Rattle.command_core.specs.Values.{are_apart, is_value_by, are_values, lacks_value}
+use Rattle.command_core.specs.Files.{is_file, without_dot}
 use Rattle.command_core.specs.declared.command.Applet.{Applet}
-use Rattle.command_core.specs.declared.command.Applet.TheVariants.{Adbdump, Mkndx, Mkpkg, Verify, Version}
+use Rattle.command_core.specs.declared.command.Applet.TheVariants.{Add, Adbdump, Del, Demo, Fix, Info, Mkndx, Mkpkg, Upgrade, Verify, Version}
 use Rattle.command_core.specs.declared.values.OptionValue.{OptionValue}
 use Rattle.make_info.specs.declared.field.Field.{Field}
 use Rattle.make_info.specs.declared.field.Field.TheVariants as Fields
 use Rattle.make_info.specs.FieldTexts.{FieldText, file_name_in, first_text_for, field_text_in, if_passes, info_options, is_for, is_text_for, is_info_option, is_long_name, is_output_option, is_too_long, package_name, named_output, default_output, package_file_name_of, text_for, text_when_for}
 use Rattle.make_info.specs.Information.{InfoItem, all_items, first_offence, information, information_of, is_second, items_of_option, lacks_name_or_version, offends, unless_offence}
 use Rattle.make_info.specs.Output.{if_allowed, is_mkpkg, output_name, package_output}
-use Rattle.make_info.proofs.FileNames.{own_file_name}
-use Rattle.make_info.proofs.VersionBytes.{AreSpelled}
+use Rattle.make_info.proofs.FileNames.{HaveVersionBytes, own_file_name}
 
 -- ---- a named output is a name
 
-abbrev pub IsAllowedOutput : List Entry → List ℕ → Type 0
-IsAllowedOutput options file = (text : List ℕ) × (is_value_by (rule_of options 111) text ≡ true) × (without_dot text ≡ file)
+abbrev pub IsAllowedOutput : List ValueRule → List ℕ → Type 0
+IsAllowedOutput options file = (text : List ℕ) × (is_value_by (rule_for options OUTPUT) text ≡ true) × (without_dot text ≡ file)
 
 some_is : (x y : List ℕ) → Some x ≡ Some y → x ≡ y
 some_is x y h = cc
 
-by_letter : (options : List Entry) (v : OptionValue) (vs : List OptionValue) (file : List ℕ) (b : Bool) → is_output_option v ≡ b → are_values options (v ∷ vs) ≡ true → option_map file_name_in (cond b (Some v) (find is_output_option vs)) ≡ Some file → (option_map file_name_in (find is_output_option vs) ≡ Some file → IsAllowedOutput options file) → IsAllowedOutput options file
+by_letter : (options : List ValueRule) (v : OptionValue) (vs : List OptionValue) (file : List ℕ) (b : Bool) → is_output_option v ≡ b → are_values options (v ∷ vs) ≡ true → option_map file_name_in (cond b (Some v) (find is_output_option vs)) ≡ Some file → (option_map file_name_in (find is_output_option vs) ≡ Some file → IsAllowedOutput options file) → IsAllowedOutput options file
 by_letter options v vs file true is h e later =
-    let letter : v.letter ≡ 111 = grind (arith, nat_tests) in
-    let first : is_value_by (rule_of options v.letter) v.text ≡ true =
-    (and_parts (is_value_by (rule_of options v.letter) v.text) (list_all (are_apart options v) vs) (and_parts (is_value_by (rule_of options v.letter) v.text && list_all (are_apart options v) vs) (are_values options vs) h).0).0 in
-    (v.text, subst (λ n. is_value_by (rule_of options n) v.text ≡ true) letter first, some_is _ _ e)
+    let letter : v.letter ≡ OUTPUT = grind (arith, nat_tests) in
+    let first : is_value_by (rule_for options v.letter) v.text ≡ true =
+    (and_parts (is_value_by (rule_for options v.letter) v.text) (list_all (are_apart options v) vs) (and_parts (is_value_by (rule_for options v.letter) v.text && list_all (are_apart options v) vs) (are_values options vs) h).0).0 in
+    (v.text, subst (λ n. is_value_by (rule_for options n) v.text ≡ true) letter first, some_is _ _ e)
 by_letter options v vs file false is h e later = later e
 
-pub allowed_output : (options : List Entry) (vs : List OptionValue) (file : List ℕ) → are_values options vs ≡ true → named_output vs ≡ Some file → IsAllowedOutput options file
+pub allowed_output : (options : List ValueRule) (vs : List OptionValue) (file : List ℕ) → are_values options vs ≡ true → named_output vs ≡ Some file → IsAllowedOutput options file
 allowed_output options [] file h e = cc
 allowed_output options (v ∷ vs) file h e =
     by_letter options v vs file (is_output_option v) refl h e
-    (allowed_output options vs file (and_parts (is_value_by (rule_of options v.letter) v.text && list_all (are_apart options v) vs) (are_values options vs) h).1)
+    (allowed_output options vs file (and_parts (is_value_by (rule_for options v.letter) v.text && list_all (are_apart options v) vs) (are_values options vs) h).1)
 
-by_applet : (applet : Applet) (file : List ℕ) → IsAllowedOutput (row_of applet).options file → is_name file ≡ true
+by_applet : (applet : Applet) (file : List ℕ) → IsAllowedOutput (value_rules applet) file → is_name file ≡ true
+by_applet Add file a = cc
+by_applet Del file a = cc
+by_applet Upgrade file a = cc
+by_applet Fix file a = cc
+by_applet Info file a = cc
+by_applet Demo file a = cc
 by_applet Verify file a = cc
 by_applet Version file a = cc
 by_applet Adbdump file a = cc
@@ -56,9 +61,16 @@ by_applet Mkpkg file a =
 by_applet Mkndx file a =
     subst (λ f. is_name f ≡ true) a.2 (and_parts (is_file a.0) (nat_le (length (without_dot a.0)) 1016) a.1).0
 
+-- the values of a command are ones of its applet
+pub values_are : (command : CommandLine) → IsCommand command → are_values (value_rules command.applet) command.values ≡ true
+values_are command h =
+    let operands : Bool = may_have command.applet command.flags && are_operands (operand_rule command.applet command.flags) command.operands in
+    let values : Bool = are_values (value_rules command.applet) command.values in
+    (and_parts operands values (and_parts (operands && values) (not (lacks_value (needed_option command.applet) command.values)) h).0).1
+
 pub named_is_name : (command : CommandLine) (file : List ℕ) → IsCommand command → named_output command.values ≡ Some file → is_name file ≡ true
 named_is_name command file is h =
-    by_applet command.applet file (allowed_output (row_of command.applet).options command.values file (and_parts (are_values (row_of command.applet).options command.values) (is_sound_line command.applet command.flags command.operands command.values) is).0 h)
+    by_applet command.applet file (allowed_output (value_rules command.applet) command.values file (values_are command is) h)
 
 -- ---- a name that is read
 
@@ -147,7 +159,7 @@ named_case r command file is good h when value =
     read_name r file (package_output command) when value (named_is_name command file is h)
     (sym (allowed (information command) (option_or (named_output command.values) (default_output command.values)) good ∙ ap (λ o. option_or o (default_output command.values)) h))
 
-pub own_case : {E : Type 0} (r : Result (Option (List ℕ)) E) (command : CommandLine) (file : List ℕ) → AreSpelled → is_ok (information command) ≡ true → named_output command.values ≡ None → default_output command.values ≡ Some file → IfOk r (λ found. is_some found ≡ is_name file) → IfOk r (λ found. IfSome found (λ name. name ≡ file)) → IfOk r (λ name. name ≡ package_output command)
+pub own_case : {E : Type 0} (r : Result (Option (List ℕ)) E) (command : CommandLine) (file : List ℕ) → HaveVersionBytes → is_ok (information command) ≡ true → named_output command.values ≡ None → default_output command.values ≡ Some file → IfOk r (λ found. is_some found ≡ is_name file) → IfOk r (λ found. IfSome found (λ name. name ≡ file)) → IfOk r (λ name. name ≡ package_output command)
 own_case r command file spelled good n o when value =
     read_name r file (package_output command) when value (own_file_name spelled command.values file o (own_fits command.values command.behind file good n o))
     (sym (allowed (information command) (option_or (named_output command.values) (default_output command.values)) good ∙ (ap (λ x. option_or x (default_output command.values)) n ∙ o)))

@@ -1,4 +1,5 @@
 -- The values of `-I` of a command: which field each is for, and the package's name and version among them.
+use Rattle.command_core.specs.declared.values.TheConstants.{INFO, OUTPUT}
 use Rattle.std.specs.Prelude.{ℕ, ◌+◌, ◌==◌, nat_lt, Bool, false, List, [], ◌∷◌, ◌++◌, length, take, drop, position, codes, Option, Some, None, option_map, option_and_then, is_some, not, ◌&&◌, if◌then◌else◌}
 use Rattle.std.specs.List.{filter, find}
 use Rattle.std.specs.Option.{option_or}
@@ -36,7 +37,7 @@ abbrev pub is_for : Field → OptionValue → Bool
 is_for f v = is_text_for f (field_text_in v.text)
 
 abbrev pub is_info_option : OptionValue → Bool
-is_info_option v = v.letter == 73
+is_info_option v = v.letter == INFO
 
 -- the values of `-I`, in the order given
 abbrev pub info_options : List OptionValue → List OptionValue
@@ -77,7 +78,7 @@ abbrev pub default_output : List OptionValue → Option (List ℕ)
 default_output values = package_file_name_of (package_name values) (package_version values)
 
 abbrev pub is_output_option : OptionValue → Bool
-is_output_option v = v.letter == 111
+is_output_option v = v.letter == OUTPUT
 
 abbrev pub file_name_in : OptionValue → List ℕ
 file_name_in v = without_dot v.text

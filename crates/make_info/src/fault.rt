@@ -57,7 +57,6 @@ impl From<TreeFault> for MakeFault {
 }
 
 impl From<WriteFault> for MakeFault {
-
     ghost from_gives = { λ write fault. IsMakeFaultBy write fault };
 
     fn from(fault: WriteFault) -> MakeFault {

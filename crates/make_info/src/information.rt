@@ -14,12 +14,12 @@ ghost use Rattle.std.specs.Prelude.{◌≡◌, ◌==◌, ◌<◌, length, positi
 use crate::fault::MakeFault;
 use crate::field::{Field, Kind, read_number};
 use crate::output::is_too_long;
+use command_core::{Command, Values};
 use dep_core::{Dep, is_package_name, read_dep};
 use hex::FromHexError;
 use std::alloc::{AllocError, Global};
 use std::marker::Model;
 use version_core::Version;
-use command_core::{Command, Values};
 
 /// A field, and the value that is given for it.
 #[derive(Clone, Copy)]
@@ -104,7 +104,11 @@ fn read_values<'a>(
 
 // Adds what a value says. False: it offends.
 #[tactic(auto, unfolding(crate::specs::Reading::items_with))]
-fn add_value<'a>(entries: &mut Items<'a>, text: &'a [u8], too_long: bool) -> Result<bool, AllocError>
+fn add_value<'a>(
+    entries: &mut Items<'a>,
+    text: &'a [u8],
+    too_long: bool,
+) -> Result<bool, AllocError>
     ensures { IfOk result (λ good. (if good then Some entries.new else None) ≡ items_with too_long entries.old text.entry.now) }
 {
     let Some(given) = FieldText::of(text) else {

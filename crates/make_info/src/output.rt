@@ -7,14 +7,14 @@ ghost use Rattle.std.specs.Prelude.{◌≡◌, ◌||◌, IfOk, is_ok, ◌≤◌,
 ghost use Rattle.command_core.specs.Command.{CommandLine, IsCommand};
 ghost use Rattle.command_core.specs.declared.command.Applet.TheVariants.{Mkndx, Mkpkg};
 
-use base_core::Name;
 use crate::fault::MakeFault;
 use crate::field::Field;
 use crate::information::{FieldText, read_information};
+use base_core::Name;
+use command_core::{Applet, Command, OptionValue, Values};
 use dep_core::is_package_name;
 use std::alloc::{AllocError, Global};
-use version_core::{Version, read_is_spelled};
-use command_core::{Applet, Command, OptionValue, Values};
+use version_core::{Version, versions_have_version_bytes};
 
 /// How long a file's name may be, so that a scratch name beside it is a name too.
 const LONGEST_OUTPUT: usize = 1016;
@@ -141,7 +141,7 @@ fn package_output(alloc: Global, command: &Command) -> Result<Option<Name>, Allo
     if let Some(file) = named_output(command.values()) {
         return Name::read(alloc, file);
     }
-    read_is_spelled();
+    versions_have_version_bytes();
     match default_output(alloc, command.values())? {
         Some(file) => Name::read(alloc, &file),
         None => Ok(None),

@@ -9,10 +9,10 @@ ghost use Rattle.make_info.specs.Values.{number_value, size_value};
 ghost use Rattle.make_info.specs.Views.{value_view};
 ghost use Rattle.std.specs.Prelude.{◌≡◌, IfOk};
 
-use adb_view::Val;
-use adb_write::{Writer, values_are_written_depth_first};
 use crate::field::Field;
 use crate::information::{Information, Items, Value};
+use adb_view::Val;
+use adb_write::{Writer, values_are_written_depth_first};
 use dep_core::Dep;
 use std::alloc::AllocError;
 

@@ -1,7 +1,10 @@
 -- The parts of a package that a command asks for.
-use Rattle.std.proofs.Common.{◌≡◌, ℕ, zero, suc, ◌+◌, ◌≤◌, Bool, true, false, cond, eqb, ◌&&◌, List, [], ◌∷◌, ◌++◌, length, drop, map, codes, sum_by, Option, Some, None, Result, Ok, Err, Vec, Bor, refl, sym, ap, ◌∙◌, subst, arith, append_assoc, append-nil}
+use Rattle.command_core.specs.declared.values.TheConstants.{FILES, SCRIPT, TRIGGER}
+use Rattle.std.proofs.Common.{◌≡◌, ℕ, zero, suc, ◌+◌, ◌≤◌, Bool, true, false, cond, eqb, ◌&&◌, List, [], ◌∷◌, ◌++◌, length, drop, map, codes, sum_by, Option, Some, None, Result, Ok, Err, Vec, Bor, refl, sym, ap, ◌∙◌, subst, arith, append_assoc, append-nil, not}
 use Rattle.std.specs.Int.{w32, to_le_bytes}
 use Rattle.std.specs.List.{flat_map, list_all, list_any, slice_get}
+use Rattle.std.specs.Option.{option_map}
+use Rattle.std.specs.Prelude.{IfSome}
 use Rattle.std.specs.Result.{IsErrAnd}
 use Rattle.std.specs.Str.{bytes_eq}
 use Rattle.std.specs.declared.alloc.Global.{Global}
@@ -16,13 +19,12 @@ use Rattle.adb_schema.specs.declared.read.TheConstants.{PACKAGE_WORD}
 use Rattle.adb_write.specs.Canonical.{Counts, canonical, or_overflow, overflow_of, written_of}
 use Rattle.adb_write.specs.File.{adb_piece, file_of}
 use Rattle.pkg_core.specs.Contents.{Contents}
-use Rattle.words_core.specs.Applets.{Entry, row_of, rule_of}
-use Rattle.command_core.specs.Command.{CommandLine, IsCommand, is_sound, is_sound_line}
-use Rattle.command_core.specs.Values.{are_apart}
-use Rattle.command_core.specs.Values.{is_value_by}
-use Rattle.command_core.specs.Values.{are_values}
-use Rattle.command_core.specs.Values.{script_file, script_type, script_types}
-use Rattle.command_core.specs.Files.{is_file}
+use Rattle.command_core.specs.Applets.{may_have, needed_option, operand_rule, value_rules}
+use Rattle.command_core.specs.Operands.{are_operands}
+use Rattle.command_core.specs.declared.values.ValueRule.{ValueRule}
+use Rattle.command_core.specs.Command.{CommandLine, IsCommand}
+use Rattle.command_core.specs.Values.{value_of, are_apart, lacks_value, is_value_by, are_values, script_file, script_type, script_types}
+use Rattle.command_core.specs.Files.{is_file, without_dot}
 use Rattle.command_core.specs.declared.command.Applet.{Applet}
 use Rattle.command_core.specs.declared.command.Applet.TheVariants.{Mkpkg}
 use Rattle.command_core.specs.declared.values.OptionValue.{OptionValue}
@@ -52,40 +54,102 @@ left_at (y ∷ xs) (suc i) x e =
 
 -- ---- the values of a command
 
-pub values_allowed : (command : CommandLine) (values : List OptionValue) → IsCommand command → command.applet ≡ Mkpkg → values ≡ command.values → are_values (row_of Mkpkg).options values ≡ true
+-- the values of a command are ones of its applet
+pub values_are : (command : CommandLine) → IsCommand command → are_values (value_rules command.applet) command.values ≡ true
+values_are command h =
+    let operands : Bool = may_have command.applet command.flags && are_operands (operand_rule command.applet command.flags) command.operands in
+    let values : Bool = are_values (value_rules command.applet) command.values in
+    (and_parts operands values (and_parts (operands && values) (not (lacks_value (needed_option command.applet) command.values)) h).0).1
+
+pub values_allowed : (command : CommandLine) (values : List OptionValue) → IsCommand command → command.applet ≡ Mkpkg → values ≡ command.values → are_values (value_rules Mkpkg) values ≡ true
 values_allowed command values h e is =
-    let sound : is_sound Mkpkg command.flags command.operands command.values ≡ true = subst (λ (a : Applet). is_sound a command.flags command.operands command.values ≡ true) e h in
-    ap (are_values (row_of Mkpkg).options) is ∙ (and_parts (are_values (row_of Mkpkg).options command.values) (is_sound_line Mkpkg command.flags command.operands command.values) sound).0
+    let own : are_values (value_rules Mkpkg) command.values ≡ true = subst (λ (a : Applet). are_values (value_rules a) command.values ≡ true) e (values_are command h) in
+    ap (are_values (value_rules Mkpkg)) is ∙ own
 
-first_two : (options : List Entry) (v : OptionValue) (vs : List OptionValue) → are_values options (v ∷ vs) ≡ true → (is_value_by (rule_of options v.letter) v.text ≡ true) × (are_values options vs ≡ true)
+first_two : (options : List ValueRule) (v : OptionValue) (vs : List OptionValue) → are_values options (v ∷ vs) ≡ true → (is_value_by (rule_for options v.letter) v.text ≡ true) × (are_values options vs ≡ true)
 first_two options v vs h =
-    let parts = and_parts (is_value_by (rule_of options v.letter) v.text && list_all (are_apart options v) vs) (are_values options vs) h in
-    ((and_parts (is_value_by (rule_of options v.letter) v.text) (list_all (are_apart options v) vs) parts.0).0, parts.1)
+    let parts = and_parts (is_value_by (rule_for options v.letter) v.text && list_all (are_apart options v) vs) (are_values options vs) h in
+    ((and_parts (is_value_by (rule_for options v.letter) v.text) (list_all (are_apart options v) vs) parts.0).0, parts.1)
 
-value_allowed : (options : List Entry) (vs : List OptionValue) (i : ℕ) (v : OptionValue) → are_values options vs ≡ true → slice_get vs i ≡ Some v → is_value_by (rule_of options v.letter) v.text ≡ true
+value_allowed : (options : List ValueRule) (vs : List OptionValue) (i : ℕ) (v : OptionValue) → are_values options vs ≡ true → slice_get vs i ≡ Some v → is_value_by (rule_for options v.letter) v.text ≡ true
 value_allowed options [] i v h e = cc
 value_allowed options (u ∷ us) zero v h e =
-    let same : u ≡ v = cc in subst (λ (w : OptionValue). is_value_by (rule_of options w.letter) w.text ≡ true) same (first_two options u us h).0
+    let same : u ≡ v = cc in subst (λ (w : OptionValue). is_value_by (rule_for options w.letter) w.text ≡ true) same (first_two options u us h).0
 value_allowed options (u ∷ us) (suc i) v h e = value_allowed options us i v (first_two options u us h).1 e
 
 -- the value of the option for scripts gives a file
-pub script_allowed : (vs : List OptionValue) (i : ℕ) (v : OptionValue) → are_values (row_of Mkpkg).options vs ≡ true → slice_get vs i ≡ Some v → v.letter ≡ 115 → is_file (script_file v.text) ≡ true
+pub script_allowed : (vs : List OptionValue) (i : ℕ) (v : OptionValue) → are_values (value_rules Mkpkg) vs ≡ true → slice_get vs i ≡ Some v → v.letter ≡ SCRIPT → is_file (script_file v.text) ≡ true
 script_allowed vs i v h at e =
-    let good : is_value_by (rule_of (row_of Mkpkg).options 115) v.text ≡ true =
-    subst (λ (l : ℕ). is_value_by (rule_of (row_of Mkpkg).options l) v.text ≡ true) e (value_allowed (row_of Mkpkg).options vs i v h at) in
+    let good : is_value_by (rule_for (value_rules Mkpkg) SCRIPT) v.text ≡ true =
+    subst (λ (l : ℕ). is_value_by (rule_for (value_rules Mkpkg) l) v.text ≡ true) e (value_allowed (value_rules Mkpkg) vs i v h at) in
     (and_parts (list_any (λ t. bytes_eq t (script_type v.text)) script_types) (is_file (script_file v.text)) good).1
 
+pub script_there : (vs : List OptionValue) (i : ℕ) (v : OptionValue) → are_values (value_rules Mkpkg) vs ≡ true → slice_get vs i ≡ Some v → v.letter ≡ SCRIPT
+    → IfSome (slice_get vs i) (λ w. (w.letter ≡ SCRIPT) × (is_file (script_file w.text) ≡ true))
+script_there vs i v h at e =
+    let P : Option OptionValue → Type 0 = λ o. IfSome o (λ w. (w.letter ≡ SCRIPT) × (is_file (script_file w.text) ≡ true)) in
+    subst P (sym at) (e, script_allowed vs i v h at e)
+
+pub script_name : (vs : List OptionValue) (i : ℕ) (v : OptionValue) (name : List ℕ) → slice_get vs i ≡ Some v
+    → option_map (λ (w : OptionValue). without_dot (script_file w.text)) (slice_get vs i) ≡ Some name → name ≡ without_dot (script_file v.text)
+script_name vs i v name at e =
+    let both : Some name ≡ Some (without_dot (script_file v.text)) = sym e ∙ ap (option_map (λ (w : OptionValue). without_dot (script_file w.text))) at in
+    cc (both)
+
 -- and that of the option for a folder names one
-pub folder_allowed : (vs : List OptionValue) (v : OptionValue) (others : List OptionValue) → are_values (row_of Mkpkg).options vs ≡ true → values_of 70 vs ≡ v ∷ others → is_file v.text ≡ true
-folder_allowed [] v others h e = absurd (cc)
-folder_allowed (u ∷ us) v others h e = by_letter (eqb u.letter 70) refl (folder_allowed us v others (first_two (row_of Mkpkg).options u us h).1) e
+pub folder_file : (vs : List OptionValue) → are_values (value_rules Mkpkg) vs ≡ true → IfSome (value_of FILES vs) (λ v. is_file v.text ≡ true)
+folder_file [] h = tt
+folder_file (u ∷ us) h = by_letter (eqb u.letter FILES) refl
   where
-    by_letter : (b : Bool) → eqb u.letter 70 ≡ b → (values_of 70 us ≡ v ∷ others → is_file v.text ≡ true) → cond b (u ∷ values_of 70 us) (values_of 70 us) ≡ v ∷ others → is_file v.text ≡ true
-    by_letter true t further k =
-        let same : u ≡ v = cc in
-        subst (λ (w : OptionValue). is_file w.text ≡ true) same
-        (subst (λ (l : ℕ). is_value_by (rule_of (row_of Mkpkg).options l) u.text ≡ true) (eqb-true u.letter 70 t) (first_two (row_of Mkpkg).options u us h).0)
-    by_letter false t further k = further k
+    by_letter : (b : Bool) → eqb u.letter FILES ≡ b → IfSome (cond b (Some u) (value_of FILES us)) (λ v. is_file v.text ≡ true)
+    by_letter true t =
+        subst (λ (l : ℕ). is_value_by (rule_for (value_rules Mkpkg) l) u.text ≡ true) (eqb-true u.letter FILES t) (first_two (value_rules Mkpkg) u us h).0
+    by_letter false t = folder_file us (first_two (value_rules Mkpkg) u us h).1
+
+-- ---- the first value of an option
+
+abbrev IsFirstIn : Option OptionValue → List OptionValue → Type 0
+IsFirstIn None values = values ≡ []
+IsFirstIn (Some v) values = (others : List OptionValue) × (values ≡ v ∷ others)
+
+first_in : (letter : ℕ) (vs : List OptionValue) → IsFirstIn (value_of letter vs) (values_of letter vs)
+first_in letter [] = refl
+first_in letter (v ∷ vs) = by_letter (eqb v.letter letter) (first_in letter vs)
+  where
+    by_letter : (b : Bool) → IsFirstIn (value_of letter vs) (values_of letter vs) → IsFirstIn (cond b (Some v) (value_of letter vs)) (cond b (v ∷ values_of letter vs) (values_of letter vs))
+    by_letter true h = (values_of letter vs, refl)
+    by_letter false h = h
+
+first_as : (first : Option (Bor OptionValue)) (found : Option OptionValue) (values : List OptionValue) → option_map (λ (v : Bor OptionValue). v.now) first ≡ found → IsFirstIn found values → IsFirstValue first values
+first_as None found values e h = let P : Option OptionValue → Type 0 = λ o. IsFirstIn o values in subst P (sym e) h
+first_as (Some v) found values e h = let P : Option OptionValue → Type 0 = λ o. IsFirstIn o values in subst P (sym e) h
+
+pub first_value : (letter : ℕ) (vs : List OptionValue) (first : Option (Bor OptionValue)) → option_map (λ (v : Bor OptionValue). v.now) first ≡ value_of letter vs → IsFirstValue first (values_of letter vs)
+first_value letter vs first e = first_as first (value_of letter vs) (values_of letter vs) e (first_in letter vs)
+
+-- the folder that is given
+abbrev folder_in : OptionValue → List ℕ
+folder_in v = without_dot v.text
+
+pub record IsFolder (vs : List OptionValue) (folder : List ℕ) : Type 0 where
+  pub value : OptionValue
+  pub others : List OptionValue
+  pub first : values_of FILES vs ≡ value ∷ others
+  pub name : folder_in value ≡ folder
+
+folder_by : (vs : List OptionValue) (folder : List ℕ) (found : Option OptionValue) → IsFirstIn found (values_of FILES vs) → Some folder ≡ option_map folder_in found → IsFolder vs folder
+folder_by vs folder None h e = absurd (cc (e))
+folder_by vs folder (Some v) h e = record { value = v; others = h.0; first = h.1; name = cc (e) }
+
+pub folder_is : (vs : List OptionValue) (folder : List ℕ) → Some folder ≡ option_map folder_in (value_of FILES vs) → IsFolder vs folder
+folder_is vs folder e = folder_by vs folder (value_of FILES vs) (first_in FILES vs) e
+
+no_folder_by : (vs : List OptionValue) (found : Option OptionValue) → IsFirstIn found (values_of FILES vs) → None ≡ option_map folder_in found → values_of FILES vs ≡ []
+no_folder_by vs None h e = h
+no_folder_by vs (Some v) h e = absurd (cc (e))
+
+pub no_folder : (vs : List OptionValue) → None ≡ option_map folder_in (value_of FILES vs) → values_of FILES vs ≡ []
+no_folder vs e = no_folder_by vs (value_of FILES vs) (first_in FILES vs) e
 
 -- ---- the values of an option, from a place on
 
@@ -222,9 +286,9 @@ memory_answer {A} (Err e) h = let P : MakeFault → Type 0 = λ f. IsNotDisk {A 
 -- the value that is written is that of the package
 pub value_is : (about : List InfoItem) (size : ℕ) (written folders : List Folder) (sources : List SourceFolder) (scripts : List Script) (values wanted : List OptionValue)
     → size ≡ packed_size folders → written ≡ folders → AreFoldersFrom folders sources → values ≡ wanted
-    → package_with (information_value about size) (map packed_folder written) scripts (texts_of (values_of 116 values)) (replaces_priority about)
-    ≡ value_of_package (information_value about (installed_size sources)) sources scripts (texts_of (values_of 116 wanted)) (replaces_priority about)
+    → package_with (information_value about size) (map packed_folder written) scripts (texts_of (values_of TRIGGER values)) (replaces_priority about)
+    ≡ value_of_package (information_value about (installed_size sources)) sources scripts (texts_of (values_of TRIGGER wanted)) (replaces_priority about)
 value_is about size written folders sources scripts values wanted s w h v =
     let sized : size ≡ installed_size sources = s ∙ folders_sized folders sources h in
     let valued : map packed_folder written ≡ map value_of_folder sources = ap (map packed_folder) w ∙ folders_valued folders sources h in
-    λ j. package_with (information_value about (sized j)) (valued j) scripts (texts_of (values_of 116 (v j))) (replaces_priority about)
+    λ j. package_with (information_value about (sized j)) (valued j) scripts (texts_of (values_of TRIGGER (v j))) (replaces_priority about)

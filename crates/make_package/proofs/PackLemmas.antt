@@ -1,7 +1,7 @@
 -- One more file, and one more folder, behind those that are packed.
-use Rattle.std.proofs.Common.{◌≡◌, ℕ, zero, suc, ◌+◌, List, [], ◌∷◌, ◌++◌, length, map, take, drop, get_or, Vec, Bor, refl, sym, ap, ◌∙◌, subst, arith, append_assoc, append-nil, drop-cons, ◌<◌, ◌≤◌, take_all, slice_get, Some}
+use Rattle.std.proofs.Common.{◌≡◌, ℕ, zero, suc, ◌+◌, List, [], ◌∷◌, ◌++◌, length, map, take, drop, get_or, Vec, Bor, refl, sym, ap, ◌∙◌, subst, arith, append_assoc, append-nil, drop-cons, ◌<◌, ◌≤◌, take_all, slice_get, Some, Option, Result, Ok, Err}
 use Rattle.std.proofs.lemmas.Option.{get_or_from_slice_get}
-use Rattle.std.proofs.lemmas.List.{take-append-drop, take_more, length-map, get_or-map}
+use Rattle.std.proofs.lemmas.List.{take-append-drop, take_more, length-map, get_or-map, length-append}
 use Rattle.std.proofs.lemmas.Grind.{flat_map-append}
 use Rattle.std.specs.declared.alloc.Global.{Global}
 use Rattle.pkg_core.specs.Contents.{Contents}
@@ -9,7 +9,6 @@ use Rattle.make_package.specs.declared.file.File.{File}
 use Rattle.make_package.specs.declared.file.Folder.{Folder}
 use Rattle.make_package.specs.Blocks.{contents_block, contents_blocks}
 use Rattle.make_package.specs.Package.{Source, SourceFolder, contents_of_file, contents_of_files, contents_of_folders, kind_of_file}
-use Rattle.std.proofs.Common.{Option, Result, Ok, Err}
 use Rattle.make_package.specs.Folders.{last_part_of, listing_of, folder_names, names_in_folder, path_below, folders_of, FolderListing}
 use Rattle.make_package.specs.Packed.{IsFileFrom, AreFilesFrom, IsPackedFile, ArePackedFiles, IsFolderFrom, AreFoldersFrom, IsPackedFolder, ArePackedFolders}
 use Rattle.make_package.specs.BorrowedNames.{listings_of, names_borrowed}
@@ -20,7 +19,6 @@ use Rattle.base_core.specs.Tree.{TreeState}
 use Rattle.make_info.specs.declared.fault.MakeFault.{MakeFault}
 use Rattle.make_package.specs.declared.file.FileKind.{FileKind}
 use Rattle.make_package.proofs.ReadLemmas.{RestsOnOwn, fault_of_part, IsSoFar, IsNext, so_far_more, so_far_stops, total, each_rests}
-use Rattle.std.proofs.lemmas.List.{length-append}
 
 files_more : (files : List File) (sources : List Source) (file : File) (source : Source) → AreFilesFrom files sources → IsFileFrom file source → AreFilesFrom (files ++ file ∷ []) (sources ++ source ∷ [])
 files_more [] [] file source h i = (i, tt)

@@ -1,82 +1,17 @@
--- Reads one after the other: what they explain together, and what they leave of the tree.
+-- Reads one after the other: what they explain together.
 use Rattle.std.proofs.Common.{◌≡◌, ℕ, ◌+◌, ◌<◌, ◌≤◌, ◌⊎◌, inl, inr, Bool, true, false, List, [], ◌∷◌, ◌++◌, Result, Ok, Err, Option, None, IsTrue, refl, sym, ap, ◌∙◌, subst, arith, if◌then◌else◌, nat_lt}
 use borrow.Author.Tests.{lt-ltb, le-ltb}
 use Rattle.base_core.specs.Calls.{IfObservable}
-use Rattle.base_core.specs.Faults.{Counts, GoesOn, HasCause, IsNoFault, Rose}
 use Rattle.base_core.specs.Tree.{TreeState, files_of}
 use Rattle.make_package.specs.Sources.{unless_refused, each_from}
 use Rattle.make_info.specs.Reads.{Reads}
-use Rattle.make_package.specs.Runs.{IsQuiet, IsFailure, OnlyReads, AreObserved, Explains, IsAnswer}
+use Rattle.make_package.specs.Runs.{AreObserved, Explains, IsAnswer}
 use Rattle.base_core.specs.declared.tree.TreeFault.{TreeFault}
 use Rattle.base_core.specs.declared.tree.TreeFault.TheVariants as Trees
 use Rattle.std.specs.Result.{IsErrAnd}
 use Rattle.make_info.specs.Faults.{IsMakeFaultOf}
 use Rattle.make_info.specs.declared.fault.MakeFault.{MakeFault}
 use Rattle.make_info.specs.declared.fault.MakeFault.TheVariants.{FileMissing, FileBad, InfoBad, TooLarge, Disk, Memory}
-
--- ---- the tree
-
-pub still : (told : List TreeState) (c : Counts) → IsQuiet told told c c
-still told c = record {
-  same = refl;
-  goes_on = record { faults = omega arith; misuses = omega arith; wants = omega arith; fallible = λ h. h };
-  kept = record { faults = refl; wants = refl };
-  proper = proper_still told c;
-}
-  where
-    proper_still : (told : List TreeState) (c : Counts) → IfObservable told (λ v. c.misuses ≡ c.misuses)
-    proper_still [] c = tt
-    proper_still (v ∷ vs) c = refl
-
-goes_on_then : (a b c : Counts) → GoesOn a b → GoesOn b c → GoesOn a c
-goes_on_then a b c f g = record { faults = omega arith; misuses = omega arith; wants = omega arith; fallible = λ h. f.fallible (g.fallible h) }
-
-proper_then : (told later : List TreeState) (a b c : Counts) → later ≡ told → IfObservable told (λ v. b.misuses ≡ a.misuses) → IfObservable later (λ v. c.misuses ≡ b.misuses) → IfObservable told (λ v. c.misuses ≡ a.misuses)
-proper_then told later a b c e f g = by told f (let P : List TreeState → Type 0 = λ l. IfObservable l (λ v. c.misuses ≡ b.misuses) in subst P e g)
-  where
-    by : (told : List TreeState) → IfObservable told (λ v. b.misuses ≡ a.misuses) → IfObservable told (λ v. c.misuses ≡ b.misuses) → IfObservable told (λ v. c.misuses ≡ a.misuses)
-    by [] f g = tt
-    by (v ∷ vs) f g = g ∙ f
-
-rose_then : (a b c : ℕ) → a ≤ b → Rose b c → Rose a c
-rose_then a b c h r = omega arith
-
-cause_then : (a b c : Counts) → GoesOn a b → IsNoFault a b → HasCause b c → HasCause a c
-cause_then a b c f k h = record {
-  fault = rose_then a.faults b.faults c.faults f.faults h.fault;
-  reason = by h.reason;
-}
-  where
-    by : (IsTrue b.fallible ⊎ (Rose b.misuses c.misuses ⊎ Rose b.wants c.wants)) → (IsTrue a.fallible ⊎ (Rose a.misuses c.misuses ⊎ Rose a.wants c.wants))
-    by (inl t) = inl (f.fallible t)
-    by (inr (inl r)) = inr (inl (rose_then a.misuses b.misuses c.misuses f.misuses r))
-    by (inr (inr r)) = inr (inr (rose_then a.wants b.wants c.wants f.wants r))
-
-pub quiet_then : (t0 t1 t2 : List TreeState) (a b c : Counts) → IsQuiet t0 t1 a b → IsQuiet t1 t2 b c → IsQuiet t0 t2 a c
-quiet_then t0 t1 t2 a b c f g = record {
-  same = g.same ∙ f.same;
-  goes_on = goes_on_then a b c f.goes_on g.goes_on;
-  kept = record { faults = g.kept.faults ∙ f.kept.faults; wants = g.kept.wants ∙ f.kept.wants };
-  proper = proper_then t0 t1 a b c f.same f.proper g.proper;
-}
-
-failure_then : (t0 t1 t2 : List TreeState) (a b c : Counts) → IsQuiet t0 t1 a b → IsFailure t1 t2 b c → IsFailure t0 t2 a c
-failure_then t0 t1 t2 a b c f g = record {
-  same = g.same ∙ f.same;
-  goes_on = goes_on_then a b c f.goes_on g.goes_on;
-  cause = cause_then a b c f.goes_on f.kept g.cause;
-  proper = proper_then t0 t1 a b c f.same f.proper g.proper;
-}
-
--- a call behind quiet ones
-pub reads_then : {A : Type 0} (t0 t1 t2 : List TreeState) (a b c : Counts) (r : Result A MakeFault) → IsQuiet t0 t1 a b → OnlyReads t1 t2 b c r → OnlyReads t0 t2 a c r
-reads_then t0 t1 t2 a b c (Ok x) f g = quiet_then t0 t1 t2 a b c f g
-reads_then t0 t1 t2 a b c (Err Disk) f g = failure_then t0 t1 t2 a b c f g
-reads_then t0 t1 t2 a b c (Err Memory) f g = quiet_then t0 t1 t2 a b c f g
-reads_then t0 t1 t2 a b c (Err (FileMissing p)) f g = quiet_then t0 t1 t2 a b c f g
-reads_then t0 t1 t2 a b c (Err (FileBad p q)) f g = quiet_then t0 t1 t2 a b c f g
-reads_then t0 t1 t2 a b c (Err (InfoBad p)) f g = quiet_then t0 t1 t2 a b c f g
-reads_then t0 t1 t2 a b c (Err (TooLarge p q)) f g = quiet_then t0 t1 t2 a b c f g
 
 -- ---- two runs of reads, the second from a number on
 
@@ -98,11 +33,11 @@ joined_told (v ∷ vs) k first second f s = λ n name. by (nat_lt n k) n name
     by false n name = s n name
 
 -- the reads of a tree that tells its files, or none
-abbrev pub reads_of : List TreeState → Reads → Reads
-reads_of [] read n name = read n name
-reads_of (v ∷ vs) read n name = files_of v name
+abbrev pub reads_or : List TreeState → Reads → Reads
+reads_or [] read n name = read n name
+reads_or (v ∷ vs) read n name = files_of v name
 
-pub as_told_of : (told : List TreeState) (read : Reads) → AreObserved told (reads_of told read)
+pub as_told_of : (told : List TreeState) (read : Reads) → AreObserved told (reads_or told read)
 as_told_of [] read = tt
 as_told_of (v ∷ vs) read = λ n name. refl
 
@@ -182,7 +117,7 @@ module _ {X Y : Type 0} (told : List TreeState) (count : X → ℕ) (of : Reads 
   next_reads k x f g = own (joined k f g) g k x (λ m name lo hi. joined_from k f g m name lo)
 
   pub so_far_none : (R : List Y → Type 0) → R [] → SoFar [] R
-  so_far_none R h n = record { read = reads_of told (λ n name. None); as_told = as_told_of told (λ n name. None); is = ([], refl, h) }
+  so_far_none R h n = record { read = reads_or told (λ n name. None); observed = as_told_of told (λ n name. None); is = ([], refl, h) }
 
   pub so_far_more : {A : Type 0} (xs : List X) (x : X) (R R' : List Y → Type 0) (S : A → Y → Type 0) (a : A) → SoFar xs R → Next x S (Ok a)
       → ((ys : List Y) (y : Y) → R ys → S a y → R' (ys ++ y ∷ [])) → SoFar (xs ++ x ∷ []) R'
@@ -192,7 +127,7 @@ module _ {X Y : Type 0} (told : List TreeState) (count : X → ℕ) (of : Reads 
       let q = next k in
       record {
         read = joined k p.read q.read;
-        as_told = joined_told told k p.read q.read p.as_told q.as_told;
+        observed = joined_told told k p.read q.read p.observed q.observed;
         is = (
           p.is.0 ++ q.is.0 ∷ [],
           each_more count (of (joined k p.read q.read)) n k xs x p.is.0 q.is.0 refl (kept_reads n xs p.read q.read ∙ p.is.1) (next_reads k x p.read q.read ∙ q.is.1),
@@ -209,7 +144,7 @@ module _ {X Y : Type 0} (told : List TreeState) (count : X → ℕ) (of : Reads 
       let q = next k in
       record {
         read = joined k p.read q.read;
-        as_told = joined_told told k p.read q.read p.as_told q.as_told;
+        observed = joined_told told k p.read q.read p.observed q.observed;
         is = by fault q.is (λ h. each_stops count (of (joined k p.read q.read)) n k xs x rest p.is.0 fault refl (kept_reads n xs p.read q.read ∙ p.is.1) (next_reads k x p.read q.read ∙ h));
       }
     where
@@ -225,15 +160,15 @@ module _ {X Y : Type 0} (told : List TreeState) (count : X → ℕ) (of : Reads 
 
 pub read_explained : (told : List TreeState) (found : Option (List ℕ)) (name : List ℕ) → IfObservable told (λ v. found ≡ files_of v name)
     → (n : ℕ) → Explains told (λ read. read n name ≡ found)
-read_explained [] found name h n = record { read = λ m q. found; as_told = tt; is = refl }
-read_explained (v ∷ vs) found name h n = record { read = λ m q. files_of v q; as_told = λ m q. refl; is = sym h }
+read_explained [] found name h n = record { read = λ m q. found; observed = tt; is = refl }
+read_explained (v ∷ vs) found name h n = record { read = λ m q. files_of v q; observed = λ m q. refl; is = sym h }
 
 pub explained_as : (told : List TreeState) (P Q : Reads → Type 0) → Explains told P → ((read : Reads) → P read → Q read) → Explains told Q
-explained_as told P Q h f = record { read = h.read; as_told = h.as_told; is = f h.read h.is }
+explained_as told P Q h f = record { read = h.read; observed = h.observed; is = f h.read h.is }
 
 -- nothing is said of the reads
 pub explained : (told : List TreeState) (P : Reads → Type 0) → ((read : Reads) → P read) → Explains told P
-explained told P h = record { read = reads_of told (λ n name. None); as_told = as_told_of told (λ n name. None); is = h (reads_of told (λ n name. None)) }
+explained told P h = record { read = reads_or told (λ n name. None); observed = as_told_of told (λ n name. None); is = h (reads_or told (λ n name. None)) }
 
 -- a fault of a part is that of the whole
 pub fault_of_part : {A B C D : Type 0} (S : A → B → Type 0) (T : C → D → Type 0) (fault : MakeFault) (part : Result B MakeFault) (next : B → Result D MakeFault)

@@ -1,5 +1,5 @@
 -- One script of what was read.
-use Rattle.std.proofs.Common.{◌≡◌, ◌∙◌, ℕ, List, Option, Some, Result, Ok, Err, sym, ap, subst, IfSome}
+use Rattle.std.proofs.Common.{◌≡◌, ◌∙◌, ℕ, List, Option, Result, Ok, Err, sym, ap, subst}
 use Rattle.command_core.specs.Values.{script_type, script_file}
 use Rattle.command_core.specs.Files.{without_dot}
 use Rattle.command_core.specs.declared.values.OptionValue.{OptionValue}
@@ -12,9 +12,6 @@ use Rattle.make_info.specs.declared.fault.MakeFault.{MakeFault}
 use Rattle.make_package.specs.declared.writing.Script.{Script}
 use Rattle.make_package.proofs.ReadLemmas.{fault_of_part}
 use Rattle.make_package.proofs.PackLemmas.{IsFound}
-
-pub some_is : {X : Type 0} (o : Option X) (P : X → Type 0) (x : X) → IfSome o P → o ≡ Some x → P x
-some_is {X} o P x h e = let Q : Option X → Type 0 = λ o. IfSome o P in subst Q e h
 
 abbrev pub file_of : OptionValue → List ℕ
 file_of v = without_dot (script_file v.text)

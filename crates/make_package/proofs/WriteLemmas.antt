@@ -3,11 +3,10 @@ use Rattle.std.proofs.Common.{◌≡◌, ℕ, ◌+◌, ◌<◌, List, [], ◌∷
 use borrow.Author.Tests.{ne_eqb, eq-eqb}
 use Rattle.std.proofs.lemmas.Option.{get_or_from_slice_get, slice_get_within}
 use Rattle.std.proofs.lemmas.List.Elements.{filter-append}
-use Rattle.adb_view.specs.Plain.{blob_value}
+use Rattle.adb_view.specs.Plain.{blob_value, Plain, Plains, more}
 use Rattle.command_core.specs.declared.values.OptionValue.{OptionValue}
 use Rattle.make_package.specs.Sources.{values_of, texts_of}
 use Rattle.std.proofs.lemmas.List.{take_more, map-append}
-use Rattle.adb_view.specs.Plain.{Plain, Plains, more}
 use Rattle.adb_write.specs.DepthFirst.{WritesAll, push}
 use Rattle.adb_write.specs.Writing.{Writing}
 use Rattle.make_info.specs.Values.{plains_of}

@@ -1,5 +1,6 @@
 -- What `mkpkg` makes (apk(8)): a package of its command, of the names below its folder, and of what
 -- reads find.
+use Rattle.command_core.specs.declared.values.TheConstants.{FILES, SCRIPT, TRIGGER}
 use Rattle.std.specs.Prelude.{ℕ, List, length, Option, Some, None, Result, Ok, Err}
 use Rattle.adb_view.specs.Plain.{Plain}
 use Rattle.adb_schema.specs.declared.read.TheConstants.{PACKAGE_WORD}
@@ -36,13 +37,13 @@ abbrev pub package_of_parts :
 package_of_parts command scripts about folders =
     package_container
     (value_of_package (information_value about (installed_size folders)) folders scripts
-    (texts_of (values_of 116 command.values)) (replaces_priority about))
+    (texts_of (values_of TRIGGER command.values)) (replaces_priority about))
     (contents_of_folders 1 folders)
 
 -- scripts first, then the information, then the files below the folder
 unfoldable pub made_package : CommandLine → List (List ℕ) → Reads → Result (List ℕ) MakeFault
 made_package command names read =
-    unless_refused (scripts_from read 0 (values_of 115 command.values)) (λ scripts.
+    unless_refused (scripts_from read 0 (values_of SCRIPT command.values)) (λ scripts.
     unless_refused (or_info_bad (information command)) (λ about.
-    unless_refused (folders_below read (length scripts) (values_of 70 command.values) names)
+    unless_refused (folders_below read (length scripts) (values_of FILES command.values) names)
     (package_of_parts command scripts about)))

@@ -1,4 +1,5 @@
 //! The container of a package: its payload, and the contents blocks behind it.
+ghost use Rattle.command_core.specs.declared.values.TheConstants.{TRIGGER};
 ghost use Rattle.std.specs.Prelude.{ℕ, ◌≡◌, ◌≤◌, ◌<◌, ◌^◌, ◌++◌, Ok, List, length, map, IfOk, IfErr};
 ghost use Rattle.adb_schema.specs.declared.read.TheConstants.{PACKAGE_WORD};
 ghost use Rattle.adb_write.specs.Canonical.{MOST_BYTES, written_of};
@@ -21,10 +22,9 @@ use crate::writing::{Script, write_package};
 use adb_schema::PACKAGE_WORD;
 use adb_view::Val;
 use adb_write::{Writer, a_value_written_depth_first_is_canonical, file_of};
-use make_info::{Information, MakeFault};
-use make_info::{Information, MakeFault};
-use std::alloc::{AllocError, Global};
 use command_core::{Command, Values};
+use make_info::{Information, Information, MakeFault, MakeFault};
+use std::alloc::{AllocError, Global};
 
 /// The package of a command, with this information, these files and these scripts.
 pub(crate) fn package(
@@ -86,9 +86,9 @@ fn payload(
     scripts: &[Script<'_>],
     size: u64,
 ) -> Result<Vec<u8>, MakeFault>
-    ensures made { IfOk result (λ payload. written_of (package_with (information_value about.now size) (map packed_folder folders.now) (scripts_view scripts.now) (texts_of (values_of 116 values.now)) (replaces_priority about.now)) ≡ Ok payload.items) }
+    ensures made { IfOk result (λ payload. written_of (package_with (information_value about.now size) (map packed_folder folders.now) (scripts_view scripts.now) (texts_of (values_of TRIGGER values.now)) (replaces_priority about.now)) ≡ Ok payload.items) }
     ensures small { IfOk result (λ payload. length payload.items ≤ MOST_BYTES) }
-    ensures err { IfErr result (λ fault. IsOverflow fault (written_of (package_with (information_value about.now size) (map packed_folder folders.now) (scripts_view scripts.now) (texts_of (values_of 116 values.now)) (replaces_priority about.now)))) }
+    ensures err { IfErr result (λ fault. IsOverflow fault (written_of (package_with (information_value about.now size) (map packed_folder folders.now) (scripts_view scripts.now) (texts_of (values_of TRIGGER values.now)) (replaces_priority about.now)))) }
 {
     a_value_written_depth_first_is_canonical();
     let mut writer = Writer::new(alloc);
@@ -106,7 +106,7 @@ fn write_root(
     scripts: &[Script<'_>],
     size: u64,
 ) -> Result<Val, AllocError>
-    ensures { IfOk result (λ root. Writes writer.old (package_with (information_value about.now size) (map packed_folder folders.now) (scripts_view scripts.now) (texts_of (values_of 116 values.now)) (replaces_priority about.now)) root writer.new) }
+    ensures { IfOk result (λ root. Writes writer.old (package_with (information_value about.now size) (map packed_folder folders.now) (scripts_view scripts.now) (texts_of (values_of TRIGGER values.now)) (replaces_priority about.now)) root writer.new) }
 {
     let info = about.write(writer, size)?;
     let priority = about.replaces_priority();

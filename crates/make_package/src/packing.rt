@@ -1,19 +1,20 @@
 //! Reads the files of a package, each once, and packs them: what they are, and their contents in
 //! blocks (apk-package(5)).
+ghost use Rattle.base_core.specs.Calls.{OnlyReads};
 ghost use Rattle.adb_block.specs.Container.{padding_of};
 ghost use Rattle.make_package.specs.Blocks.{contents_block, contents_blocks};
 ghost use Rattle.make_package.specs.BorrowedNames.{listings_of};
 ghost use Rattle.make_package.specs.Folders.{folders_of};
 ghost use Rattle.make_package.specs.Package.{kind_of_file, contents_of_file};
 ghost use Rattle.make_package.specs.Packed.{IsPackedFile, ArePackedFiles, IsPackedFolder, IsPacking};
-ghost use Rattle.make_package.specs.Runs.{OnlyReads, Explains, IsAnswer};
+ghost use Rattle.make_package.specs.Runs.{Explains, IsAnswer};
 ghost use Rattle.make_package.specs.Sources.{found_at, file_at, sources_from, folder_at, source_folders_from};
 ghost use Rattle.std.specs.Prelude.{◌≡◌, ◌++◌, ◌<◌, ◌+◌, ◌^◌, length, replicate, OnOk, IfOk, [], ◌∷◌, ℕ, map};
 
+use crate::file::{File, FileKind, Folder, Packing};
+use crate::folders::{FolderNames, folder_names, last_part_of, names_in_folders};
 use adb_block::{BlockKind, block_head};
 use base_core::{Name, Names, Tree, read_all};
-use crate::file::{File, FileKind, Folder, Packing};
-use crate::folders::{FolderNames, names_in_folders, folder_names, last_part_of};
 use make_info::MakeFault;
 use std::alloc::{AllocError, Global};
 
@@ -61,7 +62,8 @@ pub(crate) fn pack_names<'a, T: Tree>(
     dir: &[u8],
     names: &'a Names,
 ) -> Result<Packing<'a>, MakeFault>
-    ensures tree { OnlyReads (T.history tree.old) (T.history tree.new) (T.counts tree.old) (T.counts tree.new) result }
+    ensures tree { OnlyReads MakeFault.Disk (T.history tree.old) (T.history tree.new)
+        (T.counts tree.old) (T.counts tree.new) result }
     ensures read { (n : ℕ) → Explains (T.history tree.old) (λ read. IsAnswer IsPacking result (source_folders_from place read n (folders_of dir.now names.now))) }
 {
     let folders = folder_names(alloc, dir, names)?;
@@ -79,7 +81,8 @@ fn pack_folders<'a, T: Tree>(
     files: &[Vec<&'a Name>],
 ) -> Result<Packing<'a>, MakeFault>
     requires { length files.now ≡ length folders.now }
-    ensures tree { OnlyReads (T.history tree.old) (T.history tree.new) (T.counts tree.old) (T.counts tree.new) result }
+    ensures tree { OnlyReads MakeFault.Disk (T.history tree.old) (T.history tree.new)
+        (T.counts tree.old) (T.counts tree.new) result }
     ensures read { (n : ℕ) → Explains (T.history tree.old) (λ read. IsAnswer IsPacking result (source_folders_from place read n (listings_of folders.now files.now))) }
 {
     let mut packed = Vec::new(alloc);
@@ -121,7 +124,8 @@ fn pack_folder<'a, T: Tree>(
     names: &[&'a Name],
     blocks: &mut Vec<u8>,
 ) -> Result<Folder<'a>, MakeFault>
-    ensures tree { OnlyReads (T.history tree.old) (T.history tree.new) (T.counts tree.old) (T.counts tree.new) result }
+    ensures tree { OnlyReads MakeFault.Disk (T.history tree.old) (T.history tree.new)
+        (T.counts tree.old) (T.counts tree.new) result }
     ensures read { (n : ℕ) → Explains (T.history tree.old) (λ read. IsAnswer (IsPackedFolder position blocks.old.items blocks.new.items) result (folder_at place read n (record { name = name.now; files = map (λ name. name.now) names.now }))) }
 {
     let files = pack_files(alloc, tree, place, position, names, blocks)?;
@@ -137,7 +141,8 @@ fn pack_files<'a, T: Tree>(
     names: &[&'a Name],
     blocks: &mut Vec<u8>,
 ) -> Result<Vec<File<'a>>, MakeFault>
-    ensures tree { OnlyReads (T.history tree.old) (T.history tree.new) (T.counts tree.old) (T.counts tree.new) result }
+    ensures tree { OnlyReads MakeFault.Disk (T.history tree.old) (T.history tree.new)
+        (T.counts tree.old) (T.counts tree.new) result }
     ensures read { (n : ℕ) → Explains (T.history tree.old) (λ read. IsAnswer (ArePackedFiles folder blocks.old.items blocks.new.items) result (sources_from place read n (map (λ name. name.now) names.now))) }
 {
     let mut files = Vec::new(alloc);
@@ -165,7 +170,8 @@ fn pack_file<'a, T: Tree>(
     name: &'a Name,
     blocks: &mut Vec<u8>,
 ) -> Result<File<'a>, MakeFault>
-    ensures tree { OnlyReads (T.history tree.old) (T.history tree.new) (T.counts tree.old) (T.counts tree.new) result }
+    ensures tree { OnlyReads MakeFault.Disk (T.history tree.old) (T.history tree.new)
+        (T.counts tree.old) (T.counts tree.new) result }
     ensures read { (n : ℕ) → Explains (T.history tree.old) (λ read. IsAnswer (IsPackedFile position.0 position.1 blocks.old.items blocks.new.items) result (file_at place read n name.now)) }
 {
     let bytes = read_file(alloc, tree, place, name)?;
@@ -200,7 +206,8 @@ pub(crate) fn read_file<T: Tree>(
     place: u32,
     name: &Name,
 ) -> Result<Vec<u8>, MakeFault>
-    ensures tree { OnlyReads (T.history tree.old) (T.history tree.new) (T.counts tree.old) (T.counts tree.new) result }
+    ensures tree { OnlyReads MakeFault.Disk (T.history tree.old) (T.history tree.new)
+        (T.counts tree.old) (T.counts tree.new) result }
     ensures read { (n : ℕ) → Explains (T.history tree.old) (λ read. IsAnswer (λ bytes found. found ≡ bytes.items) result (found_at place (read n name.now))) }
 {
     match read_all(alloc, tree, name)? {

@@ -1,4 +1,5 @@
 //! Writes the value of a package (apk-v3(5)): its folders with their files, its scripts and triggers.
+ghost use Rattle.command_core.specs.declared.values.TheConstants.{TRIGGER};
 ghost use Rattle.adb_view.specs.Plain.{arr_value, Plain, blob_value};
 ghost use Rattle.adb_write.specs.DepthFirst.{Writes, WritesAll};
 ghost use Rattle.adb_write.specs.Writing.{Writing};
@@ -9,11 +10,11 @@ ghost use Rattle.make_package.specs.Scripts.{scripts_view};
 ghost use Rattle.make_package.specs.Sources.{values_of, texts_of};
 ghost use Rattle.std.specs.Prelude.{map, IfOk, ◌≡◌, Option};
 
+use crate::file::{File, Folder};
 use adb_view::Val;
 use adb_write::{Writer, values_are_written_depth_first};
-use crate::file::{File, Folder};
-use std::alloc::{AllocError, Global};
 use command_core::Values;
+use std::alloc::{AllocError, Global};
 
 /// The mode of every folder.
 const FOLDER_MODE: u64 = 0o755;
@@ -170,7 +171,7 @@ pub(crate) fn write_package(
     priority: Option<u64>,
 ) -> Result<Val, AllocError>
     ensures { IfOk result (λ word. (before : Writing) (about : Plain) → Writes before about info writer.old
-        → Writes before (package_with about (map packed_folder folders.now) (scripts_view scripts.now) (texts_of (values_of 116 values.now)) priority) word writer.new) }
+        → Writes before (package_with about (map packed_folder folders.now) (scripts_view scripts.now) (texts_of (values_of TRIGGER values.now)) priority) word writer.new) }
 {
     values_are_written_depth_first();
     let paths = write_paths(alloc, writer, folders)?;
@@ -183,7 +184,7 @@ pub(crate) fn write_package(
 
 /// Writes the triggers: the values of the option for them, in the order given.
 fn write_triggers(alloc: Global, writer: &mut Writer, values: &Values) -> Result<Val, AllocError>
-    ensures { IfOk result (λ word. Writes writer.old (arr_value (plains_of (map blob_value (texts_of (values_of 116 values.now))))) word writer.new) }
+    ensures { IfOk result (λ word. Writes writer.old (arr_value (plains_of (map blob_value (texts_of (values_of TRIGGER values.now))))) word writer.new) }
 {
     values_are_written_depth_first();
     let mut words = Vec::new(alloc);

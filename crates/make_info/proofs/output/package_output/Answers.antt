@@ -19,4 +19,4 @@ returns-in-Some-2 c =
     let good : is_ok (information command) ≡ true = sym c.in_ok-is_allowed.ensures ∙ c.if-not-branch.false in
     let unnamed : named_output command.values ≡ None = ap named_output (sym c.values.ensures.value) ∙ sym (sym (ap (option_map (λ file. file.now)) c.in_default.is) ∙ c.named_output.ensures) in
     let own : default_output command.values ≡ Some c.deref.result.now = ap default_output (sym c.values-2.ensures.value) ∙ sym (sym (ap (option_map (λ file. file.items)) c.in-Some-2.is) ∙ c.in_ok-file.ensures) ∙ ap Some (sym c.deref.ensures.value) in
-    own_case c.read-in-Some-2.result command c.deref.result.now c.read_is_spelled.ensures good unnamed own c.read-in-Some-2.ensures.when c.read-in-Some-2.ensures.value
+    own_case c.read-in-Some-2.result command c.deref.result.now c.versions_have_version_bytes.ensures.bytes good unnamed own c.read-in-Some-2.ensures.when c.read-in-Some-2.ensures.value

@@ -1,7 +1,7 @@
 use Rattle.std.proofs.Common.{Ok, Err}
 use Rattle.make_package.proofs.MadeParts.{sizes_held, values_allowed}
 use Rattle.make_package.proofs.MadeRuns.{both_as, folders_fault, info_fault, package_as, parts_made, quiet_answer, scripts_as, scripts_fault}
-use Rattle.make_package.proofs.ReadLemmas.{explained_as, quiet_then, same_fault}
+use Rattle.make_package.proofs.ReadLemmas.{explained_as, same_fault}
 use Rattle.make_package.proofs.making.pack.Goals as goal
 
 pub read_scripts-requires : goal.read_scripts-requires
@@ -35,4 +35,5 @@ returns-clause-read g c =
 
 pub returns-clause-tree : goal.returns-clause-tree
 returns-clause-tree g c =
-    quiet_answer _ _ _ _ c.package.result (quiet_then _ _ _ _ _ _ c.in_ok-scripts.ensures.tree c.in_ok-packing.ensures.tree) c.package.ensures.disk
+    quiet_answer c.in_ok-packing.packing _ _ _ _ c.package.result
+    (c.readings_in_a_row_join.ensures.two _ _ _ _ _ _ _ _ _ c.in_ok-scripts.ensures.tree c.in_ok-packing.ensures.tree) c.package.ensures.disk

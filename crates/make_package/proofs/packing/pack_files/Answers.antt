@@ -1,13 +1,13 @@
-use Rattle.std.proofs.Common.{◌∙◌, ◌+◌, ◌<◌, ◌≤◌, ap, sym, length, arith}
+use Rattle.std.proofs.Common.{◌∙◌, ◌+◌, ◌<◌, ◌≤◌, ap, sym, length, arith, rules}
 use Rattle.make_package.specs.Packed.{IsPackedFile, ArePackedFiles}
 use Rattle.make_package.specs.Sources.{file_at, sources_from}
-use Rattle.make_package.proofs.ReadLemmas.{still, quiet_then, so_far_none, explained, explained_as, same_fault, memory_fault, told_as}
+use Rattle.make_package.proofs.ReadLemmas.{so_far_none, explained, explained_as, same_fault, memory_fault, told_as}
 use Rattle.make_package.proofs.PackLemmas.{file_own, packed_none, packed_more, count_more, files_go_on, files_stop, names_whole}
 use Rattle.make_package.proofs.packing.pack_files.Goals as goal
 
 pub loop-i-init : goal.loop-i-init
 loop-i-init g c = record {
-  tree = still _ _;
+  tree = search rules;
   count = ap length c.new-files.ensures.items;
   so_far = so_far_none _ (λ name. 1) (file_at c.args.place) (file_own c.args.place) (ArePackedFiles c.args.folder c.args.blocks.now.items c.args.blocks.now.items c.new-files.result) (packed_none _ _ _ c.new-files.ensures.items);
 }
@@ -30,7 +30,7 @@ pub loop-i-preserved : goal.loop-i-preserved
 loop-i-preserved g c =
     let lt : c.loop-i.i < length c.args.names.now = omega arith in
     record {
-      tree = quiet_then _ _ _ _ _ _ c.loop-i.invariant.tree c.in_ok-file.ensures.tree;
+      tree = search rules;
       count = count_more _ _ _ _ c.in_ok-push_file.ensures c.loop-i.invariant.count;
       so_far = files_go_on _ c.args.place c.args.names.now c.loop-i.i c.index-names-i.result
           (ArePackedFiles c.args.folder c.args.blocks.now.items c.loop-i.blocks.items c.loop-i.files)

@@ -1,15 +1,15 @@
-use Rattle.std.proofs.Common.{◌∙◌, ◌+◌, ◌<◌, ◌≤◌, ap, sym, length, arith}
+use Rattle.std.proofs.Common.{◌∙◌, ◌+◌, ◌<◌, ◌≤◌, ap, sym, length, arith, rules}
 use Rattle.make_package.specs.Folders.{FolderListing}
 use Rattle.make_package.specs.BorrowedNames.{listings_of}
 use Rattle.make_package.specs.Packed.{IsPackedFolder, ArePackedFolders, IsPacking}
 use Rattle.make_package.specs.Sources.{folder_at, source_folders_from}
-use Rattle.make_package.proofs.ReadLemmas.{still, quiet_then, so_far_none, explained, explained_as, same_fault, memory_fault, told_as}
+use Rattle.make_package.proofs.ReadLemmas.{so_far_none, explained, explained_as, same_fault, memory_fault, told_as}
 use Rattle.make_package.proofs.PackLemmas.{folder_own, folders_none, folders_packed_more, folder_count_more, folders_go_on, folders_stop, listed_here, listed_within, listed_whole, reads_in, now_of}
 use Rattle.make_package.proofs.packing.pack_folders.Goals as goal
 
 pub loop-i-init : goal.loop-i-init
 loop-i-init g c = record {
-  tree = still _ _;
+  tree = search rules;
   count = ap length c.new-packed.ensures.items;
   so_far = so_far_none _ reads_in (folder_at c.args.place) (folder_own c.args.place) (ArePackedFolders c.new-blocks.result.items c.new-packed.result) (folders_none _ _ c.new-blocks.ensures.items c.new-packed.ensures.items);
 }
@@ -36,7 +36,7 @@ loop-i-preserved g c =
     let lt : c.loop-i.i < length c.args.folders.now = omega arith in
     let one : FolderListing = record { name = c.get-name.result.now; files = now_of c.deref.result.now } in
     record {
-      tree = quiet_then _ _ _ _ _ _ c.loop-i.invariant.tree c.in_ok-folder.ensures.tree;
+      tree = search rules;
       count = folder_count_more _ _ _ _ c.in_ok-push_folder.ensures c.loop-i.invariant.count;
       so_far = folders_go_on _ c.args.place (listings_of c.args.folders.now c.args.files.now) c.loop-i.i one
           (ArePackedFolders c.loop-i.blocks.items c.loop-i.packed)

@@ -1,3 +1,4 @@
+use Rattle.command_core.specs.declared.values.TheConstants.{TRIGGER}
 use Rattle.std.proofs.Common.{◌∙◌, ap, List, ℕ, Vec, subst}
 use Rattle.std.specs.declared.alloc.Global.{Global}
 use Rattle.adb_view.specs.Plain.{blob_value}
@@ -12,10 +13,10 @@ loop-i-preserved c =
     elim c.if-value-eq116.branch [
       | then-value-eq116+in_ok-word+in_ok-push w ↦
           let P : List ℕ → Type 0 = λ bytes. Writes c.loop-i.writer (blob_value bytes) w.in_ok-word.word w.blob.new.self in
-          blob_more 116 c.args.values.now c.loop-i.i c.get-value.result.now _ _ _ _ _ c.get-value.ensures w.if-value-eq116.true w.writer-is
+          blob_more TRIGGER c.args.values.now c.loop-i.i c.get-value.result.now _ _ _ _ _ c.get-value.ensures w.if-value-eq116.true w.writer-is
           (ap (λ (v : Vec ℕ Global). v.items) w.words-is ∙ w.in_ok-push.ensures.items)
           (laws.push _ _ _ _ _ _ _ c.loop-i.invariant (subst P w.as_bytes.ensures w.in_ok-word.ensures.written))
       | else-value-eq116 w ↦
-          blob_same 116 c.args.values.now c.loop-i.i c.get-value.result.now _ _ _ _ _ c.get-value.ensures w.if-value-eq116.false w.writer-is
+          blob_same TRIGGER c.args.values.now c.loop-i.i c.get-value.result.now _ _ _ _ _ c.get-value.ensures w.if-value-eq116.false w.writer-is
           (ap (λ (v : Vec ℕ Global). v.items) w.words-is) c.loop-i.invariant
     ]
