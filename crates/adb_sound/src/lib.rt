@@ -1,8 +1,8 @@
 //! What may stand in a container so that no test of it fails (apk-v3(5)): laws for all that makes
 //! containers.
 //!
-//! They cite `Root` (a value that may stand at the root of a container) and `Container` (a container
-//! that is made of a value and of contents) of `specs/`.
+//! They cite `Root` (a value that may stand at the root of a container) and `Container` (a
+//! container that is made of a value and of contents) of `specs/`.
 #![tactic(auto)]
 
 ghost use Rattle.adb_block.specs.Written.{block_bytes};
@@ -25,8 +25,8 @@ use adb_block::{what_is_spelled_is_read, what_is_written_is_spelled};
 use adb_schema::values_of_few_visits_have_no_fault;
 use adb_write::{a_canonical_payload_is_read_back, a_canonical_payload_is_visited_once};
 
-/// The container of a value that may stand at its root is sound, where no contents are due: an index,
-/// a database or an intent.
+/// The container of a value that may stand at its root is sound, where no contents are due: an
+/// index, a database or an intent.
 pub fn a_container_of_a_good_value_is_sound()
     ensures { (which : Which) (schema : ℕ) (v : Plain)
         → schema_word which ≡ Some schema → which ≢ Tables.Package → IsRootOf which v

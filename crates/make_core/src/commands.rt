@@ -14,15 +14,15 @@ use command_core::{Applet, Command};
 use make_info::MakeFault;
 use std::alloc::Global;
 
-/// Makes the package that a command asks for (apk(8), `mkpkg`): the container's bytes, which pass all
-/// tests of a package. The tree stays as it is, whatever the answer.
+/// Makes the package that a command asks for (apk(8), `mkpkg`): the container's bytes, which pass
+/// all tests of a package. The tree stays as it is, whatever the answer.
 ///
 /// # Errors
 ///
 /// `FileMissing` at the place of the first script whose file is absent; then `InfoBad` as
-/// `read_information` says; then `FileMissing` at the folder's place where a file that was listed is
-/// not found; then `TooLarge` where the package's values pass a limit of the writer. `Disk` where the
-/// tree failed, and `Memory`.
+/// `read_information` says; then `FileMissing` at the folder's place where a file that was listed
+/// is not found; then `TooLarge` where the package's values pass a limit of the writer. `Disk`
+/// where the tree failed, and `Memory`.
 pub fn mkpkg<T: Tree>(alloc: Global, command: &Command, tree: &mut T) -> Result<Vec<u8>, MakeFault>
     requires { command.now.applet ≡ Applet.Mkpkg }
     ensures ok { IfOk result (λ file. IfObservable (T.history tree.old) (λ v.

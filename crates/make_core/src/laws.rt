@@ -34,8 +34,8 @@ pub fn a_made_index_is_sound()
     values_of_few_visits_have_no_fault();
 }
 
-/// A package that `mkpkg` makes is sound, whatever its files and scripts hold, where it has fewer than
-/// 2^64 bytes: of names below its folder, in byte order and each once.
+/// A package that `mkpkg` makes is sound, whatever its files and scripts hold, where it has fewer
+/// than 2^64 bytes: of names below its folder, in byte order and each once.
 pub fn a_made_package_is_sound()
     ensures { (command : CommandLine) (names : List (List ℕ)) (read : Reads) (bytes : List ℕ)
         → AreNamesFor (values_of FILES command.values) names

@@ -1,5 +1,5 @@
-//! Makes packages and indexes (apk(8), `mkpkg` and `mkndx`): a command and a tree come in, the bytes
-//! of a container go out, and they are sound.
+//! Makes packages and indexes (apk(8), `mkpkg` and `mkndx`): a command and a tree come in, the
+//! bytes of a container go out, and they are sound.
 //!
 //! What a package and an index are is said below: `make_info` (the information of a package, the
 //! output's name), `make_package` and `make_index`. `laws` says that what is made is sound.

@@ -1,4 +1,5 @@
--- What an index tells of a package (apk-v3(5)): its info, with the package's id and the length of its file.
+-- What an index says of a package (apk-v3(5)): its info, with the package's id and the length of
+-- its file.
 use Rattle.std.specs.Prelude.{ℕ, zero, suc, List, length}
 use Rattle.adb_view.specs.Plain.{Plain, null, int, blob, arr, obj, Plains, none, more, blob_value, arr_value, obj_value}
 use Rattle.adb_schema.specs.Views.{entries_in, entry_in}
@@ -25,7 +26,8 @@ unfoldable mutual
 
 -- ---- an entry
 
--- the values with another one at a place, which counts from 0; where there are too few, Nulls stand in front of it
+-- the values with another one at an index, which counts from 0; where there are too few, Nulls stand
+-- in front of it
 abbrev pub with_at : ℕ → Plain → Plains → Plains
 with_at zero v none = more v none
 with_at zero v (more u us) = more v us
@@ -34,8 +36,10 @@ with_at (suc i) v (more u us) = more u (with_at i v us)
 
 -- an info with this id as its field `hashes`, and this length as its field `file-size`
 unfoldable pub entry_value : Plain → List ℕ → ℕ → Plain
-entry_value info id len = without_zeros (obj (with_at 12 (int len) (with_at 2 (blob id) (entries_in info))))
+entry_value info id len =
+    without_zeros (obj (with_at 12 (int len) (with_at 2 (blob id) (entries_in info))))
 
--- what is told of the package in a file
+-- what an index says of the package in a file
 abbrev pub entry_of_package : List ℕ → Plain
-entry_of_package file = entry_value (entry_in (package_of file).value 0) (package_id file) (length file)
+entry_of_package file =
+    entry_value (entry_in (package_of file).value 0) (package_id file) (length file)

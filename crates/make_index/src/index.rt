@@ -66,9 +66,9 @@ fn description(values: &Values) -> &[u8]
     }
 }
 
-/// Reads the packages that operands name, one after another up to the first that is no sound one. The
-/// bytes of each file are dropped before the next is read, but where its entry alone passes a limit
-/// of the writer.
+/// Reads the packages that operands name, one after another up to the first that is no sound one.
+/// The bytes of each file are dropped before the next is read, but where its entry alone passes a
+/// limit of the writer.
 fn read_entries<T: Tree>(
     alloc: Global,
     operands: &Operands,
@@ -94,14 +94,15 @@ fn read_entries<T: Tree>(
 /// Adds an entry at the end.
 fn add_entry(entries: &mut Vec<Entry>, entry: Entry) -> Result<(), AllocError>
     ensures { IfOk result (λ _.
-        map entry_view entries.new.items ≡ map entry_view entries.old.items ++ entry_view entry ∷ []) }
+        map entry_view entries.new.items
+        ≡ map entry_view entries.old.items ++ entry_view entry ∷ []) }
 {
     entries.push(entry)?;
     Ok(())
 }
 
-/// Reads the package in the file of this name, and makes all tests of it. The operand at a place names
-/// it.
+/// Reads the package in the file of this name, and makes all tests of it. The operand at a place
+/// names it.
 fn read_entry<T: Tree>(
     alloc: Global,
     place: u32,
@@ -158,10 +159,11 @@ fn sort_entries(entries: &mut Vec<Entry>) -> Result<(), AllocError>
 /// The payload of an index.
 fn index_payload(alloc: Global, description: &[u8], entries: &[Entry]) -> Result<Vec<u8>, MakeFault>
     ensures made { IfOk result (λ payload.
-        written_of (value_of_index description.now (map entry_view entries.now)) ≡ Ok payload.items) }
+        written_of (value_of_index description.now (map entry_view entries.now))
+        ≡ Ok payload.items) }
     ensures small { IfOk result (λ payload. length payload.items ≤ MOST_BYTES) }
-    ensures err { IfErr result (λ fault.
-        IsOverflow fault (written_of (value_of_index description.now (map entry_view entries.now)))) }
+    ensures err { IfErr result (λ fault. IsOverflow fault
+        (written_of (value_of_index description.now (map entry_view entries.now)))) }
 {
     a_value_written_depth_first_is_canonical();
     let mut writer = Writer::new(alloc);

@@ -23,7 +23,8 @@ use std::alloc::{AllocError, Global};
 pub(crate) struct EntryPayload {
     pub(crate) payload: Vec<u8>,
     ghost head: { is_none (head_fault payload.items) ≡ true },
-    ghost sound: { is_sound payload.items (Kinds.Obj Tables.PkgInfo) (root_of payload.items) ≡ true },
+    ghost sound: { is_sound payload.items (Kinds.Obj Tables.PkgInfo) (root_of payload.items)
+        ≡ true },
 }
 
 /// The file of a package.
@@ -74,7 +75,8 @@ impl EntryPayload {
 impl PackageFile {
     /// Writes the entry.
     fn write(&self, alloc: Global, writer: &mut Writer) -> Result<Val, AllocError>
-        ensures { IfOk result (λ word. Writes writer.old (entry_of_package self.now.file.items) word writer.new) }
+        ensures { IfOk result (λ word. Writes writer.old
+            (entry_of_package self.now.file.items) word writer.new) }
     {
         match Package::new(alloc, &self.file) {
             Ok(pkg) => write_package(alloc, writer, &pkg, self.file.len() as u64),

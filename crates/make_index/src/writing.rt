@@ -14,7 +14,8 @@ use std::alloc::{AllocError, Global};
 /// How many fields an info has.
 const INFO_FIELDS: usize = 22;
 
-/// Writes an info with this id as its hash and this length as its file's size. An integer 0 is NULL.
+/// Writes an info with this id as its hash and this length as its file's size. An integer 0 is
+/// NULL.
 pub(crate) fn write_info<'a>(
     alloc: Global,
     writer: &mut Writer,
@@ -22,7 +23,8 @@ pub(crate) fn write_info<'a>(
     id: &'a [u8],
     len: u64,
 ) -> Result<Val, AllocError>
-    ensures { IfOk result (λ word. Writes writer.old (entry_value (info_value info.now) id.now len) word writer.new) }
+    ensures { IfOk result (λ word. Writes writer.old
+        (entry_value (info_value info.now) id.now len) word writer.new) }
 {
     values_are_written_depth_first();
     let mut words = Vec::with_capacity(alloc, INFO_FIELDS)?;
@@ -71,7 +73,8 @@ pub(crate) fn write_info<'a>(
 
 /// Writes texts behind what an object has so far.
 fn add_texts(writer: &mut Writer, words: &mut Vec<Val>, texts: &[&[u8]]) -> Result<(), AllocError>
-    ensures { IfOk result (λ _. IsAppended writer.old words.old.items (text_plains (map (λ t. t.now) texts.now)) writer.new words.new.items) }
+    ensures { IfOk result (λ _. IsAppended writer.old words.old.items
+        (text_plains (map (λ t. t.now) texts.now)) writer.new words.new.items) }
 {
     values_are_written_depth_first();
     for text in texts {
@@ -82,7 +85,8 @@ fn add_texts(writer: &mut Writer, words: &mut Vec<Val>, texts: &[&[u8]]) -> Resu
 
 /// Writes integers behind what an object has so far.
 fn add_ints(writer: &mut Writer, words: &mut Vec<Val>, ints: &[u64]) -> Result<(), AllocError>
-    ensures { IfOk result (λ _. IsAppended writer.old words.old.items (int_plains ints.now) writer.new words.new.items) }
+    ensures { IfOk result (λ _. IsAppended writer.old words.old.items
+        (int_plains ints.now) writer.new words.new.items) }
 {
     values_are_written_depth_first();
     for n in ints {
@@ -98,7 +102,8 @@ fn add_deps<'a>(
     words: &mut Vec<Val>,
     deps: List<'a, DepView<'a>>,
 ) -> Result<(), AllocError>
-    ensures { IfOk result (λ _. IsAppended writer.old words.old.items (more (without_zeros (list_value deps.entry)) none) writer.new words.new.items) }
+    ensures { IfOk result (λ _. IsAppended writer.old words.old.items
+        (more (without_zeros (list_value deps.entry)) none) writer.new words.new.items) }
 {
     values_are_written_depth_first();
     words.push(write_deps(alloc, writer, deps)?)?;
@@ -112,7 +117,8 @@ fn add_tags<'a>(
     words: &mut Vec<Val>,
     tags: List<'a, &'a [u8]>,
 ) -> Result<(), AllocError>
-    ensures { IfOk result (λ _. IsAppended writer.old words.old.items (more (without_zeros (list_value tags.entry)) none) writer.new words.new.items) }
+    ensures { IfOk result (λ _. IsAppended writer.old words.old.items
+        (more (without_zeros (list_value tags.entry)) none) writer.new words.new.items) }
 {
     values_are_written_depth_first();
     words.push(write_tags(alloc, writer, tags)?)?;
@@ -136,7 +142,8 @@ fn write_tags<'a>(
     writer: &mut Writer,
     texts: List<'a, &'a [u8]>,
 ) -> Result<Val, AllocError>
-    ensures { IfOk result (λ word. Writes writer.old (without_zeros (list_value texts.entry)) word writer.new) }
+    ensures { IfOk result (λ word. Writes writer.old
+        (without_zeros (list_value texts.entry)) word writer.new) }
 {
     values_are_written_depth_first();
     let mut words = Vec::new(alloc);
@@ -152,7 +159,8 @@ fn write_deps<'a>(
     writer: &mut Writer,
     deps: List<'a, DepView<'a>>,
 ) -> Result<Val, AllocError>
-    ensures { IfOk result (λ word. Writes writer.old (without_zeros (list_value deps.entry)) word writer.new) }
+    ensures { IfOk result (λ word. Writes writer.old
+        (without_zeros (list_value deps.entry)) word writer.new) }
 {
     values_are_written_depth_first();
     let mut words = Vec::new(alloc);
@@ -164,7 +172,8 @@ fn write_deps<'a>(
 
 /// Writes a dependency.
 fn write_dep(writer: &mut Writer, dep: &DepView<'_>) -> Result<Val, AllocError>
-    ensures { IfOk result (λ word. Writes writer.old (without_zeros (dep_value dep.now)) word writer.new) }
+    ensures { IfOk result (λ word. Writes writer.old
+        (without_zeros (dep_value dep.now)) word writer.new) }
 {
     values_are_written_depth_first();
     let name = writer.blob(dep.name())?;

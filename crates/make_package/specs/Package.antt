@@ -66,7 +66,8 @@ abbrev pub value_of_kind : List ℕ → FileKind → Plain
 value_of_kind name kind =
     obj_value
     (more (blob_value name) (more (access_value 420) (more (size_value (size_of_kind kind))
-    (more null (more (blob_value (hash_of_kind kind)) (more (blob_value (target_of_kind kind)) none))))))
+    (more null (more (blob_value (hash_of_kind kind))
+    (more (blob_value (target_of_kind kind)) none))))))
 
 abbrev pub value_of_file : Source → Plain
 value_of_file file = value_of_kind file.name (kind_of_file file.bytes)
@@ -82,7 +83,8 @@ value_of_folder folder = folder_with folder.name (map value_of_file folder.files
 
 -- the sum of the sizes
 abbrev pub size_of_folder : SourceFolder → ℕ
-size_of_folder folder = sum_by (λ (file : Source). size_of_kind (kind_of_file file.bytes)) folder.files
+size_of_folder folder =
+    sum_by (λ (file : Source). size_of_kind (kind_of_file file.bytes)) folder.files
 
 abbrev pub installed_size : List SourceFolder → ℕ
 installed_size folders = sum_by size_of_folder folders
@@ -108,7 +110,8 @@ package_with info paths scripts triggers priority =
     (more info (more (arr_value (plains_of paths)) (more (value_of_scripts scripts)
     (more (arr_value (plains_of (map blob_value triggers))) (more (number_value priority) none)))))
 
-abbrev pub value_of_package : Plain → List SourceFolder → List Script → List (List ℕ) → Option ℕ → Plain
+abbrev pub value_of_package :
+    Plain → List SourceFolder → List Script → List (List ℕ) → Option ℕ → Plain
 value_of_package info folders scripts triggers priority =
     package_with info (map value_of_folder folders) scripts triggers priority
 

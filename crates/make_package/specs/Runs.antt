@@ -17,8 +17,8 @@ pub record Explains (history : List TreeState) (P : Reads → Type 0) : Type 0 w
   pub observed : AreObserved history read
   pub is : P read
 
--- an answer stands for what is wanted, or is the wanted fault; a fault of the tree and want of memory
--- stand for anything
+-- an answer stands for what is wanted, or is the wanted fault; a fault of the tree and want of
+-- memory stand for anything
 abbrev pub IsAnswer :
     {A B : Type 0} → (A → B → Type 0) → Result A MakeFault → Result B MakeFault → Type 0
 IsAnswer {A} {B} StandsFor (Ok x) wanted = (y : B) × (wanted ≡ Ok y) × StandsFor x y

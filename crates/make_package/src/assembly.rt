@@ -36,7 +36,8 @@ pub(crate) fn package(
 ) -> Result<Vec<u8>, MakeFault>
     requires { packed_size packing.folders.items ≤ length packing.blocks.items }
     ensures made { (sources : List SourceFolder) → IsPacking packing.entry sources
-        → IsAnswer IsBytes result (package_of_parts command.now (scripts_view scripts.now) about.now sources) }
+        → IsAnswer IsBytes result (package_of_parts command.now
+        (scripts_view scripts.now) about.now sources) }
     ensures disk { IsNotDisk result }
 {
     // Each size stands in the blocks, so that the sum has 64 bits.
@@ -77,7 +78,8 @@ fn size_in(files: &[File<'_>]) -> u64
     size
 }
 
-/// The payload of a package with this information, these folders and scripts, and with what the values of options say.
+/// The payload of a package with this information, these folders and scripts, and with what the
+/// values of options say.
 fn payload(
     alloc: Global,
     values: &Values,
@@ -86,9 +88,15 @@ fn payload(
     scripts: &[Script<'_>],
     size: u64,
 ) -> Result<Vec<u8>, MakeFault>
-    ensures made { IfOk result (λ payload. written_of (package_with (information_value about.now size) (map packed_folder folders.now) (scripts_view scripts.now) (texts_of (values_of TRIGGER values.now)) (replaces_priority about.now)) ≡ Ok payload.items) }
+    ensures made { IfOk result (λ payload. written_of
+        (package_with (information_value about.now size) (map packed_folder folders.now)
+        (scripts_view scripts.now) (texts_of (values_of TRIGGER values.now))
+        (replaces_priority about.now)) ≡ Ok payload.items) }
     ensures small { IfOk result (λ payload. length payload.items ≤ MOST_BYTES) }
-    ensures err { IfErr result (λ fault. IsOverflow fault (written_of (package_with (information_value about.now size) (map packed_folder folders.now) (scripts_view scripts.now) (texts_of (values_of TRIGGER values.now)) (replaces_priority about.now)))) }
+    ensures err { IfErr result (λ fault. IsOverflow fault
+        (written_of (package_with (information_value about.now size)
+        (map packed_folder folders.now) (scripts_view scripts.now)
+        (texts_of (values_of TRIGGER values.now)) (replaces_priority about.now)))) }
 {
     a_value_written_depth_first_is_canonical();
     let mut writer = Writer::new(alloc);
@@ -106,7 +114,10 @@ fn write_root(
     scripts: &[Script<'_>],
     size: u64,
 ) -> Result<Val, AllocError>
-    ensures { IfOk result (λ root. Writes writer.old (package_with (information_value about.now size) (map packed_folder folders.now) (scripts_view scripts.now) (texts_of (values_of TRIGGER values.now)) (replaces_priority about.now)) root writer.new) }
+    ensures { IfOk result (λ root. Writes writer.old
+        (package_with (information_value about.now size) (map packed_folder folders.now)
+        (scripts_view scripts.now) (texts_of (values_of TRIGGER values.now))
+        (replaces_priority about.now)) root writer.new) }
 {
     let info = about.write(writer, size)?;
     let priority = about.replaces_priority();
@@ -117,7 +128,8 @@ fn write_root(
 /// The package with this payload and these blocks behind it, which are not held twice.
 fn package_file(alloc: Global, payload: &[u8], mut blocks: Vec<u8>) -> Result<Vec<u8>, AllocError>
     requires { length payload.now ≤ MOST_BYTES }
-    ensures { IfOk result (λ bytes. bytes.items ≡ file_of PACKAGE_WORD payload.now ++ blocks.items) }
+    ensures { IfOk result (λ bytes. bytes.items
+        ≡ file_of PACKAGE_WORD payload.now ++ blocks.items) }
 {
     let front = file_of(alloc, PACKAGE_WORD, payload)?;
     put_in_front(&mut blocks, &front)?;

@@ -45,7 +45,8 @@ pub(crate) enum FileKind {
 }
 
 impl FileKind {
-    /// What the bytes are: a link, where they are its mark and a text that is not empty, else a regular file.
+    /// What the bytes are: a link, where they are its mark and a text that is not empty, else a
+    /// regular file.
     #[tactic(auto, unfolding(crate::specs::Package::kind_of_file))]
     pub(crate) fn of(alloc: Global, bytes: &[u8]) -> Result<FileKind, AllocError>
         ensures { IfOk result (λ kind. kind ≡ kind_of_file bytes.now) }
@@ -92,7 +93,8 @@ impl FileKind {
         }
     }
 
-    /// Whether the file has contents behind the package's values: it is a regular file that is not empty.
+    /// Whether the file has contents behind the package's values: it is a regular file that is not
+    /// empty.
     pub(crate) fn has_contents(&self) -> bool
         ensures { result ≡ has_contents self.now }
     {
@@ -113,7 +115,8 @@ fn target(alloc: Global, text: &[u8]) -> Result<Text, AllocError>
 /// The text behind the mark of a link. None comes exactly where the bytes are no link.
 #[tactic(auto, unfolding(crate::specs::Package::is_link_file))]
 fn link_text(bytes: &[u8]) -> Option<&[u8]>
-    ensures { MatchOption result (is_link_file bytes.now ≡ false) (λ text. (is_link_file bytes.now ≡ true) × (text.now ≡ link_text bytes.now)) }
+    ensures { MatchOption result (is_link_file bytes.now ≡ false) (λ text.
+        (is_link_file bytes.now ≡ true) × (text.now ≡ link_text bytes.now)) }
 {
     let text = bytes.strip_prefix(b"!<symlink>")?;
     if text.is_empty() || !is_text(text) {

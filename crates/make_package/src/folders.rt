@@ -24,7 +24,8 @@ impl<'a> Model for FolderNames<'a> {
 
     ghost view = { λ folders. map (λ name. name.now) folders.names.items };
 
-    ghost invariant = { λ folders. IsStrictlySortedBy (slice_cmp nat_cmp) (map (λ name. name.now) folders.names.items) };
+    ghost invariant = { λ folders. IsStrictlySortedBy (slice_cmp nat_cmp)
+        (map (λ name. name.now) folders.names.items) };
 }
 
 impl<'a> FolderNames<'a> {
@@ -50,8 +51,8 @@ impl<'a> FolderNames<'a> {
         Ok(())
     }
 
-    /// Adds a folder, unless it is there. Paths that come in byte order bring the folders nearly in order: one comes too
-    /// late only behind those that its name begins, so that few are moved.
+    /// Adds a folder, unless it is there. Paths that come in byte order bring the folders nearly in
+    /// order: one comes too late only behind those that its name begins, so that few are moved.
     fn add(&mut self, folder: &'a [u8]) -> Result<(), AllocError>
         ensures { OnOk result (self.new ≡ with_name folder.now self.old) }
     {
@@ -107,7 +108,8 @@ pub(crate) fn names_in_folders<'a>(
     names: &'a Names,
     folders: &FolderNames<'_>,
 ) -> Result<Vec<Vec<&'a Name>>, AllocError>
-    ensures { IfOk result (λ files. map names_borrowed files.items ≡ map (names_in_folder dir.now names.now) folders.now) }
+    ensures { IfOk result (λ files. map names_borrowed files.items ≡ map
+        (names_in_folder dir.now names.now) folders.now) }
 {
     let mut files = empty_lists(alloc, folders.len())?;
     for i in 0..names.len() {

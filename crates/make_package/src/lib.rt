@@ -1,4 +1,5 @@
-//! Makes a package (apk(8), `mkpkg`): a command and a tree come in, the bytes of a container go out.
+//! Makes a package (apk(8), `mkpkg`): a command and a tree come in, the bytes of a container go
+//! out.
 //!
 //! The contract cites `Folders`, `Package` and `Sources` (what a package is made of, and its value)
 //! and `Making` (the package of a command) of `specs/`.

@@ -15,16 +15,16 @@ use command_core::{Applet, Command};
 use make_info::{MakeFault, read_information};
 use std::alloc::Global;
 
-/// Makes the package that a command asks for: lists the names below its folder, reads the scripts and
-/// the files, each once, and writes the container's bytes. The tree stays as it is, whatever the
-/// answer.
+/// Makes the package that a command asks for: lists the names below its folder, reads the scripts
+/// and the files, each once, and writes the container's bytes. The tree stays as it is, whatever
+/// the answer.
 ///
 /// # Errors
 ///
 /// `FileMissing` at the place of the first script whose file is absent; then `InfoBad` as
-/// `read_information` says; then `FileMissing` at the folder's place where a file that was listed is
-/// not found; then `TooLarge` where the package's values pass a limit of the writer. `Disk` where the
-/// tree failed, and `Memory`.
+/// `read_information` says; then `FileMissing` at the folder's place where a file that was listed
+/// is not found; then `TooLarge` where the package's values pass a limit of the writer. `Disk`
+/// where the tree failed, and `Memory`.
 pub fn make<T: Tree>(alloc: Global, command: &Command, tree: &mut T) -> Result<Vec<u8>, MakeFault>
     requires { command.now.applet ≡ Applet.Mkpkg }
     ensures tree { OnlyReads MakeFault.Disk (T.history tree.old) (T.history tree.new)
@@ -45,7 +45,8 @@ fn pack<T: Tree>(
     requires { command.now.applet ≡ Applet.Mkpkg }
     ensures tree { OnlyReads MakeFault.Disk (T.history tree.old) (T.history tree.new)
         (T.counts tree.old) (T.counts tree.new) result }
-    ensures read { Explains (T.history tree.old) (λ read. IsAnswer IsBytes result (made_package command.now names.now read)) }
+    ensures read { Explains (T.history tree.old) (λ read.
+        IsAnswer IsBytes result (made_package command.now names.now read)) }
 {
     contents_stand_in_their_container();
     readings_in_a_row_join::<Vec<Script<'_>>, Packing<'_>, MakeFault>();

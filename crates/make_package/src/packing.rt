@@ -18,8 +18,9 @@ use base_core::{Name, Names, Tree, read_all};
 use make_info::MakeFault;
 use std::alloc::{AllocError, Global};
 
-/// Appends the block with the contents of a file: the positions of its folder and of itself in it, which count from 1,
-/// and its bytes. A position of more than 32 bits is cut: so many files pass the limits of a payload.
+/// Appends the block with the contents of a file: the positions of its folder and of itself in it,
+/// which count from 1, and its bytes. A position of more than 32 bits is cut: so many files pass
+/// the limits of a payload.
 pub(crate) fn append_block(
     blocks: &mut Vec<u8>,
     folder: u64,
@@ -27,7 +28,8 @@ pub(crate) fn append_block(
     bytes: &[u8],
 ) -> Result<(), AllocError>
     requires { length bytes.now < 2 ^ 63 }
-    ensures { OnOk result (blocks.new.items ≡ blocks.old.items ++ contents_block (record { folder = folder; file = file; bytes = bytes.now })) }
+    ensures { OnOk result (blocks.new.items ≡ blocks.old.items ++ contents_block
+        (record { folder = folder; file = file; bytes = bytes.now })) }
 {
     let head = block_head(BlockKind::Contents, 8 + bytes.len() as u64);
     blocks.extend_from_slice(head.bytes())?;
@@ -54,7 +56,8 @@ pub(crate) fn put_in_front(bytes: &mut Vec<u8>, front: &[u8]) -> Result<(), Allo
     Ok(())
 }
 
-/// Packs the files of these names, which the word at a place lists below a folder of the tree: folder by folder.
+/// Packs the files of these names, which the argument at a place lists below a folder of the tree:
+/// folder by folder.
 pub(crate) fn pack_names<'a, T: Tree>(
     alloc: Global,
     tree: &mut T,
@@ -64,7 +67,9 @@ pub(crate) fn pack_names<'a, T: Tree>(
 ) -> Result<Packing<'a>, MakeFault>
     ensures tree { OnlyReads MakeFault.Disk (T.history tree.old) (T.history tree.new)
         (T.counts tree.old) (T.counts tree.new) result }
-    ensures read { (n : ℕ) → Explains (T.history tree.old) (λ read. IsAnswer IsPacking result (source_folders_from place read n (folders_of dir.now names.now))) }
+    ensures read { (n : ℕ) → Explains (T.history tree.old) (λ read.
+        IsAnswer IsPacking result (source_folders_from place read n
+        (folders_of dir.now names.now))) }
 {
     let folders = folder_names(alloc, dir, names)?;
     let files = names_in_folders(alloc, dir, names, &folders)?;
@@ -72,7 +77,8 @@ pub(crate) fn pack_names<'a, T: Tree>(
     Ok(packing)
 }
 
-/// Packs the files of these folders, of each of which the names of its files are given. The word at a place lists them.
+/// Packs the files of these folders, of each of which the names of its files are given. The
+/// argument at a place lists them.
 fn pack_folders<'a, T: Tree>(
     alloc: Global,
     tree: &mut T,
@@ -83,7 +89,9 @@ fn pack_folders<'a, T: Tree>(
     requires { length files.now ≡ length folders.now }
     ensures tree { OnlyReads MakeFault.Disk (T.history tree.old) (T.history tree.new)
         (T.counts tree.old) (T.counts tree.new) result }
-    ensures read { (n : ℕ) → Explains (T.history tree.old) (λ read. IsAnswer IsPacking result (source_folders_from place read n (listings_of folders.now files.now))) }
+    ensures read { (n : ℕ) → Explains (T.history tree.old) (λ read.
+        IsAnswer IsPacking result (source_folders_from place read n
+        (listings_of folders.now files.now))) }
 {
     let mut packed = Vec::new(alloc);
     let mut blocks = Vec::new(alloc);
@@ -126,13 +134,20 @@ fn pack_folder<'a, T: Tree>(
 ) -> Result<Folder<'a>, MakeFault>
     ensures tree { OnlyReads MakeFault.Disk (T.history tree.old) (T.history tree.new)
         (T.counts tree.old) (T.counts tree.new) result }
-    ensures read { (n : ℕ) → Explains (T.history tree.old) (λ read. IsAnswer (IsPackedFolder position blocks.old.items blocks.new.items) result (folder_at place read n (record { name = name.now; files = map (λ name. name.now) names.now }))) }
+    ensures read { (n : ℕ) → Explains (T.history tree.old) (λ read.
+        IsAnswer (IsPackedFolder position blocks.old.items blocks.new.items) result
+        (folder_at place read n (record {
+          name = name.now;
+          files = map (λ name.
+              name.now) names.now;
+        }))) }
 {
     let files = pack_files(alloc, tree, place, position, names, blocks)?;
     Ok(Folder { name, files })
 }
 
-/// Packs the files of these names, which stand in the folder at a position: their contents are appended to the blocks.
+/// Packs the files of these names, which stand in the folder at a position: their contents are
+/// appended to the blocks.
 fn pack_files<'a, T: Tree>(
     alloc: Global,
     tree: &mut T,
@@ -143,7 +158,9 @@ fn pack_files<'a, T: Tree>(
 ) -> Result<Vec<File<'a>>, MakeFault>
     ensures tree { OnlyReads MakeFault.Disk (T.history tree.old) (T.history tree.new)
         (T.counts tree.old) (T.counts tree.new) result }
-    ensures read { (n : ℕ) → Explains (T.history tree.old) (λ read. IsAnswer (ArePackedFiles folder blocks.old.items blocks.new.items) result (sources_from place read n (map (λ name. name.now) names.now))) }
+    ensures read { (n : ℕ) → Explains (T.history tree.old) (λ read.
+        IsAnswer (ArePackedFiles folder blocks.old.items blocks.new.items) result
+        (sources_from place read n (map (λ name. name.now) names.now))) }
 {
     let mut files = Vec::new(alloc);
     for i in 0..names.len() {
@@ -172,7 +189,9 @@ fn pack_file<'a, T: Tree>(
 ) -> Result<File<'a>, MakeFault>
     ensures tree { OnlyReads MakeFault.Disk (T.history tree.old) (T.history tree.new)
         (T.counts tree.old) (T.counts tree.new) result }
-    ensures read { (n : ℕ) → Explains (T.history tree.old) (λ read. IsAnswer (IsPackedFile position.0 position.1 blocks.old.items blocks.new.items) result (file_at place read n name.now)) }
+    ensures read { (n : ℕ) → Explains (T.history tree.old) (λ read.
+        IsAnswer (IsPackedFile position.0 position.1 blocks.old.items blocks.new.items) result
+        (file_at place read n name.now)) }
 {
     let bytes = read_file(alloc, tree, place, name)?;
     let kind = FileKind::of(alloc, &bytes)?;
@@ -190,7 +209,8 @@ fn append_contents(
 ) -> Result<(), AllocError>
     requires kind { kind.now ≡ kind_of_file bytes.now }
     requires short { length bytes.now < 2 ^ 63 }
-    ensures { OnOk result (blocks.new.items ≡ blocks.old.items ++ contents_blocks (contents_of_file position.0 position.1 bytes.now)) }
+    ensures { OnOk result (blocks.new.items ≡ blocks.old.items ++ contents_blocks
+        (contents_of_file position.0 position.1 bytes.now)) }
 {
     if !kind.has_contents() {
         return Ok(());
@@ -199,7 +219,7 @@ fn append_contents(
     Ok(())
 }
 
-/// Reads the file under a name, which the word at a place gives or lists.
+/// Reads the file under a name, which the argument at a place gives or lists.
 pub(crate) fn read_file<T: Tree>(
     alloc: Global,
     tree: &mut T,
@@ -208,7 +228,8 @@ pub(crate) fn read_file<T: Tree>(
 ) -> Result<Vec<u8>, MakeFault>
     ensures tree { OnlyReads MakeFault.Disk (T.history tree.old) (T.history tree.new)
         (T.counts tree.old) (T.counts tree.new) result }
-    ensures read { (n : ℕ) → Explains (T.history tree.old) (λ read. IsAnswer (λ bytes found. found ≡ bytes.items) result (found_at place (read n name.now))) }
+    ensures read { (n : ℕ) → Explains (T.history tree.old) (λ read.
+        IsAnswer (λ bytes found. found ≡ bytes.items) result (found_at place (read n name.now))) }
 {
     match read_all(alloc, tree, name)? {
         Some(bytes) => Ok(bytes),

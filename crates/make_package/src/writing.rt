@@ -1,4 +1,5 @@
-//! Writes the value of a package (apk-v3(5)): its folders with their files, its scripts and triggers.
+//! Writes the value of a package (apk-v3(5)): its folders with their files, its scripts and
+//! triggers.
 ghost use Rattle.command_core.specs.declared.values.TheConstants.{TRIGGER};
 ghost use Rattle.adb_view.specs.Plain.{arr_value, Plain, blob_value};
 ghost use Rattle.adb_write.specs.DepthFirst.{Writes, WritesAll};
@@ -28,7 +29,8 @@ fn write_paths(
     writer: &mut Writer,
     folders: &[Folder<'_>],
 ) -> Result<Val, AllocError>
-    ensures { IfOk result (λ word. Writes writer.old (arr_value (plains_of (map packed_folder folders.now))) word writer.new) }
+    ensures { IfOk result (λ word. Writes writer.old
+        (arr_value (plains_of (map packed_folder folders.now))) word writer.new) }
 {
     values_are_written_depth_first();
     let mut words = Vec::with_capacity(alloc, folders.len())?;
@@ -54,7 +56,8 @@ fn write_folder(alloc: Global, writer: &mut Writer, folder: &Folder<'_>) -> Resu
 
 /// Writes the files of a folder.
 fn write_files(alloc: Global, writer: &mut Writer, files: &[File<'_>]) -> Result<Val, AllocError>
-    ensures { IfOk result (λ word. Writes writer.old (arr_value (plains_of (map packed_file files.now))) word writer.new) }
+    ensures { IfOk result (λ word. Writes writer.old
+        (arr_value (plains_of (map packed_file files.now))) word writer.new) }
 {
     values_are_written_depth_first();
     let mut words = Vec::with_capacity(alloc, files.len())?;
@@ -115,7 +118,8 @@ pub(crate) struct Script<'a> {
 
 /// Writes the scripts: a field for each type, in order.
 fn write_scripts(writer: &mut Writer, scripts: &[Script<'_>]) -> Result<Val, AllocError>
-    ensures { IfOk result (λ word. Writes writer.old (value_of_scripts (scripts_view scripts.now)) word writer.new) }
+    ensures { IfOk result (λ word. Writes writer.old
+        (value_of_scripts (scripts_view scripts.now)) word writer.new) }
 {
     values_are_written_depth_first();
     let trigger = writer.blob(script_of(scripts, b"trigger"))?;
@@ -170,8 +174,11 @@ pub(crate) fn write_package(
     values: &Values,
     priority: Option<u64>,
 ) -> Result<Val, AllocError>
-    ensures { IfOk result (λ word. (before : Writing) (about : Plain) → Writes before about info writer.old
-        → Writes before (package_with about (map packed_folder folders.now) (scripts_view scripts.now) (texts_of (values_of TRIGGER values.now)) priority) word writer.new) }
+    ensures { IfOk result (λ word. (before : Writing) (about : Plain)
+        → Writes before about info writer.old
+        → Writes before (package_with about (map packed_folder folders.now)
+        (scripts_view scripts.now) (texts_of
+        (values_of TRIGGER values.now)) priority) word writer.new) }
 {
     values_are_written_depth_first();
     let paths = write_paths(alloc, writer, folders)?;
@@ -184,7 +191,9 @@ pub(crate) fn write_package(
 
 /// Writes the triggers: the values of the option for them, in the order given.
 fn write_triggers(alloc: Global, writer: &mut Writer, values: &Values) -> Result<Val, AllocError>
-    ensures { IfOk result (λ word. Writes writer.old (arr_value (plains_of (map blob_value (texts_of (values_of TRIGGER values.now))))) word writer.new) }
+    ensures { IfOk result (λ word. Writes writer.old
+        (arr_value (plains_of (map blob_value
+        (texts_of (values_of TRIGGER values.now))))) word writer.new) }
 {
     values_are_written_depth_first();
     let mut words = Vec::new(alloc);
