@@ -4,9 +4,10 @@ use Rattle.std.specs.Prelude.{map}
 use Rattle.std.proofs.lemmas.Bool.{le-ltb, eq-eqb}
 use Rattle.std.proofs.lemmas.Nat.{from_le_bytes-to_le_bytes_4}
 use Rattle.base_core.specs.declared.cause.Cause.{Cause}
-use Rattle.adb_block.specs.Container.{Piece}
-use Rattle.adb_block.specs.Reading.{Reading, done, fault, more, in_front, pieces_of}
-use Rattle.adb_block.specs.Written.{MayStand}
+use Rattle.adb_block.specs.Piece.{Piece}
+use Rattle.adb_block.specs.Reading.{Reading, done, fault, more}
+use Rattle.adb_block.specs.AllBlocks.{with_block, pieces_of}
+use Rattle.adb_block.specs.Container.{MayStand}
 use Rattle.adb_block.specs.declared.block.BlockKind.TheVariants as Kinds
 use Rattle.adb_schema.specs.Soundness.{file_pair}
 use Rattle.pkg_core.specs.Contents.{Expected, Contents, IsContentsOf, AreContentsOf, bytes_in, contents_block_fault, contents_fault, fault_in, file_fault, files_of, is_of, unless, with_next}
@@ -22,11 +23,11 @@ pub record IsFirstOf (r : Reading) (b : Piece) (bs : List Piece) : Type 0 where
   pub is : r ≡ more b at later
   pub others : pieces_of later ≡ Ok bs
 
-in_front_is : (c b : Piece) (bs : List Piece) (o : Result (List Piece) Cause) → in_front c o ≡ Ok (b ∷ bs) → (c ≡ b) × (o ≡ Ok bs)
+in_front_is : (c b : Piece) (bs : List Piece) (o : Result (List Piece) Cause) → with_block c o ≡ Ok (b ∷ bs) → (c ≡ b) × (o ≡ Ok bs)
 in_front_is c b bs (Ok cs) e = (cc, cc)
 in_front_is c b bs (Err f) e = absurd cc
 
-in_front_some : (c : Piece) (o : Result (List Piece) Cause) → in_front c o ≡ Ok [] → ⊥
+in_front_some : (c : Piece) (o : Result (List Piece) Cause) → with_block c o ≡ Ok [] → ⊥
 in_front_some c (Ok cs) e = cc
 in_front_some c (Err f) e = cc
 

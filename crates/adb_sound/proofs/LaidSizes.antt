@@ -4,7 +4,7 @@ use Rattle.std.specs.Int.{w32, to_le_bytes}
 use Rattle.std.specs.List.{flat_map}
 use Rattle.std.proofs.lemmas.List.{length-append}
 use Rattle.std.proofs.lemmas.List.Concat.{flat_map-cons}
-use Rattle.adb_block.specs.Container.{Piece, padding_of}
+use Rattle.adb_block.specs.Piece.{Piece, padding_of}
 use Rattle.adb_block.specs.Written.{block_bytes, head_bytes, long_head_bytes, short_head_bytes}
 use Rattle.adb_block.specs.declared.block.BlockKind.{BlockKind}
 use Rattle.adb_view.specs.Plain.{Plain}

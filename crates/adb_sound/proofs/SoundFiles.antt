@@ -1,10 +1,11 @@
 -- Of a whole file no test fails.
 use Rattle.std.proofs.Common.{◌≡◌, ◌≢◌, ℕ, ◌^◌, ◌<◌, List, [], ◌∷◌, Some, None, Ok, refl, ap, sym, subst, ◌∙◌, arith, lit<, length}
 use Rattle.std.specs.Prelude.{map}
-use Rattle.adb_block.specs.Container.{Piece}
+use Rattle.adb_block.specs.Piece.{Piece}
 use Rattle.adb_block.specs.Header.{header_of}
 use Rattle.adb_block.specs.Standing.{start_of}
-use Rattle.adb_block.specs.Reading.{Reading, done, more, reading_of, pieces_of, rest_of, blocks_behind, blocks_of}
+use Rattle.adb_block.specs.Reading.{Reading, done, more, reading_of}
+use Rattle.adb_block.specs.AllBlocks.{pieces_of, rest_of, blocks_behind, blocks_of}
 use Rattle.adb_view.specs.Plain.{Plain}
 use Rattle.adb_schema.specs.Soundness.{blocks_fault, file_fault, further_fault, payload_fault, root_value, schema_word}
 use Rattle.adb_schema.specs.Soundness as S

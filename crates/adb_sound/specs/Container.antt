@@ -1,7 +1,7 @@
 -- A container that is made of a value, and of a package the contents of its files behind it.
 use Rattle.std.specs.Prelude.{ℕ, List, ◌∷◌, ◌++◌, map}
 use Rattle.std.specs.Int.{w32, to_le_bytes}
-use Rattle.adb_block.specs.Container.{Piece}
+use Rattle.adb_block.specs.Piece.{Piece}
 use Rattle.adb_block.specs.Written.{container}
 use Rattle.adb_block.specs.declared.block.BlockKind.TheVariants as Kinds
 use Rattle.adb_view.specs.Plain.{Plain}

@@ -1,5 +1,5 @@
 ghost use Rattle.std.specs.Prelude.{◌≡◌, ◌≤◌, ◌<◌, length, IfOk};
-ghost use Rattle.adb_block.specs.Container.{padding_of};
+ghost use Rattle.adb_block.specs.Piece.{padding_of};
 ghost use Rattle.adb_write.specs.File.{file_of};
 
 use adb_block::{BlockKind, block_head};

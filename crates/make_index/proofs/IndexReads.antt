@@ -8,7 +8,7 @@ use Rattle.base_core.specs.Calls.{IfObservable}
 use Rattle.base_core.specs.Tree.{TreeState, files_of}
 use Rattle.adb_view.specs.Plain.{Plain}
 use Rattle.std.specs.Option.{option_map}
-use Rattle.command_core.specs.Operands.{are_files, file_of}
+use Rattle.command_core.specs.Operands.{are_files, operand_file}
 use Rattle.command_core.specs.Files.{is_file, without_dot}
 use Rattle.command_core.specs.declared.operands.Operand.{Operand}
 use Rattle.make_index.specs.Index.{and_entries, found_entries, found_entry}
@@ -34,9 +34,9 @@ found_told view (v ∷ earlier) r place name found h made =
     by_made view r (found_entry place (files_of v name)) (subst (λ (o : Option (List ℕ)). IsMade view r (found_entry place o)) h made)
 
 -- the file that an operand names
-pub operand_name : (os : List Operand) (i : ℕ) (o : Operand) (name : List ℕ) → slice_get os i ≡ Some o → option_map file_of (slice_get os i) ≡ Some name → name ≡ without_dot o.text
+pub operand_name : (os : List Operand) (i : ℕ) (o : Operand) (name : List ℕ) → slice_get os i ≡ Some o → option_map operand_file (slice_get os i) ≡ Some name → name ≡ without_dot o.text
 operand_name os i o name at e =
-    let both : Some name ≡ Some (without_dot o.text) = sym e ∙ ap (option_map file_of) at in
+    let both : Some name ≡ Some (without_dot o.text) = sym e ∙ ap (option_map operand_file) at in
     cc (both)
 
 pub named_as : {A : Type 0} (view : A → Plain) (history : List TreeState) (r : Result A MakeFault) (place : ℕ) (file name : List ℕ) → file ≡ name

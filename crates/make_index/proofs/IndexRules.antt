@@ -5,11 +5,11 @@ use Rattle.version_core.specs.Order.{is_version}
 use Rattle.base_core.specs.declared.cause.Cause.{Cause}
 use Rattle.base_core.specs.declared.cause.Cause.TheVariants.{BadText}
 use Rattle.adb_block.specs.declared.block.BlockKind.{BlockKind}
-use Rattle.adb_block.specs.Framing.{HeadFields, Step, ended, failed, block, sized, ordered, headed, step, head_of, kind_numbered}
-use Rattle.adb_block.specs.Container.{Piece, comes_after, least}
+use Rattle.adb_block.specs.Framing.{HeadFields, Step, ended, failed, block, step_by_size, step_by_order, step_by_head, next_step, head_of, kind_of_number}
+use Rattle.adb_block.specs.Piece.{Piece, comes_after, least_payload}
 use Rattle.adb_block.specs.Header.{header_of}
 use Rattle.adb_block.specs.Standing.{start_of}
-use Rattle.adb_block.specs.Reading.{Reading, done, fault, more as further, stepped, reading_from, reading_of}
+use Rattle.adb_block.specs.Reading.{Reading, done, fault, more as further, reading_by_step, reading_from, reading_of}
 use Rattle.adb_view.specs.Head.{head_fault, root_of}
 use Rattle.adb_view.specs.Plain.{Plain, Plains, none, more, Shape, text, Fields, no_fields, field}
 use Rattle.adb_schema.specs.Schema.{shape_of, shapes_of, table}
@@ -57,21 +57,21 @@ if_on : (b : Bool) (s t : Step) → GoesOn s → GoesOn t → GoesOn (if b then 
 if_on true s t h g = h
 if_on false s t h g = g
 
-ordered_on : (last : Option BlockKind) (at : ℕ) (bytes : List ℕ) (head : HeadFields) (kind : Option BlockKind) → GoesOn (ordered last at bytes head kind)
+ordered_on : (last : Option BlockKind) (at : ℕ) (bytes : List ℕ) (head : HeadFields) (kind : Option BlockKind) → GoesOn (step_by_order last at bytes head kind)
 ordered_on last at bytes head None = tt
 ordered_on last at bytes head (Some kind) =
-    if_on (comes_after last kind) (sized at bytes head kind) (failed _)
-    (if_on (nat_lt head.raw head.len || nat_lt (length bytes) head.raw) (failed _) (if nat_lt (head.raw - head.len) (least kind) then failed _ else block _ _) tt (if_on (nat_lt (head.raw - head.len) (least kind)) (failed _) (block _ _) tt tt)) tt
+    if_on (comes_after last kind) (step_by_size at bytes head kind) (failed _)
+    (if_on (nat_lt head.raw head.len || nat_lt (length bytes) head.raw) (failed _) (if nat_lt (head.raw - head.len) (least_payload kind) then failed _ else block _ _) tt (if_on (nat_lt (head.raw - head.len) (least_payload kind)) (failed _) (block _ _) tt tt)) tt
 
-headed_on : (last : Option BlockKind) (at : ℕ) (bytes : List ℕ) (head : Option HeadFields) → GoesOn (headed last at bytes head)
+headed_on : (last : Option BlockKind) (at : ℕ) (bytes : List ℕ) (head : Option HeadFields) → GoesOn (step_by_head last at bytes head)
 headed_on last at bytes None = tt
-headed_on last at bytes (Some head) = ordered_on last at bytes head (kind_numbered head.kind)
+headed_on last at bytes (Some head) = ordered_on last at bytes head (kind_of_number head.kind)
 
-step_on : (at : ℕ) (bytes : List ℕ) → GoesOn (step None at bytes)
-unfolding step
+step_on : (at : ℕ) (bytes : List ℕ) → GoesOn (next_step None at bytes)
+unfolding next_step
 step_on at bytes = if_on (length bytes == 0) _ _ tt (headed_on None at bytes (head_of bytes))
 
-stepped_read : (which : Which) (rest : Plain → Reading → Option Cause) (at : ℕ) (f : Piece → ℕ → Reading) (s : Step) → GoesOn s → blocks_fault rest which (stepped at f s) ≡ None → IsReadAt which (stepped at f s)
+stepped_read : (which : Which) (rest : Plain → Reading → Option Cause) (at : ℕ) (f : Piece → ℕ → Reading) (s : Step) → GoesOn s → blocks_fault rest which (reading_by_step at f s) ≡ None → IsReadAt which (reading_by_step at f s)
 stepped_read which rest at f ended g h = absurd g
 stepped_read which rest at f (failed c) g h = some_none c h
 stepped_read which rest at f (block b size) g h = or_first (payload_fault which b.payload) _ h
@@ -85,7 +85,7 @@ file_payload : (rest : Plain → Reading → Option Cause) (which : Which) (file
 unfolding reading_of reading_from
 file_payload rest which file (Err c) h = absurd (some_none c h)
 file_payload rest which file (Ok schema) h =
-    read_payload which (reading_of (start_of schema file)) (stepped_read which rest _ _ (step None 8 (drop 8 file)) (step_on 8 (drop 8 file)) (or_later (schema_fault which schema) _ h))
+    read_payload which (reading_of (start_of schema file)) (stepped_read which rest _ _ (next_step None 8 (drop 8 file)) (step_on 8 (drop 8 file)) (or_later (schema_fault which schema) _ h))
 
 pub sound_payload : (which : Which) (file : List ℕ) → first_fault which file ≡ None → payload_fault which (payload_in file) ≡ None
 unfolding first_fault payload_in

@@ -4,10 +4,10 @@ use Rattle.std.specs.Prelude.{All, nat_lt, if◌then◌else◌, ◌||◌, ◌==�
 use Rattle.std.proofs.lemmas.List.Elements.{All-take, All-drop}
 use Rattle.base_core.specs.declared.cause.Cause.{Cause}
 use Rattle.adb_block.specs.declared.block.BlockKind.{BlockKind}
-use Rattle.adb_block.specs.Framing.{HeadFields, Step, ended, failed, block, sized, ordered, headed, at_end, step, head_of, kind_numbered}
-use Rattle.adb_block.specs.Container.{Piece, comes_after, least, padding_of}
+use Rattle.adb_block.specs.Framing.{HeadFields, Step, ended, failed, block, step_by_size, step_by_order, step_by_head, step_at_end, next_step, head_of, kind_of_number}
+use Rattle.adb_block.specs.Piece.{Piece, comes_after, least_payload, padding_of}
 use Rattle.adb_block.specs.Header.{header_of}
-use Rattle.adb_block.specs.Reading.{Reading, stepped, reading_from, reading_of}
+use Rattle.adb_block.specs.Reading.{Reading, reading_by_step, reading_from, reading_of}
 use Rattle.adb_schema.specs.Soundness.{first_payload, payload_behind, payload_in}
 
 -- ---- the payload is a part of the file
@@ -22,32 +22,32 @@ module _ (P : ℕ → Type 0) where
   if_step true s t h g = h
   if_step false s t h g = g
 
-  sized_all : (at : ℕ) (bytes : List ℕ) (head : HeadFields) (kind : BlockKind) → All P bytes → PieceAll P (sized at bytes head kind)
+  sized_all : (at : ℕ) (bytes : List ℕ) (head : HeadFields) (kind : BlockKind) → All P bytes → PieceAll P (step_by_size at bytes head kind)
   sized_all at bytes head kind h =
       if_step (nat_lt head.raw head.len || nat_lt (length bytes) head.raw) _ _ tt
-      (if_step (nat_lt (head.raw - head.len) (least kind)) _ (block (record { kind = kind; payload = take (head.raw - head.len) (drop head.len bytes) }) (head.raw + padding_of head.raw)) tt
+      (if_step (nat_lt (head.raw - head.len) (least_payload kind)) _ (block (record { kind = kind; payload = take (head.raw - head.len) (drop head.len bytes) }) (head.raw + padding_of head.raw)) tt
       (All-take P (head.raw - head.len) (drop head.len bytes) (All-drop P head.len bytes h)))
 
-  ordered_all : (last : Option BlockKind) (at : ℕ) (bytes : List ℕ) (head : HeadFields) (kind : Option BlockKind) → All P bytes → PieceAll P (ordered last at bytes head kind)
+  ordered_all : (last : Option BlockKind) (at : ℕ) (bytes : List ℕ) (head : HeadFields) (kind : Option BlockKind) → All P bytes → PieceAll P (step_by_order last at bytes head kind)
   ordered_all last at bytes head None h = tt
   ordered_all last at bytes head (Some kind) h = if_step (comes_after last kind) _ _ (sized_all at bytes head kind h) tt
 
-  headed_all : (last : Option BlockKind) (at : ℕ) (bytes : List ℕ) (head : Option HeadFields) → All P bytes → PieceAll P (headed last at bytes head)
+  headed_all : (last : Option BlockKind) (at : ℕ) (bytes : List ℕ) (head : Option HeadFields) → All P bytes → PieceAll P (step_by_head last at bytes head)
   headed_all last at bytes None h = tt
-  headed_all last at bytes (Some head) h = ordered_all last at bytes head (kind_numbered head.kind) h
+  headed_all last at bytes (Some head) h = ordered_all last at bytes head (kind_of_number head.kind) h
 
-  at_end_all : (last : Option BlockKind) (at : ℕ) → PieceAll P (at_end last at)
+  at_end_all : (last : Option BlockKind) (at : ℕ) → PieceAll P (step_at_end last at)
   at_end_all None at = tt
   at_end_all (Some kind) at = tt
 
-  step_all : (last : Option BlockKind) (at : ℕ) (bytes : List ℕ) → All P bytes → PieceAll P (step last at bytes)
-  unfolding step
+  step_all : (last : Option BlockKind) (at : ℕ) (bytes : List ℕ) → All P bytes → PieceAll P (next_step last at bytes)
+  unfolding next_step
   step_all last at bytes h = if_step (length bytes == 0) _ _ (at_end_all last at) (headed_all last at bytes (head_of bytes) h)
 
   nothing : All P []
   nothing = λ k d h. absurd (omega arith)
 
-  stepped_all : (at : ℕ) (f : Piece → ℕ → Reading) (s : Step) → PieceAll P s → All P (first_payload (stepped at f s))
+  stepped_all : (at : ℕ) (f : Piece → ℕ → Reading) (s : Step) → PieceAll P s → All P (first_payload (reading_by_step at f s))
   stepped_all at f ended h = nothing
   stepped_all at f (failed c) h = nothing
   stepped_all at f (block b size) h = h

@@ -12,7 +12,7 @@ use Rattle.std.proofs.Math.ListN.{drop_of_length-le}
 use Rattle.std.proofs.lemmas.Bool.{and_parts, eq-eqb, eqb-true, ne_eqb}
 use Rattle.std.proofs.lemmas.List.Concat.{flat_map-cons}
 use Rattle.std.proofs.lemmas.List.Sums.{sum_by-cons}
-use Rattle.adb_block.specs.Container.{Piece}
+use Rattle.adb_block.specs.Piece.{Piece}
 use Rattle.adb_block.specs.Written.{block_bytes}
 use Rattle.adb_view.specs.Plain.{Plain}
 use Rattle.adb_schema.specs.declared.read.TheConstants.{PACKAGE_WORD}
@@ -23,7 +23,7 @@ use Rattle.command_core.specs.Applets.{may_have, needed_option, operand_rule, va
 use Rattle.command_core.specs.Operands.{are_operands}
 use Rattle.command_core.specs.declared.values.ValueRule.{ValueRule}
 use Rattle.command_core.specs.Command.{CommandLine, IsCommand}
-use Rattle.command_core.specs.Values.{value_of, are_apart, lacks_value, is_value_by, are_values, script_file, script_type, script_types}
+use Rattle.command_core.specs.Values.{first_value, are_apart, lacks_value, is_value_by, are_values, script_file, script_type, script_types}
 use Rattle.command_core.specs.Files.{is_file, without_dot}
 use Rattle.command_core.specs.declared.command.Applet.{Applet}
 use Rattle.command_core.specs.declared.command.Applet.TheVariants.{Mkpkg}
@@ -97,11 +97,11 @@ script_name vs i v name at e =
     cc (both)
 
 -- and that of the option for a folder names one
-pub folder_file : (vs : List OptionValue) → are_values (value_rules Mkpkg) vs ≡ true → IfSome (value_of FILES vs) (λ v. is_file v.text ≡ true)
+pub folder_file : (vs : List OptionValue) → are_values (value_rules Mkpkg) vs ≡ true → IfSome (first_value FILES vs) (λ v. is_file v.text ≡ true)
 folder_file [] h = tt
 folder_file (u ∷ us) h = by_letter (eqb u.letter FILES) refl
   where
-    by_letter : (b : Bool) → eqb u.letter FILES ≡ b → IfSome (cond b (Some u) (value_of FILES us)) (λ v. is_file v.text ≡ true)
+    by_letter : (b : Bool) → eqb u.letter FILES ≡ b → IfSome (cond b (Some u) (first_value FILES us)) (λ v. is_file v.text ≡ true)
     by_letter true t =
         subst (λ (l : ℕ). is_value_by (rule_for (value_rules Mkpkg) l) u.text ≡ true) (eqb-true u.letter FILES t) (first_two (value_rules Mkpkg) u us h).0
     by_letter false t = folder_file us (first_two (value_rules Mkpkg) u us h).1
@@ -112,11 +112,11 @@ abbrev IsFirstIn : Option OptionValue → List OptionValue → Type 0
 IsFirstIn None values = values ≡ []
 IsFirstIn (Some v) values = (others : List OptionValue) × (values ≡ v ∷ others)
 
-first_in : (letter : ℕ) (vs : List OptionValue) → IsFirstIn (value_of letter vs) (values_of letter vs)
+first_in : (letter : ℕ) (vs : List OptionValue) → IsFirstIn (first_value letter vs) (values_of letter vs)
 first_in letter [] = refl
 first_in letter (v ∷ vs) = by_letter (eqb v.letter letter) (first_in letter vs)
   where
-    by_letter : (b : Bool) → IsFirstIn (value_of letter vs) (values_of letter vs) → IsFirstIn (cond b (Some v) (value_of letter vs)) (cond b (v ∷ values_of letter vs) (values_of letter vs))
+    by_letter : (b : Bool) → IsFirstIn (first_value letter vs) (values_of letter vs) → IsFirstIn (cond b (Some v) (first_value letter vs)) (cond b (v ∷ values_of letter vs) (values_of letter vs))
     by_letter true h = (values_of letter vs, refl)
     by_letter false h = h
 
@@ -124,8 +124,8 @@ first_as : (first : Option (Bor OptionValue)) (found : Option OptionValue) (valu
 first_as None found values e h = let P : Option OptionValue → Type 0 = λ o. IsFirstIn o values in subst P (sym e) h
 first_as (Some v) found values e h = let P : Option OptionValue → Type 0 = λ o. IsFirstIn o values in subst P (sym e) h
 
-pub first_value : (letter : ℕ) (vs : List OptionValue) (first : Option (Bor OptionValue)) → option_map (λ (v : Bor OptionValue). v.now) first ≡ value_of letter vs → IsFirstValue first (values_of letter vs)
-first_value letter vs first e = first_as first (value_of letter vs) (values_of letter vs) e (first_in letter vs)
+pub first_value_is : (letter : ℕ) (vs : List OptionValue) (first : Option (Bor OptionValue)) → option_map (λ (v : Bor OptionValue). v.now) first ≡ first_value letter vs → IsFirstValue first (values_of letter vs)
+first_value_is letter vs first e = first_as first (first_value letter vs) (values_of letter vs) e (first_in letter vs)
 
 -- the folder that is given
 abbrev folder_in : OptionValue → List ℕ
@@ -141,15 +141,15 @@ folder_by : (vs : List OptionValue) (folder : List ℕ) (found : Option OptionVa
 folder_by vs folder None h e = absurd (cc (e))
 folder_by vs folder (Some v) h e = record { value = v; others = h.0; first = h.1; name = cc (e) }
 
-pub folder_is : (vs : List OptionValue) (folder : List ℕ) → Some folder ≡ option_map folder_in (value_of FILES vs) → IsFolder vs folder
-folder_is vs folder e = folder_by vs folder (value_of FILES vs) (first_in FILES vs) e
+pub folder_is : (vs : List OptionValue) (folder : List ℕ) → Some folder ≡ option_map folder_in (first_value FILES vs) → IsFolder vs folder
+folder_is vs folder e = folder_by vs folder (first_value FILES vs) (first_in FILES vs) e
 
 no_folder_by : (vs : List OptionValue) (found : Option OptionValue) → IsFirstIn found (values_of FILES vs) → None ≡ option_map folder_in found → values_of FILES vs ≡ []
 no_folder_by vs None h e = h
 no_folder_by vs (Some v) h e = absurd (cc (e))
 
-pub no_folder : (vs : List OptionValue) → None ≡ option_map folder_in (value_of FILES vs) → values_of FILES vs ≡ []
-no_folder vs e = no_folder_by vs (value_of FILES vs) (first_in FILES vs) e
+pub no_folder : (vs : List OptionValue) → None ≡ option_map folder_in (first_value FILES vs) → values_of FILES vs ≡ []
+no_folder vs e = no_folder_by vs (first_value FILES vs) (first_in FILES vs) e
 
 -- ---- the values of an option, from a place on
 
