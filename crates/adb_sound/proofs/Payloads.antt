@@ -15,7 +15,7 @@ use Rattle.adb_schema.specs.Repeated.{repeated_fault}
 use Rattle.adb_schema.specs.Soundness.{payload_fault, root_value}
 use Rattle.adb_schema.specs.declared.schema.Which.{Which}
 use Rattle.adb_schema.specs.declared.schema.Kind.TheVariants.{Obj}
-use Rattle.adb_write.specs.Canonical.{canonical, payload_of, Layout, start, write}
+use Rattle.adb_write.specs.Canonical.{canonical, payload_with_root, Layout, empty_layout, write}
 use Rattle.adb_sound.specs.Root.{IsRootOf}
 use Rattle.adb_sound.proofs.Lower.{Lower}
 
@@ -23,12 +23,12 @@ pub none_of : (o u : Option Cause) → o ≡ None → u ≡ None → or_else o u
 none_of None u h e = e
 none_of (Some c) u h e = cc
 
-pub payload_long : (root : ℕ) (out : Layout) → 8 ≤ length (payload_of root out)
+pub payload_long : (root : ℕ) (out : Layout) → 8 ≤ length (payload_with_root root out)
 payload_long root out = omega (arith, length-append (to_le_bytes w32 root) out.body)
 
-head_good : (root : ℕ) (out : Layout) → head_fault (payload_of root out) ≡ None
+head_good : (root : ℕ) (out : Layout) → head_fault (payload_with_root root out) ≡ None
 head_good root out =
-    let t : ltb (length (payload_of root out)) 8 ≡ false = le-ltb _ _ (payload_long root out) in
+    let t : ltb (length (payload_with_root root out)) 8 ≡ false = le-ltb _ _ (payload_long root out) in
     rw t refl
 
 shape_good : Lower → (which : Which) (v : Plain) → IsRootOf which v → shape_fault (canonical v) (shape_of (Obj which)) (root_of (canonical v)) ≡ None
@@ -44,6 +44,6 @@ value_is laws which v g = ap (λ (o : Option Plain). unwrap_or o null) (laws.bac
 
 pub payload_good : Lower → (which : Which) (v : Plain) → IsRootOf which v → payload_fault which (canonical v) ≡ None
 payload_good laws which v g =
-    none_of _ _ (head_good (write v start).0 (write v start).1)
+    none_of _ _ (head_good (write v empty_layout).0 (write v empty_layout).1)
     (none_of _ _ (shape_good laws which v g)
     (none_of _ _ (ap (text_fault which) (value_is laws which v g) ∙ g.texts) (ap (repeated_fault which) (value_is laws which v g) ∙ g.once)))

@@ -12,7 +12,7 @@ use Rattle.adb_schema.specs.Soundness as S
 use Rattle.adb_schema.specs.declared.schema.Which.{Which}
 use Rattle.adb_schema.specs.declared.schema.Which.TheVariants.{Dep, Acl, PkgInfo, File, Dir, Scripts, Package, Index, Idb, Intent}
 use Rattle.adb_schema.specs.declared.read.TheConstants.{PACKAGE_WORD, INDEX_WORD, IDB_WORD, INTENT_WORD}
-use Rattle.adb_write.specs.Canonical.{canonical, write, start}
+use Rattle.adb_write.specs.Canonical.{canonical, write, empty_layout}
 use Rattle.adb_write.specs.File.{adb_piece, file_of}
 use Rattle.pkg_core.specs.Contents.{Contents, AreContentsOf, expected_contents}
 use Rattle.pkg_core.specs.Whole.{behind_fault, container_fault, fault_by_header, root_of_schema, schema_fault, whole_fault}
@@ -68,7 +68,7 @@ pub laid_good : Lower → (which : Which) (schema : ℕ) (v : Plain) (contents :
     → container_fault (container_of schema v contents) ≡ None
 laid_good laws which schema v contents word g short behind =
     let pieces : List Piece = adb_piece (canonical v) ∷ map contents_piece contents in
-    let long = payload_long (write v start).0 (write v start).1 in
+    let long = payload_long (write v empty_layout).0 (write v empty_layout).1 in
     let fits = g.fits in
     let spelled = laws.written schema pieces word.small (record { order = refl; long = long }, omega arith, contents_stand contents short) in
     let read = laws.read (container_of schema v contents) schema pieces spelled in

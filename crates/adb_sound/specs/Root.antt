@@ -7,7 +7,8 @@ use Rattle.adb_schema.specs.Texts.{text_fault}
 use Rattle.adb_schema.specs.Repeated.{repeated_fault}
 use Rattle.adb_schema.specs.declared.schema.Which.{Which}
 use Rattle.adb_schema.specs.declared.schema.Kind.TheVariants.{Obj}
-use Rattle.adb_write.specs.Canonical.{size_of, value_count, MOST_BYTES, MOST_VALUES}
+use Rattle.adb_write.specs.Size.{size_of, value_count}
+use Rattle.adb_write.specs.Canonical.{MOST_BYTES, MOST_VALUES}
 
 -- a value that may stand at the root of a container with this table: of its shape, within the
 -- limits, each text and number keeps the rule of its field, and no name stands twice

@@ -14,7 +14,7 @@ use Rattle.adb_schema.specs.Soundness.{schema_word}
 use Rattle.adb_schema.specs.declared.schema.Which.TheVariants.{Package, PkgInfo, Index}
 use Rattle.adb_schema.specs.declared.schema.Kind.TheVariants.{Obj}
 use Rattle.adb_schema.specs.declared.read.TheConstants.{INDEX_WORD}
-use Rattle.adb_write.specs.Canonical.{Counts, written_of, canonical}
+use Rattle.adb_write.specs.Canonical.{PayloadCounts, written_of, canonical}
 use Rattle.adb_write.specs.File.{file_of}
 use Rattle.pkg_core.specs.Whole.{container_fault, package_fault}
 use Rattle.command_core.specs.Files.{without_dot}
@@ -110,7 +110,7 @@ not_package e = (cc)
 abbrev pub Sound : Type 0
 Sound = (which : Which) (schema : ℕ) (v : Plain) → schema_word which ≡ Some schema → which ≢ Package → IsRootOf which v → container_fault (file_of schema (canonical v)) ≡ None
 
-file_sound : Sound → Exact → (v : Plain) (r : Result (List ℕ) Counts) (bytes : List ℕ) → IsGood (shape_of (Obj Index)) 0 (at_root Index) v → written_of v ≡ r → index_container r ≡ Ok bytes → container_fault bytes ≡ None
+file_sound : Sound → Exact → (v : Plain) (r : Result (List ℕ) PayloadCounts) (bytes : List ℕ) → IsGood (shape_of (Obj Index)) 0 (at_root Index) v → written_of v ≡ r → index_container r ≡ Ok bytes → container_fault bytes ≡ None
 file_sound sound exact v (Err c) bytes g w e = absurd (cc (e))
 file_sound sound exact v (Ok payload) bytes g w e =
     let is = written v payload w in

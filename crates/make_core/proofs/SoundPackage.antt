@@ -7,7 +7,7 @@ use Rattle.base_core.specs.Listed.{IsNameBelow}
 use Rattle.adb_view.specs.Plain.{Plain}
 use Rattle.adb_schema.specs.declared.read.TheConstants.{PACKAGE_WORD}
 use Rattle.adb_schema.specs.declared.schema.Which.TheVariants.{Package}
-use Rattle.adb_write.specs.Canonical.{Counts, canonical, overflow_of}
+use Rattle.adb_write.specs.Canonical.{PayloadCounts, canonical, overflow_of}
 use Rattle.pkg_core.specs.Contents.{AreContentsOf, Contents, expected_contents}
 use Rattle.pkg_core.specs.Whole.{container_fault}
 use Rattle.command_core.specs.Command.{CommandLine}
@@ -56,7 +56,7 @@ value_sound sound sizes exact needs tells items sources scripts triggers about a
     let whole = sound made contents root (package_contents info sources scripts triggers priority) (subst (λ (u : Plain). length (container_of PACKAGE_WORD u contents) < 2 ^ 64) is short) in
     ap (λ (u : Plain). container_fault (container_of PACKAGE_WORD u contents)) is ∙ whole
 
-file_sound : (v : Plain) (contents : List Contents) (o : Option Counts) (bytes : List ℕ) → overflow_of v ≡ o → length bytes < 2 ^ 64
+file_sound : (v : Plain) (contents : List Contents) (o : Option PayloadCounts) (bytes : List ℕ) → overflow_of v ≡ o → length bytes < 2 ^ 64
     → (overflow_of v ≡ None → length (container_of PACKAGE_WORD v contents) < 2 ^ 64 → container_fault (container_of PACKAGE_WORD v contents) ≡ None) → container_unless o v contents ≡ Ok bytes → container_fault bytes ≡ None
 file_sound v contents (Some counts) bytes is short sound e = absurd (cc (e))
 file_sound v contents None bytes is short sound e =

@@ -7,7 +7,8 @@ use Rattle.std.specs.Int.{w32, to_le_bytes}
 use Rattle.adb_view.specs.Head.{head_fault, root_of}
 use Rattle.adb_view.specs.Plain.{Plain, null, int, blob, arr, obj, Plains, none, more, Shape, plain_of, value_of, IsNormal, AreNormal}
 use Rattle.adb_view.specs.Shaped.{HasShape}
-use Rattle.adb_write.specs.Canonical.{Layout, write, start, payload_of, canonical, size_of, value_count, passes, overflow_of, or_overflow, written_of, Counts, MOST_BYTES}
+use Rattle.adb_write.specs.Canonical.{Layout, write, empty_layout, payload_with_root, canonical, passes, overflow_of, or_overflow, written_of, PayloadCounts, MOST_BYTES}
+use Rattle.adb_write.specs.Size.{size_of, value_count}
 use Rattle.adb_schema.specs.Schema.{shape_of}
 use Rattle.adb_schema.specs.Views.{is_sound, value_at, nth, entry_in, text_in}
 use Rattle.adb_schema.specs.Soundness.{root_value, payload_in, first_fault}
@@ -35,7 +36,7 @@ err_ok {A} {B} a b e = subst is_err e tt
     is_err (Ok x) = ⊥
     is_err (Err x) = Unit {0}
 
-ok_in : List ℕ → Result (List ℕ) Counts → List ℕ
+ok_in : List ℕ → Result (List ℕ) PayloadCounts → List ℕ
 ok_in d (Ok x) = x
 ok_in d (Err c) = d
 
@@ -43,7 +44,7 @@ pub written_is : (v : Plain) (p : List ℕ) → written_of v ≡ Ok p → (p ≡
 unfolding written_of ok_in
 written_is v p h = go (overflow_of v) refl
   where
-    go : (o : Option Counts) → overflow_of v ≡ o → (p ≡ canonical v) × (overflow_of v ≡ None)
+    go : (o : Option PayloadCounts) → overflow_of v ≡ o → (p ≡ canonical v) × (overflow_of v ≡ None)
     go None e = (ap (ok_in []) (sym h ∙ ap (or_overflow (canonical v)) e), e)
     go (Some c) e = absurd (err_ok c p (sym (ap (or_overflow (canonical v)) e) ∙ h))
 
@@ -56,8 +57,8 @@ within v law e = ltb-false MOST_BYTES (size_of v) (small_of (nat_lt MOST_BYTES (
 
 -- ---- it is read back
 
-head_good : (root : ℕ) (out : Layout) → head_fault (payload_of root out) ≡ None
-head_good root out = ap (λ b. if b then Some (Truncated 0) else None) (le-ltb (length (payload_of root out)) 8 (omega (arith, long)))
+head_good : (root : ℕ) (out : Layout) → head_fault (payload_with_root root out) ≡ None
+head_good root out = ap (λ b. if b then Some (Truncated 0) else None) (le-ltb (length (payload_with_root root out)) 8 (omega (arith, long)))
   where
     long : length (to_le_bytes w32 root ++ out.body) ≡ 4 + length out.body
     long = length-append (to_le_bytes w32 root) out.body
@@ -103,7 +104,7 @@ module _
       let is : p ≡ canonical e = (written_is e p made).0 in
       let back : value_of (canonical e) (shape_of (Kinds.Obj Tables.PkgInfo)) ≡ Some e = read_back (shape_of (Kinds.Obj Tables.PkgInfo)) e n (entry_shape info id len shaped) (within e (overflows e n) (written_is e p made).1) in
       subst (λ q. HoldsEntry q e) (sym is) (record {
-        head = ap is_none (head_good (write e start).0 (write e start).1);
+        head = ap is_none (head_good (write e empty_layout).0 (write e empty_layout).1);
         sound = sound_of (canonical e) (Kinds.Obj Tables.PkgInfo) (root_of (canonical e)) e back;
         value = ap copy_of_entry (value_of_plain (canonical e) (Kinds.Obj Tables.PkgInfo) (root_of (canonical e)) e back) ∙ entry_again info id len;
       })

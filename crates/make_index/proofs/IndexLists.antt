@@ -5,7 +5,7 @@ use Rattle.std.specs.Prelude.{Result, Ok, Err, IfOk}
 use Rattle.adb_view.specs.Shaped.{IsArrayOf}
 use Rattle.adb_schema.specs.Views.{nth, count_of, entries_in}
 use Rattle.adb_write.specs.Writing.{Writing}
-use Rattle.adb_write.specs.DepthFirst.{push, Writes, WritesAll}
+use Rattle.adb_write.specs.DepthFirst.{push, WritesValue, WritesValues}
 use Rattle.make_index.specs.Entries.{int_value, without_zeros, all_without_zeros}
 use Rattle.make_index.specs.Appending.{joined_plains, IsAppended, int_plains, text_plains}
 use Rattle.make_info.specs.Values.{plains_of}
@@ -49,18 +49,18 @@ zeros_push (more u us) v = ap (more (without_zeros u)) (zeros_push us v)
 
 -- the law of the writer on one value more
 abbrev pub Pushes : Type 0
-Pushes = (v : Plain) (vs : Plains) (x : ℕ) (xs : List ℕ) (a b c : Writing) → WritesAll a vs xs b → Writes b v x c → WritesAll a (push vs v) (xs ++ x ∷ []) c
+Pushes = (v : Plain) (vs : Plains) (x : ℕ) (xs : List ℕ) (a b c : Writing) → WritesValues a vs xs b → WritesValue b v x c → WritesValues a (push vs v) (xs ++ x ∷ []) c
 
 pub go_on_none : (w : Writing) (ws : List ℕ) → IsAppended w ws none w ws
-go_on_none w ws before us h = subst (λ vs. WritesAll before vs ws w) (sym (joined_none us)) h
+go_on_none w ws before us h = subst (λ vs. WritesValues before vs ws w) (sym (joined_none us)) h
 
-pub go_on_push : Pushes → (old mid new : Writing) (ws xs ys : List ℕ) (vs us : Plains) (v : Plain) (x : ℕ) → IsAppended old ws vs mid xs → Writes mid v x new → ys ≡ xs ++ x ∷ [] → us ≡ push vs v → IsAppended old ws us new ys
+pub go_on_push : Pushes → (old mid new : Writing) (ws xs ys : List ℕ) (vs us : Plains) (v : Plain) (x : ℕ) → IsAppended old ws vs mid xs → WritesValue mid v x new → ys ≡ xs ++ x ∷ [] → us ≡ push vs v → IsAppended old ws us new ys
 go_on_push law old mid new ws xs ys vs us v x so one words values before ts h =
     let e : joined_plains ts us ≡ push (joined_plains ts vs) v = ap (joined_plains ts) values ∙ joined_push ts vs v in
-    let r : WritesAll before (push (joined_plains ts vs) v) (xs ++ x ∷ []) new = law v (joined_plains ts vs) x xs before mid new (so before ts h) one in
-    subst (λ ps. WritesAll before ps ys new) (sym e) (subst (λ bs. WritesAll before (push (joined_plains ts vs) v) bs new) (sym words) r)
+    let r : WritesValues before (push (joined_plains ts vs) v) (xs ++ x ∷ []) new = law v (joined_plains ts vs) x xs before mid new (so before ts h) one in
+    subst (λ ps. WritesValues before ps ys new) (sym e) (subst (λ bs. WritesValues before (push (joined_plains ts vs) v) bs new) (sym words) r)
 
-pub go_on_one : Pushes → (old new : Writing) (ws ys : List ℕ) (v : Plain) (x : ℕ) → Writes old v x new → ys ≡ ws ++ x ∷ [] → IsAppended old ws (more v none) new ys
+pub go_on_one : Pushes → (old new : Writing) (ws ys : List ℕ) (v : Plain) (x : ℕ) → WritesValue old v x new → ys ≡ ws ++ x ∷ [] → IsAppended old ws (more v none) new ys
 go_on_one law old new ws ys v x one words = go_on_push law old old new ws ws ys none (more v none) v x (go_on_none old ws) one words refl
 
 pub ints_more : (ns : List ℕ) (i : ℕ) → i < length ns → int_plains (take (i + 1) ns) ≡ push (int_plains (take i ns)) (int_value (get_or ns i 0))
@@ -78,18 +78,18 @@ texts_more f (t ∷ ts) (suc i) d h =
     subst (λ k. text_plains (take k (map f (t ∷ ts))) ≡ push (text_plains (take (suc i) (map f (t ∷ ts)))) (blob_value (f (get_or ts i d)))) (sym e) (ap (more (blob_value (f t))) (texts_more f ts i d (omega arith)))
 
 -- a step over a list: the entry at a place was written
-pub zeros_more : Pushes → (old mid new : Writing) (xs ys : List ℕ) (vs : Plains) (v : Plain) (i x : ℕ) → i < count_of vs → v ≡ nth vs i → WritesAll old (all_without_zeros (front i vs)) xs mid → Writes mid (without_zeros v) x new → ys ≡ xs ++ x ∷ [] → WritesAll old (all_without_zeros (front (i + 1) vs)) ys new
+pub zeros_more : Pushes → (old mid new : Writing) (xs ys : List ℕ) (vs : Plains) (v : Plain) (i x : ℕ) → i < count_of vs → v ≡ nth vs i → WritesValues old (all_without_zeros (front i vs)) xs mid → WritesValue mid (without_zeros v) x new → ys ≡ xs ++ x ∷ [] → WritesValues old (all_without_zeros (front (i + 1) vs)) ys new
 zeros_more law old mid new xs ys vs v i x h e so one words =
     let n : i + 1 ≡ suc i = omega arith in
     let last : all_without_zeros (front (suc i) vs) ≡ push (all_without_zeros (front i vs)) (without_zeros (nth vs i)) = ap all_without_zeros (front_more i vs h) ∙ zeros_push (front i vs) (nth vs i) in
-    let r : WritesAll old (push (all_without_zeros (front i vs)) (without_zeros v)) (xs ++ x ∷ []) new = law (without_zeros v) (all_without_zeros (front i vs)) x xs old mid new so one in
-    let r2 : WritesAll old (push (all_without_zeros (front i vs)) (without_zeros (nth vs i))) ys new =
-    subst (λ u. WritesAll old (push (all_without_zeros (front i vs)) (without_zeros u)) ys new) e (subst (λ bs. WritesAll old (push (all_without_zeros (front i vs)) (without_zeros v)) bs new) (sym words) r) in
-    subst (λ k. WritesAll old (all_without_zeros (front k vs)) ys new) (sym n) (subst (λ us. WritesAll old us ys new) (sym last) r2)
+    let r : WritesValues old (push (all_without_zeros (front i vs)) (without_zeros v)) (xs ++ x ∷ []) new = law (without_zeros v) (all_without_zeros (front i vs)) x xs old mid new so one in
+    let r2 : WritesValues old (push (all_without_zeros (front i vs)) (without_zeros (nth vs i))) ys new =
+    subst (λ u. WritesValues old (push (all_without_zeros (front i vs)) (without_zeros u)) ys new) e (subst (λ bs. WritesValues old (push (all_without_zeros (front i vs)) (without_zeros v)) bs new) (sym words) r) in
+    subst (λ k. WritesValues old (all_without_zeros (front k vs)) ys new) (sym n) (subst (λ us. WritesValues old us ys new) (sym last) r2)
 
 -- at the end all were
-pub zeros_all : (old new : Writing) (xs : List ℕ) (vs : Plains) (i : ℕ) → i ≡ count_of vs → WritesAll old (all_without_zeros (front i vs)) xs new → WritesAll old (all_without_zeros vs) xs new
-zeros_all old new xs vs i e h = subst (λ us. WritesAll old (all_without_zeros us) xs new) (front_all vs) (subst (λ k. WritesAll old (all_without_zeros (front k vs)) xs new) e h)
+pub zeros_all : (old new : Writing) (xs : List ℕ) (vs : Plains) (i : ℕ) → i ≡ count_of vs → WritesValues old (all_without_zeros (front i vs)) xs new → WritesValues old (all_without_zeros vs) xs new
+zeros_all old new xs vs i e h = subst (λ us. WritesValues old (all_without_zeros us) xs new) (front_all vs) (subst (λ k. WritesValues old (all_without_zeros (front k vs)) xs new) e h)
 
 pub blob_zeros : (b : List ℕ) → without_zeros (blob_value b) ≡ blob_value b
 unfolding without_zeros
@@ -97,12 +97,12 @@ blob_zeros [] = refl
 blob_zeros (x ∷ xs) = refl
 
 -- what was written before it is all that there is of nothing
-pub zeros_start : (law : (w : Writing) → WritesAll w none [] w) → (w : Writing) (xs : List ℕ) → xs ≡ [] → (vs : Plains) → WritesAll w (all_without_zeros (front 0 vs)) xs w
+pub zeros_start : (law : (w : Writing) → WritesValues w none [] w) → (w : Writing) (xs : List ℕ) → xs ≡ [] → (vs : Plains) → WritesValues w (all_without_zeros (front 0 vs)) xs w
 unfolding without_zeros
-zeros_start law w xs e vs = subst (λ bs. WritesAll w none bs w) (sym e) (law w)
+zeros_start law w xs e vs = subst (λ bs. WritesValues w none bs w) (sym e) (law w)
 
-pub zeros_entry : (a b : Writing) (u v : Plain) (x : ℕ) → u ≡ v → Writes a v x b → Writes a u x b
-zeros_entry a b u v x e h = subst (λ t. Writes a t x b) (sym e) h
+pub zeros_entry : (a b : Writing) (u v : Plain) (x : ℕ) → u ≡ v → WritesValue a v x b → WritesValue a u x b
+zeros_entry a b u v x e h = subst (λ t. WritesValue a t x b) (sym e) h
 
 -- ---- answers
 
@@ -111,14 +111,14 @@ if_ok P Q (Ok x) f h = f x h
 if_ok P Q (Err e) f h = h
 
 -- an array whose entries were written, and then itself
-pub list_written : (P : Plain → Type 0) (v : Plain) → IsArrayOf P v → (old mid new : Writing) (xs ys : List ℕ) (i word : ℕ) → i ≡ count_of (entries_in v) → WritesAll old (all_without_zeros (front i (entries_in v))) xs mid → ys ≡ xs
-    → ((vs : Plains) (before : Writing) → WritesAll before vs ys mid → Writes before (arr_value vs) word new) → Writes old (without_zeros v) word new
+pub list_written : (P : Plain → Type 0) (v : Plain) → IsArrayOf P v → (old mid new : Writing) (xs ys : List ℕ) (i word : ℕ) → i ≡ count_of (entries_in v) → WritesValues old (all_without_zeros (front i (entries_in v))) xs mid → ys ≡ xs
+    → ((vs : Plains) (before : Writing) → WritesValues before vs ys mid → WritesValue before (arr_value vs) word new) → WritesValue old (without_zeros v) word new
 list_written P v shape old mid new xs ys i word e so words law =
-    let all : WritesAll old (all_without_zeros (entries_in v)) ys mid = subst (λ bs. WritesAll old (all_without_zeros (entries_in v)) bs mid) (sym words) (zeros_all old mid xs (entries_in v) i e so) in
+    let all : WritesValues old (all_without_zeros (entries_in v)) ys mid = subst (λ bs. WritesValues old (all_without_zeros (entries_in v)) bs mid) (sym words) (zeros_all old mid xs (entries_in v) i e so) in
     zeros_entry old new (without_zeros v) (arr_value (all_without_zeros (entries_in v))) word (zeros_array P v shape) (law (all_without_zeros (entries_in v)) old all)
 
-pub words_are : (old mid : Writing) (vs : Plains) (xs ys : List ℕ) → ys ≡ xs → WritesAll old vs xs mid → WritesAll old vs ys mid
-words_are old mid vs xs ys e h = subst (λ ws. WritesAll old vs ws mid) (sym e) h
+pub words_are : (old mid : Writing) (vs : Plains) (xs ys : List ℕ) → ys ≡ xs → WritesValues old vs xs mid → WritesValues old vs ys mid
+words_are old mid vs xs ys e h = subst (λ ws. WritesValues old vs ws mid) (sym e) h
 
 -- ---- a list of values
 
@@ -129,12 +129,12 @@ plains_more f (y ∷ ys) (suc i) x h e =
     let n : suc i + 1 ≡ suc (i + 1) = omega arith in
     subst (λ k. plains_of (map f (take k (y ∷ ys))) ≡ push (plains_of (map f (take (suc i) (y ∷ ys)))) (f x)) (sym n) (ap (more (f y)) (plains_more f ys i x (omega arith) e))
 
-pub written_more : Pushes → (old mid new : Writing) (xs ys : List ℕ) (vs us : Plains) (v : Plain) (x : ℕ) → WritesAll old vs xs mid → Writes mid v x new → ys ≡ xs ++ x ∷ [] → us ≡ push vs v → WritesAll old us ys new
+pub written_more : Pushes → (old mid new : Writing) (xs ys : List ℕ) (vs us : Plains) (v : Plain) (x : ℕ) → WritesValues old vs xs mid → WritesValue mid v x new → ys ≡ xs ++ x ∷ [] → us ≡ push vs v → WritesValues old us ys new
 written_more law old mid new xs ys vs us v x so one words values =
-    subst (λ ts. WritesAll old ts ys new) (sym values) (subst (λ bs. WritesAll old (push vs v) bs new) (sym words) (law v vs x xs old mid new so one))
+    subst (λ ts. WritesValues old ts ys new) (sym values) (subst (λ bs. WritesValues old (push vs v) bs new) (sym words) (law v vs x xs old mid new so one))
 
-pub written_none : (law : (w : Writing) → WritesAll w none [] w) → (w : Writing) (xs : List ℕ) → xs ≡ [] → WritesAll w none xs w
-written_none law w xs e = subst (λ bs. WritesAll w none bs w) (sym e) (law w)
+pub written_none : (law : (w : Writing) → WritesValues w none [] w) → (w : Writing) (xs : List ℕ) → xs ≡ [] → WritesValues w none xs w
+written_none law w xs e = subst (λ bs. WritesValues w none bs w) (sym e) (law w)
 
-pub values_are : (old mid : Writing) (vs us : Plains) (xs : List ℕ) → us ≡ vs → WritesAll old vs xs mid → WritesAll old us xs mid
-values_are old mid vs us xs e h = subst (λ ts. WritesAll old ts xs mid) (sym e) h
+pub values_are : (old mid : Writing) (vs us : Plains) (xs : List ℕ) → us ≡ vs → WritesValues old vs xs mid → WritesValues old us xs mid
+values_are old mid vs us xs e h = subst (λ ts. WritesValues old ts xs mid) (sym e) h

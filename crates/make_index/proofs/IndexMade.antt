@@ -2,7 +2,7 @@
 use Rattle.std.proofs.Common.{◌≡◌, ℕ, List, Result, Ok, Err, ap, sym, subst, ◌∙◌}
 use Rattle.adb_schema.specs.declared.read.TheConstants.{INDEX_WORD}
 use Rattle.adb_view.specs.Plain.{Plain}
-use Rattle.adb_write.specs.Canonical.{Counts, written_of}
+use Rattle.adb_write.specs.Canonical.{PayloadCounts, written_of}
 use Rattle.adb_write.specs.File.{file_of}
 use Rattle.make_index.specs.Index.{index_container, index_of, value_of_index}
 use Rattle.make_index.specs.Kept.{IsMade}
@@ -16,7 +16,7 @@ unfolding index_of
 made_ok d sorted es payload bytes file order made is e =
     ap (λ (xs : List Plain). index_container (written_of (value_of_index d xs))) (sym order) ∙ (ap index_container made ∙ ap Ok (ap (file_of INDEX_WORD) (sym is) ∙ sym e))
 
-overflow_made : {A : Type 0} (view : A → List ℕ) (fault : MakeFault) (told : Result (List ℕ) Counts) → IsOverflow fault told → IsMade view (Err fault) (index_container told)
+overflow_made : {A : Type 0} (view : A → List ℕ) (fault : MakeFault) (told : Result (List ℕ) PayloadCounts) → IsOverflow fault told → IsMade view (Err fault) (index_container told)
 overflow_made view (FileMissing p) told h = absurd h
 overflow_made view (FileBad p c) told h = absurd h
 overflow_made view (InfoBad p) told h = absurd h

@@ -2,7 +2,7 @@
 use Rattle.std.specs.Prelude.{ℕ, List, [], ◌∷◌}
 use Rattle.adb_view.specs.Plain.{Plains, none, more, blob_value}
 use Rattle.adb_write.specs.Writing.{Writing}
-use Rattle.adb_write.specs.DepthFirst.{WritesAll}
+use Rattle.adb_write.specs.DepthFirst.{WritesValues}
 use Rattle.make_index.specs.Entries.{int_value}
 
 -- values behind others
@@ -13,8 +13,8 @@ joined_plains (more u us) vs = more u (joined_plains us vs)
 -- these values were written behind those that stood there, and their words behind the others
 abbrev pub IsAppended : Writing → List ℕ → Plains → Writing → List ℕ → Type 0
 IsAppended old words vs new further =
-    (before : Writing) (us : Plains) → WritesAll before us words old
-    → WritesAll before (joined_plains us vs) further new
+    (before : Writing) (us : Plains) → WritesValues before us words old
+    → WritesValues before (joined_plains us vs) further new
 
 abbrev pub text_plains : List (List ℕ) → Plains
 text_plains [] = none

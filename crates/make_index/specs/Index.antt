@@ -5,7 +5,7 @@ use Rattle.std.specs.List.{find}
 use Rattle.base_core.specs.declared.cause.Cause.{Cause}
 use Rattle.adb_view.specs.Plain.{Plain, none, more, blob_value, arr_value, obj_value}
 use Rattle.adb_schema.specs.declared.read.TheConstants.{INDEX_WORD}
-use Rattle.adb_write.specs.Canonical.{Counts, written_of}
+use Rattle.adb_write.specs.Canonical.{PayloadCounts, written_of}
 use Rattle.adb_write.specs.File.{file_of}
 use Rattle.pkg_core.specs.Whole.{package_fault}
 use Rattle.command_core.specs.Command.{CommandLine}
@@ -56,7 +56,7 @@ found_entries read n (o ∷ operands) =
 -- ---- the file
 
 -- the container of a payload, unless it passes a limit
-abbrev pub index_container : Result (List ℕ) Counts → Result (List ℕ) MakeFault
+abbrev pub index_container : Result (List ℕ) PayloadCounts → Result (List ℕ) MakeFault
 index_container (Ok payload) = Ok (file_of INDEX_WORD payload)
 index_container (Err counts) = Err (TooLarge counts.0 counts.1)
 

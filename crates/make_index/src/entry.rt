@@ -1,7 +1,7 @@
 //! An entry of an index: the tests of its package, and its order among the others.
 ghost use Rattle.adb_schema.specs.Soundness.{first_fault, payload_in, root_value};
 ghost use Rattle.adb_view.specs.Gives.{cause_of};
-ghost use Rattle.adb_write.specs.DepthFirst.{Writes};
+ghost use Rattle.adb_write.specs.DepthFirst.{WritesValue};
 ghost use Rattle.base_core.specs.declared.cause.Cause.{Cause};
 ghost use Rattle.make_index.specs.Entries.{entry_of_package};
 ghost use Rattle.make_index.specs.EntryOrder.{entry_cmp};
@@ -81,7 +81,7 @@ impl Entry {
 
     /// Writes the entry.
     pub(crate) fn write(&self, alloc: Global, writer: &mut Writer) -> Result<Val, AllocError>
-        ensures { IfOk result (λ word. Writes writer.old (entry_view self.now) word writer.new) }
+        ensures { IfOk result (λ word. WritesValue writer.old (entry_view self.now) word writer.new) }
     {
         self.source.write(alloc, writer)
     }

@@ -7,7 +7,7 @@ ghost use Rattle.adb_schema.specs.declared.schema.Which.TheVariants as Tables;
 ghost use Rattle.adb_view.specs.Plain.{arr_value, IsNormal};
 ghost use Rattle.adb_view.specs.Shaped.{HasShape};
 ghost use Rattle.adb_write.specs.Canonical.{written_of, MOST_BYTES};
-ghost use Rattle.adb_write.specs.DepthFirst.{Writes};
+ghost use Rattle.adb_write.specs.DepthFirst.{WritesValue};
 ghost use Rattle.base_core.specs.Calls.{IfObservable, OnlyReads};
 ghost use Rattle.base_core.specs.Read.{bytes_in};
 ghost use Rattle.base_core.specs.Tree.{files_of};
@@ -178,7 +178,7 @@ fn write_index(
     description: &[u8],
     entries: &[Entry],
 ) -> Result<Val, AllocError>
-    ensures { IfOk result (λ root. Writes writer.old
+    ensures { IfOk result (λ root. WritesValue writer.old
         (value_of_index description.now (map entry_view entries.now)) root writer.new) }
 {
     values_are_written_depth_first();
@@ -191,7 +191,7 @@ fn write_index(
 /// Writes an array of entries.
 fn write_entries(alloc: Global, writer: &mut Writer, entries: &[Entry]) -> Result<Val, AllocError>
     ensures { IfOk result (λ word.
-        Writes writer.old (arr_value (plains_of (map entry_view entries.now))) word writer.new) }
+        WritesValue writer.old (arr_value (plains_of (map entry_view entries.now))) word writer.new) }
 {
     values_are_written_depth_first();
     let mut words = Vec::with_capacity(alloc, entries.len())?;

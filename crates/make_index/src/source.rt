@@ -3,7 +3,7 @@ ghost use Rattle.adb_schema.specs.Soundness.{first_fault, root_value};
 ghost use Rattle.adb_schema.specs.Views.{is_sound, entry_in};
 ghost use Rattle.adb_view.specs.Head.{head_fault, root_of};
 ghost use Rattle.adb_write.specs.Canonical.{written_of};
-ghost use Rattle.adb_write.specs.DepthFirst.{Writes};
+ghost use Rattle.adb_write.specs.DepthFirst.{WritesValue};
 ghost use Rattle.make_index.specs.Entries.{entry_of_package, entry_value};
 ghost use Rattle.pkg_core.specs.Opened.{opened_payload, opened_value};
 ghost use Rattle.sha2.specs.Sha256.{sha256};
@@ -49,7 +49,7 @@ impl EntrySource {
 
     /// Writes the entry.
     pub(crate) fn write(&self, alloc: Global, writer: &mut Writer) -> Result<Val, AllocError>
-        ensures { IfOk result (λ word. Writes writer.old (kept_value self.now) word writer.new) }
+        ensures { IfOk result (λ word. WritesValue writer.old (kept_value self.now) word writer.new) }
     {
         match self {
             EntrySource::Payload(own) => own.write(alloc, writer),
@@ -61,7 +61,7 @@ impl EntrySource {
 impl EntryPayload {
     /// Writes the entry.
     fn write(&self, alloc: Global, writer: &mut Writer) -> Result<Val, AllocError>
-        ensures { IfOk result (λ word. Writes writer.old
+        ensures { IfOk result (λ word. WritesValue writer.old
             (copy_of_entry (root_value Tables.PkgInfo self.now.payload.items)) word writer.new) }
     {
         let Ok(adb) = Adb::new(&self.payload) else {
@@ -75,7 +75,7 @@ impl EntryPayload {
 impl PackageFile {
     /// Writes the entry.
     fn write(&self, alloc: Global, writer: &mut Writer) -> Result<Val, AllocError>
-        ensures { IfOk result (λ word. Writes writer.old
+        ensures { IfOk result (λ word. WritesValue writer.old
             (entry_of_package self.now.file.items) word writer.new) }
     {
         match Package::new(alloc, &self.file) {
@@ -93,7 +93,7 @@ fn write_package(
     pkg: &Package<'_>,
     len: u64,
 ) -> Result<Val, AllocError>
-    ensures { IfOk result (λ word. Writes writer.old
+    ensures { IfOk result (λ word. WritesValue writer.old
         (entry_value (entry_in (opened_value pkg.now) 0) (sha256 (opened_payload pkg.now)) len)
         word writer.new) }
 {

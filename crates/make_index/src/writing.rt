@@ -2,7 +2,7 @@
 ghost use Rattle.std.specs.Prelude.{◌≡◌, map, IfOk};
 ghost use Rattle.adb_view.specs.Plain.{none, more};
 ghost use Rattle.adb_schema.specs.Shown.{dep_value, info_value, list_value};
-ghost use Rattle.adb_write.specs.DepthFirst.{Writes};
+ghost use Rattle.adb_write.specs.DepthFirst.{WritesValue};
 ghost use Rattle.make_index.specs.Entries.{int_value, without_zeros, entry_value};
 ghost use Rattle.make_index.specs.Appending.{IsAppended, text_plains, int_plains};
 
@@ -23,7 +23,7 @@ pub(crate) fn write_info<'a>(
     id: &'a [u8],
     len: u64,
 ) -> Result<Val, AllocError>
-    ensures { IfOk result (λ word. Writes writer.old
+    ensures { IfOk result (λ word. WritesValue writer.old
         (entry_value (info_value info.now) id.now len) word writer.new) }
 {
     values_are_written_depth_first();
@@ -127,7 +127,7 @@ fn add_tags<'a>(
 
 /// Writes an integer; 0 is NULL.
 fn write_int(writer: &mut Writer, n: u64) -> Result<Val, AllocError>
-    ensures { IfOk result (λ word. Writes writer.old (int_value n) word writer.new) }
+    ensures { IfOk result (λ word. WritesValue writer.old (int_value n) word writer.new) }
 {
     values_are_written_depth_first();
     if n == 0 {
@@ -142,7 +142,7 @@ fn write_tags<'a>(
     writer: &mut Writer,
     texts: List<'a, &'a [u8]>,
 ) -> Result<Val, AllocError>
-    ensures { IfOk result (λ word. Writes writer.old
+    ensures { IfOk result (λ word. WritesValue writer.old
         (without_zeros (list_value texts.entry)) word writer.new) }
 {
     values_are_written_depth_first();
@@ -159,7 +159,7 @@ fn write_deps<'a>(
     writer: &mut Writer,
     deps: List<'a, DepView<'a>>,
 ) -> Result<Val, AllocError>
-    ensures { IfOk result (λ word. Writes writer.old
+    ensures { IfOk result (λ word. WritesValue writer.old
         (without_zeros (list_value deps.entry)) word writer.new) }
 {
     values_are_written_depth_first();
@@ -172,7 +172,7 @@ fn write_deps<'a>(
 
 /// Writes a dependency.
 fn write_dep(writer: &mut Writer, dep: &DepView<'_>) -> Result<Val, AllocError>
-    ensures { IfOk result (λ word. Writes writer.old
+    ensures { IfOk result (λ word. WritesValue writer.old
         (without_zeros (dep_value dep.now)) word writer.new) }
 {
     values_are_written_depth_first();

@@ -3,7 +3,7 @@ use Rattle.std.proofs.Common.{◌≡◌, ℕ, ◌+◌, ◌<◌, true, false, con
 use Rattle.std.proofs.lemmas.List.{take_more}
 use Rattle.adb_view.specs.Plain.{Plain, Plains, none, more}
 use Rattle.adb_write.specs.Writing.{Writing}
-use Rattle.adb_write.specs.DepthFirst.{push, Writes, WritesAll}
+use Rattle.adb_write.specs.DepthFirst.{push, WritesValue, WritesValues}
 use Rattle.make_info.specs.declared.writing.Column.{Column}
 use Rattle.make_info.specs.declared.information.Item.{Item}
 use Rattle.make_info.specs.declared.field.Field.{Field}
@@ -14,16 +14,16 @@ use Rattle.make_info.specs.Views.{item_view, value_view}
 
 -- what the crate of the writer says of one value more
 abbrev pub Pushes : Type 0
-Pushes = (v : Plain) (vs : Plains) (x : ℕ) (xs : List ℕ) (a b c : Writing) → WritesAll a vs xs b → Writes b v x c → WritesAll a (push vs v) (xs ++ x ∷ []) c
+Pushes = (v : Plain) (vs : Plains) (x : ℕ) (xs : List ℕ) (a b c : Writing) → WritesValues a vs xs b → WritesValue b v x c → WritesValues a (push vs v) (xs ++ x ∷ []) c
 
-pub one_more : Pushes → (v : Plain) (vs us : Plains) (x : ℕ) (xs ys : List ℕ) (a b c : Writing) → us ≡ push vs v → ys ≡ xs ++ x ∷ [] → WritesAll a vs xs b → Writes b v x c → WritesAll a us ys c
+pub one_more : Pushes → (v : Plain) (vs us : Plains) (x : ℕ) (xs ys : List ℕ) (a b c : Writing) → us ≡ push vs v → ys ≡ xs ++ x ∷ [] → WritesValues a vs xs b → WritesValue b v x c → WritesValues a us ys c
 one_more law v vs us x xs ys a b c e words so one =
-    let r : WritesAll a (push vs v) (xs ++ x ∷ []) c = law v vs x xs a b c so one in
-    subst (λ u. WritesAll a u ys c) (sym e) (subst (λ w. WritesAll a (push vs v) w c) (sym words) r)
+    let r : WritesValues a (push vs v) (xs ++ x ∷ []) c = law v vs x xs a b c so one in
+    subst (λ u. WritesValues a u ys c) (sym e) (subst (λ w. WritesValues a (push vs v) w c) (sym words) r)
 
-pub write_kept : (vs us : Plains) (xs ys : List ℕ) (a b c : Writing) → us ≡ vs → ys ≡ xs → c ≡ b → WritesAll a vs xs b → WritesAll a us ys c
+pub write_kept : (vs us : Plains) (xs ys : List ℕ) (a b c : Writing) → us ≡ vs → ys ≡ xs → c ≡ b → WritesValues a vs xs b → WritesValues a us ys c
 write_kept vs us xs ys a b c values words writer so =
-    subst (λ w. WritesAll a us ys w) (sym writer) (subst (λ w. WritesAll a us w b) (sym words) (subst (λ u. WritesAll a u xs b) (sym values) so))
+    subst (λ w. WritesValues a us ys w) (sym writer) (subst (λ w. WritesValues a us w b) (sym words) (subst (λ u. WritesValues a u xs b) (sym values) so))
 
 columns_push : (info : List InfoItem) (size : ℕ) (cs : List Column) (c : Column) → column_values info size (cs ++ c ∷ []) ≡ push (column_values info size cs) (column_value info size c)
 columns_push info size [] c = refl

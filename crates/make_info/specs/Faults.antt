@@ -2,7 +2,7 @@
 use Rattle.std.specs.Prelude.{◌≡◌, ℕ, List, Result, Ok, Err}
 use Rattle.base_core.specs.declared.tree.TreeFault.{TreeFault}
 use Rattle.base_core.specs.declared.tree.TreeFault.TheVariants as Trees
-use Rattle.adb_write.specs.Canonical.{Counts}
+use Rattle.adb_write.specs.Canonical.{PayloadCounts}
 use Rattle.adb_write.specs.declared.fault.WriteFault.{WriteFault}
 use Rattle.adb_write.specs.declared.fault.WriteFault.TheVariants as Writes
 use Rattle.make_info.specs.declared.fault.MakeFault.{MakeFault}
@@ -28,7 +28,7 @@ IsInfoFault Disk answer = ⊥
 IsInfoFault Memory answer = Unit {0}
 
 -- the counts with which the writer stops; want of memory says nothing of them
-abbrev pub IsOverflow : MakeFault → Result (List ℕ) Counts → Type 0
+abbrev pub IsOverflow : MakeFault → Result (List ℕ) PayloadCounts → Type 0
 IsOverflow (TooLarge bytes values) written = written ≡ Err (bytes, values)
 IsOverflow Memory written = Unit {0}
 IsOverflow fault written = ⊥

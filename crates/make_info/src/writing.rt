@@ -1,6 +1,6 @@
 //! Writes the information of a package as a value of schema 3 (apk-v3(5)), column by column.
 ghost use Rattle.adb_view.specs.Plain.{blob_value, null};
-ghost use Rattle.adb_write.specs.DepthFirst.{Writes, WritesAll};
+ghost use Rattle.adb_write.specs.DepthFirst.{WritesValue, WritesValues};
 ghost use Rattle.dep_core.specs.Meets.{dependency};
 ghost use Rattle.dep_core.specs.Value.{dep_value, matching_of};
 ghost use Rattle.make_info.specs.Columns.{column_value, column_values};
@@ -59,7 +59,7 @@ impl Information<'_> {
     /// Writes the information, with the size of the package's files: 22 fields in order.
     #[tactic(auto, unfolding(crate::specs::Information::information_value))]
     pub fn write(&self, writer: &mut Writer, installed_size: u64) -> Result<Val, AllocError>
-        ensures { IfOk result (λ word. Writes writer.old (information_value self.now installed_size) word writer.new) }
+        ensures { IfOk result (λ word. WritesValue writer.old (information_value self.now installed_size) word writer.new) }
     {
         let words = self
             .entries
@@ -83,7 +83,7 @@ impl Items<'_> {
         columns: &[Column],
         installed_size: u64,
     ) -> Result<Vec<Val>, AllocError>
-        ensures { IfOk result (λ words. WritesAll writer.old (column_values self.now installed_size columns.now) words.items writer.new) }
+        ensures { IfOk result (λ words. WritesValues writer.old (column_values self.now installed_size columns.now) words.items writer.new) }
     {
         values_are_written_depth_first();
         let mut words = Vec::with_capacity(self.alloc, columns.len())?;
@@ -100,7 +100,7 @@ impl Items<'_> {
         column: Column,
         installed_size: u64,
     ) -> Result<Val, AllocError>
-        ensures { IfOk result (λ word. Writes writer.old (column_value self.now installed_size column) word writer.new) }
+        ensures { IfOk result (λ word. WritesValue writer.old (column_value self.now installed_size column) word writer.new) }
     {
         match column {
             Column::Single(field) => self.write_single(writer, field),
@@ -112,7 +112,7 @@ impl Items<'_> {
 
     // Writes what is said of a field that is given once.
     fn write_single(&self, writer: &mut Writer, field: Field) -> Result<Val, AllocError>
-        ensures { IfOk result (λ word. Writes writer.old (value_of_single field self.now) word writer.new) }
+        ensures { IfOk result (λ word. WritesValue writer.old (value_of_single field self.now) word writer.new) }
     {
         match self.find(field) {
             Some(entry) => entry.value.write(writer),
@@ -122,7 +122,7 @@ impl Items<'_> {
 
     // Writes all that is said of a field.
     fn write_list(&self, writer: &mut Writer, field: Field) -> Result<Val, AllocError>
-        ensures { IfOk result (λ word. Writes writer.old (value_of_list field self.now) word writer.new) }
+        ensures { IfOk result (λ word. WritesValue writer.old (value_of_list field self.now) word writer.new) }
     {
         values_are_written_depth_first();
         let mut words = Vec::new(self.alloc);
@@ -148,7 +148,7 @@ impl Value<'_> {
     }
 
     fn write(&self, writer: &mut Writer) -> Result<Val, AllocError>
-        ensures { IfOk result (λ word. Writes writer.old (plain_value (value_view self.now)) word writer.new) }
+        ensures { IfOk result (λ word. WritesValue writer.old (plain_value (value_view self.now)) word writer.new) }
     {
         match self {
             Value::Text(text) => writer.blob(text),
@@ -161,7 +161,7 @@ impl Value<'_> {
 
 // Writes NULL.
 fn write_null(writer: &mut Writer) -> Result<Val, AllocError>
-    ensures { IfOk result (λ word. Writes writer.old null word writer.new) }
+    ensures { IfOk result (λ word. WritesValue writer.old null word writer.new) }
 {
     values_are_written_depth_first();
     Ok(Val::of(0))
@@ -169,7 +169,7 @@ fn write_null(writer: &mut Writer) -> Result<Val, AllocError>
 
 // Writes a size; one of 0 is NULL.
 fn write_size(writer: &mut Writer, size: u64) -> Result<Val, AllocError>
-    ensures { IfOk result (λ word. Writes writer.old (size_value size) word writer.new) }
+    ensures { IfOk result (λ word. WritesValue writer.old (size_value size) word writer.new) }
 {
     if size == 0 {
         return write_null(writer);
@@ -179,7 +179,7 @@ fn write_size(writer: &mut Writer, size: u64) -> Result<Val, AllocError>
 
 // Writes a dependency: its name, version and match number.
 fn write_need(writer: &mut Writer, dep: &Dep<'_>) -> Result<Val, AllocError>
-    ensures { IfOk result (λ word. Writes writer.old (need_value (dep_value (dependency dep.now))) word writer.new) }
+    ensures { IfOk result (λ word. WritesValue writer.old (need_value (dep_value (dependency dep.now))) word writer.new) }
 {
     values_are_written_depth_first();
     let name = writer.blob(dep.name)?;
@@ -189,7 +189,7 @@ fn write_need(writer: &mut Writer, dep: &Dep<'_>) -> Result<Val, AllocError>
 }
 
 fn write_version(writer: &mut Writer, dep: &Dep<'_>) -> Result<Val, AllocError>
-    ensures { IfOk result (λ word. Writes writer.old (blob_value (dep_value (dependency dep.now)).version) word writer.new) }
+    ensures { IfOk result (λ word. WritesValue writer.old (blob_value (dep_value (dependency dep.now)).version) word writer.new) }
 {
     match &dep.version {
         Some(version) => writer.blob(version.text()),
@@ -198,7 +198,7 @@ fn write_version(writer: &mut Writer, dep: &Dep<'_>) -> Result<Val, AllocError>
 }
 
 fn write_matching(writer: &mut Writer, dep: &Dep<'_>) -> Result<Val, AllocError>
-    ensures { IfOk result (λ word. Writes writer.old (number_value (dep_value (dependency dep.now)).matching) word writer.new) }
+    ensures { IfOk result (λ word. WritesValue writer.old (number_value (dep_value (dependency dep.now)).matching) word writer.new) }
 {
     match matching_of(dep) {
         Some(matching) => writer.int(matching),

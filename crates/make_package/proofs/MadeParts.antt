@@ -16,7 +16,7 @@ use Rattle.adb_block.specs.Piece.{Piece}
 use Rattle.adb_block.specs.Written.{block_bytes}
 use Rattle.adb_view.specs.Plain.{Plain}
 use Rattle.adb_schema.specs.declared.read.TheConstants.{PACKAGE_WORD}
-use Rattle.adb_write.specs.Canonical.{Counts, canonical, or_overflow, overflow_of, written_of}
+use Rattle.adb_write.specs.Canonical.{PayloadCounts, canonical, or_overflow, overflow_of, written_of}
 use Rattle.adb_write.specs.File.{adb_piece, file_of}
 use Rattle.pkg_core.specs.Contents.{Contents}
 use Rattle.command_core.specs.Applets.{may_have, needed_option, operand_rule, value_rules}
@@ -240,7 +240,7 @@ laid_is v contents =
     ∙ ap (λ (l : List ℕ). block_bytes piece ++ l) (blocks_laid contents) ∙ sym (flat_map-cons block_bytes piece (map contents_piece contents)) in
     append_assoc mark (schema ++ payload) rest ∙ ap (λ (l : List ℕ). mark ++ l) (append_assoc schema payload rest ∙ ap (λ (l : List ℕ). schema ++ l) tail)
 
-file_ok : (v : Plain) (contents : List Contents) (payload file blocks : List ℕ) (o : Option Counts) → or_overflow (canonical v) o ≡ Ok payload → blocks ≡ contents_blocks contents
+file_ok : (v : Plain) (contents : List Contents) (payload file blocks : List ℕ) (o : Option PayloadCounts) → or_overflow (canonical v) o ≡ Ok payload → blocks ≡ contents_blocks contents
     → file ≡ file_of PACKAGE_WORD payload ++ blocks → container_unless o v contents ≡ Ok file
 file_ok v contents payload file blocks None w b e =
     let same : canonical v ≡ payload = cc in
@@ -252,11 +252,11 @@ pub package_ok : (v : Plain) (contents : List Contents) (payload file blocks : L
 unfolding written_of package_container
 package_ok v contents payload file blocks w b e = file_ok v contents payload file blocks (overflow_of v) w b e
 
-file_large : (v : Plain) (contents : List Contents) (bytes values : ℕ) (o : Option Counts) → or_overflow (canonical v) o ≡ Err (bytes, values) → container_unless o v contents ≡ Err (TooLarge bytes values)
+file_large : (v : Plain) (contents : List Contents) (bytes values : ℕ) (o : Option PayloadCounts) → or_overflow (canonical v) o ≡ Err (bytes, values) → container_unless o v contents ≡ Err (TooLarge bytes values)
 file_large v contents bytes values None w = absurd (cc)
 file_large v contents bytes values (Some counts) w =
     let same : counts ≡ (bytes, values) = cc in
-    ap (λ (c : Counts). Err (TooLarge c.0 c.1)) same
+    ap (λ (c : PayloadCounts). Err (TooLarge c.0 c.1)) same
 
 pub package_err : (v : Plain) (contents : List Contents) (fault : MakeFault) → IsOverflow fault (written_of v) → IsAnswer IsBytes (Err fault) (package_container v contents)
 unfolding written_of package_container
@@ -267,7 +267,7 @@ package_err v contents (FileMissing p) h = absurd h
 package_err v contents (FileBad p c) h = absurd h
 package_err v contents (InfoBad p) h = absurd h
 
-large_not_disk : (A : Type 0) (fault : MakeFault) (told : Result (List ℕ) Counts) → IsOverflow fault told → IsNotDisk {A = A} (Err fault)
+large_not_disk : (A : Type 0) (fault : MakeFault) (told : Result (List ℕ) PayloadCounts) → IsOverflow fault told → IsNotDisk {A = A} (Err fault)
 large_not_disk A (TooLarge bytes values) told h = tt
 large_not_disk A Memory told h = tt
 large_not_disk A Disk told h = absurd h
@@ -275,7 +275,7 @@ large_not_disk A (FileMissing p) told h = absurd h
 large_not_disk A (FileBad p c) told h = absurd h
 large_not_disk A (InfoBad p) told h = absurd h
 
-pub large_answer : {A : Type 0} (r : Result A MakeFault) (fault : MakeFault) (told : Result (List ℕ) Counts) → IsErrAnd r (λ e. e ≡ fault) → IsOverflow fault told → IsNotDisk r
+pub large_answer : {A : Type 0} (r : Result A MakeFault) (fault : MakeFault) (told : Result (List ℕ) PayloadCounts) → IsErrAnd r (λ e. e ≡ fault) → IsOverflow fault told → IsNotDisk r
 large_answer (Ok x) fault told h o = absurd h
 large_answer {A} (Err e) fault told h o = let P : MakeFault → Type 0 = λ f. IsNotDisk {A = A} (Err f) in subst P (sym h) (large_not_disk A fault told o)
 

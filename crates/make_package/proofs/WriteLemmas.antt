@@ -7,7 +7,7 @@ use Rattle.adb_view.specs.Plain.{blob_value, Plain, Plains, more}
 use Rattle.command_core.specs.declared.values.OptionValue.{OptionValue}
 use Rattle.make_package.specs.Sources.{values_of, texts_of}
 use Rattle.std.proofs.lemmas.List.{take_more, map-append}
-use Rattle.adb_write.specs.DepthFirst.{WritesAll, push}
+use Rattle.adb_write.specs.DepthFirst.{WritesValues, push}
 use Rattle.adb_write.specs.Writing.{Writing}
 use Rattle.make_info.specs.Values.{plains_of}
 
@@ -23,10 +23,10 @@ module _ {X : Type 0} (f : X → Plain) where
       ∙ ap plains_of (map-append f (take i xs) (x ∷ [])) ∙ plains_push (map f (take i xs)) (f x)
 
   pub written_more : (xs : List X) (i : ℕ) (x d : X) (words later : List ℕ) (a b : Writing) → i < length xs → x ≡ get_or xs i d
-      → later ≡ words → WritesAll a (push (plains_of (map f (take i xs))) (f x)) words b → WritesAll a (plains_of (map f (take (i + 1) xs))) later b
+      → later ≡ words → WritesValues a (push (plains_of (map f (take i xs))) (f x)) words b → WritesValues a (plains_of (map f (take (i + 1) xs))) later b
   written_more xs i x d words later a b lt e same h =
-      let P : Plains → Type 0 = λ vs. WritesAll a vs words b in
-      let Q : List ℕ → Type 0 = λ ws. WritesAll a (plains_of (map f (take (i + 1) xs))) ws b in
+      let P : Plains → Type 0 = λ vs. WritesValues a vs words b in
+      let Q : List ℕ → Type 0 = λ ws. WritesValues a (plains_of (map f (take (i + 1) xs))) ws b in
       subst Q (sym same) (subst P (sym (plains_more xs i x d lt e)) h)
 
 -- ---- the values of an option
@@ -62,17 +62,17 @@ blobs_push values v =
     ∙ ap plains_of (map-append blob_value (texts_of values) (v.text ∷ [])) ∙ plains_push (map blob_value (texts_of values)) (blob_value v.text)
 
 pub blob_more : (letter : ℕ) (values : List OptionValue) (i : ℕ) (v : OptionValue) (words later : List ℕ) (a b b' : Writing) → slice_get values i ≡ Some v → v.letter ≡ letter → b' ≡ b
-    → later ≡ words → WritesAll a (push (blobs (values_of letter (take i values))) (blob_value v.text)) words b → WritesAll a (blobs (values_of letter (take (i + 1) values))) later b'
+    → later ≡ words → WritesValues a (push (blobs (values_of letter (take i values))) (blob_value v.text)) words b → WritesValues a (blobs (values_of letter (take (i + 1) values))) later b'
 blob_more letter values i v words later a b b' here e w l h =
-    let P : Plains → Type 0 = λ vs. WritesAll a vs words b in
-    let Q : List ℕ → Type 0 = λ ws. WritesAll a (blobs (values_of letter (take (i + 1) values))) ws b in
-    let R : Writing → Type 0 = λ x. WritesAll a (blobs (values_of letter (take (i + 1) values))) later x in
+    let P : Plains → Type 0 = λ vs. WritesValues a vs words b in
+    let Q : List ℕ → Type 0 = λ ws. WritesValues a (blobs (values_of letter (take (i + 1) values))) ws b in
+    let R : Writing → Type 0 = λ x. WritesValues a (blobs (values_of letter (take (i + 1) values))) later x in
     subst R (sym w) (subst Q (sym l) (subst P (sym (ap blobs (given_one letter values i v here e) ∙ blobs_push (values_of letter (take i values)) v)) h))
 
 pub blob_same : (letter : ℕ) (values : List OptionValue) (i : ℕ) (v : OptionValue) (words later : List ℕ) (a b b' : Writing) → slice_get values i ≡ Some v → (v.letter ≡ letter → ⊥) → b' ≡ b
-    → later ≡ words → WritesAll a (blobs (values_of letter (take i values))) words b → WritesAll a (blobs (values_of letter (take (i + 1) values))) later b'
+    → later ≡ words → WritesValues a (blobs (values_of letter (take i values))) words b → WritesValues a (blobs (values_of letter (take (i + 1) values))) later b'
 blob_same letter values i v words later a b b' here ne w l h =
-    let P : Plains → Type 0 = λ vs. WritesAll a vs words b in
-    let Q : List ℕ → Type 0 = λ ws. WritesAll a (blobs (values_of letter (take (i + 1) values))) ws b in
-    let R : Writing → Type 0 = λ x. WritesAll a (blobs (values_of letter (take (i + 1) values))) later x in
+    let P : Plains → Type 0 = λ vs. WritesValues a vs words b in
+    let Q : List ℕ → Type 0 = λ ws. WritesValues a (blobs (values_of letter (take (i + 1) values))) ws b in
+    let R : Writing → Type 0 = λ x. WritesValues a (blobs (values_of letter (take (i + 1) values))) later x in
     subst R (sym w) (subst Q (sym l) (subst P (sym (ap blobs (given_other letter values i v here ne))) h))

@@ -4,7 +4,7 @@ use Rattle.command_core.specs.declared.values.TheConstants.{FILES, SCRIPT, TRIGG
 use Rattle.std.specs.Prelude.{ℕ, List, length, Option, Some, None, Result, Ok, Err}
 use Rattle.adb_view.specs.Plain.{Plain}
 use Rattle.adb_schema.specs.declared.read.TheConstants.{PACKAGE_WORD}
-use Rattle.adb_write.specs.Canonical.{Counts, overflow_of}
+use Rattle.adb_write.specs.Canonical.{PayloadCounts, overflow_of}
 use Rattle.pkg_core.specs.Contents.{Contents}
 use Rattle.command_core.specs.Command.{CommandLine}
 use Rattle.adb_sound.specs.Container.{container_of}
@@ -17,7 +17,7 @@ use Rattle.make_package.specs.Sources.{unless_refused, values_of, texts_of, scri
 
 -- ---- the file
 
-abbrev pub container_unless : Option Counts → Plain → List Contents → Result (List ℕ) MakeFault
+abbrev pub container_unless : Option PayloadCounts → Plain → List Contents → Result (List ℕ) MakeFault
 container_unless None v contents = Ok (container_of PACKAGE_WORD v contents)
 container_unless (Some counts) v contents = Err (TooLarge counts.0 counts.1)
 

@@ -3,7 +3,7 @@ ghost use Rattle.command_core.specs.declared.values.TheConstants.{TRIGGER};
 ghost use Rattle.std.specs.Prelude.{ℕ, ◌≡◌, ◌≤◌, ◌<◌, ◌^◌, ◌++◌, Ok, List, length, map, IfOk, IfErr};
 ghost use Rattle.adb_schema.specs.declared.read.TheConstants.{PACKAGE_WORD};
 ghost use Rattle.adb_write.specs.Canonical.{MOST_BYTES, written_of};
-ghost use Rattle.adb_write.specs.DepthFirst.{Writes};
+ghost use Rattle.adb_write.specs.DepthFirst.{WritesValue};
 ghost use Rattle.adb_write.specs.File.{file_of};
 ghost use Rattle.make_info.specs.Faults.{IsOverflow};
 ghost use Rattle.make_info.specs.Information.{information_value, replaces_priority};
@@ -114,7 +114,7 @@ fn write_root(
     scripts: &[Script<'_>],
     size: u64,
 ) -> Result<Val, AllocError>
-    ensures { IfOk result (λ root. Writes writer.old
+    ensures { IfOk result (λ root. WritesValue writer.old
         (package_with (information_value about.now size) (map packed_folder folders.now)
         (scripts_view scripts.now) (texts_of (values_of TRIGGER values.now))
         (replaces_priority about.now)) root writer.new) }

@@ -2,7 +2,7 @@
 //! triggers.
 ghost use Rattle.command_core.specs.declared.values.TheConstants.{TRIGGER};
 ghost use Rattle.adb_view.specs.Plain.{arr_value, Plain, blob_value};
-ghost use Rattle.adb_write.specs.DepthFirst.{Writes, WritesAll};
+ghost use Rattle.adb_write.specs.DepthFirst.{WritesValue, WritesValues};
 ghost use Rattle.adb_write.specs.Writing.{Writing};
 ghost use Rattle.make_info.specs.Values.{plains_of, size_value, number_value};
 ghost use Rattle.make_package.specs.Package.{access_value, script_in, value_of_scripts, package_with};
@@ -29,7 +29,7 @@ fn write_paths(
     writer: &mut Writer,
     folders: &[Folder<'_>],
 ) -> Result<Val, AllocError>
-    ensures { IfOk result (λ word. Writes writer.old
+    ensures { IfOk result (λ word. WritesValue writer.old
         (arr_value (plains_of (map packed_folder folders.now))) word writer.new) }
 {
     values_are_written_depth_first();
@@ -44,7 +44,7 @@ fn write_paths(
 
 /// Writes a folder with its files.
 fn write_folder(alloc: Global, writer: &mut Writer, folder: &Folder<'_>) -> Result<Val, AllocError>
-    ensures { IfOk result (λ word. Writes writer.old (packed_folder folder.now) word writer.new) }
+    ensures { IfOk result (λ word. WritesValue writer.old (packed_folder folder.now) word writer.new) }
 {
     values_are_written_depth_first();
     let name = writer.blob(folder.name)?;
@@ -56,7 +56,7 @@ fn write_folder(alloc: Global, writer: &mut Writer, folder: &Folder<'_>) -> Resu
 
 /// Writes the files of a folder.
 fn write_files(alloc: Global, writer: &mut Writer, files: &[File<'_>]) -> Result<Val, AllocError>
-    ensures { IfOk result (λ word. Writes writer.old
+    ensures { IfOk result (λ word. WritesValue writer.old
         (arr_value (plains_of (map packed_file files.now))) word writer.new) }
 {
     values_are_written_depth_first();
@@ -71,7 +71,7 @@ fn write_files(alloc: Global, writer: &mut Writer, files: &[File<'_>]) -> Result
 
 /// Writes a file.
 fn write_file(writer: &mut Writer, file: &File<'_>) -> Result<Val, AllocError>
-    ensures { IfOk result (λ word. Writes writer.old (packed_file file.now) word writer.new) }
+    ensures { IfOk result (λ word. WritesValue writer.old (packed_file file.now) word writer.new) }
 {
     values_are_written_depth_first();
     let name = writer.blob(file.name)?;
@@ -86,7 +86,7 @@ fn write_file(writer: &mut Writer, file: &File<'_>) -> Result<Val, AllocError>
 
 /// Writes an access list: this mode, and `root` as user and as group.
 fn write_acl(writer: &mut Writer, mode: u64) -> Result<Val, AllocError>
-    ensures { IfOk result (λ word. Writes writer.old (access_value mode) word writer.new) }
+    ensures { IfOk result (λ word. WritesValue writer.old (access_value mode) word writer.new) }
 {
     values_are_written_depth_first();
     let mode = writer.int(mode)?;
@@ -98,7 +98,7 @@ fn write_acl(writer: &mut Writer, mode: u64) -> Result<Val, AllocError>
 
 /// Writes a size; one of 0 is Null.
 fn write_size(writer: &mut Writer, size: u64) -> Result<Val, AllocError>
-    ensures { IfOk result (λ word. Writes writer.old (size_value size) word writer.new) }
+    ensures { IfOk result (λ word. WritesValue writer.old (size_value size) word writer.new) }
 {
     values_are_written_depth_first();
     if size == 0 {
@@ -118,7 +118,7 @@ pub(crate) struct Script<'a> {
 
 /// Writes the scripts: a field for each type, in order.
 fn write_scripts(writer: &mut Writer, scripts: &[Script<'_>]) -> Result<Val, AllocError>
-    ensures { IfOk result (λ word. Writes writer.old
+    ensures { IfOk result (λ word. WritesValue writer.old
         (value_of_scripts (scripts_view scripts.now)) word writer.new) }
 {
     values_are_written_depth_first();
@@ -155,7 +155,7 @@ fn script_of<'a>(scripts: &'a [Script<'_>], kind: &[u8]) -> &'a [u8]
 
 /// Writes a number that may be lacking.
 fn write_number(writer: &mut Writer, number: Option<u64>) -> Result<Val, AllocError>
-    ensures { IfOk result (λ word. Writes writer.old (number_value number) word writer.new) }
+    ensures { IfOk result (λ word. WritesValue writer.old (number_value number) word writer.new) }
 {
     values_are_written_depth_first();
     match number {
@@ -175,8 +175,8 @@ pub(crate) fn write_package(
     priority: Option<u64>,
 ) -> Result<Val, AllocError>
     ensures { IfOk result (λ word. (before : Writing) (about : Plain)
-        → Writes before about info writer.old
-        → Writes before (package_with about (map packed_folder folders.now)
+        → WritesValue before about info writer.old
+        → WritesValue before (package_with about (map packed_folder folders.now)
         (scripts_view scripts.now) (texts_of
         (values_of TRIGGER values.now)) priority) word writer.new) }
 {
@@ -191,7 +191,7 @@ pub(crate) fn write_package(
 
 /// Writes the triggers: the values of the option for them, in the order given.
 fn write_triggers(alloc: Global, writer: &mut Writer, values: &Values) -> Result<Val, AllocError>
-    ensures { IfOk result (λ word. Writes writer.old
+    ensures { IfOk result (λ word. WritesValue writer.old
         (arr_value (plains_of (map blob_value
         (texts_of (values_of TRIGGER values.now))))) word writer.new) }
 {

@@ -7,7 +7,7 @@ use Rattle.std.proofs.lemmas.List.Elements.{All-contains_itself, All-weaker}
 use Rattle.std.proofs.lemmas.Slice.Eq.{bytes_eq-Decides}
 use Rattle.adb_schema.specs.Reserved.{is_reserved}
 use Rattle.adb_view.specs.Plain.{Plain}
-use Rattle.adb_write.specs.Canonical.{Counts, overflow_of, written_of}
+use Rattle.adb_write.specs.Canonical.{PayloadCounts, overflow_of, written_of}
 use Rattle.base_core.specs.Files.{Files, IsFolderOf, drop_name}
 use Rattle.base_core.specs.Listed.{AreNamesBelow, IsNameBelow, IsNamesOf}
 use Rattle.base_core.specs.declared.cause.Cause.{Cause}
@@ -151,7 +151,7 @@ folders_told read n [] names = tt
 folders_told read n (v ∷ values) names =
     each_told (λ (folder : FolderListing). length folder.files) (folder_at v.place read) (folder_told v.place read) n (folders_of (without_dot v.text) names)
 
-unless_told : (counts : Option Counts) (v : Plain) (contents : List Contents) → IsTold (container_unless counts v contents)
+unless_told : (counts : Option PayloadCounts) (v : Plain) (contents : List Contents) → IsTold (container_unless counts v contents)
 unless_told None v contents = tt
 unless_told (Some counts) v contents = tt
 
@@ -195,7 +195,7 @@ entries_told read n (o ∷ operands) =
     and_told (found_entry o.place (read n (without_dot o.text))) (found_entries read (n + 1) operands)
     (entry_told o.place (read n (without_dot o.text))) (entries_told read (n + 1) operands)
 
-written_told : (payload : Result (List ℕ) Counts) → IsTold (index_container payload)
+written_told : (payload : Result (List ℕ) PayloadCounts) → IsTold (index_container payload)
 written_told (Ok payload) = tt
 written_told (Err counts) = tt
 

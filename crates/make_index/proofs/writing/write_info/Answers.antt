@@ -4,7 +4,7 @@ use Rattle.adb_view.specs.Adb.{payload_of}
 use Rattle.adb_schema.specs.Shown.{info_value, list_value}
 use Rattle.adb_schema.specs.declared.schema.Which.TheVariants as Tables
 use Rattle.adb_schema.specs.declared.schema.Kind.TheVariants as Kinds
-use Rattle.adb_write.specs.DepthFirst.{WritesAll}
+use Rattle.adb_write.specs.DepthFirst.{WritesValues}
 use Rattle.make_index.specs.Entries.{entry_value}
 use Rattle.make_index.proofs.IndexLists.{if_ok, zeros_entry, words_are}
 use Rattle.make_index.proofs.IndexShapes.{value_shape}
@@ -13,7 +13,7 @@ use Rattle.make_index.proofs.writing.write_info.Goals as goal
 
 pub returns : goal.returns
 returns c =
-    let start : WritesAll c.args.writer.now none c.in_ok-words.words.items c.args.writer.now = subst (λ (ws : List ℕ). WritesAll c.args.writer.now none ws c.args.writer.now) (sym c.in_ok-words.ensures.items) (c.values_are_written_depth_first.ensures.none c.args.writer.now) in
+    let start : WritesValues c.args.writer.now none c.in_ok-words.words.items c.args.writer.now = subst (λ (ws : List ℕ). WritesValues c.args.writer.now none ws c.args.writer.now) (sym c.in_ok-words.ensures.items) (c.values_are_written_depth_first.ensures.none c.args.writer.now) in
     let texts = c.in_ok-add_texts-2.ensures _ _ (c.in_ok-add_texts.ensures _ _ start) in
     let ints = c.in_ok-add_ints.ensures _ _ texts in
     let lists = c.in_ok-add_deps-5.ensures _ _ (c.in_ok-add_deps-4.ensures _ _ (c.in_ok-add_deps-3.ensures _ _ (c.in_ok-add_deps-2.ensures _ _ (c.in_ok-add_deps.ensures _ _ ints)))) in

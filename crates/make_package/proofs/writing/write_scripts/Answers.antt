@@ -1,12 +1,12 @@
 use Rattle.std.proofs.Common.{◌≡◌, List, ℕ, subst}
 use Rattle.adb_view.specs.Plain.{blob_value}
-use Rattle.adb_write.specs.DepthFirst.{Writes}
+use Rattle.adb_write.specs.DepthFirst.{WritesValue}
 use Rattle.adb_write.specs.Writing.{Writing}
 use Rattle.make_package.proofs.writing.write_scripts.Goals as goal
 
 -- a blob is written of what stands for it
-written_of_same : (a b : Writing) (word : ℕ) (found wanted : List ℕ) → found ≡ wanted → Writes a (blob_value found) word b → Writes a (blob_value wanted) word b
-written_of_same a b word found wanted e h = let P : List ℕ → Type 0 = λ bytes. Writes a (blob_value bytes) word b in subst P e h
+written_of_same : (a b : Writing) (word : ℕ) (found wanted : List ℕ) → found ≡ wanted → WritesValue a (blob_value found) word b → WritesValue a (blob_value wanted) word b
+written_of_same a b word found wanted e h = let P : List ℕ → Type 0 = λ bytes. WritesValue a (blob_value bytes) word b in subst P e h
 
 pub returns : goal.returns
 returns c =

@@ -2,8 +2,8 @@
 use Rattle.std.specs.Prelude.{◌≡◌, ◌≢◌, ℕ, ◌<◌, ◌^◌, false, List, [], ◌∷◌, Ok}
 use Rattle.adb_view.specs.Plain.{Plain, null, int, blob, arr, obj, Plains, none, more}
 use Rattle.adb_view.specs.Readers.{int_of, blob_of, run_of, ARRAY, OBJECT}
-use Rattle.adb_write.specs.Canonical.{Layout, payload_of}
-use Rattle.adb_write.specs.Writing.{Writing, is_over, layout}
+use Rattle.adb_write.specs.Canonical.{Layout, payload_with_root}
+use Rattle.adb_write.specs.Writing.{Writing, is_over, layout_of}
 
 -- the word leads to this value in the payload
 unfoldable mutual
@@ -23,11 +23,11 @@ unfoldable mutual
 -- in what was written the word is one of this value, whatever the root will be
 pub record IsWordOf (out : Layout) (v : Plain) (word : ℕ) : Type 0 where
   pub small : word < 2 ^ 32
-  pub holds : (root : ℕ) → Holds (payload_of root out) v word
+  pub holds : (root : ℕ) → Holds (payload_with_root root out) v word
 
 -- unless the writer passed a limit, the word stands for this value in what it wrote
 abbrev pub StandsFor : Writing → Plain → ℕ → Type 0
-StandsFor w v word = is_over w ≡ false → IsWordOf (layout w) v word
+StandsFor w v word = is_over w ≡ false → IsWordOf (layout_of w) v word
 
 -- the words stand for these values, one for one
 abbrev pub AllStandFor : Writing → Plains → List ℕ → Type 0
