@@ -4,7 +4,8 @@ use Rattle.std.proofs.lemmas.List.{take_more, take_all, drop_all, get_or-map, ge
 use Rattle.std.proofs.lemmas.Bool.{cases_eq, eq-eqb, ne_eqb}
 use Rattle.std.specs.Str.{bytes_eq}
 use Rattle.std.specs.Option.{option_map}
-use Rattle.base_core.specs.Crash.{IsCrashOf, MayLeave}
+use Rattle.base_core.specs.Crash.{MayLeave}
+use Rattle.base_core.specs.Restart.{IsCrashOf}
 use Rattle.base_core.specs.Files.{Files, NameMap, no_names, put_name, IsFolderLike}
 use Rattle.base_core.specs.Tree.{TreeState, IsMapOf, IsWhole, bytes_at, files_of, set_file}
 use Rattle.std.proofs.lemmas.Nat.{mod_below}
