@@ -1,5 +1,6 @@
 //! `mkpkg` and `mkndx`: a package and an index are made, and they are sound.
-ghost use Rattle.base_core.specs.Calls.{IfObservable, OnlyReads};
+ghost use Rattle.base_core.specs.Calls.{IfObservable};
+ghost use Rattle.base_core.specs.Read.{OnlyReads};
 ghost use Rattle.make_index.specs.Files.{AreFiles};
 ghost use Rattle.make_index.specs.Index.{made_index};
 ghost use Rattle.make_index.specs.Kept.{IsMadeBy};

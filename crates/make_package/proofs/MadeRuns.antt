@@ -4,7 +4,8 @@ use Rattle.std.proofs.Common.{◌≡◌, ℕ, suc, ◌+◌, ◌^◌, ◌<◌, �
 use Rattle.std.specs.declared.alloc.Global.{Global}
 use Rattle.std.specs.Result.{IsErrAnd}
 use Rattle.std.proofs.lemmas.List.{map-append, take-append-drop}
-use Rattle.base_core.specs.Calls.{IfObservable, OnlyReads}
+use Rattle.base_core.specs.Calls.{IfObservable}
+use Rattle.base_core.specs.Read.{OnlyReads}
 use Rattle.base_core.specs.Listed.{AreNamesBelow, IsListOf}
 use Rattle.base_core.specs.Faults.{Counts}
 use Rattle.base_core.specs.Tree.{TreeState}

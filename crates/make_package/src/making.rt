@@ -1,5 +1,5 @@
 //! Makes the package that a command asks for, of what it reads in a tree.
-ghost use Rattle.base_core.specs.Calls.{OnlyReads};
+ghost use Rattle.base_core.specs.Read.{OnlyReads};
 ghost use Rattle.make_package.specs.Answers.{IsBytes, IsMadeRun};
 ghost use Rattle.make_package.specs.Making.{made_package};
 ghost use Rattle.make_package.specs.Runs.{Explains, IsAnswer};

@@ -1,6 +1,6 @@
 //! Reads the files of a package, each once, and packs them: what they are, and their contents in
 //! blocks (apk-package(5)).
-ghost use Rattle.base_core.specs.Calls.{OnlyReads};
+ghost use Rattle.base_core.specs.Read.{OnlyReads};
 ghost use Rattle.adb_block.specs.Piece.{padding_of};
 ghost use Rattle.make_package.specs.Blocks.{contents_block, contents_blocks};
 ghost use Rattle.make_package.specs.BorrowedNames.{listings_of};

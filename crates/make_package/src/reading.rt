@@ -1,6 +1,7 @@
 //! Reads what options name in the tree (apk(8), `mkpkg`): the folder whose files a package holds,
 //! and the files of its scripts.
-ghost use Rattle.base_core.specs.Calls.{IfObservable, OnlyReads};
+ghost use Rattle.base_core.specs.Calls.{IfObservable};
+ghost use Rattle.base_core.specs.Read.{OnlyReads};
 ghost use Rattle.command_core.specs.Applets.{value_rules};
 ghost use Rattle.command_core.specs.Files.{without_dot};
 ghost use Rattle.command_core.specs.Values.{are_values, script_file};

@@ -1,6 +1,6 @@
 use Rattle.std.proofs.Common.{◌≡◌, ℕ, List, length, map, take, Ok}
 use Rattle.make_package.specs.Packed.{ArePackedFiles}
-use Rattle.base_core.specs.Calls.{OnlyReads}
+use Rattle.base_core.specs.Read.{OnlyReads}
 use Rattle.make_info.specs.declared.fault.MakeFault.{MakeFault}
 use Rattle.make_info.specs.declared.fault.MakeFault.TheVariants.{Disk}
 use Rattle.make_package.specs.Sources.{file_at}

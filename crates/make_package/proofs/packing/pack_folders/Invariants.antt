@@ -1,7 +1,7 @@
 use Rattle.std.proofs.Common.{◌≡◌, length, take, ℕ, Ok}
 use Rattle.make_package.specs.BorrowedNames.{listings_of}
 use Rattle.make_package.specs.Packed.{ArePackedFolders}
-use Rattle.base_core.specs.Calls.{OnlyReads}
+use Rattle.base_core.specs.Read.{OnlyReads}
 use Rattle.make_info.specs.declared.fault.MakeFault.{MakeFault}
 use Rattle.make_info.specs.declared.fault.MakeFault.TheVariants.{Disk}
 use Rattle.make_package.specs.Sources.{folder_at}

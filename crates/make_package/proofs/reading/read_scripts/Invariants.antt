@@ -1,6 +1,6 @@
 use Rattle.command_core.specs.declared.values.TheConstants.{SCRIPT}
 use Rattle.std.proofs.Common.{take, ℕ, Ok}
-use Rattle.base_core.specs.Calls.{OnlyReads}
+use Rattle.base_core.specs.Read.{OnlyReads}
 use Rattle.make_info.specs.declared.fault.MakeFault.{MakeFault}
 use Rattle.make_info.specs.declared.fault.MakeFault.TheVariants.{Disk}
 use Rattle.make_package.specs.Scripts.{AreScripts}

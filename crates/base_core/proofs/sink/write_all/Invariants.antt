@@ -1,7 +1,7 @@
 use Rattle.std.proofs.Common.{◌≡◌, length}
 use Rattle.base_core.proofs.Added.{IsUnderWay}
 use Rattle.base_core.specs.Faults.{GoesOn, IsNoFault}
-use Rattle.base_core.proofs.whole.write_all.Given as goal
+use Rattle.base_core.proofs.sink.write_all.Given as goal
 
 abbrev pub invariant-loop-rest : goal.invariant-loop-rest
 invariant-loop-rest g l = record {

@@ -1,7 +1,7 @@
 use Rattle.std.proofs.Common.{◌∙◌}
 use Rattle.base_core.proofs.Added.{one_more, take-behind}
 use Rattle.base_core.proofs.Counting.{goes_on_twice, no_fault_twice}
-use Rattle.base_core.proofs.whole.write_all.Goals as goal
+use Rattle.base_core.proofs.sink.write_all.Goals as goal
 
 pub loop-rest-preserved : goal.loop-rest-preserved
 loop-rest-preserved g c = record {
