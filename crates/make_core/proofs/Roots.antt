@@ -10,7 +10,7 @@ use Rattle.adb_schema.specs.declared.schema.Which.{Which}
 use Rattle.adb_schema.specs.declared.schema.Kind.TheVariants.{Obj}
 use Rattle.adb_write.specs.Canonical.{PayloadCounts, canonical, or_overflow, overflow_of, passes, written_of, MOST_BYTES, MOST_VALUES}
 use Rattle.adb_write.specs.Size.{size_of, value_count}
-use Rattle.make_core.specs.Sound.{IsRootOf}
+use Rattle.adb_sound.specs.Root.{IsRootOf}
 use Rattle.make_core.proofs.GoodValues.{IsGood}
 
 pub record IsWritten (v : Plain) (payload : List ℕ) : Type 0 where
