@@ -2,7 +2,7 @@
 use Rattle.std.specs.Prelude.{◌≡◌, ◌⊎◌, ℕ, Bool, true, false, List, [], Option, Some, None, Result, Ok, Err, Vec}
 use Rattle.std.specs.declared.alloc.Global.{Global}
 use Rattle.base_core.specs.Files.{Files}
-use Rattle.base_core.specs.Sink.{Sinking, Gets, GetsSome, Failed}
+use Rattle.base_core.specs.Sink.{SinkChange, Gets, GetsSome, SinkFailed}
 use Rattle.base_core.specs.declared.tree.TreeFault.{TreeFault}
 use Rattle.base_core.specs.declared.tree.TreeFault.TheVariants.{Disk, Memory as NoMemory}
 use Rattle.report_core.specs.Texts.{refusal_line, tree_line, memory_line}
@@ -12,13 +12,13 @@ use Rattle.adb_schema.specs.declared.read.ReadFault.{ReadFault}
 use Rattle.adb_schema.specs.declared.read.ReadFault.TheVariants as ReadFaults
 use Rattle.adb_schema.specs.declared.schema.Which.{Which}
 use Rattle.base_core.specs.declared.cause.Cause.{Cause}
-use Rattle.make_core.specs.IndexCommand.{made_index}
-use Rattle.make_core.specs.Making.{made_package}
-use Rattle.make_core.specs.Sound.{AreNamesFor}
-use Rattle.make_core.specs.Sources.{Reads, given}
-use Rattle.make_core.specs.declared.fault.MakeFault.{MakeFault}
-use Rattle.make_core.specs.declared.fault.MakeFault.TheVariants.{FileMissing, FileBad, InfoBad, TooLarge}
-use Rattle.make_core.specs.declared.fault.MakeFault.TheVariants as MakeFaults
+use Rattle.make_index.specs.Index.{made_index}
+use Rattle.make_package.specs.Making.{made_package}
+use Rattle.make_package.specs.Sources.{AreNamesFor, values_of}
+use Rattle.make_info.specs.Reads.{Reads}
+use Rattle.make_info.specs.declared.fault.MakeFault.{MakeFault}
+use Rattle.make_info.specs.declared.fault.MakeFault.TheVariants.{FileMissing, FileBad, InfoBad, TooLarge}
+use Rattle.make_info.specs.declared.fault.MakeFault.TheVariants as MakeFaults
 use Rattle.words_core.specs.Command.{CommandLine}
 use Rattle.outcome.specs.Dump.{form_fault}
 use Rattle.outcome.specs.Make.{IsBelow, mkndx, mkpkg}
@@ -43,7 +43,7 @@ abbrev pub TellsOne : (Outcome → Type 0) → Verdict → Type 0
 TellsOne IsOne verdict = (outcome : Outcome) × IsOne outcome × Tells verdict outcome
 
 -- the answer and the bytes of an outcome, or a sink's fault in its place
-abbrev pub IsTold : Outcome → Answer → Sinking → Sinking → Type 0
+abbrev pub IsTold : Outcome → Answer → SinkChange → SinkChange → Type 0
 IsTold outcome Good out err = IsStated outcome Good out err
 IsTold outcome (Refused refusal) out err = IsStated outcome (Refused refusal) out err
 IsTold outcome OutFault out err = IsOutFault outcome out err
@@ -51,13 +51,13 @@ IsTold outcome TreeFailed out err = ⊥
 IsTold outcome Memory out err = ⊥
 
 -- a refusal told on err, or a fault of it in its place
-abbrev pub IsRefused : Option Refusal → Answer → Sinking → Type 0
+abbrev pub IsRefused : Option Refusal → Answer → SinkChange → Type 0
 IsRefused None answer err = (answer ≡ Good) × Gets err [] × DidNotFail err
 IsRefused (Some refusal) answer err =
-    ((answer ≡ Refused refusal) × Gets err (refusal_line refusal) × DidNotFail err) ⊎ ((answer ≡ OutFault) × GetsSome err (refusal_line refusal) × Failed err)
+    ((answer ≡ Refused refusal) × Gets err (refusal_line refusal) × DidNotFail err) ⊎ ((answer ≡ OutFault) × GetsSome err (refusal_line refusal) × SinkFailed err)
 
 -- what was judged, as the answer and the two sinks show it
-abbrev pub IsShown : Result Verdict TreeFault → Answer → Sinking → Sinking → Type 0
+abbrev pub IsShown : Result Verdict TreeFault → Answer → SinkChange → SinkChange → Type 0
 IsShown (Ok verdict) answer out err = (files : Files) → IsTold (shown files verdict) answer out err
 IsShown (Err Disk) answer out err = (answer ≡ TreeFailed) × IsFault tree_line out err
 IsShown (Err NoMemory) answer out err = (answer ≡ Memory) × IsFault memory_line out err
@@ -109,7 +109,7 @@ OnMade (Err why) Means = is_cut why ≡ false → Means (Err why)
 -- what `mkpkg` makes over these files
 pub record IsPackage (command : CommandLine) (files : Files) (made : Result (List ℕ) MakeFault) : Type 0 where
   pub names : List (List ℕ)
-  pub below : IsBelow (given 70 command.values) files names
+  pub below : IsBelow (values_of 70 command.values) files names
   pub is : made_package command names (λ n name. files name) ≡ made
 
 -- what `mkndx` makes over these files
@@ -118,7 +118,7 @@ IsIndex command files made = made_index command (λ n name. files name) ≡ made
 
 -- the outcome of `mkpkg` over these files
 abbrev pub IsPackageOutcome : CommandLine → Files → Outcome → Type 0
-IsPackageOutcome command files outcome = (names : List (List ℕ)) × IsBelow (given 70 command.values) files names × (outcome ≡ mkpkg files command names)
+IsPackageOutcome command files outcome = (names : List (List ℕ)) × IsBelow (values_of 70 command.values) files names × (outcome ≡ mkpkg files command names)
 
 -- the outcome of `mkndx` over these files
 abbrev pub IsIndexOutcome : CommandLine → Files → Outcome → Type 0
@@ -127,7 +127,7 @@ IsIndexOutcome command files outcome = outcome ≡ mkndx files command
 -- by some names below the folder, and some reads
 pub record IsPackageFound (command : CommandLine) (made : Result (List ℕ) MakeFault) : Type 0 where
   pub names : List (List ℕ)
-  pub named : AreNamesFor (given 70 command.values) names
+  pub named : AreNamesFor (values_of 70 command.values) names
   pub read : Reads
   pub is : made_package command names read ≡ made
 

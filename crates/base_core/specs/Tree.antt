@@ -1,13 +1,14 @@
 -- A tree of files at one moment, what each call makes of it, and where a call is a misuse.
 use Rattle.std.specs.Prelude.{◌≡◌, ◌⊎◌, ◌≢◌, ◌≤◌, ◌<◌, ℕ, ◌+◌, Bool, true, false, if◌then◌else◌, ◌==◌, List, [], ◌∷◌, ◌++◌, Option, Some, None, IsSome, length}
-use Rattle.base_core.specs.Files.{Files, NameMap, put, drop_name, move_name, IsFolderLike, IsWithin}
+use Rattle.base_core.specs.Files.{Files, NameMap, put_name, drop_name, move_name, AreNames, IsFile, IsFolderLike, IsWithin}
 
 -- a file: its bytes as read, and whether a crash leaves just these
 pub record File : Type 0 where
   pub bytes : List ℕ
   pub synced : Bool
 
--- the files by number and how many were made; the names as read, and the maps of names before, since the names were last synced, the newest first
+-- the files by number, and how many were made; the names as read, and the maps of names before it, since the names were
+-- last synced, the newest first
 pub record TreeState : Type 0 where
   pub files : ℕ → File
   pub made : ℕ
@@ -44,16 +45,18 @@ abbrev pub after_create : List ℕ → TreeState → TreeState
 after_create name v = record {
   files = set_file v.files v.made (record { bytes = []; synced = false });
   made = v.made + 1;
-  names = put v.names name v.made;
+  names = put_name v.names name v.made;
   older = v.names ∷ v.older;
 }
 
 abbrev pub after_append : List ℕ → List ℕ → TreeState → TreeState
-after_append name piece v = change_at (λ f. record { bytes = f.bytes ++ piece; synced = false }) v (v.names name)
+after_append name piece v =
+    change_at (λ f. record { bytes = f.bytes ++ piece; synced = false }) v (v.names name)
 
 -- one that failed may have left the file unsynced
 abbrev pub after_failed_append : List ℕ → TreeState → TreeState
-after_failed_append name v = change_at (λ f. record { bytes = f.bytes; synced = false }) v (v.names name)
+after_failed_append name v =
+    change_at (λ f. record { bytes = f.bytes; synced = false }) v (v.names name)
 
 abbrev pub after_sync : List ℕ → TreeState → TreeState
 after_sync name v = change_at (λ f. record { bytes = f.bytes; synced = true }) v (v.names name)
@@ -76,8 +79,8 @@ abbrev pub after_sync_names : TreeState → TreeState
 after_sync_names v = record v { older = [] }
 
 -- a call that failed and made nothing of it
-abbrev pub unchanged : TreeState → TreeState
-unchanged v = v
+abbrev pub same_state : TreeState → TreeState
+same_state v = v
 
 -- ---- where a call is no misuse
 
@@ -93,12 +96,12 @@ CanRead name at len v = (bytes : List ℕ) × (files_of v name ≡ Some bytes) �
 
 pub record CanCreate (name : List ℕ) (v : TreeState) : Type 0 where
   pub absent : v.names name ≡ None
-  pub folders : IsFolderLike (put v.names name v.made)
+  pub folders : IsFolderLike (put_name v.names name v.made)
 
 pub record CanRename (from to : List ℕ) (v : TreeState) : Type 0 where
   pub present : IsSome (v.names from)
   pub apart : from ≢ to
-  pub folders : IsFolderLike (put (drop_name v.names from) to 0)
+  pub folders : IsFolderLike (put_name (drop_name v.names from) to 0)
 
 -- ---- the maps of names
 
@@ -110,7 +113,11 @@ IsAmong map (x ∷ xs) = (map ≡ x) ⊎ IsAmong map xs
 abbrev pub IsMapOf : TreeState → NameMap → Type 0
 IsMapOf v map = IsAmong map (v.names ∷ v.older)
 
--- each map has finitely many names, and each number that it leads to was made
+-- what holds of every state that a tree shows: in each map of names finitely many names are present, each is a name, none
+-- is a folder of another, and each leads to a file that was made; and each file has fewer than 2 ^ 64 bytes
 pub record IsWhole (v : TreeState) : Type 0 where
   pub finite : (map : NameMap) → IsMapOf v map → (names : List (List ℕ)) × IsWithin names map
+  pub named : (map : NameMap) → IsMapOf v map → AreNames map
+  pub folders : (map : NameMap) → IsMapOf v map → IsFolderLike map
   pub made : (map : NameMap) → IsMapOf v map → (q : List ℕ) (n : ℕ) → map q ≡ Some n → n < v.made
+  pub bytes : (n : ℕ) → IsFile (v.files n).bytes

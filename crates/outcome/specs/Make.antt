@@ -5,12 +5,12 @@ use Rattle.std.specs.List.{starts_with}
 use Rattle.adb_schema.specs.Reserved.{is_reserved}
 use Rattle.base_core.specs.Files.{Files}
 use Rattle.base_core.specs.Listed.{IsNamesOf}
-use Rattle.journal_core.specs.Replacing.{replaced}
-use Rattle.make_core.specs.IndexCommand.{made_index}
-use Rattle.make_core.specs.Making.{made_package}
-use Rattle.make_core.specs.Output.{output_name}
-use Rattle.make_core.specs.declared.fault.MakeFault.{MakeFault}
-use Rattle.make_core.specs.declared.fault.MakeFault.TheVariants.{FileMissing as NoFile, FileBad as BadFile, InfoBad as BadInfo, TooLarge, Disk, Memory}
+use Rattle.journal_core.specs.Replacing.{replaced_files}
+use Rattle.make_index.specs.Index.{made_index}
+use Rattle.make_package.specs.Making.{made_package}
+use Rattle.make_info.specs.Output.{output_name}
+use Rattle.make_info.specs.declared.fault.MakeFault.{MakeFault}
+use Rattle.make_info.specs.declared.fault.MakeFault.TheVariants.{FileMissing as NoFile, FileBad as BadFile, InfoBad as BadInfo, TooLarge, Disk, Memory}
 use Rattle.report_core.specs.declared.refusal.Refusal.TheVariants.{FileMissing, FileBad, InfoBad, Reserved, ResultTooLarge}
 use Rattle.words_core.specs.Command.{CommandLine, without_dot}
 use Rattle.words_core.specs.declared.values.OptionValue.{OptionValue}
@@ -37,7 +37,7 @@ unless_reserved files (Some name) otherwise = if is_reserved name then refused f
 -- the bytes stand under the output's name, and nothing under its scratch name
 abbrev pub written : Option (List ℕ) → List ℕ → Files → Files
 written None bytes files = files
-written (Some name) bytes files = replaced name bytes files
+written (Some name) bytes files = replaced_files name bytes files
 
 -- what comes of a container, or of the fault in its place, with a report of it. A reserved output is refused behind all
 -- but a container that is too large. The definitions of what is made give no other fault
