@@ -37,8 +37,9 @@ field_word Fields.Tags = codes "tags"
 
 abbrev pub fields : List Field
 fields =
-    Fields.Name ∷ Fields.Version ∷ Fields.Description ∷ Fields.Arch ∷ Fields.License ∷ Fields.Origin ∷ Fields.Maintainer ∷ Fields.Url
-    ∷ Fields.RepoCommit ∷ Fields.BuildTime ∷ Fields.ProviderPriority ∷ Fields.ReplacesPriority ∷ Fields.Depends ∷ Fields.Provides
+    Fields.Name ∷ Fields.Version ∷ Fields.Description ∷ Fields.Arch ∷ Fields.License
+    ∷ Fields.Origin ∷ Fields.Maintainer ∷ Fields.Url ∷ Fields.RepoCommit ∷ Fields.BuildTime
+    ∷ Fields.ProviderPriority ∷ Fields.ReplacesPriority ∷ Fields.Depends ∷ Fields.Provides
     ∷ Fields.Replaces ∷ Fields.InstallIf ∷ Fields.Recommends ∷ Fields.Tags ∷ []
 
 -- the field that a word names, among some
@@ -79,13 +80,13 @@ is_list Kinds.Number = false
 is_list Kinds.Dependencies = true
 is_list Kinds.Texts = true
 
--- one thing that is said of a field; digits in pairs say their bytes
+-- a value of a field; pairs of digits stand for their bytes
 pub data FieldValue : Type 0 where
   text : List ℕ → FieldValue
   number : ℕ → FieldValue
   need : Dependency → FieldValue
 
--- ---- what a value says under a kind; None where it is outside of the kind's grammar
+-- ---- the values that a text is under a kind; None where it is outside of the kind's grammar
 
 abbrev pub text_if : Bool → List ℕ → Option (List FieldValue)
 text_if true value = Some (text value ∷ [])
@@ -101,11 +102,14 @@ has_zero_in_front [] = false
 has_zero_in_front (d ∷ ds) = (d == 48) && nat_lt 0 (length ds)
 
 abbrev pub is_decimal : List ℕ → Bool
-is_decimal value = nat_lt 0 (length value) && (not (has_zero_in_front value) && list_all is_ascii_digit value)
+is_decimal value =
+    nat_lt 0 (length value)
+    && (not (has_zero_in_front value) && list_all is_ascii_digit value)
 
 abbrev pub decimal_number : List ℕ → Option ℕ
 decimal_number value =
-    if is_decimal value && nat_lt (digits_value 10 value) (2 ^ 64) then Some (digits_value 10 value) else None
+    if is_decimal value && nat_lt (digits_value 10 value) (2 ^ 64) then
+    Some (digits_value 10 value) else None
 
 -- the parts between spaces; empty ones are passed over
 abbrev pub is_nonempty : List ℕ → Bool
@@ -128,7 +132,8 @@ abbrev pub need_in : List ℕ → Option Dependency
 need_in part = option_and_then if_untagged (dependency_of part)
 
 abbrev pub and_needs : Option Dependency → Option (List FieldValue) → Option (List FieldValue)
-and_needs d others = option_and_then (λ d. option_map (λ others. need d ∷ others) others) d
+and_needs d others =
+    option_and_then (λ d. option_map (λ others. need d ∷ others) others) d
 
 abbrev pub needs_in : List (List ℕ) → Option (List FieldValue)
 needs_in [] = Some []

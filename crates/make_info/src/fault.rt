@@ -10,8 +10,8 @@ pub enum MakeFault {
     FileMissing { place: u32 },
     /// The file under the name that this argument gives is no sound package.
     FileBad { place: u32, cause: Cause },
-    /// This argument says something of the package that is not allowed; or, behind the last argument,
-    /// something is lacking.
+    /// This argument says something of the package that is not allowed; or, behind the last
+    /// argument, something is lacking.
     InfoBad { place: u32 },
     /// The payload to be made passes a limit of the writer. The counts are those just behind the
     /// value that does.

@@ -31,7 +31,8 @@ pub(crate) fn named_output(values: &Values) -> Option<&[u8]>
 
 /// NAME-VERSION.apk, where a good name and a good version are given.
 pub(crate) fn default_output(alloc: Global, values: &Values) -> Result<Option<Vec<u8>>, AllocError>
-    ensures { IfOk result (λ file. option_map (λ file. file.items) file ≡ default_output values.now) }
+    ensures { IfOk result (λ file. option_map (λ file. file.items) file
+        ≡ default_output values.now) }
 {
     let Some(name) = package_name(values) else {
         return Ok(None);
@@ -111,8 +112,9 @@ fn text_for(value: &OptionValue, field: Field) -> Option<&[u8]>
     Some(given.value)
 }
 
-/// The name under which the container of `mkpkg` or `mkndx` is written (apk(8)): the file that `-o` names, or of `mkpkg`
-/// else NAME-VERSION.apk. None comes exactly where the package information of `mkpkg` is not allowed.
+/// The name under which the container of `mkpkg` or `mkndx` is written (apk(8)): the file that `-o`
+/// names, or of `mkpkg` else NAME-VERSION.apk. None comes exactly where the package information of
+/// `mkpkg` is not allowed.
 pub fn output_name(alloc: Global, command: &Command) -> Result<Option<Name>, AllocError>
     ensures { IfOk result (λ name. name ≡ output_name command.now) }
 {
@@ -161,15 +163,18 @@ fn is_allowed(alloc: Global, command: &Command) -> Result<bool, AllocError>
 
 /// An output's name has room for eight bytes more in a name.
 pub fn an_output_is_short()
-    ensures { (command : CommandLine) (name : List ℕ) → IsCommand command → output_name command ≡ Some name → length name ≤ 1016 }
+    ensures { (command : CommandLine) (name : List ℕ) → IsCommand command
+        → output_name command ≡ Some name → length name ≤ 1016 }
 {}
 
 /// Where the information of a package is allowed, there is an output.
 pub fn a_package_with_information_has_an_output()
-    ensures { (command : CommandLine) → command.applet ≡ Mkpkg → IsTrue (is_ok (information command)) → IsSome (output_name command) }
+    ensures { (command : CommandLine) → command.applet ≡ Mkpkg
+        → IsTrue (is_ok (information command)) → IsSome (output_name command) }
 {}
 
 /// The output of an index is given.
 pub fn an_index_has_an_output()
-    ensures { (command : CommandLine) → IsCommand command → command.applet ≡ Mkndx → IsSome (output_name command) }
+    ensures { (command : CommandLine) → IsCommand command → command.applet ≡ Mkndx
+        → IsSome (output_name command) }
 {}
