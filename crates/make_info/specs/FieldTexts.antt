@@ -64,12 +64,12 @@ abbrev pub if_passes : (List ℕ → Bool) → List ℕ → Option (List ℕ)
 if_passes is_good value = if is_good value then Some value else None
 
 -- the package's name and its version, where they are given and good
-abbrev pub package_name : List OptionValue → Option (List ℕ)
-package_name values =
+abbrev pub package_name_in : List OptionValue → Option (List ℕ)
+package_name_in values =
     option_and_then (if_passes is_package_name) (first_text_for Fields.Name values)
 
-abbrev pub package_version : List OptionValue → Option (List ℕ)
-package_version values =
+abbrev pub package_version_in : List OptionValue → Option (List ℕ)
+package_version_in values =
     option_and_then (if_passes is_version) (first_text_for Fields.Version values)
 
 -- NAME-VERSION.apk
@@ -82,7 +82,7 @@ package_file_name_of name version =
 
 -- the file that is made where no output is named
 abbrev pub default_output : List OptionValue → Option (List ℕ)
-default_output values = package_file_name_of (package_name values) (package_version values)
+default_output values = package_file_name_of (package_name_in values) (package_version_in values)
 
 abbrev pub is_output_option : OptionValue → Bool
 is_output_option v = v.letter == OUTPUT

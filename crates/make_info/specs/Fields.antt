@@ -1,9 +1,9 @@
 -- The fields that `-I` of `mkpkg` may give, and what a value of each says (apk(8), `mkpkg`).
-use Rattle.std.specs.Prelude.{ℕ, ◌^◌, ◌==◌, nat_lt, Bool, true, false, ◌&&◌, not, if◌then◌else◌, List, [], ◌∷◌, length, map, codes, Option, Some, None, option_map, option_and_then, is_some, Result, Ok, Err}
-use Rattle.std.specs.Char.{is_ascii_digit}
-use Rattle.std.specs.List.{filter, find, list_all, slice_split}
+use Rattle.std.specs.Prelude.{ℕ, ◌^◌, ◌==◌, nat_lt, Bool, true, false, ◌&&◌, if◌then◌else◌, List, [], ◌∷◌, length, map, codes, Option, Some, None, option_map, option_and_then, is_some, Result, Ok, Err}
+use Rattle.std.specs.List.{filter, find, slice_split}
 use Rattle.std.specs.Str.{bytes_eq}
 use Rattle.std.specs.Str.Parse.{digits_value}
+use Rattle.command_core.specs.Operands.{is_decimal}
 use Rattle.hex.specs.Hex.{decode_of}
 use Rattle.hex.specs.declared.error.FromHexError.{FromHexError}
 use Rattle.version_core.specs.Order.{is_version}
@@ -96,16 +96,7 @@ abbrev pub value_of_digits : Result (List ℕ) FromHexError → Option (List Fie
 value_of_digits (Ok bytes) = Some (text bytes ∷ [])
 value_of_digits (Err e) = None
 
--- a zero that stands before other bytes
-abbrev pub has_zero_in_front : List ℕ → Bool
-has_zero_in_front [] = false
-has_zero_in_front (d ∷ ds) = (d == 48) && nat_lt 0 (length ds)
-
-abbrev pub is_decimal : List ℕ → Bool
-is_decimal value =
-    nat_lt 0 (length value)
-    && (not (has_zero_in_front value) && list_all is_ascii_digit value)
-
+-- the number that a text is; None where it is none, has a zero in front or more than 64 bits
 abbrev pub decimal_number : List ℕ → Option ℕ
 decimal_number value =
     if is_decimal value && nat_lt (digits_value 10 value) (2 ^ 64) then
@@ -114,9 +105,6 @@ decimal_number value =
 -- the parts between spaces; empty ones are passed over
 abbrev pub is_nonempty : List ℕ → Bool
 is_nonempty part = nat_lt 0 (length part)
-
-abbrev pub nonempty_part : List ℕ → List (List ℕ)
-nonempty_part part = if is_nonempty part then part ∷ [] else []
 
 abbrev pub nonempty_parts : List ℕ → List (List ℕ)
 nonempty_parts value = filter is_nonempty (slice_split (λ b. b == 32) value)

@@ -6,6 +6,10 @@ use Rattle.make_info.specs.Fields.{is_list, kind_of_field, values_by_kind}
 use Rattle.make_info.specs.FieldTexts.{FieldText, field_text_in, is_same}
 use Rattle.make_info.specs.Information.{InfoItem, is_item_for, with_values}
 
+-- a part between spaces, unless it is empty
+abbrev pub nonempty_part : List ℕ → List (List ℕ)
+nonempty_part part = if is_nonempty part then part ∷ [] else []
+
 -- whether there is an item for a field
 abbrev pub has_item_for : FieldText → List InfoItem → Bool
 has_item_for given before = is_some (find (is_item_for given.field) before)

@@ -1,5 +1,5 @@
 //! Under which name a container is written (apk(8)): the file that `-o` names, or NAME-VERSION.apk.
-ghost use Rattle.make_info.specs.FieldTexts.{first_text_for, is_too_long, package_name, named_output, default_output, text_for, package_version};
+ghost use Rattle.make_info.specs.FieldTexts.{first_text_for, is_too_long, package_name_in, named_output, default_output, text_for, package_version_in};
 ghost use Rattle.make_info.specs.Information.{information};
 ghost use Rattle.make_info.specs.Output.{is_mkpkg, output_name, package_output};
 ghost use Rattle.std.specs.Option.{option_map};
@@ -34,10 +34,10 @@ pub(crate) fn default_output(alloc: Global, values: &Values) -> Result<Option<Ve
     ensures { IfOk result (λ file. option_map (λ file. file.items) file
         ≡ default_output values.now) }
 {
-    let Some(name) = package_name(values) else {
+    let Some(name) = package_name_in(values) else {
         return Ok(None);
     };
-    let Some(version) = package_version(values) else {
+    let Some(version) = package_version_in(values) else {
         return Ok(None);
     };
     let mut file = Vec::from_slice(alloc, name)?;
@@ -54,18 +54,18 @@ pub(crate) fn is_too_long(values: &Values) -> bool
     if named_output(values).is_some() {
         return false;
     }
-    let Some(name) = package_name(values) else {
+    let Some(name) = package_name_in(values) else {
         return false;
     };
-    let Some(version) = package_version(values) else {
+    let Some(version) = package_version_in(values) else {
         return false;
     };
     name.len() + version.len() + b"-.apk".len() > LONGEST_OUTPUT
 }
 
 // The package's name, where a good one is given.
-fn package_name(values: &Values) -> Option<&[u8]>
-    ensures { option_map (λ name. name.now) result ≡ package_name values.entry.now }
+fn package_name_in(values: &Values) -> Option<&[u8]>
+    ensures { option_map (λ name. name.now) result ≡ package_name_in values.entry.now }
 {
     let name = first_text_for(values, Field::Name)?;
     if !is_package_name(name) {
@@ -75,8 +75,8 @@ fn package_name(values: &Values) -> Option<&[u8]>
 }
 
 // The package's version, where a good one is given.
-fn package_version(values: &Values) -> Option<&[u8]>
-    ensures { option_map (λ version. version.now) result ≡ package_version values.entry.now }
+fn package_version_in(values: &Values) -> Option<&[u8]>
+    ensures { option_map (λ version. version.now) result ≡ package_version_in values.entry.now }
 {
     let version = first_text_for(values, Field::Version)?;
     if Version::read(version).is_none() {
