@@ -38,7 +38,10 @@ pub(crate) fn list_names<T: Tree>(
     ensures order { IfOk result (λ names. AreNamesFor (values_with FILES values.now) names) }
 {
     match values.first_file(FILES) {
-        Some(folder) => Ok(tree.list(alloc, folder)?),
+        Some(folder) => {
+            let names = tree.list(alloc, folder)?;
+            Ok(names)
+        }
         None => Ok(Names::new(alloc)),
     }
 }
