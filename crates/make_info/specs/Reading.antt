@@ -1,8 +1,8 @@
 -- How the values of `-I` are read one after the other.
-use Rattle.std.specs.Prelude.{ℕ, Bool, not, ◌&&◌, ◌||◌, if◌then◌else◌, List, Option, Some, None, is_some}
+use Rattle.std.specs.Prelude.{ℕ, Bool, not, ◌&&◌, ◌||◌, if◌then◌else◌, List, [], ◌∷◌, Option, Some, None, is_some}
 use Rattle.std.specs.List.{find}
 use Rattle.make_info.specs.declared.field.Field.TheVariants as Fields
-use Rattle.make_info.specs.Fields.{is_list, kind_of_field, values_by_kind}
+use Rattle.make_info.specs.Fields.{is_list, is_nonempty, kind_of_field, values_by_kind}
 use Rattle.make_info.specs.FieldTexts.{FieldText, field_text_in, is_same}
 use Rattle.make_info.specs.Information.{InfoItem, is_item_for, with_values}
 

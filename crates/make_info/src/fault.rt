@@ -24,7 +24,7 @@ pub enum MakeFault {
 
 impl From<AllocError> for MakeFault {
     ghost use Rattle.std.specs.Prelude.{◌≡◌};
-    ghost use Rattle.make_info.specs.declared.fault.MakeFault.TheVariants.{Memory, Disk as DiskFault};
+    ghost use Rattle.make_info.specs.declared.fault.MakeFault.TheVariants.{Memory};
 
     ghost from_gives = { λ _ fault. fault ≡ Memory };
 
@@ -35,6 +35,7 @@ impl From<AllocError> for MakeFault {
 
 impl From<Disk> for MakeFault {
     ghost use Rattle.std.specs.Prelude.{◌≡◌};
+    ghost use Rattle.make_info.specs.declared.fault.MakeFault.TheVariants.{Disk as DiskFault};
 
     ghost from_gives = { λ _ fault. fault ≡ DiskFault };
 
@@ -44,7 +45,7 @@ impl From<Disk> for MakeFault {
 }
 
 impl From<TreeFault> for MakeFault {
-    ghost use Rattle.make_info.specs.Faults.{IsMakeFaultOf, IsMakeFaultBy};
+    ghost use Rattle.make_info.specs.Faults.{IsMakeFaultOf};
 
     ghost from_gives = { λ tree fault. IsMakeFaultOf tree fault };
 
@@ -57,6 +58,8 @@ impl From<TreeFault> for MakeFault {
 }
 
 impl From<WriteFault> for MakeFault {
+    ghost use Rattle.make_info.specs.Faults.{IsMakeFaultBy};
+
     ghost from_gives = { λ write fault. IsMakeFaultBy write fault };
 
     fn from(fault: WriteFault) -> MakeFault {

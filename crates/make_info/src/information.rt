@@ -160,6 +160,7 @@ pub(crate) struct Items<'a> {
 
 impl<'a> Model for Items<'a> {
     ghost use Rattle.std.specs.Prelude.{List, map};
+    ghost use Rattle.make_info.specs.Information.{InfoItem};
     ghost use Rattle.make_info.specs.Views.{item_view};
 
     ghost Value = { List InfoItem };
