@@ -8,9 +8,9 @@ use Rattle.std.proofs.lemmas.List.Concat.{flat_map-cons}
 use Rattle.std.proofs.lemmas.List.Sums.{sum_by-cons}
 use Rattle.std.proofs.lemmas.Slice.Eq.{bytes_eq-Decides}
 use Rattle.base_core.specs.Name.{is_name}
-use Rattle.adb_schema.specs.Pairs.{IsIn}
-use Rattle.adb_schema.specs.Reserved.{path_of}
-use Rattle.adb_schema.specs.Rules.{is_file_name, is_folder_name}
+use Rattle.adb_fields.specs.Pairs.{IsIn}
+use Rattle.adb_fields.specs.Paths.{path_of}
+use Rattle.adb_rules.specs.Rules.{is_file_name, is_folder_name}
 use Rattle.make_core.specs.Folders.{Listed, before_slashes, below, files_in, folder_names, folder_of, folders_of, folders_over, is_slash, listed, part_of}
 use Rattle.make_core.specs.Package.{Source, SourceFolder, kind_of, installed_size, size_in, size_of}
 use Rattle.make_core.specs.Sources.{Reads, after, each_from, file_at, files_from, folder_at, folders_from, found_at}

@@ -7,8 +7,8 @@ use Rattle.std.proofs.lemmas.Slice.Eq.{bytes_eq-Decides}
 use Rattle.sha2.specs.Sha256.{sha256}
 use Rattle.sha2.proofs.Facts256.{length-sha256}
 use Rattle.adb_view.specs.Plain.{Plain}
-use Rattle.adb_schema.specs.Texts.{is_with_contents}
-use Rattle.adb_schema.specs.Views.{entry_in, int_in, text_in}
+use Rattle.adb_rules.specs.Texts.{is_with_contents}
+use Rattle.adb_tables.specs.Values.{entry_in, int_in, text_in}
 use Rattle.pkg_core.specs.Contents.{AreContentsOf, Contents, Expected, expected_at, expected_contents, files_from, folders_from, hash_fault}
 use Rattle.make_core.specs.Package.{Script, Source, SourceFolder, contents_at, contents_from, contents_of, kind_of, kind_value, file_value, folder_value, has_contents, installed_size, is_link, link_text, package_value, size_in, size_of}
 use Rattle.make_core.specs.declared.file.FileKind.{FileKind}

@@ -6,11 +6,11 @@ use Rattle.words_core.specs.declared.operands.Operand.{Operand}
 use Rattle.words_core.specs.declared.values.OptionValue.{OptionValue}
 use Rattle.adb_view.specs.Plain.{Plain, IsNormal}
 use Rattle.adb_view.specs.Shaped.{HasShape}
-use Rattle.adb_schema.specs.Schema.{shape_of}
-use Rattle.adb_schema.specs.Texts.{text_fault}
-use Rattle.adb_schema.specs.Repeated.{repeated_fault}
-use Rattle.adb_schema.specs.declared.schema.Which.{Which}
-use Rattle.adb_schema.specs.declared.schema.Kind.TheVariants.{Obj}
+use Rattle.adb_tables.specs.Schema.{shape_of}
+use Rattle.adb_rules.specs.Texts.{text_fault}
+use Rattle.adb_fields.specs.Repeated.{repeated_fault}
+use Rattle.adb_tables.specs.declared.tables.Which.{Which}
+use Rattle.adb_tables.specs.declared.tables.Kind.TheVariants.{Obj}
 use Rattle.adb_write.specs.Canonical.{size_of, value_count, MOST_BYTES, MOST_VALUES}
 
 -- a value that may stand at the root of a container with this table: of its shape, within the limits, each text and number

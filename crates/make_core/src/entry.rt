@@ -4,7 +4,7 @@ ghost use Rattle.version_core.specs.Order.{is_version, version_cmp};
 ghost use Rattle.adb_write.specs.DepthFirst.{Writes};
 ghost use Rattle.make_core.specs.Index.{found_entry};
 ghost use Rattle.adb_schema.specs.Soundness.{first_fault};
-ghost use Rattle.adb_schema.specs.declared.schema.Which.TheVariants as Tables;
+ghost use Rattle.adb_tables.specs.declared.tables.Which.TheVariants as Tables;
 ghost use Rattle.pkg_core.specs.Whole.{package_fault};
 ghost use Rattle.make_core.specs.IndexEntries.{entry_of};
 ghost use Rattle.make_core.specs.IndexKept.{kept_value, HoldsEntry, IsKeyed, IsMade, IsRefusedAt};

@@ -2,10 +2,10 @@
 ghost use Rattle.std.specs.Prelude.{◌≡◌, ◌<◌, ◌^◌, ℕ, List, All, true, None, length};
 ghost use Rattle.adb_view.specs.Plain.{IsNormal};
 ghost use Rattle.adb_view.specs.Shaped.{HasShape};
-ghost use Rattle.adb_schema.specs.Schema.{shape_of};
+ghost use Rattle.adb_tables.specs.Schema.{shape_of};
 ghost use Rattle.adb_schema.specs.Soundness.{first_fault};
-ghost use Rattle.adb_schema.specs.declared.schema.Kind.TheVariants as Kinds;
-ghost use Rattle.adb_schema.specs.declared.schema.Which.TheVariants as Tables;
+ghost use Rattle.adb_tables.specs.declared.tables.Kind.TheVariants as Kinds;
+ghost use Rattle.adb_tables.specs.declared.tables.Which.TheVariants as Tables;
 ghost use Rattle.version_core.specs.Order.{is_version};
 ghost use Rattle.make_core.specs.IndexEntries.{entry_of};
 ghost use Rattle.make_core.specs.IndexOrder.{version_in};

@@ -2,8 +2,8 @@
 ghost use Rattle.std.specs.Prelude.{◌≡◌, ◌<◌, ◌^◌, Ok, IfOk, IfSome};
 ghost use Rattle.sha2.specs.Sha256.{sha256};
 ghost use Rattle.adb_schema.specs.Soundness.{root_value};
-ghost use Rattle.adb_schema.specs.Views.{entry_in};
-ghost use Rattle.adb_schema.specs.declared.schema.Which.TheVariants as Tables;
+ghost use Rattle.adb_tables.specs.Values.{entry_in};
+ghost use Rattle.adb_tables.specs.declared.tables.Which.TheVariants as Tables;
 ghost use Rattle.adb_write.specs.Canonical.{written_of};
 ghost use Rattle.adb_write.specs.DepthFirst.{Writes};
 ghost use Rattle.pkg_core.specs.Opened.{opened_payload, opened_value};

@@ -2,8 +2,8 @@
 ghost use Rattle.std.specs.Prelude.{◌≡◌, ◌≢◌, ◌<◌, ◌^◌, ℕ, List, length, Some, None, Ok};
 ghost use Rattle.adb_view.specs.Plain.{Plain};
 ghost use Rattle.adb_schema.specs.Soundness.{schema_word};
-ghost use Rattle.adb_schema.specs.declared.schema.Which.{Which};
-ghost use Rattle.adb_schema.specs.declared.schema.Which.TheVariants as Tables;
+ghost use Rattle.adb_tables.specs.declared.tables.Which.{Which};
+ghost use Rattle.adb_tables.specs.declared.tables.Which.TheVariants as Tables;
 ghost use Rattle.adb_schema.specs.declared.read.TheConstants.{PACKAGE_WORD};
 ghost use Rattle.adb_write.specs.Canonical.{canonical};
 ghost use Rattle.adb_write.specs.File.{file_of};
@@ -18,7 +18,7 @@ ghost use Rattle.make_core.specs.Sources.{Reads, given};
 
 use adb_block::{what_is_spelled_is_read, what_is_written_is_spelled};
 use adb_schema::{
-    the_first_pair_in_one_of_several_lists_is_told, values_of_few_visits_have_no_fault,
+    the_first_pair_in_one_of_several_lists_is_reported, values_of_few_visits_have_no_fault,
 };
 use adb_view::values_are_normal;
 use adb_write::{
@@ -78,5 +78,5 @@ pub fn a_made_package_is_sound()
     a_value_overflows_exactly_past_a_limit();
     read_texts_are_spelled();
     values_are_read_back();
-    the_first_pair_in_one_of_several_lists_is_told();
+    the_first_pair_in_one_of_several_lists_is_reported();
 }

@@ -2,9 +2,9 @@
 ghost use Rattle.std.specs.Prelude.{◌≡◌, true, is_none};
 ghost use Rattle.adb_view.specs.Head.{head_fault, root_of};
 ghost use Rattle.adb_schema.specs.Soundness.{first_fault};
-ghost use Rattle.adb_schema.specs.Views.{is_sound};
-ghost use Rattle.adb_schema.specs.declared.schema.Kind.TheVariants as Kinds;
-ghost use Rattle.adb_schema.specs.declared.schema.Which.TheVariants as Tables;
+ghost use Rattle.adb_tables.specs.Values.{is_sound};
+ghost use Rattle.adb_tables.specs.declared.tables.Kind.TheVariants as Kinds;
+ghost use Rattle.adb_tables.specs.declared.tables.Which.TheVariants as Tables;
 
 /// A payload whose root is an entry.
 #[derive(Drop)]

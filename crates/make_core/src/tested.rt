@@ -3,7 +3,7 @@ ghost use Rattle.std.specs.Prelude.{◌≡◌, Option, None, IfOk, IfErr};
 ghost use Rattle.base_core.specs.declared.cause.Cause.{Cause};
 ghost use Rattle.adb_view.specs.Gives.{cause_of};
 ghost use Rattle.adb_schema.specs.Soundness.{first_fault, payload_in, root_value};
-ghost use Rattle.adb_schema.specs.declared.schema.Which.TheVariants as Tables;
+ghost use Rattle.adb_tables.specs.declared.tables.Which.TheVariants as Tables;
 ghost use Rattle.pkg_core.specs.Contents.{fault_in};
 ghost use Rattle.pkg_core.specs.Opened.{opened_files, opened_payload, opened_value};
 ghost use Rattle.pkg_core.specs.Whole.{package_fault, IsRefused};

@@ -6,4 +6,4 @@ pub returns : goal.returns
 returns c =
     let needs : Needs = record { spelled = c.read_texts_are_spelled.ensures; back = c.values_are_read_back.ensures } in
     made_sound c.a_package_of_a_good_value_and_its_contents_is_sound.ensures c.a_value_overflows_exactly_past_a_limit.ensures needs
-    c.the_first_pair_in_one_of_several_lists_is_told.ensures
+    c.the_first_pair_in_one_of_several_lists_is_reported.ensures
