@@ -19,18 +19,18 @@ abbrev pub common_flags : Flags
 common_flags = with_flag AllowUntrusted (with_flag NoScripts no_flags)
 
 -- the flags that an applet may have
-abbrev pub flags_of : Applet → Flags
-flags_of Add = with_flag Initdb (with_flag Simulate common_flags)
-flags_of Del = with_flag Simulate (with_flag Purge common_flags)
-flags_of Upgrade = with_flag Simulate common_flags
-flags_of Fix = with_flag Simulate common_flags
-flags_of Info = with_flag Installed (with_flag Contents (with_flag Depends (with_flag WhoOwns common_flags)))
-flags_of Version = with_flag Test (with_flag Check common_flags)
-flags_of applet = common_flags
+abbrev pub allowed_flags : Applet → Flags
+allowed_flags Add = with_flag Initdb (with_flag Simulate common_flags)
+allowed_flags Del = with_flag Simulate (with_flag Purge common_flags)
+allowed_flags Upgrade = with_flag Simulate common_flags
+allowed_flags Fix = with_flag Simulate common_flags
+allowed_flags Info = with_flag Installed (with_flag Contents (with_flag Depends (with_flag WhoOwns common_flags)))
+allowed_flags Version = with_flag Test (with_flag Check common_flags)
+allowed_flags applet = common_flags
 
 -- whether an applet may have some flags: each is one of its own, and at most one says of which kind the command is
 abbrev pub may_have : Applet → Flags → Bool
-may_have applet flags = are_within (flags_of applet) flags && is_single kinds flags
+may_have applet flags = are_within (allowed_flags applet) flags && is_single kinds flags
 
 -- ---- options with values
 

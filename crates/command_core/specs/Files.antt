@@ -20,9 +20,9 @@ abbrev pub is_output : List ℕ → Bool
 is_output text = is_file text && nat_le (length (without_dot text)) 1016
 
 -- a text without one leading `/`
-abbrev pub without_slash : List ℕ → List ℕ
-without_slash text = if bytes_eq (take 1 text) (codes "/") then drop 1 text else text
+abbrev pub without_leading_slash : List ℕ → List ℕ
+without_leading_slash text = if bytes_eq (take 1 text) (codes "/") then drop 1 text else text
 
 -- whether a text is a path, as `info --who-owns` takes it
 abbrev pub is_path : List ℕ → Bool
-is_path text = is_name (without_slash text)
+is_path text = is_name (without_leading_slash text)

@@ -15,8 +15,8 @@ abbrev pub operand_at : ℕ → List ℕ → Operand
 operand_at place word = record { place = place; text = word }
 
 -- the name of the file that an operand is
-abbrev pub file_of : Operand → List ℕ
-file_of operand = without_dot operand.text
+abbrev pub operand_file : Operand → List ℕ
+operand_file operand = without_dot operand.text
 
 abbrev pub are_files : List Operand → Bool
 are_files operands = list_all (λ (o : Operand). is_file o.text) operands

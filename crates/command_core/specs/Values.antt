@@ -9,12 +9,12 @@ use Rattle.command_core.specs.declared.values.ValueKind.TheVariants.{Any, Nonemp
 use Rattle.command_core.specs.declared.values.ValueRule.{ValueRule}
 use Rattle.command_core.specs.Files.{file_name, is_file, is_output}
 
-abbrev pub value_at : ℕ → ℕ → List ℕ → OptionValue
-value_at place letter text = record { place = place; letter = letter; text = text }
+abbrev pub option_value : ℕ → ℕ → List ℕ → OptionValue
+option_value place letter text = record { place = place; letter = letter; text = text }
 
 -- the first value that the option with a letter was given
-abbrev pub value_of : ℕ → List OptionValue → Option OptionValue
-value_of letter values = find (λ (v : OptionValue). v.letter == letter) values
+abbrev pub first_value : ℕ → List OptionValue → Option OptionValue
+first_value letter values = find (λ (v : OptionValue). v.letter == letter) values
 
 -- whether the option with a letter was given a value
 abbrev pub is_given : ℕ → List OptionValue → Bool

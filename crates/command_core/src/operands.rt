@@ -2,7 +2,7 @@
 ghost use Rattle.std.specs.Prelude.{◌≡◌, ◌<◌, ◌==◌, ◌++◌, ◌∷◌, [], IfOk, IsTrue, None, OnOk, Some, length, slice_get};
 ghost use Rattle.std.specs.Option.{option_map};
 ghost use Rattle.command_core.specs.Files.{file_name, without_dot};
-ghost use Rattle.command_core.specs.Operands.{are_files, at_least, exactly, file_of, first_refused, has_room, is_of_kind, operand_at, takes};
+ghost use Rattle.command_core.specs.Operands.{are_files, at_least, exactly, operand_file, first_refused, has_room, is_of_kind, operand_at, takes};
 
 use crate::texts::{is_demo_number, is_file, is_path, read_file, without_dot};
 use base_core::{Name, Text};
@@ -211,7 +211,7 @@ impl Operands {
     pub fn file(&self, i: usize) -> &Name
         requires here { i < length self.now }
         requires files { IsTrue (are_files self.now) }
-        ensures { option_map file_of (slice_get self.now i) ≡ Some result.now }
+        ensures { option_map operand_file (slice_get self.now i) ≡ Some result.now }
     {
         match &self.entries[i].file {
             Some(file) => file,

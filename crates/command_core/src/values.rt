@@ -2,7 +2,7 @@
 ghost use Rattle.std.specs.Prelude.{◌≡◌, ◌<◌, ◌==◌, ◌++◌, ◌∷◌, [], IfOk, IfSome, IsTrue, OnOk, Some, length, not, slice_get};
 ghost use Rattle.std.specs.Option.{option_map};
 ghost use Rattle.command_core.specs.Files.{file_name, is_file, without_dot};
-ghost use Rattle.command_core.specs.Values.{excludes, file_in, file_part, is_excluded, is_given, is_spent, is_value, script_file, script_type, value_at, value_of};
+ghost use Rattle.command_core.specs.Values.{excludes, file_in, file_part, is_excluded, is_given, is_spent, is_value, script_file, script_type, option_value, first_value};
 ghost use Rattle.command_core.specs.declared.values.OptionValue.{OptionValue};
 
 use crate::texts::{
@@ -157,7 +157,7 @@ impl Values {
 
     /// Adds a value of the option with a letter, which the word at a place holds.
     pub fn push(&mut self, place: u32, letter: u8, text: &[u8]) -> Result<(), AllocError>
-        ensures { OnOk result (self.new ≡ self.old ++ value_at place letter text.now ∷ []) }
+        ensures { OnOk result (self.new ≡ self.old ++ option_value place letter text.now ∷ []) }
     {
         let file = read_value_file(self.alloc, letter, text)?;
         let text = Text::of(self.alloc, text)?;
@@ -220,7 +220,7 @@ impl Values {
 
     /// The first value that the option with a letter was given, if there is one.
     pub fn first(&self, letter: u8) -> Option<&OptionValue>
-        ensures { option_map (λ value. value.now) result ≡ value_of letter self.entry.now }
+        ensures { option_map (λ value. value.now) result ≡ first_value letter self.entry.now }
     {
         match self.first_entry(letter) {
             Some(entry) => Some(&entry.value),
@@ -232,8 +232,8 @@ impl Values {
     /// option's values are files.
     pub fn first_file(&self, letter: u8) -> Option<&Name>
         requires letter { IsTrue (not (letter == SCRIPT)) }
-        requires file { IfSome (value_of letter self.now) (λ value. IsTrue (is_file value.text)) }
-        ensures { option_map (λ name. name.now) result ≡ option_map (λ value. without_dot value.text) (value_of letter self.entry.now) }
+        requires file { IfSome (first_value letter self.now) (λ value. IsTrue (is_file value.text)) }
+        ensures { option_map (λ name. name.now) result ≡ option_map (λ value. without_dot value.text) (first_value letter self.entry.now) }
     {
         match self.first_entry(letter) {
             Some(entry) => entry.file.as_ref(),
@@ -255,7 +255,7 @@ impl Values {
 
     // The first value that the option with a letter was given, and the file in it.
     fn first_entry(&self, letter: u8) -> Option<&ValueEntry>
-        ensures value { option_map (λ entry. entry.now.value) result ≡ value_of letter self.entry.now }
+        ensures value { option_map (λ entry. entry.now.value) result ≡ first_value letter self.entry.now }
         ensures file { IfSome result (λ entry. entry.now.file ≡ file_in entry.now.value) }
     {
         self.entries

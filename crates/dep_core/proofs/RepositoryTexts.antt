@@ -14,7 +14,7 @@ use Rattle.base_core.specs.Name.{is_name, is_part, parts_of}
 use Rattle.dep_core.specs.Dependency.{is_tag, is_tag_byte}
 use Rattle.dep_core.specs.DependencyText.{is_tag_or_none}
 use Rattle.dep_core.specs.Reading.{rest_behind}
-use Rattle.dep_core.specs.Repositories.{Repository, at_path, with_repositories, begins_with_blank, is_comment, single, repositories_from, repositories_of, repositories_on, repository, repository_of, tagged_repository, without_outer_blanks, without_trailing_blanks}
+use Rattle.dep_core.specs.Repositories.{Repository, at_path, with_repositories, begins_with_blank, is_comment, singleton, repositories_from, repositories_of, repositories_on, repository, repository_of, tagged_repository, without_outer_blanks, without_trailing_blanks}
 use Rattle.dep_core.specs.RepositoryText.{is_line_path, is_line_repository, repositories_text, tag_front}
 use Rattle.dep_core.specs.World.{is_blank, is_line_end, lines_of}
 use Rattle.dep_core.proofs.Spelled.{run, past_run}
@@ -36,7 +36,7 @@ front-in_line (Some tag) h =
 no_line_end : (text : List ℕ) → list_all is_in_line text ≡ true → All (λ b. is_line_end b ≡ false) text
 no_line_end text h = λ k d l. not-true (is_line_end (get_or text k d)) (AllPass-from_list_all is_in_line text h k d l)
 
--- ---- no blank rest_behind a line
+-- ---- no blank behind a line
 
 reverse-long : (xs : List ℕ) → 0 < length xs → eqb 0 (length (reverse xs)) ≡ false
 reverse-long xs h = grind (arith, nat_tests, length-reverse xs)
@@ -93,9 +93,9 @@ is_no_comment (Some tag) path = refl
 
 on-line : (tag : Option (List ℕ)) (path : List ℕ) → is_tag_or_none tag ≡ true → is_name path ≡ true → suffix_len is_blank path ≡ 0 → repositories_on (tag_front tag ++ (47 ∷ path)) ≡ Some (repository tag path ∷ [])
 on-line tag path t n s =
-    (λ i. cond (is_comment (whole_line tag path n s i)) (Some []) (option_map single (repository_of (whole_line tag path n s i))))
-    ∙ (ap (λ b. cond b (Some []) (option_map single (repository_of (tag_front tag ++ (47 ∷ path))))) (is_no_comment tag path)
-    ∙ ap (option_map single) (line-read tag path t n))
+    (λ i. cond (is_comment (whole_line tag path n s i)) (Some []) (option_map singleton (repository_of (whole_line tag path n s i))))
+    ∙ (ap (λ b. cond b (Some []) (option_map singleton (repository_of (tag_front tag ++ (47 ∷ path))))) (is_no_comment tag path)
+    ∙ ap (option_map singleton) (line-read tag path t n))
 
 -- ---- the whole text
 

@@ -6,7 +6,7 @@ use Rattle.std.specs.Str.{bytes_eq}
 use Rattle.version_core.specs.Order.{is_version}
 use Rattle.dep_core.specs.Dependency.{Dependency, dependency_by, is_name_byte, is_dep_name, is_tag_byte, is_tag, operators}
 
--- what stands rest_behind the longest front of such bytes
+-- what stands behind the longest front of such bytes
 abbrev pub rest_behind : (ℕ → Bool) → List ℕ → List ℕ
 rest_behind p text = drop (prefix_len p text) text
 
@@ -31,13 +31,13 @@ with_tag d tag = dependency_by d.name d.version d.bits d.conflict (Some tag)
 abbrev pub with_constraint : Dependency → List ℕ → ℕ → Dependency
 with_constraint d version bits = dependency_by d.name (Some version) bits d.conflict d.tag
 
--- rest_behind the version: nothing, or the tag, if none stands rest_behind the name
+-- behind the version: nothing, or the tag, if none stands behind the name
 unfoldable pub at_version_end : Dependency → List ℕ → Option Dependency
 at_version_end d [] = Some d
 at_version_end d (b ∷ tag) =
     if (b == 64) && (not (is_some d.tag) && is_tag tag) then Some (with_tag d tag) else None
 
--- rest_behind the operator: the version
+-- behind the operator: the version
 unfoldable pub at_version : Dependency → ℕ → List ℕ → Option Dependency
 at_version d bits text =
     if is_version (take_while is_not_at text)
@@ -49,14 +49,14 @@ abbrev pub at_operator_end : Dependency → Option ℕ → List ℕ → Option D
 at_operator_end d None text = None
 at_operator_end d (Some bits) text = at_version d bits text
 
--- rest_behind the name and its tag: nothing, or the operator
+-- behind the name and its tag: nothing, or the operator
 unfoldable pub at_constraint : Dependency → List ℕ → Option Dependency
 at_constraint d [] = Some d
 at_constraint d (b ∷ rest) =
     at_operator_end d (operator_bits (take_while is_operator_byte (b ∷ rest)))
     (rest_behind is_operator_byte (b ∷ rest))
 
--- rest_behind `@`: the tag
+-- behind `@`: the tag
 unfoldable pub at_tag : Dependency → List ℕ → Option Dependency
 at_tag d text =
     if is_tag (take_while is_tag_byte text)
@@ -64,12 +64,12 @@ at_tag d text =
     (rest_behind is_tag_byte text)
     else None
 
--- rest_behind the name: the tag, if one stands there
+-- behind the name: the tag, if one stands there
 unfoldable pub at_name_end : Dependency → List ℕ → Option Dependency
 at_name_end d [] = Some d
 at_name_end d (b ∷ rest) = if b == 64 then at_tag d rest else at_constraint d (b ∷ rest)
 
--- rest_behind the mark of a conflict: the name
+-- behind the mark of a conflict: the name
 unfoldable pub at_name : Bool → List ℕ → Option Dependency
 at_name conflict text =
     if is_dep_name (take_while is_name_byte text)

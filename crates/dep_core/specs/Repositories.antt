@@ -39,7 +39,7 @@ abbrev pub at_path : Option (List ℕ) → List ℕ → Option Repository
 at_path tag path =
     if is_name (without_slash path) then Some (repository tag (without_slash path)) else None
 
--- rest_behind `@`: the tag, blanks, the path
+-- behind `@`: the tag, blanks, the path
 unfoldable pub tagged_repository : List ℕ → Option Repository
 tagged_repository text =
     let tag = take_while is_tag_byte text in
@@ -52,14 +52,14 @@ unfoldable pub repository_of : List ℕ → Option Repository
 repository_of [] = None
 repository_of (b ∷ rest) = if b == 64 then tagged_repository rest else at_path None (b ∷ rest)
 
-abbrev pub single : Repository → List Repository
-single found = found ∷ []
+abbrev pub singleton : Repository → List Repository
+singleton found = found ∷ []
 
 -- what a line names: nothing, one repository, or none where it is bad
 abbrev pub repositories_on : List ℕ → Option (List Repository)
 repositories_on line =
     if is_comment (without_outer_blanks line) then Some []
-    else option_map single (repository_of (without_outer_blanks line))
+    else option_map singleton (repository_of (without_outer_blanks line))
 
 abbrev pub with_repositories : ℕ → Option (List Repository) → Result (List Repository) ℕ
     → Result (List Repository) ℕ

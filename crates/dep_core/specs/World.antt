@@ -31,7 +31,7 @@ with_entry d [] = d ∷ []
 with_entry d (e ∷ rest) =
     match_ordering (name_cmp d.name e.name) (d ∷ (e ∷ rest)) (d ∷ rest) (e ∷ with_entry d rest)
 
--- world without_name the entry of a name
+-- world without the entry of a name
 abbrev pub without_name : List ℕ → List Dependency → List Dependency
 without_name name world = filter (λ (d : Dependency). not (bytes_eq d.name name)) world
 

@@ -7,7 +7,7 @@ ghost use Rattle.adb_tables.specs.declared.tables.Which.TheVariants as Tables;
 ghost use Rattle.pkg_core.specs.Contents.{contents_fault, contents_in, expected_contents, fault_in, files_of, AreContentsOf, AreTrueTo, Expected};
 ghost use Rattle.pkg_core.specs.Whole.{files_in_file, package_fault, package_of};
 
-use adb_schema::the_first_bad_text_is_reported;
+use adb_rules::the_first_bad_text_is_reported;
 
 /// Where no test of the blocks fails, they give the contents of each file that is expected, in order, and no others:
 /// each with the positions, the size and the digest of its file.

@@ -1,4 +1,4 @@
--- A text that is read without a stray_lexeme token is spelled after the grammar, by its parts from the back.
+-- A text that is read without a stray token is spelled after the grammar, by its parts from the back.
 use Rattle.std.proofs.Common.{◌≡◌, ℕ, zero, suc, ◌+◌, ◌≤◌, Bool, true, false, ◌&&◌, cond, eqb, ltb, List, [], ◌∷◌, ◌++◌, drop, length, Option, Some, None, refl, ap, sym, ◌∙◌, arith, subst, append_assoc, append-nil}
 use Rattle.std.specs.Prelude.{is_some, not}
 use Rattle.std.specs.Char.{is_ascii_digit, is_ascii_lowercase}
