@@ -1,7 +1,9 @@
 -- The counts of several calls.
-use Rattle.std.proofs.Common.{◌≡◌, ◌∙◌, ◌≤◌, ℕ, inl, inr, List, [], ◌∷◌, Result, Ok, Err, refl, subst, arith}
-use Rattle.base_core.specs.Calls.{IfObservable, OnlyReads}
+use Rattle.std.proofs.Common.{◌≡◌, ◌∙◌, ◌≤◌, ℕ, inl, inr, List, [], ◌∷◌, ◌++◌, Result, Ok, Err, refl, subst, arith}
+use Rattle.base_core.specs.Calls.{IfObservable}
+use Rattle.base_core.specs.Read.{OnlyReads}
 use Rattle.base_core.specs.Faults.{Counts, GoesOn, HasCause, IsNoFault, Rose}
+use Rattle.base_core.specs.Restart.{HasLed}
 use Rattle.base_core.specs.Tree.{TreeState}
 
 pub goes_on_twice : (a b c : Counts) → GoesOn a b → GoesOn b c → GoesOn a c
@@ -90,3 +92,14 @@ readings_two disk h0 h1 h2 a b c value (Err fault) h k = record {
   others = λ off. no_fault_twice a b c h.kept (k.others off);
   proper = proper_both h0 a.misuses b.misuses c.misuses h.proper (observable_still h0 h1 _ h.same k.proper);
 }
+
+-- ---- a file that was made in a run
+
+pub led_sooner : (name : List ℕ) (a b : ℕ) (moments : List TreeState) → a ≤ b → HasLed name b moments → HasLed name a moments
+led_sooner name a b [] up led = led
+led_sooner name a b (v ∷ earlier) up (inl here) = inl (here.0, here.1, omega (arith, up, here.2))
+led_sooner name a b (v ∷ earlier) up (inr before) = inr (led_sooner name a b earlier up before)
+
+pub led_later : (name : List ℕ) (made : ℕ) (later moments : List TreeState) → HasLed name made moments → HasLed name made (later ++ moments)
+led_later name made [] moments led = led
+led_later name made (v ∷ later) moments led = inr (led_later name made later moments led)
