@@ -10,7 +10,7 @@ use Rattle.report_core.specs.declared.refusal.Refusal.{Refusal}
 use Rattle.adb_block.specs.Reading.{Reading, done, fault, more}
 use Rattle.adb_schema.specs.declared.read.ReadFault.{ReadFault}
 use Rattle.adb_schema.specs.declared.read.ReadFault.TheVariants as ReadFaults
-use Rattle.adb_schema.specs.declared.schema.Which.{Which}
+use Rattle.adb_tables.specs.declared.tables.Which.{Which}
 use Rattle.base_core.specs.declared.cause.Cause.{Cause}
 use Rattle.make_index.specs.Index.{made_index}
 use Rattle.make_package.specs.Making.{made_package}

@@ -15,10 +15,10 @@ use Rattle.dep_core.specs.ValueReading.{dependency_of_value}
 use Rattle.command_core.specs.declared.values.OptionValue.{OptionValue}
 use Rattle.adb_view.specs.Plain.{Plain, null, Plains, none, more, text as text_shape, hash, number as number_shape, array, blob_value, obj_value}
 use Rattle.adb_view.specs.Shaped.{Each}
-use Rattle.adb_schema.specs.Schema.{shape_of, shapes_of, table}
-use Rattle.adb_schema.specs.Texts.{Around, inside_of, number_rule, text_rule}
-use Rattle.adb_schema.specs.declared.schema.Which.TheVariants.{Dep, PkgInfo}
-use Rattle.adb_schema.specs.declared.schema.Kind.TheVariants.{Obj}
+use Rattle.adb_tables.specs.Schema.{shape_of, shapes_of, table}
+use Rattle.adb_rules.specs.Texts.{Surroundings, inside_of, number_rule, text_rule}
+use Rattle.adb_tables.specs.declared.tables.Which.TheVariants.{Dep, PkgInfo}
+use Rattle.adb_tables.specs.declared.tables.Kind.TheVariants.{Obj}
 use Rattle.make_info.specs.declared.field.Field.{Field}
 use Rattle.make_info.specs.declared.field.Field.TheVariants as Fields
 use Rattle.make_info.specs.declared.field.Kind.{Kind}
@@ -213,37 +213,37 @@ values_good P f (item ∷ items) h good = by_field (is_item_for f item) refl (va
 
 -- ---- the values of what is said
 
-name_good : (a : Around) (s : FieldValue) → IsSaidAs Kinds.PackageName s → IsGood text_shape 301 a (plain_value s)
+name_good : (a : Surroundings) (s : FieldValue) → IsSaidAs Kinds.PackageName s → IsGood text_shape 301 a (plain_value s)
 unfolding text_rule
 name_good a (text b) h = text_good 301 a b h
 name_good a (number n) h = absurd h
 name_good a (need d) h = absurd h
 
-version_good : (a : Around) (s : FieldValue) → IsSaidAs Kinds.PackageVersion s → IsGood text_shape 302 a (plain_value s)
+version_good : (a : Surroundings) (s : FieldValue) → IsSaidAs Kinds.PackageVersion s → IsGood text_shape 302 a (plain_value s)
 unfolding text_rule
 version_good a (text b) h = text_good 302 a b h
 version_good a (number n) h = absurd h
 version_good a (need d) h = absurd h
 
 abbrev IsFree : ℕ → Type 0
-IsFree place = (a : Around) (b : List ℕ) → text_rule place a b ≡ true
+IsFree place = (a : Surroundings) (b : List ℕ) → text_rule place a b ≡ true
 
-any_text : (place : ℕ) (a : Around) → IsFree place → (s : FieldValue) → IsSaidAs Kinds.AnyText s → IsGood text_shape place a (plain_value s)
+any_text : (place : ℕ) (a : Surroundings) → IsFree place → (s : FieldValue) → IsSaidAs Kinds.AnyText s → IsGood text_shape place a (plain_value s)
 any_text place a free (text b) h = text_good place a b (free a b)
 any_text place a free (number n) h = absurd h
 any_text place a free (need d) h = absurd h
 
-tag_text : (place : ℕ) (a : Around) → IsFree place → (s : FieldValue) → IsSaidAs Kinds.Texts s → IsGood text_shape place a (plain_value s)
+tag_text : (place : ℕ) (a : Surroundings) → IsFree place → (s : FieldValue) → IsSaidAs Kinds.Texts s → IsGood text_shape place a (plain_value s)
 tag_text place a free (text b) h = text_good place a b (free a b)
 tag_text place a free (number n) h = absurd h
 tag_text place a free (need d) h = absurd h
 
-hex_bytes : (place : ℕ) (a : Around) → IsFree place → (s : FieldValue) → IsSaidAs Kinds.HexDigits s → IsGood hash place a (plain_value s)
+hex_bytes : (place : ℕ) (a : Surroundings) → IsFree place → (s : FieldValue) → IsSaidAs Kinds.HexDigits s → IsGood hash place a (plain_value s)
 hex_bytes place a free (text b) h = hash_good place a b (free a b)
 hex_bytes place a free (number n) h = absurd h
 hex_bytes place a free (need d) h = absurd h
 
-any_number : (place : ℕ) (a : Around) → ((n : ℕ) → number_rule place n ≡ true) → (s : FieldValue) → IsSaidAs Kinds.Number s → IsGood number_shape place a (plain_value s)
+any_number : (place : ℕ) (a : Surroundings) → ((n : ℕ) → number_rule place n ≡ true) → (s : FieldValue) → IsSaidAs Kinds.Number s → IsGood number_shape place a (plain_value s)
 any_number place a free (text b) h = absurd h
 any_number place a free (number n) h = number_good place a n h (free n)
 any_number place a free (need d) h = absurd h
@@ -251,7 +251,7 @@ any_number place a free (need d) h = absurd h
 small_matching : (n : ℕ) → is_matching n ≡ true → n < 2 ^ 64
 small_matching n e = let lt = ltb-true n 32 (and_parts (nat_lt n 32) _ e).0 in omega arith
 
-matching_good : (a : Around) (o : Option ℕ) → is_matching (unwrap_or o 0) ≡ true → IsGood number_shape 103 a (number_value o)
+matching_good : (a : Surroundings) (o : Option ℕ) → is_matching (unwrap_or o 0) ≡ true → IsGood number_shape 103 a (number_value o)
 matching_good a None e = null_number 103 a e
 matching_good a (Some n) e = number_good 103 a n (small_matching n e) e
 
@@ -263,17 +263,17 @@ need_parts : (name version : List ℕ) (m : ℕ) (d : Dependency) → dependency
 unfolding dependency_of_value
 need_parts name version m d e = if_some _ _ d e
 
-need_good : Needs → (place : ℕ) (a : Around) (d : Dependency) → IsNeed d → IsGood (shape_of (Obj Dep)) place a (need_value (dep_value d))
+need_good : Needs → (place : ℕ) (a : Surroundings) (d : Dependency) → IsNeed d → IsGood (shape_of (Obj Dep)) place a (need_value (dep_value d))
 unfolding shape_of text_rule
 need_good needs place a d (part, is, if_untagged) =
     let v : DepValue = dep_value d in
     let all = and_parts (is_dep_name v.name) (is_version_or_empty v.version && is_matching (unwrap_or v.matching 0)) (need_parts v.name v.version (unwrap_or v.matching 0) d (needs.back d (needs.spelled part d is).0 if_untagged)) in
     let both = and_parts (is_version_or_empty v.version) (is_matching (unwrap_or v.matching 0)) all.1 in
     let vs : Plains = more (blob_value v.name) (more (blob_value v.version) (more (number_value v.matching) none)) in
-    let inside : Around = inside_of 1 a (obj_value vs) in
+    let inside : Surroundings = inside_of 1 a (obj_value vs) in
     obj_good 1 (shapes_of (table Dep)) place a inside vs refl (text_good 101 inside v.name all.0, (text_good 102 inside v.version both.0, (matching_good inside v.matching both.1, tt)))
 
-a_need : Needs → (place : ℕ) (a : Around) (s : FieldValue) → IsSaidAs Kinds.Dependencies s → IsGood (shape_of (Obj Dep)) place a (plain_value s)
+a_need : Needs → (place : ℕ) (a : Surroundings) (s : FieldValue) → IsSaidAs Kinds.Dependencies s → IsGood (shape_of (Obj Dep)) place a (plain_value s)
 a_need needs place a (text b) h = absurd h
 a_need needs place a (number n) h = absurd h
 a_need needs place a (need d) h = need_good needs place a d h
@@ -281,15 +281,15 @@ a_need needs place a (need d) h = need_good needs place a d h
 -- ---- all of them
 
 module _ (needs : Needs) (items : List InfoItem) (is : IsInformation items) where
-  text_at : (place : ℕ) (a : Around) (f : Field) → kind_of_field f ≡ Kinds.AnyText → IsFree place → IsGood text_shape place a (value_of_single f items)
+  text_at : (place : ℕ) (a : Surroundings) (f : Field) → kind_of_field f ≡ Kinds.AnyText → IsFree place → IsGood text_shape place a (value_of_single f items)
   text_at place a f k free =
       single_good (IsGood text_shape place a) f items is.good (text_good place a [] (free a [])) (λ s h. any_text place a free s (subst (λ (kind : Kind). IsSaidAs kind s) k h))
 
-  number_at : (place : ℕ) (a : Around) (f : Field) → kind_of_field f ≡ Kinds.Number → ((n : ℕ) → number_rule place n ≡ true) → IsGood number_shape place a (value_of_single f items)
+  number_at : (place : ℕ) (a : Surroundings) (f : Field) → kind_of_field f ≡ Kinds.Number → ((n : ℕ) → number_rule place n ≡ true) → IsGood number_shape place a (value_of_single f items)
   number_at place a f k free =
       single_good (IsGood number_shape place a) f items is.good (null_number place a (free 0)) (λ s h. any_number place a free s (subst (λ (kind : Kind). IsSaidAs kind s) k h))
 
-  needs_at : (place : ℕ) (a : Around) (f : Field) → kind_of_field f ≡ Kinds.Dependencies → IsGood (array (shape_of (Obj Dep))) place a (value_of_list f items)
+  needs_at : (place : ℕ) (a : Surroundings) (f : Field) → kind_of_field f ≡ Kinds.Dependencies → IsGood (array (shape_of (Obj Dep))) place a (value_of_list f items)
   needs_at place a f k =
       arr_good (shape_of (Obj Dep)) place a (plains_for f items)
       (values_good (IsGood (shape_of (Obj Dep)) place a) f items is.good (λ s h. a_need needs place a s (subst (λ (kind : Kind). IsSaidAs kind s) k h)))
@@ -297,7 +297,7 @@ module _ (needs : Needs) (items : List InfoItem) (is : IsInformation items) wher
   pub info_good : (size : ℕ) → size < 2 ^ 64 → IsGood (shape_of (Obj PkgInfo)) 701 around_folder (information_value items size)
   unfolding shape_of text_rule information_value
   info_good size small =
-      let a : Around = inside_of 3 around_folder (obj_value (information_fields items size)) in
+      let a : Surroundings = inside_of 3 around_folder (obj_value (information_fields items size)) in
       obj_good 3 (shapes_of (table PkgInfo)) 701 around_folder a (information_fields items size) refl (
         given_single (IsGood text_shape 301 a) Fields.Name items is.good is.name (name_good a),
         (

@@ -9,9 +9,8 @@ ghost use Rattle.pkg_core.specs.Whole.{container_fault};
 ghost use Rattle.std.specs.Prelude.{◌≡◌, ◌<◌, ◌^◌, ℕ, List, length, None, Ok};
 ghost use Rattle.command_core.specs.Command.{CommandLine};
 
-use adb_schema::{
-    the_first_pair_in_one_of_several_lists_is_told, values_of_few_visits_have_no_fault,
-};
+use adb_fields::the_first_pair_in_one_of_several_lists_is_reported;
+use adb_tables::values_of_few_visits_have_no_fault;
 use adb_sound::{
     a_container_of_a_good_value_is_sound, a_package_of_a_good_value_and_its_contents_is_sound,
     contents_stand_in_their_container,
@@ -48,5 +47,5 @@ pub fn a_made_package_is_sound()
     a_value_overflows_exactly_past_a_limit();
     read_texts_are_spelled();
     values_are_read_back();
-    the_first_pair_in_one_of_several_lists_is_told();
+    the_first_pair_in_one_of_several_lists_is_reported();
 }

@@ -1,9 +1,9 @@
 //! Makes an index of packages (apk(8), `mkndx`): reads the packages that operands name, puts their
 //! entries in order, and writes the container.
-ghost use Rattle.adb_schema.specs.Schema.{shape_of};
+ghost use Rattle.adb_tables.specs.Schema.{shape_of};
 ghost use Rattle.adb_schema.specs.Soundness.{first_fault};
-ghost use Rattle.adb_schema.specs.declared.schema.Kind.TheVariants as Kinds;
-ghost use Rattle.adb_schema.specs.declared.schema.Which.TheVariants as Tables;
+ghost use Rattle.adb_tables.specs.declared.tables.Kind.TheVariants as Kinds;
+ghost use Rattle.adb_tables.specs.declared.tables.Which.TheVariants as Tables;
 ghost use Rattle.adb_view.specs.Plain.{arr_value, IsNormal};
 ghost use Rattle.adb_view.specs.Shaped.{HasShape};
 ghost use Rattle.adb_write.specs.Canonical.{written_of, MOST_BYTES};
