@@ -129,7 +129,9 @@ impl Failure {
             HostFault::Memory => to.write_all(b"Cannot allocate memory"),
             HostFault::Host(error) => print_host_reason(alloc, error, to),
             HostFault::Own { reason, at } => {
-                if let Some(at) = at && !self.names(at) {
+                if let Some(at) = at
+                    && !self.names(at)
+                {
                     to.write_all(at)?;
                     to.write_all(b": ")?;
                 }

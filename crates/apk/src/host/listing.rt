@@ -80,11 +80,10 @@ impl Walk {
             return Err(HostFault::at(self.alloc, IS_NO_NAME, path));
         }
         match look(rt, self.alloc, path)? {
-            Found::Folder => keep(&mut self.folders, name)?,
-            Found::File(_) => keep(&mut self.files, name)?,
-            Found::Nothing => {}
+            Found::Folder => Ok(keep(&mut self.folders, name)?),
+            Found::File(_) => Ok(keep(&mut self.files, name)?),
+            Found::Nothing => Ok(()),
         }
-        Ok(())
     }
 
     /// The files that were found, in byte order, each once: a host that changes under a walk may show one twice.

@@ -1,10 +1,9 @@
 //! The lock on the root: one run writes there, or any number read.
 
 use super::failure::{HostFault, IS_LOCKED};
-use std::fs;
 use std::fs::{File, Files, TryLockError};
-use std::thread;
 use std::time::{Clock, Duration};
+use std::{fs, thread};
 
 /// How long one sleep is while another run holds the lock.
 const SLEEP_MILLISECONDS: u64 = 50;
@@ -20,10 +19,7 @@ pub enum Access {
 }
 
 /// Waits until no other run stands in the way, 60 seconds at most. The lock holds until the file that is answered is closed.
-pub fn lock_root<R: Files<File = File> + Clock>(
-    rt: &R,
-    access: Access,
-) -> Result<File, HostFault> {
+pub fn lock_root<R: Files<File = File> + Clock>(rt: &R, access: Access) -> Result<File, HostFault> {
     let root = fs::open(rt, ".")?;
     for _ in 0..MOST_TRIES {
         match try_to_lock(&root, access) {
