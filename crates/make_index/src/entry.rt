@@ -37,7 +37,7 @@ pub(crate) struct Entry {
 
 impl Entry {
     ghost use Rattle.make_index.specs.Views.{entry_view};
-    ghost use Rattle.make_index.specs.Files.{IsFile};
+    ghost use Rattle.base_core.specs.Files.{IsFile};
 
     /// The entry of the package in this file, which an operand at this place names. The file is
     /// dropped, but where its entry alone passes a limit of the writer.
