@@ -5,25 +5,25 @@ use Rattle.std.specs.List.{starts_with}
 use Rattle.std.proofs.lemmas.Bool.{and_parts, eqb-true}
 use Rattle.std.proofs.lemmas.List.Elements.{All-contains_itself, All-weaker}
 use Rattle.std.proofs.lemmas.Slice.Eq.{bytes_eq-Decides}
-use Rattle.adb_schema.specs.Reserved.{is_reserved}
+use Rattle.adb_rules.specs.Reserved.{is_reserved}
 use Rattle.adb_view.specs.Plain.{Plain}
-use Rattle.adb_write.specs.Canonical.{Counts, overflow_of, written_of}
+use Rattle.adb_write.specs.Canonical.{PayloadCounts, overflow_of, written_of}
 use Rattle.base_core.specs.Files.{Files, IsFolderOf, drop_name}
 use Rattle.base_core.specs.Listed.{AreNamesBelow, IsNameBelow, IsNamesOf}
 use Rattle.base_core.specs.declared.cause.Cause.{Cause}
 use Rattle.journal_core.specs.Replacing.{replaced_files, scratch_of}
-use Rattle.make_core.specs.Folders.{Listed, folders_of, part_of}
-use Rattle.make_core.specs.Index.{and_entries, found_entries, found_entry, index_file, index_of, index_of_found, index_value, tested}
-use Rattle.make_core.specs.IndexCommand.{description_in, made_index}
-use Rattle.make_core.specs.IndexOrder.{entry_cmp, in_order}
-use Rattle.make_core.specs.Information.{Item, info_value, information, replaces_priority}
-use Rattle.make_core.specs.Making.{file_unless, made_package, or_info_bad, package_file, package_of}
-use Rattle.make_core.specs.Output.{output_name}
-use Rattle.make_core.specs.Package.{Script, Source, SourceFolder, contents_of, installed_size, package_value}
-use Rattle.make_core.specs.Sound.{AreFiles, AreNamesFor}
-use Rattle.make_core.specs.Sources.{Reads, after, each_from, file_at, files_from, folder_at, folders_below, found_at, given, script_at, scripts_from, texts}
-use Rattle.make_core.specs.declared.fault.MakeFault.{MakeFault}
-use Rattle.make_core.specs.declared.fault.MakeFault.TheVariants.{FileMissing, FileBad, InfoBad, TooLarge, Disk, Memory}
+use Rattle.make_package.specs.Folders.{FolderListing, folders_of, last_part_of}
+use Rattle.make_index.specs.Index.{and_entries, found_entries, found_entry, index_container, index_of, index_of_found, value_of_index, entry_unless, description_in, made_index}
+use Rattle.make_index.specs.EntryOrder.{entry_cmp, sorted_by}
+use Rattle.make_info.specs.Information.{InfoItem, information_value, information, replaces_priority}
+use Rattle.make_package.specs.Making.{container_unless, made_package, or_info_bad, package_container, package_of_parts}
+use Rattle.make_info.specs.Output.{output_name}
+use Rattle.make_package.specs.Package.{Script, Source, SourceFolder, contents_of_folders, installed_size, value_of_package}
+use Rattle.make_index.specs.Files.{AreFiles}
+use Rattle.make_package.specs.Sources.{AreNamesFor, on_success, each_from, file_at, sources_from, folder_at, folders_below, found_at, values_with, script_at, scripts_from, texts_of}
+use Rattle.make_info.specs.Reads.{Reads}
+use Rattle.make_info.specs.declared.fault.MakeFault.{MakeFault}
+use Rattle.make_info.specs.declared.fault.MakeFault.TheVariants.{FileMissing, FileBad, InfoBad, TooLarge, Disk, Memory}
 use Rattle.pkg_core.specs.Contents.{Contents}
 use Rattle.pkg_core.specs.Whole.{container_fault, package_fault}
 use Rattle.report_core.specs.declared.refusal.Refusal.{Refusal}
@@ -43,7 +43,7 @@ use Rattle.outcome.specs.Told.{Outcome, refused, reported}
 
 -- a package that is made of names below its folder is sound, and so is an index of files
 abbrev pub SoundPackage : Type 0
-SoundPackage = (command : CommandLine) (names : List (List ℕ)) (read : Reads) (bytes : List ℕ) → AreNamesFor (given 70 command.values) names → made_package command names read ≡ Ok bytes → length bytes < 2 ^ 64 → container_fault bytes ≡ None
+SoundPackage = (command : CommandLine) (names : List (List ℕ)) (read : Reads) (bytes : List ℕ) → AreNamesFor (values_with 70 command.values) names → made_package command names read ≡ Ok bytes → length bytes < 2 ^ 64 → container_fault bytes ≡ None
 
 abbrev pub SoundIndex : Type 0
 SoundIndex = (command : CommandLine) (read : Reads) (bytes : List ℕ) → AreFiles read 0 command.operands → made_index command read ≡ Ok bytes → container_fault bytes ≡ None
@@ -106,21 +106,21 @@ told_err A B (TooLarge bytes values) h = tt
 told_err A B Disk h = absurd h
 told_err A B Memory h = absurd h
 
-after_told : {A B : Type 0} (r : Result A MakeFault) (next : A → Result B MakeFault) → IsTold r → ((x : A) → IsTold (next x)) → IsTold (after r next)
+after_told : {A B : Type 0} (r : Result A MakeFault) (next : A → Result B MakeFault) → IsTold r → ((x : A) → IsTold (next x)) → IsTold (on_success r next)
 after_told (Ok x) next h further = further x
 after_told {A} {B} (Err why) next h further = told_err A B why h
 
 each_told : {X Y : Type 0} (count : X → ℕ) (of : ℕ → X → Result Y MakeFault) → ((n : ℕ) (x : X) → IsTold (of n x)) → (n : ℕ) (xs : List X) → IsTold (each_from count of n xs)
 each_told count of h n [] = tt
 each_told count of h n (x ∷ xs) =
-    after_told (of n x) (λ y. after (each_from count of (n + count x) xs) (λ ys. Ok (y ∷ ys))) (h n x)
+    after_told (of n x) (λ y. on_success (each_from count of (n + count x) xs) (λ ys. Ok (y ∷ ys))) (h n x)
     (λ y. after_told (each_from count of (n + count x) xs) (λ ys. Ok (y ∷ ys)) (each_told count of h (n + count x) xs) (λ ys. tt))
 
 found_told : (place : ℕ) (found : Option (List ℕ)) → IsTold (found_at place found)
 found_told place None = tt
 found_told place (Some bytes) = tt
 
-info_told : (r : Result (List Item) ℕ) → IsTold (or_info_bad r)
+info_told : (r : Result (List InfoItem) ℕ) → IsTold (or_info_bad r)
 info_told (Ok items) = tt
 info_told (Err place) = tt
 
@@ -132,51 +132,51 @@ unfolding script_of
 script_told read n v = after_told (found_at v.place (read n (without_dot (script_file v.text)))) (script_of v) (found_told v.place (read n (without_dot (script_file v.text)))) (λ bytes. tt)
 
 source_of : List ℕ → List ℕ → Result Source MakeFault
-source_of name bytes = Ok (record { name = part_of name; bytes = bytes })
+source_of name bytes = Ok (record { name = last_part_of name; bytes = bytes })
 
 file_told : (place : ℕ) (read : Reads) (n : ℕ) (name : List ℕ) → IsTold (file_at place read n name)
 unfolding source_of
 file_told place read n name = after_told (found_at place (read n name)) (source_of name) (found_told place (read n name)) (λ bytes. tt)
 
-folder_of : Listed → List Source → Result SourceFolder MakeFault
+folder_of : FolderListing → List Source → Result SourceFolder MakeFault
 folder_of folder files = Ok (record { name = folder.name; files = files })
 
-folder_told : (place : ℕ) (read : Reads) (n : ℕ) (folder : Listed) → IsTold (folder_at place read n folder)
+folder_told : (place : ℕ) (read : Reads) (n : ℕ) (folder : FolderListing) → IsTold (folder_at place read n folder)
 unfolding folder_of
 folder_told place read n folder =
-    after_told (files_from place read n folder.files) (folder_of folder) (each_told (λ name. 1) (file_at place read) (file_told place read) n folder.files) (λ files. tt)
+    after_told (sources_from place read n folder.files) (folder_of folder) (each_told (λ name. 1) (file_at place read) (file_told place read) n folder.files) (λ files. tt)
 
 folders_told : (read : Reads) (n : ℕ) (values : List OptionValue) (names : List (List ℕ)) → IsTold (folders_below read n values names)
 folders_told read n [] names = tt
 folders_told read n (v ∷ values) names =
-    each_told (λ (folder : Listed). length folder.files) (folder_at v.place read) (folder_told v.place read) n (folders_of (without_dot v.text) names)
+    each_told (λ (folder : FolderListing). length folder.files) (folder_at v.place read) (folder_told v.place read) n (folders_of (without_dot v.text) names)
 
-unless_told : (counts : Option Counts) (v : Plain) (contents : List Contents) → IsTold (file_unless counts v contents)
+unless_told : (counts : Option PayloadCounts) (v : Plain) (contents : List Contents) → IsTold (container_unless counts v contents)
 unless_told None v contents = tt
 unless_told (Some counts) v contents = tt
 
-file_of_told : (v : Plain) (contents : List Contents) → IsTold (package_file v contents)
-unfolding package_file
+file_of_told : (v : Plain) (contents : List Contents) → IsTold (package_container v contents)
+unfolding package_container
 file_of_told v contents = unless_told (overflow_of v) v contents
 
 package_told : (command : CommandLine) (names : List (List ℕ)) (read : Reads) → IsTold (made_package command names read)
 unfolding made_package
 package_told command names read =
-    after_told (scripts_from read 0 (given 115 command.values))
-    (λ scripts. after (or_info_bad (information command)) (λ about. after (folders_below read (length scripts) (given 70 command.values) names) (package_of command scripts about)))
-    (each_told (λ v. 1) (script_at read) (script_told read) 0 (given 115 command.values))
+    after_told (scripts_from read 0 (values_with 115 command.values))
+    (λ scripts. on_success (or_info_bad (information command)) (λ about. on_success (folders_below read (length scripts) (values_with 70 command.values) names) (package_of_parts command scripts about)))
+    (each_told (λ v. 1) (script_at read) (script_told read) 0 (values_with 115 command.values))
     (λ scripts.
-    after_told (or_info_bad (information command)) (λ about. after (folders_below read (length scripts) (given 70 command.values) names) (package_of command scripts about))
+    after_told (or_info_bad (information command)) (λ about. on_success (folders_below read (length scripts) (values_with 70 command.values) names) (package_of_parts command scripts about))
     (info_told (information command))
     (λ about.
-    after_told (folders_below read (length scripts) (given 70 command.values) names) (package_of command scripts about)
-    (folders_told read (length scripts) (given 70 command.values) names)
+    after_told (folders_below read (length scripts) (values_with 70 command.values) names) (package_of_parts command scripts about)
+    (folders_told read (length scripts) (values_with 70 command.values) names)
     (λ folders.
     file_of_told
-    (package_value (info_value about (installed_size folders)) folders scripts (texts (given 116 command.values)) (replaces_priority about))
-    (contents_of 1 folders))))
+    (value_of_package (information_value about (installed_size folders)) folders scripts (texts_of (values_with 116 command.values)) (replaces_priority about))
+    (contents_of_folders 1 folders))))
 
-tested_told : (place : ℕ) (file : List ℕ) (cause : Option Cause) → IsTold (tested place file cause)
+tested_told : (place : ℕ) (file : List ℕ) (cause : Option Cause) → IsTold (entry_unless place file cause)
 tested_told place file None = tt
 tested_told place file (Some cause) = tt
 
@@ -195,13 +195,13 @@ entries_told read n (o ∷ operands) =
     and_told (found_entry o.place (read n (without_dot o.text))) (found_entries read (n + 1) operands)
     (entry_told o.place (read n (without_dot o.text))) (entries_told read (n + 1) operands)
 
-written_told : (payload : Result (List ℕ) Counts) → IsTold (index_file payload)
+written_told : (payload : Result (List ℕ) PayloadCounts) → IsTold (index_container payload)
 written_told (Ok payload) = tt
 written_told (Err counts) = tt
 
 of_found_told : (description : List ℕ) (entries : Result (List Plain) MakeFault) → IsTold entries → IsTold (index_of_found description entries)
 unfolding index_of
-of_found_told description (Ok entries) h = written_told (written_of (index_value description (in_order entry_cmp entries)))
+of_found_told description (Ok entries) h = written_told (written_of (value_of_index description (sorted_by entry_cmp entries)))
 of_found_told description (Err why) h = told_err (List Plain) (List ℕ) why h
 
 index_told : (command : CommandLine) (read : Reads) → IsTold (made_index command read)
@@ -241,12 +241,12 @@ stands_at files output name report result told is =
 
 -- ---- the outcome of a command
 
-package_sound : SoundPackage → (command : CommandLine) (names : List (List ℕ)) (files : Files) (name : List ℕ) → AreNamedFiles files → IsBelow (given 70 command.values) files names → output_name command ≡ Some name
+package_sound : SoundPackage → (command : CommandLine) (names : List (List ℕ)) (files : Files) (name : List ℕ) → AreNamedFiles files → IsBelow (values_with 70 command.values) files names → output_name command ≡ Some name
     → (mkpkg files command names).refusal ≡ None → IsSoundAt name (mkpkg files command names).files
 package_sound law command names files name good are is none =
     let read : Reads = λ n q. files q in
     let (bytes, ok, here) = stands_at files (output_name command) name [] (made_package command names read) (package_told command names read) is none in
-    (bytes, here, law command names read bytes (names_for (given 70 command.values) files names good are) ok)
+    (bytes, here, law command names read bytes (names_for (values_with 70 command.values) files names good are) ok)
 
 index_sound : SoundIndex → (command : CommandLine) (files : Files) (name : List ℕ) → AreNamedFiles files → output_name command ≡ Some name
     → (mkndx files command).refusal ≡ None → IsSoundAt name (mkndx files command).files

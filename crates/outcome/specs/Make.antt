@@ -2,15 +2,15 @@
 use Rattle.std.specs.Prelude.{◌≡◌, ℕ, if◌then◌else◌, List, [], ◌∷◌, ◌++◌, length, codes, nat_eq, Option, Some, None, Result, Ok, Err}
 use Rattle.std.specs.Fmt.{decimal}
 use Rattle.std.specs.List.{starts_with}
-use Rattle.adb_schema.specs.Reserved.{is_reserved}
+use Rattle.adb_rules.specs.Reserved.{is_reserved}
 use Rattle.base_core.specs.Files.{Files}
 use Rattle.base_core.specs.Listed.{IsNamesOf}
 use Rattle.journal_core.specs.Replacing.{replaced_files}
-use Rattle.make_core.specs.IndexCommand.{made_index}
-use Rattle.make_core.specs.Making.{made_package}
-use Rattle.make_core.specs.Output.{output_name}
-use Rattle.make_core.specs.declared.fault.MakeFault.{MakeFault}
-use Rattle.make_core.specs.declared.fault.MakeFault.TheVariants.{FileMissing as NoFile, FileBad as BadFile, InfoBad as BadInfo, TooLarge, Disk, Memory}
+use Rattle.make_index.specs.Index.{made_index}
+use Rattle.make_package.specs.Making.{made_package}
+use Rattle.make_info.specs.Output.{output_name}
+use Rattle.make_info.specs.declared.fault.MakeFault.{MakeFault}
+use Rattle.make_info.specs.declared.fault.MakeFault.TheVariants.{FileMissing as NoFile, FileBad as BadFile, InfoBad as BadInfo, TooLarge, Disk, Memory}
 use Rattle.report_core.specs.declared.refusal.Refusal.TheVariants.{FileMissing, FileBad, InfoBad, Reserved, ResultTooLarge}
 use Rattle.words_core.specs.Command.{CommandLine, without_dot}
 use Rattle.words_core.specs.declared.values.OptionValue.{OptionValue}

@@ -1,6 +1,6 @@
 -- What a command looks at, and what it changes.
 use Rattle.std.specs.Prelude.{ℕ, Bool, true, false, List, Option, None, Result, Ok, Err}
-use Rattle.make_core.specs.Output.{output_name}
+use Rattle.make_info.specs.Output.{output_name}
 use Rattle.words_core.specs.Command.{CommandLine}
 use Rattle.words_core.specs.Grammar.{command_of}
 use Rattle.words_core.specs.declared.applet.Applet.{Applet}
