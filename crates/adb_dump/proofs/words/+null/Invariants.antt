@@ -3,7 +3,7 @@ use Rattle.adb_view.specs.Adb.{payload_of}
 use Rattle.adb_view.specs.Entries.{array_entries}
 use Rattle.adb_tables.specs.Rank.{rank, rank_of_all}
 use Rattle.adb_dump.specs.Words.{are_null, fields_sound, fields_at}
-use Rattle.adb_dump.proofs.null.+null.Given as goal
+use Rattle.adb_dump.proofs.words.+null.Given as goal
 
 abbrev pub decreases-are_null : goal.decreases-are_null
 decreases-are_null l = rank_of_all l.fields.now + 1

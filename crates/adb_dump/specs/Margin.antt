@@ -13,10 +13,10 @@ lead depth true = []
 lead depth false = margin depth
 
 -- lines at a depth, of which the first may have begun
-abbrev pub laid : ℕ → Bool → List Line → List ℕ
-laid depth begun [] = []
-laid depth begun (l ∷ ls) = lead depth begun ++ (l ++ (codes "\n" ++ laid depth false ls))
+abbrev pub lines_at : ℕ → Bool → List Line → List ℕ
+lines_at depth begun [] = []
+lines_at depth begun (l ∷ ls) = lead depth begun ++ (l ++ (codes "\n" ++ lines_at depth false ls))
 
 -- above the depth of all lines
-abbrev pub DEEP : ℕ
-DEEP = 100
+abbrev pub DEPTH_LIMIT : ℕ
+DEPTH_LIMIT = 100
