@@ -10,12 +10,12 @@ use Rattle.base_core.specs.Tree.{TreeState, files_of}
 use Rattle.make_info.specs.Information.{information}
 use Rattle.make_index.specs.Index.{made_index}
 use Rattle.make_index.specs.Kept.{IsMadeBy}
-use Rattle.make_info.specs.Reads.{reads_of, Reads}
+use Rattle.make_info.specs.Reads.{Reads}
+use Rattle.make_index.specs.Files.{reads_of, AreFiles}
 use Rattle.make_package.specs.Answers.{IsMadeBySome, IsMadeIn, OnRefusal}
 use Rattle.make_package.specs.Making.{made_package}
 use Rattle.make_info.specs.Output.{output_name}
-use Rattle.make_index.specs.Files.{AreFiles}
-use Rattle.make_package.specs.Sources.{AreNamesFor, values_of}
+use Rattle.make_package.specs.Sources.{AreNamesFor, values_with}
 use Rattle.make_info.specs.declared.fault.MakeFault.{MakeFault}
 use Rattle.make_info.specs.declared.fault.MakeFault.TheVariants as Faults
 use Rattle.outcome.specs.Make.{IsBelow, below, index_line, made, mkndx_by, mkpkg_by, unless_reserved}
@@ -200,13 +200,13 @@ package_outcomes one command report none = record {
   only = λ v answer m o (names, listed, is).
       is
       ∙ ap (λ r. made (files_of v) (output_name command) r (made_package command names (λ n name. files_of v name))) (sym none)
-      ∙ ap (λ ns. made (files_of v) (output_name command) report (made_package command ns (λ n name. files_of v name))) (one_below one (values_of 70 command.values) (files_of v) names m.names listed m.below)
+      ∙ ap (λ ns. made (files_of v) (output_name command) report (made_package command ns (λ n name. files_of v name))) (one_below one (values_with 70 command.values) (files_of v) names m.names listed m.below)
       ∙ ap (made (files_of v) (output_name command) report) m.is;
 }
 
 pub package_read : (command : CommandLine) (report : List ℕ) (container : Container) (judged : Judged) → report ≡ [] → OnMade container (IsPackageFound command) → IfOk judged (λ verdict. is_cut_off container ≡ false)
     → IfOk judged (λ verdict. (files : Files) → Tells verdict (made files (output_name command) report (made_in container)))
-    → IfOk judged (λ verdict. (names : List (List ℕ)) × AreNamesFor (values_of 70 command.values) names × (read : Reads) × Tells verdict (mkpkg_by no_names read command names))
+    → IfOk judged (λ verdict. (names : List (List ℕ)) × AreNamesFor (values_with 70 command.values) names × (read : Reads) × Tells verdict (mkpkg_by no_names read command names))
 package_read command report container (Err e) none found whole tells = tt
 package_read command report container (Ok verdict) none found whole tells =
     let m = meant container (IsPackageFound command) whole found in

@@ -10,11 +10,11 @@ use Rattle.report_core.specs.declared.refusal.Refusal.{Refusal}
 use Rattle.adb_block.specs.Reading.{Reading, done, fault, more}
 use Rattle.adb_schema.specs.declared.read.ReadFault.{ReadFault}
 use Rattle.adb_schema.specs.declared.read.ReadFault.TheVariants as ReadFaults
-use Rattle.adb_schema.specs.declared.schema.Which.{Which}
+use Rattle.adb_tables.specs.declared.tables.Which.{Which}
 use Rattle.base_core.specs.declared.cause.Cause.{Cause}
 use Rattle.make_index.specs.Index.{made_index}
 use Rattle.make_package.specs.Making.{made_package}
-use Rattle.make_package.specs.Sources.{AreNamesFor, values_of}
+use Rattle.make_package.specs.Sources.{AreNamesFor, values_with}
 use Rattle.make_info.specs.Reads.{Reads}
 use Rattle.make_info.specs.declared.fault.MakeFault.{MakeFault}
 use Rattle.make_info.specs.declared.fault.MakeFault.TheVariants.{FileMissing, FileBad, InfoBad, TooLarge}
@@ -109,7 +109,7 @@ OnMade (Err why) Means = is_cut why ≡ false → Means (Err why)
 -- what `mkpkg` makes over these files
 pub record IsPackage (command : CommandLine) (files : Files) (made : Result (List ℕ) MakeFault) : Type 0 where
   pub names : List (List ℕ)
-  pub below : IsBelow (values_of 70 command.values) files names
+  pub below : IsBelow (values_with 70 command.values) files names
   pub is : made_package command names (λ n name. files name) ≡ made
 
 -- what `mkndx` makes over these files
@@ -118,7 +118,7 @@ IsIndex command files made = made_index command (λ n name. files name) ≡ made
 
 -- the outcome of `mkpkg` over these files
 abbrev pub IsPackageOutcome : CommandLine → Files → Outcome → Type 0
-IsPackageOutcome command files outcome = (names : List (List ℕ)) × IsBelow (values_of 70 command.values) files names × (outcome ≡ mkpkg files command names)
+IsPackageOutcome command files outcome = (names : List (List ℕ)) × IsBelow (values_with 70 command.values) files names × (outcome ≡ mkpkg files command names)
 
 -- the outcome of `mkndx` over these files
 abbrev pub IsIndexOutcome : CommandLine → Files → Outcome → Type 0
@@ -127,7 +127,7 @@ IsIndexOutcome command files outcome = outcome ≡ mkndx files command
 -- by some names below the folder, and some reads
 pub record IsPackageFound (command : CommandLine) (made : Result (List ℕ) MakeFault) : Type 0 where
   pub names : List (List ℕ)
-  pub named : AreNamesFor (values_of 70 command.values) names
+  pub named : AreNamesFor (values_with 70 command.values) names
   pub read : Reads
   pub is : made_package command names read ≡ made
 

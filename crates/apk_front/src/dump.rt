@@ -2,7 +2,7 @@
 ghost use Rattle.std.specs.Prelude.{◌≡◌, List, None, Ok, Option, ℕ, IsTrue, IfOk, IfErr, IsErrOf, OnOk, is_some, length};
 ghost use Rattle.adb_block.specs.Reading.{reading_of};
 ghost use Rattle.adb_dump.specs.Dump.{dump_text};
-ghost use Rattle.adb_schema.specs.Checked.{adb_of, shaped_value, table_of};
+ghost use Rattle.adb_tables.specs.Shaped.{adb_of, shaped_value, table_of};
 ghost use Rattle.adb_schema.specs.Soundness.{schema_word};
 ghost use Rattle.adb_view.specs.Adb.{payload_of};
 ghost use Rattle.adb_view.specs.Gives.{cause_of};

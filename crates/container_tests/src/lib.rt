@@ -1,11 +1,9 @@
-//! Tests of `adb_block`, `adb_write`, `adb_dump` and `pkg_core`, one row a line: blocks, written
-//! payloads, texts of containers, and packages.
+//! Tests of `adb_block`, `adb_write` and `pkg_core`, one row a line: blocks, written payloads, and packages.
+//! The texts of `adb_dump` and the refusals of `verify` are rows of the program `rows`.
 #![tactic(auto)]
 
 #[cfg(test)]
 mod blocks;
-#[cfg(test)]
-mod dumps;
 #[cfg(test)]
 mod packages;
 #[cfg(test)]

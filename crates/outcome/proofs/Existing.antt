@@ -12,7 +12,7 @@ use Rattle.words_core.specs.Grammar.{command_of}
 use Rattle.words_core.specs.declared.applet.Applet.{Applet}
 use Rattle.words_core.specs.declared.applet.Applet.TheVariants.{Adbdump, Mkndx, Mkpkg, Verify, Version}
 use Rattle.words_core.specs.declared.values.OptionValue.{OptionValue}
-use Rattle.make_package.specs.Sources.{values_of}
+use Rattle.make_package.specs.Sources.{values_with}
 use Rattle.outcome.specs.Make.{IsBelow, below}
 use Rattle.outcome.specs.Outcome.{Given, IsGivenTo, IsOutcome, IsOutcomeOf, run_of}
 use Rattle.outcome.specs.Told.{Outcome, refused}
@@ -40,7 +40,7 @@ given_exists : HaveList → (applet : Applet) (command : CommandLine) (files : F
 given_exists have Verify command files within h = ([], refl)
 given_exists have Version command files within h = ([], refl)
 given_exists have Adbdump command files within h = ([], refl)
-given_exists have Mkpkg command files within h = below_exists have (values_of 70 command.values) files within h
+given_exists have Mkpkg command files within h = below_exists have (values_with 70 command.values) files within h
 given_exists have Mkndx command files within h = ([], refl)
 
 outcome_by : HaveList → (read : Result CommandLine ℕ) (files : Files) (within : List (List ℕ)) → IsWithin within files → (o : Outcome) × IsOutcomeOf read files o
@@ -60,7 +60,7 @@ given_one : HaveOneList → (applet : Applet) (command : CommandLine) (files : F
 given_one one Verify command files a b x y = x ∙ sym y
 given_one one Version command files a b x y = x ∙ sym y
 given_one one Adbdump command files a b x y = x ∙ sym y
-given_one one Mkpkg command files a b x y = below_one one (values_of 70 command.values) files a b x y
+given_one one Mkpkg command files a b x y = below_one one (values_with 70 command.values) files a b x y
 given_one one Mkndx command files a b x y = x ∙ sym y
 
 outcome_one : HaveOneList → (read : Result CommandLine ℕ) (files : Files) (a b : Outcome) → IsOutcomeOf read files a → IsOutcomeOf read files b → a ≡ b

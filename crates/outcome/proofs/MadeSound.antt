@@ -5,7 +5,7 @@ use Rattle.std.specs.List.{starts_with}
 use Rattle.std.proofs.lemmas.Bool.{and_parts, eqb-true}
 use Rattle.std.proofs.lemmas.List.Elements.{All-contains_itself, All-weaker}
 use Rattle.std.proofs.lemmas.Slice.Eq.{bytes_eq-Decides}
-use Rattle.adb_schema.specs.Reserved.{is_reserved}
+use Rattle.adb_rules.specs.Reserved.{is_reserved}
 use Rattle.adb_view.specs.Plain.{Plain}
 use Rattle.adb_write.specs.Canonical.{PayloadCounts, overflow_of, written_of}
 use Rattle.base_core.specs.Files.{Files, IsFolderOf, drop_name}
@@ -20,7 +20,7 @@ use Rattle.make_package.specs.Making.{container_unless, made_package, or_info_ba
 use Rattle.make_info.specs.Output.{output_name}
 use Rattle.make_package.specs.Package.{Script, Source, SourceFolder, contents_of_folders, installed_size, value_of_package}
 use Rattle.make_index.specs.Files.{AreFiles}
-use Rattle.make_package.specs.Sources.{AreNamesFor, unless_refused, each_from, file_at, sources_from, folder_at, folders_below, found_at, values_of, script_at, scripts_from, texts_of}
+use Rattle.make_package.specs.Sources.{AreNamesFor, on_success, each_from, file_at, sources_from, folder_at, folders_below, found_at, values_with, script_at, scripts_from, texts_of}
 use Rattle.make_info.specs.Reads.{Reads}
 use Rattle.make_info.specs.declared.fault.MakeFault.{MakeFault}
 use Rattle.make_info.specs.declared.fault.MakeFault.TheVariants.{FileMissing, FileBad, InfoBad, TooLarge, Disk, Memory}
@@ -43,7 +43,7 @@ use Rattle.outcome.specs.Told.{Outcome, refused, reported}
 
 -- a package that is made of names below its folder is sound, and so is an index of files
 abbrev pub SoundPackage : Type 0
-SoundPackage = (command : CommandLine) (names : List (List ℕ)) (read : Reads) (bytes : List ℕ) → AreNamesFor (values_of 70 command.values) names → made_package command names read ≡ Ok bytes → length bytes < 2 ^ 64 → container_fault bytes ≡ None
+SoundPackage = (command : CommandLine) (names : List (List ℕ)) (read : Reads) (bytes : List ℕ) → AreNamesFor (values_with 70 command.values) names → made_package command names read ≡ Ok bytes → length bytes < 2 ^ 64 → container_fault bytes ≡ None
 
 abbrev pub SoundIndex : Type 0
 SoundIndex = (command : CommandLine) (read : Reads) (bytes : List ℕ) → AreFiles read 0 command.operands → made_index command read ≡ Ok bytes → container_fault bytes ≡ None
@@ -106,14 +106,14 @@ told_err A B (TooLarge bytes values) h = tt
 told_err A B Disk h = absurd h
 told_err A B Memory h = absurd h
 
-after_told : {A B : Type 0} (r : Result A MakeFault) (next : A → Result B MakeFault) → IsTold r → ((x : A) → IsTold (next x)) → IsTold (unless_refused r next)
+after_told : {A B : Type 0} (r : Result A MakeFault) (next : A → Result B MakeFault) → IsTold r → ((x : A) → IsTold (next x)) → IsTold (on_success r next)
 after_told (Ok x) next h further = further x
 after_told {A} {B} (Err why) next h further = told_err A B why h
 
 each_told : {X Y : Type 0} (count : X → ℕ) (of : ℕ → X → Result Y MakeFault) → ((n : ℕ) (x : X) → IsTold (of n x)) → (n : ℕ) (xs : List X) → IsTold (each_from count of n xs)
 each_told count of h n [] = tt
 each_told count of h n (x ∷ xs) =
-    after_told (of n x) (λ y. unless_refused (each_from count of (n + count x) xs) (λ ys. Ok (y ∷ ys))) (h n x)
+    after_told (of n x) (λ y. on_success (each_from count of (n + count x) xs) (λ ys. Ok (y ∷ ys))) (h n x)
     (λ y. after_told (each_from count of (n + count x) xs) (λ ys. Ok (y ∷ ys)) (each_told count of h (n + count x) xs) (λ ys. tt))
 
 found_told : (place : ℕ) (found : Option (List ℕ)) → IsTold (found_at place found)
@@ -162,18 +162,18 @@ file_of_told v contents = unless_told (overflow_of v) v contents
 package_told : (command : CommandLine) (names : List (List ℕ)) (read : Reads) → IsTold (made_package command names read)
 unfolding made_package
 package_told command names read =
-    after_told (scripts_from read 0 (values_of 115 command.values))
-    (λ scripts. unless_refused (or_info_bad (information command)) (λ about. unless_refused (folders_below read (length scripts) (values_of 70 command.values) names) (package_of_parts command scripts about)))
-    (each_told (λ v. 1) (script_at read) (script_told read) 0 (values_of 115 command.values))
+    after_told (scripts_from read 0 (values_with 115 command.values))
+    (λ scripts. on_success (or_info_bad (information command)) (λ about. on_success (folders_below read (length scripts) (values_with 70 command.values) names) (package_of_parts command scripts about)))
+    (each_told (λ v. 1) (script_at read) (script_told read) 0 (values_with 115 command.values))
     (λ scripts.
-    after_told (or_info_bad (information command)) (λ about. unless_refused (folders_below read (length scripts) (values_of 70 command.values) names) (package_of_parts command scripts about))
+    after_told (or_info_bad (information command)) (λ about. on_success (folders_below read (length scripts) (values_with 70 command.values) names) (package_of_parts command scripts about))
     (info_told (information command))
     (λ about.
-    after_told (folders_below read (length scripts) (values_of 70 command.values) names) (package_of_parts command scripts about)
-    (folders_told read (length scripts) (values_of 70 command.values) names)
+    after_told (folders_below read (length scripts) (values_with 70 command.values) names) (package_of_parts command scripts about)
+    (folders_told read (length scripts) (values_with 70 command.values) names)
     (λ folders.
     file_of_told
-    (value_of_package (information_value about (installed_size folders)) folders scripts (texts_of (values_of 116 command.values)) (replaces_priority about))
+    (value_of_package (information_value about (installed_size folders)) folders scripts (texts_of (values_with 116 command.values)) (replaces_priority about))
     (contents_of_folders 1 folders))))
 
 tested_told : (place : ℕ) (file : List ℕ) (cause : Option Cause) → IsTold (entry_unless place file cause)
@@ -241,12 +241,12 @@ stands_at files output name report result told is =
 
 -- ---- the outcome of a command
 
-package_sound : SoundPackage → (command : CommandLine) (names : List (List ℕ)) (files : Files) (name : List ℕ) → AreNamedFiles files → IsBelow (values_of 70 command.values) files names → output_name command ≡ Some name
+package_sound : SoundPackage → (command : CommandLine) (names : List (List ℕ)) (files : Files) (name : List ℕ) → AreNamedFiles files → IsBelow (values_with 70 command.values) files names → output_name command ≡ Some name
     → (mkpkg files command names).refusal ≡ None → IsSoundAt name (mkpkg files command names).files
 package_sound law command names files name good are is none =
     let read : Reads = λ n q. files q in
     let (bytes, ok, here) = stands_at files (output_name command) name [] (made_package command names read) (package_told command names read) is none in
-    (bytes, here, law command names read bytes (names_for (values_of 70 command.values) files names good are) ok)
+    (bytes, here, law command names read bytes (names_for (values_with 70 command.values) files names good are) ok)
 
 index_sound : SoundIndex → (command : CommandLine) (files : Files) (name : List ℕ) → AreNamedFiles files → output_name command ≡ Some name
     → (mkndx files command).refusal ≡ None → IsSoundAt name (mkndx files command).files

@@ -1,7 +1,7 @@
 -- What a command line answers, prints and leaves over the files of a tree.
 use Rattle.std.specs.Prelude.{◌≡◌, ℕ, List, [], Option, Result, Ok, Err}
 use Rattle.base_core.specs.Files.{Files, no_names}
-use Rattle.make_package.specs.Sources.{AreNamesFor, values_of}
+use Rattle.make_package.specs.Sources.{AreNamesFor, values_with}
 use Rattle.report_core.specs.declared.refusal.Refusal.TheVariants.{Usage}
 use Rattle.words_core.specs.Command.{CommandLine}
 use Rattle.words_core.specs.Grammar.{command_of}
@@ -22,7 +22,7 @@ abbrev pub IsGivenTo : Applet → CommandLine → Files → Given → Type 0
 IsGivenTo Verify command files names = names ≡ []
 IsGivenTo Version command files names = names ≡ []
 IsGivenTo Adbdump command files names = names ≡ []
-IsGivenTo Mkpkg command files names = IsBelow (values_of 70 command.values) files names
+IsGivenTo Mkpkg command files names = IsBelow (values_with 70 command.values) files names
 IsGivenTo Mkndx command files names = names ≡ []
 
 abbrev pub IsGiven : CommandLine → Files → Given → Type 0
@@ -63,7 +63,7 @@ abbrev pub IsGivenBySome : Applet → CommandLine → Given → Type 0
 IsGivenBySome Verify command names = names ≡ []
 IsGivenBySome Version command names = names ≡ []
 IsGivenBySome Adbdump command names = names ≡ []
-IsGivenBySome Mkpkg command names = AreNamesFor (values_of 70 command.values) names
+IsGivenBySome Mkpkg command names = AreNamesFor (values_with 70 command.values) names
 IsGivenBySome Mkndx command names = names ≡ []
 
 abbrev pub IsFoundOutcomeOf : Result CommandLine ℕ → Outcome → Type 0

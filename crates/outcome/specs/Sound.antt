@@ -2,7 +2,7 @@
 use Rattle.std.specs.Prelude.{◌≡◌, ℕ, ◌<◌, ◌^◌, List, length, Some, None, IsSome}
 use Rattle.base_core.specs.Files.{Files}
 use Rattle.base_core.specs.Name.{IsName}
-use Rattle.make_index.specs.Files.{IsFile}
+use Rattle.base_core.specs.Files.{IsFile}
 use Rattle.pkg_core.specs.Whole.{container_fault}
 
 -- each file that is present stands under a name, and has fewer than 2 ^ 64 bytes
