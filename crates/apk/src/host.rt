@@ -1,6 +1,6 @@
 // The folder that the program runs in, as a tree.
 ghost use Rattle.std.specs.Prelude.{◌≡◌, ◌≤◌, [], OnOk, OnErr, IfOk, true};
-ghost use Rattle.base_core.specs.Faults.{risen};
+ghost use Rattle.base_core.specs.Faults.{next_count};
 ghost use Rattle.apk.specs.Host.{host_counts};
 
 mod folders;
@@ -55,7 +55,7 @@ impl<'a, R: Files + AllocGlobal + Clone + Drop> HostTree<'a, R> {
 
     // One more fault.
     fn fault(&mut self) -> Disk
-        ensures faults { self.new.faults ≡ risen self.old.faults }
+        ensures faults { self.new.faults ≡ next_count self.old.faults }
         ensures later { self.old.faults ≤ self.new.faults }
     {
         self.faults = self.faults.saturating_add(1);
@@ -65,7 +65,7 @@ impl<'a, R: Files + AllocGlobal + Clone + Drop> HostTree<'a, R> {
     // What a call answers, with its fault counted. Want of memory is a fault too.
     fn counted<T>(&mut self, answer: Result<T, TreeFault>) -> Result<T, Disk>
         ensures ok { OnOk result (self.new.faults ≡ self.old.faults) }
-        ensures err { OnErr result (self.new.faults ≡ risen self.old.faults) }
+        ensures err { OnErr result (self.new.faults ≡ next_count self.old.faults) }
         ensures later { self.old.faults ≤ self.new.faults }
     {
         match answer {

@@ -1,6 +1,6 @@
 // A standard stream, as a sink.
 ghost use Rattle.std.specs.Prelude.{◌≡◌, ◌≤◌, None};
-ghost use Rattle.base_core.specs.Faults.{risen};
+ghost use Rattle.base_core.specs.Faults.{next_count};
 ghost use Rattle.apk.specs.Host.{host_counts};
 
 use base_core::{Sink, SinkFault};
@@ -21,7 +21,7 @@ impl<W: Write + Drop> HostSink<W> {
     }
 
     fn fault(&mut self) -> SinkFault
-        ensures faults { self.new.faults ≡ risen self.old.faults }
+        ensures faults { self.new.faults ≡ next_count self.old.faults }
         ensures later { self.old.faults ≤ self.new.faults }
     {
         self.faults = self.faults.saturating_add(1);

@@ -1,10 +1,10 @@
 -- A command is run, and its outcome carried out.
 use Rattle.std.proofs.Common.{◌≡◌, ◌⊎◌, inl, inr, ℕ, Bool, true, false, List, [], ◌∷◌, Option, Some, None, IsSome, Result, Ok, Err, refl, sym, ap, subst, ◌∙◌}
 use Rattle.std.specs.Prelude.{if◌then◌else◌, IfOk, IsErrOf, IsTrue, OnOk}
-use Rattle.base_core.specs.Calls.{HasNow, OnTold}
+use Rattle.base_core.specs.Calls.{HasNow, IfObservable}
 use Rattle.base_core.specs.Crash.{IsOrderly, Since}
 use Rattle.base_core.specs.Files.{Files, no_names}
-use Rattle.base_core.specs.Sink.{Sinking}
+use Rattle.base_core.specs.Sink.{SinkChange}
 use Rattle.base_core.specs.Tree.{TreeState, files_of}
 use Rattle.base_core.specs.declared.cause.Cause.{Cause}
 use Rattle.base_core.specs.declared.tree.TreeFault.{TreeFault}
@@ -72,8 +72,8 @@ left_files Mkndx command names files reads = cc
 abbrev pub Ones : CommandLine → TreeState → Outcome → Type 0
 Ones command v = IsOutcomeOf (Ok command) (files_of v)
 
-pub look_found : (command : CommandLine) (old : History) (judged : Judged) → does_read_only command.applet ≡ true → IfOk judged (λ verdict. OnTold old (λ v. shown (files_of v) verdict ≡ run_of command [] (files_of v)))
-    → IfOk judged (λ verdict. OnTold old (λ v. TellsOne (Ones command v) verdict))
+pub look_found : (command : CommandLine) (old : History) (judged : Judged) → does_read_only command.applet ≡ true → IfOk judged (λ verdict. IfObservable old (λ v. shown (files_of v) verdict ≡ run_of command [] (files_of v)))
+    → IfOk judged (λ verdict. IfObservable old (λ v. TellsOne (Ones command v) verdict))
 look_found command old (Err e) reads found = tt
 look_found command [] (Ok verdict) reads found = tt
 look_found command (v ∷ rest) (Ok verdict) reads found = (shown (files_of v) verdict, ([], given_none command.applet command (files_of v) reads, found), refl)
@@ -87,7 +87,7 @@ always P (Ok verdict) p = p
 always P (Err e) p = tt
 
 pub look_run : (command : CommandLine) (old now : History) (judged : Judged) → does_read_only command.applet ≡ true → now ≡ old
-    → OnTold old (λ v. IsRun (Ones command v) (does_read_only command.applet) (output_of command.applet command) judged v old now)
+    → IfObservable old (λ v. IsRun (Ones command v) (does_read_only command.applet) (output_of command.applet command) judged v old now)
 look_run command old now judged reads same =
     told_idle (Ones command) (does_read_only command.applet) (output_of command.applet command) judged old now same
     (λ v o one none. always ((o.files ≡ files_of v) × (does_read_only command.applet ≡ true)) judged (ap (λ (x : Outcome). x.files) one.2 ∙ left_files command.applet command one.0 (files_of v) reads, reads))
@@ -109,18 +109,18 @@ index_one command files o same is =
 one_index : (command : CommandLine) (files : Files) (o : Outcome) → Mkndx ≡ command.applet → IsOutcomeOf (Ok command) files o → IsIndexOutcome command files o
 one_index command files o same (names, listed, is) = is ∙ ap (λ (a : Applet). run_applet a command names files) (sym same)
 
-tells_among : (A B : TreeState → Outcome → Type 0) (old : History) (judged : Judged) → ((v : TreeState) (o : Outcome) → A v o → B v o) → IfOk judged (λ verdict. OnTold old (λ v. TellsOne (A v) verdict))
-    → IfOk judged (λ verdict. OnTold old (λ v. TellsOne (B v) verdict))
+tells_among : (A B : TreeState → Outcome → Type 0) (old : History) (judged : Judged) → ((v : TreeState) (o : Outcome) → A v o → B v o) → IfOk judged (λ verdict. IfObservable old (λ v. TellsOne (A v) verdict))
+    → IfOk judged (λ verdict. IfObservable old (λ v. TellsOne (B v) verdict))
 tells_among A B old (Err e) f found = tt
 tells_among A B [] (Ok verdict) f found = tt
 tells_among A B (v ∷ rest) (Ok verdict) f (o, one, tells) = (o, f v o one, tells)
 
-pub package_found_one : (command : CommandLine) (old : History) (judged : Judged) → Mkpkg ≡ command.applet → IfOk judged (λ verdict. OnTold old (λ v. TellsOne (IsPackageOutcome command (files_of v)) verdict))
-    → IfOk judged (λ verdict. OnTold old (λ v. TellsOne (Ones command v) verdict))
+pub package_found_one : (command : CommandLine) (old : History) (judged : Judged) → Mkpkg ≡ command.applet → IfOk judged (λ verdict. IfObservable old (λ v. TellsOne (IsPackageOutcome command (files_of v)) verdict))
+    → IfOk judged (λ verdict. IfObservable old (λ v. TellsOne (Ones command v) verdict))
 package_found_one command old judged same found = tells_among (λ v. IsPackageOutcome command (files_of v)) (Ones command) old judged (λ v o one. package_one command (files_of v) o same one) found
 
-pub index_found_one : (command : CommandLine) (old : History) (judged : Judged) → Mkndx ≡ command.applet → IfOk judged (λ verdict. OnTold old (λ v. TellsOne (IsIndexOutcome command (files_of v)) verdict))
-    → IfOk judged (λ verdict. OnTold old (λ v. TellsOne (Ones command v) verdict))
+pub index_found_one : (command : CommandLine) (old : History) (judged : Judged) → Mkndx ≡ command.applet → IfOk judged (λ verdict. IfObservable old (λ v. TellsOne (IsIndexOutcome command (files_of v)) verdict))
+    → IfOk judged (λ verdict. IfObservable old (λ v. TellsOne (Ones command v) verdict))
 index_found_one command old judged same found = tells_among (λ v. IsIndexOutcome command (files_of v)) (Ones command) old judged (λ v o one. index_one command (files_of v) o same one) found
 
 pub package_read_one : (command : CommandLine) (judged : Judged) → Mkpkg ≡ command.applet → IfOk judged (λ verdict. (names : List (List ℕ)) × AreNamesFor (given 70 command.values) names × (read : Reads) × Tells verdict (mkpkg_by no_names read command names))
@@ -135,56 +135,56 @@ index_read_one command (Err e) same found = tt
 index_read_one command (Ok verdict) same (read, tells) =
     (mkndx_by no_names read command, ([], subst (λ (a : Applet). IsGivenBySome a command []) same refl, read, ap (λ (a : Applet). run_by a command [] read) same), tells)
 
-runs_among : (A B : TreeState → Outcome → Type 0) (reads : Bool) (out : Option (List ℕ)) (judged : Judged) (old now : History) → ((v : TreeState) (o : Outcome) → B v o → A v o) → OnTold old (λ v. IsRun (A v) reads out judged v old now)
-    → OnTold old (λ v. IsRun (B v) reads out judged v old now)
+runs_among : (A B : TreeState → Outcome → Type 0) (reads : Bool) (out : Option (List ℕ)) (judged : Judged) (old now : History) → ((v : TreeState) (o : Outcome) → B v o → A v o) → IfObservable old (λ v. IsRun (A v) reads out judged v old now)
+    → IfObservable old (λ v. IsRun (B v) reads out judged v old now)
 runs_among A B reads out judged [] now f run = tt
 runs_among A B reads out judged (v ∷ rest) now f run = run_among (A v) (B v) reads out judged v (v ∷ rest) now (f v) run
 
-pub package_run : (command : CommandLine) (judged : Judged) (old now : History) → Mkpkg ≡ command.applet → OnTold old (λ v. IsRun (IsPackageOutcome command (files_of v)) false (output_name command) judged v old now)
-    → OnTold old (λ v. IsRun (Ones command v) (does_read_only command.applet) (output_of command.applet command) judged v old now)
+pub package_run : (command : CommandLine) (judged : Judged) (old now : History) → Mkpkg ≡ command.applet → IfObservable old (λ v. IsRun (IsPackageOutcome command (files_of v)) false (output_name command) judged v old now)
+    → IfObservable old (λ v. IsRun (Ones command v) (does_read_only command.applet) (output_of command.applet command) judged v old now)
 package_run command judged old now same run =
-    subst (λ (a : Applet). OnTold old (λ v. IsRun (Ones command v) (does_read_only a) (output_of a command) judged v old now)) same
+    subst (λ (a : Applet). IfObservable old (λ v. IsRun (Ones command v) (does_read_only a) (output_of a command) judged v old now)) same
     (runs_among (λ v. IsPackageOutcome command (files_of v)) (Ones command) false (output_name command) judged old now (λ v o one. one_package command (files_of v) o same one) run)
 
-pub index_run : (command : CommandLine) (judged : Judged) (old now : History) → Mkndx ≡ command.applet → OnTold old (λ v. IsRun (IsIndexOutcome command (files_of v)) false (output_name command) judged v old now)
-    → OnTold old (λ v. IsRun (Ones command v) (does_read_only command.applet) (output_of command.applet command) judged v old now)
+pub index_run : (command : CommandLine) (judged : Judged) (old now : History) → Mkndx ≡ command.applet → IfObservable old (λ v. IsRun (IsIndexOutcome command (files_of v)) false (output_name command) judged v old now)
+    → IfObservable old (λ v. IsRun (Ones command v) (does_read_only command.applet) (output_of command.applet command) judged v old now)
 index_run command judged old now same run =
-    subst (λ (a : Applet). OnTold old (λ v. IsRun (Ones command v) (does_read_only a) (output_of a command) judged v old now)) same
+    subst (λ (a : Applet). IfObservable old (λ v. IsRun (Ones command v) (does_read_only a) (output_of a command) judged v old now)) same
     (runs_among (λ v. IsIndexOutcome command (files_of v)) (Ones command) false (output_name command) judged old now (λ v o one. one_index command (files_of v) o same one) run)
 
 -- room for each of some outcomes
 abbrev pub RoomFor : (Outcome → Type 0) → Option (List ℕ) → Files → Type 0
 RoomFor IsOne out files = (o : Outcome) → IsOne o → o.refusal ≡ None → HasRoomFor out files
 
-rooms_among : (A B : TreeState → Outcome → Type 0) (out : Option (List ℕ)) (old : History) (P : Type 0) → ((v : TreeState) (o : Outcome) → A v o → B v o) → OnTold old (λ v. RoomFor (A v) out (files_of v) → P) → OnTold old (λ v. RoomFor (B v) out (files_of v) → P)
+rooms_among : (A B : TreeState → Outcome → Type 0) (out : Option (List ℕ)) (old : History) (P : Type 0) → ((v : TreeState) (o : Outcome) → A v o → B v o) → IfObservable old (λ v. RoomFor (A v) out (files_of v) → P) → IfObservable old (λ v. RoomFor (B v) out (files_of v) → P)
 rooms_among A B out [] P f proper = tt
 rooms_among A B out (v ∷ rest) P f proper = λ room. proper (λ o one none. room o (f v o one) none)
 
-pub package_proper : (command : CommandLine) (old : History) (P : Type 0) → Mkpkg ≡ command.applet → OnTold old (λ v. RoomFor (IsPackageOutcome command (files_of v)) (output_name command) (files_of v) → P)
-    → OnTold old (λ v. RoomFor (Ones command v) (output_of command.applet command) (files_of v) → P)
+pub package_proper : (command : CommandLine) (old : History) (P : Type 0) → Mkpkg ≡ command.applet → IfObservable old (λ v. RoomFor (IsPackageOutcome command (files_of v)) (output_name command) (files_of v) → P)
+    → IfObservable old (λ v. RoomFor (Ones command v) (output_of command.applet command) (files_of v) → P)
 package_proper command old P same proper =
-    subst (λ (a : Applet). OnTold old (λ v. RoomFor (Ones command v) (output_of a command) (files_of v) → P)) same
+    subst (λ (a : Applet). IfObservable old (λ v. RoomFor (Ones command v) (output_of a command) (files_of v) → P)) same
     (rooms_among (λ v. IsPackageOutcome command (files_of v)) (Ones command) (output_name command) old P (λ v o one. package_one command (files_of v) o same one) proper)
 
-pub index_proper : (command : CommandLine) (old : History) (P : Type 0) → Mkndx ≡ command.applet → OnTold old (λ v. RoomFor (IsIndexOutcome command (files_of v)) (output_name command) (files_of v) → P)
-    → OnTold old (λ v. RoomFor (Ones command v) (output_of command.applet command) (files_of v) → P)
+pub index_proper : (command : CommandLine) (old : History) (P : Type 0) → Mkndx ≡ command.applet → IfObservable old (λ v. RoomFor (IsIndexOutcome command (files_of v)) (output_name command) (files_of v) → P)
+    → IfObservable old (λ v. RoomFor (Ones command v) (output_of command.applet command) (files_of v) → P)
 index_proper command old P same proper =
-    subst (λ (a : Applet). OnTold old (λ v. RoomFor (Ones command v) (output_of a command) (files_of v) → P)) same
+    subst (λ (a : Applet). IfObservable old (λ v. RoomFor (Ones command v) (output_of a command) (files_of v) → P)) same
     (rooms_among (λ v. IsIndexOutcome command (files_of v)) (Ones command) (output_name command) old P (λ v o one. index_one command (files_of v) o same one) proper)
 
 -- ---- the words
 
-pub by_command : (words : List (List ℕ)) (command : CommandLine) (old : History) (judged : Judged) → command_of words ≡ Ok command → IfOk judged (λ verdict. OnTold old (λ v. TellsOne (Ones command v) verdict))
-    → IfOk judged (λ verdict. OnTold old (λ v. TellsOne (IsOutcome words (files_of v)) verdict))
-by_command words command old judged is found = subst (λ (r : Result CommandLine ℕ). IfOk judged (λ verdict. OnTold old (λ v. TellsOne (IsOutcomeOf r (files_of v)) verdict))) (sym is) found
+pub by_command : (words : List (List ℕ)) (command : CommandLine) (old : History) (judged : Judged) → command_of words ≡ Ok command → IfOk judged (λ verdict. IfObservable old (λ v. TellsOne (Ones command v) verdict))
+    → IfOk judged (λ verdict. IfObservable old (λ v. TellsOne (IsOutcome words (files_of v)) verdict))
+by_command words command old judged is found = subst (λ (r : Result CommandLine ℕ). IfOk judged (λ verdict. IfObservable old (λ v. TellsOne (IsOutcomeOf r (files_of v)) verdict))) (sym is) found
 
 pub run_by_command : (words : List (List ℕ)) (command : CommandLine) (judged : Judged) (old now : History) → command_of words ≡ Ok command
-    → OnTold old (λ v. IsRun (Ones command v) (does_read_only command.applet) (output_of command.applet command) judged v old now) → Runs words judged old now
-run_by_command words command judged old now is run = subst (λ (r : Result CommandLine ℕ). OnTold old (λ v. IsRun (IsOutcomeOf r (files_of v)) (reads_only r) (output_by r) judged v old now)) (sym is) run
+    → IfObservable old (λ v. IsRun (Ones command v) (does_read_only command.applet) (output_of command.applet command) judged v old now) → Runs words judged old now
+run_by_command words command judged old now is run = subst (λ (r : Result CommandLine ℕ). IfObservable old (λ v. IsRun (IsOutcomeOf r (files_of v)) (reads_only r) (output_by r) judged v old now)) (sym is) run
 
 pub proper_by_command : (words : List (List ℕ)) (command : CommandLine) (old : History) (P : Type 0) → command_of words ≡ Ok command
-    → OnTold old (λ v. RoomFor (Ones command v) (output_of command.applet command) (files_of v) → P) → OnTold old (λ v. RoomFor (IsOutcome words (files_of v)) (output words) (files_of v) → P)
-proper_by_command words command old P is proper = subst (λ (r : Result CommandLine ℕ). OnTold old (λ v. RoomFor (IsOutcomeOf r (files_of v)) (output_by r) (files_of v) → P)) (sym is) proper
+    → IfObservable old (λ v. RoomFor (Ones command v) (output_of command.applet command) (files_of v) → P) → IfObservable old (λ v. RoomFor (IsOutcome words (files_of v)) (output words) (files_of v) → P)
+proper_by_command words command old P is proper = subst (λ (r : Result CommandLine ℕ). IfObservable old (λ v. RoomFor (IsOutcomeOf r (files_of v)) (output_by r) (files_of v) → P)) (sym is) proper
 
 pub same_by_command : (words : List (List ℕ)) (command : CommandLine) (P : Type 0) → command_of words ≡ Ok command → (IsTrue (does_read_only command.applet) → P) → IsTrue (reads_only (command_of words)) → P
 same_by_command words command P is same = subst (λ (r : Result CommandLine ℕ). IsTrue (reads_only r) → P) (sym is) same
@@ -201,32 +201,32 @@ failed_run words e old = told_failed (λ v. IsOutcome words (files_of v)) (reads
 
 -- ---- the answer
 
-run_at : (old : History) (P Q : TreeState → Type 0) → ((v : TreeState) → P v → Q v) → OnTold old P → OnTold old Q
+run_at : (old : History) (P Q : TreeState → Type 0) → ((v : TreeState) → P v → Q v) → IfObservable old P → IfObservable old Q
 run_at [] P Q f p = tt
 run_at (v ∷ rest) P Q f p = f v p
 
 pub crash_told : (words : List (List ℕ)) (judged : Judged) (old now : History) → Runs words judged old now
-    → OnTold old (λ v. (X : List ℕ → Bool) (o : Outcome) → IsOrderly (RestsOn X) v → HidesScratchOf (output words) X → IsOutcome words (files_of v) o → Since (IsReplacing X o.files v) old now)
+    → IfObservable old (λ v. (X : List ℕ → Bool) (o : Outcome) → IsOrderly (RestsOn X) v → HidesScratchOf (output words) X → IsOutcome words (files_of v) o → Since (IsReplacing X o.files v) old now)
 crash_told words judged [] now run = tt
 crash_told words judged (v ∷ rest) now run = run.moments
 
 pub orderly_told : (words : List (List ℕ)) (judged : Judged) (old now : History) → Runs words judged old now
-    → OnTold old (λ v. (X : List ℕ → Bool) → IsOrderly (RestsOn X) v → HidesScratchOf (output words) X → HasNow now (IsOrderly (RestsOn X)))
+    → IfObservable old (λ v. (X : List ℕ → Bool) → IsOrderly (RestsOn X) v → HidesScratchOf (output words) X → HasNow now (IsOrderly (RestsOn X)))
 orderly_told words judged [] now run = tt
 orderly_told words judged (v ∷ rest) now run = run.orderly
 
 pub unwritten_told : (words : List (List ℕ)) (judged : Judged) (old now : History) → Runs words judged old now
-    → OnTold old (λ v. (o : Outcome) → IsOutcome words (files_of v) o → IsSome o.refusal → now ≡ old)
+    → IfObservable old (λ v. (o : Outcome) → IsOutcome words (files_of v) o → IsSome o.refusal → now ≡ old)
 unwritten_told words judged [] now run = tt
 unwritten_told words judged (v ∷ rest) now run = run.refused
 
-carried : (judged : Judged) (answer : Answer) (out err : Sinking) (P : Type 0) → IsShown judged answer out err → IsCarriedOut answer → OnOk judged P → P
+carried : (judged : Judged) (answer : Answer) (out err : SinkChange) (P : Type 0) → IsShown judged answer out err → IsCarriedOut answer → OnOk judged P → P
 carried (Ok verdict) answer out err P is_shown done p = p
 carried (Err Disk) answer out err P is_shown done p = absurd (subst IsCarriedOut is_shown.0 done)
 carried (Err NoMemory) answer out err P is_shown done p = absurd (subst IsCarriedOut is_shown.0 done)
 
-pub settled_told : (words : List (List ℕ)) (judged : Judged) (answer : Answer) (out err : Sinking) (old now : History) → IsShown judged answer out err → Runs words judged old now
-    → OnTold old (λ v. (X : List ℕ → Bool) (o : Outcome) → IsOrderly (RestsOn X) v → HidesScratchOf (output words) X → (IsTrue (reads_only (command_of words)) → IsSettled X (files_of v) v)
+pub settled_told : (words : List (List ℕ)) (judged : Judged) (answer : Answer) (out err : SinkChange) (old now : History) → IsShown judged answer out err → Runs words judged old now
+    → IfObservable old (λ v. (X : List ℕ → Bool) (o : Outcome) → IsOrderly (RestsOn X) v → HidesScratchOf (output words) X → (IsTrue (reads_only (command_of words)) → IsSettled X (files_of v) v)
     → IsOutcome words (files_of v) o → o.refusal ≡ None → IsCarriedOut answer → HasNow now (IsSettled X o.files))
 settled_told words judged answer out err [] now is_shown run = tt
 settled_told words judged answer out err (v ∷ rest) now is_shown run = λ X o orderly hides before one none done.
@@ -236,7 +236,7 @@ refused_answer : (refusal : Option Refusal) (r : Refusal) → Refused r ≡ answ
 refused_answer None r same = cc
 refused_answer (Some x) r same = refl
 
-pub undone_told : (judged : Judged) (answer : Answer) (out err : Sinking) (P : Type 0) → IsShown judged answer out err → IfOk judged (λ verdict. IsSome verdict.refusal → P) → (IsErrOf judged NoMemory → P) → IsLeftUndone answer → P
+pub undone_told : (judged : Judged) (answer : Answer) (out err : SinkChange) (P : Type 0) → IsShown judged answer out err → IfOk judged (λ verdict. IsSome verdict.refusal → P) → (IsErrOf judged NoMemory → P) → IsLeftUndone answer → P
 undone_told (Ok verdict) Done out err P is_shown refused memory undone = absurd undone
 undone_told (Ok verdict) (Refused r) out err P is_shown refused memory undone = refused (refused_answer verdict.refusal r (is_shown no_names).same)
 undone_told (Ok verdict) TreeFailed out err P is_shown refused memory undone = absurd undone
@@ -245,7 +245,7 @@ undone_told (Ok verdict) Memory out err P is_shown refused memory undone = absur
 undone_told (Err Disk) answer out err P is_shown refused memory undone = absurd (subst IsLeftUndone is_shown.0 undone)
 undone_told (Err NoMemory) answer out err P is_shown refused memory undone = memory refl
 
-pub usage_told : (words : List (List ℕ)) (old : History) (verdict : Verdict) → ((v : TreeState) → IsOutcome words (files_of v) (shown (files_of v) verdict)) → OnTold old (λ v. TellsOne (IsOutcome words (files_of v)) verdict)
+pub usage_told : (words : List (List ℕ)) (old : History) (verdict : Verdict) → ((v : TreeState) → IsOutcome words (files_of v) (shown (files_of v) verdict)) → IfObservable old (λ v. TellsOne (IsOutcome words (files_of v)) verdict)
 usage_told words [] verdict told = tt
 usage_told words (v ∷ rest) verdict told = (shown (files_of v) verdict, told v, refl)
 
@@ -254,7 +254,7 @@ reads_one command applet same (inl is) = ap does_read_only (sym same ∙ is)
 reads_one command applet same (inr (inl is)) = ap does_read_only (sym same ∙ is)
 reads_one command applet same (inr (inr is)) = ap does_read_only (sym same ∙ is)
 
-pub look_proper : (command : CommandLine) (old : History) (P : Type 0) → OnTold old (λ v. P) → OnTold old (λ v. RoomFor (Ones command v) (output_of command.applet command) (files_of v) → P)
+pub look_proper : (command : CommandLine) (old : History) (P : Type 0) → IfObservable old (λ v. P) → IfObservable old (λ v. RoomFor (Ones command v) (output_of command.applet command) (files_of v) → P)
 look_proper command [] P proper = tt
 look_proper command (v ∷ rest) P proper = λ room. proper
 

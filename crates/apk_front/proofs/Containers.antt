@@ -3,7 +3,7 @@ use Rattle.std.proofs.Common.{◌≡◌, ℕ, Bool, true, false, List, [], ◌�
 use Rattle.std.specs.Prelude.{IfOk, IfErr, is_ok}
 use Rattle.std.specs.declared.alloc.Global.{Global}
 use Rattle.std.proofs.lemmas.Bool.{false≢true}
-use Rattle.base_core.specs.Calls.{OnTold}
+use Rattle.base_core.specs.Calls.{IfObservable}
 use Rattle.base_core.specs.Files.{Files, no_names}
 use Rattle.base_core.specs.Listed.{IsNamesOf}
 use Rattle.base_core.specs.Tree.{TreeState, files_of}
@@ -50,7 +50,7 @@ pub weaker : (container : Container) (Means Also : Result (List ℕ) MakeFault �
 weaker (Ok file) Means Also f m = f (Ok file.items) m
 weaker (Err why) Means Also f m = λ cut. f (Err why) (m cut)
 
-refusal_told : (why : MakeFault) (v : TreeState) (rest : History) (Means : TreeState → Result (List ℕ) MakeFault → Type 0) → OnRefusal why (λ made. OnTold (v ∷ rest) (λ w. Means w made)) → OnRefusal why (Means v)
+refusal_told : (why : MakeFault) (v : TreeState) (rest : History) (Means : TreeState → Result (List ℕ) MakeFault → Type 0) → OnRefusal why (λ made. IfObservable (v ∷ rest) (λ w. Means w made)) → OnRefusal why (Means v)
 refusal_told (Faults.FileMissing place) v rest Means h = h
 refusal_told (Faults.FileBad place cause) v rest Means h = h
 refusal_told (Faults.InfoBad place) v rest Means h = h
@@ -58,18 +58,18 @@ refusal_told (Faults.TooLarge bytes values) v rest Means h = h
 refusal_told Faults.Disk v rest Means h = tt
 refusal_told Faults.Memory v rest Means h = tt
 
-pub means_told : (container : Container) (old : History) (Means : TreeState → Result (List ℕ) MakeFault → Type 0) → IfOk container (λ file. OnTold old (λ v. Means v (Ok file.items)))
-    → IfErr container (λ why. OnRefusal why (λ made. OnTold old (λ v. Means v made))) → OnTold old (λ v. OnMade container (Means v))
+pub means_told : (container : Container) (old : History) (Means : TreeState → Result (List ℕ) MakeFault → Type 0) → IfOk container (λ file. IfObservable old (λ v. Means v (Ok file.items)))
+    → IfErr container (λ why. OnRefusal why (λ made. IfObservable old (λ v. Means v made))) → IfObservable old (λ v. OnMade container (Means v))
 means_told container [] Means ok err = tt
 means_told (Ok file) (v ∷ rest) Means ok err = ok
 means_told (Err why) (v ∷ rest) Means ok err = refusal_means why (Means v) (refusal_told why v rest Means err)
 
-on_told_map : (old : History) (P Q : TreeState → Type 0) → ((v : TreeState) → P v → Q v) → OnTold old P → OnTold old Q
+on_told_map : (old : History) (P Q : TreeState → Type 0) → ((v : TreeState) → P v → Q v) → IfObservable old P → IfObservable old Q
 on_told_map [] P Q f p = tt
 on_told_map (v ∷ rest) P Q f p = f v p
 
-pub package_told : (command : CommandLine) (container : Container) (old : History) → IfOk container (λ file. OnTold old (λ v. IsMadeIn command v (Ok file.items)))
-    → IfErr container (λ why. OnRefusal why (λ made. OnTold old (λ v. IsMadeIn command v made))) → OnTold old (λ v. OnMade container (IsPackage command (files_of v)))
+pub package_told : (command : CommandLine) (container : Container) (old : History) → IfOk container (λ file. IfObservable old (λ v. IsMadeIn command v (Ok file.items)))
+    → IfErr container (λ why. OnRefusal why (λ made. IfObservable old (λ v. IsMadeIn command v made))) → IfObservable old (λ v. OnMade container (IsPackage command (files_of v)))
 package_told command container old ok err =
     on_told_map old (λ v. OnMade container (IsMadeIn command v)) (λ v. OnMade container (IsPackage command (files_of v)))
     (λ v m. weaker container (IsMadeIn command v) (IsPackage command (files_of v)) (λ made. package_here command v made) m)
@@ -88,7 +88,7 @@ made_means (Err (Faults.TooLarge bytes values)) answer h = λ cut. h
 made_means (Err Faults.Disk) answer h = λ cut. cc
 made_means (Err Faults.Memory) answer h = λ cut. cc
 
-pub index_told : (command : CommandLine) (container : Container) (old : History) → OnTold old (λ v. IsMadeBy (λ (file : Vec ℕ Global). file.items) container (made_index command (told_reads v))) → OnTold old (λ v. OnMade container (IsIndex command (files_of v)))
+pub index_told : (command : CommandLine) (container : Container) (old : History) → IfObservable old (λ v. IsMadeBy (λ (file : Vec ℕ Global). file.items) container (made_index command (told_reads v))) → IfObservable old (λ v. OnMade container (IsIndex command (files_of v)))
 index_told command container old told =
     on_told_map old (λ v. IsMadeBy (λ (file : Vec ℕ Global). file.items) container (made_index command (told_reads v))) (λ v. OnMade container (IsIndex command (files_of v)))
     (λ v m. made_means container (made_index command (told_reads v)) m) told
@@ -128,7 +128,7 @@ refused_made output container why (Err e) is told report = tt
 -- what is made is refused
 pub refused_run : (output : Option (List ℕ)) (report : List ℕ) (container : Container) (why : MakeFault) (judged : Judged) (old now : History) → container ≡ Err why → now ≡ old
     → IfOk judged (λ verdict. (files : Files) (report : List ℕ) → Tells verdict (made files output report (Err why))) → IfOk judged (λ verdict. IsSome verdict.refusal)
-    → OnTold old (λ v. IsRun (λ o. o ≡ made (files_of v) output report (made_in container)) false output judged v old now)
+    → IfObservable old (λ v. IsRun (λ o. o ≡ made (files_of v) output report (made_in container)) false output judged v old now)
 refused_run output report container why (Ok verdict) old now is same told refused =
     told_idle (λ v o. o ≡ made (files_of v) output report (made_in container)) false output (Ok verdict) old now same (λ v o one none.
     let tells : Tells verdict (made (files_of v) output report (made_in container)) = subst (λ (c : Container). Tells verdict (made (files_of v) output report (made_in c))) (sym is) (told (files_of v) report) in
@@ -146,8 +146,8 @@ meant (Ok file) Means cut m = m
 meant (Err why) Means cut m = m cut
 
 module _ (Means : TreeState → Result (List ℕ) MakeFault → Type 0) (IsOne : Outcomes) (output : Option (List ℕ)) (report : List ℕ) (are : AreOutcomes Means IsOne output report) (container : Container) where
-  pub tells_one : (judged : Judged) (old : History) → OnTold old (λ v. OnMade container (Means v)) → IfOk judged (λ verdict. is_cut_off container ≡ false)
-      → IfOk judged (λ verdict. (files : Files) → Tells verdict (made files output report (made_in container))) → IfOk judged (λ verdict. OnTold old (λ v. TellsOne (IsOne v) verdict))
+  pub tells_one : (judged : Judged) (old : History) → IfObservable old (λ v. OnMade container (Means v)) → IfOk judged (λ verdict. is_cut_off container ≡ false)
+      → IfOk judged (λ verdict. (files : Files) → Tells verdict (made files output report (made_in container))) → IfOk judged (λ verdict. IfObservable old (λ v. TellsOne (IsOne v) verdict))
   tells_one (Err e) old told whole tells = tt
   tells_one (Ok verdict) [] told whole tells = tt
   tells_one (Ok verdict) (v ∷ rest) told whole tells =
@@ -160,24 +160,24 @@ module _ (Means : TreeState → Result (List ℕ) MakeFault → Type 0) (IsOne :
   runs_by (Ok verdict) v rest now true is told whole cut run = absurd (false≢true (sym whole ∙ is))
   runs_by (Err e) v rest now true is told whole cut run = run_idle (IsOne v) false output (Err e) v rest now (cut is) (λ o one none. tt)
 
-  pub runs : (judged : Judged) (old mid now : History) → mid ≡ old → OnTold old (λ v. OnMade container (Means v)) → IfOk judged (λ verdict. is_cut_off container ≡ false) → (is_cut_off container ≡ true → now ≡ mid)
-      → OnTold mid (λ v. IsRun (λ o. o ≡ made (files_of v) output report (made_in container)) false output judged v mid now) → OnTold old (λ v. IsRun (IsOne v) false output judged v old now)
+  pub runs : (judged : Judged) (old mid now : History) → mid ≡ old → IfObservable old (λ v. OnMade container (Means v)) → IfOk judged (λ verdict. is_cut_off container ≡ false) → (is_cut_off container ≡ true → now ≡ mid)
+      → IfObservable mid (λ v. IsRun (λ o. o ≡ made (files_of v) output report (made_in container)) false output judged v mid now) → IfObservable old (λ v. IsRun (IsOne v) false output judged v old now)
   runs judged [] mid now same told whole cut run = tt
   runs judged (v ∷ rest) mid now same told whole cut run =
       runs_by judged v rest now (is_cut_off container) refl told whole (λ is. cut is ∙ same)
-      (subst (λ (h : History). OnTold h (λ v. IsRun (λ o. o ≡ made (files_of v) output report (made_in container)) false output judged v h now)) same run)
+      (subst (λ (h : History). IfObservable h (λ v. IsRun (λ o. o ≡ made (files_of v) output report (made_in container)) false output judged v h now)) same run)
 
   room_by : (c : Container) (v : TreeState) → OnMade c (Means v) → ((o : Outcome) → IsOne v o → o.refusal ≡ None → HasRoomFor output (files_of v))
       → IfOk c (λ file. (made (files_of v) output report (Ok file.items)).refusal ≡ None → HasRoomFor output (files_of v))
   room_by (Ok file) v told room = room (made (files_of v) output report (Ok file.items)) (are.one v (Ok file.items) told)
   room_by (Err why) v told room = tt
 
-  pub proper_by : (old mid : History) (first second last : ℕ) → mid ≡ old → OnTold old (λ v. OnMade container (Means v)) → OnTold old (λ v. second ≡ first)
-      → OnTold mid (λ v. IfOk container (λ file. (made (files_of v) output report (Ok file.items)).refusal ≡ None → HasRoomFor output (files_of v)) → last ≡ second)
-      → OnTold old (λ v. ((o : Outcome) → IsOne v o → o.refusal ≡ None → HasRoomFor output (files_of v)) → last ≡ first)
+  pub proper_by : (old mid : History) (first second last : ℕ) → mid ≡ old → IfObservable old (λ v. OnMade container (Means v)) → IfObservable old (λ v. second ≡ first)
+      → IfObservable mid (λ v. IfOk container (λ file. (made (files_of v) output report (Ok file.items)).refusal ≡ None → HasRoomFor output (files_of v)) → last ≡ second)
+      → IfObservable old (λ v. ((o : Outcome) → IsOne v o → o.refusal ≡ None → HasRoomFor output (files_of v)) → last ≡ first)
   proper_by [] mid first second last same told before after = tt
   proper_by (v ∷ rest) mid first second last same told before after = λ room.
-      subst (λ (h : History). OnTold h (λ v. IfOk container (λ file. (made (files_of v) output report (Ok file.items)).refusal ≡ None → HasRoomFor output (files_of v)) → last ≡ second)) same after
+      subst (λ (h : History). IfObservable h (λ v. IfOk container (λ file. (made (files_of v) output report (Ok file.items)).refusal ≡ None → HasRoomFor output (files_of v)) → last ≡ second)) same after
       (room_by container v told room) ∙ before
 
 -- ---- of a package

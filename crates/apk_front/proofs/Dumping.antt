@@ -5,7 +5,7 @@ use Rattle.std.specs.Prelude.{◌&&◌, nat_lt}
 use Rattle.std.proofs.lemmas.Bool.{and_parts, eqb-true}
 use Rattle.std.proofs.lemmas.Option.{none-some, same_Some}
 use Rattle.base_core.specs.declared.cause.Cause.{Cause}
-use Rattle.base_core.specs.Calls.{OnTold}
+use Rattle.base_core.specs.Calls.{IfObservable}
 use Rattle.base_core.specs.Files.{Files, no_names}
 use Rattle.base_core.specs.Tree.{TreeState, files_of}
 use Rattle.base_core.specs.declared.tree.TreeFault.{TreeFault}
@@ -95,8 +95,8 @@ one_of (p ∷ []) o n x = ap (λ q. q ∷ []) (same_Some p o x)
 one_of (p ∷ (q ∷ os)) o n x = absurd (let two : suc (suc (length os)) ≡ 1 = n in omega arith)
 
 pub dump_one : (old : List TreeState) (os : List Operand) (o : Operand) (verdict : Verdict) → length os ≡ 1 → slice_get os 0 ≡ Some o
-    → OnTold old (λ v. shown (files_of v) verdict ≡ dump_found (files_of v) o.place (files_of v (without_dot o.text)))
-    → OnTold old (λ v. shown (files_of v) verdict ≡ adbdump (files_of v) os)
+    → IfObservable old (λ v. shown (files_of v) verdict ≡ dump_found (files_of v) o.place (files_of v (without_dot o.text)))
+    → IfObservable old (λ v. shown (files_of v) verdict ≡ adbdump (files_of v) os)
 dump_one [] os o verdict n x told = tt
 dump_one (v ∷ old) os o verdict n x told = told ∙ ap (adbdump (files_of v)) (sym (one_of os o n x))
 
@@ -105,8 +105,8 @@ pub dump_read : (os : List Operand) (o : Operand) (verdict : Verdict) → length
     → (read : ℕ → List ℕ → Option (List ℕ)) × (shown no_names verdict ≡ adbdump_by no_names (read 0) os)
 dump_read os o verdict n x (found, told) = (λ k name. found, told ∙ ap (adbdump_by no_names (λ name. found)) (sym (one_of os o n x)))
 
-pub found_text : (old : List TreeState) (place : ℕ) (text name : List ℕ) (verdict : Verdict) (bytes : Option (List ℕ)) → ((files : Files) → shown files verdict ≡ dump_found files place bytes) → OnTold old (λ v. bytes ≡ files_of v name) → name ≡ without_dot text
-    → OnTold old (λ v. shown (files_of v) verdict ≡ dump_found (files_of v) place (files_of v (without_dot text)))
+pub found_text : (old : List TreeState) (place : ℕ) (text name : List ℕ) (verdict : Verdict) (bytes : Option (List ℕ)) → ((files : Files) → shown files verdict ≡ dump_found files place bytes) → IfObservable old (λ v. bytes ≡ files_of v name) → name ≡ without_dot text
+    → IfObservable old (λ v. shown (files_of v) verdict ≡ dump_found (files_of v) place (files_of v (without_dot text)))
 found_text [] place text name verdict bytes told found is = tt
 found_text (v ∷ old) place text name verdict bytes told found is = told (files_of v) ∙ ap (dump_found (files_of v) place) (found ∙ ap (files_of v) is)
 

@@ -1,9 +1,9 @@
 -- What was judged and shown is the answer.
 use Rattle.std.proofs.Common.{◌≡◌, ◌⊎◌, inl, inr, ℕ, List, [], ◌∷◌, Option, None, true, Result, Ok, Err, OnOk, IfOk, IsErrOf, IsTrue, MatchResult, refl, sym, ap, subst, ◌∙◌}
-use Rattle.base_core.specs.Calls.{OnTold, HasNow}
+use Rattle.base_core.specs.Calls.{IfObservable, HasNow}
 use Rattle.base_core.specs.Faults.{Counts, HasCause, IsNoFault}
 use Rattle.base_core.specs.Files.{Files, no_names}
-use Rattle.base_core.specs.Sink.{Sinking, Failed, Gets}
+use Rattle.base_core.specs.Sink.{SinkChange, SinkFailed, Gets}
 use Rattle.base_core.specs.Tree.{TreeState, files_of}
 use Rattle.base_core.specs.declared.tree.TreeFault.{TreeFault}
 use Rattle.base_core.specs.declared.tree.TreeFault.TheVariants.{Disk, Memory as NoMemory}
@@ -75,7 +75,7 @@ usage_verdict words p q fault verdict same is of is_shown files =
     let read : command_of words ≡ Err q = subst (λ (f : WordsFault). IsWordsFault f (command_of words)) is of in
     subst (IsOutcome words files) (sym (is_shown files ∙ ap (λ (n : ℕ). refused files (Usage n)) same)) (usage_over words q files read)
 
-pub told_all : (h : List TreeState) (P : TreeState → Type 0) → ((v : TreeState) → P v) → OnTold h P
+pub told_all : (h : List TreeState) (P : TreeState → Type 0) → ((v : TreeState) → P v) → IfObservable h P
 told_all [] P all = tt
 told_all (v ∷ h) P all = all v
 
@@ -84,23 +84,23 @@ told_all (v ∷ h) P all = all v
 abbrev pub Judged : Type 0
 Judged = Result Verdict TreeFault
 
-told_one : (IsOne Leaves : Outcome → Type 0) (tree_failed : Type 0) (o : Outcome) (answer : Answer) (out err : Sinking) → IsOne o → Leaves o → IsTold o answer out err → IsAnswerOf IsOne Leaves tree_failed answer out err
+told_one : (IsOne Leaves : Outcome → Type 0) (tree_failed : Type 0) (o : Outcome) (answer : Answer) (out err : SinkChange) → IsOne o → Leaves o → IsTold o answer out err → IsAnswerOf IsOne Leaves tree_failed answer out err
 told_one IsOne Leaves tree_failed o Good out err is leaves told = (o, is, told, leaves)
 told_one IsOne Leaves tree_failed o (Refused refusal) out err is leaves told = (o, is, told, leaves)
 told_one IsOne Leaves tree_failed o OutFault out err is leaves told = (o, is, told, leaves)
 told_one IsOne Leaves tree_failed o TreeFailed out err is leaves told = absurd told
 told_one IsOne Leaves tree_failed o Memory out err is leaves told = absurd told
 
-told_answer : (words : List (List ℕ)) (files : Files) (Leaves : Outcome → Type 0) (tree_failed : Type 0) (o : Outcome) (answer : Answer) (out err : Sinking) → IsOutcome words files o → Leaves o → IsTold o answer out err → IsAnswer words files Leaves tree_failed answer out err
+told_answer : (words : List (List ℕ)) (files : Files) (Leaves : Outcome → Type 0) (tree_failed : Type 0) (o : Outcome) (answer : Answer) (out err : SinkChange) → IsOutcome words files o → Leaves o → IsTold o answer out err → IsAnswer words files Leaves tree_failed answer out err
 told_answer words files Leaves tree_failed o answer out err is leaves told = told_one (IsOutcome words files) Leaves tree_failed o answer out err is leaves told
 
 -- what stands for one outcome
-tells_answer : (IsOne Leaves : Outcome → Type 0) (tree_failed : Type 0) (verdict : Verdict) (answer : Answer) (out err : Sinking) → TellsOne IsOne verdict → ((o : Outcome) → IsOne o → Leaves o)
+tells_answer : (IsOne Leaves : Outcome → Type 0) (tree_failed : Type 0) (verdict : Verdict) (answer : Answer) (out err : SinkChange) → TellsOne IsOne verdict → ((o : Outcome) → IsOne o → Leaves o)
     → ((files : Files) → IsTold (shown files verdict) answer out err) → IsAnswerOf IsOne Leaves tree_failed answer out err
 tells_answer IsOne Leaves tree_failed verdict answer out err (o, is, tells) leaves is_shown =
     told_one IsOne Leaves tree_failed o answer out err is (leaves o is) (subst (λ (x : Outcome). IsTold x answer out err) tells (is_shown o.files))
 
-judged_answer : (IsOne Leaves : Outcome → Type 0) (tree_failed : Type 0) (judged : Judged) (answer : Answer) (out err : Sinking)
+judged_answer : (IsOne Leaves : Outcome → Type 0) (tree_failed : Type 0) (judged : Judged) (answer : Answer) (out err : SinkChange)
     → IfOk judged (TellsOne IsOne) → ((o : Outcome) → IsOne o → OnOk judged (Leaves o)) → (IsErrOf judged Disk → tree_failed) → IsShown judged answer out err
     → IsAnswerOf IsOne Leaves tree_failed answer out err
 judged_answer IsOne Leaves tree_failed (Ok verdict) answer out err found leaves disk is_shown = tells_answer IsOne Leaves tree_failed verdict answer out err found leaves is_shown
@@ -109,7 +109,7 @@ judged_answer IsOne Leaves tree_failed (Err Disk) answer out err found leaves di
 judged_answer IsOne Leaves tree_failed (Err NoMemory) answer out err found leaves disk is_shown =
     subst (λ (a : Answer). IsAnswerOf IsOne Leaves tree_failed a out err) (sym is_shown.0) is_shown.1
 
-found_at : (v : TreeState) (rest : List TreeState) (judged : Judged) (P : Verdict → TreeState → Type 0) → IfOk judged (λ verdict. OnTold (v ∷ rest) (P verdict)) → IfOk judged (λ verdict. P verdict v)
+found_at : (v : TreeState) (rest : List TreeState) (judged : Judged) (P : Verdict → TreeState → Type 0) → IfOk judged (λ verdict. IfObservable (v ∷ rest) (P verdict)) → IfOk judged (λ verdict. P verdict v)
 found_at v rest (Ok verdict) P found = found
 found_at v rest (Err e) P found = found
 
@@ -119,11 +119,11 @@ leaves_if (Err e) P Q f = tt
 
 -- the runs of a command line
 abbrev pub Runs : List (List ℕ) → Judged → List TreeState → List TreeState → Type 0
-Runs words judged old now = OnTold old (λ v. IsRun (IsOutcome words (files_of v)) (reads_only (command_of words)) (output words) judged v old now)
+Runs words judged old now = IfObservable old (λ v. IsRun (IsOutcome words (files_of v)) (reads_only (command_of words)) (output words) judged v old now)
 
-pub answered : (words : List (List ℕ)) (old now : List TreeState) (tree_failed : Type 0) (judged : Judged) (answer : Answer) (out err : Sinking)
-    → IfOk judged (λ verdict. OnTold old (λ v. TellsOne (IsOutcome words (files_of v)) verdict)) → Runs words judged old now → (IsErrOf judged Disk → tree_failed) → IsShown judged answer out err
-    → OnTold old (λ v. IsAnswer words (files_of v) (LeavesFiles now) tree_failed answer out err)
+pub answered : (words : List (List ℕ)) (old now : List TreeState) (tree_failed : Type 0) (judged : Judged) (answer : Answer) (out err : SinkChange)
+    → IfOk judged (λ verdict. IfObservable old (λ v. TellsOne (IsOutcome words (files_of v)) verdict)) → Runs words judged old now → (IsErrOf judged Disk → tree_failed) → IsShown judged answer out err
+    → IfObservable old (λ v. IsAnswer words (files_of v) (LeavesFiles now) tree_failed answer out err)
 answered words [] now tree_failed judged answer out err found run disk is_shown = tt
 answered words (v ∷ rest) now tree_failed judged answer out err found run disk is_shown =
     judged_answer (IsOutcome words (files_of v)) (LeavesFiles now) tree_failed judged answer out err (found_at v rest judged (λ verdict w. TellsOne (IsOutcome words (files_of w)) verdict) found)
@@ -131,11 +131,11 @@ answered words (v ∷ rest) now tree_failed judged answer out err found run disk
 
 -- ---- no count rose
 
-not_failed : (outcome : Outcome) (before after : Counts) (out err : Sinking) → IsFaultless before after out err → FailedAt out outcome.out ⊎ FailedAt err outcome.err → ⊥
+not_failed : (outcome : Outcome) (before after : Counts) (out err : SinkChange) → IsFaultless before after out err → FailedAt out outcome.out ⊎ FailedAt err outcome.err → ⊥
 not_failed outcome before after out err faultless (inl failed) = faultless.out_sink failed.failed.fault
 not_failed outcome before after out err faultless (inr failed) = faultless.err_sink failed.failed.fault
 
-complete_by : (words : List (List ℕ)) (files : Files) (Leaves : Outcome → Type 0) (before after : Counts) (answer : Answer) (out err : Sinking)
+complete_by : (words : List (List ℕ)) (files : Files) (Leaves : Outcome → Type 0) (before after : Counts) (answer : Answer) (out err : SinkChange)
     → IsAnswer words files Leaves (HasCause before after) answer out err → IsFaultless before after out err → IsComplete words files answer
 complete_by words files Leaves before after Good out err (o, is, stated, leaves) faultless = inr (o, is, stated.same)
 complete_by words files Leaves before after (Refused refusal) out err (o, is, stated, leaves) faultless = inr (o, is, stated.same)
@@ -143,15 +143,15 @@ complete_by words files Leaves before after OutFault out err (o, is, fault, leav
 complete_by words files Leaves before after TreeFailed out err (cause, fault) faultless = absurd (faultless.tree cause.fault)
 complete_by words files Leaves before after Memory out err fault faultless = inl refl
 
-pub completed : (words : List (List ℕ)) (old now : List TreeState) (before after : Counts) (answer : Answer) (out err : Sinking)
-    → OnTold old (λ v. IsAnswer words (files_of v) (LeavesFiles now) (HasCause before after) answer out err)
-    → OnTold old (λ v. IsFaultless before after out err → IsComplete words (files_of v) answer)
+pub completed : (words : List (List ℕ)) (old now : List TreeState) (before after : Counts) (answer : Answer) (out err : SinkChange)
+    → IfObservable old (λ v. IsAnswer words (files_of v) (LeavesFiles now) (HasCause before after) answer out err)
+    → IfObservable old (λ v. IsFaultless before after out err → IsComplete words (files_of v) answer)
 completed words [] now before after answer out err answered = tt
 completed words (v ∷ rest) now before after answer out err answered = λ faultless. complete_by words (files_of v) (LeavesFiles now) before after answer out err answered faultless
 
 -- ---- for every tree
 
-pub answered_by_words : (words : List (List ℕ)) (judged : Judged) (answer : Answer) (out err : Sinking)
+pub answered_by_words : (words : List (List ℕ)) (judged : Judged) (answer : Answer) (out err : SinkChange)
     → (IsTrue (rests_on_words (command_of words)) → MatchResult judged (λ verdict. (files : Files) → IsOutcome words files (shown files verdict)) (λ fault. fault ≡ NoMemory)) → IsShown judged answer out err
     → IsTrue (rests_on_words (command_of words)) → IsAnswer words no_names LeavesAny ⊥ answer out err
 answered_by_words words (Ok verdict) answer out err by_words is_shown rests =
@@ -181,7 +181,7 @@ ran_version command applet flags operands verdict same is flags_same operands_sa
           ∙ sym (ap (λ (a : Applet). run_by a command [] nothing) (sym same ∙ is)),
     )
 
-pub answered_by_reads : (words : List (List ℕ)) (tree_failed : Type 0) (judged : Judged) (answer : Answer) (out err : Sinking)
+pub answered_by_reads : (words : List (List ℕ)) (tree_failed : Type 0) (judged : Judged) (answer : Answer) (out err : SinkChange)
     → IfOk judged (TellsOne (IsFoundOutcome words)) → (IsErrOf judged Disk → tree_failed) → IsShown judged answer out err
     → IsAnswerOf (IsFoundOutcome words) LeavesAny tree_failed answer out err
 answered_by_reads words tree_failed judged answer out err found disk is_shown =
@@ -193,19 +193,19 @@ answered_by_reads words tree_failed judged answer out err found disk is_shown =
 
 -- ---- causes
 
-which_failed : (o : Outcome) (out err : Sinking) → (FailedAt out o.out × Gets err [] × DidNotFail err) ⊎ (FailedAt err o.err × Gets out o.out × DidNotFail out)
-    → (Failed out × DidNotFail err) ⊎ (Failed err × DidNotFail out)
+which_failed : (o : Outcome) (out err : SinkChange) → (FailedAt out o.out × Gets err [] × DidNotFail err) ⊎ (FailedAt err o.err × Gets out o.out × DidNotFail out)
+    → (SinkFailed out × DidNotFail err) ⊎ (SinkFailed err × DidNotFail out)
 which_failed o out err (inl (failed, gets, kept)) = inl (failed.failed, kept)
 which_failed o out err (inr (failed, gets, kept)) = inr (failed.failed, kept)
 
-told_causes : (before after : Counts) (o : Outcome) (answer : Answer) (out err : Sinking) → IsNoFault before after → IsTold o answer out err → HasCauses answer before after out err
+told_causes : (before after : Counts) (o : Outcome) (answer : Answer) (out err : SinkChange) → IsNoFault before after → IsTold o answer out err → HasCauses answer before after out err
 told_causes before after o Good out err kept told = (kept, told.out_kept, told.err_kept)
 told_causes before after o (Refused refusal) out err kept told = (kept, told.out_kept, told.err_kept)
 told_causes before after o OutFault out err kept told = (kept, which_failed o out err told.which)
 told_causes before after o TreeFailed out err kept told = absurd told
 told_causes before after o Memory out err kept told = absurd told
 
-pub caused : (before after : Counts) (judged : Judged) (answer : Answer) (out err : Sinking) → OnOk judged (IsNoFault before after) → (IsErrOf judged Disk → HasCause before after)
+pub caused : (before after : Counts) (judged : Judged) (answer : Answer) (out err : SinkChange) → OnOk judged (IsNoFault before after) → (IsErrOf judged Disk → HasCause before after)
     → (IsErrOf judged NoMemory → IsNoFault before after) → IsShown judged answer out err → HasCauses answer before after out err
 caused before after (Ok verdict) answer out err kept disk memory is_shown = told_causes before after (shown no_names verdict) answer out err kept (is_shown no_names)
 caused before after (Err Disk) answer out err kept disk memory is_shown = subst (λ (a : Answer). HasCauses a before after out err) (sym is_shown.0) (disk refl, is_shown.1)

@@ -1,7 +1,7 @@
 -- Want of memory behind words that name an applet.
 use Rattle.std.proofs.Common.{◌≡◌, ℕ, List, Result, Ok, Err, IsErrOf, IsTrue, refl}
 use Rattle.base_core.specs.Files.{no_names}
-use Rattle.base_core.specs.Sink.{Sinking}
+use Rattle.base_core.specs.Sink.{SinkChange}
 use Rattle.base_core.specs.declared.tree.TreeFault.{TreeFault}
 use Rattle.base_core.specs.declared.tree.TreeFault.TheVariants.{Disk, Memory as NoMemory}
 use Rattle.words_core.specs.Command.{CommandLine}
@@ -24,7 +24,7 @@ command_named words command h =
     ] h
 
 -- want of memory is answered where the judge found none
-pub memory_told : (judged : Result Verdict TreeFault) (answer : Answer) (out err : Sinking) (P : Type 0) → IsShown judged answer out err → (IsErrOf judged NoMemory → P) → answer ≡ Memory → P
+pub memory_told : (judged : Result Verdict TreeFault) (answer : Answer) (out err : SinkChange) (P : Type 0) → IsShown judged answer out err → (IsErrOf judged NoMemory → P) → answer ≡ Memory → P
 memory_told (Ok verdict) Memory out err P is_shown memory h = absurd (is_shown no_names)
 memory_told (Ok verdict) Done out err P is_shown memory h = cc
 memory_told (Ok verdict) (Refused r) out err P is_shown memory h = cc

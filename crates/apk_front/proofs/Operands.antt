@@ -2,7 +2,7 @@
 use Rattle.std.proofs.Common.{◌≡◌, ℕ, zero, suc, ◌+◌, ◌<◌, ◌==◌, Bool, true, false, ◌&&◌, if◌then◌else◌, List, [], ◌∷◌, ◌++◌, length, drop, codes, Option, Some, None, is_some, IfSome, refl, sym, ◌∙◌, ap, subst, arith, append_assoc}
 use Rattle.std.proofs.lemmas.Bool.{eq-eqb, ne_eqb}
 use Rattle.std.specs.List.{slice_get}
-use Rattle.base_core.specs.Calls.{OnTold}
+use Rattle.base_core.specs.Calls.{IfObservable}
 use Rattle.base_core.specs.Files.{Files, no_names}
 use Rattle.base_core.specs.Tree.{TreeState, files_of}
 use Rattle.report_core.specs.declared.refusal.Refusal.{Refusal}
@@ -62,37 +62,37 @@ tested : (files : Files) (os : List Operand) (i : ℕ) (o : Operand) (r : Option
 tested files os i o r at is = rw (left_at os i o at) (rw is refl)
 
 pub found_here : (old now : List TreeState) (os : List Operand) (i : ℕ) (o : Operand) (r : Option Refusal) → now ≡ old → slice_get os i ≡ Some o
-    → OnTold old (λ v. verify_refusal (files_of v) os ≡ verify_refusal (files_of v) (drop i os))
-    → OnTold now (λ v. r ≡ file_refusal o.place (files_of v (without_dot o.text))) → true ≡ is_some r
-    → OnTold old (λ v. r ≡ verify_refusal (files_of v) os)
+    → IfObservable old (λ v. verify_refusal (files_of v) os ≡ verify_refusal (files_of v) (drop i os))
+    → IfObservable now (λ v. r ≡ file_refusal o.place (files_of v (without_dot o.text))) → true ≡ is_some r
+    → IfObservable old (λ v. r ≡ verify_refusal (files_of v) os)
 found_here [] now os i o r same at so_far found some = tt
 found_here (v ∷ old) now os i o r same at so_far found some =
-    let k : r ≡ file_refusal o.place (files_of v (without_dot o.text)) = subst (λ (h : List TreeState). OnTold h (λ w. r ≡ file_refusal o.place (files_of w (without_dot o.text)))) same found in
+    let k : r ≡ file_refusal o.place (files_of v (without_dot o.text)) = subst (λ (h : List TreeState). IfObservable h (λ w. r ≡ file_refusal o.place (files_of w (without_dot o.text)))) same found in
     sym (so_far ∙ tested (files_of v) os i o r at k ∙ or_here r (verify_refusal (files_of v) (drop (i + 1) os)) some)
 
 pub found_more : (old now : List TreeState) (os : List Operand) (i : ℕ) (o : Operand) (r : Option Refusal) → now ≡ old → slice_get os i ≡ Some o
-    → OnTold old (λ v. verify_refusal (files_of v) os ≡ verify_refusal (files_of v) (drop i os))
-    → OnTold now (λ v. r ≡ file_refusal o.place (files_of v (without_dot o.text))) → false ≡ is_some r
-    → OnTold old (λ v. verify_refusal (files_of v) os ≡ verify_refusal (files_of v) (drop (i + 1) os))
+    → IfObservable old (λ v. verify_refusal (files_of v) os ≡ verify_refusal (files_of v) (drop i os))
+    → IfObservable now (λ v. r ≡ file_refusal o.place (files_of v (without_dot o.text))) → false ≡ is_some r
+    → IfObservable old (λ v. verify_refusal (files_of v) os ≡ verify_refusal (files_of v) (drop (i + 1) os))
 found_more [] now os i o r same at so_far found none = tt
 found_more (v ∷ old) now os i o r same at so_far found none =
-    let k : r ≡ file_refusal o.place (files_of v (without_dot o.text)) = subst (λ (h : List TreeState). OnTold h (λ w. r ≡ file_refusal o.place (files_of w (without_dot o.text)))) same found in
+    let k : r ≡ file_refusal o.place (files_of v (without_dot o.text)) = subst (λ (h : List TreeState). IfObservable h (λ w. r ≡ file_refusal o.place (files_of w (without_dot o.text)))) same found in
     so_far ∙ tested (files_of v) os i o r at k ∙ or_next r (verify_refusal (files_of v) (drop (i + 1) os)) none
 
-pub told_same : {X : Type 0} (old : List TreeState) (f : TreeState → X) → OnTold old (λ v. f v ≡ f v)
+pub told_same : {X : Type 0} (old : List TreeState) (f : TreeState → X) → IfObservable old (λ v. f v ≡ f v)
 told_same [] f = tt
 told_same (v ∷ old) f = refl
 
-pub proper_none : (old : List TreeState) (a : ℕ) → OnTold old (λ v. a ≡ a)
+pub proper_none : (old : List TreeState) (a : ℕ) → IfObservable old (λ v. a ≡ a)
 proper_none old a = told_same old (λ v. a)
 
 -- what is true of the newest state before and after a call that leaves it
-pub proper_more : (old now : List TreeState) (a b c : ℕ) → now ≡ old → OnTold old (λ v. b ≡ a) → OnTold now (λ v. c ≡ b) → OnTold old (λ v. c ≡ a)
+pub proper_more : (old now : List TreeState) (a b c : ℕ) → now ≡ old → IfObservable old (λ v. b ≡ a) → IfObservable now (λ v. c ≡ b) → IfObservable old (λ v. c ≡ a)
 proper_more [] now a b c same h k = tt
-proper_more (v ∷ old) now a b c same h k = subst (λ (t : List TreeState). OnTold t (λ w. c ≡ b)) same k ∙ h
+proper_more (v ∷ old) now a b c same h k = subst (λ (t : List TreeState). IfObservable t (λ w. c ≡ b)) same k ∙ h
 
-pub verify_told : (old : List TreeState) (os : List Operand) (verdict : Verdict) (r : Option Refusal) → OnTold old (λ v. r ≡ verify_refusal (files_of v) os)
-    → ((files : Files) → shown files verdict ≡ unless files r (verified_lines os)) → OnTold old (λ v. shown (files_of v) verdict ≡ verify (files_of v) os)
+pub verify_told : (old : List TreeState) (os : List Operand) (verdict : Verdict) (r : Option Refusal) → IfObservable old (λ v. r ≡ verify_refusal (files_of v) os)
+    → ((files : Files) → shown files verdict ≡ unless files r (verified_lines os)) → IfObservable old (λ v. shown (files_of v) verdict ≡ verify (files_of v) os)
 verify_told [] os verdict r found told = tt
 verify_told (v ∷ old) os verdict r found told = told (files_of v) ∙ ap (λ (x : Option Refusal). unless (files_of v) x (verified_lines os)) found
 
@@ -187,7 +187,7 @@ pub verify_read : (os : List Operand) (verdict : Verdict) (r : Option Refusal) �
 verify_read os verdict r (read, is) told = (read, told no_names ∙ ap (λ (x : Option Refusal). unless no_names x (verified_lines os)) is)
 
 pub found_file : (old : List TreeState) (place : ℕ) (text file : List ℕ) (found : Option (List ℕ)) (r : Option Refusal) → r ≡ file_refusal place found
-    → OnTold old (λ v. found ≡ files_of v file) → file ≡ without_dot text → OnTold old (λ v. r ≡ file_refusal place (files_of v (without_dot text)))
+    → IfObservable old (λ v. found ≡ files_of v file) → file ≡ without_dot text → IfObservable old (λ v. r ≡ file_refusal place (files_of v (without_dot text)))
 found_file [] place text file found r is told same = tt
 found_file (v ∷ old) place text file found r is told same = is ∙ ap (file_refusal place) (told ∙ ap (files_of v) same)
 

@@ -3,14 +3,14 @@ use Rattle.std.proofs.Common.{◌≡◌, ℕ, Bool, true, false, List, [], ◌�
 use Rattle.std.specs.Prelude.{if◌then◌else◌, OnOk}
 use Rattle.std.proofs.lemmas.List.Elements.{All-nil}
 use Rattle.std.proofs.lemmas.Bool.{false≢true}
-use Rattle.base_core.specs.Calls.{HasNow, OnTold}
+use Rattle.base_core.specs.Calls.{HasNow, IfObservable}
 use Rattle.base_core.specs.Crash.{IsOrderly, Since}
 use Rattle.base_core.specs.Files.{Files}
 use Rattle.base_core.specs.Tree.{TreeState, files_of}
 use Rattle.base_core.specs.declared.tree.TreeFault.{TreeFault}
 use Rattle.adb_schema.specs.Reserved.{is_reserved}
 use Rattle.journal_core.specs.Recovery.{IsSettled, RestsOn, intent_name}
-use Rattle.journal_core.specs.Replacing.{HasRoom, HidesScratch, IsReplacing, replaced}
+use Rattle.journal_core.specs.Replacing.{HasRoom, HidesScratch, IsReplacing, replaced_files}
 use Rattle.outcome.specs.Make.{made}
 use Rattle.outcome.specs.Told.{Outcome, refused, reported}
 use Rattle.report_core.specs.declared.refusal.Refusal.TheVariants.{Reserved}
@@ -50,16 +50,16 @@ run_idle IsOne reads output judged v rest now same idle = record {
   refused = λ o one some. same;
 }
 
-pub told_idle : (IsOne : TreeState → Outcome → Type 0) (reads : Bool) (output : Option (List ℕ)) (judged : Judged) (old now : History) → now ≡ old → ((v : TreeState) → IsIdle (IsOne v) reads judged v) → OnTold old (λ v. IsRun (IsOne v) reads output judged v old now)
+pub told_idle : (IsOne : TreeState → Outcome → Type 0) (reads : Bool) (output : Option (List ℕ)) (judged : Judged) (old now : History) → now ≡ old → ((v : TreeState) → IsIdle (IsOne v) reads judged v) → IfObservable old (λ v. IsRun (IsOne v) reads output judged v old now)
 told_idle IsOne reads output judged [] now same idle = tt
 told_idle IsOne reads output judged (v ∷ rest) now same idle = run_idle (IsOne v) reads output judged v rest now same (idle v)
 
 -- it failed
-pub told_failed : (IsOne : TreeState → Outcome → Type 0) (reads : Bool) (output : Option (List ℕ)) (judged : Judged) (e : TreeFault) (old now : History) → judged ≡ Err e → now ≡ old → OnTold old (λ v. IsRun (IsOne v) reads output judged v old now)
+pub told_failed : (IsOne : TreeState → Outcome → Type 0) (reads : Bool) (output : Option (List ℕ)) (judged : Judged) (e : TreeFault) (old now : History) → judged ≡ Err e → now ≡ old → IfObservable old (λ v. IsRun (IsOne v) reads output judged v old now)
 told_failed IsOne reads output judged e old now is same = told_idle IsOne reads output judged old now same (λ v o one none. err_ok _ judged e is)
 
 -- it was refused
-pub told_refused : (IsOne : TreeState → Outcome → Type 0) (reads : Bool) (output : Option (List ℕ)) (judged : Judged) (old now : History) → now ≡ old → ((v : TreeState) (o : Outcome) → IsOne v o → IsSome o.refusal) → OnTold old (λ v. IsRun (IsOne v) reads output judged v old now)
+pub told_refused : (IsOne : TreeState → Outcome → Type 0) (reads : Bool) (output : Option (List ℕ)) (judged : Judged) (old now : History) → now ≡ old → ((v : TreeState) (o : Outcome) → IsOne v o → IsSome o.refusal) → IfObservable old (λ v. IsRun (IsOne v) reads output judged v old now)
 told_refused IsOne reads output judged old now same all = told_idle IsOne reads output judged old now same (λ v o one none. absurd (none_is_some o.refusal none (all v o one)))
 
 -- ---- a file was written
@@ -71,15 +71,15 @@ IsMade output report file v o = o ≡ made (files_of v) output report (Ok file)
 reserved_is : (output : Option (List ℕ)) (report file name : List ℕ) (files : Files) → output ≡ Some name → is_reserved name ≡ true → made files output report (Ok file) ≡ refused files (Reserved name)
 reserved_is output report file name files is reserved =
     ap (λ (out : Option (List ℕ)). made files out report (Ok file)) is
-    ∙ ap (λ b. if b then refused files (Reserved name) else reported (replaced name file files) report) reserved
+    ∙ ap (λ b. if b then refused files (Reserved name) else reported (replaced_files name file files) report) reserved
 
-free_is : (output : Option (List ℕ)) (report file name : List ℕ) (files : Files) → output ≡ Some name → is_reserved name ≡ false → made files output report (Ok file) ≡ reported (replaced name file files) report
+free_is : (output : Option (List ℕ)) (report file name : List ℕ) (files : Files) → output ≡ Some name → is_reserved name ≡ false → made files output report (Ok file) ≡ reported (replaced_files name file files) report
 free_is output report file name files is free =
     ap (λ (out : Option (List ℕ)). made files out report (Ok file)) is
-    ∙ ap (λ b. if b then refused files (Reserved name) else reported (replaced name file files) report) free
+    ∙ ap (λ b. if b then refused files (Reserved name) else reported (replaced_files name file files) report) free
 
 pub reserved_run : (output : Option (List ℕ)) (report file name : List ℕ) (judged : Judged) (old now : History) → output ≡ Some name → is_reserved name ≡ true → now ≡ old
-    → OnTold old (λ v. IsRun (IsMade output report file v) false output judged v old now)
+    → IfObservable old (λ v. IsRun (IsMade output report file v) false output judged v old now)
 reserved_run output report file name judged old now is reserved same =
     told_refused (IsMade output report file) false output judged old now same
     (λ v o one. subst (λ (x : Outcome). IsSome x.refusal) (sym (one ∙ reserved_is output report file name (files_of v) is reserved)) refl)
@@ -94,21 +94,21 @@ pub free_told : (output : Option (List ℕ)) (report file name : List ℕ) (verd
     → (files : Files) → Tells verdict (made files output report (Ok file))
 free_told output report file name verdict is free told files =
     let same = free_is output report file name files is free in
-    subst (λ (o : Outcome). Tells verdict o) (sym same) (told (replaced name file files))
+    subst (λ (o : Outcome). Tells verdict o) (sym same) (told (replaced_files name file files))
 
 -- what `replace` says of the tree
 pub record IsReplaced (name file : List ℕ) (judged : Judged) (v : TreeState) (old now : History) : Type 0 where
-  pub moments : (X : List ℕ → Bool) → IsOrderly (RestsOn X) v → HidesScratch X name → Since (IsReplacing X (replaced name file (files_of v)) v) old now
+  pub moments : (X : List ℕ → Bool) → IsOrderly (RestsOn X) v → HidesScratch X name → Since (IsReplacing X (replaced_files name file (files_of v)) v) old now
   pub orderly : (X : List ℕ → Bool) → IsOrderly (RestsOn X) v → HidesScratch X name → HasNow now (IsOrderly (RestsOn X))
-  pub settled : (X : List ℕ → Bool) → IsOrderly (RestsOn X) v → HidesScratch X name → OnOk judged (HasNow now (IsSettled X (replaced name file (files_of v))))
-  pub leaves : OnOk judged (HasNow now (λ w. files_of w ≡ replaced name file (files_of v)))
+  pub settled : (X : List ℕ → Bool) → IsOrderly (RestsOn X) v → HidesScratch X name → OnOk judged (HasNow now (IsSettled X (replaced_files name file (files_of v))))
+  pub leaves : OnOk judged (HasNow now (λ w. files_of w ≡ replaced_files name file (files_of v)))
 
 free_run : (output : Option (List ℕ)) (report file name : List ℕ) (judged : Judged) (v : TreeState) (old now : History) → output ≡ Some name → is_reserved name ≡ false
     → IsReplaced name file judged v old now → IsRun (IsMade output report file v) false output judged v old now
 free_run output report file name judged v old now is free done =
     let same = free_is output report file name (files_of v) is free in
     let hidden : (X : List ℕ → Bool) → HidesScratchOf output X → HidesScratch X name = λ X hides. subst (λ (out : Option (List ℕ)). HidesScratchOf out X) is hides in
-    let left : (o : Outcome) → IsMade output report file v o → replaced name file (files_of v) ≡ o.files = λ o one. sym (ap (λ (x : Outcome). x.files) (one ∙ same)) in
+    let left : (o : Outcome) → IsMade output report file v o → replaced_files name file (files_of v) ≡ o.files = λ o one. sym (ap (λ (x : Outcome). x.files) (one ∙ same)) in
     record {
       moments = λ X o orderly hides one. subst (λ (f : Files). Since (IsReplacing X f v) old now) (left o one) (done.moments X orderly (hidden X hides));
       orderly = λ X orderly hides. done.orderly X orderly (hidden X hides);
@@ -118,23 +118,23 @@ free_run output report file name judged v old now is free done =
     }
 
 abbrev Moves : List ℕ → List ℕ → History → History → Type 0
-Moves name file old now = OnTold old (λ v. (X : List ℕ → Bool) → IsOrderly (RestsOn X) v → HidesScratch X name → Since (IsReplacing X (replaced name file (files_of v)) v) old now)
+Moves name file old now = IfObservable old (λ v. (X : List ℕ → Bool) → IsOrderly (RestsOn X) v → HidesScratch X name → Since (IsReplacing X (replaced_files name file (files_of v)) v) old now)
 
 abbrev StaysOrderly : List ℕ → History → History → Type 0
-StaysOrderly name old now = OnTold old (λ v. (X : List ℕ → Bool) → IsOrderly (RestsOn X) v → HidesScratch X name → HasNow now (IsOrderly (RestsOn X)))
+StaysOrderly name old now = IfObservable old (λ v. (X : List ℕ → Bool) → IsOrderly (RestsOn X) v → HidesScratch X name → HasNow now (IsOrderly (RestsOn X)))
 
 pub written_run : (output : Option (List ℕ)) (report file name : List ℕ) (verdict : Verdict) (old now : History) → output ≡ Some name → is_reserved name ≡ false
     → Moves name file old now → StaysOrderly name old now
-    → OnTold old (λ v. (X : List ℕ → Bool) → IsOrderly (RestsOn X) v → HidesScratch X name → HasNow now (IsSettled X (replaced name file (files_of v))))
-    → OnTold old (λ v. HasNow now (λ w. files_of w ≡ replaced name file (files_of v)))
-    → OnTold old (λ v. IsRun (IsMade output report file v) false output (Ok verdict) v old now)
+    → IfObservable old (λ v. (X : List ℕ → Bool) → IsOrderly (RestsOn X) v → HidesScratch X name → HasNow now (IsSettled X (replaced_files name file (files_of v))))
+    → IfObservable old (λ v. HasNow now (λ w. files_of w ≡ replaced_files name file (files_of v)))
+    → IfObservable old (λ v. IsRun (IsMade output report file v) false output (Ok verdict) v old now)
 written_run output report file name verdict [] now is free moves orderly settled leaves = tt
 written_run output report file name verdict (v ∷ rest) now is free moves orderly settled leaves =
     free_run output report file name (Ok verdict) v (v ∷ rest) now is free (record { moments = moves; orderly = orderly; settled = settled; leaves = leaves })
 
 pub cut_run : (output : Option (List ℕ)) (report file name : List ℕ) (judged : Judged) (e : TreeFault) (old now : History) → judged ≡ Err e → output ≡ Some name → is_reserved name ≡ false
     → Moves name file old now → StaysOrderly name old now
-    → OnTold old (λ v. IsRun (IsMade output report file v) false output judged v old now)
+    → IfObservable old (λ v. IsRun (IsMade output report file v) false output judged v old now)
 cut_run output report file name judged e [] now failed is free moves orderly = tt
 cut_run output report file name judged e (v ∷ rest) now failed is free moves orderly =
     free_run output report file name judged v (v ∷ rest) now is free
@@ -146,16 +146,16 @@ abbrev pub HasRoomIf : Option (List ℕ) → List ℕ → List ℕ → TreeState
 HasRoomIf output report file v = (made (files_of v) output report (Ok file)).refusal ≡ None → HasRoomFor output (files_of v)
 
 pub room_proper : (output : Option (List ℕ)) (report file name : List ℕ) (old : History) (P : Type 0) → output ≡ Some name → is_reserved name ≡ false
-    → OnTold old (λ v. HasRoom name (files_of v) → P) → OnTold old (λ v. HasRoomIf output report file v → P)
+    → IfObservable old (λ v. HasRoom name (files_of v) → P) → IfObservable old (λ v. HasRoomIf output report file v → P)
 room_proper output report file name [] P is free proper = tt
 room_proper output report file name (v ∷ rest) P is free proper = λ room.
     proper (subst (λ (out : Option (List ℕ)). HasRoomFor out (files_of v)) is (room (ap (λ (x : Outcome). x.refusal) (free_is output report file name (files_of v) is free))))
 
-pub any_proper : (Room : TreeState → Type 0) (old : History) (P : Type 0) → P → OnTold old (λ v. Room v → P)
+pub any_proper : (Room : TreeState → Type 0) (old : History) (P : Type 0) → P → IfObservable old (λ v. Room v → P)
 any_proper Room [] P p = tt
 any_proper Room (v ∷ rest) P p = λ room. p
 
-pub on_told_proper : (Room : TreeState → Type 0) (old : History) (P : Type 0) → OnTold old (λ v. P) → OnTold old (λ v. Room v → P)
+pub on_told_proper : (Room : TreeState → Type 0) (old : History) (P : Type 0) → IfObservable old (λ v. P) → IfObservable old (λ v. Room v → P)
 on_told_proper Room [] P p = tt
 on_told_proper Room (v ∷ rest) P p = λ room. p
 

@@ -1,12 +1,12 @@
 -- Where no failure is planned, only want of memory stands in the place of an outcome.
 use Rattle.std.proofs.Common.{◌≡◌, ◌⊎◌, inl, inr, ℕ, ◌<◌, ◌-◌, ◌^◌, true, false, List, [], ◌∷◌, sym, ◌∙◌, arith}
-use Rattle.base_core.specs.Calls.{OnTold}
+use Rattle.base_core.specs.Calls.{IfObservable}
 use Rattle.base_core.specs.Faults.{Counts, HasCause, Rose}
 use Rattle.base_core.specs.Files.{Files}
 use Rattle.base_core.specs.Tree.{TreeState, files_of}
 use Rattle.apk_front.specs.Answers.{IsAnswer, LeavesFiles, FailedAt, IsUnplanned, IsOutcomeUnlessMemory}
 use Rattle.outcome.specs.Told.{Outcome}
-use Rattle.base_core.specs.Sink.{Sinking, KeepsCount}
+use Rattle.base_core.specs.Sink.{SinkChange, KeepsCount}
 use Rattle.apk_front.proofs.Telling.{either_failed}
 use Rattle.apk_front.specs.declared.answer.Answer.{Answer}
 use Rattle.apk_front.specs.declared.answer.Answer.TheVariants.{Ok as Good, Refused, TreeFault, OutFault, Memory}
@@ -21,12 +21,12 @@ wanted before after unplanned same cause = elim cause.reason [
   | inr (inr want) ↦ want
 ]
 
-sink_wanted : (o : Outcome) (out err : Sinking) → IsUnplanned out.before → IsUnplanned err.before → KeepsCount out → KeepsCount err → FailedAt out o.out ⊎ FailedAt err o.err
+sink_wanted : (o : Outcome) (out err : SinkChange) → IsUnplanned out.before → IsUnplanned err.before → KeepsCount out → KeepsCount err → FailedAt out o.out ⊎ FailedAt err o.err
     → Rose out.before.wants out.after.wants ⊎ Rose err.before.wants err.after.wants
 sink_wanted o out err calm_out calm_err keeps_out keeps_err (inl failed) = inl (wanted out.before out.after calm_out keeps_out.proper failed.failed)
 sink_wanted o out err calm_out calm_err keeps_out keeps_err (inr failed) = inr (wanted err.before err.after calm_err keeps_err.proper failed.failed)
 
-ends_as_stated : (words : List (List ℕ)) (files : Files) (Leaves : Outcome → Type 0) (before after : Counts) (answer : Answer) (out err : Sinking)
+ends_as_stated : (words : List (List ℕ)) (files : Files) (Leaves : Outcome → Type 0) (before after : Counts) (answer : Answer) (out err : SinkChange)
     → IsAnswer words files Leaves (HasCause before after) answer out err → after.misuses ≡ before.misuses → KeepsCount out → KeepsCount err
     → IsUnplanned before → IsUnplanned out.before → IsUnplanned err.before
     → IsOutcomeUnlessMemory words files Leaves answer before after out err
@@ -36,11 +36,11 @@ ends_as_stated words files Leaves before after TreeFault out err (cause, fault) 
 ends_as_stated words files Leaves before after OutFault out err (o, is, fault, leaves) same keeps_out keeps_err calm calm_out calm_err = sink_wanted o out err calm_out calm_err keeps_out keeps_err (either_failed fault.which)
 ends_as_stated words files Leaves before after Memory out err fault same keeps_out keeps_err calm calm_out calm_err = tt
 
-pub ends_unless_memory : (Room : TreeState → Type 0) (words : List (List ℕ)) (old now : List TreeState) (before after : Counts) (answer : Answer) (out err : Sinking)
-    → OnTold old (λ v. IsAnswer words (files_of v) (LeavesFiles now) (HasCause before after) answer out err)
-    → OnTold old (λ v. Room v → after.misuses ≡ before.misuses)
+pub ends_unless_memory : (Room : TreeState → Type 0) (words : List (List ℕ)) (old now : List TreeState) (before after : Counts) (answer : Answer) (out err : SinkChange)
+    → IfObservable old (λ v. IsAnswer words (files_of v) (LeavesFiles now) (HasCause before after) answer out err)
+    → IfObservable old (λ v. Room v → after.misuses ≡ before.misuses)
     → KeepsCount out → KeepsCount err
-    → OnTold old (λ v. Room v → IsUnplanned before → IsUnplanned out.before → IsUnplanned err.before
+    → IfObservable old (λ v. Room v → IsUnplanned before → IsUnplanned out.before → IsUnplanned err.before
     → IsOutcomeUnlessMemory words (files_of v) (LeavesFiles now) answer before after out err)
 ends_unless_memory Room words [] now before after answer out err stated proper keeps_out keeps_err = tt
 ends_unless_memory Room words (v ∷ rest) now before after answer out err stated proper keeps_out keeps_err = λ room calm calm_out calm_err.

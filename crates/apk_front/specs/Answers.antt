@@ -6,7 +6,7 @@ use Rattle.base_core.specs.Files.{Files}
 use Rattle.base_core.specs.Tree.{TreeState, files_of}
 use Rattle.outcome.specs.Told.{Outcome}
 use Rattle.outcome.specs.Outcome.{IsOutcome}
-use Rattle.base_core.specs.Sink.{Sinking, Gets, GetsSome, Failed}
+use Rattle.base_core.specs.Sink.{SinkChange, Gets, GetsSome, SinkFailed}
 use Rattle.report_core.specs.Texts.{tree_line, memory_line}
 use Rattle.apk_front.specs.declared.answer.Answer.{Answer}
 use Rattle.apk_front.specs.declared.answer.Answer.TheVariants.{Ok, Refused, TreeFault, OutFault, Memory}
@@ -31,20 +31,20 @@ status_of OutFault = 3
 status_of Memory = 4
 
 -- its counts of faults and of wants stand as before
-abbrev pub DidNotFail : Sinking → Type 0
+abbrev pub DidNotFail : SinkChange → Type 0
 DidNotFail sink = IsNoFault sink.before sink.after
 
 -- a line, or a front of it where the sink failed
-abbrev pub GetsLine : Sinking → List ℕ → Type 0
-GetsLine sink line = (Gets sink line × DidNotFail sink) ⊎ (GetsSome sink line × Failed sink)
+abbrev pub GetsLine : SinkChange → List ℕ → Type 0
+GetsLine sink line = (Gets sink line × DidNotFail sink) ⊎ (GetsSome sink line × SinkFailed sink)
 
 -- it had something to get, and failed
-pub record FailedAt (sink : Sinking) (bytes : List ℕ) : Type 0 where
+pub record FailedAt (sink : SinkChange) (bytes : List ℕ) : Type 0 where
   pub some : bytes ≢ []
-  pub failed : Failed sink
+  pub failed : SinkFailed sink
 
 -- the answer and all bytes are those of an outcome, and no sink failed
-pub record IsStated (outcome : Outcome) (answer : Answer) (out err : Sinking) : Type 0 where
+pub record IsStated (outcome : Outcome) (answer : Answer) (out err : SinkChange) : Type 0 where
   pub same : answer ≡ answer_of outcome
   pub out_gets : Gets out outcome.out
   pub err_gets : Gets err outcome.err
@@ -52,19 +52,19 @@ pub record IsStated (outcome : Outcome) (answer : Answer) (out err : Sinking) : 
   pub err_kept : DidNotFail err
 
 -- just one sink failed, in place of an outcome's answer: out, and then nothing is printed on err; or err, behind the whole report on out
-pub record IsOutFault (outcome : Outcome) (out err : Sinking) : Type 0 where
+pub record IsOutFault (outcome : Outcome) (out err : SinkChange) : Type 0 where
   pub which : (FailedAt out outcome.out × Gets err [] × DidNotFail err) ⊎ (FailedAt err outcome.err × Gets out outcome.out × DidNotFail out)
   pub out_gets : GetsSome out outcome.out
   pub err_gets : GetsSome err outcome.err
 
 -- a fault in place of every outcome: only its line on err, and nothing failed on out
-pub record IsFault (line : List ℕ) (out err : Sinking) : Type 0 where
+pub record IsFault (line : List ℕ) (out err : SinkChange) : Type 0 where
   pub out_gets : Gets out []
   pub out_kept : DidNotFail out
   pub err_gets : GetsLine err line
 
 -- The answer of one of these outcomes, with its bytes and what it leaves; a fault that had its cause; or want of memory.
-abbrev pub IsAnswerOf : (Outcome → Type 0) → (Outcome → Type 0) → Type 0 → Answer → Sinking → Sinking → Type 0
+abbrev pub IsAnswerOf : (Outcome → Type 0) → (Outcome → Type 0) → Type 0 → Answer → SinkChange → SinkChange → Type 0
 IsAnswerOf IsOne Leaves tree_failed Ok out err = (outcome : Outcome) × IsOne outcome × IsStated outcome Ok out err × Leaves outcome
 IsAnswerOf IsOne Leaves tree_failed (Refused refusal) out err = (outcome : Outcome) × IsOne outcome × IsStated outcome (Refused refusal) out err × Leaves outcome
 IsAnswerOf IsOne Leaves tree_failed OutFault out err = (outcome : Outcome) × IsOne outcome × IsOutFault outcome out err × Leaves outcome
@@ -72,7 +72,7 @@ IsAnswerOf IsOne Leaves tree_failed TreeFault out err = tree_failed × IsFault t
 IsAnswerOf IsOne Leaves tree_failed Memory out err = IsFault memory_line out err
 
 -- the answer to these words over these files
-abbrev pub IsAnswer : List (List ℕ) → Files → (Outcome → Type 0) → Type 0 → Answer → Sinking → Sinking → Type 0
+abbrev pub IsAnswer : List (List ℕ) → Files → (Outcome → Type 0) → Type 0 → Answer → SinkChange → SinkChange → Type 0
 IsAnswer words files Leaves tree_failed answer out err = IsAnswerOf (IsOutcome words files) Leaves tree_failed answer out err
 
 -- where the outcome is no refusal, the files as read are then its files
@@ -86,15 +86,15 @@ LeavesAny outcome = Unit {0}
 -- What failed, by the counts of the tree before and after, and of the sinks. Behind Ok and a refusal, nothing failed. A fault of the
 -- tree has its cause there. Behind a fault of a sink, just one sink failed, and not the tree. Want of memory is told only where the
 -- tree did not fail. A fault of the tree, and want of memory, print just their line.
-abbrev pub HasCauses : Answer → Counts → Counts → Sinking → Sinking → Type 0
+abbrev pub HasCauses : Answer → Counts → Counts → SinkChange → SinkChange → Type 0
 HasCauses Ok before after out err = IsNoFault before after × DidNotFail out × DidNotFail err
 HasCauses (Refused refusal) before after out err = IsNoFault before after × DidNotFail out × DidNotFail err
 HasCauses TreeFault before after out err = HasCause before after × IsFault tree_line out err
-HasCauses OutFault before after out err = IsNoFault before after × ((Failed out × DidNotFail err) ⊎ (Failed err × DidNotFail out))
+HasCauses OutFault before after out err = IsNoFault before after × ((SinkFailed out × DidNotFail err) ⊎ (SinkFailed err × DidNotFail out))
 HasCauses Memory before after out err = IsNoFault before after × IsFault memory_line out err
 
 -- no count rose: neither the tree's, nor a sink's
-pub record IsFaultless (before after : Counts) (out err : Sinking) : Type 0 where
+pub record IsFaultless (before after : Counts) (out err : SinkChange) : Type 0 where
   pub tree : ¬ Rose before.faults after.faults
   pub out_sink : ¬ Rose out.before.faults out.after.faults
   pub err_sink : ¬ Rose err.before.faults err.after.faults
@@ -109,7 +109,7 @@ pub record IsUnplanned (counts : Counts) : Type 0 where
   pub below : counts.misuses < 2 ^ 64 - 1
 
 -- The answer, all bytes and the files are the outcome's, or memory ran out: the run's, or the own memory of the tree or of a sink.
-abbrev pub IsOutcomeUnlessMemory : List (List ℕ) → Files → (Outcome → Type 0) → Answer → Counts → Counts → Sinking → Sinking → Type 0
+abbrev pub IsOutcomeUnlessMemory : List (List ℕ) → Files → (Outcome → Type 0) → Answer → Counts → Counts → SinkChange → SinkChange → Type 0
 IsOutcomeUnlessMemory words files Leaves Ok before after out err = (outcome : Outcome) × IsOutcome words files outcome × IsStated outcome Ok out err × Leaves outcome
 IsOutcomeUnlessMemory words files Leaves (Refused refusal) before after out err = (outcome : Outcome) × IsOutcome words files outcome × IsStated outcome (Refused refusal) out err × Leaves outcome
 IsOutcomeUnlessMemory words files Leaves TreeFault before after out err = Rose before.wants after.wants

@@ -2,7 +2,7 @@
 use Rattle.std.specs.Prelude.{◌≡◌, ◌⊎◌, ℕ, Bool, true, false, List, [], Option, Some, None, Result, Ok, Err, Vec}
 use Rattle.std.specs.declared.alloc.Global.{Global}
 use Rattle.base_core.specs.Files.{Files}
-use Rattle.base_core.specs.Sink.{Sinking, Gets, GetsSome, Failed}
+use Rattle.base_core.specs.Sink.{SinkChange, Gets, GetsSome, SinkFailed}
 use Rattle.base_core.specs.declared.tree.TreeFault.{TreeFault}
 use Rattle.base_core.specs.declared.tree.TreeFault.TheVariants.{Disk, Memory as NoMemory}
 use Rattle.report_core.specs.Texts.{refusal_line, tree_line, memory_line}
@@ -43,7 +43,7 @@ abbrev pub TellsOne : (Outcome → Type 0) → Verdict → Type 0
 TellsOne IsOne verdict = (outcome : Outcome) × IsOne outcome × Tells verdict outcome
 
 -- the answer and the bytes of an outcome, or a sink's fault in its place
-abbrev pub IsTold : Outcome → Answer → Sinking → Sinking → Type 0
+abbrev pub IsTold : Outcome → Answer → SinkChange → SinkChange → Type 0
 IsTold outcome Good out err = IsStated outcome Good out err
 IsTold outcome (Refused refusal) out err = IsStated outcome (Refused refusal) out err
 IsTold outcome OutFault out err = IsOutFault outcome out err
@@ -51,13 +51,13 @@ IsTold outcome TreeFailed out err = ⊥
 IsTold outcome Memory out err = ⊥
 
 -- a refusal told on err, or a fault of it in its place
-abbrev pub IsRefused : Option Refusal → Answer → Sinking → Type 0
+abbrev pub IsRefused : Option Refusal → Answer → SinkChange → Type 0
 IsRefused None answer err = (answer ≡ Good) × Gets err [] × DidNotFail err
 IsRefused (Some refusal) answer err =
-    ((answer ≡ Refused refusal) × Gets err (refusal_line refusal) × DidNotFail err) ⊎ ((answer ≡ OutFault) × GetsSome err (refusal_line refusal) × Failed err)
+    ((answer ≡ Refused refusal) × Gets err (refusal_line refusal) × DidNotFail err) ⊎ ((answer ≡ OutFault) × GetsSome err (refusal_line refusal) × SinkFailed err)
 
 -- what was judged, as the answer and the two sinks show it
-abbrev pub IsShown : Result Verdict TreeFault → Answer → Sinking → Sinking → Type 0
+abbrev pub IsShown : Result Verdict TreeFault → Answer → SinkChange → SinkChange → Type 0
 IsShown (Ok verdict) answer out err = (files : Files) → IsTold (shown files verdict) answer out err
 IsShown (Err Disk) answer out err = (answer ≡ TreeFailed) × IsFault tree_line out err
 IsShown (Err NoMemory) answer out err = (answer ≡ Memory) × IsFault memory_line out err

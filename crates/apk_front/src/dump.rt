@@ -7,7 +7,7 @@ ghost use Rattle.adb_schema.specs.Soundness.{schema_word};
 ghost use Rattle.adb_view.specs.Adb.{payload_of};
 ghost use Rattle.adb_view.specs.Gives.{cause_of};
 ghost use Rattle.apk_front.specs.Shown.{shown, IsDumpFault, IsShapedFirst, first_refused};
-ghost use Rattle.base_core.specs.Calls.{OnTold};
+ghost use Rattle.base_core.specs.Calls.{IfObservable};
 ghost use Rattle.base_core.specs.Faults.{GoesOn, HasCause, IsNoFault};
 ghost use Rattle.base_core.specs.Files.{Files, no_names};
 ghost use Rattle.base_core.specs.Read.{bytes_in};
@@ -37,14 +37,14 @@ pub(crate) fn adbdump<T: Tree>(
 ) -> Result<Verdict, TreeFault>
     requires one { length operands.now ≡ 1 }
     requires files { IsTrue (are_files operands.now) }
-    ensures found { IfOk result (λ verdict. OnTold (T.history tree.old) (λ v. shown (files_of v) verdict ≡ adbdump (files_of v) operands.now)) }
+    ensures found { IfOk result (λ verdict. IfObservable (T.history tree.old) (λ v. shown (files_of v) verdict ≡ adbdump (files_of v) operands.now)) }
     ensures by_reads { IfOk result (λ verdict. (read : ℕ → List ℕ → Option (List ℕ)) × (shown no_names verdict ≡ adbdump_by no_names (read 0) operands.now)) }
     ensures same { T.history tree.new ≡ T.history tree.old }
     ensures goes_on { GoesOn (T.counts tree.old) (T.counts tree.new) }
     ensures disk { IsErrOf result TreeFault.Disk → HasCause (T.counts tree.old) (T.counts tree.new) }
     ensures kept { OnOk result (IsNoFault (T.counts tree.old) (T.counts tree.new)) }
     ensures memory { IsErrOf result TreeFault.Memory → IsNoFault (T.counts tree.old) (T.counts tree.new) }
-    ensures proper { OnTold (T.history tree.old) (λ v. (T.counts tree.new).misuses ≡ (T.counts tree.old).misuses) }
+    ensures proper { IfObservable (T.history tree.old) (λ v. (T.counts tree.new).misuses ≡ (T.counts tree.old).misuses) }
 {
     dump_file(alloc, operands.get(0), tree)
 }
@@ -52,14 +52,14 @@ pub(crate) fn adbdump<T: Tree>(
 // Reads the file that an operand names, and tells its text.
 fn dump_file<T: Tree>(alloc: Global, operand: &Operand, tree: &mut T) -> Result<Verdict, TreeFault>
     requires { IsTrue (is_file operand.now.text) }
-    ensures found { IfOk result (λ verdict. OnTold (T.history tree.old) (λ v. shown (files_of v) verdict ≡ dump_found (files_of v) operand.now.place (files_of v (without_dot operand.now.text)))) }
+    ensures found { IfOk result (λ verdict. IfObservable (T.history tree.old) (λ v. shown (files_of v) verdict ≡ dump_found (files_of v) operand.now.place (files_of v (without_dot operand.now.text)))) }
     ensures by_reads { IfOk result (λ verdict. (found : Option (List ℕ)) × (shown no_names verdict ≡ dump_found no_names operand.now.place found)) }
     ensures same { T.history tree.new ≡ T.history tree.old }
     ensures goes_on { GoesOn (T.counts tree.old) (T.counts tree.new) }
     ensures disk { IsErrOf result TreeFault.Disk → HasCause (T.counts tree.old) (T.counts tree.new) }
     ensures kept { OnOk result (IsNoFault (T.counts tree.old) (T.counts tree.new)) }
     ensures memory { IsErrOf result TreeFault.Memory → IsNoFault (T.counts tree.old) (T.counts tree.new) }
-    ensures proper { OnTold (T.history tree.old) (λ v. (T.counts tree.new).misuses ≡ (T.counts tree.old).misuses) }
+    ensures proper { IfObservable (T.history tree.old) (λ v. (T.counts tree.new).misuses ≡ (T.counts tree.old).misuses) }
 {
     // The operand of `adbdump` names a file, so there is a name.
     let Some(file) = Name::read(alloc, operand.file())? else {

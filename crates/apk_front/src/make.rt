@@ -2,7 +2,7 @@
 ghost use Rattle.std.specs.Prelude.{◌≡◌, ◌≢◌, ◌⊎◌, ℕ, false, true, List, None, Ok, Err, IsSome, IfOk, IsErrOf, OnOk};
 ghost use Rattle.apk_front.specs.Moments.{HasRoomFor, IsRun};
 ghost use Rattle.apk_front.specs.Shown.{IsIndex, IsIndexFound, IsIndexOutcome, IsPackage, IsPackageFound, IsPackageOutcome, OnMade, Tells, TellsOne, is_cut, is_cut_off, made_in};
-ghost use Rattle.base_core.specs.Calls.{OnTold};
+ghost use Rattle.base_core.specs.Calls.{IfObservable};
 ghost use Rattle.base_core.specs.Faults.{GoesOn, HasCause, IsNoFault};
 ghost use Rattle.base_core.specs.Files.{Files, no_names};
 ghost use Rattle.base_core.specs.Tree.{files_of};
@@ -36,16 +36,16 @@ pub(crate) fn mkpkg<T: Tree>(
 ) -> Result<Verdict, TreeFault>
     requires command { IsCommand command.now }
     requires applet { command.now.applet ≡ Mkpkg }
-    ensures found { IfOk result (λ verdict. OnTold (T.history tree.old) (λ v. TellsOne (IsPackageOutcome command.now (files_of v)) verdict)) }
+    ensures found { IfOk result (λ verdict. IfObservable (T.history tree.old) (λ v. TellsOne (IsPackageOutcome command.now (files_of v)) verdict)) }
     ensures by_reads { IfOk result (λ verdict. (names : List (List ℕ)) × AreNamesFor (given 70 command.now.values) names × (read : Reads) × Tells verdict (mkpkg_by no_names read command.now names)) }
-    ensures run { OnTold (T.history tree.old) (λ v. IsRun (IsPackageOutcome command.now (files_of v)) false (output_name command.now) result v (T.history tree.old) (T.history tree.new)) }
+    ensures run { IfObservable (T.history tree.old) (λ v. IsRun (IsPackageOutcome command.now (files_of v)) false (output_name command.now) result v (T.history tree.old) (T.history tree.new)) }
     ensures refused { IfOk result (λ verdict. IsSome verdict.refusal → T.history tree.new ≡ T.history tree.old) }
     ensures undone { IsErrOf result TreeFault.Memory → T.history tree.new ≡ T.history tree.old }
     ensures goes_on { GoesOn (T.counts tree.old) (T.counts tree.new) }
     ensures disk { IsErrOf result TreeFault.Disk → HasCause (T.counts tree.old) (T.counts tree.new) }
     ensures kept { OnOk result (IsNoFault (T.counts tree.old) (T.counts tree.new)) }
     ensures memory { IsErrOf result TreeFault.Memory → IsNoFault (T.counts tree.old) (T.counts tree.new) }
-    ensures proper { OnTold (T.history tree.old) (λ v. ((outcome : Outcome) → IsPackageOutcome command.now (files_of v) outcome → outcome.refusal ≡ None → HasRoomFor (output_name command.now) (files_of v))
+    ensures proper { IfObservable (T.history tree.old) (λ v. ((outcome : Outcome) → IsPackageOutcome command.now (files_of v) outcome → outcome.refusal ≡ None → HasRoomFor (output_name command.now) (files_of v))
         → (T.counts tree.new).misuses ≡ (T.counts tree.old).misuses) }
 {
     files_have_one_list_of_names();
@@ -63,16 +63,16 @@ pub(crate) fn mkndx<T: Tree>(
 ) -> Result<Verdict, TreeFault>
     requires command { IsCommand command.now }
     requires applet { command.now.applet ≡ Mkndx }
-    ensures found { IfOk result (λ verdict. OnTold (T.history tree.old) (λ v. TellsOne (IsIndexOutcome command.now (files_of v)) verdict)) }
+    ensures found { IfOk result (λ verdict. IfObservable (T.history tree.old) (λ v. TellsOne (IsIndexOutcome command.now (files_of v)) verdict)) }
     ensures by_reads { IfOk result (λ verdict. (read : Reads) × Tells verdict (mkndx_by no_names read command.now)) }
-    ensures run { OnTold (T.history tree.old) (λ v. IsRun (IsIndexOutcome command.now (files_of v)) false (output_name command.now) result v (T.history tree.old) (T.history tree.new)) }
+    ensures run { IfObservable (T.history tree.old) (λ v. IsRun (IsIndexOutcome command.now (files_of v)) false (output_name command.now) result v (T.history tree.old) (T.history tree.new)) }
     ensures refused { IfOk result (λ verdict. IsSome verdict.refusal → T.history tree.new ≡ T.history tree.old) }
     ensures undone { IsErrOf result TreeFault.Memory → T.history tree.new ≡ T.history tree.old }
     ensures goes_on { GoesOn (T.counts tree.old) (T.counts tree.new) }
     ensures disk { IsErrOf result TreeFault.Disk → HasCause (T.counts tree.old) (T.counts tree.new) }
     ensures kept { OnOk result (IsNoFault (T.counts tree.old) (T.counts tree.new)) }
     ensures memory { IsErrOf result TreeFault.Memory → IsNoFault (T.counts tree.old) (T.counts tree.new) }
-    ensures proper { OnTold (T.history tree.old) (λ v. ((outcome : Outcome) → IsIndexOutcome command.now (files_of v) outcome → outcome.refusal ≡ None → HasRoomFor (output_name command.now) (files_of v))
+    ensures proper { IfObservable (T.history tree.old) (λ v. ((outcome : Outcome) → IsIndexOutcome command.now (files_of v) outcome → outcome.refusal ≡ None → HasRoomFor (output_name command.now) (files_of v))
         → (T.counts tree.new).misuses ≡ (T.counts tree.old).misuses) }
 {
     an_index_has_an_output();
@@ -84,13 +84,13 @@ pub(crate) fn mkndx<T: Tree>(
 // What a package is made of, read and made.
 fn package<T: Tree>(alloc: Global, command: &Command, tree: &mut T) -> Result<Vec<u8>, MakeFault>
     requires { command.now.applet ≡ Mkpkg }
-    ensures told { OnTold (T.history tree.old) (λ v. OnMade result (IsPackage command.now (files_of v))) }
+    ensures told { IfObservable (T.history tree.old) (λ v. OnMade result (IsPackage command.now (files_of v))) }
     ensures found { OnMade result (IsPackageFound command.now) }
     ensures same { T.history tree.new ≡ T.history tree.old }
     ensures goes_on { GoesOn (T.counts tree.old) (T.counts tree.new) }
     ensures disk { IsErrOf result MakeFault.Disk → HasCause (T.counts tree.old) (T.counts tree.new) }
     ensures kept { UnlessDisk result (IsNoFault (T.counts tree.old) (T.counts tree.new)) }
-    ensures proper { OnTold (T.history tree.old) (λ v. (T.counts tree.new).misuses ≡ (T.counts tree.old).misuses) }
+    ensures proper { IfObservable (T.history tree.old) (λ v. (T.counts tree.new).misuses ≡ (T.counts tree.old).misuses) }
 {
     make_core::mkpkg(alloc, command, tree)
 }
@@ -98,13 +98,13 @@ fn package<T: Tree>(alloc: Global, command: &Command, tree: &mut T) -> Result<Ve
 // The packages of an index, read, and the index made.
 fn index<T: Tree>(alloc: Global, command: &Command, tree: &mut T) -> Result<Vec<u8>, MakeFault>
     requires { command.now.applet ≡ Mkndx }
-    ensures told { OnTold (T.history tree.old) (λ v. OnMade result (IsIndex command.now (files_of v))) }
+    ensures told { IfObservable (T.history tree.old) (λ v. OnMade result (IsIndex command.now (files_of v))) }
     ensures found { OnMade result (IsIndexFound command.now) }
     ensures same { T.history tree.new ≡ T.history tree.old }
     ensures goes_on { GoesOn (T.counts tree.old) (T.counts tree.new) }
     ensures disk { IsErrOf result MakeFault.Disk → HasCause (T.counts tree.old) (T.counts tree.new) }
     ensures kept { UnlessDisk result (IsNoFault (T.counts tree.old) (T.counts tree.new)) }
-    ensures proper { OnTold (T.history tree.old) (λ v. (T.counts tree.new).misuses ≡ (T.counts tree.old).misuses) }
+    ensures proper { IfObservable (T.history tree.old) (λ v. (T.counts tree.new).misuses ≡ (T.counts tree.old).misuses) }
 {
     make_core::mkndx(alloc, command, tree)
 }
@@ -128,7 +128,7 @@ fn finish<T: Tree>(
     requires command { IsCommand command.now }
     requires output { IfOk container (λ file. IsSome (output_name command.now)) }
     ensures told { IfOk result (λ verdict. (files : Files) → Tells verdict (made files (output_name command.now) report (made_in container))) }
-    ensures run { OnTold (T.history tree.old) (λ v. IsRun (λ outcome. outcome ≡ made (files_of v) (output_name command.now) report (made_in container)) false (output_name command.now) result v (T.history tree.old) (T.history tree.new)) }
+    ensures run { IfObservable (T.history tree.old) (λ v. IsRun (λ outcome. outcome ≡ made (files_of v) (output_name command.now) report (made_in container)) false (output_name command.now) result v (T.history tree.old) (T.history tree.new)) }
     ensures done { IfOk result (λ verdict. is_cut_off container ≡ false) }
     ensures cut { is_cut_off container ≡ true → T.history tree.new ≡ T.history tree.old }
     ensures refused { IfOk result (λ verdict. IsSome verdict.refusal → T.history tree.new ≡ T.history tree.old) }
@@ -138,7 +138,7 @@ fn finish<T: Tree>(
     ensures kept { OnOk result (IsNoFault (T.counts tree.old) (T.counts tree.new)) }
     ensures memory { IsErrOf result TreeFault.Memory → IsNoFault (T.counts tree.old) (T.counts tree.new) }
     ensures lost { IsErrOf result TreeFault.Memory → container ≢ Err MakeFault.Disk }
-    ensures proper { OnTold (T.history tree.old) (λ v. (IfOk container (λ file. (made (files_of v) (output_name command.now) report (Ok file.items)).refusal ≡ None → HasRoomFor (output_name command.now) (files_of v)))
+    ensures proper { IfObservable (T.history tree.old) (λ v. (IfOk container (λ file. (made (files_of v) (output_name command.now) report (Ok file.items)).refusal ≡ None → HasRoomFor (output_name command.now) (files_of v)))
         → (T.counts tree.new).misuses ≡ (T.counts tree.old).misuses) }
 {
     match container {
@@ -158,14 +158,14 @@ fn write<T: Tree>(
     requires command { IsCommand command.now }
     requires output { IsSome (output_name command.now) }
     ensures told { IfOk result (λ verdict. (files : Files) → Tells verdict (made files (output_name command.now) report (Ok file.now))) }
-    ensures run { OnTold (T.history tree.old) (λ v. IsRun (λ outcome. outcome ≡ made (files_of v) (output_name command.now) report (Ok file.now)) false (output_name command.now) result v (T.history tree.old) (T.history tree.new)) }
+    ensures run { IfObservable (T.history tree.old) (λ v. IsRun (λ outcome. outcome ≡ made (files_of v) (output_name command.now) report (Ok file.now)) false (output_name command.now) result v (T.history tree.old) (T.history tree.new)) }
     ensures refused { IfOk result (λ verdict. IsSome verdict.refusal → T.history tree.new ≡ T.history tree.old) }
     ensures undone { IsErrOf result TreeFault.Memory → T.history tree.new ≡ T.history tree.old }
     ensures goes_on { GoesOn (T.counts tree.old) (T.counts tree.new) }
     ensures disk { IsErrOf result TreeFault.Disk → HasCause (T.counts tree.old) (T.counts tree.new) }
     ensures kept { OnOk result (IsNoFault (T.counts tree.old) (T.counts tree.new)) }
     ensures memory { IsErrOf result TreeFault.Memory → IsNoFault (T.counts tree.old) (T.counts tree.new) }
-    ensures proper { OnTold (T.history tree.old) (λ v. ((made (files_of v) (output_name command.now) report (Ok file.now)).refusal ≡ None → HasRoomFor (output_name command.now) (files_of v))
+    ensures proper { IfObservable (T.history tree.old) (λ v. ((made (files_of v) (output_name command.now) report (Ok file.now)).refusal ≡ None → HasRoomFor (output_name command.now) (files_of v))
         → (T.counts tree.new).misuses ≡ (T.counts tree.old).misuses) }
 {
     an_output_is_short();

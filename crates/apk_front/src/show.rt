@@ -1,7 +1,7 @@
 // What was judged, shown on the two sinks.
 ghost use Rattle.std.specs.Prelude.{◌≡◌, ◌≢◌, [], OnErr, Err};
 ghost use Rattle.base_core.specs.Files.{Files};
-ghost use Rattle.base_core.specs.Sink.{sinking, Writes, KeepsCount};
+ghost use Rattle.base_core.specs.Sink.{sink_change, Writes, KeepsCount};
 ghost use Rattle.apk_front.specs.Answers.{GetsLine};
 ghost use Rattle.apk_front.specs.Shown.{IsShown, IsTold, IsRefused, shown};
 
@@ -16,9 +16,9 @@ pub(crate) fn show<O: Sink, E: Sink>(
     out: &mut O,
     err: &mut E,
 ) -> Answer
-    ensures shown { IsShown judged result (sinking O.bytes O.counts out.old out.new) (sinking E.bytes E.counts err.old err.new) }
-    ensures out_counts { KeepsCount (sinking O.bytes O.counts out.old out.new) }
-    ensures err_counts { KeepsCount (sinking E.bytes E.counts err.old err.new) }
+    ensures shown { IsShown judged result (sink_change O.bytes O.counts out.old out.new) (sink_change E.bytes E.counts err.old err.new) }
+    ensures out_counts { KeepsCount (sink_change O.bytes O.counts out.old out.new) }
+    ensures err_counts { KeepsCount (sink_change E.bytes E.counts err.old err.new) }
 {
     match judged {
         Ok(verdict) => tell(verdict, out, err),
@@ -27,9 +27,9 @@ pub(crate) fn show<O: Sink, E: Sink>(
 }
 
 fn show_fault<O: Sink, E: Sink>(fault: TreeFault, _out: &mut O, err: &mut E) -> Answer
-    ensures shown { IsShown (Err fault) result (sinking O.bytes O.counts _out.old _out.new) (sinking E.bytes E.counts err.old err.new) }
-    ensures out_counts { KeepsCount (sinking O.bytes O.counts _out.old _out.new) }
-    ensures err_counts { KeepsCount (sinking E.bytes E.counts err.old err.new) }
+    ensures shown { IsShown (Err fault) result (sink_change O.bytes O.counts _out.old _out.new) (sink_change E.bytes E.counts err.old err.new) }
+    ensures out_counts { KeepsCount (sink_change O.bytes O.counts _out.old _out.new) }
+    ensures err_counts { KeepsCount (sink_change E.bytes E.counts err.old err.new) }
 {
     match fault {
         TreeFault::Disk => {
@@ -45,9 +45,9 @@ fn show_fault<O: Sink, E: Sink>(fault: TreeFault, _out: &mut O, err: &mut E) -> 
 
 // The report, and the line of the refusal behind it.
 fn tell<O: Sink, E: Sink>(verdict: Verdict, out: &mut O, err: &mut E) -> Answer
-    ensures told { (files : Files) → IsTold (shown files verdict) result (sinking O.bytes O.counts out.old out.new) (sinking E.bytes E.counts err.old err.new) }
-    ensures out_counts { KeepsCount (sinking O.bytes O.counts out.old out.new) }
-    ensures err_counts { KeepsCount (sinking E.bytes E.counts err.old err.new) }
+    ensures told { (files : Files) → IsTold (shown files verdict) result (sink_change O.bytes O.counts out.old out.new) (sink_change E.bytes E.counts err.old err.new) }
+    ensures out_counts { KeepsCount (sink_change O.bytes O.counts out.old out.new) }
+    ensures err_counts { KeepsCount (sink_change E.bytes E.counts err.old err.new) }
 {
     match report(verdict.report.as_bytes(), out) {
         Ok(()) => refuse(verdict.refusal, err),
@@ -57,7 +57,7 @@ fn tell<O: Sink, E: Sink>(verdict: Verdict, out: &mut O, err: &mut E) -> Answer
 
 // A report; one without bytes never fails.
 fn report<O: Sink>(bytes: &[u8], out: &mut O) -> Result<(), SinkFault>
-    ensures written { Writes bytes.now (sinking O.bytes O.counts out.old out.new) result }
+    ensures written { Writes bytes.now (sink_change O.bytes O.counts out.old out.new) result }
     ensures some { OnErr result (bytes.now ≢ []) }
 {
     if bytes.is_empty() {
@@ -67,8 +67,8 @@ fn report<O: Sink>(bytes: &[u8], out: &mut O) -> Result<(), SinkFault>
 }
 
 fn refuse<E: Sink>(refusal: Option<Refusal>, err: &mut E) -> Answer
-    ensures refused { IsRefused refusal result (sinking E.bytes E.counts err.old err.new) }
-    ensures counts { KeepsCount (sinking E.bytes E.counts err.old err.new) }
+    ensures refused { IsRefused refusal result (sink_change E.bytes E.counts err.old err.new) }
+    ensures counts { KeepsCount (sink_change E.bytes E.counts err.old err.new) }
 {
     let Some(refusal) = refusal else {
         return Answer::Ok;
@@ -81,8 +81,8 @@ fn refuse<E: Sink>(refusal: Option<Refusal>, err: &mut E) -> Answer
 
 // A fault's line; a fault of the sink changes nothing in the answer.
 fn fail<E: Sink>(line: &[u8], err: &mut E)
-    ensures line { GetsLine (sinking E.bytes E.counts err.old err.new) line.now }
-    ensures counts { KeepsCount (sinking E.bytes E.counts err.old err.new) }
+    ensures line { GetsLine (sink_change E.bytes E.counts err.old err.new) line.now }
+    ensures counts { KeepsCount (sink_change E.bytes E.counts err.old err.new) }
 {
     let _ = write_all(err, line);
 }

@@ -2,7 +2,7 @@
 ghost use Rattle.std.specs.Prelude.{◌≡◌, List, Option, ℕ, IsTrue, IfOk, IsErrOf, OnOk};
 ghost use Rattle.std.specs.List.{list_all};
 ghost use Rattle.apk_front.specs.Shown.{shown};
-ghost use Rattle.base_core.specs.Calls.{OnTold};
+ghost use Rattle.base_core.specs.Calls.{IfObservable};
 ghost use Rattle.base_core.specs.Faults.{GoesOn, HasCause, IsNoFault};
 ghost use Rattle.base_core.specs.Files.{Files, no_names};
 ghost use Rattle.base_core.specs.Read.{bytes_in};
@@ -25,14 +25,14 @@ pub(crate) fn verify<T: Tree>(
     tree: &mut T,
 ) -> Result<Verdict, TreeFault>
     requires { IsTrue (are_files operands.now) }
-    ensures found { IfOk result (λ verdict. OnTold (T.history tree.old) (λ v. shown (files_of v) verdict ≡ verify (files_of v) operands.now)) }
+    ensures found { IfOk result (λ verdict. IfObservable (T.history tree.old) (λ v. shown (files_of v) verdict ≡ verify (files_of v) operands.now)) }
     ensures by_reads { IfOk result (λ verdict. (read : ℕ → List ℕ → Option (List ℕ)) × (shown no_names verdict ≡ verify_by read no_names operands.now)) }
     ensures same { T.history tree.new ≡ T.history tree.old }
     ensures goes_on { GoesOn (T.counts tree.old) (T.counts tree.new) }
     ensures disk { IsErrOf result TreeFault.Disk → HasCause (T.counts tree.old) (T.counts tree.new) }
     ensures kept { OnOk result (IsNoFault (T.counts tree.old) (T.counts tree.new)) }
     ensures memory { IsErrOf result TreeFault.Memory → IsNoFault (T.counts tree.old) (T.counts tree.new) }
-    ensures proper { OnTold (T.history tree.old) (λ v. (T.counts tree.new).misuses ≡ (T.counts tree.old).misuses) }
+    ensures proper { IfObservable (T.history tree.old) (λ v. (T.counts tree.new).misuses ≡ (T.counts tree.old).misuses) }
 {
     let refusal = first_refusal(alloc, operands, tree)?;
     let verdict = verdict_by(alloc, operands, refusal)?;
@@ -61,14 +61,14 @@ fn first_refusal<T: Tree>(
     tree: &mut T,
 ) -> Result<Option<Refusal>, TreeFault>
     requires { IsTrue (are_files operands.now) }
-    ensures found { IfOk result (λ refusal. OnTold (T.history tree.old) (λ v. refusal ≡ verify_refusal (files_of v) operands.now)) }
+    ensures found { IfOk result (λ refusal. IfObservable (T.history tree.old) (λ v. refusal ≡ verify_refusal (files_of v) operands.now)) }
     ensures by_reads { IfOk result (λ refusal. (read : ℕ → List ℕ → Option (List ℕ)) × (refusal ≡ refusal_by read 0 operands.now)) }
     ensures same { T.history tree.new ≡ T.history tree.old }
     ensures goes_on { GoesOn (T.counts tree.old) (T.counts tree.new) }
     ensures disk { IsErrOf result TreeFault.Disk → HasCause (T.counts tree.old) (T.counts tree.new) }
     ensures kept { OnOk result (IsNoFault (T.counts tree.old) (T.counts tree.new)) }
     ensures memory { IsErrOf result TreeFault.Memory → IsNoFault (T.counts tree.old) (T.counts tree.new) }
-    ensures proper { OnTold (T.history tree.old) (λ v. (T.counts tree.new).misuses ≡ (T.counts tree.old).misuses) }
+    ensures proper { IfObservable (T.history tree.old) (λ v. (T.counts tree.new).misuses ≡ (T.counts tree.old).misuses) }
 {
     for i in 0..operands.len() {
         let refusal = test_file(alloc, operands.get(i), tree)?;
@@ -86,14 +86,14 @@ fn test_file<T: Tree>(
     tree: &mut T,
 ) -> Result<Option<Refusal>, TreeFault>
     requires { IsTrue (is_file operand.now.text) }
-    ensures found { IfOk result (λ refusal. OnTold (T.history tree.old) (λ v. refusal ≡ file_refusal operand.now.place (files_of v (without_dot operand.now.text)))) }
+    ensures found { IfOk result (λ refusal. IfObservable (T.history tree.old) (λ v. refusal ≡ file_refusal operand.now.place (files_of v (without_dot operand.now.text)))) }
     ensures by_reads { IfOk result (λ refusal. (found : Option (List ℕ)) × (refusal ≡ file_refusal operand.now.place found)) }
     ensures same { T.history tree.new ≡ T.history tree.old }
     ensures goes_on { GoesOn (T.counts tree.old) (T.counts tree.new) }
     ensures disk { IsErrOf result TreeFault.Disk → HasCause (T.counts tree.old) (T.counts tree.new) }
     ensures kept { OnOk result (IsNoFault (T.counts tree.old) (T.counts tree.new)) }
     ensures memory { IsErrOf result TreeFault.Memory → IsNoFault (T.counts tree.old) (T.counts tree.new) }
-    ensures proper { OnTold (T.history tree.old) (λ v. (T.counts tree.new).misuses ≡ (T.counts tree.old).misuses) }
+    ensures proper { IfObservable (T.history tree.old) (λ v. (T.counts tree.new).misuses ≡ (T.counts tree.old).misuses) }
 {
     // The operands of `verify` name files, so there is a name.
     let Some(file) = Name::read(alloc, operand.file())? else {

@@ -12,12 +12,12 @@ pub record Counts : Type 0 where
   pub fallible : Bool
 
 -- one more
-abbrev pub risen : ℕ → ℕ
-risen n = min (n + 1) (2 ^ 64 - 1)
+abbrev pub next_count : ℕ → ℕ
+next_count n = min (n + 1) (2 ^ 64 - 1)
 
 -- it rose, or stands at its last value
 abbrev pub Rose : ℕ → ℕ → Type 0
-Rose before now = risen before ≤ now
+Rose before now = next_count before ≤ now
 
 -- no count fell
 pub record GoesOn (before now : Counts) : Type 0 where

@@ -12,8 +12,8 @@ abbrev pub NameMap : Type 0
 NameMap = List ℕ → Option ℕ
 
 -- the map with this at a name
-abbrev pub put : {X : Type 0} → (List ℕ → Option X) → List ℕ → X → List ℕ → Option X
-put map name x q = if bytes_eq q name then Some x else map q
+abbrev pub put_name : {X : Type 0} → (List ℕ → Option X) → List ℕ → X → List ℕ → Option X
+put_name map name x q = if bytes_eq q name then Some x else map q
 
 -- the map with nothing at a name
 abbrev pub drop_name : {X : Type 0} → (List ℕ → Option X) → List ℕ → List ℕ → Option X
@@ -21,7 +21,7 @@ drop_name map name q = if bytes_eq q name then None else map q
 
 -- the map in which `to` has this, and `from` nothing
 abbrev pub move_name : {X : Type 0} → (List ℕ → Option X) → List ℕ → List ℕ → X → List ℕ → Option X
-move_name map from to x = put (drop_name map from) to x
+move_name map from to x = put_name (drop_name map from) to x
 
 -- the map with no names
 abbrev pub no_names : {X : Type 0} → List ℕ → Option X

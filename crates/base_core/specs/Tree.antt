@@ -1,6 +1,6 @@
 -- A tree of files at one moment, what each call makes of it, and where a call is a misuse.
 use Rattle.std.specs.Prelude.{◌≡◌, ◌⊎◌, ◌≢◌, ◌≤◌, ◌<◌, ℕ, ◌+◌, Bool, true, false, if◌then◌else◌, ◌==◌, List, [], ◌∷◌, ◌++◌, Option, Some, None, IsSome, length}
-use Rattle.base_core.specs.Files.{Files, NameMap, put, drop_name, move_name, IsFolderLike, IsWithin}
+use Rattle.base_core.specs.Files.{Files, NameMap, put_name, drop_name, move_name, IsFolderLike, IsWithin}
 
 -- a file: its bytes as read, and whether a crash leaves just these
 pub record File : Type 0 where
@@ -44,7 +44,7 @@ abbrev pub after_create : List ℕ → TreeState → TreeState
 after_create name v = record {
   files = set_file v.files v.made (record { bytes = []; synced = false });
   made = v.made + 1;
-  names = put v.names name v.made;
+  names = put_name v.names name v.made;
   older = v.names ∷ v.older;
 }
 
@@ -76,8 +76,8 @@ abbrev pub after_sync_names : TreeState → TreeState
 after_sync_names v = record v { older = [] }
 
 -- a call that failed and made nothing of it
-abbrev pub unchanged : TreeState → TreeState
-unchanged v = v
+abbrev pub same_state : TreeState → TreeState
+same_state v = v
 
 -- ---- where a call is no misuse
 
@@ -93,12 +93,12 @@ CanRead name at len v = (bytes : List ℕ) × (files_of v name ≡ Some bytes) �
 
 pub record CanCreate (name : List ℕ) (v : TreeState) : Type 0 where
   pub absent : v.names name ≡ None
-  pub folders : IsFolderLike (put v.names name v.made)
+  pub folders : IsFolderLike (put_name v.names name v.made)
 
 pub record CanRename (from to : List ℕ) (v : TreeState) : Type 0 where
   pub present : IsSome (v.names from)
   pub apart : from ≢ to
-  pub folders : IsFolderLike (put (drop_name v.names from) to 0)
+  pub folders : IsFolderLike (put_name (drop_name v.names from) to 0)
 
 -- ---- the maps of names
 

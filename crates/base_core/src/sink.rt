@@ -1,6 +1,6 @@
 ghost use Rattle.std.specs.Prelude.{◌≡◌, [], List, ℕ, Option, take, IsOk, IfOk, OnErr};
 ghost use Rattle.base_core.specs.Faults.{Counts, FailsWithCause};
-ghost use Rattle.base_core.specs.Sink.{Adds, IsTaken};
+ghost use Rattle.base_core.specs.Sink.{Adds, IsWriteCount};
 
 use thiserror::Error;
 
@@ -19,7 +19,7 @@ pub trait Sink {
 
     /// Takes a front of the piece, at least one byte where there is one. An empty piece never fails.
     fn write(&mut self, piece: &[u8]) -> Result<usize, SinkFault>
-        ensures taken { IfOk result (λ n. IsTaken n piece.now) }
+        ensures taken { IfOk result (λ n. IsWriteCount n piece.now) }
         ensures empty { piece.now ≡ [] → IsOk result }
         ensures added { IfOk result (λ n. Adds (bytes self.old) (bytes self.new) (take n piece.now)) }
         ensures unchanged { OnErr result (bytes self.new ≡ bytes self.old) }

@@ -1,8 +1,8 @@
 ghost use Rattle.std.specs.Prelude.{◌≡◌, List, Option, length, take, drop, IfOk, OnOk, IfSome, IsErrOf, All};
 ghost use Rattle.std.specs.Option.{option_map};
-ghost use Rattle.base_core.specs.Tree.{TreeState, files_of, after_create, after_append, after_failed_append, after_sync, after_rename, after_remove, after_sync_names, unchanged, Anywhere, HasName, CanRead, CanCreate, CanRename, IsWhole};
+ghost use Rattle.base_core.specs.Tree.{TreeState, files_of, after_create, after_append, after_failed_append, after_sync, after_rename, after_remove, after_sync_names, same_state, Anywhere, HasName, CanRead, CanCreate, CanRename, IsWhole};
 ghost use Rattle.base_core.specs.Faults.{Counts, GoesOn, HasCause, IsNoFault};
-ghost use Rattle.base_core.specs.Calls.{Counted, Moves, OnTold};
+ghost use Rattle.base_core.specs.Calls.{IsCounted, Moves, IfObservable};
 ghost use Rattle.base_core.specs.Listed.{AreNamesBelow, IsListOf};
 ghost use Rattle.base_core.specs.declared.tree.TreeFault.TheVariants.{Memory, Disk as DiskFault};
 
@@ -54,49 +54,49 @@ pub trait Tree {
     /// The file's length in bytes, or None exactly where the name is absent.
     fn size(&mut self, name: &Name) -> Result<Option<u64>, Disk>
         ensures same { history self.new ≡ history self.old }
-        ensures counts { Counted Anywhere (history self.old) (counts self.old) (counts self.new) result }
-        ensures value { IfOk result (λ size. OnTold (history self.old) (λ v. size ≡ option_map length (files_of v name.now))) };
+        ensures counts { IsCounted Anywhere (history self.old) (counts self.old) (counts self.new) result }
+        ensures value { IfOk result (λ size. IfObservable (history self.old) (λ v. size ≡ option_map length (files_of v name.now))) };
 
     /// Fills the buffer with the file's bytes from `at` on. An absent name, or a read past the file's end, is a
     /// misuse, and a fault.
     fn read_at(&mut self, name: &Name, at: u64, into: &mut [u8]) -> Result<(), Disk>
         ensures same { history self.new ≡ history self.old }
-        ensures counts { Counted (CanRead name.now at (length into.old)) (history self.old) (counts self.old) (counts self.new) result }
-        ensures value { OnOk result (OnTold (history self.old) (λ v. IfSome (files_of v name.now) (λ bytes.
+        ensures counts { IsCounted (CanRead name.now at (length into.old)) (history self.old) (counts self.old) (counts self.new) result }
+        ensures value { OnOk result (IfObservable (history self.old) (λ v. IfSome (files_of v name.now) (λ bytes.
             into.new ≡ take (length into.old) (drop at bytes)))) };
 
     /// Makes an empty file, which is not synced. A name that is present, or that would make one name a folder of
     /// another, is a misuse, and a fault.
     fn create(&mut self, name: &Name) -> Result<(), Disk>
         ensures moves { Moves (CanCreate name.now) (after_create name.now) (after_create name.now) (history self.old) (history self.new) result }
-        ensures counts { Counted (CanCreate name.now) (history self.old) (counts self.old) (counts self.new) result };
+        ensures counts { IsCounted (CanCreate name.now) (history self.old) (counts self.old) (counts self.new) result };
 
     /// Adds a piece at the file's end. The file is not synced any more, and where the call fails it may not be either.
     /// An absent name is a misuse, and a fault.
     fn append(&mut self, name: &Name, piece: &[u8]) -> Result<(), Disk>
         ensures moves { Moves (HasName name.now) (after_append name.now piece.now) (after_failed_append name.now) (history self.old) (history self.new) result }
-        ensures counts { Counted (HasName name.now) (history self.old) (counts self.old) (counts self.new) result };
+        ensures counts { IsCounted (HasName name.now) (history self.old) (counts self.old) (counts self.new) result };
 
     /// Makes a crash leave the file's bytes as they are. An absent name is a misuse, and a fault.
     fn sync(&mut self, name: &Name) -> Result<(), Disk>
-        ensures moves { Moves (HasName name.now) (after_sync name.now) unchanged (history self.old) (history self.new) result }
-        ensures counts { Counted (HasName name.now) (history self.old) (counts self.old) (counts self.new) result };
+        ensures moves { Moves (HasName name.now) (after_sync name.now) same_state (history self.old) (history self.new) result }
+        ensures counts { IsCounted (HasName name.now) (history self.old) (counts self.old) (counts self.new) result };
 
     /// Lets `to` lead to the file of `from`, and `from` to none, in one step; what `to` led to is gone. An absent
     /// `from`, the same name twice, or a `to` that would make one name a folder of another is a misuse, and a fault.
     fn rename(&mut self, from: &Name, to: &Name) -> Result<(), Disk>
         ensures moves { Moves (CanRename from.now to.now) (after_rename from.now to.now) (after_rename from.now to.now) (history self.old) (history self.new) result }
-        ensures counts { Counted (CanRename from.now to.now) (history self.old) (counts self.old) (counts self.new) result };
+        ensures counts { IsCounted (CanRename from.now to.now) (history self.old) (counts self.old) (counts self.new) result };
 
     /// Takes a name away. An absent name is no fault, and nothing changes.
     fn remove(&mut self, name: &Name) -> Result<(), Disk>
         ensures moves { Moves Anywhere (after_remove name.now) (after_remove name.now) (history self.old) (history self.new) result }
-        ensures counts { Counted Anywhere (history self.old) (counts self.old) (counts self.new) result };
+        ensures counts { IsCounted Anywhere (history self.old) (counts self.old) (counts self.new) result };
 
     /// Makes every later crash leave the names as they are now, or as they are made later.
     fn sync_names(&mut self) -> Result<(), Disk>
-        ensures moves { Moves Anywhere after_sync_names unchanged (history self.old) (history self.new) result }
-        ensures counts { Counted Anywhere (history self.old) (counts self.old) (counts self.new) result };
+        ensures moves { Moves Anywhere after_sync_names same_state (history self.old) (history self.new) result }
+        ensures counts { IsCounted Anywhere (history self.old) (counts self.old) (counts self.new) result };
 
     /// All names below a folder, at any depth. They are names below the folder in byte order, each once, whatever the
     /// tree tells. Want of memory is no fault of the tree.
@@ -107,7 +107,7 @@ pub trait Tree {
         ensures kept { OnOk result (IsNoFault (counts self.old) (counts self.new)) }
         ensures memory { IsErrOf result Memory → IsNoFault (counts self.old) (counts self.new) }
         ensures proper { (counts self.new).misuses ≡ (counts self.old).misuses }
-        ensures value { IfOk result (λ names. OnTold (history self.old) (λ v. IsListOf folder.now v names)) }
+        ensures value { IfOk result (λ names. IfObservable (history self.old) (λ v. IsListOf folder.now v names)) }
         ensures order { IfOk result (λ names. AreNamesBelow folder.now names) };
 
     /// Each state that is told has finitely many names, and led to no file that was never made.

@@ -1,5 +1,5 @@
 ghost use Rattle.std.specs.Prelude.{◌≡◌, IfOk, OnOk, OnErr, IsErrOf};
-ghost use Rattle.base_core.specs.Calls.{OnTold};
+ghost use Rattle.base_core.specs.Calls.{IfObservable};
 ghost use Rattle.base_core.specs.Faults.{GoesOn, HasCause, IsNoFault, FailsWithCause};
 ghost use Rattle.base_core.specs.Read.{bytes_in};
 ghost use Rattle.base_core.specs.Sink.{Adds, AddsSome};
@@ -16,13 +16,13 @@ pub fn read_all<T: Tree>(
     tree: &mut T,
     name: &Name,
 ) -> Result<Option<Vec<u8>>, TreeFault>
-    ensures answer { IfOk result (λ found. OnTold (T.history tree.old) (λ v. bytes_in found ≡ files_of v name.now)) }
+    ensures answer { IfOk result (λ found. IfObservable (T.history tree.old) (λ v. bytes_in found ≡ files_of v name.now)) }
     ensures same { T.history tree.new ≡ T.history tree.old }
     ensures goes_on { GoesOn (T.counts tree.old) (T.counts tree.new) }
     ensures disk { IsErrOf result TreeFault.Disk → HasCause (T.counts tree.old) (T.counts tree.new) }
     ensures kept { OnOk result (IsNoFault (T.counts tree.old) (T.counts tree.new)) }
     ensures memory { IsErrOf result TreeFault.Memory → IsNoFault (T.counts tree.old) (T.counts tree.new) }
-    ensures proper { OnTold (T.history tree.old) (λ v. (T.counts tree.new).misuses ≡ (T.counts tree.old).misuses) }
+    ensures proper { IfObservable (T.history tree.old) (λ v. (T.counts tree.new).misuses ≡ (T.counts tree.old).misuses) }
 {
     let Some(size) = tree.size(name)? else {
         return Ok(None);

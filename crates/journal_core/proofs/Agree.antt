@@ -3,14 +3,14 @@ use Rattle.std.proofs.Common.{◌≡◌, inl, inr, ℕ, ◌+◌, ◌≤◌, ◌<
 use Rattle.std.specs.List.{list_any}
 use Rattle.std.specs.Str.{bytes_eq}
 use Rattle.base_core.specs.Files.{Files}
-use Rattle.journal_core.specs.Recovery.{intent_name, is_staged, stage_name, Intent, intent_at, intent_of, without, move_if, unstaged, recovered_by, recovered, is_hidden, state_of, IsPlaceOf, RestsOn}
+use Rattle.journal_core.specs.Recovery.{intent_name, is_staged, stage_name, Intent, intent_at, intent_of, without_names, move_if, after_moves, recovered_files_by, recovered_files, is_hidden, state_of, IsPlaceOf, RestsOn}
 
 -- two trees of files agree at these names
 abbrev pub Agree : (List ℕ → Type 0) → Files → Files → Type 0
 Agree S F G = (q : List ℕ) → S q → F q ≡ G q
 
 module _ (S : List ℕ → Type 0) where
-  agree-without : (names : List (List ℕ)) (F G : Files) → Agree S F G → Agree S (without names F) (without names G)
+  agree-without : (names : List (List ℕ)) (F G : Files) → Agree S F G → Agree S (without_names names F) (without_names names G)
   agree-without names F G h q s = ap (cond (list_any (bytes_eq q) names) None) (h q s)
 
   agree_moved : (from to : List ℕ) (o : Option (List ℕ)) (F G : Files) → Agree S F G → Agree S (move_if F from to o) (move_if G from to o)
@@ -21,12 +21,12 @@ module _ (S : List ℕ → Type 0) where
   agree-move_if from to F G at h =
       subst (λ o. Agree S (move_if F from to (F from)) (move_if G from to o)) (h from at) (agree_moved from to (F from) F G h)
 
-  agree-unstaged : (names : List (List ℕ)) (k : ℕ) (F G : Files) → ((j : ℕ) → k ≤ j → j < k + length names → S (stage_name j)) → Agree S F G → Agree S (unstaged k names F) (unstaged k names G)
+  agree-unstaged : (names : List (List ℕ)) (k : ℕ) (F G : Files) → ((j : ℕ) → k ≤ j → j < k + length names → S (stage_name j)) → Agree S F G → Agree S (after_moves k names F) (after_moves k names G)
   agree-unstaged [] k F G at h = h
   agree-unstaged (name ∷ names) k F G at h =
       agree-unstaged names (k + 1) _ _ (λ j from below. at j (omega arith) (omega arith)) (agree-move_if (stage_name k) name F G (at k (omega arith) (omega arith)) h)
 
-  agree-recovered_by : (intent : Option Intent) (F G : Files) → ((q : List ℕ) → IsPlaceOf intent q → S q) → Agree S F G → Agree S (recovered_by intent F) (recovered_by intent G)
+  agree-recovered_by : (intent : Option Intent) (F G : Files) → ((q : List ℕ) → IsPlaceOf intent q → S q) → Agree S F G → Agree S (recovered_files_by intent F) (recovered_files_by intent G)
   agree-recovered_by None F G at h q s = h q s
   agree-recovered_by (Some intent) F G at h q s =
       ap (cond (bytes_eq q intent_name) None)
@@ -43,6 +43,6 @@ or_right false b e = e
 pub state_agree : (X : List ℕ → Bool) (F G : Files) → Agree (RestsOn X F) F G → state_of X F ≡ state_of X G
 state_agree X F G h =
     let same_intent : intent_of F ≡ intent_of G = ap intent_at (h intent_name (inl refl)) in
-    let same_recovered : (q : List ℕ) → RestsOn X F q → recovered F q ≡ recovered G q = λ q s.
-    agree-recovered_by (RestsOn X F) (intent_of F) F G (λ r place. inr (inr place)) h q s ∙ ap (λ o. recovered_by o G q) same_intent in
-    λ i q. same_shown X q (recovered F q) (recovered G q) (is_hidden X q) refl (λ shown. same_recovered q (inr (inl (or_right (bytes_eq q intent_name) (is_staged q || X q) shown)))) i
+    let same_recovered : (q : List ℕ) → RestsOn X F q → recovered_files F q ≡ recovered_files G q = λ q s.
+    agree-recovered_by (RestsOn X F) (intent_of F) F G (λ r place. inr (inr place)) h q s ∙ ap (λ o. recovered_files_by o G q) same_intent in
+    λ i q. same_shown X q (recovered_files F q) (recovered_files G q) (is_hidden X q) refl (λ shown. same_recovered q (inr (inl (or_right (bytes_eq q intent_name) (is_staged q || X q) shown)))) i

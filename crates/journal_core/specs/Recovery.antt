@@ -58,8 +58,8 @@ intent_of files = intent_at (files intent_name)
 -- ---- its actions
 
 -- the files without those of some names
-abbrev pub without : List (List ℕ) → Files → Files
-without names files q = if list_any (bytes_eq q) names then None else files q
+abbrev pub without_names : List (List ℕ) → Files → Files
+without_names names files q = if list_any (bytes_eq q) names then None else files q
 
 -- a file that stands at a name is moved to another name
 abbrev pub move_if : Files → List ℕ → List ℕ → Option (List ℕ) → Files
@@ -67,23 +67,23 @@ move_if files from to None = files
 move_if files from to (Some bytes) = move_name files from to bytes
 
 -- the waiting files from number k on are moved to their names; one that is absent was moved before
-abbrev pub unstaged : ℕ → List (List ℕ) → Files → Files
-unstaged k [] files = files
-unstaged k (name ∷ names) files = unstaged (k + 1) names (move_if files (stage_name k) name (files (stage_name k)))
+abbrev pub after_moves : ℕ → List (List ℕ) → Files → Files
+after_moves k [] files = files
+after_moves k (name ∷ names) files = after_moves (k + 1) names (move_if files (stage_name k) name (files (stage_name k)))
 
 -- the files once all actions are done
-abbrev pub acted : Intent → Files → Files
-acted intent files = unstaged 1 intent.writes (without intent.removals files)
+abbrev pub after_actions : Intent → Files → Files
+after_actions intent files = after_moves 1 intent.writes (without_names intent.removals files)
 
 -- ---- what files stand for
 
-abbrev pub recovered_by : Option Intent → Files → Files
-recovered_by None files = files
-recovered_by (Some intent) files = drop_name (acted intent files) intent_name
+abbrev pub recovered_files_by : Option Intent → Files → Files
+recovered_files_by None files = files
+recovered_files_by (Some intent) files = drop_name (after_actions intent files) intent_name
 
 -- the files once their intent is done and gone; the same files, where there is none or it is no intent container
-abbrev pub recovered : Files → Files
-recovered files = recovered_by (intent_of files) files
+abbrev pub recovered_files : Files → Files
+recovered_files files = recovered_files_by (intent_of files) files
 
 -- the names that no state has: the intent, the waiting files, and further names X
 abbrev pub is_hidden : (List ℕ → Bool) → List ℕ → Bool
@@ -91,7 +91,7 @@ is_hidden X name = bytes_eq name intent_name || (is_staged name || X name)
 
 -- the state that files stand for, apart from the names X
 abbrev pub state_of : (List ℕ → Bool) → Files → Files
-state_of X files q = if is_hidden X q then None else recovered files q
+state_of X files q = if is_hidden X q then None else recovered_files files q
 
 -- ---- order
 

@@ -1,13 +1,13 @@
 //! The calls of a tree that make a change last, each under a name of its own.
-ghost use Rattle.base_core.specs.Calls.{Counted, Moves};
-ghost use Rattle.base_core.specs.Tree.{after_append, after_failed_append, after_remove, after_rename, after_sync, after_sync_names, unchanged, Anywhere, CanRename, HasName};
+ghost use Rattle.base_core.specs.Calls.{IsCounted, Moves};
+ghost use Rattle.base_core.specs.Tree.{after_append, after_failed_append, after_remove, after_rename, after_sync, after_sync_names, same_state, Anywhere, CanRename, HasName};
 
 use base_core::{Disk, Name, Tree};
 
 /// Takes away what an earlier run left under the name.
 pub fn clear<T: Tree>(tree: &mut T, name: &Name) -> Result<(), Disk>
     ensures moves { Moves Anywhere (after_remove name.now) (after_remove name.now) (T.history tree.old) (T.history tree.new) result }
-    ensures counts { Counted Anywhere (T.history tree.old) (T.counts tree.old) (T.counts tree.new) result }
+    ensures counts { IsCounted Anywhere (T.history tree.old) (T.counts tree.old) (T.counts tree.new) result }
 {
     tree.remove(name)
 }
@@ -15,15 +15,15 @@ pub fn clear<T: Tree>(tree: &mut T, name: &Name) -> Result<(), Disk>
 /// Adds the bytes at the file's end.
 pub fn extend<T: Tree>(tree: &mut T, name: &Name, bytes: &[u8]) -> Result<(), Disk>
     ensures moves { Moves (HasName name.now) (after_append name.now bytes.now) (after_failed_append name.now) (T.history tree.old) (T.history tree.new) result }
-    ensures counts { Counted (HasName name.now) (T.history tree.old) (T.counts tree.old) (T.counts tree.new) result }
+    ensures counts { IsCounted (HasName name.now) (T.history tree.old) (T.counts tree.old) (T.counts tree.new) result }
 {
     tree.append(name, bytes)
 }
 
 /// Makes the file's bytes last.
 pub fn sync_file<T: Tree>(tree: &mut T, name: &Name) -> Result<(), Disk>
-    ensures moves { Moves (HasName name.now) (after_sync name.now) unchanged (T.history tree.old) (T.history tree.new) result }
-    ensures counts { Counted (HasName name.now) (T.history tree.old) (T.counts tree.old) (T.counts tree.new) result }
+    ensures moves { Moves (HasName name.now) (after_sync name.now) same_state (T.history tree.old) (T.history tree.new) result }
+    ensures counts { IsCounted (HasName name.now) (T.history tree.old) (T.counts tree.old) (T.counts tree.new) result }
 {
     tree.sync(name)
 }
@@ -31,15 +31,15 @@ pub fn sync_file<T: Tree>(tree: &mut T, name: &Name) -> Result<(), Disk>
 /// Moves the file of `from` to `to`.
 pub fn move_to<T: Tree>(tree: &mut T, from: &Name, to: &Name) -> Result<(), Disk>
     ensures moves { Moves (CanRename from.now to.now) (after_rename from.now to.now) (after_rename from.now to.now) (T.history tree.old) (T.history tree.new) result }
-    ensures counts { Counted (CanRename from.now to.now) (T.history tree.old) (T.counts tree.old) (T.counts tree.new) result }
+    ensures counts { IsCounted (CanRename from.now to.now) (T.history tree.old) (T.counts tree.old) (T.counts tree.new) result }
 {
     tree.rename(from, to)
 }
 
 /// Makes the names last.
 pub fn sync_all_names<T: Tree>(tree: &mut T) -> Result<(), Disk>
-    ensures moves { Moves Anywhere after_sync_names unchanged (T.history tree.old) (T.history tree.new) result }
-    ensures counts { Counted Anywhere (T.history tree.old) (T.counts tree.old) (T.counts tree.new) result }
+    ensures moves { Moves Anywhere after_sync_names same_state (T.history tree.old) (T.history tree.new) result }
+    ensures counts { IsCounted Anywhere (T.history tree.old) (T.counts tree.old) (T.counts tree.new) result }
 {
     tree.sync_names()
 }

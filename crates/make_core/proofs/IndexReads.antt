@@ -5,7 +5,7 @@ use Rattle.std.proofs.Common.{◌≤◌}
 use Rattle.std.proofs.Math.ListN.{drop_of_length-le}
 use Rattle.std.specs.List.{slice_get}
 use Rattle.std.specs.Result.{IsErrAnd}
-use Rattle.base_core.specs.Calls.{OnTold}
+use Rattle.base_core.specs.Calls.{IfObservable}
 use Rattle.base_core.specs.Faults.{Counts, GoesOn}
 use Rattle.base_core.specs.Tree.{TreeState, files_of}
 use Rattle.adb_view.specs.Plain.{Plain}
@@ -31,7 +31,7 @@ pub some_is : (x : Option (List ℕ)) (a b : List ℕ) → IfSome x (λ y. y ≡
 some_is (Some y) a b h e = let same : y ≡ a = cc in sym same ∙ h
 some_is None a b h e = cc
 
-pub found_told : {A : Type 0} (view : A → Plain) (history : List TreeState) (r : Result A MakeFault) (place : ℕ) (name text : List ℕ) (found : Option (List ℕ)) → OnTold history (λ v. found ≡ files_of v name) → name ≡ text → IsMade view r (found_entry place found) → OnTold history (λ v. IsMadeBy view r (found_entry place (files_of v text)))
+pub found_told : {A : Type 0} (view : A → Plain) (history : List TreeState) (r : Result A MakeFault) (place : ℕ) (name text : List ℕ) (found : Option (List ℕ)) → IfObservable history (λ v. found ≡ files_of v name) → name ≡ text → IsMade view r (found_entry place found) → IfObservable history (λ v. IsMadeBy view r (found_entry place (files_of v text)))
 found_told view [] r place name text found h e made = tt
 found_told view (v ∷ earlier) r place name text found h e made =
     by_made view r (found_entry place (files_of v text)) (subst (λ (o : Option (List ℕ)). IsMade view r (found_entry place o)) (h ∙ ap (files_of v) e) made)
@@ -168,33 +168,33 @@ read_stopped view os (Err fault) e =
 
 -- ---- over a tree that tells its files
 
-pub told_none : (history : List TreeState) (os : List Operand) → OnTold history (λ v. IsSoFar (told_reads v) os 0 [])
+pub told_none : (history : List TreeState) (os : List Operand) → IfObservable history (λ v. IsSoFar (told_reads v) os 0 [])
 told_none [] os = tt
 told_none (v ∷ earlier) os = so_far_none (told_reads v) os
 
-pub told_more : (old now : List TreeState) (os : List Operand) (i : ℕ) (o : Operand) (es new : List Plain) (e : Plain) → slice_get os i ≡ Some o → now ≡ old → OnTold old (λ v. IsSoFar (told_reads v) os i es) → OnTold now (λ v. found_entry o.place (files_of v (without_dot o.text)) ≡ Ok e) → new ≡ es ++ e ∷ [] → OnTold old (λ v. IsSoFar (told_reads v) os (i + 1) new)
+pub told_more : (old now : List TreeState) (os : List Operand) (i : ℕ) (o : Operand) (es new : List Plain) (e : Plain) → slice_get os i ≡ Some o → now ≡ old → IfObservable old (λ v. IsSoFar (told_reads v) os i es) → IfObservable now (λ v. found_entry o.place (files_of v (without_dot o.text)) ≡ Ok e) → new ≡ es ++ e ∷ [] → IfObservable old (λ v. IsSoFar (told_reads v) os (i + 1) new)
 told_more [] now os i o es new e at same so one is = tt
 told_more (v ∷ earlier) now os i o es new e at same so one is =
-    so_far_more (told_reads v) os i o es new e at so (subst (λ (t : List TreeState). OnTold t (λ w. found_entry o.place (files_of w (without_dot o.text)) ≡ Ok e)) same one) is
+    so_far_more (told_reads v) os i o es new e at so (subst (λ (t : List TreeState). IfObservable t (λ w. found_entry o.place (files_of w (without_dot o.text)) ≡ Ok e)) same one) is
 
-pub told_all : (old : List TreeState) (os : List Operand) (i : ℕ) (es : List Plain) → length os ≤ i → OnTold old (λ v. IsSoFar (told_reads v) os i es) → OnTold old (λ v. found_entries (told_reads v) 0 os ≡ Ok es)
+pub told_all : (old : List TreeState) (os : List Operand) (i : ℕ) (es : List Plain) → length os ≤ i → IfObservable old (λ v. IsSoFar (told_reads v) os i es) → IfObservable old (λ v. found_entries (told_reads v) 0 os ≡ Ok es)
 told_all [] os i es past so = tt
 told_all (v ∷ earlier) os i es past so = so_far_all (told_reads v) os i es past so
 
-pub told_err : {A B : Type 0} (view : A → List Plain) (one : B → Plain) (old now : List TreeState) (os : List Operand) (i : ℕ) (o : Operand) (es : List Plain) (fault : MakeFault) (r : Result A MakeFault) → slice_get os i ≡ Some o → now ≡ old → OnTold old (λ v. IsSoFar (told_reads v) os i es) → OnTold now (λ v. IsMadeBy one (Err fault) (found_entry o.place (files_of v (without_dot o.text)))) → r ≡ Err fault → OnTold old (λ v. IsMadeBy view r (found_entries (told_reads v) 0 os))
+pub told_err : {A B : Type 0} (view : A → List Plain) (one : B → Plain) (old now : List TreeState) (os : List Operand) (i : ℕ) (o : Operand) (es : List Plain) (fault : MakeFault) (r : Result A MakeFault) → slice_get os i ≡ Some o → now ≡ old → IfObservable old (λ v. IsSoFar (told_reads v) os i es) → IfObservable now (λ v. IsMadeBy one (Err fault) (found_entry o.place (files_of v (without_dot o.text)))) → r ≡ Err fault → IfObservable old (λ v. IsMadeBy view r (found_entries (told_reads v) 0 os))
 told_err view one [] now os i o es fault r at same so made e = tt
 told_err view one (v ∷ earlier) now os i o es fault r at same so made e =
-    so_far_err view (told_reads v) os i o es fault r at so one (subst (λ (t : List TreeState). OnTold t (λ w. IsMadeBy one (Err fault) (found_entry o.place (files_of w (without_dot o.text))))) same made) e
+    so_far_err view (told_reads v) os i o es fault r at so one (subst (λ (t : List TreeState). IfObservable t (λ w. IsMadeBy one (Err fault) (found_entry o.place (files_of w (without_dot o.text))))) same made) e
 
 -- ---- the counts
 
-pub proper_none : (old : List TreeState) (a : ℕ) → OnTold old (λ v. a ≡ a)
+pub proper_none : (old : List TreeState) (a : ℕ) → IfObservable old (λ v. a ≡ a)
 proper_none [] a = tt
 proper_none (v ∷ old) a = refl
 
-pub proper_more : (old now : List TreeState) (a b c : ℕ) → now ≡ old → OnTold old (λ v. b ≡ a) → OnTold now (λ v. c ≡ b) → OnTold old (λ v. c ≡ a)
+pub proper_more : (old now : List TreeState) (a b c : ℕ) → now ≡ old → IfObservable old (λ v. b ≡ a) → IfObservable now (λ v. c ≡ b) → IfObservable old (λ v. c ≡ a)
 proper_more [] now a b c same h k = tt
-proper_more (v ∷ old) now a b c same h k = subst (λ (t : List TreeState). OnTold t (λ w. c ≡ b)) same k ∙ h
+proper_more (v ∷ old) now a b c same h k = subst (λ (t : List TreeState). IfObservable t (λ w. c ≡ b)) same k ∙ h
 
 pub goes_on_twice : (a b c : Counts) → GoesOn a b → GoesOn b c → GoesOn a c
 goes_on_twice a b c h k = record {
@@ -207,8 +207,8 @@ goes_on_twice a b c h k = record {
 pub goes_on_same : (a : Counts) → GoesOn a a
 goes_on_same a = record { faults = omega arith; misuses = omega arith; wants = omega arith; fallible = λ now. now }
 
-pub told_start : (history : List TreeState) (os : List Operand) (es : List Plain) → es ≡ [] → OnTold history (λ v. IsSoFar (told_reads v) os 0 es)
-told_start history os es e = subst (λ (xs : List Plain). OnTold history (λ v. IsSoFar (told_reads v) os 0 xs)) (sym e) (told_none history os)
+pub told_start : (history : List TreeState) (os : List Operand) (es : List Plain) → es ≡ [] → IfObservable history (λ v. IsSoFar (told_reads v) os 0 es)
+told_start history os es e = subst (λ (xs : List Plain). IfObservable history (λ v. IsSoFar (told_reads v) os 0 xs)) (sym e) (told_none history os)
 
 pub read_start : (os : List Operand) (es : List Plain) → es ≡ [] → IsReadTo os 0 es
 read_start os es e = subst (IsReadTo os 0) (sym e) (read_none os)

@@ -1,6 +1,6 @@
 -- The index that a command asks for, over any tree.
 use Rattle.std.proofs.Common.{◌≡◌, ℕ, true, List, [], ◌∷◌, Option, Result, Ok, Err, refl, sym, ◌∙◌, ap, subst}
-use Rattle.base_core.specs.Calls.{OnTold}
+use Rattle.base_core.specs.Calls.{IfObservable}
 use Rattle.base_core.specs.Tree.{TreeState}
 use Rattle.adb_view.specs.Plain.{Plain}
 use Rattle.words_core.specs.Command.{CommandLine, IsCommand, are_files, is_plain, is_sound}
@@ -37,7 +37,7 @@ module _ (command : CommandLine) (d : List ℕ) (os : List Operand) (is_d : d �
   unfolding made_index
   by_command view read r h = subst (λ o. IsMadeBy view r (index_of_found (description_in command.values) (found_entries read 0 o))) is_os (subst (λ (x : List ℕ). IsMadeBy view r (index_of_found x (found_entries read 0 os))) is_d h)
 
-  pub told_made : {A : Type 0} (view : A → List ℕ) (history : List TreeState) (es : List Plain) (r : Result A MakeFault) → OnTold history (λ v. found_entries (told_reads v) 0 os ≡ Ok es) → IsMade view r (index_of d es) → OnTold history (λ v. IsMadeBy view r (made_index command (told_reads v)))
+  pub told_made : {A : Type 0} (view : A → List ℕ) (history : List TreeState) (es : List Plain) (r : Result A MakeFault) → IfObservable history (λ v. found_entries (told_reads v) 0 os ≡ Ok es) → IsMade view r (index_of d es) → IfObservable history (λ v. IsMadeBy view r (made_index command (told_reads v)))
   told_made view [] es r so made = tt
   told_made view (v ∷ earlier) es r so made = by_command view (told_reads v) r (made_all view d r _ es so made)
 
@@ -45,7 +45,7 @@ module _ (command : CommandLine) (d : List ℕ) (os : List Operand) (is_d : d �
   found_made view es r so made = (so.0, subst (AreFiles so.0 0) is_os so.1, by_command view so.0 r (made_all view d r _ es so.2 made))
 
 module _ (command : CommandLine) (os : List Operand) (is_os : os ≡ command.operands) where
-  pub told_refused : {A B : Type 0} (one : B → List Plain) (view : A → List ℕ) (history : List TreeState) (fault : MakeFault) (r : Result A MakeFault) → OnTold history (λ v. IsMadeBy one (Err fault) (found_entries (told_reads v) 0 os)) → r ≡ Err fault → OnTold history (λ v. IsMadeBy view r (made_index command (told_reads v)))
+  pub told_refused : {A B : Type 0} (one : B → List Plain) (view : A → List ℕ) (history : List TreeState) (fault : MakeFault) (r : Result A MakeFault) → IfObservable history (λ v. IsMadeBy one (Err fault) (found_entries (told_reads v) 0 os)) → r ≡ Err fault → IfObservable history (λ v. IsMadeBy view r (made_index command (told_reads v)))
   told_refused one view [] fault r so e = tt
   told_refused one view (v ∷ earlier) fault r so e = by_command command (description_in command.values) os refl is_os view (told_reads v) r (subst (λ x. IsMadeBy view x (index_of_found (description_in command.values) (found_entries (told_reads v) 0 os))) (sym e) (refused_all one view (description_in command.values) fault _ so))
 

@@ -4,7 +4,7 @@ use Rattle.std.specs.declared.alloc.Global.{Global}
 use Rattle.std.specs.Prelude.{IsErrOf}
 use Rattle.std.specs.Result.{IsErrAnd}
 use Rattle.std.proofs.lemmas.List.{map-append, take-append-drop}
-use Rattle.base_core.specs.Calls.{OnTold}
+use Rattle.base_core.specs.Calls.{IfObservable}
 use Rattle.base_core.specs.Listed.{AreNamesBelow, IsListOf}
 use Rattle.base_core.specs.Faults.{Counts, GoesOn, HasCause, IsNoFault}
 use Rattle.base_core.specs.Tree.{TreeState}
@@ -171,7 +171,7 @@ module _ (command : CommandLine) (names : List (List ℕ)) (read : Reads) where
 
 -- ---- a run, of what is made
 
-pub made_by : (told : List TreeState) (command : CommandLine) (names : List (List ℕ)) (r : Result (Vec ℕ Global) MakeFault) → AreNamesFor (given 70 command.values) names → OnTold told (λ v. AreBelow (given 70 command.values) v names)
+pub made_by : (told : List TreeState) (command : CommandLine) (names : List (List ℕ)) (r : Result (Vec ℕ Global) MakeFault) → AreNamesFor (given 70 command.values) names → IfObservable told (λ v. AreBelow (given 70 command.values) v names)
     → Explains told (λ read. IsAnswer IsBytes r (made_package command names read)) → IsMadeRun told command r
 made_by told command names (Ok file) named below p = record { names = names; named = named; below = below; reads = record { read = p.read; as_told = p.as_told; is = p.is.1 ∙ ap Ok p.is.2 } }
 made_by told command names (Err Disk) named below p = tt
@@ -182,13 +182,13 @@ made_by told command names (Err (InfoBad q)) named below p = record { names = na
 made_by told command names (Err (TooLarge b v)) named below p = record { names = names; named = named; below = below; reads = p }
 
 -- the tree was asked before the run, and stayed as it was
-pub run_as : (t0 t1 : List TreeState) (command : CommandLine) (names : List (List ℕ)) (r : Result (Vec ℕ Global) MakeFault) → t1 ≡ t0 → AreNamesFor (given 70 command.values) names → OnTold t0 (λ v. AreBelow (given 70 command.values) v names)
+pub run_as : (t0 t1 : List TreeState) (command : CommandLine) (names : List (List ℕ)) (r : Result (Vec ℕ Global) MakeFault) → t1 ≡ t0 → AreNamesFor (given 70 command.values) names → IfObservable t0 (λ v. AreBelow (given 70 command.values) v names)
     → Explains t1 (λ read. IsAnswer IsBytes r (made_package command names read)) → IsMadeRun t0 command r
 run_as t0 t1 command names r e named below p =
     let P : List TreeState → Type 0 = λ t. Explains t (λ read. IsAnswer IsBytes r (made_package command names read)) in
     made_by t0 command names r named below (subst P e p)
 
-made_in : (told : List TreeState) (command : CommandLine) (made : Result (List ℕ) MakeFault) → IsMadeOf told command made → OnTold told (λ v. IsMadeIn command v made)
+made_in : (told : List TreeState) (command : CommandLine) (made : Result (List ℕ) MakeFault) → IsMadeOf told command made → IfObservable told (λ v. IsMadeIn command v made)
 made_in [] command made m = tt
 made_in (v ∷ vs) command made m = record {
   names = m.names;
@@ -208,13 +208,13 @@ refused_as (InfoBad p) P Q f h = f (Err (InfoBad p)) h
 refused_as (TooLarge b v) P Q f h = f (Err (TooLarge b v)) h
 
 module _ (told : List TreeState) (command : CommandLine) where
-  pub run_ok : (r : Result (Vec ℕ Global) MakeFault) → IsMadeRun told command r → IfOk r (λ file. OnTold told (λ v. IsMadeIn command v (Ok file.items)))
+  pub run_ok : (r : Result (Vec ℕ Global) MakeFault) → IsMadeRun told command r → IfOk r (λ file. IfObservable told (λ v. IsMadeIn command v (Ok file.items)))
   run_ok (Ok file) h = made_in told command (Ok file.items) h
   run_ok (Err fault) h = tt
 
-  pub run_err : (r : Result (Vec ℕ Global) MakeFault) → IsMadeRun told command r → IfErr r (λ fault. OnRefusal fault (λ made. OnTold told (λ v. IsMadeIn command v made)))
+  pub run_err : (r : Result (Vec ℕ Global) MakeFault) → IsMadeRun told command r → IfErr r (λ fault. OnRefusal fault (λ made. IfObservable told (λ v. IsMadeIn command v made)))
   run_err (Ok file) h = tt
-  run_err (Err fault) h = refused_as fault (IsMadeOf told command) (λ made. OnTold told (λ v. IsMadeIn command v made)) (made_in told command) h
+  run_err (Err fault) h = refused_as fault (IsMadeOf told command) (λ made. IfObservable told (λ v. IsMadeIn command v made)) (made_in told command) h
 
   pub run_found : (r : Result (Vec ℕ Global) MakeFault) → IsMadeRun told command r → IfOk r (λ file. IsMadeBySome command (Ok file.items))
   run_found (Ok file) h = made_by_some told command (Ok file.items) h
@@ -230,7 +230,7 @@ module _ (told : List TreeState) (command : CommandLine) where
 pub record IsRun (t0 t1 : List TreeState) (a b : Counts) : Type 0 where
   pub same : t1 ≡ t0
   pub goes_on : GoesOn a b
-  pub proper : OnTold t0 (λ v. b.misuses ≡ a.misuses)
+  pub proper : IfObservable t0 (λ v. b.misuses ≡ a.misuses)
 
 quiet_run : (t0 t1 : List TreeState) (a b : Counts) → IsQuiet t0 t1 a b → IsRun t0 t1 a b
 quiet_run t0 t1 a b h = record { same = h.same; goes_on = h.goes_on; proper = h.proper }
@@ -278,9 +278,9 @@ module _ {A : Type 0} (t0 t1 : List TreeState) (a b : Counts) where
 
 -- ---- the listing
 
-pub below_as : (told : List TreeState) (command : CommandLine) (values : List OptionValue) (names : List (List ℕ)) → values ≡ command.values → OnTold told (λ v. AreBelow (given 70 values) v names)
-    → OnTold told (λ v. AreBelow (given 70 command.values) v names)
-below_as told command values names e h = let P : List OptionValue → Type 0 = λ vs. OnTold told (λ v. AreBelow (given 70 vs) v names) in subst P e h
+pub below_as : (told : List TreeState) (command : CommandLine) (values : List OptionValue) (names : List (List ℕ)) → values ≡ command.values → IfObservable told (λ v. AreBelow (given 70 values) v names)
+    → IfObservable told (λ v. AreBelow (given 70 command.values) v names)
+below_as told command values names e h = let P : List OptionValue → Type 0 = λ vs. IfObservable told (λ v. AreBelow (given 70 vs) v names) in subst P e h
 
 pub named_as : (command : CommandLine) (values : List OptionValue) (names : List (List ℕ)) → values ≡ command.values → AreNamesFor (given 70 values) names → AreNamesFor (given 70 command.values) names
 named_as command values names e h = let P : List OptionValue → Type 0 = λ vs. AreNamesFor (given 70 vs) names in subst P e h
@@ -288,7 +288,7 @@ named_as command values names e h = let P : List OptionValue → Type 0 = λ vs.
 pub nothing_named : (dirs : List OptionValue) (names : List (List ℕ)) → dirs ≡ [] → AreNamesFor dirs names
 nothing_named dirs names e = let P : List OptionValue → Type 0 = λ l. AreNamesFor l names in subst P (sym e) tt
 
-pub nothing_below : (told : List TreeState) (dirs : List OptionValue) (names : List (List ℕ)) → dirs ≡ [] → OnTold told (λ v. AreBelow dirs v names)
+pub nothing_below : (told : List TreeState) (dirs : List OptionValue) (names : List (List ℕ)) → dirs ≡ [] → IfObservable told (λ v. AreBelow dirs v names)
 nothing_below [] dirs names e = tt
 nothing_below (v ∷ vs) dirs names e = let P : List OptionValue → Type 0 = λ l. AreBelow l v names in subst P (sym e) tt
 
@@ -328,8 +328,8 @@ package_as command about borrowed scripts packing r e made sources is =
 -- ---- of the folder that is given, or of none
 
 pub listed_for : (told : List TreeState) (dirs : List OptionValue) (v : OptionValue) (others : List OptionValue) (r : Result (List (List ℕ)) MakeFault) → dirs ≡ v ∷ others
-    → IfOk r (λ names. OnTold told (λ w. IsListOf (without_dot v.text) w names)) → IfOk r (λ names. OnTold told (λ w. AreBelow dirs w names))
-listed_for told dirs v others r e h = let P : List OptionValue → Type 0 = λ l. IfOk r (λ names. OnTold told (λ w. AreBelow l w names)) in subst P (sym e) h
+    → IfOk r (λ names. IfObservable told (λ w. IsListOf (without_dot v.text) w names)) → IfOk r (λ names. IfObservable told (λ w. AreBelow dirs w names))
+listed_for told dirs v others r e h = let P : List OptionValue → Type 0 = λ l. IfOk r (λ names. IfObservable told (λ w. AreBelow l w names)) in subst P (sym e) h
 
 pub named_for : (dirs : List OptionValue) (v : OptionValue) (others : List OptionValue) (r : Result (List (List ℕ)) MakeFault) → dirs ≡ v ∷ others
     → IfOk r (λ names. AreNamesBelow (without_dot v.text) names) → IfOk r (λ names. AreNamesFor dirs names)

@@ -1,7 +1,7 @@
 -- Reads one after the other: what they explain together, and what they leave of the tree.
 use Rattle.std.proofs.Common.{◌≡◌, ℕ, ◌+◌, ◌<◌, ◌≤◌, ◌⊎◌, inl, inr, Bool, true, false, List, [], ◌∷◌, ◌++◌, Result, Ok, Err, Option, None, IsTrue, refl, sym, ap, ◌∙◌, subst, arith, if◌then◌else◌, nat_lt}
 use borrow.Author.Tests.{lt-ltb, le-ltb}
-use Rattle.base_core.specs.Calls.{OnTold}
+use Rattle.base_core.specs.Calls.{IfObservable}
 use Rattle.base_core.specs.Faults.{Counts, GoesOn, HasCause, IsNoFault, Rose}
 use Rattle.base_core.specs.Tree.{TreeState, files_of}
 use Rattle.make_core.specs.Sources.{Reads, after, each_from}
@@ -23,17 +23,17 @@ still told c = record {
   proper = proper_still told c;
 }
   where
-    proper_still : (told : List TreeState) (c : Counts) → OnTold told (λ v. c.misuses ≡ c.misuses)
+    proper_still : (told : List TreeState) (c : Counts) → IfObservable told (λ v. c.misuses ≡ c.misuses)
     proper_still [] c = tt
     proper_still (v ∷ vs) c = refl
 
 goes_on_then : (a b c : Counts) → GoesOn a b → GoesOn b c → GoesOn a c
 goes_on_then a b c f g = record { faults = omega arith; misuses = omega arith; wants = omega arith; fallible = λ h. f.fallible (g.fallible h) }
 
-proper_then : (told later : List TreeState) (a b c : Counts) → later ≡ told → OnTold told (λ v. b.misuses ≡ a.misuses) → OnTold later (λ v. c.misuses ≡ b.misuses) → OnTold told (λ v. c.misuses ≡ a.misuses)
-proper_then told later a b c e f g = by told f (let P : List TreeState → Type 0 = λ l. OnTold l (λ v. c.misuses ≡ b.misuses) in subst P e g)
+proper_then : (told later : List TreeState) (a b c : Counts) → later ≡ told → IfObservable told (λ v. b.misuses ≡ a.misuses) → IfObservable later (λ v. c.misuses ≡ b.misuses) → IfObservable told (λ v. c.misuses ≡ a.misuses)
+proper_then told later a b c e f g = by told f (let P : List TreeState → Type 0 = λ l. IfObservable l (λ v. c.misuses ≡ b.misuses) in subst P e g)
   where
-    by : (told : List TreeState) → OnTold told (λ v. b.misuses ≡ a.misuses) → OnTold told (λ v. c.misuses ≡ b.misuses) → OnTold told (λ v. c.misuses ≡ a.misuses)
+    by : (told : List TreeState) → IfObservable told (λ v. b.misuses ≡ a.misuses) → IfObservable told (λ v. c.misuses ≡ b.misuses) → IfObservable told (λ v. c.misuses ≡ a.misuses)
     by [] f g = tt
     by (v ∷ vs) f g = g ∙ f
 
@@ -222,7 +222,7 @@ module _ {X Y : Type 0} (told : List TreeState) (count : X → ℕ) (of : Reads 
 
 -- ---- one read
 
-pub read_explained : (told : List TreeState) (found : Option (List ℕ)) (name : List ℕ) → OnTold told (λ v. found ≡ files_of v name)
+pub read_explained : (told : List TreeState) (found : Option (List ℕ)) (name : List ℕ) → IfObservable told (λ v. found ≡ files_of v name)
     → (n : ℕ) → Explains told (λ read. read n name ≡ found)
 read_explained [] found name h n = record { read = λ m q. found; as_told = tt; is = refl }
 read_explained (v ∷ vs) found name h n = record { read = λ m q. files_of v q; as_told = λ m q. refl; is = sym h }

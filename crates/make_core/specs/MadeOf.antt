@@ -2,7 +2,7 @@
 use Rattle.std.specs.Prelude.{◌≡◌, ℕ, List, [], ◌∷◌, Option, Some, None, Result, Ok, Err, Vec}
 use Rattle.std.specs.Borrow.{Bor}
 use Rattle.std.specs.declared.alloc.Global.{Global}
-use Rattle.base_core.specs.Calls.{OnTold}
+use Rattle.base_core.specs.Calls.{IfObservable}
 use Rattle.base_core.specs.Tree.{TreeState}
 use Rattle.words_core.specs.Command.{CommandLine}
 use Rattle.words_core.specs.declared.values.OptionValue.{OptionValue}
@@ -43,7 +43,7 @@ UnlessDisk result P = P
 pub record IsMadeOf (told : List TreeState) (command : CommandLine) (made : Result (List ℕ) MakeFault) : Type 0 where
   pub names : List (List ℕ)
   pub named : AreNamesFor (given 70 command.values) names
-  pub below : OnTold told (λ v. AreBelow (given 70 command.values) v names)
+  pub below : IfObservable told (λ v. AreBelow (given 70 command.values) v names)
   pub reads : Explains told (λ read. made_package command names read ≡ made)
 
 -- the answer is what is made; a fault of the tree and want of memory stand for anything

@@ -1,6 +1,6 @@
 -- What a call that reads a tree says of the tree, and of what it found.
 use Rattle.std.specs.Prelude.{◌≡◌, ℕ, List, Result, Ok, Err}
-use Rattle.base_core.specs.Calls.{OnTold}
+use Rattle.base_core.specs.Calls.{IfObservable}
 use Rattle.base_core.specs.Faults.{Counts, GoesOn, HasCause, IsNoFault}
 use Rattle.base_core.specs.Tree.{TreeState, files_of}
 use Rattle.make_core.specs.Sources.{Reads}
@@ -12,14 +12,14 @@ pub record IsQuiet (told later : List TreeState) (before now : Counts) : Type 0 
   pub same : later ≡ told
   pub goes_on : GoesOn before now
   pub kept : IsNoFault before now
-  pub proper : OnTold told (λ v. now.misuses ≡ before.misuses)
+  pub proper : IfObservable told (λ v. now.misuses ≡ before.misuses)
 
 -- the tree stayed as it was, and a call on it failed that was no misuse
 pub record IsFailure (told later : List TreeState) (before now : Counts) : Type 0 where
   pub same : later ≡ told
   pub goes_on : GoesOn before now
   pub cause : HasCause before now
-  pub proper : OnTold told (λ v. now.misuses ≡ before.misuses)
+  pub proper : IfObservable told (λ v. now.misuses ≡ before.misuses)
 
 -- only the fault of the tree comes with a call that failed
 abbrev pub OnlyReads : {A : Type 0} → List TreeState → List TreeState → Counts → Counts → Result A MakeFault → Type 0
@@ -29,7 +29,7 @@ OnlyReads told later before now (Err fault) = IsQuiet told later before now
 
 -- where the tree tells its files, each read finds what it tells
 abbrev pub AsTold : List TreeState → Reads → Type 0
-AsTold told read = OnTold told (λ v. (n : ℕ) (name : List ℕ) → read n name ≡ files_of v name)
+AsTold told read = IfObservable told (λ v. (n : ℕ) (name : List ℕ) → read n name ≡ files_of v name)
 
 -- some reads, which are as told, explain what was found
 pub record Explains (told : List TreeState) (P : Reads → Type 0) : Type 0 where

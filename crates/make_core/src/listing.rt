@@ -1,6 +1,6 @@
 //! The folder of the tree whose files a package holds: what is listed below it, and packed (apk(8), `mkpkg`).
 ghost use Rattle.std.specs.Prelude.{◌≡◌, ℕ, IfOk, IsTrue};
-ghost use Rattle.base_core.specs.Calls.{OnTold};
+ghost use Rattle.base_core.specs.Calls.{IfObservable};
 ghost use Rattle.base_core.specs.Listed.{AreNamesBelow, IsListOf};
 ghost use Rattle.words_core.specs.Applets.{row_of};
 ghost use Rattle.words_core.specs.Command.{are_values};
@@ -30,7 +30,7 @@ pub(crate) fn list_names<T: Tree>(
     requires { IsTrue (are_values (row_of Mkpkg).options values.now) }
     ensures tree { OnlyReads (T.history tree.old) (T.history tree.new) (T.counts tree.old) (T.counts tree.new) result }
     ensures cut { IsCutOff result }
-    ensures names { IfOk result (λ names. OnTold (T.history tree.old) (λ v. AreBelow (given 70 values.now) v names)) }
+    ensures names { IfOk result (λ names. IfObservable (T.history tree.old) (λ v. AreBelow (given 70 values.now) v names)) }
     ensures order { IfOk result (λ names. AreNamesFor (given 70 values.now) names) }
 {
     match folder_given(values) {
@@ -44,7 +44,7 @@ fn list_below<T: Tree>(alloc: Global, tree: &mut T, value: &OptionValue) -> Resu
     requires { IsTrue (is_file value.now.text) }
     ensures tree { OnlyReads (T.history tree.old) (T.history tree.new) (T.counts tree.old) (T.counts tree.new) result }
     ensures cut { IsCutOff result }
-    ensures names { IfOk result (λ names. OnTold (T.history tree.old) (λ v. IsListOf (without_dot value.now.text) v names)) }
+    ensures names { IfOk result (λ names. IfObservable (T.history tree.old) (λ v. IsListOf (without_dot value.now.text) v names)) }
     ensures order { IfOk result (λ names. AreNamesBelow (without_dot value.now.text) names) }
 {
     // The value gives a folder, so there is a name.

@@ -1,6 +1,6 @@
 //! `mkpkg`: a package is made.
 ghost use Rattle.std.specs.Prelude.{◌≡◌, Ok, None, IfOk, IfErr, IsErrOf};
-ghost use Rattle.base_core.specs.Calls.{OnTold};
+ghost use Rattle.base_core.specs.Calls.{IfObservable};
 ghost use Rattle.base_core.specs.Faults.{GoesOn, HasCause, IsNoFault};
 ghost use Rattle.pkg_core.specs.Whole.{container_fault};
 ghost use Rattle.make_core.specs.MadeOf.{IsBytes, IsMadeRun, UnlessDisk};
@@ -27,8 +27,8 @@ use words_core::{Applet, Command};
 /// values pass a limit of the writer. `Disk` where the tree failed, and `Memory`.
 pub fn mkpkg<T: Tree>(alloc: Global, command: &Command, tree: &mut T) -> Result<Vec<u8>, MakeFault>
     requires { command.now.applet ≡ Applet.Mkpkg }
-    ensures ok { IfOk result (λ file. OnTold (T.history tree.old) (λ v. IsMadeIn command.now v (Ok file.items))) }
-    ensures err { IfErr result (λ fault. OnRefusal fault (λ made. OnTold (T.history tree.old) (λ v. IsMadeIn command.now v made))) }
+    ensures ok { IfOk result (λ file. IfObservable (T.history tree.old) (λ v. IsMadeIn command.now v (Ok file.items))) }
+    ensures err { IfErr result (λ fault. OnRefusal fault (λ made. IfObservable (T.history tree.old) (λ v. IsMadeIn command.now v made))) }
     ensures found { IfOk result (λ file. IsMadeBySome command.now (Ok file.items)) }
     ensures found_err { IfErr result (λ fault. OnRefusal fault (IsMadeBySome command.now)) }
     ensures sound { IfOk result (λ file. container_fault file.items ≡ None) }
@@ -36,7 +36,7 @@ pub fn mkpkg<T: Tree>(alloc: Global, command: &Command, tree: &mut T) -> Result<
     ensures goes_on { GoesOn (T.counts tree.old) (T.counts tree.new) }
     ensures disk { IsErrOf result MakeFault.Disk → HasCause (T.counts tree.old) (T.counts tree.new) }
     ensures kept { UnlessDisk result (IsNoFault (T.counts tree.old) (T.counts tree.new)) }
-    ensures proper { OnTold (T.history tree.old) (λ v. (T.counts tree.new).misuses ≡ (T.counts tree.old).misuses) }
+    ensures proper { IfObservable (T.history tree.old) (λ v. (T.counts tree.new).misuses ≡ (T.counts tree.old).misuses) }
 {
     a_made_package_is_sound();
     make(alloc, command, tree)

@@ -1,6 +1,6 @@
 //! `mkndx`: an index of packages is made.
 ghost use Rattle.std.specs.Prelude.{◌≡◌, ◌++◌, ◌∷◌, [], ℕ, List, Option, Ok, None, IfOk, IfSome, IsErrOf, IsTrue, OnOk, map};
-ghost use Rattle.base_core.specs.Calls.{OnTold};
+ghost use Rattle.base_core.specs.Calls.{IfObservable};
 ghost use Rattle.base_core.specs.Faults.{GoesOn, HasCause, IsNoFault};
 ghost use Rattle.base_core.specs.Read.{bytes_in};
 ghost use Rattle.base_core.specs.Tree.{files_of};
@@ -31,14 +31,14 @@ use words_core::{Applet, Command, Operand, Operands};
 /// of the writer. `Disk` where the tree failed, and `Memory`.
 pub fn mkndx<T: Tree>(alloc: Global, command: &Command, tree: &mut T) -> Result<Vec<u8>, MakeFault>
     requires { command.now.applet ≡ Applet.Mkndx }
-    ensures told { OnTold (T.history tree.old) (λ v. IsMadeBy (λ file. file.items) result (made_index command.now (told_reads v))) }
+    ensures told { IfObservable (T.history tree.old) (λ v. IsMadeBy (λ file. file.items) result (made_index command.now (told_reads v))) }
     ensures found { (read : ℕ → List ℕ → Option (List ℕ)) × AreFiles read 0 command.now.operands × IsMadeBy (λ file. file.items) result (made_index command.now read) }
     ensures sound { IfOk result (λ file. container_fault file.items ≡ None) }
     ensures same { T.history tree.new ≡ T.history tree.old }
     ensures goes_on { GoesOn (T.counts tree.old) (T.counts tree.new) }
     ensures disk { IsErrOf result MakeFault.Disk → HasCause (T.counts tree.old) (T.counts tree.new) }
     ensures kept { UnlessDisk result (IsNoFault (T.counts tree.old) (T.counts tree.new)) }
-    ensures proper { OnTold (T.history tree.old) (λ v. (T.counts tree.new).misuses ≡ (T.counts tree.old).misuses) }
+    ensures proper { IfObservable (T.history tree.old) (λ v. (T.counts tree.new).misuses ≡ (T.counts tree.old).misuses) }
 {
     a_made_index_is_sound();
     let entries = read_entries(alloc, command.operands(), tree)?;
@@ -53,13 +53,13 @@ fn read_entries<T: Tree>(
     tree: &mut T,
 ) -> Result<Vec<Entry>, MakeFault>
     requires { IsTrue (are_files operands.now) }
-    ensures told { OnTold (T.history tree.old) (λ v. IsMadeBy all_told result (found_entries (told_reads v) 0 operands.now)) }
+    ensures told { IfObservable (T.history tree.old) (λ v. IsMadeBy all_told result (found_entries (told_reads v) 0 operands.now)) }
     ensures found { (read : ℕ → List ℕ → Option (List ℕ)) × AreFiles read 0 operands.now × IsMadeBy all_told result (found_entries read 0 operands.now) }
     ensures same { T.history tree.new ≡ T.history tree.old }
     ensures goes_on { GoesOn (T.counts tree.old) (T.counts tree.new) }
     ensures disk { IsErrOf result MakeFault.Disk → HasCause (T.counts tree.old) (T.counts tree.new) }
     ensures kept { UnlessDisk result (IsNoFault (T.counts tree.old) (T.counts tree.new)) }
-    ensures proper { OnTold (T.history tree.old) (λ v. (T.counts tree.new).misuses ≡ (T.counts tree.old).misuses) }
+    ensures proper { IfObservable (T.history tree.old) (λ v. (T.counts tree.new).misuses ≡ (T.counts tree.old).misuses) }
 {
     let mut entries = Vec::new(alloc);
     for i in 0..operands.len() {
@@ -80,13 +80,13 @@ fn keep(entries: &mut Vec<Entry>, entry: Entry) -> Result<(), AllocError>
 /// Reads the package that an operand names, and makes all tests of it.
 fn read_entry<T: Tree>(alloc: Global, operand: &Operand, tree: &mut T) -> Result<Entry, MakeFault>
     requires { IsTrue (is_file operand.now.text) }
-    ensures told { OnTold (T.history tree.old) (λ v. IsMadeBy entry_told result (found_entry operand.now.place (files_of v (without_dot operand.now.text)))) }
+    ensures told { IfObservable (T.history tree.old) (λ v. IsMadeBy entry_told result (found_entry operand.now.place (files_of v (without_dot operand.now.text)))) }
     ensures found { (found : Option (List ℕ)) × IfSome found IsFile × IsMadeBy entry_told result (found_entry operand.now.place found) }
     ensures same { T.history tree.new ≡ T.history tree.old }
     ensures goes_on { GoesOn (T.counts tree.old) (T.counts tree.new) }
     ensures disk { IsErrOf result MakeFault.Disk → HasCause (T.counts tree.old) (T.counts tree.new) }
     ensures kept { UnlessDisk result (IsNoFault (T.counts tree.old) (T.counts tree.new)) }
-    ensures proper { OnTold (T.history tree.old) (λ v. (T.counts tree.new).misuses ≡ (T.counts tree.old).misuses) }
+    ensures proper { IfObservable (T.history tree.old) (λ v. (T.counts tree.new).misuses ≡ (T.counts tree.old).misuses) }
 {
     let Some(file) = Name::read(alloc, operand.file())? else {
         unreachable!()

@@ -11,7 +11,7 @@ use Rattle.adb_write.specs.Canonical.{Counts, overflow_of, written_of}
 use Rattle.base_core.specs.Files.{Files, IsFolderOf, drop_name}
 use Rattle.base_core.specs.Listed.{AreNamesBelow, IsNameBelow, IsNamesOf}
 use Rattle.base_core.specs.declared.cause.Cause.{Cause}
-use Rattle.journal_core.specs.Replacing.{replaced, scratch_of}
+use Rattle.journal_core.specs.Replacing.{replaced_files, scratch_of}
 use Rattle.make_core.specs.Folders.{Listed, folders_of, part_of}
 use Rattle.make_core.specs.Index.{and_entries, found_entries, found_entry, index_file, index_of, index_of_found, index_value, tested}
 use Rattle.make_core.specs.IndexCommand.{description_in, made_index}
@@ -213,11 +213,11 @@ index_told command read = of_found_told (description_in command.values) (found_e
 abbrev Stands : List ℕ → Result (List ℕ) MakeFault → Outcome → Type 0
 Stands name result outcome = (bytes : List ℕ) × (result ≡ Ok bytes) × (outcome.files name ≡ Some bytes)
 
-put_there : (name bytes : List ℕ) (files : Files) → replaced name bytes files name ≡ Some bytes
+put_there : (name bytes : List ℕ) (files : Files) → replaced_files name bytes files name ≡ Some bytes
 put_there name bytes files = ap (λ (b : Bool). if b then Some bytes else drop_name files (scratch_of name) name) ((bytes_eq-Decides name name).1 refl)
 
-stands_unless : (reserved : Bool) (name bytes report : List ℕ) (files : Files) → (if reserved then refused files (Reserved name) else reported (replaced name bytes files) report).refusal ≡ None
-    → (if reserved then refused files (Reserved name) else reported (replaced name bytes files) report).files name ≡ Some bytes
+stands_unless : (reserved : Bool) (name bytes report : List ℕ) (files : Files) → (if reserved then refused files (Reserved name) else reported (replaced_files name bytes files) report).refusal ≡ None
+    → (if reserved then refused files (Reserved name) else reported (replaced_files name bytes files) report).files name ≡ Some bytes
 stands_unless true name bytes report files none = cc
 stands_unless false name bytes report files none = put_there name bytes files
 

@@ -5,7 +5,7 @@ use Rattle.std.specs.List.{starts_with}
 use Rattle.adb_schema.specs.Reserved.{is_reserved}
 use Rattle.base_core.specs.Files.{Files}
 use Rattle.base_core.specs.Listed.{IsNamesOf}
-use Rattle.journal_core.specs.Replacing.{replaced}
+use Rattle.journal_core.specs.Replacing.{replaced_files}
 use Rattle.make_core.specs.IndexCommand.{made_index}
 use Rattle.make_core.specs.Making.{made_package}
 use Rattle.make_core.specs.Output.{output_name}
@@ -40,7 +40,7 @@ unless_reserved files (Some name) otherwise =
 -- these bytes stand under the output's name, and nothing under its scratch name
 abbrev pub files_with : Option (List ℕ) → List ℕ → Files → Files
 files_with None bytes files = files
-files_with (Some name) bytes files = replaced name bytes files
+files_with (Some name) bytes files = replaced_files name bytes files
 
 -- A container is written and reported; what cannot be made is refused. A reserved output is refused
 -- behind all other refusals but that of a container that is too large.

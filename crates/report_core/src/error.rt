@@ -1,5 +1,5 @@
 // The lines of refusals.
-ghost use Rattle.base_core.specs.Sink.{sinking, Writes};
+ghost use Rattle.base_core.specs.Sink.{sink_change, Writes};
 ghost use Rattle.report_core.specs.Pieces.{cause_part, sentence_text};
 ghost use Rattle.report_core.specs.Texts.{refusal_line};
 
@@ -10,7 +10,7 @@ use base_core::{Cause, Sink, SinkFault, write_all};
 
 /// Writes the line of a refusal. After a fault a front of it was written.
 pub fn write_error<E: Sink>(refusal: &Refusal, err: &mut E) -> Result<(), SinkFault>
-    ensures { Writes (refusal_line refusal.now) (sinking E.bytes E.counts err.old err.new) result }
+    ensures { Writes (refusal_line refusal.now) (sink_change E.bytes E.counts err.old err.new) result }
 {
     let sentence = sentence_of(refusal);
     write_all(err, b"ERROR: ")?;
@@ -19,14 +19,14 @@ pub fn write_error<E: Sink>(refusal: &Refusal, err: &mut E) -> Result<(), SinkFa
 }
 
 fn write_sentence<E: Sink>(sentence: &Sentence<'_>, err: &mut E) -> Result<(), SinkFault>
-    ensures { Writes (sentence_text sentence.now) (sinking E.bytes E.counts err.old err.new) result }
+    ensures { Writes (sentence_text sentence.now) (sink_change E.bytes E.counts err.old err.new) result }
 {
     write_pieces(&sentence.pieces, err)?;
     write_cause(sentence.cause, err)
 }
 
 fn write_cause<E: Sink>(cause: Option<Cause>, err: &mut E) -> Result<(), SinkFault>
-    ensures { Writes (cause_part cause) (sinking E.bytes E.counts err.old err.new) result }
+    ensures { Writes (cause_part cause) (sink_change E.bytes E.counts err.old err.new) result }
 {
     match cause {
         Some(cause) => write_pieces(&cause_pieces(cause), err),

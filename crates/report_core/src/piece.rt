@@ -1,6 +1,6 @@
 // Texts put together from pieces, and written without memory.
 ghost use Rattle.std.specs.Prelude.{◌≡◌, [], ◌∷◌, decimal};
-ghost use Rattle.base_core.specs.Sink.{sinking, Writes};
+ghost use Rattle.base_core.specs.Sink.{sink_change, Writes};
 ghost use Rattle.hex.specs.Hex.{encode_lower};
 ghost use Rattle.report_core.specs.Pieces.{piece_text, pieces_text};
 ghost use Rattle.report_core.specs.Texts.{digest_bytes, position_text};
@@ -32,7 +32,7 @@ pub(crate) type Pieces<'a> = [Piece<'a>; 7];
 
 /// Adds all the pieces, in order. After a fault a front of their text was added.
 pub(crate) fn write_pieces<S: Sink>(pieces: &[Piece<'_>], sink: &mut S) -> Result<(), SinkFault>
-    ensures { Writes (pieces_text pieces.now) (sinking S.bytes S.counts sink.old sink.new) result }
+    ensures { Writes (pieces_text pieces.now) (sink_change S.bytes S.counts sink.old sink.new) result }
 {
     for piece in pieces {
         write_piece(piece, sink)?;
@@ -41,7 +41,7 @@ pub(crate) fn write_pieces<S: Sink>(pieces: &[Piece<'_>], sink: &mut S) -> Resul
 }
 
 fn write_piece<S: Sink>(piece: &Piece<'_>, sink: &mut S) -> Result<(), SinkFault>
-    ensures { Writes (piece_text piece.now) (sinking S.bytes S.counts sink.old sink.new) result }
+    ensures { Writes (piece_text piece.now) (sink_change S.bytes S.counts sink.old sink.new) result }
 {
     match *piece {
         Piece::Bytes(bytes) => write_all(sink, bytes),
@@ -55,7 +55,7 @@ fn write_piece<S: Sink>(piece: &Piece<'_>, sink: &mut S) -> Result<(), SinkFault
 }
 
 fn write_position<S: Sink>(folder: u64, file: u64, sink: &mut S) -> Result<(), SinkFault>
-    ensures { Writes (position_text folder file) (sinking S.bytes S.counts sink.old sink.new) result }
+    ensures { Writes (position_text folder file) (sink_change S.bytes S.counts sink.old sink.new) result }
 {
     write_number(folder, sink)?;
     write_all(sink, b".")?;
@@ -63,14 +63,14 @@ fn write_position<S: Sink>(folder: u64, file: u64, sink: &mut S) -> Result<(), S
 }
 
 fn write_number<S: Sink>(number: u64, sink: &mut S) -> Result<(), SinkFault>
-    ensures { Writes (decimal number) (sinking S.bytes S.counts sink.old sink.new) result }
+    ensures { Writes (decimal number) (sink_change S.bytes S.counts sink.old sink.new) result }
 {
     let mut digits = Buffer::new();
     write_all(sink, digits.format(number).as_bytes())
 }
 
 fn write_hex<S: Sink>(bytes: &[u8], sink: &mut S) -> Result<(), SinkFault>
-    ensures { Writes (encode_lower bytes.now) (sinking S.bytes S.counts sink.old sink.new) result }
+    ensures { Writes (encode_lower bytes.now) (sink_change S.bytes S.counts sink.old sink.new) result }
 {
     for byte in bytes {
         write_all(sink, &hex_digits(*byte))?;

@@ -1,5 +1,5 @@
 ghost use Rattle.std.specs.Prelude.{◌≡◌, ◌≤◌, false, None};
-ghost use Rattle.base_core.specs.Faults.{risen};
+ghost use Rattle.base_core.specs.Faults.{next_count};
 
 use super::*;
 use base_core::{Cause, Digest, Name, Sink, SinkFault, Text};
@@ -16,7 +16,7 @@ struct Page {
 
 impl Page {
     fn want(&mut self) -> SinkFault
-        ensures is { self.new ≡ record self.old { faults = risen self.old.faults } }
+        ensures is { self.new ≡ record self.old { faults = next_count self.old.faults } }
         ensures later { self.old.faults ≤ self.new.faults }
     {
         self.faults = self.faults.saturating_add(1);

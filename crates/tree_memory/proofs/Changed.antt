@@ -3,7 +3,7 @@ use Rattle.std.proofs.Common.{◌≡◌, ◌≢◌, ⊎_elim, ℕ, ◌<◌, Bool
 use Rattle.std.specs.Str.{bytes_eq}
 use Rattle.std.proofs.Math.Seq.{take-length, map-set_same}
 use Rattle.std.proofs.lemmas.List.{map-set, set-get_or, get_or-set_same, length-set}
-use Rattle.base_core.specs.Files.{put, drop_name, move_name}
+use Rattle.base_core.specs.Files.{put_name, drop_name, move_name}
 use Rattle.base_core.specs.Tree.{TreeState, File, CanRename, HasName, set_file, change_at, after_append, after_sync, move_at, after_rename, remove_at, after_remove, after_sync_names}
 use Rattle.tree_memory.specs.Table.{lookup}
 use Rattle.tree_memory.specs.Changes.{empty_state, step, state_on, earlier_on, contents_of, can_step, is_record}
@@ -137,7 +137,7 @@ module _ (cs ds : List Change) (es fs : List Entry) (files : List Stored) (store
     rename_can : can_step (contents_of files) (Rename from to) now ≡ true
     rename_can = ap is_some (store.kept.names from ∙ there)
 
-    moved : from ≢ to → (es₁ : List Entry) → ((q : List ℕ) → lookup es₁ q ≡ put (lookup es) to n q) → ((q : List ℕ) → lookup fs q ≡ drop_name (lookup es₁) from q) → (q : List ℕ) → move_name now.names from to n q ≡ lookup fs q
+    moved : from ≢ to → (es₁ : List Entry) → ((q : List ℕ) → lookup es₁ q ≡ put_name (lookup es) to n q) → ((q : List ℕ) → lookup fs q ≡ drop_name (lookup es₁) from q) → (q : List ℕ) → move_name now.names from to n q ≡ lookup fs q
     moved apart es₁ first second q =
         ⊎_elim (λ at_to. put-at (drop_name now.names from) to n q at_to
         ∙ sym (second q ∙ drop_name-off (lookup es₁) from q (λ at_from. apart (sym at_from ∙ at_to)) ∙ first q ∙ put-at (lookup es) to n q at_to))
@@ -155,7 +155,7 @@ module _ (cs ds : List Change) (es fs : List Entry) (files : List Stored) (store
     renamed_folders can =
         subst (λ (o : Option ℕ). HasFolders (move_at from to now o)) (sym (store.kept.names from ∙ there)) (folders_with now (move_name now.names from to n) store.folders (folder_like_number (drop_name now.names from) to 0 n can.folders))
 
-    pub store_rename : ds ≡ cs ++ Rename from to ∷ [] → CanRename from to now → (es₁ : List Entry) → ((q : List ℕ) → lookup es₁ q ≡ put (lookup es) to n q) → ((q : List ℕ) → lookup fs q ≡ drop_name (lookup es₁) from q) → IsStore ds fs files
+    pub store_rename : ds ≡ cs ++ Rename from to ∷ [] → CanRename from to now → (es₁ : List Entry) → ((q : List ℕ) → lookup es₁ q ≡ put_name (lookup es) to n q) → ((q : List ℕ) → lookup fs q ≡ drop_name (lookup es₁) from q) → IsStore ds fs files
     store_rename is can es₁ first second =
         store_pushed (Rename from to) cs ds fs (contents_of files) files (after_rename from to now) (pushed_names (Rename from to) is rename_can) refl (renamed_kept (moved can.apart es₁ first second)) (renamed_folders can)
 

@@ -4,7 +4,7 @@ use Rattle.std.specs.List.{list_any}
 use Rattle.std.specs.Option.{option_map}
 use Rattle.std.proofs.lemmas.Bool.Decides.{nat_tests}
 use Rattle.base_core.specs.Tree.{TreeState}
-use Rattle.base_core.specs.Calls.{Counted}
+use Rattle.base_core.specs.Calls.{IsCounted}
 use Rattle.base_core.specs.Faults.{GoesOn, HasCause}
 use Rattle.tree_memory.specs.Plans.{PlanState, is_listed, is_stopped, is_next, has_more, listed_on, one_on}
 use Rattle.tree_memory.specs.Tallies.{called, faulted, misused, wanted, begun, goes_on, HasGrown}
@@ -131,11 +131,11 @@ planned_cause writes old new h stays = ⊎_elim (λ m. absurd (no_true true m.ca
 -- ---- what the counts say
 
 module _ (can : TreeState → Type 0) (v : TreeState) (earlier : List TreeState) (b : Bool) (s : Says b (can v)) (writes : ℕ) (old new : Calls) (h : IsBegun b writes old new) {T E : Type 0} where
-  pub refused_counts : (r : Result T E) → IsErr r → goes_on b (is_next old.plan) ≡ false → Counted can (v ∷ earlier) (counts_by old) (counts_by new) r
+  pub refused_counts : (r : Result T E) → IsErr r → goes_on b (is_next old.plan) ≡ false → IsCounted can (v ∷ earlier) (counts_by old) (counts_by new) r
   refused_counts (Ok x) is stays = absurd (cc (is))
   refused_counts (Err e) is stays = ⊎_elim misuse planned (has_failed b writes old new h stays)
     where
-      misuse : IsMisused b writes old new h → Counted {T = T} can (v ∷ earlier) (counts_by old) (counts_by new) (Err e)
+      misuse : IsMisused b writes old new h → IsCounted {T = T} can (v ∷ earlier) (counts_by old) (counts_by new) (Err e)
       misuse m = let cannot : can v → ⊥ = λ can_do. no_true b m.cannot (s.back can_do) in record {
         goes_on = on old new h.grown h.plan;
         cause = record { fault = omega (arith, ap (λ (u : Tally). u.faults) m.tally); reason = inr (inl (omega (arith, ap (λ (u : Tally). u.misuses) m.tally))) };
@@ -145,7 +145,7 @@ module _ (can : TreeState → Type 0) (v : TreeState) (earlier : List TreeState)
         misuse = λ _. ap (λ (u : Tally). u.misuses) m.tally;
       }
 
-      planned : IsPlanned b writes old new h → Counted {T = T} can (v ∷ earlier) (counts_by old) (counts_by new) (Err e)
+      planned : IsPlanned b writes old new h → IsCounted {T = T} can (v ∷ earlier) (counts_by old) (counts_by new) (Err e)
       planned p = record {
         goes_on = on old new h.grown h.plan;
         cause = record { fault = omega (arith, ap (λ (u : Tally). u.faults) p.tally); reason = inl (next_is_more old.plan p.next) };
@@ -155,7 +155,7 @@ module _ (can : TreeState → Type 0) (v : TreeState) (earlier : List TreeState)
         misuse = λ cannot. absurd (cannot (s.good p.can));
       }
 
-  pub done_counts : (x : T) → goes_on b (is_next old.plan) ≡ true → Counted {E = E} can (v ∷ earlier) (counts_by old) (counts_by new) (Ok x)
+  pub done_counts : (x : T) → goes_on b (is_next old.plan) ≡ true → IsCounted {E = E} can (v ∷ earlier) (counts_by old) (counts_by new) (Ok x)
   done_counts x goes = let tally = free_tally b writes old new h goes in let can_do = s.good (is_free b writes old new h goes).0 in record {
     goes_on = on old new h.grown h.plan;
     cause = tt;
@@ -184,7 +184,7 @@ module _ (can : TreeState → Type 0) (v : TreeState) (earlier : List TreeState)
     wants = omega (arith, h.grown.wants, end.grown.wants);
   }) (end.plan ∙ h.plan)
 
-  pub ended_counts : {T E : Type 0} (there : Bool) (r : Result T E) → IsEnded there mid new → is_ok r ≡ there → Counted can (v ∷ earlier) (counts_by old) (counts_by new) r
+  pub ended_counts : {T E : Type 0} (there : Bool) (r : Result T E) → IsEnded there mid new → is_ok r ≡ there → IsCounted can (v ∷ earlier) (counts_by old) (counts_by new) r
   ended_counts true (Ok x) end is = let tally = end.tally ∙ free_tally b writes old mid h goes in record {
     goes_on = ended_on true end;
     cause = tt;

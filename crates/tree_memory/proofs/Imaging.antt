@@ -5,7 +5,7 @@ use Rattle.std.proofs.lemmas.Bool.{cases_eq, eq-eqb, ne_eqb}
 use Rattle.std.specs.Str.{bytes_eq}
 use Rattle.std.specs.Option.{option_map}
 use Rattle.base_core.specs.Crash.{IsCrashOf, MayLeave}
-use Rattle.base_core.specs.Files.{Files, NameMap, no_names, put, IsFolderLike}
+use Rattle.base_core.specs.Files.{Files, NameMap, no_names, put_name, IsFolderLike}
 use Rattle.base_core.specs.Tree.{TreeState, IsMapOf, IsWhole, bytes_at, files_of, set_file}
 use Rattle.std.proofs.lemmas.Nat.{mod_below}
 use Rattle.tree_memory.specs.Changes.{empty_state, after_put, state_on, is_record}
@@ -28,12 +28,12 @@ absent_so_far es i e table within is = lookup_off (take i es) e.name e (λ j bel
     let lower : j < i = omega (arith, below, length-take i es) in
     apart es table j i e lower within (ap (λ (x : Entry). x.name) (sym (get_or-take i es j e lower)) ∙ same ∙ ap (λ (x : Entry). x.name) is))
 
-lookup_push : (es : List Entry) (e : Entry) → lookup es e.name ≡ None → (q : List ℕ) → lookup (es ++ e ∷ []) q ≡ put (lookup es) e.name e.file q
+lookup_push : (es : List Entry) (e : Entry) → lookup es e.name ≡ None → (q : List ℕ) → lookup (es ++ e ∷ []) q ≡ put_name (lookup es) e.name e.file q
 lookup_push es e none q =
     ap (λ (l : List Entry). lookup l q) (sym (ap (λ (l : List Entry). l ++ e ∷ drop (length es) es) (take_all (length es) es (omega arith)) ∙ ap (λ (l : List Entry). es ++ e ∷ l) (drop_all (length es) es (omega arith))))
     ∙ lookup_insert es (length es) e none q
 
-next_name : (es : List Entry) (i : ℕ) (e : Entry) → IsTable es → i < length es → e ≡ get_or es i e → (q : List ℕ) → lookup (take (i + 1) es) q ≡ put (lookup (take i es)) e.name e.file q
+next_name : (es : List Entry) (i : ℕ) (e : Entry) → IsTable es → i < length es → e ≡ get_or es i e → (q : List ℕ) → lookup (take (i + 1) es) q ≡ put_name (lookup (take i es)) e.name e.file q
 next_name es i e table within is q =
     ap (λ (l : List Entry). lookup l q) (take_more es i e within ∙ ap (λ (x : Entry). take i es ++ x ∷ []) (sym is))
     ∙ lookup_push (take i es) e (absent_so_far es i e table within is) q
@@ -73,7 +73,7 @@ module _ (v : TreeState) (way : ℕ) (es : List Entry) (table : IsTable es) (i :
     pub can_next : (map : NameMap) → IsFolderLike map → ((q : List ℕ) → map q ≡ lookup es q) → CanPut e.name w
     can_next map folders same = record { folders = λ p q folder has_p has_q. folders p q folder (there p has_p) (there q has_q) }
       where
-        there : (q : List ℕ) → IsSome (put w.names e.name w.made q) → IsSome (map q)
+        there : (q : List ℕ) → IsSome (put_name w.names e.name w.made q) → IsSome (map q)
         there q some = ⊎_elim
             (λ is. subst IsSome (sym (same q)) (subst (λ (n : List ℕ). IsSome (lookup es n)) (ap (λ (x : Entry). x.name) (sym here) ∙ sym is) (looked_up es i e within)))
             (λ off. subst IsSome (sym (same q)) (lookup_take es i q (present q (subst IsSome (put-off w.names e.name w.made q (off_name q e.name off)) some))))
@@ -94,7 +94,7 @@ module _ (v : TreeState) (way : ℕ) (es : List Entry) (table : IsTable es) (i :
             ∙ both_ways (bytes_eq q e.name) (lookup (take i es) q)
             ∙ sym (ap (option_map (λ n. filled way (v.files n))) (next_name es i e table within here q))
 
-        synced : (q : List ℕ) (n : ℕ) → put w.names e.name w.made q ≡ Some n → (set_file w.files w.made (record { bytes = bytes; synced = true }) n).synced ≡ true
+        synced : (q : List ℕ) (n : ℕ) → put_name w.names e.name w.made q ≡ Some n → (set_file w.files w.made (record { bytes = bytes; synced = true }) n).synced ≡ true
         synced q n at = ⊎_elim
             (λ new. ap (λ b. (cond b (record { bytes = bytes; synced = true }) (w.files n)).synced) (eq-eqb n w.made new))
             (λ old. ap (λ b. (cond b (record { bytes = bytes; synced = true }) (w.files n)).synced) (ne_eqb n w.made old)

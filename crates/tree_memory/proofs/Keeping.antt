@@ -9,7 +9,7 @@ use Rattle.std.proofs.Math.ListN.{get_or-append}
 use Rattle.std.proofs.Math.Seq.{get_or-append_seam, take-length}
 use Rattle.std.proofs.lemmas.List.{get_or-map, get_or_past, length-map, length-set, map-set, get_or-set_same, get_or-set_other}
 use Rattle.std.proofs.lemmas.Bool.{cases_eq, cases_lt, eq-eqb, ne_eqb}
-use Rattle.base_core.specs.Files.{NameMap, IsFolderLike, put}
+use Rattle.base_core.specs.Files.{NameMap, IsFolderLike, put_name}
 use Rattle.base_core.specs.Listed.{IsNamesOf}
 use Rattle.base_core.specs.Tree.{TreeState, File, IsMapOf, IsWhole, CanCreate, bytes_at, files_of, set_file, change_at, with_names, after_create}
 use Rattle.tree_memory.specs.Table.{IsTable, lookup, names_of}
@@ -126,7 +126,7 @@ history_pushed c cs ds contents more w p is = pushed_history c cs ds contents mo
 
 -- one file more
 pub record IsMore (name : List ℕ) (es fs : List Entry) (files more : List Stored) (s : Stored) : Type 0 where
-  pub named : (q : List ℕ) → lookup fs q ≡ put (lookup es) name (length files) q
+  pub named : (q : List ℕ) → lookup fs q ≡ put_name (lookup es) name (length files) q
   pub stored : more ≡ files ++ s ∷ []
 
 more_contents : (name : List ℕ) (es fs : List Entry) (files more : List Stored) (s : Stored) → IsMore name es fs files more s → contents_of more ≡ contents_of files ++ s.bytes.items ∷ []
@@ -135,7 +135,7 @@ more_contents name es fs files more s m = ap contents_of m.stored ∙ contents-p
 more_grows : (name : List ℕ) (es fs : List Entry) (files more : List Stored) (s : Stored) → IsMore name es fs files more s → Grows (contents_of files) (contents_of more)
 more_grows name es fs files more s m = subst (Grows (contents_of files)) (sym (more_contents name es fs files more s m)) (grows_push (contents_of files) s.bytes.items)
 
-more_names : (v : TreeState) (name : List ℕ) (es fs : List Entry) (files more : List Stored) (s : Stored) → IsMore name es fs files more s → IsKept v es files → (q : List ℕ) → put v.names name v.made q ≡ lookup fs q
+more_names : (v : TreeState) (name : List ℕ) (es fs : List Entry) (files more : List Stored) (s : Stored) → IsMore name es fs files more s → IsKept v es files → (q : List ℕ) → put_name v.names name v.made q ≡ lookup fs q
 more_names v name es fs files more s m kept q = ap (λ (n : ℕ). cond (bytes_eq q name) (Some n) (v.names q)) kept.made ∙ ap (cond (bytes_eq q name) (Some (length files))) (kept.names q) ∙ sym (m.named q)
 
 module _ (name : List ℕ) (cs ds : List Change) (es fs : List Entry) (files more : List Stored) (s : Stored) (store : IsStore cs es files) (m : IsMore name es fs files more s) where
@@ -220,7 +220,7 @@ pub stored_bytes : (files : List Stored) (n : ℕ) (file : Stored) → n < lengt
 stored_bytes files n file within is = get_or-map (λ (f : Stored). f.bytes.items) files n file [] within ∙ ap (λ (f : Stored). f.bytes.items) (sym is)
 
 -- a file put is read, and the others as before
-pub read-after_put : (name bytes : List ℕ) (v : TreeState) → IsWhole v → files_of (after_put name bytes v) ≡ put (files_of v) name bytes
+pub read-after_put : (name bytes : List ℕ) (v : TreeState) → IsWhole v → files_of (after_put name bytes v) ≡ put_name (files_of v) name bytes
 read-after_put name bytes v whole = λ i q. read q i
   where
     apart : (q : List ℕ) (o : Option ℕ) → v.names q ≡ o → bytes_at (after_put name bytes v).files o ≡ bytes_at v.files o
@@ -229,7 +229,7 @@ read-after_put name bytes v whole = λ i q. read q i
         let below : n < v.made = whole.made v.names (inl refl) q n is in
         ap (λ b. Some (cond b (record { bytes = bytes; synced = true }) (v.files n)).bytes) (ne_eqb n v.made (λ same. omega (arith, below, same)))
 
-    read : (q : List ℕ) → files_of (after_put name bytes v) q ≡ put (files_of v) name bytes q
+    read : (q : List ℕ) → files_of (after_put name bytes v) q ≡ put_name (files_of v) name bytes q
     read q =
         ⊎_elim (λ is. ap (bytes_at (after_put name bytes v).files) (put-at v.names name v.made q is)
         ∙ ap (λ b. Some (cond b (record { bytes = bytes; synced = true }) (v.files v.made)).bytes) (eq-eqb v.made v.made refl)

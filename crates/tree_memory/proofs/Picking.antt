@@ -2,7 +2,7 @@
 use Rattle.std.proofs.Common.{◌≡◌, ◌⊎◌, inl, inr, ⊎_elim, ℕ, zero, suc, ◌+◌, ◌-◌, ◌<◌, ◌≤◌, Bool, true, false, cond, List, [], ◌∷◌, ◌++◌, length, get_or, take, drop, Option, None, Some, is_some, refl, sym, ap, subst, ◌∙◌, arith, take-append-drop}
 use Rattle.std.proofs.lemmas.List.{drop_more, take_more, take_all}
 use Rattle.std.specs.Str.{bytes_eq}
-use Rattle.base_core.specs.Files.{NameMap, no_names, put, drop_name}
+use Rattle.base_core.specs.Files.{NameMap, no_names, put_name, drop_name}
 use Rattle.base_core.specs.Tree.{TreeState, IsAmong, move_at, remove_at, after_rename, after_remove}
 use Rattle.tree_memory.specs.Changes.{empty_state, step, state_on, can_step, is_record}
 use Rattle.tree_memory.specs.Images.{newest_first, adds_map, maps_on, HasNames}
@@ -168,13 +168,13 @@ pub names_more : (contents : List (List ℕ)) (cs : List Change) (i : ℕ) (c : 
 names_more contents cs i c es made within is here = subst (λ (v : TreeState). HasNames v es made) (sym (state_at contents cs i c within is)) here
 
 -- one name more
-pub named : (name : List ℕ) (v w : TreeState) (es fs : List Entry) (made : ℕ) → HasNames v es made → w.made ≡ v.made + 1 → ((q : List ℕ) → w.names q ≡ put v.names name v.made q) → ((q : List ℕ) → lookup fs q ≡ put (lookup es) name made q) → HasNames w fs (made + 1)
+pub named : (name : List ℕ) (v w : TreeState) (es fs : List Entry) (made : ℕ) → HasNames v es made → w.made ≡ v.made + 1 → ((q : List ℕ) → w.names q ≡ put_name v.names name v.made q) → ((q : List ℕ) → lookup fs q ≡ put_name (lookup es) name made q) → HasNames w fs (made + 1)
 named name v w es fs made was more names set = record {
   names = λ q. names q ∙ ap (λ (n : ℕ). cond (bytes_eq q name) (Some n) (v.names q)) was.made ∙ ap (cond (bytes_eq q name) (Some made)) (was.names q) ∙ sym (set q);
   made = more ∙ ap (λ (n : ℕ). n + 1) was.made;
 }
 
-pub names_moved : (from to : List ℕ) (v : TreeState) (es es₁ fs : List Entry) (made n : ℕ) → HasNames v es made → lookup es from ≡ Some n → ((q : List ℕ) → lookup es₁ q ≡ drop_name (lookup es) from q) → ((q : List ℕ) → lookup fs q ≡ put (lookup es₁) to n q)
+pub names_moved : (from to : List ℕ) (v : TreeState) (es es₁ fs : List Entry) (made n : ℕ) → HasNames v es made → lookup es from ≡ Some n → ((q : List ℕ) → lookup es₁ q ≡ drop_name (lookup es) from q) → ((q : List ℕ) → lookup fs q ≡ put_name (lookup es₁) to n q)
     → HasNames (after_rename from to v) fs made
 names_moved from to v es es₁ fs made n was there gone set =
     subst (λ (o : Option ℕ). HasNames (move_at from to v o) fs made) (sym (was.names from ∙ there)) (record {

@@ -13,7 +13,7 @@ use Rattle.std.proofs.lemmas.List.Sorted.{searchable_from_sorted}
 use Rattle.std.proofs.lemmas.List.Quantifiers.{all_pairs_remove}
 use Rattle.std.proofs.lemmas.List.Edits.{length-insert, get_or-insert_below, get_or-insert_at, get_or-insert_above}
 use Rattle.std.proofs.lemmas.Bool.{cases_lt, cases_eq}
-use Rattle.base_core.specs.Files.{put, drop_name}
+use Rattle.base_core.specs.Files.{put_name, drop_name}
 use Rattle.tree_memory.specs.Table.{IsTable, lookup, IsNamed, IsPlace}
 use Rattle.tree_memory.proofs.AtName.{name_cases, same_name, is_name, other_name}
 use Rattle.tree_memory.specs.declared.table.Entry.{Entry}
@@ -105,21 +105,21 @@ behind_other f e q new old other is =
     ap (cond (bytes_eq q f.name) (Some f.file)) is
     ∙ swapped (bytes_eq q f.name) (bytes_eq q e.name) (Some f.file) (Some e.file) old (λ at here. other (sym (is_name q f.name at) ∙ is_name q e.name here))
 
-lookup_set : (es : List Entry) (i : ℕ) (e d : Entry) → i < length es → (get_or es i d).name ≡ e.name → ((j : ℕ) → j < i → (get_or es j d).name ≡ e.name → ⊥) → (q : List ℕ) → lookup (set es i e) q ≡ put (lookup es) e.name e.file q
+lookup_set : (es : List Entry) (i : ℕ) (e d : Entry) → i < length es → (get_or es i d).name ≡ e.name → ((j : ℕ) → j < i → (get_or es j d).name ≡ e.name → ⊥) → (q : List ℕ) → lookup (set es i e) q ≡ put_name (lookup es) e.name e.file q
 lookup_set [] i e d within here others q = absurd (omega arith)
 lookup_set (f ∷ es) zero e d within here others q = shadowed (bytes_eq q e.name) (bytes_eq q f.name) (Some e.file) (Some f.file) (lookup es q) (ap (bytes_eq q) here)
 lookup_set (f ∷ es) (suc i) e d within here others q =
     behind_other f e q (lookup (set es i e) q) (lookup es q) (λ is. others 0 (omega arith) is) (lookup_set es i e d (omega arith) here (λ j below. others (suc j) (omega arith)) q)
 
 -- another number at a name that stands
-pub lookup-set : (es : List Entry) (i : ℕ) (e d : Entry) → IsTable es → IsNamed es i e.name → (q : List ℕ) → lookup (set es i e) q ≡ put (lookup es) e.name e.file q
+pub lookup-set : (es : List Entry) (i : ℕ) (e d : Entry) → IsTable es → IsNamed es i e.name → (q : List ℕ) → lookup (set es i e) q ≡ put_name (lookup es) e.name e.file q
 lookup-set es i e d table named = lookup_set es i e d named.within (named.here d) (λ j below is. apart es table j i d below named.within (is ∙ sym (named.here d)))
 
 none_at : (b : Bool) (x : ℕ) (r : Option ℕ) → cond b (Some x) r ≡ None → (b ≡ false) × (r ≡ None)
 none_at true x r none = absurd (cc)
 none_at false x r none = (refl, none)
 
-pub lookup_insert : (es : List Entry) (i : ℕ) (e : Entry) → lookup es e.name ≡ None → (q : List ℕ) → lookup (take i es ++ e ∷ drop i es) q ≡ put (lookup es) e.name e.file q
+pub lookup_insert : (es : List Entry) (i : ℕ) (e : Entry) → lookup es e.name ≡ None → (q : List ℕ) → lookup (take i es ++ e ∷ drop i es) q ≡ put_name (lookup es) e.name e.file q
 lookup_insert [] zero e none q = refl
 lookup_insert [] (suc i) e none q = refl
 lookup_insert (f ∷ es) zero e none q = refl
@@ -128,7 +128,7 @@ lookup_insert (f ∷ es) (suc i) e none q =
     behind_other f e q (lookup (take i es ++ e ∷ drop i es) q) (lookup es q) (λ is. let at = same_name e.name f.name (sym is) in cc (at, rest.0)) (lookup_insert es i e rest.1 q)
 
 -- a name that was absent
-pub lookup-insert : (es : List Entry) (i : ℕ) (e : Entry) → IsPlace es i e.name → (q : List ℕ) → lookup (insert es i e) q ≡ put (lookup es) e.name e.file q
+pub lookup-insert : (es : List Entry) (i : ℕ) (e : Entry) → IsPlace es i e.name → (q : List ℕ) → lookup (insert es i e) q ≡ put_name (lookup es) e.name e.file q
 lookup-insert es i e place = lookup_insert es i e (lookup_placed es i e.name place)
 
 -- a table stays one

@@ -1,6 +1,6 @@
 -- The record of what was made of a tree, and the states that it tells.
 use Rattle.std.specs.Prelude.{ℕ, ◌+◌, Bool, true, false, ◌&&◌, is_some, nat_lt, nat_le, List, [], ◌∷◌, map, length, slice_index_or, take, Some}
-use Rattle.base_core.specs.Files.{no_names, put}
+use Rattle.base_core.specs.Files.{no_names, put_name}
 use Rattle.base_core.specs.Tree.{TreeState, File, set_file, change_at, after_create, after_rename, after_remove, after_sync_names}
 use Rattle.tree_memory.specs.declared.changes.Change.{Change}
 use Rattle.tree_memory.specs.declared.changes.Change.TheVariants.{Put, Create, Append, Sync, Rename, Remove, SyncNames, Stay}
@@ -18,7 +18,7 @@ abbrev pub after_put : List ℕ → List ℕ → TreeState → TreeState
 after_put name bytes v = record {
   files = set_file v.files v.made (record { bytes = bytes; synced = true });
   made = v.made + 1;
-  names = put v.names name v.made;
+  names = put_name v.names name v.made;
   older = [];
 }
 

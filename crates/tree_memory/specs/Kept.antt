@@ -1,6 +1,6 @@
 -- What is kept beside a record, so that it need not be read: the names and the files of its newest state.
 use Rattle.std.specs.Prelude.{◌≡◌, ℕ, true, false, List, [], length, slice_index_or}
-use Rattle.base_core.specs.Files.{NameMap, put, IsFolderLike}
+use Rattle.base_core.specs.Files.{NameMap, put_name, IsFolderLike}
 use Rattle.base_core.specs.Tree.{TreeState, IsMapOf}
 use Rattle.tree_memory.specs.Changes.{contents_of, flags_of, empty_state, state_on, is_record}
 use Rattle.tree_memory.specs.Table.{lookup}
@@ -25,6 +25,6 @@ pub record IsStore (changes : List Change) (entries : List Entry) (files : List 
   pub kept : IsKept (state_on (contents_of files) empty_state changes) entries files
   pub folders : HasFolders (state_on (contents_of files) empty_state changes)
 
--- a file may be put there: no present name becomes a folder of another
+-- a file may be put_name there: no present name becomes a folder of another
 pub record CanPut (name : List ℕ) (v : TreeState) : Type 0 where
-  pub folders : IsFolderLike (put v.names name v.made)
+  pub folders : IsFolderLike (put_name v.names name v.made)

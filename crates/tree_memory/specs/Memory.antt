@@ -1,6 +1,6 @@
 -- What a tree in memory tells, and what a call says beside what every tree says.
 use Rattle.std.specs.Prelude.{◌≡◌, ◌⊎◌, ℕ, true, false, if◌then◌else◌, List, Result, OnOk, OnErr, is_ok}
-use Rattle.base_core.specs.Faults.{Counts, risen}
+use Rattle.base_core.specs.Faults.{Counts, next_count}
 use Rattle.base_core.specs.Tree.{TreeState}
 use Rattle.tree_memory.specs.Plans.{PlanState, is_next, has_more, one_on}
 use Rattle.tree_memory.specs.Stores.{store_state, store_history}
@@ -43,10 +43,10 @@ writes_of tree = tree.calls.tally.writes
 
 -- it is counted, the plan is one call nearer, and an error is a fault, never for want of memory
 pub record IsRead {T E : Type 0} (old new : MemoryTree) (result : Result T E) : Type 0 where
-  pub calls : calls_of new ≡ risen (calls_of old)
+  pub calls : calls_of new ≡ next_count (calls_of old)
   pub writes : writes_of new ≡ writes_of old
   pub plan : plan_of new ≡ one_on (plan_of old)
-  pub faults : (counts_of new).faults ≡ (if is_ok result then (counts_of old).faults else risen (counts_of old).faults)
+  pub faults : (counts_of new).faults ≡ (if is_ok result then (counts_of old).faults else next_count (counts_of old).faults)
   pub wants : (counts_of new).wants ≡ (counts_of old).wants
 
 -- ---- a call that writes
@@ -64,14 +64,14 @@ pub record HadToFail (can : TreeState → Type 0) (old new : MemoryTree) : Type 
 -- it failed for want of memory alone
 pub record FailedForWant (can : TreeState → Type 0) (old new : MemoryTree) : Type 0 where
   pub free : IsFree can old
-  pub wants : (counts_of new).wants ≡ risen (counts_of old).wants
+  pub wants : (counts_of new).wants ≡ next_count (counts_of old).wants
 
 -- it is counted, the plan is one call nearer, and an error is a fault, has one of these reasons, and changes nothing else
 pub record IsWrite {T E : Type 0} (can : TreeState → Type 0) (old new : MemoryTree) (result : Result T E) : Type 0 where
-  pub calls : calls_of new ≡ risen (calls_of old)
-  pub writes : writes_of new ≡ risen (writes_of old)
+  pub calls : calls_of new ≡ next_count (calls_of old)
+  pub writes : writes_of new ≡ next_count (writes_of old)
   pub plan : plan_of new ≡ one_on (plan_of old)
-  pub faults : (counts_of new).faults ≡ (if is_ok result then (counts_of old).faults else risen (counts_of old).faults)
+  pub faults : (counts_of new).faults ≡ (if is_ok result then (counts_of old).faults else next_count (counts_of old).faults)
   pub free : OnOk result (IsFree can old)
   pub wants : OnOk result ((counts_of new).wants ≡ (counts_of old).wants)
   pub reason : OnErr result (HadToFail can old new ⊎ FailedForWant can old new)

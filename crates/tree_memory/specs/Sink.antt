@@ -1,7 +1,7 @@
 -- A sink in memory, and what a write makes of it.
 use Rattle.std.specs.Prelude.{◌≡◌, ◌⊎◌, ℕ, ◌-◌, ◌<◌, min, List, [], ◌++◌, length, take, Option, Some, None, is_some}
 use Rattle.std.specs.Option.{option_map}
-use Rattle.base_core.specs.Faults.{Counts, risen}
+use Rattle.base_core.specs.Faults.{Counts, next_count}
 
 -- its bytes, how many more it takes, where that is planned, and how often it failed, also for want of its own memory
 pub record SinkState : Type 0 where
@@ -31,12 +31,12 @@ pub record Takes (old : SinkState) (piece : List ℕ) (n : ℕ) (new : SinkState
 pub record IsFull (old : SinkState) (piece : List ℕ) (new : SinkState) : Type 0 where
   pub some : 0 < length piece
   pub full : old.room ≡ Some 0
-  pub counted : new ≡ record old { faults = risen old.faults }
+  pub counted : new ≡ record old { faults = next_count old.faults }
 
 -- a write of some bytes for which there was no memory
 pub record IsWanting (old : SinkState) (piece : List ℕ) (new : SinkState) : Type 0 where
   pub some : 0 < fitting old.room (length piece)
-  pub counted : new ≡ record old { faults = risen old.faults; wants = risen old.wants }
+  pub counted : new ≡ record old { faults = next_count old.faults; wants = next_count old.wants }
 
 abbrev pub Refuses : SinkState → List ℕ → SinkState → Type 0
 Refuses old piece new = IsFull old piece new ⊎ IsWanting old piece new

@@ -4,7 +4,7 @@ use Rattle.std.proofs.Common.{inl, inr, sym, ap, subst, arith}
 use Rattle.std.specs.Str.{bytes_eq}
 use Rattle.std.specs.List.{list_any}
 use Rattle.std.proofs.lemmas.List.Elements.{All-nil, All-cons}
-use Rattle.base_core.specs.Files.{NameMap, IsWithin, put, drop_name, move_name}
+use Rattle.base_core.specs.Files.{NameMap, IsWithin, put_name, drop_name, move_name}
 use Rattle.base_core.specs.Tree.{TreeState, File, IsWhole, IsMapOf, change_at, with_names, after_create, move_at, remove_at, after_sync_names}
 use Rattle.tree_memory.specs.Changes.{empty_state, after_put, step, front_of, state_on, earlier_on, contents_of}
 use Rattle.tree_memory.specs.Memory.{history_of}
@@ -39,7 +39,7 @@ whole_by v each = record { finite = λ map is. (each map is).finite; made = λ m
 more_made : (made more : ℕ) (map : NameMap) → made ≤ more → IsBounded made map → IsBounded more map
 more_made made more map up old = record { finite = old.finite; below = λ q n at. let lower : n < made = old.below q n at in omega (arith, lower, up) }
 
-bounded_put : (made : ℕ) (name : List ℕ) (k : ℕ) (map : NameMap) → k < made → IsBounded made map → IsBounded made (put map name k)
+bounded_put : (made : ℕ) (name : List ℕ) (k : ℕ) (map : NameMap) → k < made → IsBounded made map → IsBounded made (put_name map name k)
 bounded_put made name k map under old = record {
   finite = (name ∷ old.finite.0, λ q some. within old.finite.0 q (bytes_eq q name) (old.finite.1 q) some);
   below = λ q n at. lower n (bytes_eq q name) (map q) (old.below q n) at;
@@ -76,14 +76,14 @@ whole-after_put : (name bytes : List ℕ) (v : TreeState) → IsWhole v → IsWh
 whole-after_put name bytes v whole = whole_by (after_put name bytes v) each
   where
     each : (map : NameMap) → IsMapOf (after_put name bytes v) map → IsBounded (v.made + 1) map
-    each map (inl is) = same_map (v.made + 1) map (put v.names name v.made) is (bounded_put (v.made + 1) name v.made v.names (omega arith) (more_made v.made (v.made + 1) v.names (omega arith) (bounded v whole v.names (inl refl))))
+    each map (inl is) = same_map (v.made + 1) map (put_name v.names name v.made) is (bounded_put (v.made + 1) name v.made v.names (omega arith) (more_made v.made (v.made + 1) v.names (omega arith) (bounded v whole v.names (inl refl))))
     each map (inr other) = absurd other
 
 whole-after_create : (name : List ℕ) (v : TreeState) → IsWhole v → IsWhole (after_create name v)
 whole-after_create name v whole = whole_by (after_create name v) each
   where
     each : (map : NameMap) → IsMapOf (after_create name v) map → IsBounded (v.made + 1) map
-    each map (inl is) = same_map (v.made + 1) map (put v.names name v.made) is (bounded_put (v.made + 1) name v.made v.names (omega arith) (more_made v.made (v.made + 1) v.names (omega arith) (bounded v whole v.names (inl refl))))
+    each map (inl is) = same_map (v.made + 1) map (put_name v.names name v.made) is (bounded_put (v.made + 1) name v.made v.names (omega arith) (more_made v.made (v.made + 1) v.names (omega arith) (bounded v whole v.names (inl refl))))
     each map (inr old) = more_made v.made (v.made + 1) map (omega arith) (bounded v whole map old)
 
 whole-change_at : (change : File → File) (v : TreeState) (o : Option ℕ) → IsWhole v → IsWhole (change_at change v o)

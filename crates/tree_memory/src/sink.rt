@@ -1,6 +1,6 @@
 ghost use Rattle.std.specs.Prelude.{◌≡◌, ◌≤◌, List, Option, Some, take, IfOk, OnErr, [], IsOk};
-ghost use Rattle.base_core.specs.Faults.{FailsWithCause, risen};
-ghost use Rattle.base_core.specs.Sink.{Adds, IsTaken};
+ghost use Rattle.base_core.specs.Faults.{FailsWithCause, next_count};
+ghost use Rattle.base_core.specs.Sink.{Adds, IsWriteCount};
 ghost use Rattle.tree_memory.specs.Sink.{SinkState, new_sink, sink_counts, fitting, Takes, Refuses};
 
 use base_core::{Sink, SinkFault};
@@ -60,7 +60,7 @@ impl MemorySink {
     }
 
     fn fault(&mut self) -> SinkFault
-        ensures is { self.new ≡ record self.old { faults = risen self.old.faults } }
+        ensures is { self.new ≡ record self.old { faults = next_count self.old.faults } }
         ensures later { self.old.faults ≤ self.new.faults }
     {
         self.faults = self.faults.saturating_add(1);
@@ -68,7 +68,7 @@ impl MemorySink {
     }
 
     fn want(&mut self) -> SinkFault
-        ensures is { self.new ≡ record self.old { faults = risen self.old.faults; wants = risen self.old.wants } }
+        ensures is { self.new ≡ record self.old { faults = next_count self.old.faults; wants = next_count self.old.wants } }
         ensures later { self.old.faults ≤ self.new.faults }
         ensures more { self.old.wants ≤ self.new.wants }
     {
@@ -93,7 +93,7 @@ impl Sink for MemorySink {
     ghost counts = { λ sink. sink_counts sink };
 
     fn write(&mut self, piece: &[u8]) -> Result<usize, SinkFault>
-        ensures taken { IfOk result (λ n. IsTaken n piece.now) }
+        ensures taken { IfOk result (λ n. IsWriteCount n piece.now) }
         ensures empty { piece.now ≡ [] → IsOk result }
         ensures added { IfOk result (λ n. Adds (Some self.old.bytes) (Some self.new.bytes) (take n piece.now)) }
         ensures unchanged { OnErr result (Some self.new.bytes ≡ Some self.old.bytes) }

@@ -2,7 +2,7 @@ ghost use Rattle.std.specs.Prelude.{◌≡◌, ◌↔◌, ℕ, [], ◌∷◌, �
 ghost use Rattle.std.specs.Ordering.{nat_cmp, is_lt};
 ghost use Rattle.std.specs.Str.{bytes_eq};
 ghost use Rattle.std.specs.Cmp.Lexicographic.{slice_cmp};
-ghost use Rattle.base_core.specs.Files.{put, drop_name};
+ghost use Rattle.base_core.specs.Files.{put_name, drop_name};
 ghost use Rattle.tree_memory.specs.Table.{IsTable, IsFit, lookup, names_of, IsNamed, IsPlace, IsStart, IsBelow, HasFolderBut, HasBelowBut};
 
 use base_core::{Name, Names, is_folder_of};
@@ -53,7 +53,7 @@ impl NameTable {
 
     /// Lets a name lead to a number. A refused one changes nothing.
     pub fn set(&mut self, name: Name, file: usize) -> Result<(), AllocError>
-        ensures ok { OnOk result ((q : List ℕ) → lookup self.new.entries.items q ≡ put (lookup self.old.entries.items) name file q) }
+        ensures ok { OnOk result ((q : List ℕ) → lookup self.new.entries.items q ≡ put_name (lookup self.old.entries.items) name file q) }
         ensures err { OnErr result (self.new.entries.items ≡ self.old.entries.items) }
     {
         match self.place(name.as_bytes()) {

@@ -1,5 +1,5 @@
 ghost use Rattle.std.specs.Prelude.{◌≡◌, is_ok, if◌then◌else◌};
-ghost use Rattle.base_core.specs.Faults.{risen};
+ghost use Rattle.base_core.specs.Faults.{next_count};
 ghost use Rattle.tree_memory.specs.Plans.{no_plan, is_next, one_on};
 ghost use Rattle.tree_memory.specs.Tallies.{no_calls, called, faulted, misused, wanted, begun, goes_on, HasGrown};
 
@@ -39,7 +39,7 @@ impl Tally {
 
     /// The call is one that writes.
     pub fn write(&mut self)
-        ensures { self.new ≡ record self.old { writes = risen self.old.writes } }
+        ensures { self.new ≡ record self.old { writes = next_count self.old.writes } }
     {
         self.writes = self.writes.saturating_add(1);
     }
@@ -112,7 +112,7 @@ impl Calls {
     /// The same of a call that writes.
     pub fn begin_write(&mut self, can: bool) -> Result<(), Disk>
         ensures plan { self.new.plan ≡ one_on self.old.plan }
-        ensures tally { self.new.tally ≡ begun can (is_next self.old.plan) (record self.old.tally { writes = risen self.old.tally.writes }) }
+        ensures tally { self.new.tally ≡ begun can (is_next self.old.plan) (record self.old.tally { writes = next_count self.old.tally.writes }) }
         ensures grown { HasGrown self.old.tally self.new.tally }
         ensures when { is_ok result ≡ goes_on can (is_next self.old.plan) }
     {

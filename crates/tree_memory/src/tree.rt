@@ -1,11 +1,11 @@
 ghost use Rattle.std.specs.Prelude.{◌≡◌, ◌↔◌, [], ◌∷◌, List, Some, None, IsTrue, IsOk, IfOk, IfSome, IsErrOf, OnOk, OnErr, false, true, length, take, drop, if◌then◌else◌};
 ghost use Rattle.std.specs.Option.{option_map, option_copied};
-ghost use Rattle.base_core.specs.Calls.{Counted, Moves, OnTold};
+ghost use Rattle.base_core.specs.Calls.{IsCounted, Moves, IfObservable};
 ghost use Rattle.base_core.specs.Crash.{IsCrashOf};
-ghost use Rattle.base_core.specs.Faults.{GoesOn, HasCause, IsNoFault, risen};
-ghost use Rattle.base_core.specs.Files.{put};
+ghost use Rattle.base_core.specs.Faults.{GoesOn, HasCause, IsNoFault, next_count};
+ghost use Rattle.base_core.specs.Files.{put_name};
 ghost use Rattle.base_core.specs.Listed.{AreNamesBelow, IsNamesOf, IsListOf};
-ghost use Rattle.base_core.specs.Tree.{files_of, after_create, after_append, after_failed_append, after_sync, after_rename, after_remove, after_sync_names, unchanged, Anywhere, HasName, CanRead, CanCreate, CanRename};
+ghost use Rattle.base_core.specs.Tree.{files_of, after_create, after_append, after_failed_append, after_sync, after_rename, after_remove, after_sync_names, same_state, Anywhere, HasName, CanRead, CanCreate, CanRename};
 ghost use Rattle.base_core.specs.declared.tree.TreeFault.TheVariants.{Memory, Disk as DiskFault};
 ghost use Rattle.tree_memory.specs.Changes.{empty_state, after_put};
 ghost use Rattle.tree_memory.specs.Images.{maps_of, picked};
@@ -54,7 +54,7 @@ impl MemoryTree {
     pub fn put(&mut self, name: &Name, bytes: &[u8]) -> Result<(), AllocError>
         requires { CanPut name.now (state_of self.old) }
         ensures ok { OnOk result (history_of self.new ≡ after_put name.now bytes.now (state_of self.old) ∷ history_of self.old) }
-        ensures files { OnOk result (files_of (state_of self.new) ≡ put (files_of (state_of self.old)) name.now bytes.now) }
+        ensures files { OnOk result (files_of (state_of self.new) ≡ put_name (files_of (state_of self.old)) name.now bytes.now) }
         ensures err { OnErr result (history_of self.new ≡ history_of self.old) }
         ensures counts { counts_of self.new ≡ counts_of self.old }
         ensures plan { plan_of self.new ≡ plan_of self.old }
@@ -171,8 +171,8 @@ impl Tree for MemoryTree {
 
     fn size(&mut self, name: &Name) -> Result<Option<u64>, Disk>
         ensures same { history_of self.new ≡ history_of self.old }
-        ensures counts { Counted Anywhere (history_of self.old) (counts_of self.old) (counts_of self.new) result }
-        ensures value { IfOk result (λ size. OnTold (history_of self.old) (λ v. size ≡ option_map length (files_of v name.now))) }
+        ensures counts { IsCounted Anywhere (history_of self.old) (counts_of self.old) (counts_of self.new) result }
+        ensures value { IfOk result (λ size. IfObservable (history_of self.old) (λ v. size ≡ option_map length (files_of v name.now))) }
 
         // It fails exactly where that is planned.
         ensures when { IsOk result ↔ (is_next (plan_of self.old) ≡ false) }
@@ -187,13 +187,13 @@ impl Tree for MemoryTree {
 
     fn read_at(&mut self, name: &Name, at: u64, into: &mut [u8]) -> Result<(), Disk>
         ensures same { history_of self.new ≡ history_of self.old }
-        ensures counts { Counted (CanRead name.now at (length into.old)) (history_of self.old) (counts_of self.old) (counts_of self.new) result }
-        ensures value { OnOk result (OnTold (history_of self.old) (λ v. IfSome (files_of v name.now) (λ bytes.
+        ensures counts { IsCounted (CanRead name.now at (length into.old)) (history_of self.old) (counts_of self.old) (counts_of self.new) result }
+        ensures value { OnOk result (IfObservable (history_of self.old) (λ v. IfSome (files_of v name.now) (λ bytes.
             into.new ≡ take (length into.old) (drop at bytes)))) }
 
         // It fails exactly where that is planned, and at a misuse.
         ensures when { IsOk result ↔ ((is_next (plan_of self.old) ≡ false) × CanRead name.now at (length into.old) (state_of self.old)) }
-        ensures unchanged { OnErr result (into.new ≡ into.old) }
+        ensures same_state { OnErr result (into.new ≡ into.old) }
         ensures call { IsRead self.old self.new result }
     {
         let can = self.store.can_read(name, at, into.len());
@@ -204,7 +204,7 @@ impl Tree for MemoryTree {
 
     fn create(&mut self, name: &Name) -> Result<(), Disk>
         ensures moves { Moves (CanCreate name.now) (after_create name.now) (after_create name.now) (history_of self.old) (history_of self.new) result }
-        ensures counts { Counted (CanCreate name.now) (history_of self.old) (counts_of self.old) (counts_of self.new) result }
+        ensures counts { IsCounted (CanCreate name.now) (history_of self.old) (counts_of self.old) (counts_of self.new) result }
 
         // It fails exactly at a misuse, where that is planned, and for want of memory, and then changes nothing.
         ensures call { IsWrite (CanCreate name.now) self.old self.new result }
@@ -217,7 +217,7 @@ impl Tree for MemoryTree {
 
     fn append(&mut self, name: &Name, piece: &[u8]) -> Result<(), Disk>
         ensures moves { Moves (HasName name.now) (after_append name.now piece.now) (after_failed_append name.now) (history_of self.old) (history_of self.new) result }
-        ensures counts { Counted (HasName name.now) (history_of self.old) (counts_of self.old) (counts_of self.new) result }
+        ensures counts { IsCounted (HasName name.now) (history_of self.old) (counts_of self.old) (counts_of self.new) result }
         ensures call { IsWrite (HasName name.now) self.old self.new result }
     {
         let can = self.store.has(name);
@@ -227,8 +227,8 @@ impl Tree for MemoryTree {
     }
 
     fn sync(&mut self, name: &Name) -> Result<(), Disk>
-        ensures moves { Moves (HasName name.now) (after_sync name.now) unchanged (history_of self.old) (history_of self.new) result }
-        ensures counts { Counted (HasName name.now) (history_of self.old) (counts_of self.old) (counts_of self.new) result }
+        ensures moves { Moves (HasName name.now) (after_sync name.now) same_state (history_of self.old) (history_of self.new) result }
+        ensures counts { IsCounted (HasName name.now) (history_of self.old) (counts_of self.old) (counts_of self.new) result }
         ensures call { IsWrite (HasName name.now) self.old self.new result }
     {
         let can = self.store.has(name);
@@ -239,7 +239,7 @@ impl Tree for MemoryTree {
 
     fn rename(&mut self, from: &Name, to: &Name) -> Result<(), Disk>
         ensures moves { Moves (CanRename from.now to.now) (after_rename from.now to.now) (after_rename from.now to.now) (history_of self.old) (history_of self.new) result }
-        ensures counts { Counted (CanRename from.now to.now) (history_of self.old) (counts_of self.old) (counts_of self.new) result }
+        ensures counts { IsCounted (CanRename from.now to.now) (history_of self.old) (counts_of self.old) (counts_of self.new) result }
         ensures call { IsWrite (CanRename from.now to.now) self.old self.new result }
     {
         let can = self.store.can_rename(from, to);
@@ -250,7 +250,7 @@ impl Tree for MemoryTree {
 
     fn remove(&mut self, name: &Name) -> Result<(), Disk>
         ensures moves { Moves Anywhere (after_remove name.now) (after_remove name.now) (history_of self.old) (history_of self.new) result }
-        ensures counts { Counted Anywhere (history_of self.old) (counts_of self.old) (counts_of self.new) result }
+        ensures counts { IsCounted Anywhere (history_of self.old) (counts_of self.old) (counts_of self.new) result }
         ensures call { IsWrite Anywhere self.old self.new result }
     {
         self.calls.begin_write(true)?;
@@ -259,8 +259,8 @@ impl Tree for MemoryTree {
     }
 
     fn sync_names(&mut self) -> Result<(), Disk>
-        ensures moves { Moves Anywhere after_sync_names unchanged (history_of self.old) (history_of self.new) result }
-        ensures counts { Counted Anywhere (history_of self.old) (counts_of self.old) (counts_of self.new) result }
+        ensures moves { Moves Anywhere after_sync_names same_state (history_of self.old) (history_of self.new) result }
+        ensures counts { IsCounted Anywhere (history_of self.old) (counts_of self.old) (counts_of self.new) result }
         ensures call { IsWrite Anywhere self.old self.new result }
     {
         self.calls.begin_write(true)?;
@@ -275,15 +275,15 @@ impl Tree for MemoryTree {
         ensures kept { OnOk result (IsNoFault (counts_of self.old) (counts_of self.new)) }
         ensures memory { IsErrOf result Memory → IsNoFault (counts_of self.old) (counts_of self.new) }
         ensures proper { (counts_of self.new).misuses ≡ (counts_of self.old).misuses }
-        ensures value { IfOk result (λ names. OnTold (history_of self.old) (λ v. IsListOf folder.now v names)) }
+        ensures value { IfOk result (λ names. IfObservable (history_of self.old) (λ v. IsListOf folder.now v names)) }
         ensures order { IfOk result (λ names. AreNamesBelow folder.now names) }
 
         // The tree fails exactly where that is planned.
         ensures when { IsErrOf result DiskFault ↔ (is_next (plan_of self.old) ≡ true) }
         ensures plan { plan_of self.new ≡ one_on (plan_of self.old) }
-        ensures calls { calls_of self.new ≡ risen (calls_of self.old) }
+        ensures calls { calls_of self.new ≡ next_count (calls_of self.old) }
         ensures writes { writes_of self.new ≡ writes_of self.old }
-        ensures faults { (counts_of self.new).faults ≡ (if is_next (plan_of self.old) then risen (counts_of self.old).faults else (counts_of self.old).faults) }
+        ensures faults { (counts_of self.new).faults ≡ (if is_next (plan_of self.old) then next_count (counts_of self.old).faults else (counts_of self.old).faults) }
         ensures wants { (counts_of self.new).wants ≡ (counts_of self.old).wants }
     {
         self.calls.begin(true)?;

@@ -1,5 +1,5 @@
 use Rattle.std.proofs.Common.{◌≡◌, false, List, [], ◌∷◌, ◌++◌, length, ap, ◌∙◌, refl, rules}
-use Rattle.base_core.specs.Files.{put}
+use Rattle.base_core.specs.Files.{put_name}
 use Rattle.tree_memory.specs.Table.{lookup}
 use Rattle.tree_memory.specs.declared.changes.Change.TheVariants.{Create}
 use Rattle.tree_memory.specs.declared.changes.Stored.{Stored}
@@ -13,7 +13,7 @@ invariant_of-self-2 c =
     let es = c.args.self.now.names.entries.items in
     let n_is : c.len-file.result ≡ length files = search rules in
     let m : IsMore c.args.name.now es c.set.new.self.entries.items files c.add.new.list.items s = record {
-      named = λ q. c.in_ok-set.ensures.ok q ∙ (λ i. put (lookup es) (c.in_ok-named.ensures i) (n_is i) q);
+      named = λ q. c.in_ok-set.ensures.ok q ∙ (λ i. put_name (lookup es) (c.in_ok-named.ensures i) (n_is i) q);
       stored = c.add.ensures ∙ ap (λ (l : List Stored). l ++ s ∷ []) c.in_ok-reserve-2.ensures.items;
     } in record {
       in_step = store_create c.args.name.now c.args.self.now.changes.items c.add-2.new.list.items es c.set.new.self.entries.items files c.add.new.list.items s c.args.self.now.in_step m
@@ -27,7 +27,7 @@ returns-clause-ok c =
     let es = c.args.self.now.names.entries.items in
     let n_is : c.len-file.result ≡ length files = search rules in
     let m : IsMore c.args.name.now es c.set.new.self.entries.items files c.add.new.list.items s = record {
-      named = λ q. c.in_ok-set.ensures.ok q ∙ (λ i. put (lookup es) (c.in_ok-named.ensures i) (n_is i) q);
+      named = λ q. c.in_ok-set.ensures.ok q ∙ (λ i. put_name (lookup es) (c.in_ok-named.ensures i) (n_is i) q);
       stored = c.add.ensures ∙ ap (λ (l : List Stored). l ++ s ∷ []) c.in_ok-reserve-2.ensures.items;
     } in
     history_create c.args.name.now c.args.self.now.changes.items c.add-2.new.list.items es c.set.new.self.entries.items files c.add.new.list.items s c.args.self.now.in_step m

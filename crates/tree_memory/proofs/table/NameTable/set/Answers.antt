@@ -1,5 +1,5 @@
 use Rattle.std.proofs.Common.{◌≡◌, Bool, true, false, cond, List, ℕ, is_ok, sym, ap, subst, ◌∙◌}
-use Rattle.base_core.specs.Files.{put}
+use Rattle.base_core.specs.Files.{put_name}
 use Rattle.tree_memory.specs.Table.{IsTable, IsNamed, IsPlace, lookup}
 use Rattle.tree_memory.specs.declared.table.Entry.{Entry}
 use Rattle.tree_memory.proofs.Placed.{lookup-set, lookup-insert, table-insert}
@@ -22,7 +22,7 @@ returns-in-Ok-clause-ok c q =
     let stands : c.index_mut.result.now.name ≡ c.as_bytes.result.now = ap (λ (e : Entry). e.name) c.index_mut.ensures.value ∙ named.here c.index_mut.result.now in
     let e : Entry = record { name = c.index_mut.result.now.name; file = c.args.file } in
     lookup-set c.args.self.now.entries.items c.in-Ok.i e e c.args.self.now.rising (subst (IsNamed c.args.self.now.entries.items c.in-Ok.i) (sym stands) named) q
-    ∙ ap (λ (n : List ℕ). put (lookup c.args.self.now.entries.items) n c.args.file q) (stands ∙ c.as_bytes.ensures.value)
+    ∙ ap (λ (n : List ℕ). put_name (lookup c.args.self.now.entries.items) n c.args.file q) (stands ∙ c.as_bytes.ensures.value)
 
 pub returns-in_ok-insert-in-Err-clause-ok : goal.returns-in_ok-insert-in-Err-clause-ok
 returns-in_ok-insert-in-Err-clause-ok c q =
