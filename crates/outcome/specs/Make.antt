@@ -48,7 +48,8 @@ abbrev pub make_outcome : Files → Option (List ℕ) → List ℕ → Result (L
 make_outcome files output report (Ok bytes) =
     unless_reserved files output (just_report (files_with output bytes files) report)
 make_outcome files output report (Err (NoFile place)) = just_refusal files (FileMissing place)
-make_outcome files output report (Err (BadFile place cause)) = just_refusal files (FileBad place cause)
+make_outcome files output report (Err (BadFile place cause)) =
+    just_refusal files (FileBad place cause)
 make_outcome files output report (Err (BadInfo place)) = just_refusal files (InfoBad place)
 make_outcome files output report (Err (TooLarge bytes values)) =
     unless_reserved files output (just_refusal files (ResultTooLarge bytes values))

@@ -10,6 +10,9 @@ pub record AreNamedFiles (files : Files) : Type 0 where
   pub named : (q : List ℕ) → IsSome (files q) → IsName q
   pub each : (q file : List ℕ) → files q ≡ Some file → IsFile file
 
--- a file stands under the name, and passes all tests of a container, if it has fewer than 2 ^ 64 bytes
+-- a file stands under the name; it passes all tests of a container, if it has fewer than 2 ^ 64 bytes
 abbrev pub IsSoundAt : List ℕ → Files → Type 0
-IsSoundAt name files = (bytes : List ℕ) × (files name ≡ Some bytes) × (length bytes < 2 ^ 64 → container_fault bytes ≡ None)
+IsSoundAt name files =
+    (bytes : List ℕ)
+    × (files name ≡ Some bytes)
+    × (length bytes < 2 ^ 64 → container_fault bytes ≡ None)

@@ -28,7 +28,8 @@ or_later None later = later
 abbrev pub verify_refusal : Reads → ℕ → List Operand → Option Refusal
 verify_refusal read n [] = None
 verify_refusal read n (o ∷ operands) =
-    or_later (file_refusal o.place (read n (without_dot o.text))) (verify_refusal read (n + 1) operands)
+    or_later (file_refusal o.place (read n (without_dot o.text)))
+    (verify_refusal read (n + 1) operands)
 
 -- what is printed for a sound file
 abbrev pub sound_line : List ℕ → List ℕ
