@@ -3,25 +3,26 @@ use Rattle.std.proofs.Common.{◌≡◌, ℕ, ◌+◌, ◌-◌, ◌*◌, ◌/◌
 use Rattle.std.specs.Int.{w32, w64, from_le_bytes}
 use Rattle.std.proofs.lemmas.Bool.{le-ltb, ne_eqb}
 use Rattle.std.proofs.lemmas.List.{take_at, drop_at, length-append, length-drop, drop-drop, drop_all, take-append-le, drop-append-le}
-use Rattle.adb_block.specs.Container.{Piece, number_of, IsHead, IsShortHead, IsLongHead, IsPadding, IsBlock, comes_after, least, padding_of, MayFollow, IsLater}
+use Rattle.adb_block.specs.Container.{IsHead, IsShortHead, IsLongHead, IsPadding, IsBlock, MayFollow, IsLater}
+use Rattle.adb_block.specs.Piece.{Piece, kind_number, comes_after, least_payload, padding_of}
 use Rattle.adb_block.specs.Header.{word_at, long_at}
-use Rattle.adb_block.specs.Framing.{HeadFields, head_of, kind_numbered, ended, block, ordered, step}
+use Rattle.adb_block.specs.Framing.{HeadFields, head_of, kind_of_number, ended, block, step_by_order, next_step}
 use Rattle.adb_block.specs.declared.block.BlockKind.{BlockKind}
 use Rattle.adb_block.specs.declared.block.BlockKind.TheVariants.{Adb, Signature, Contents}
 
-kind_again : (k : BlockKind) → kind_numbered (number_of k) ≡ Some k
+kind_again : (k : BlockKind) → kind_of_number (kind_number k) ≡ Some k
 kind_again Adb = refl
 kind_again Signature = refl
 kind_again Contents = refl
 
-number_small : (k : BlockKind) → number_of k < 3
+number_small : (k : BlockKind) → kind_number k < 3
 number_small Adb = lit< tt
 number_small Signature = lit< tt
 number_small Contents = lit< tt
 
 -- a header of so many bytes, for a block of the type k with so long a payload
 abbrev says : BlockKind → ℕ → ℕ → HeadFields
-says k h len = record { kind = number_of k; len = h; raw = h + len }
+says k h len = record { kind = kind_number k; len = h; raw = h + len }
 
 same_fields : (a b : HeadFields) → a.kind ≡ b.kind → a.len ≡ b.len → a.raw ≡ b.raw → a ≡ b
 same_fields a b k l r = λ i. record { kind = k i; len = l i; raw = r i }
@@ -32,12 +33,12 @@ short_again k len head more h =
     let size = h.size in
     let small = h.small in
     let total = length-append head more in
-    let word : word_at 0 (head ++ more) ≡ number_of k * 2 ^ 30 + (4 + len) = ap (from_le_bytes w32) (take_at head more 4 size) ∙ h.word in
+    let word : word_at 0 (head ++ more) ≡ kind_number k * 2 ^ 30 + (4 + len) = ap (from_le_bytes w32) (take_at head more 4 size) ∙ h.word in
     let k_small = number_small k in
-    let high : (number_of k * 2 ^ 30 + (4 + len)) / 2 ^ 30 ≡ number_of k = omega arith in
-    let low : (number_of k * 2 ^ 30 + (4 + len)) % 2 ^ 30 ≡ 4 + len = omega arith in
+    let high : (kind_number k * 2 ^ 30 + (4 + len)) / 2 ^ 30 ≡ kind_number k = omega arith in
+    let low : (kind_number k * 2 ^ 30 + (4 + len)) % 2 ^ 30 ≡ 4 + len = omega arith in
     let t1 : ltb (length (head ++ more)) 4 ≡ false = le-ltb _ _ (omega arith) in
-    let t2 : eqb (number_of k) 3 ≡ false = ne_eqb _ _ (omega arith) in
+    let t2 : eqb (kind_number k) 3 ≡ false = ne_eqb _ _ (omega arith) in
     rw (t1, word, high, t2, low) refl
 
 long_again : (k : BlockKind) (len : ℕ) (head more : List ℕ) → IsLongHead k len head → head_of (head ++ more) ≡ Some (says k 16 len)
@@ -45,12 +46,12 @@ unfolding head_of
 long_again k len head more h =
     let size = h.size in
     let total = length-append head more in
-    let word : word_at 0 (head ++ more) ≡ 3 * 2 ^ 30 + number_of k = ap (from_le_bytes w32) (take-append-le 4 head more (omega arith)) ∙ h.word in
+    let word : word_at 0 (head ++ more) ≡ 3 * 2 ^ 30 + kind_number k = ap (from_le_bytes w32) (take-append-le 4 head more (omega arith)) ∙ h.word in
     let back : take 8 (drop 8 (head ++ more)) ≡ drop 8 head = ap (take 8) (drop-append-le 8 head more (omega arith)) ∙ take_at (drop 8 head) more 8 (omega (arith, length-drop 8 head)) in
     let raw : long_at 8 (head ++ more) ≡ 16 + len = ap (from_le_bytes w64) back ∙ h.raw in
     let k_small = number_small k in
-    let high : (3 * 2 ^ 30 + number_of k) / 2 ^ 30 ≡ 3 = omega arith in
-    let low : (3 * 2 ^ 30 + number_of k) % 2 ^ 30 ≡ number_of k = omega arith in
+    let high : (3 * 2 ^ 30 + kind_number k) / 2 ^ 30 ≡ 3 = omega arith in
+    let low : (3 * 2 ^ 30 + kind_number k) % 2 ^ 30 ≡ kind_number k = omega arith in
     let t1 : ltb (length (head ++ more)) 4 ≡ false = le-ltb _ _ (omega arith) in
     let t2 : ltb (length (head ++ more)) 16 ≡ false = le-ltb _ _ (omega arith) in
     rw (t1, word, high, t2, raw, low) refl
@@ -68,17 +69,17 @@ head_again : (k : BlockKind) (len : ℕ) (head more : List ℕ) (is : IsHead k l
 head_again k len head more (inl h) = short_again k len head more h
 head_again k len head more (inr h) = long_again k len head more h
 
-ordered_again : (last : Option BlockKind) (at : ℕ) (bytes : List ℕ) (h len : ℕ) (k : BlockKind) → comes_after last k ≡ true → least k ≤ len → h + len ≤ length bytes
-    → ordered last at bytes (says k h len) (kind_numbered (number_of k)) ≡ block (record { kind = k; payload = take len (drop h bytes) }) (h + len + padding_of (h + len))
+ordered_again : (last : Option BlockKind) (at : ℕ) (bytes : List ℕ) (h len : ℕ) (k : BlockKind) → comes_after last k ≡ true → least_payload k ≤ len → h + len ≤ length bytes
+    → step_by_order last at bytes (says k h len) (kind_of_number (kind_number k)) ≡ block (record { kind = k; payload = take len (drop h bytes) }) (h + len + padding_of (h + len))
 ordered_again last at bytes h len k o long fits =
     let len_is : h + len - h ≡ len = omega arith in
     let a : ltb (h + len) h ≡ false = le-ltb _ _ (omega arith) in
     let b : ltb (length bytes) (h + len) ≡ false = le-ltb _ _ fits in
-    let c : ltb len (least k) ≡ false = le-ltb _ _ long in
+    let c : ltb len (least_payload k) ≡ false = le-ltb _ _ long in
     rw (kind_again k, o, a, b, len_is, c) refl
 
-not_empty : (last : Option BlockKind) (at : ℕ) (bytes : List ℕ) (h : HeadFields) → 0 < length bytes → head_of bytes ≡ Some h → step last at bytes ≡ ordered last at bytes h (kind_numbered h.kind)
-unfolding step
+not_empty : (last : Option BlockKind) (at : ℕ) (bytes : List ℕ) (h : HeadFields) → 0 < length bytes → head_of bytes ≡ Some h → next_step last at bytes ≡ step_by_order last at bytes h (kind_of_number h.kind)
+unfolding next_step
 not_empty last at bytes h some is =
     let t : eqb (length bytes) 0 ≡ false = ne_eqb _ _ (omega arith) in
     rw (t, is) refl
@@ -100,7 +101,7 @@ skip_again head payload pad rest h len e f p =
 abbrev pub size_of : (b : Piece) (bytes rest : List ℕ) → IsBlock b bytes rest → ℕ
 size_of b bytes rest is = header_len is.is_head + length b.payload + padding_of (header_len is.is_head + length b.payload)
 
-pub step_again : (last : Option BlockKind) (at : ℕ) (bytes : List ℕ) (b : Piece) (rest : List ℕ) → MayFollow last b → IsBlock b bytes rest → (size : ℕ) × (step last at bytes ≡ block b size) × (drop size bytes ≡ rest)
+pub step_again : (last : Option BlockKind) (at : ℕ) (bytes : List ℕ) (b : Piece) (rest : List ℕ) → MayFollow last b → IsBlock b bytes rest → (size : ℕ) × (next_step last at bytes ≡ block b size) × (drop size bytes ≡ rest)
 step_again last at bytes b rest m is =
     let len = length b.payload in
     let h : ℕ = header_len is.is_head in
@@ -116,7 +117,7 @@ step_again last at bytes b rest m is =
     let skipped = skip_again is.head b.payload is.pad rest h len head_len refl pad in
     let piece_is : record { kind = b.kind; payload = take len (drop h (is.head ++ more)) } ≡ b = ap (λ (x : List ℕ). record { kind = b.kind; payload = x }) payload in (
       h + len + padding_of (h + len),
-      ap (step last at) is.parts ∙ stepped ∙ passed ∙ ap (λ (p : Piece). block p (h + len + padding_of (h + len))) piece_is,
+      ap (next_step last at) is.parts ∙ stepped ∙ passed ∙ ap (λ (p : Piece). block p (h + len + padding_of (h + len))) piece_is,
       ap (drop (h + len + padding_of (h + len))) is.parts ∙ skipped,
     )
   where
@@ -124,7 +125,7 @@ step_again last at bytes b rest m is =
     positive k len head more (inl h) = omega (arith, h.size, length-append head more)
     positive k len head more (inr h) = omega (arith, h.size, length-append head more)
 
-pub step_at_end : (last : Option BlockKind) (at : ℕ) → IsLater last → step last at [] ≡ ended
-unfolding step
+pub step_at_end : (last : Option BlockKind) (at : ℕ) → IsLater last → next_step last at [] ≡ ended
+unfolding next_step
 step_at_end None at later = absurd later
 step_at_end (Some k) at later = refl

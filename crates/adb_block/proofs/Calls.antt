@@ -2,30 +2,32 @@
 use Rattle.std.proofs.Common.{◌≡◌, ◌↔◌, ℕ, ◌+◌, ◌-◌, List, [], ◌∷◌, length, drop, Option, Some, None, Ok, Err, refl, sym, ap, subst, ◌∙◌, arith}
 use Rattle.std.specs.Prelude.{IsSome}
 use Rattle.base_core.specs.declared.Cause.{Cause}
-use Rattle.adb_block.specs.Container.{Piece, IsLater, SpellsBlocks}
-use Rattle.adb_block.specs.Framing.{ended, failed, block, step}
-use Rattle.adb_block.specs.Standing.{Standing, behind}
-use Rattle.adb_block.specs.Reading.{reading_of, rest_of}
-use Rattle.adb_block.specs.Reader.{piece_of, BeginsWith, Continues, IsStep, Advances, Ends, IsRead, IsRest}
+use Rattle.adb_block.specs.Container.{IsLater, SpellsBlocks}
+use Rattle.adb_block.specs.Piece.{Piece}
+use Rattle.adb_block.specs.Framing.{ended, failed, block, next_step}
+use Rattle.adb_block.specs.Standing.{Standing}
+use Rattle.adb_block.specs.Reading.{reading_of}
+use Rattle.adb_block.specs.AllBlocks.{rest_of}
+use Rattle.adb_block.specs.Reader.{piece_of, BeginsWith, Continues, IsStep, Advances, Ends, ContinuesReading, ContinuesRest, standing_behind}
 use Rattle.adb_block.specs.declared.block.Block.{Block}
 use Rattle.adb_block.specs.declared.block.BlockKind.{BlockKind}
 use Rattle.adb_block.proofs.Sound.{step_sound, step_ended}
 use Rattle.adb_block.proofs.Again.{step_again, step_at_end}
 use Rattle.adb_block.proofs.Runs.{step_shorter, reading_ended, reading_failed, reading_more, rest_ended, rest_failed, rest_more}
 
-pub spells_not : (last : Option BlockKind) (at : ℕ) (bytes : List ℕ) (c : Cause) → step last at bytes ≡ failed c → (bs : List Piece) → SpellsBlocks last bytes bs → ⊥
-spells_not last at bytes c e [] s = let f : step last at bytes ≡ ended = rw s.0 (step_at_end last at s.1) in cc
+pub spells_not : (last : Option BlockKind) (at : ℕ) (bytes : List ℕ) (c : Cause) → next_step last at bytes ≡ failed c → (bs : List Piece) → SpellsBlocks last bytes bs → ⊥
+spells_not last at bytes c e [] s = let f : next_step last at bytes ≡ ended = rw s.0 (step_at_end last at s.1) in cc
 spells_not last at bytes c e (b ∷ bs) (rest, may, is, further) = let (size, f, g) = step_again last at bytes b rest may is in cc
 
-spells_nil : (last : Option BlockKind) (at : ℕ) (bytes : List ℕ) → step last at bytes ≡ ended → (bs : List Piece) → SpellsBlocks last bytes bs → bs ≡ []
+spells_nil : (last : Option BlockKind) (at : ℕ) (bytes : List ℕ) → next_step last at bytes ≡ ended → (bs : List Piece) → SpellsBlocks last bytes bs → bs ≡ []
 spells_nil last at bytes e [] s = refl
 spells_nil last at bytes e (b ∷ bs) (rest, may, is, further) = absurd (let (size, f, g) = step_again last at bytes b rest may is in cc)
 
-pub spells_end : (last : Option BlockKind) (at : ℕ) (bytes : List ℕ) → step last at bytes ≡ ended → (bs : List Piece) → SpellsBlocks last bytes bs ↔ (bs ≡ [])
+pub spells_end : (last : Option BlockKind) (at : ℕ) (bytes : List ℕ) → next_step last at bytes ≡ ended → (bs : List Piece) → SpellsBlocks last bytes bs ↔ (bs ≡ [])
 spells_end last at bytes e bs = (spells_nil last at bytes e bs, λ is. subst (SpellsBlocks last bytes) (sym is) (step_ended last at bytes e))
 
-spells_then : (last : Option BlockKind) (at : ℕ) (bytes : List ℕ) (b : Piece) (size : ℕ) → step last at bytes ≡ block b size → (bs : List Piece) → SpellsBlocks last bytes bs → BeginsWith b (SpellsBlocks (Some b.kind) (drop size bytes)) bs
-spells_then last at bytes b size e [] s = let f : step last at bytes ≡ ended = rw s.0 (step_at_end last at s.1) in cc
+spells_then : (last : Option BlockKind) (at : ℕ) (bytes : List ℕ) (b : Piece) (size : ℕ) → next_step last at bytes ≡ block b size → (bs : List Piece) → SpellsBlocks last bytes bs → BeginsWith b (SpellsBlocks (Some b.kind) (drop size bytes)) bs
+spells_then last at bytes b size e [] s = let f : next_step last at bytes ≡ ended = rw s.0 (step_at_end last at s.1) in cc
 spells_then last at bytes b size e (c ∷ bs) (rest, may, is, further) =
     let (size', f, g) = step_again last at bytes c rest may is in
     let same : c ≡ b = cc in
@@ -33,7 +35,7 @@ spells_then last at bytes b size e (c ∷ bs) (rest, may, is, further) =
     let rest_is : rest ≡ drop size bytes = sym g ∙ ap (λ (n : ℕ). drop n bytes) length_same in
     (same, subst (λ (x : List ℕ). SpellsBlocks (Some b.kind) x bs) rest_is (subst (λ (p : Piece). SpellsBlocks (Some p.kind) rest bs) same further))
 
-spells_back : (last : Option BlockKind) (at : ℕ) (bytes : List ℕ) (b : Piece) (size : ℕ) → step last at bytes ≡ block b size → (bs : List Piece) → BeginsWith b (SpellsBlocks (Some b.kind) (drop size bytes)) bs → SpellsBlocks last bytes bs
+spells_back : (last : Option BlockKind) (at : ℕ) (bytes : List ℕ) (b : Piece) (size : ℕ) → next_step last at bytes ≡ block b size → (bs : List Piece) → BeginsWith b (SpellsBlocks (Some b.kind) (drop size bytes)) bs → SpellsBlocks last bytes bs
 spells_back last at bytes b size e [] s = absurd s
 spells_back last at bytes b size e (c ∷ bs) (same, further) =
     let s = step_sound last at bytes b size e in
@@ -50,10 +52,10 @@ some_later (Some kind) later = refl
 pub record IsEnd (s : Standing) : Type 0 where
   pub blocks : Continues s (Ok None) s
   pub none : Ends s s
-  pub reading : IsRead (reading_of s) (Ok None) (reading_of s)
-  pub rest : IsRest (rest_of s) (Ok None) (rest_of s)
+  pub reading : ContinuesReading (reading_of s) (Ok None) (reading_of s)
+  pub rest : ContinuesRest (rest_of s) (Ok None) (rest_of s)
 
-pub at_end : (s : Standing) → step s.last s.at s.left ≡ ended → IsEnd s
+pub at_end : (s : Standing) → next_step s.last s.at s.left ≡ ended → IsEnd s
 at_end s e = record {
   blocks = spells_end s.last s.at s.left e;
   none = (let end = step_ended s.last s.at s.left e in record { empty = end.0; later = some_later s.last end.1; stays = refl });
@@ -64,10 +66,10 @@ at_end s e = record {
 -- at a failed test
 pub record IsFault (s : Standing) (c : Cause) : Type 0 where
   pub blocks : Continues s (Err c) s
-  pub reading : IsRead (reading_of s) (Err c) (reading_of s)
-  pub rest : IsRest (rest_of s) (Err c) (rest_of s)
+  pub reading : ContinuesReading (reading_of s) (Err c) (reading_of s)
+  pub rest : ContinuesRest (rest_of s) (Err c) (rest_of s)
 
-pub at_fault : (s : Standing) (c : Cause) → step s.last s.at s.left ≡ failed c → IsFault s c
+pub at_fault : (s : Standing) (c : Cause) → next_step s.last s.at s.left ≡ failed c → IsFault s c
 at_fault s c e = record {
   blocks = spells_not s.last s.at s.left c e;
   reading = reading_failed s c e;
@@ -80,10 +82,10 @@ pub record IsFound (s : Standing) (b : Block) (t : Standing) : Type 0 where
   pub exact : IsStep s (Ok (Some b)) t
   pub found : Advances s b t
   pub filled : s.left ≡ [] → ⊥
-  pub reading : IsRead (reading_of s) (Ok (Some b)) (reading_of t)
-  pub rest : IsRest (rest_of s) (Ok (Some b)) (rest_of t)
+  pub reading : ContinuesReading (reading_of s) (Ok (Some b)) (reading_of t)
+  pub rest : ContinuesRest (rest_of s) (Ok (Some b)) (rest_of t)
 
-found_behind : (s : Standing) (b : Block) (size : ℕ) → b.at ≡ s.at → step s.last s.at s.left ≡ block (piece_of b) size → IsFound s b (behind s b.kind size)
+found_behind : (s : Standing) (b : Block) (size : ℕ) → b.at ≡ s.at → next_step s.last s.at s.left ≡ block (piece_of b) size → IsFound s b (standing_behind s b.kind size)
 found_behind s b size at e =
     let sound = step_sound s.last s.at s.left (piece_of b) size e in
     let size_is : size ≡ s.at + size - s.at = omega arith in
@@ -95,7 +97,7 @@ found_behind s b size at e =
         at = at;
         follows = sound.0;
         is_block = sound.1;
-        stands = ap (behind s b.kind) size_is;
+        stands = ap (standing_behind s b.kind) size_is;
         shorter = shorter;
       };
       filled = λ is. omega (arith, ap length is);
@@ -103,5 +105,5 @@ found_behind s b size at e =
       rest = rest_more s (piece_of b) size e;
     }
 
-pub at_block : (s : Standing) (b : Block) (size : ℕ) (t : Standing) → b.at ≡ s.at → step s.last s.at s.left ≡ block (piece_of b) size → t ≡ behind s b.kind size → IsFound s b t
+pub at_block : (s : Standing) (b : Block) (size : ℕ) (t : Standing) → b.at ≡ s.at → next_step s.last s.at s.left ≡ block (piece_of b) size → t ≡ standing_behind s b.kind size → IsFound s b t
 at_block s b size t at e is = subst (IsFound s b) (sym is) (found_behind s b size at e)

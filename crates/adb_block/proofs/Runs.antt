@@ -2,10 +2,13 @@
 use Rattle.std.proofs.Common.{◌≡◌, ℕ, zero, suc, ◌+◌, ◌<◌, List, [], ◌∷◌, ◌++◌, length, drop, Option, Some, Result, Ok, Err, refl, ap, ◌∙◌, arith, inl, inr, ◌⊎◌}
 use Rattle.std.proofs.lemmas.List.{length-append}
 use Rattle.base_core.specs.declared.Cause.{Cause}
-use Rattle.adb_block.specs.Container.{Piece, IsBlock, SpellsBlocks}
-use Rattle.adb_block.specs.Framing.{Step, ended, failed, block, step}
-use Rattle.adb_block.specs.Standing.{Standing, behind}
-use Rattle.adb_block.specs.Reading.{Reading, done, fault, more, stepped, reading_from, reading_of, in_front, pieces_of, rest_of}
+use Rattle.adb_block.specs.Container.{IsBlock, SpellsBlocks}
+use Rattle.adb_block.specs.Piece.{Piece}
+use Rattle.adb_block.specs.Framing.{Step, ended, failed, block, next_step}
+use Rattle.adb_block.specs.Standing.{Standing}
+use Rattle.adb_block.specs.Reader.{standing_behind}
+use Rattle.adb_block.specs.Reading.{Reading, done, fault, more, reading_by_step, reading_from, reading_of}
+use Rattle.adb_block.specs.AllBlocks.{with_block, pieces_of, rest_of}
 use Rattle.adb_block.specs.declared.block.BlockKind.{BlockKind}
 use Rattle.adb_block.proofs.Sound.{step_sound, step_ended}
 use Rattle.adb_block.proofs.Again.{step_again, step_at_end}
@@ -19,12 +22,12 @@ IsBlock-shorter b bytes rest is =
     let last = length-append is.pad rest in
     elim is.is_head [ inl h ↦ (let s = h.size in omega arith) | inr h ↦ (let s = h.size in omega arith) ]
 
-pub step_shorter : (last : Option BlockKind) (at : ℕ) (bytes : List ℕ) (b : Piece) (size : ℕ) → step last at bytes ≡ block b size → length (drop size bytes) < length bytes
+pub step_shorter : (last : Option BlockKind) (at : ℕ) (bytes : List ℕ) (b : Piece) (size : ℕ) → next_step last at bytes ≡ block b size → length (drop size bytes) < length bytes
 step_shorter last at bytes b size e = IsBlock-shorter b bytes (drop size bytes) (step_sound last at bytes b size e).1
 
 -- ---- one block, and then what is read behind it
 
-stepped_same : (at : ℕ) (f g : Piece → ℕ → Reading) (s : Step) → ((b : Piece) (size : ℕ) → s ≡ block b size → f b size ≡ g b size) → stepped at f s ≡ stepped at g s
+stepped_same : (at : ℕ) (f g : Piece → ℕ → Reading) (s : Step) → ((b : Piece) (size : ℕ) → s ≡ block b size → f b size ≡ g b size) → reading_by_step at f s ≡ reading_by_step at g s
 stepped_same at f g ended same = refl
 stepped_same at f g (failed c) same = refl
 stepped_same at f g (block b size) same = ap (more b at) (same b size refl)
@@ -35,48 +38,48 @@ unfolding reading_from
 reading_enough zero m last at bytes l k = absurd (omega arith)
 reading_enough (suc n) zero last at bytes l k = absurd (omega arith)
 reading_enough (suc n) (suc m) last at bytes l k =
-    stepped_same at _ _ (step last at bytes)
+    stepped_same at _ _ (next_step last at bytes)
     (λ b size e.
     let shorter = step_shorter last at bytes b size e in
     reading_enough n m (Some b.kind) (at + size) (drop size bytes) (omega arith) (omega arith))
 
-pub reading_ended : (s : Standing) → step s.last s.at s.left ≡ ended → reading_of s ≡ done
+pub reading_ended : (s : Standing) → next_step s.last s.at s.left ≡ ended → reading_of s ≡ done
 unfolding reading_of reading_from
 reading_ended s e = rw e refl
 
-pub reading_failed : (s : Standing) (c : Cause) → step s.last s.at s.left ≡ failed c → reading_of s ≡ fault c
+pub reading_failed : (s : Standing) (c : Cause) → next_step s.last s.at s.left ≡ failed c → reading_of s ≡ fault c
 unfolding reading_of reading_from
 reading_failed s c e = rw e refl
 
-pub reading_more : (s : Standing) (b : Piece) (size : ℕ) → step s.last s.at s.left ≡ block b size → reading_of s ≡ more b s.at (reading_of (behind s b.kind size))
+pub reading_more : (s : Standing) (b : Piece) (size : ℕ) → next_step s.last s.at s.left ≡ block b size → reading_of s ≡ more b s.at (reading_of (standing_behind s b.kind size))
 unfolding reading_of reading_from
 reading_more s b size e =
     let shorter = step_shorter s.last s.at s.left b size e in
     let enough = reading_enough (length s.left) (suc (length (drop size s.left))) (Some b.kind) (s.at + size) (drop size s.left) shorter (omega arith) in
-    ap (stepped s.at (λ b size. reading_from (length s.left) (Some b.kind) (s.at + size) (drop size s.left))) e ∙ ap (more b s.at) enough
+    ap (reading_by_step s.at (λ b size. reading_from (length s.left) (Some b.kind) (s.at + size) (drop size s.left))) e ∙ ap (more b s.at) enough
 
-pub rest_ended : (s : Standing) → step s.last s.at s.left ≡ ended → rest_of s ≡ Ok []
+pub rest_ended : (s : Standing) → next_step s.last s.at s.left ≡ ended → rest_of s ≡ Ok []
 unfolding rest_of
 rest_ended s e = ap pieces_of (reading_ended s e)
 
-pub rest_failed : (s : Standing) (c : Cause) → step s.last s.at s.left ≡ failed c → rest_of s ≡ Err c
+pub rest_failed : (s : Standing) (c : Cause) → next_step s.last s.at s.left ≡ failed c → rest_of s ≡ Err c
 unfolding rest_of
 rest_failed s c e = ap pieces_of (reading_failed s c e)
 
-pub rest_more : (s : Standing) (b : Piece) (size : ℕ) → step s.last s.at s.left ≡ block b size → rest_of s ≡ in_front b (rest_of (behind s b.kind size))
+pub rest_more : (s : Standing) (b : Piece) (size : ℕ) → next_step s.last s.at s.left ≡ block b size → rest_of s ≡ with_block b (rest_of (standing_behind s b.kind size))
 unfolding rest_of
 rest_more s b size e = ap pieces_of (reading_more s b size e)
 
 -- ---- what is read is what the bytes spell
 
 -- what a step that went on gave
-stepped_ok : (at : ℕ) (f : Piece → ℕ → Reading) (s : Step) (bs : List Piece) → pieces_of (stepped at f s) ≡ Ok bs
+stepped_ok : (at : ℕ) (f : Piece → ℕ → Reading) (s : Step) (bs : List Piece) → pieces_of (reading_by_step at f s) ≡ Ok bs
     → ((s ≡ ended) × (bs ≡ [])) ⊎ ((b : Piece) × (size : ℕ) × (further : List Piece) × (s ≡ block b size) × (pieces_of (f b size) ≡ Ok further) × (bs ≡ b ∷ further))
 stepped_ok at f ended bs e = inl (refl, cc)
 stepped_ok at f (failed c) bs e = absurd cc
 stepped_ok at f (block b size) bs e = in_front_ok (pieces_of (f b size)) refl e
   where
-    in_front_ok : (r : Result (List Piece) Cause) → pieces_of (f b size) ≡ r → in_front b r ≡ Ok bs
+    in_front_ok : (r : Result (List Piece) Cause) → pieces_of (f b size) ≡ r → with_block b r ≡ Ok bs
         → ((block b size ≡ ended) × (bs ≡ [])) ⊎ ((c : Piece) × (s : ℕ) × (further : List Piece) × (block b size ≡ block c s) × (pieces_of (f c s) ≡ Ok further) × (bs ≡ c ∷ further))
     in_front_ok (Ok further) i e = inr (b, size, further, refl, i, cc)
     in_front_ok (Err c) i e = absurd cc
@@ -85,7 +88,7 @@ pub pieces_sound : (n : ℕ) (last : Option BlockKind) (at : ℕ) (bytes : List 
 unfolding reading_from
 pieces_sound zero last at bytes bs e = absurd cc
 pieces_sound (suc n) last at bytes bs e =
-    elim (stepped_ok at (λ b size. reading_from n (Some b.kind) (at + size) (drop size bytes)) (step last at bytes) bs e) [
+    elim (stepped_ok at (λ b size. reading_from n (Some b.kind) (at + size) (drop size bytes)) (next_step last at bytes) bs e) [
       | inl x ↦ rw x.1 (step_ended last at bytes x.0)
       | inr (b, size, further, is, rest, all) ↦
           let s = step_sound last at bytes b size is in
@@ -97,7 +100,7 @@ unfolding reading_from
 pieces_again bs zero last at bytes s lt = absurd (omega arith)
 pieces_again [] (suc n) last at bytes s lt = rw (s.0, step_at_end last at s.1) refl
 pieces_again (b ∷ bs) (suc n) last at bytes (rest, may, is, further) lt =
-    let (size, stepped, skipped) = step_again last at bytes b rest may is in
+    let (size, reading_by_step, skipped) = step_again last at bytes b rest may is in
     let shorter = IsBlock-shorter b bytes rest is in
     let others : pieces_of (reading_from n (Some b.kind) (at + size) rest) ≡ Ok bs = pieces_again bs n (Some b.kind) (at + size) rest further (omega arith) in
-    rw (stepped, skipped, others) refl
+    rw (reading_by_step, skipped, others) refl

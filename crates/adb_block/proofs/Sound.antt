@@ -3,9 +3,10 @@ use Rattle.std.proofs.Common.{◌≡◌, ℕ, zero, suc, ◌+◌, ◌-◌, ◌*�
 use Rattle.std.specs.Int.{w32, w64, from_le_bytes}
 use Rattle.std.proofs.lemmas.Bool.{cases_lt, ltb-false, eqb-true, or_parts}
 use Rattle.std.proofs.lemmas.List.{take-append-drop, length-take, length-drop, take-take, drop-drop, drop-take, drop_all, nil_from_length}
-use Rattle.adb_block.specs.Container.{Piece, number_of, IsHead, IsPadding, IsBlock, comes_after, least, padding_of, MayFollow, IsLater}
+use Rattle.adb_block.specs.Container.{IsHead, IsPadding, IsBlock, MayFollow, IsLater}
+use Rattle.adb_block.specs.Piece.{Piece, kind_number, comes_after, least_payload, padding_of}
 use Rattle.adb_block.specs.Header.{word_at, long_at}
-use Rattle.adb_block.specs.Framing.{HeadFields, short_head, long_head, head_of, kind_numbered, ended, block, sized, ordered, headed, at_end, step}
+use Rattle.adb_block.specs.Framing.{HeadFields, short_head, long_head, head_of, kind_of_number, ended, block, step_by_size, step_by_order, step_by_head, step_at_end, next_step}
 use Rattle.adb_block.specs.declared.block.BlockKind.{BlockKind}
 use Rattle.adb_block.specs.declared.block.BlockKind.TheVariants.{Adb, Signature, Contents}
 use Rattle.adb_block.proofs.Choices.{chosen}
@@ -15,7 +16,7 @@ use Rattle.adb_block.proofs.Choices.{chosen}
 -- the header's bytes stand there, and spell what its fields say
 pub record Stands (bytes : List ℕ) (h : HeadFields) : Type 0 where
   pub within : h.len ≤ length bytes
-  pub says : (k : BlockKind) → h.kind ≡ number_of k → h.len ≤ h.raw → IsHead k (h.raw - h.len) (take h.len bytes)
+  pub says : (k : BlockKind) → h.kind ≡ kind_number k → h.len ≤ h.raw → IsHead k (h.raw - h.len) (take h.len bytes)
 
 whole_word : (word high low : ℕ) → word / 2 ^ 30 ≡ high → word % 2 ^ 30 ≡ low → word ≡ high * 2 ^ 30 + low
 whole_word word high low a c = omega arith
@@ -33,7 +34,7 @@ short_stands bytes four =
       within = four;
       says = λ k kind enough. inl (record {
         size = omega (arith, length-take 4 bytes);
-        word = whole_word word (number_of k) (word % 2 ^ 30) kind refl ∙ ap (λ (n : ℕ). number_of k * 2 ^ 30 + n) (back_to (word % 2 ^ 30) 4 enough);
+        word = whole_word word (kind_number k) (word % 2 ^ 30) kind refl ∙ ap (λ (n : ℕ). kind_number k * 2 ^ 30 + n) (back_to (word % 2 ^ 30) 4 enough);
         small = small_rest word enough;
       });
     }
@@ -46,7 +47,7 @@ long_stands bytes sixteen three =
       within = sixteen;
       says = λ k kind enough. inr (record {
         size = omega (arith, length-take 16 bytes);
-        word = ap (from_le_bytes w32) front ∙ whole_word (word_at 0 bytes) 3 (number_of k) three kind;
+        word = ap (from_le_bytes w32) front ∙ whole_word (word_at 0 bytes) 3 (kind_number k) three kind;
         raw = ap (from_le_bytes w64) back ∙ back_to (long_at 8 bytes) 16 enough;
       });
     }
@@ -73,7 +74,7 @@ head_sound bytes h e =
 
 -- ---- the tests behind the header
 
-kind_is : (n : ℕ) (k : BlockKind) → kind_numbered n ≡ Some k → n ≡ number_of k
+kind_is : (n : ℕ) (k : BlockKind) → kind_of_number n ≡ Some k → n ≡ kind_number k
 kind_is zero Adb e = refl
 kind_is zero Signature e = absurd cc
 kind_is zero Contents e = absurd cc
@@ -90,15 +91,15 @@ pub record Passes (last : Option BlockKind) (bytes : List ℕ) (h : HeadFields) 
   pub order : comes_after last b.kind ≡ true
   pub enough : h.len ≤ h.raw
   pub fits : h.raw ≤ length bytes
-  pub long : least b.kind ≤ h.raw - h.len
+  pub long : least_payload b.kind ≤ h.raw - h.len
   pub payload_is : take (h.raw - h.len) (drop h.len bytes) ≡ b.payload
   pub size_is : h.raw + padding_of h.raw ≡ size
 
-sized_sound : (last : Option BlockKind) (at : ℕ) (bytes : List ℕ) (h : HeadFields) (k : BlockKind) (b : Piece) (size : ℕ) → comes_after last k ≡ true → sized at bytes h k ≡ block b size → (k ≡ b.kind) × Passes last bytes h b size
+sized_sound : (last : Option BlockKind) (at : ℕ) (bytes : List ℕ) (h : HeadFields) (k : BlockKind) (b : Piece) (size : ℕ) → comes_after last k ≡ true → step_by_size at bytes h k ≡ block b size → (k ≡ b.kind) × Passes last bytes h b size
 sized_sound last at bytes h k b size o e =
     elim (chosen (ltb h.raw h.len || ltb (length bytes) h.raw) _ _ _ e) [
       | inl x ↦ absurd (let y = x.1 in cc)
-      | inr x ↦ elim (chosen (ltb (h.raw - h.len) (least k)) _ _ _ x.1) [
+      | inr x ↦ elim (chosen (ltb (h.raw - h.len) (least_payload k)) _ _ _ x.1) [
         | inl y ↦ absurd (let z = y.1 in cc)
         | inr y ↦
             let parts = or_parts (ltb h.raw h.len) (ltb (length bytes) h.raw) x.0 in
@@ -120,7 +121,7 @@ sized_sound last at bytes h k b size o e =
       ]
     ]
 
-ordered_sound : (last : Option BlockKind) (at : ℕ) (bytes : List ℕ) (h : HeadFields) (o : Option BlockKind) (b : Piece) (size : ℕ) → ordered last at bytes h o ≡ block b size → (o ≡ Some b.kind) × Passes last bytes h b size
+ordered_sound : (last : Option BlockKind) (at : ℕ) (bytes : List ℕ) (h : HeadFields) (o : Option BlockKind) (b : Piece) (size : ℕ) → step_by_order last at bytes h o ≡ block b size → (o ≡ Some b.kind) × Passes last bytes h b size
 ordered_sound last at bytes h None b size e = absurd cc
 ordered_sound last at bytes h (Some k) b size e =
     elim (chosen (comes_after last k) _ _ _ e) [
@@ -147,7 +148,7 @@ is_padded bytes size raw e le =
       | inr ge ↦ inl (rw e (omega (arith, length-take (padding_of raw) (drop raw bytes), length-drop raw bytes)))
     ]
 
-passes_block : (last : Option BlockKind) (bytes : List ℕ) (h : HeadFields) (b : Piece) (size : ℕ) → Stands bytes h → h.kind ≡ number_of b.kind → Passes last bytes h b size → MayFollow last b × IsBlock b bytes (drop size bytes)
+passes_block : (last : Option BlockKind) (bytes : List ℕ) (h : HeadFields) (b : Piece) (size : ℕ) → Stands bytes h → h.kind ≡ kind_number b.kind → Passes last bytes h b size → MayFollow last b × IsBlock b bytes (drop size bytes)
 passes_block last bytes h b size stands kind p =
     let enough = p.enough in
     let fits = p.fits in
@@ -165,18 +166,18 @@ passes_block last bytes h b size stands kind p =
       },
     )
 
-headed_sound : (last : Option BlockKind) (at : ℕ) (bytes : List ℕ) (o : Option HeadFields) (b : Piece) (size : ℕ) → head_of bytes ≡ o → headed last at bytes o ≡ block b size → MayFollow last b × IsBlock b bytes (drop size bytes)
+headed_sound : (last : Option BlockKind) (at : ℕ) (bytes : List ℕ) (o : Option HeadFields) (b : Piece) (size : ℕ) → head_of bytes ≡ o → step_by_head last at bytes o ≡ block b size → MayFollow last b × IsBlock b bytes (drop size bytes)
 headed_sound last at bytes None b size i e = absurd cc
 headed_sound last at bytes (Some h) b size i e =
-    let s = ordered_sound last at bytes h (kind_numbered h.kind) b size e in
+    let s = ordered_sound last at bytes h (kind_of_number h.kind) b size e in
     passes_block last bytes h b size (head_sound bytes h i) (kind_is h.kind b.kind s.0) s.1
 
-at_end_no_block : (last : Option BlockKind) (at : ℕ) (b : Piece) (size : ℕ) → at_end last at ≡ block b size → ⊥
+at_end_no_block : (last : Option BlockKind) (at : ℕ) (b : Piece) (size : ℕ) → step_at_end last at ≡ block b size → ⊥
 at_end_no_block None at b size e = cc
 at_end_no_block (Some k) at b size e = cc
 
-pub step_sound : (last : Option BlockKind) (at : ℕ) (bytes : List ℕ) (b : Piece) (size : ℕ) → step last at bytes ≡ block b size → MayFollow last b × IsBlock b bytes (drop size bytes)
-unfolding step
+pub step_sound : (last : Option BlockKind) (at : ℕ) (bytes : List ℕ) (b : Piece) (size : ℕ) → next_step last at bytes ≡ block b size → MayFollow last b × IsBlock b bytes (drop size bytes)
+unfolding next_step
 step_sound last at bytes b size e =
     elim (chosen (eqb (length bytes) 0) _ _ _ e) [
       | inl x ↦ absurd (at_end_no_block last at b size x.1)
@@ -185,14 +186,14 @@ step_sound last at bytes b size e =
 
 -- ---- the end
 
-sized_not_ended : (at : ℕ) (bytes : List ℕ) (h : HeadFields) (k : BlockKind) → sized at bytes h k ≡ ended → ⊥
+sized_not_ended : (at : ℕ) (bytes : List ℕ) (h : HeadFields) (k : BlockKind) → step_by_size at bytes h k ≡ ended → ⊥
 sized_not_ended at bytes h k e =
     elim (chosen (ltb h.raw h.len || ltb (length bytes) h.raw) _ _ _ e) [
       | inl x ↦ (let y = x.1 in cc)
-      | inr x ↦ elim (chosen (ltb (h.raw - h.len) (least k)) _ _ _ x.1) [ inl y ↦ (let z = y.1 in cc) | inr y ↦ (let z = y.1 in cc) ]
+      | inr x ↦ elim (chosen (ltb (h.raw - h.len) (least_payload k)) _ _ _ x.1) [ inl y ↦ (let z = y.1 in cc) | inr y ↦ (let z = y.1 in cc) ]
     ]
 
-ordered_not_ended : (last : Option BlockKind) (at : ℕ) (bytes : List ℕ) (h : HeadFields) (o : Option BlockKind) → ordered last at bytes h o ≡ ended → ⊥
+ordered_not_ended : (last : Option BlockKind) (at : ℕ) (bytes : List ℕ) (h : HeadFields) (o : Option BlockKind) → step_by_order last at bytes h o ≡ ended → ⊥
 ordered_not_ended last at bytes h None e = cc
 ordered_not_ended last at bytes h (Some k) e =
     elim (chosen (comes_after last k) _ _ _ e) [
@@ -200,16 +201,16 @@ ordered_not_ended last at bytes h (Some k) e =
       | inr x ↦ (let y = x.1 in cc)
     ]
 
-headed_not_ended : (last : Option BlockKind) (at : ℕ) (bytes : List ℕ) (o : Option HeadFields) → headed last at bytes o ≡ ended → ⊥
+headed_not_ended : (last : Option BlockKind) (at : ℕ) (bytes : List ℕ) (o : Option HeadFields) → step_by_head last at bytes o ≡ ended → ⊥
 headed_not_ended last at bytes None e = cc
-headed_not_ended last at bytes (Some h) e = ordered_not_ended last at bytes h (kind_numbered h.kind) e
+headed_not_ended last at bytes (Some h) e = ordered_not_ended last at bytes h (kind_of_number h.kind) e
 
-at_end_ended : (last : Option BlockKind) (at : ℕ) → at_end last at ≡ ended → IsLater last
+at_end_ended : (last : Option BlockKind) (at : ℕ) → step_at_end last at ≡ ended → IsLater last
 at_end_ended None at e = absurd cc
 at_end_ended (Some k) at e = tt
 
-pub step_ended : (last : Option BlockKind) (at : ℕ) (bytes : List ℕ) → step last at bytes ≡ ended → (bytes ≡ []) × IsLater last
-unfolding step
+pub step_ended : (last : Option BlockKind) (at : ℕ) (bytes : List ℕ) → next_step last at bytes ≡ ended → (bytes ≡ []) × IsLater last
+unfolding next_step
 step_ended last at bytes e =
     elim (chosen (eqb (length bytes) 0) _ _ _ e) [
       | inl x ↦ (nil_from_length bytes (eqb-true _ _ x.0), at_end_ended last at x.1)

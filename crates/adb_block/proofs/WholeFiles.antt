@@ -7,10 +7,12 @@ use Rattle.std.proofs.lemmas.List.{take_at, drop_at, take-append-drop, drop-drop
 use Rattle.std.proofs.lemmas.Slice.Eq.{bytes_eq-Decides}
 use Rattle.base_core.specs.declared.Cause.{Cause}
 use Rattle.base_core.specs.declared.Cause.TheVariants.{NotAdb, Compressed, Truncated}
-use Rattle.adb_block.specs.Container.{Piece, Spells, SpellsBlocks}
+use Rattle.adb_block.specs.Container.{Spells, SpellsBlocks}
+use Rattle.adb_block.specs.Piece.{Piece}
 use Rattle.adb_block.specs.Header.{word_at, is_compressed, header_of}
 use Rattle.adb_block.specs.Standing.{start_of}
-use Rattle.adb_block.specs.Reading.{reading_of, rest_of, blocks_behind, blocks_of}
+use Rattle.adb_block.specs.Reading.{reading_of}
+use Rattle.adb_block.specs.AllBlocks.{rest_of, blocks_behind, blocks_of}
 use Rattle.adb_block.proofs.Choices.{passed}
 use Rattle.adb_block.proofs.Runs.{pieces_sound, pieces_again}
 

@@ -6,12 +6,13 @@ use Rattle.std.proofs.lemmas.Bool.{cases_lt, lt-ltb, le-ltb}
 use Rattle.std.proofs.lemmas.List.{length-replicate}
 use Rattle.std.proofs.lemmas.List.Concat.{flat_map-cons}
 use Rattle.std.proofs.lemmas.Nat.{from_le_bytes-to_le_bytes_4, from_le_bytes-to_le_bytes_8}
-use Rattle.adb_block.specs.Container.{Piece, number_of, padding_of, IsHead, SpellsBlocks, Spells}
-use Rattle.adb_block.specs.Written.{head_bytes, block_bytes, container, MayStand}
+use Rattle.adb_block.specs.Container.{IsHead, SpellsBlocks, Spells, MayStand}
+use Rattle.adb_block.specs.Piece.{Piece, kind_number, padding_of}
+use Rattle.adb_block.specs.Written.{head_bytes, block_bytes, container}
 use Rattle.adb_block.specs.declared.block.BlockKind.{BlockKind}
 use Rattle.adb_block.specs.declared.block.BlockKind.TheVariants.{Adb, Signature, Contents}
 
-few_kinds : (kind : BlockKind) → number_of kind < 3
+few_kinds : (kind : BlockKind) → kind_number kind < 3
 few_kinds Adb = lit< tt
 few_kinds Signature = lit< tt
 few_kinds Contents = lit< tt
@@ -23,10 +24,10 @@ head_bytes_is_head kind len lt =
     elim (cases_lt (4 + len) (2 ^ 30)) [
       | inl a ↦
           let t : ltb (4 + len) (2 ^ 30) ≡ true = lt-ltb _ _ a in
-          rw t (inl (record { size = refl; word = from_le_bytes-to_le_bytes_4 (number_of kind * 2 ^ 30 + (4 + len)) (omega arith); small = a }))
+          rw t (inl (record { size = refl; word = from_le_bytes-to_le_bytes_4 (kind_number kind * 2 ^ 30 + (4 + len)) (omega arith); small = a }))
       | inr a ↦
           let t : ltb (4 + len) (2 ^ 30) ≡ false = le-ltb _ _ a in
-          rw t (inr (record { size = refl; word = from_le_bytes-to_le_bytes_4 (3 * 2 ^ 30 + number_of kind) (omega arith); raw = from_le_bytes-to_le_bytes_8 (16 + len) (omega arith) }))
+          rw t (inr (record { size = refl; word = from_le_bytes-to_le_bytes_4 (3 * 2 ^ 30 + kind_number kind) (omega arith); raw = from_le_bytes-to_le_bytes_8 (16 + len) (omega arith) }))
     ]
 
 pub written_blocks : (last : Option BlockKind) (bs : List Piece) → MayStand last bs → SpellsBlocks last (flat_map block_bytes bs) bs

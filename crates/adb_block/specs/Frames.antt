@@ -1,10 +1,10 @@
 -- A header and a framed block of the program as the definitions have them.
 use Rattle.std.specs.Prelude.{◌≡◌, Option, Some, None, Result, Ok, Err}
 use Rattle.base_core.specs.declared.Cause.{Cause}
-use Rattle.adb_block.specs.Container.{Piece}
+use Rattle.adb_block.specs.Piece.{Piece}
 use Rattle.adb_block.specs.Framing.{HeadFields, Step, ended, failed, block}
-use Rattle.adb_block.specs.declared.frame.BlockHead.{BlockHead}
-use Rattle.adb_block.specs.declared.frame.Frame.{Frame}
+use Rattle.adb_block.specs.declared.block.BlockHead.{BlockHead}
+use Rattle.adb_block.specs.declared.block.Frame.{Frame}
 
 abbrev pub fields_of : BlockHead → HeadFields
 fields_of head = record { kind = head.kind; len = head.len; raw = head.raw }

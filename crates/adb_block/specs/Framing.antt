@@ -2,12 +2,12 @@
 use Rattle.std.specs.Prelude.{ℕ, zero, suc, ◌+◌, ◌-◌, ◌/◌, ◌%◌, ◌^◌, ◌||◌, ◌==◌, nat_lt, if◌then◌else◌, List, length, take, drop, Option, Some, None}
 use Rattle.base_core.specs.declared.Cause.{Cause}
 use Rattle.base_core.specs.declared.Cause.TheVariants.{Truncated, BlockOrder}
-use Rattle.adb_block.specs.Container.{Piece, comes_after, least, padding_of}
+use Rattle.adb_block.specs.Piece.{Piece, comes_after, least_payload, padding_of}
 use Rattle.adb_block.specs.Header.{word_at, long_at}
 use Rattle.adb_block.specs.declared.block.BlockKind.{BlockKind}
 use Rattle.adb_block.specs.declared.block.BlockKind.TheVariants.{Adb, Signature, Contents}
 
--- what a block's header says: the number of its real type, how long the header is, and the raw size
+-- what a block's header says: the number of its kind, how long the header is, and the raw size
 pub record HeadFields : Type 0 where
   pub kind : ℕ
   pub len : ℕ
@@ -24,40 +24,44 @@ unfoldable pub head_of : List ℕ → Option HeadFields
 head_of bytes =
     if nat_lt (length bytes) 4 then None
     else if word_at 0 bytes / 2 ^ 30 == 3 then
-    (if nat_lt (length bytes) 16 then None else Some (long_head (word_at 0 bytes) (long_at 8 bytes)))
+    (if nat_lt (length bytes) 16 then None
+    else Some (long_head (word_at 0 bytes) (long_at 8 bytes)))
     else Some (short_head (word_at 0 bytes))
 
-abbrev pub kind_numbered : ℕ → Option BlockKind
-kind_numbered zero = Some Adb
-kind_numbered (suc zero) = Some Signature
-kind_numbered (suc (suc zero)) = Some Contents
-kind_numbered (suc (suc (suc n))) = None
+abbrev pub kind_of_number : ℕ → Option BlockKind
+kind_of_number zero = Some Adb
+kind_of_number (suc zero) = Some Signature
+kind_of_number (suc (suc zero)) = Some Contents
+kind_of_number (suc (suc (suc n))) = None
 
 pub data Step : Type 0 where
   ended : Step
   failed : Cause → Step
   block : Piece → ℕ → Step
 
--- a block of the type kind, with this header
-abbrev pub sized : ℕ → List ℕ → HeadFields → BlockKind → Step
-sized at bytes head kind =
+-- a block of the kind kind, with this header
+abbrev pub step_by_size : ℕ → List ℕ → HeadFields → BlockKind → Step
+step_by_size at bytes head kind =
     if nat_lt head.raw head.len || nat_lt (length bytes) head.raw then failed (Truncated at)
-    else if nat_lt (head.raw - head.len) (least kind) then failed (Truncated at)
-    else block (record { kind = kind; payload = take (head.raw - head.len) (drop head.len bytes) }) (head.raw + padding_of head.raw)
+    else if nat_lt (head.raw - head.len) (least_payload kind) then failed (Truncated at)
+    else block (record { kind = kind; payload = take (head.raw - head.len) (drop head.len bytes) })
+    (head.raw + padding_of head.raw)
 
-abbrev pub ordered : Option BlockKind → ℕ → List ℕ → HeadFields → Option BlockKind → Step
-ordered last at bytes head None = failed (BlockOrder at)
-ordered last at bytes head (Some kind) = if comes_after last kind then sized at bytes head kind else failed (BlockOrder at)
+abbrev pub step_by_order : Option BlockKind → ℕ → List ℕ → HeadFields → Option BlockKind → Step
+step_by_order last at bytes head None = failed (BlockOrder at)
+step_by_order last at bytes head (Some kind) =
+    if comes_after last kind then step_by_size at bytes head kind else failed (BlockOrder at)
 
-abbrev pub headed : Option BlockKind → ℕ → List ℕ → Option HeadFields → Step
-headed last at bytes None = failed (Truncated at)
-headed last at bytes (Some head) = ordered last at bytes head (kind_numbered head.kind)
+abbrev pub step_by_head : Option BlockKind → ℕ → List ℕ → Option HeadFields → Step
+step_by_head last at bytes None = failed (Truncated at)
+step_by_head last at bytes (Some head) = step_by_order last at bytes head (kind_of_number head.kind)
 
 -- before the first block the end comes too early
-abbrev pub at_end : Option BlockKind → ℕ → Step
-at_end None at = failed (Truncated at)
-at_end (Some kind) at = ended
+abbrev pub step_at_end : Option BlockKind → ℕ → Step
+step_at_end None at = failed (Truncated at)
+step_at_end (Some kind) at = ended
 
--- behind a block of the type last, at an offset from which on these bytes stand
-unfoldable pub step : Option BlockKind → ℕ → List ℕ → Step
-step last at bytes = if length bytes == 0 then at_end last at else headed last at bytes (head_of bytes)
+-- behind a block of the kind last, at an offset from which on these bytes stand
+unfoldable pub next_step : Option BlockKind → ℕ → List ℕ → Step
+next_step last at bytes =
+    if length bytes == 0 then step_at_end last at else step_by_head last at bytes (head_of bytes)

@@ -1,11 +1,23 @@
 -- What a call of the reader answers, where it stood before and where it stands then.
-use Rattle.std.specs.Prelude.{◌≡◌, ◌↔◌, ◌-◌, ◌<◌, List, [], ◌∷◌, length, Option, Some, None, IsSome, Result, Ok, Err}
+use Rattle.std.specs.Prelude.{◌≡◌, ◌↔◌, ℕ, ◌+◌, ◌-◌, ◌==◌, ◌<◌, if◌then◌else◌, List, [], ◌∷◌, length, drop, Option, Some, None, IsSome, Result, Ok, Err}
 use Rattle.base_core.specs.declared.Cause.{Cause}
-use Rattle.adb_block.specs.Container.{Piece, IsBlock, MayFollow, SpellsBlocks}
-use Rattle.adb_block.specs.Framing.{ended, failed, block, step}
-use Rattle.adb_block.specs.Standing.{Standing, behind}
-use Rattle.adb_block.specs.Reading.{Reading, done, fault, more, in_front, rest_of}
+use Rattle.adb_block.specs.Container.{IsBlock, MayFollow, SpellsBlocks}
+use Rattle.adb_block.specs.Piece.{Piece}
+use Rattle.adb_block.specs.Framing.{ended, failed, block, next_step}
+use Rattle.adb_block.specs.Standing.{Standing}
+use Rattle.adb_block.specs.Reading.{Reading, done, fault, more}
+use Rattle.adb_block.specs.AllBlocks.{with_block, rest_of}
 use Rattle.adb_block.specs.declared.block.Block.{Block}
+use Rattle.adb_block.specs.declared.block.BlockKind.{BlockKind}
+
+-- behind a block of this kind, which takes so many bytes with its padding
+abbrev pub standing_behind : Standing → BlockKind → ℕ → Standing
+standing_behind s kind size =
+    record { schema = s.schema; last = Some kind; at = s.at + size; left = drop size s.left }
+
+-- the offset of the next block, or None where it is at or past the file's end
+abbrev pub next_offset : Standing → Option ℕ
+next_offset s = if length s.left == 0 then None else Some s.at
 
 -- a block of the program as the grammar has it
 abbrev pub piece_of : Block → Piece
@@ -19,25 +31,29 @@ abbrev pub BeginsWith : Piece → (List Piece → Type 0) → List Piece → Typ
 BeginsWith b Goes [] = ⊥
 BeginsWith b Goes (c ∷ bs) = (c ≡ b) × Goes bs
 
--- The blocks of the grammar and no others. With a block, what is spelled begins with it and goes on as is spelled from where the reader
--- stands then; with None nothing more is spelled; with an error the file spells nothing at all.
+-- The blocks of the grammar and no others. With a block, what is spelled begins with it and goes on
+-- as is spelled from where the reader stands then; with None nothing more is spelled; with an error
+-- the file spells nothing at all.
 abbrev pub Continues : Standing → Result (Option Block) Cause → Standing → Type 0
 Continues s (Ok None) t = (bs : List Piece) → SpelledFrom s bs ↔ (bs ≡ [])
-Continues s (Ok (Some b)) t = (bs : List Piece) → SpelledFrom s bs ↔ BeginsWith (piece_of b) (SpelledFrom t) bs
+Continues s (Ok (Some b)) t =
+    (bs : List Piece) → SpelledFrom s bs ↔ BeginsWith (piece_of b) (SpelledFrom t) bs
 Continues s (Err c) t = (bs : List Piece) → ¬ SpelledFrom s bs
 
--- the answer is that of the tests in their order: nothing behind the last block, a block and how far the next one is, or the first failed test
+-- the answer is that of the tests in their order: nothing behind the last block, a block and how
+-- far the next one is, or the first failed test
 abbrev pub IsStep : Standing → Result (Option Block) Cause → Standing → Type 0
-IsStep s (Ok None) t = step s.last s.at s.left ≡ ended
-IsStep s (Ok (Some b)) t = step s.last s.at s.left ≡ block (piece_of b) (t.at - s.at)
-IsStep s (Err c) t = step s.last s.at s.left ≡ failed c
+IsStep s (Ok None) t = next_step s.last s.at s.left ≡ ended
+IsStep s (Ok (Some b)) t = next_step s.last s.at s.left ≡ block (piece_of b) (t.at - s.at)
+IsStep s (Err c) t = next_step s.last s.at s.left ≡ failed c
 
--- a block was read: where it stood, that it may stand there, its header, payload and padding, and where the reader stands then
+-- a block was read: where it stood, that it may stand there, its header, payload and padding, and
+-- where the reader stands then
 pub record Advances (s : Standing) (b : Block) (t : Standing) : Type 0 where
   pub at : b.at ≡ s.at
   pub follows : MayFollow s.last (piece_of b)
   pub is_block : IsBlock (piece_of b) s.left t.left
-  pub stands : t ≡ behind s b.kind (t.at - s.at)
+  pub stands : t ≡ standing_behind s b.kind (t.at - s.at)
   pub shorter : length t.left < length s.left
 
 -- nothing is left, at least one block was read, and the reader stays
@@ -46,19 +62,21 @@ pub record Ends (s t : Standing) : Type 0 where
   pub later : IsSome s.last
   pub stays : t ≡ s
 
--- what is read from where the reader stood, by the answer and what is read from where it stands then
-abbrev pub IsRead : Reading → Result (Option Block) Cause → Reading → Type 0
-IsRead r (Ok None) q = r ≡ done
-IsRead r (Ok (Some b)) q = r ≡ more (piece_of b) b.at q
-IsRead r (Err c) q = r ≡ fault c
+-- what is read from where the reader stood, by the answer and what is read from where it stands
+-- then
+abbrev pub ContinuesReading : Reading → Result (Option Block) Cause → Reading → Type 0
+ContinuesReading r (Ok None) q = r ≡ done
+ContinuesReading r (Ok (Some b)) q = r ≡ more (piece_of b) b.at q
+ContinuesReading r (Err c) q = r ≡ fault c
 
 -- the same of all blocks that are left
-abbrev pub IsRest : Result (List Piece) Cause → Result (Option Block) Cause → Result (List Piece) Cause → Type 0
-IsRest r (Ok None) q = r ≡ Ok []
-IsRest r (Ok (Some b)) q = r ≡ in_front (piece_of b) q
-IsRest r (Err c) q = r ≡ Err c
+abbrev pub ContinuesRest : Result (List Piece) Cause → Result (Option Block) Cause
+    → Result (List Piece) Cause → Type 0
+ContinuesRest r (Ok None) q = r ≡ Ok []
+ContinuesRest r (Ok (Some b)) q = r ≡ with_block (piece_of b) q
+ContinuesRest r (Err c) q = r ≡ Err c
 
 -- all blocks of a file, by what the reader of its header answers
-abbrev pub IsWhole : Result (List Piece) Cause → Result Standing Cause → Type 0
-IsWhole r (Ok s) = r ≡ rest_of s
-IsWhole r (Err c) = r ≡ Err c
+abbrev pub BeginsRest : Result (List Piece) Cause → Result Standing Cause → Type 0
+BeginsRest r (Ok s) = r ≡ rest_of s
+BeginsRest r (Err c) = r ≡ Err c

@@ -1,21 +1,25 @@
--- How blocks and containers are written: the shortest header, and each block padded with zeros, the last one too.
-use Rattle.std.specs.Prelude.{ℕ, ◌+◌, ◌*◌, ◌^◌, ◌<◌, codes, List, [], ◌∷◌, ◌++◌, length, replicate, Option, Some, nat_lt, if◌then◌else◌}
+-- How blocks and containers are written: the shortest header, and each block padded with zeros, the
+-- last one too.
+use Rattle.std.specs.Prelude.{ℕ, ◌+◌, ◌*◌, ◌^◌, codes, List, ◌++◌, length, replicate, nat_lt, if◌then◌else◌}
 use Rattle.std.specs.List.{flat_map}
 use Rattle.std.specs.Int.{w32, w64, to_le_bytes}
-use Rattle.adb_block.specs.Container.{Piece, number_of, padding_of, MayFollow, IsLater}
+use Rattle.adb_block.specs.Piece.{Piece, kind_number, padding_of}
 use Rattle.adb_block.specs.declared.block.BlockKind.{BlockKind}
 
--- four bytes: the type, and below it the raw size
+-- four bytes: the kind, and below it the raw size
 abbrev pub short_head_bytes : BlockKind → ℕ → List ℕ
-short_head_bytes kind len = to_le_bytes w32 (number_of kind * 2 ^ 30 + (4 + len))
+short_head_bytes kind len = to_le_bytes w32 (kind_number kind * 2 ^ 30 + (4 + len))
 
--- sixteen bytes: the type 3 with the real type below it, four zeros, and the raw size
+-- sixteen bytes: the number 3 with the kind below it, four zeros, and the raw size
 abbrev pub long_head_bytes : BlockKind → ℕ → List ℕ
-long_head_bytes kind len = to_le_bytes w32 (3 * 2 ^ 30 + number_of kind) ++ (to_le_bytes w32 0 ++ to_le_bytes w64 (16 + len))
+long_head_bytes kind len =
+    to_le_bytes w32 (3 * 2 ^ 30 + kind_number kind)
+    ++ (to_le_bytes w32 0 ++ to_le_bytes w64 (16 + len))
 
 -- the header of a payload of so many bytes: the short one wherever its raw size fits in 30 bits
 unfoldable pub head_bytes : BlockKind → ℕ → List ℕ
-head_bytes kind len = if nat_lt (4 + len) (2 ^ 30) then short_head_bytes kind len else long_head_bytes kind len
+head_bytes kind len =
+    if nat_lt (4 + len) (2 ^ 30) then short_head_bytes kind len else long_head_bytes kind len
 
 -- a block's header, payload and padding
 abbrev pub block_bytes : Piece → List ℕ
@@ -26,8 +30,3 @@ block_bytes b =
 -- the container of these blocks
 abbrev pub container : ℕ → List Piece → List ℕ
 container schema pieces = codes "ADB." ++ (to_le_bytes w32 schema ++ flat_map block_bytes pieces)
-
--- the blocks may stand behind a block of the type last, in this order, and each payload's size fits in a header
-abbrev pub MayStand : Option BlockKind → List Piece → Type 0
-MayStand last [] = IsLater last
-MayStand last (b ∷ bs) = MayFollow last b × (length b.payload + 16 < 2 ^ 64) × MayStand (Some b.kind) bs

@@ -1,15 +1,18 @@
+//! The reader of a file's header and of its blocks, one after the other.
+
 ghost use Rattle.std.specs.Prelude.{◌≡◌, ◌↔◌, [], drop, IfOk, IfErr, IfSome, IfNone, IsNone, OnErr};
 ghost use Rattle.adb_block.specs.Header.{header_of};
-ghost use Rattle.adb_block.specs.Standing.{start_of, next_offset};
-ghost use Rattle.adb_block.specs.Reading.{blocks_of, rest_of, reading_of};
+ghost use Rattle.adb_block.specs.Standing.{start_of};
+ghost use Rattle.adb_block.specs.Reader.{next_offset};
+ghost use Rattle.adb_block.specs.Reading.{reading_of};
+ghost use Rattle.adb_block.specs.AllBlocks.{blocks_of, rest_of};
 
-use crate::block::{Block, BlockKind};
-use crate::frame::frame_at;
-use crate::header::read_header;
+use crate::block::{Block, BlockKind, frame_at, word_at};
 use base_core::Cause;
 use std::marker::Model;
 
-/// The blocks of a file, from the front. Contracts see where the reader stands: `Standing` of `specs/`.
+/// The blocks of a file, from the front. Contracts see where the reader stands: `Standing` of
+/// `specs/`.
 #[derive(Drop)]
 pub struct Blocks<'a> {
     bytes: &'a [u8],
@@ -24,24 +27,26 @@ impl<'a> Model for Blocks<'a> {
 
     ghost Value = { Standing };
 
-    ghost view = { λ b. record { schema = b.schema; last = b.last; at = b.at; left = drop b.at b.bytes.now } };
+    ghost view = { λ b.
+        record { schema = b.schema; last = b.last; at = b.at; left = drop b.at b.bytes.now } };
 
     ghost invariant = { λ b. b.at ≤ length b.bytes.now + 8 };
 }
 
 impl<'a> Blocks<'a> {
-    ghost use Rattle.adb_block.specs.Reader.{Continues, IsStep, Advances, Ends, IsRead, IsRest, IsWhole};
+    ghost use Rattle.adb_block.specs.Reader.{Continues, IsStep, Advances, Ends, ContinuesReading, ContinuesRest, BeginsRest};
 
-    /// Reads the header of a file (apk-v3(5)): the four bytes `ADB.` and the schema. The first failed test is told:
-    /// fewer than 4 bytes are truncated at 0, `ADBd` and `ADBc` begin a compressed file, anything else than `ADB.` is no
-    /// container, and fewer than 8 bytes are truncated at 0.
-    #[tactic(auto, unfolding(crate::specs::Reading::blocks_of))]
+    /// Reads the header of a file (apk-v3(5)): the four bytes `ADB.` and the schema. The first
+    /// failed test is told: fewer than 4 bytes are truncated at 0, `ADBd` and `ADBc` begin a
+    /// compressed file, anything else than `ADB.` is no container, and fewer than 8 bytes are
+    /// truncated at 0.
+    #[tactic(auto, unfolding(crate::specs::AllBlocks::blocks_of))]
     pub fn new(bytes: &'a [u8]) -> Result<Blocks<'a>, Cause>
         ensures ok { IfOk result (λ blocks. header_of bytes.entry.now ≡ Ok blocks.schema) }
         ensures start { IfOk result (λ blocks. blocks ≡ start_of blocks.schema bytes.entry.now) }
         ensures cause { IfErr result (λ cause. header_of bytes.entry.now ≡ Err cause) }
         // What a caller's loop over all blocks begins with.
-        ensures rest { IsWhole (blocks_of bytes.entry.now) result }
+        ensures rest { BeginsRest (blocks_of bytes.entry.now) result }
     {
         let schema = read_header(bytes)?;
         Ok(Blocks {
@@ -59,10 +64,11 @@ impl<'a> Blocks<'a> {
         self.schema
     }
 
-    /// The next block, or None exactly at the end. Else the first failed test is told, with the block's offset: the file
-    /// has no block, or its header is not whole (truncated); its type is unknown or stands where it may not (block
-    /// order); its raw size is below its header's or past the file's end, or an ADB payload has fewer than 8 bytes
-    /// (truncated). After an error the reader stands where it stood, so the same error comes again.
+    /// The next block, or None exactly at the end. Else the first failed test is told, with the
+    /// block's offset: the file has no block, or its header is not whole (truncated); its kind is
+    /// unknown or stands where it may not (block order); its raw size is below its header's or past
+    /// the file's end, or an ADB payload has fewer than 8 bytes (truncated). After an error the
+    /// reader stands where it stood, so the same error comes again.
     pub fn next(&mut self) -> Result<Option<Block<'a>>, Cause>
         // The blocks of the grammar and no others.
         ensures blocks { Continues self.old result self.new }
@@ -70,15 +76,16 @@ impl<'a> Blocks<'a> {
         ensures exact { IsStep self.old result self.new }
 
         // A block as the file has it, or None exactly where nothing is left.
-        ensures found { IfOk result (λ found. IfSome found (λ block. Advances self.old block self.new)) }
+        ensures found { IfOk result
+            (λ found. IfSome found (λ block. Advances self.old block self.new)) }
         ensures end { IfOk result (λ found. IsNone found ↔ (self.old.left ≡ [])) }
 
         ensures none { IfOk result (λ found. IfNone found (Ends self.old self.new)) }
         ensures err { OnErr result (self.new ≡ self.old) }
 
         // What a caller's loop over all blocks goes on with.
-        ensures reading { IsRead (reading_of self.old) result (reading_of self.new) }
-        ensures rest { IsRest (rest_of self.old) result (rest_of self.new) }
+        ensures reading { ContinuesReading (reading_of self.old) result (reading_of self.new) }
+        ensures rest { ContinuesRest (rest_of self.old) result (rest_of self.new) }
     {
         let at = self.at as u64;
         let left = left_from(self.bytes, self.at);
@@ -114,4 +121,25 @@ fn left_from(bytes: &[u8], at: usize) -> &[u8]
     ensures { result.now ≡ drop at bytes.now }
 {
     if at < bytes.len() { &bytes[at..] } else { &[] }
+}
+
+/// The schema of a file: `ADB.` and the number of the next four bytes.
+#[tactic(auto, unfolding(crate::specs::Header::header_of))]
+pub(crate) fn read_header(file: &[u8]) -> Result<u32, Cause>
+    ensures { result ≡ header_of file.now }
+{
+    if file.len() < 4 {
+        return Err(Cause::Truncated { at: 0 });
+    }
+    let front = &file[..4];
+    if front == b"ADBd".as_slice() || front == b"ADBc".as_slice() {
+        return Err(Cause::Compressed);
+    }
+    if front != b"ADB.".as_slice() {
+        return Err(Cause::NotAdb);
+    }
+    if file.len() < 8 {
+        return Err(Cause::Truncated { at: 0 });
+    }
+    Ok(word_at(file, 4))
 }

@@ -1,7 +1,7 @@
 -- What a writer keeps while it grows.
 use Rattle.std.proofs.Common.{◌≡◌, ℕ, ◌+◌, ◌-◌, ◌≤◌, List, ◌++◌, length, take, drop, replicate, refl, sym, ap, ◌∙◌, append_assoc, arith, inl, inr}
 use Rattle.std.proofs.lemmas.List.{length-append, length-replicate, length-take, length-drop, replicate-append-replicate, take-append-le, drop-append-le, take_at, drop_at}
-use Rattle.adb_write.specs.Kept.{HasHead}
+use Rattle.adb_write.specs.WriterState.{HasHead}
 
 -- eight bytes stand in front
 long : (payload : List ℕ) → take 8 payload ≡ replicate {A = ℕ} 8 0 → 8 ≤ length payload

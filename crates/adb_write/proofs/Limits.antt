@@ -3,10 +3,10 @@ use Rattle.std.proofs.Common.{◌≡◌, ℕ, Bool, true, false, cond, List, [],
 use Rattle.std.specs.Prelude.{find}
 use Rattle.adb_view.specs.Plain.{Plain, null, int, blob, arr, obj, Plains, none, more}
 use Rattle.adb_view.specs.Readers.{ARRAY, OBJECT}
-use Rattle.adb_write.specs.Canonical.{Cell, in_place, apart, int_cell, blob_cell, run_cell, trimmed_words, Layout, start, stored, put_run, write, write_all, payload_of, canonical, Counts, counts_of, passes, trace, trace_all, overflow_of, or_overflow, written_of}
-use Rattle.adb_write.specs.Writing.{Writing, empty, counts, is_over, written_as, call, finished, calls, calls_all}
+use Rattle.adb_write.specs.Canonical.{Cell, in_place, apart, int_cell, blob_cell, run_cell, trimmed_words, Layout, empty_layout, put_cell, put_run, write, write_all, payload_with_root, canonical, PayloadCounts, layout_counts, passes, trace, trace_all, overflow_of, or_overflow, written_of}
+use Rattle.adb_write.specs.Writing.{Writing, empty_writing, writing_counts, is_over, writing_of, call, finish_result, calls, calls_all}
 
-find-none : (xs ys : List Counts) → find passes xs ≡ None → find passes (xs ++ ys) ≡ find passes ys
+find-none : (xs ys : List PayloadCounts) → find passes xs ≡ None → find passes (xs ++ ys) ≡ find passes ys
 find-none [] ys e = refl
 find-none (x ∷ xs) ys e = go (passes x) (λ f. find-none xs ys f) e
   where
@@ -14,7 +14,7 @@ find-none (x ∷ xs) ys e = go (passes x) (λ f. find-none xs ys f) e
     go true h e = absurd cc
     go false h e = h e
 
-find-some : (xs ys : List Counts) (c : Counts) → find passes xs ≡ Some c → find passes (xs ++ ys) ≡ Some c
+find-some : (xs ys : List PayloadCounts) (c : PayloadCounts) → find passes xs ≡ Some c → find passes (xs ++ ys) ≡ Some c
 find-some [] ys c e = absurd cc
 find-some (x ∷ xs) ys c e = go (passes x) (λ f. find-some xs ys c f) e
   where
@@ -51,25 +51,25 @@ mutual
 
 -- within the limits
 pub record Within (out : Layout) : Type 0 where
-  pub fine : passes (counts_of out) ≡ false
+  pub fine : passes (layout_counts out) ≡ false
 
 -- either all is written, or the writer stands behind the first value past a limit
-abbrev pub Ends : {A : Type 0} → List Counts → A × Writing → A × Layout → Type 0
-Ends counts r s = ((find passes counts ≡ None) × (r.0 ≡ s.0) × (r.1 ≡ written_as s.1) × Within s.1) ⊎ ((c : Counts) × (find passes counts ≡ Some c) × ((r.1.bytes, r.1.values) ≡ c) × (is_over r.1 ≡ true))
+abbrev pub Ends : {A : Type 0} → List PayloadCounts → A × Writing → A × Layout → Type 0
+Ends writing_counts r s = ((find passes writing_counts ≡ None) × (r.0 ≡ s.0) × (r.1 ≡ writing_of s.1) × Within s.1) ⊎ ((c : PayloadCounts) × (find passes writing_counts ≡ Some c) × ((r.1.bytes, r.1.values) ≡ c) × (is_over r.1 ≡ true))
 
-call-ends : (c : Cell) (out : Layout) → Within out → Ends (counts_of (stored c out).1 ∷ []) (call c (written_as out)) (stored c out)
+call-ends : (c : Cell) (out : Layout) → Within out → Ends (layout_counts (put_cell c out).1 ∷ []) (call c (writing_of out)) (put_cell c out)
 unfolding call
 call-ends (in_place word) out w = rw w.fine (inl (refl, refl, refl, w))
-call-ends (apart i) out w = rw w.fine (go (passes (counts_of (stored (apart i) out).1)) refl)
+call-ends (apart i) out w = rw w.fine (go (passes (layout_counts (put_cell (apart i) out).1)) refl)
   where
-    go : (b : Bool) → passes (counts_of (stored (apart i) out).1) ≡ b
-        → Ends (counts_of (stored (apart i) out).1 ∷ []) (cond b (0, record (written_as (stored (apart i) out).1) { body = out.body }) ((stored (apart i) out).0, written_as (stored (apart i) out).1)) (stored (apart i) out)
-    go true e = inr (counts_of (stored (apart i) out).1, rw e refl, refl, e)
+    go : (b : Bool) → passes (layout_counts (put_cell (apart i) out).1) ≡ b
+        → Ends (layout_counts (put_cell (apart i) out).1 ∷ []) (cond b (0, record (writing_of (put_cell (apart i) out).1) { body = out.body }) ((put_cell (apart i) out).0, writing_of (put_cell (apart i) out).1)) (put_cell (apart i) out)
+    go true e = inr (layout_counts (put_cell (apart i) out).1, rw e refl, refl, e)
     go false e = inl (rw e refl, refl, refl, record { fine = e })
 
 -- ---- all calls
 
-then_ends : {A B : Type 0} (xs ys : List Counts) (r : A × Writing) (s : A × Layout) (r' : B × Writing) (s' : B × Layout) → Ends xs r s → (r.0 ≡ s.0 → r.1 ≡ written_as s.1 → Within s.1 → Ends ys r' s') → (is_over r.1 ≡ true → r'.1 ≡ r.1) → Ends (xs ++ ys) r' s'
+then_ends : {A B : Type 0} (xs ys : List PayloadCounts) (r : A × Writing) (s : A × Layout) (r' : B × Writing) (s' : B × Layout) → Ends xs r s → (r.0 ≡ s.0 → r.1 ≡ writing_of s.1 → Within s.1 → Ends ys r' s') → (is_over r.1 ≡ true → r'.1 ≡ r.1) → Ends (xs ++ ys) r' s'
 then_ends xs ys r s r' s' (inl a) f g =
     elim (f a.1 a.2 a.3) [
       | inl b ↦ inl (find-none xs ys a.0 ∙ b.0, b.1, b.2, b.3)
@@ -80,15 +80,15 @@ then_ends xs ys r s r' s' (inr b) f g =
     inr (b.0, find-some xs ys b.0 b.1, ap (λ (w : Writing). (w.bytes, w.values)) same ∙ b.2, rw same b.3)
 
 -- a run over what was written
-run_ends : (kind : ℕ) (f : List ℕ → List ℕ) (r : List ℕ × Writing) (s : List ℕ × Layout) → r.0 ≡ s.0 → r.1 ≡ written_as s.1 → Within s.1
-    → Ends (counts_of (put_run kind (f s.0) s.1).1 ∷ []) (call (run_cell kind (f r.0)) r.1) (put_run kind (f s.0) s.1)
+run_ends : (kind : ℕ) (f : List ℕ → List ℕ) (r : List ℕ × Writing) (s : List ℕ × Layout) → r.0 ≡ s.0 → r.1 ≡ writing_of s.1 → Within s.1
+    → Ends (layout_counts (put_run kind (f s.0) s.1).1 ∷ []) (call (run_cell kind (f r.0)) r.1) (put_run kind (f s.0) s.1)
 run_ends kind f r s words state fine = rw (words, state) (call-ends (run_cell kind (f s.0)) s.1 fine)
 
-cons_ends : (v : Plain) (vs : Plains) (out : Layout) → (calls v (written_as out)).0 ≡ (write v out).0 → (calls v (written_as out)).1 ≡ written_as (write v out).1
-    → Ends (trace_all vs (write v out).1) (calls_all vs (written_as (write v out).1)) (write_all vs (write v out).1)
-    → Ends (trace_all vs (write v out).1) (calls_all (more v vs) (written_as out)) (write_all (more v vs) out)
+cons_ends : (v : Plain) (vs : Plains) (out : Layout) → (calls v (writing_of out)).0 ≡ (write v out).0 → (calls v (writing_of out)).1 ≡ writing_of (write v out).1
+    → Ends (trace_all vs (write v out).1) (calls_all vs (writing_of (write v out).1)) (write_all vs (write v out).1)
+    → Ends (trace_all vs (write v out).1) (calls_all (more v vs) (writing_of out)) (write_all (more v vs) out)
 unfolding calls write
-cons_ends v vs out word state (inl a) = inl (a.0, cons_words (calls v (written_as out)).0 (write v out).0 (calls_all vs (calls v (written_as out)).1) (write_all vs (write v out).1) word (rw state a.1), rw state a.2, a.3)
+cons_ends v vs out word state (inl a) = inl (a.0, cons_words (calls v (writing_of out)).0 (write v out).0 (calls_all vs (calls v (writing_of out)).1) (write_all vs (write v out).1) word (rw state a.1), rw state a.2, a.3)
   where
     cons_words : (x y : ℕ) (r : List ℕ × Writing) (s : List ℕ × Layout) → x ≡ y → r.0 ≡ s.0 → x ∷ r.0 ≡ y ∷ s.0
     cons_words x y r s e f = cc
@@ -97,41 +97,41 @@ cons_ends v vs out word state (inr b) = inr (b.0, b.1, rw state b.2, rw state b.
 mutual
   unfolding calls write trace
 
-  pub calls-end : (v : Plain) (out : Layout) → Within out → Ends (trace v out) (calls v (written_as out)) (write v out)
+  pub calls-end : (v : Plain) (out : Layout) → Within out → Ends (trace v out) (calls v (writing_of out)) (write v out)
   calls-end null out w = inl (refl, refl, refl, w)
   calls-end (int n) out w = call-ends (int_cell n) out w
   calls-end (blob b) out w = call-ends (blob_cell b) out w
   calls-end (arr vs) out w =
-      then_ends (trace_all vs out) (counts_of (write (arr vs) out).1 ∷ []) (calls_all vs (written_as out)) (write_all vs out) (calls (arr vs) (written_as out)) (write (arr vs) out) (calls_all-end vs out w)
-      (λ words state fine. run_ends ARRAY (λ ws. ws) (calls_all vs (written_as out)) (write_all vs out) words state fine)
-      (λ o. ap (λ (r : ℕ × Writing). r.1) (call-over (run_cell ARRAY (calls_all vs (written_as out)).0) (calls_all vs (written_as out)).1 o))
+      then_ends (trace_all vs out) (layout_counts (write (arr vs) out).1 ∷ []) (calls_all vs (writing_of out)) (write_all vs out) (calls (arr vs) (writing_of out)) (write (arr vs) out) (calls_all-end vs out w)
+      (λ words state fine. run_ends ARRAY (λ ws. ws) (calls_all vs (writing_of out)) (write_all vs out) words state fine)
+      (λ o. ap (λ (r : ℕ × Writing). r.1) (call-over (run_cell ARRAY (calls_all vs (writing_of out)).0) (calls_all vs (writing_of out)).1 o))
   calls-end (obj vs) out w =
-      then_ends (trace_all vs out) (counts_of (write (obj vs) out).1 ∷ []) (calls_all vs (written_as out)) (write_all vs out) (calls (obj vs) (written_as out)) (write (obj vs) out) (calls_all-end vs out w)
-      (λ words state fine. run_ends OBJECT trimmed_words (calls_all vs (written_as out)) (write_all vs out) words state fine)
-      (λ o. ap (λ (r : ℕ × Writing). r.1) (call-over (run_cell OBJECT (trimmed_words (calls_all vs (written_as out)).0)) (calls_all vs (written_as out)).1 o))
+      then_ends (trace_all vs out) (layout_counts (write (obj vs) out).1 ∷ []) (calls_all vs (writing_of out)) (write_all vs out) (calls (obj vs) (writing_of out)) (write (obj vs) out) (calls_all-end vs out w)
+      (λ words state fine. run_ends OBJECT trimmed_words (calls_all vs (writing_of out)) (write_all vs out) words state fine)
+      (λ o. ap (λ (r : ℕ × Writing). r.1) (call-over (run_cell OBJECT (trimmed_words (calls_all vs (writing_of out)).0)) (calls_all vs (writing_of out)).1 o))
 
-  pub calls_all-end : (vs : Plains) (out : Layout) → Within out → Ends (trace_all vs out) (calls_all vs (written_as out)) (write_all vs out)
+  pub calls_all-end : (vs : Plains) (out : Layout) → Within out → Ends (trace_all vs out) (calls_all vs (writing_of out)) (write_all vs out)
   calls_all-end none out w = inl (refl, refl, refl, w)
   calls_all-end (more v vs) out w =
-      then_ends (trace v out) (trace_all vs (write v out).1) (calls v (written_as out)) (write v out) (calls_all (more v vs) (written_as out)) (write_all (more v vs) out) (calls-end v out w)
+      then_ends (trace v out) (trace_all vs (write v out).1) (calls v (writing_of out)) (write v out) (calls_all (more v vs) (writing_of out)) (write_all (more v vs) out) (calls-end v out w)
       (λ word state fine. cons_ends v vs out word state (calls_all-end vs (write v out).1 fine))
-      (λ o. calls_all-over vs (calls v (written_as out)).1 o)
+      (λ o. calls_all-over vs (calls v (writing_of out)).1 o)
 
 -- ---- the law
 
-pub start_fine : Within start
+pub start_fine : Within empty_layout
 start_fine = record { fine = refl }
 
-pub calls-written : (v : Plain) → finished (calls v empty).0 (calls v empty).1 ≡ written_of v
+pub calls-written : (v : Plain) → finish_result (calls v empty_writing).0 (calls v empty_writing).1 ≡ written_of v
 unfolding written_of
-calls-written v = go (calls-end v start start_fine)
+calls-written v = go (calls-end v empty_layout start_fine)
   where
-    fitting : (r : ℕ × Writing) (s : ℕ × Layout) → r.0 ≡ s.0 → r.1 ≡ written_as s.1 → Within s.1 → finished r.0 r.1 ≡ Ok (payload_of s.0 s.1)
+    fitting : (r : ℕ × Writing) (s : ℕ × Layout) → r.0 ≡ s.0 → r.1 ≡ writing_of s.1 → Within s.1 → finish_result r.0 r.1 ≡ Ok (payload_with_root s.0 s.1)
     fitting r s word state w = let fine = w.fine in rw (word, state, fine) refl
 
-    past : (word : ℕ) (w : Writing) → is_over w ≡ true → finished word w ≡ Err (counts w)
+    past : (word : ℕ) (w : Writing) → is_over w ≡ true → finish_result word w ≡ Err (writing_counts w)
     past word w o = rw o refl
 
-    go : Ends (trace v start) (calls v empty) (write v start) → finished (calls v empty).0 (calls v empty).1 ≡ or_overflow (canonical v) (overflow_of v)
-    go (inl a) = fitting (calls v empty) (write v start) a.1 a.2 a.3 ∙ ap (or_overflow (canonical v)) (sym a.0)
-    go (inr b) = past (calls v empty).0 (calls v empty).1 b.3 ∙ ap Err b.2 ∙ ap (or_overflow (canonical v)) (sym b.1)
+    go : Ends (trace v empty_layout) (calls v empty_writing) (write v empty_layout) → finish_result (calls v empty_writing).0 (calls v empty_writing).1 ≡ or_overflow (canonical v) (overflow_of v)
+    go (inl a) = fitting (calls v empty_writing) (write v empty_layout) a.1 a.2 a.3 ∙ ap (or_overflow (canonical v)) (sym a.0)
+    go (inr b) = past (calls v empty_writing).0 (calls v empty_writing).1 b.3 ∙ ap Err b.2 ∙ ap (or_overflow (canonical v)) (sym b.1)

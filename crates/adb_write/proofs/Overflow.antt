@@ -5,8 +5,9 @@ use Rattle.std.specs.Int.{w8, w16, w32, w64, to_le_bytes}
 use Rattle.std.proofs.lemmas.Bool.{cases_lt, lt-ltb, ltb-true}
 use Rattle.adb_view.specs.Plain.{Plain, null, int, blob, arr, obj, Plains, none, more, IsNormal, AreNormal}
 use Rattle.adb_view.specs.Readers.{ARRAY, OBJECT}
-use Rattle.adb_write.specs.Canonical.{Cell, in_place, apart, int_cell, blob_cell, run_cell, trimmed_words, Layout, start, here, stored, write, write_all, payload_of, size_of, count, entries_of, entries_of_all, value_count, Counts, counts_of, passes, trace, trace_all, overflow_of, MOST_BYTES, MOST_VALUES}
-use Rattle.adb_write.specs.Writing.{empty, calls}
+use Rattle.adb_write.specs.Canonical.{Cell, in_place, apart, int_cell, blob_cell, run_cell, trimmed_words, Layout, empty_layout, end_offset, put_cell, write, write_all, payload_with_root, PayloadCounts, layout_counts, passes, trace, trace_all, overflow_of, MOST_BYTES, MOST_VALUES}
+use Rattle.adb_write.specs.Size.{size_of, entry_count, entries_of, entries_of_all, value_count}
+use Rattle.adb_write.specs.Writing.{empty_writing, calls}
 use Rattle.adb_write.proofs.RoundTrip.{Grows-here, stored-grows, put_run-grows, write_all-grows, write_all-made, words_stay}
 use Rattle.adb_write.proofs.Limits.{Ends, calls-end, start_fine}
 
@@ -16,7 +17,7 @@ abbrev entries_in : Cell → ℕ
 entries_in (in_place w) = 0
 entries_in (apart i) = i.entries
 
-stored_values : (c : Cell) (out : Layout) → (stored c out).1.values ≡ out.values + entries_in c
+stored_values : (c : Cell) (out : Layout) → (put_cell c out).1.values ≡ out.values + entries_in c
 stored_values (in_place w) out = omega arith
 stored_values (apart i) out = refl
 
@@ -41,7 +42,7 @@ run_entries : (kind : ℕ) (ws : List ℕ) → entries_in (run_cell kind ws) ≡
 run_entries kind [] = refl
 run_entries kind (w ∷ ws) = refl
 
-words_count : (vs : Plains) (out : Layout) → length (write_all vs out).0 ≡ count vs
+words_count : (vs : Plains) (out : Layout) → length (write_all vs out).0 ≡ entry_count vs
 unfolding write
 words_count none out = refl
 words_count (more v vs) out = ap suc (words_count vs (write v out).1)
@@ -49,7 +50,7 @@ words_count (more v vs) out = ap suc (words_count vs (write v out).1)
 mutual
   unfolding write IsNormal entries_of
 
-  write_values : (v : Plain) (out : Layout) → IsNormal v → here (write v out).1 ≤ MOST_BYTES → (write v out).1.values ≡ out.values + entries_of v
+  write_values : (v : Plain) (out : Layout) → IsNormal v → end_offset (write v out).1 ≤ MOST_BYTES → (write v out).1.values ≡ out.values + entries_of v
   write_values null out n fits = omega arith
   write_values (int k) out n fits = stored_values (int_cell k) out ∙ ap (λ (e : ℕ). out.values + e) (int_entries k)
   write_values (blob b) out n fits = stored_values (blob_cell b) out ∙ ap (λ (e : ℕ). out.values + e) (blob_entries b)
@@ -62,10 +63,10 @@ mutual
       let g = put_run-grows OBJECT (trimmed_words r.0) r.1 in
       let within = le_trans (Grows-here _ _ g) fits in
       let all = write_all-made vs out n.2 within in
-      let stay : trimmed_words r.0 ≡ r.0 = words_stay (payload_of 0 r.1) vs r.0 n.1 (all.0 0) in
+      let stay : trimmed_words r.0 ≡ r.0 = words_stay (payload_with_root 0 r.1) vs r.0 n.1 (all.0 0) in
       omega (arith, stored_values (run_cell OBJECT (trimmed_words r.0)) r.1, run_entries OBJECT (trimmed_words r.0), ap length stay, words_count vs out, write_all_values vs out n.2 within)
 
-  write_all_values : (vs : Plains) (out : Layout) → AreNormal vs → here (write_all vs out).1 ≤ MOST_BYTES → (write_all vs out).1.values ≡ out.values + entries_of_all vs
+  write_all_values : (vs : Plains) (out : Layout) → AreNormal vs → end_offset (write_all vs out).1 ≤ MOST_BYTES → (write_all vs out).1.values ≡ out.values + entries_of_all vs
   write_all_values none out n fits = omega arith
   write_all_values (more v vs) out n fits =
       let g = write_all-grows vs (write v out).1 in
@@ -81,31 +82,31 @@ or_right : (a : Bool) → (a || true) ≡ true
 or_right true = refl
 or_right false = refl
 
-passes_more : (c d : Counts) → c.0 ≤ d.0 → c.1 ≤ d.1 → passes c ≡ true → passes d ≡ true
+passes_more : (c d : PayloadCounts) → c.0 ≤ d.0 → c.1 ≤ d.1 → passes c ≡ true → passes d ≡ true
 passes_more c d p q e =
     elim (or_cases (ltb MOST_BYTES c.0) (ltb MOST_VALUES c.1) e) [
       | inl a ↦ let lt = ltb-true _ _ a in let t : ltb MOST_BYTES d.0 ≡ true = lt-ltb _ _ (omega arith) in rw t refl
       | inr a ↦ let lt = ltb-true _ _ a in let t : ltb MOST_VALUES d.1 ≡ true = lt-ltb _ _ (omega arith) in rw t (or_right (ltb MOST_BYTES d.0))
     ]
 
-stored_more : (c : Cell) (out : Layout) → passes (counts_of out) ≡ true → passes (counts_of (stored c out).1) ≡ true
+stored_more : (c : Cell) (out : Layout) → passes (layout_counts out) ≡ true → passes (layout_counts (put_cell c out).1) ≡ true
 stored_more c out e = passes_more _ _ (Grows-here _ _ (stored-grows c out)) (omega (arith, stored_values c out)) e
 
 mutual
   unfolding write
 
-  write_more : (v : Plain) (out : Layout) → passes (counts_of out) ≡ true → passes (counts_of (write v out).1) ≡ true
+  write_more : (v : Plain) (out : Layout) → passes (layout_counts out) ≡ true → passes (layout_counts (write v out).1) ≡ true
   write_more null out e = e
   write_more (int n) out e = stored_more (int_cell n) out e
   write_more (blob b) out e = stored_more (blob_cell b) out e
   write_more (arr vs) out e = stored_more (run_cell ARRAY (write_all vs out).0) (write_all vs out).1 (write_all_more vs out e)
   write_more (obj vs) out e = stored_more (run_cell OBJECT (trimmed_words (write_all vs out).0)) (write_all vs out).1 (write_all_more vs out e)
 
-  write_all_more : (vs : Plains) (out : Layout) → passes (counts_of out) ≡ true → passes (counts_of (write_all vs out).1) ≡ true
+  write_all_more : (vs : Plains) (out : Layout) → passes (layout_counts out) ≡ true → passes (layout_counts (write_all vs out).1) ≡ true
   write_all_more none out e = e
   write_all_more (more v vs) out e = write_all_more vs (write v out).1 (write_more v out e)
 
-find_either : (xs ys : List Counts) (c : Counts) → find passes (xs ++ ys) ≡ Some c → (find passes xs ≡ Some c) ⊎ (find passes ys ≡ Some c)
+find_either : (xs ys : List PayloadCounts) (c : PayloadCounts) → find passes (xs ++ ys) ≡ Some c → (find passes xs ≡ Some c) ⊎ (find passes ys ≡ Some c)
 find_either [] ys c e = inr e
 find_either (x ∷ xs) ys c e = go (passes x) (λ f. find_either xs ys c f) e
   where
@@ -113,7 +114,7 @@ find_either (x ∷ xs) ys c e = go (passes x) (λ f. find_either xs ys c f) e
     go true h e = inl e
     go false h e = h e
 
-find_one : (x c : Counts) → find passes (x ∷ []) ≡ Some c → passes x ≡ true
+find_one : (x c : PayloadCounts) → find passes (x ∷ []) ≡ Some c → passes x ≡ true
 find_one x c e = go (passes x) refl e
   where
     go : (b : Bool) → passes x ≡ b → cond b (Some x) None ≡ Some c → passes x ≡ true
@@ -123,22 +124,22 @@ find_one x c e = go (passes x) refl e
 mutual
   unfolding write trace
 
-  trace_over : (v : Plain) (out : Layout) (c : Counts) → find passes (trace v out) ≡ Some c → passes (counts_of (write v out).1) ≡ true
+  trace_over : (v : Plain) (out : Layout) (c : PayloadCounts) → find passes (trace v out) ≡ Some c → passes (layout_counts (write v out).1) ≡ true
   trace_over null out c e = absurd cc
-  trace_over (int n) out c e = find_one (counts_of (write (int n) out).1) c e
-  trace_over (blob b) out c e = find_one (counts_of (write (blob b) out).1) c e
+  trace_over (int n) out c e = find_one (layout_counts (write (int n) out).1) c e
+  trace_over (blob b) out c e = find_one (layout_counts (write (blob b) out).1) c e
   trace_over (arr vs) out c e =
-      elim (find_either (trace_all vs out) (counts_of (write (arr vs) out).1 ∷ []) c e) [
+      elim (find_either (trace_all vs out) (layout_counts (write (arr vs) out).1 ∷ []) c e) [
         | inl a ↦ stored_more (run_cell ARRAY (write_all vs out).0) (write_all vs out).1 (trace_all_over vs out c a)
-        | inr a ↦ find_one (counts_of (write (arr vs) out).1) c a
+        | inr a ↦ find_one (layout_counts (write (arr vs) out).1) c a
       ]
   trace_over (obj vs) out c e =
-      elim (find_either (trace_all vs out) (counts_of (write (obj vs) out).1 ∷ []) c e) [
+      elim (find_either (trace_all vs out) (layout_counts (write (obj vs) out).1 ∷ []) c e) [
         | inl a ↦ stored_more (run_cell OBJECT (trimmed_words (write_all vs out).0)) (write_all vs out).1 (trace_all_over vs out c a)
-        | inr a ↦ find_one (counts_of (write (obj vs) out).1) c a
+        | inr a ↦ find_one (layout_counts (write (obj vs) out).1) c a
       ]
 
-  trace_all_over : (vs : Plains) (out : Layout) (c : Counts) → find passes (trace_all vs out) ≡ Some c → passes (counts_of (write_all vs out).1) ≡ true
+  trace_all_over : (vs : Plains) (out : Layout) (c : PayloadCounts) → find passes (trace_all vs out) ≡ Some c → passes (layout_counts (write_all vs out).1) ≡ true
   trace_all_over none out c e = absurd cc
   trace_all_over (more v vs) out c e =
       elim (find_either (trace v out) (trace_all vs (write v out).1) c e) [
@@ -148,27 +149,27 @@ mutual
 
 -- ---- the law
 
-overflow_final : (v : Plain) → is_some (overflow_of v) ≡ passes (counts_of (write v start).1)
-overflow_final v = go (calls-end v start start_fine)
+overflow_final : (v : Plain) → is_some (overflow_of v) ≡ passes (layout_counts (write v empty_layout).1)
+overflow_final v = go (calls-end v empty_layout start_fine)
   where
-    go : Ends (trace v start) (calls v empty) (write v start) → is_some (overflow_of v) ≡ passes (counts_of (write v start).1)
+    go : Ends (trace v empty_layout) (calls v empty_writing) (write v empty_layout) → is_some (overflow_of v) ≡ passes (layout_counts (write v empty_layout).1)
     go (inl a) = let w = a.3 in ap is_some a.0 ∙ sym w.fine
-    go (inr b) = ap is_some b.1 ∙ sym (trace_over v start b.0 b.1)
+    go (inr b) = ap is_some b.1 ∙ sym (trace_over v empty_layout b.0 b.1)
 
 pub overflow_exact : (v : Plain) → IsNormal v → is_some (overflow_of v) ≡ passes (size_of v, value_count v)
 overflow_exact v n = overflow_final v ∙ same
   where
-    size : here (write v start).1 ≡ size_of v
+    size : end_offset (write v empty_layout).1 ≡ size_of v
     size = omega arith
 
-    same : passes (counts_of (write v start).1) ≡ passes (size_of v, value_count v)
-    same = elim (cases_lt MOST_BYTES (here (write v start).1)) [
+    same : passes (layout_counts (write v empty_layout).1) ≡ passes (size_of v, value_count v)
+    same = elim (cases_lt MOST_BYTES (end_offset (write v empty_layout).1)) [
       | inl a ↦
           let s = size in
-          let t : ltb MOST_BYTES (here (write v start).1) ≡ true = lt-ltb _ _ a in
+          let t : ltb MOST_BYTES (end_offset (write v empty_layout).1) ≡ true = lt-ltb _ _ a in
           let u : ltb MOST_BYTES (size_of v) ≡ true = lt-ltb _ _ (omega arith) in
           rw (t, u) refl
       | inr a ↦
-          let values : (write v start).1.values ≡ value_count v = write_values v start n a in
+          let values : (write v empty_layout).1.values ≡ value_count v = write_values v empty_layout n a in
           rw (size, values) refl
     ]

@@ -8,9 +8,9 @@ use Rattle.adb_view.specs.Bytes.{range_at, number_at, words}
 use Rattle.adb_view.specs.Plain.{IsNormal, AreNormal, Plain, null, int, blob, arr, obj, Plains, none, more, trimmed, keep, blob_value, arr_value, obj_of, obj_value, Shape, number, text, hash, array, object, Fields, no_fields, field, unless_null, found, each_plain, plain_of, plains_of, value_of}
 use Rattle.adb_view.specs.Head.{root_of}
 use Rattle.adb_view.specs.Readers.{kind_of, low_of, inside, counted_at, counted_words, run_at, int_of, blob_of, run_of, ARRAY, OBJECT}
-use Rattle.adb_write.specs.Canonical.{gap, Item, Cell, in_place, apart, int_cell, blob_cell, run_cell, run_bytes, keep_word, trimmed_words, Layout, start, here, placed, stored, put_run, write, write_all, payload_of, canonical, MOST_BYTES}
+use Rattle.adb_write.specs.Canonical.{gap, Item, Cell, in_place, apart, int_cell, blob_cell, run_cell, run_bytes, keep_word, trimmed_words, Layout, empty_layout, end_offset, put_item, put_cell, put_run, write, write_all, payload_with_root, canonical, MOST_BYTES}
 use Rattle.adb_view.specs.Shaped.{Each, HasShape, HaveShapes}
-use Rattle.adb_write.specs.Standing.{Holds, HoldAll, IsWordOf}
+use Rattle.adb_write.specs.StandsFor.{Holds, HoldAll, IsWordOf}
 use Rattle.adb_write.proofs.Placed.{Stands, Stands-append, wide8, wide16, wide32, wide64, number_stands, counted_stands, run_stands, words_len, place, placed_stands, word_kind, word_low}
 
 chosen : {A : Type 0} (b : Bool) (x y z : A) → cond b x y ≡ z → ((b ≡ true) × (x ≡ z)) ⊎ ((b ≡ false) × (y ≡ z))
@@ -191,12 +191,12 @@ Grows-refl out = record { more = []; is = sym (append-nil out.body) }
 Grows-then : (a b c : Layout) → Grows a b → Grows b c → Grows a c
 Grows-then a b c p q = record { more = p.more ++ q.more; is = q.is ∙ ap (λ (x : List ℕ). x ++ q.more) p.is ∙ append_assoc a.body p.more q.more }
 
-pub Grows-here : (a b : Layout) → Grows a b → here a ≤ here b
+pub Grows-here : (a b : Layout) → Grows a b → end_offset a ≤ end_offset b
 Grows-here a b g = omega (arith, ap length g.is, length-append a.body g.more)
 
-pub stored-grows : (c : Cell) (out : Layout) → Grows out (stored c out).1
+pub stored-grows : (c : Cell) (out : Layout) → Grows out (put_cell c out).1
 stored-grows (in_place w) out = Grows-refl out
-stored-grows (apart i) out = record { more = replicate (gap i.align (here out)) 0 ++ i.bytes; is = refl }
+stored-grows (apart i) out = record { more = replicate (gap i.align (end_offset out)) 0 ++ i.bytes; is = refl }
 
 pub put_run-grows : (kind : ℕ) (ws : List ℕ) (out : Layout) → Grows out (put_run kind ws out).1
 put_run-grows kind ws out = stored-grows (run_cell kind ws) out
@@ -216,13 +216,13 @@ mutual
   write_all-grows (more v vs) out = Grows-then _ _ _ (write-grows v out) (write_all-grows vs (write v out).1)
 
 -- what a word held it holds on
-pub Grows-Holds : (a b : Layout) (root : ℕ) (v : Plain) (w : ℕ) → Grows a b → Holds (payload_of root a) v w → Holds (payload_of root b) v w
+pub Grows-Holds : (a b : Layout) (root : ℕ) (v : Plain) (w : ℕ) → Grows a b → Holds (payload_with_root root a) v w → Holds (payload_with_root root b) v w
 Grows-Holds a b root v w g h =
-    subst (λ (x : List ℕ). Holds x v w) (append_assoc (0 ∷ 0 ∷ 0 ∷ 0 ∷ to_le_bytes w32 root) a.body g.more ∙ ap (λ (x : List ℕ). 0 ∷ 0 ∷ 0 ∷ 0 ∷ (to_le_bytes w32 root ++ x)) (sym g.is)) (Holds-append (payload_of root a) g.more v w h)
+    subst (λ (x : List ℕ). Holds x v w) (append_assoc (0 ∷ 0 ∷ 0 ∷ 0 ∷ to_le_bytes w32 root) a.body g.more ∙ ap (λ (x : List ℕ). 0 ∷ 0 ∷ 0 ∷ 0 ∷ (to_le_bytes w32 root ++ x)) (sym g.is)) (Holds-append (payload_with_root root a) g.more v w h)
 
-pub Grows-HoldAll : (a b : Layout) (root : ℕ) (vs : Plains) (ws : List ℕ) → Grows a b → HoldAll (payload_of root a) vs ws → HoldAll (payload_of root b) vs ws
+pub Grows-HoldAll : (a b : Layout) (root : ℕ) (vs : Plains) (ws : List ℕ) → Grows a b → HoldAll (payload_with_root root a) vs ws → HoldAll (payload_with_root root b) vs ws
 Grows-HoldAll a b root vs ws g h =
-    subst (λ (x : List ℕ). HoldAll x vs ws) (append_assoc (0 ∷ 0 ∷ 0 ∷ 0 ∷ to_le_bytes w32 root) a.body g.more ∙ ap (λ (x : List ℕ). 0 ∷ 0 ∷ 0 ∷ 0 ∷ (to_le_bytes w32 root ++ x)) (sym g.is)) (HoldAll-append (payload_of root a) g.more vs ws h)
+    subst (λ (x : List ℕ). HoldAll x vs ws) (append_assoc (0 ∷ 0 ∷ 0 ∷ 0 ∷ to_le_bytes w32 root) a.body g.more ∙ ap (λ (x : List ℕ). 0 ∷ 0 ∷ 0 ∷ 0 ∷ (to_le_bytes w32 root ++ x)) (sym g.is)) (HoldAll-append (payload_with_root root a) g.more vs ws h)
 
 -- ---- a placed item's word leads to it
 
@@ -232,12 +232,12 @@ pub record Leads (p : List ℕ) (i : Item) (w : ℕ) : Type 0 where
   pub kind_is : kind_of w ≡ i.kind
   pub stands : (back : List ℕ) × Stands p (low_of w) (i.bytes ++ back)
 
-pub placed_leads : (i : Item) (out : Layout) (root : ℕ) → 0 < i.kind → i.kind < 15 → here (placed i out).1 ≤ MOST_BYTES → Leads (payload_of root (placed i out).1) i (placed i out).0
+pub placed_leads : (i : Item) (out : Layout) (root : ℕ) → 0 < i.kind → i.kind < 15 → end_offset (put_item i out).1 ≤ MOST_BYTES → Leads (payload_with_root root (put_item i out).1) i (put_item i out).0
 placed_leads i out root pos few fits =
-    let zeros : List ℕ = replicate (gap i.align (here out)) 0 in
+    let zeros : List ℕ = replicate (gap i.align (end_offset out)) 0 in
     let total = length-append out.body (zeros ++ i.bytes) in
     let mid = length-append zeros i.bytes in
-    let len : length zeros ≡ gap i.align (here out) = length-replicate {A = ℕ} (gap i.align (here out)) 0 in
+    let len : length zeros ≡ gap i.align (end_offset out) = length-replicate {A = ℕ} (gap i.align (end_offset out)) 0 in
     let at : place i out < 2 ^ 28 = omega arith in
     record {
       nonzero = λ e. absurd (omega arith);
@@ -296,9 +296,9 @@ run_of-placed kind p w ws small few l =
 -- an item has room in a payload; a value that its word holds whole needs none
 abbrev pub Fits : Cell → Layout → Type 0
 Fits (in_place word) out = Unit {0}
-Fits (apart i) out = here (placed i out).1 ≤ MOST_BYTES
+Fits (apart i) out = end_offset (put_item i out).1 ≤ MOST_BYTES
 
-fits_here : (c : Cell) (out : Layout) → here (stored c out).1 ≤ MOST_BYTES → Fits c out
+fits_here : (c : Cell) (out : Layout) → end_offset (put_cell c out).1 ≤ MOST_BYTES → Fits c out
 fits_here (in_place word) out h = tt
 fits_here (apart i) out h = h
 
@@ -306,15 +306,15 @@ fits_here (apart i) out h = h
 abbrev pub Made : Plain → ℕ × Layout → Type 0
 Made v r = IsWordOf r.1 v r.0
 
-pub int_made : (n : ℕ) (out : Layout) → n < 2 ^ 64 → Fits (int_cell n) out → Made (int n) (stored (int_cell n) out)
+pub int_made : (n : ℕ) (out : Layout) → n < 2 ^ 64 → Fits (int_cell n) out → Made (int n) (put_cell (int_cell n) out)
 unfolding Holds
 int_made n out lt =
-    let P : Cell → Type 0 = λ c. Fits c out → Made (int n) (stored c out) in
+    let P : Cell → Type 0 = λ c. Fits c out → Made (int n) (put_cell c out) in
     elim (cases_lt n (2 ^ 28)) [
       | inl a ↦
           let t : ltb n (2 ^ 28) ≡ true = lt-ltb _ _ a in
           let is : int_cell n ≡ in_place (2 ^ 28 + n) = rw t refl in
-          subst P (sym is) (λ fits. record { holds = λ root. (λ e. absurd (omega arith), int_of-short (payload_of root out) n a); small = omega arith })
+          subst P (sym is) (λ fits. record { holds = λ root. (λ e. absurd (omega arith), int_of-short (payload_with_root root out) n a); small = omega arith })
       | inr a ↦
           let t : ltb n (2 ^ 28) ≡ false = le-ltb _ _ a in
           elim (cases_lt n (2 ^ 32)) [
@@ -322,36 +322,36 @@ int_made n out lt =
                 let u : ltb n (2 ^ 32) ≡ true = lt-ltb _ _ b in
                 let is : int_cell n ≡ apart (record { kind = 2; align = 4; bytes = to_le_bytes w32 n; entries = 0 }) = rw (t, u) refl in
                 subst P (sym is) (λ fits.
-                let l : (root : ℕ) → Leads (payload_of root (placed (record { kind = 2; align = 4; bytes = to_le_bytes w32 n; entries = 0 }) out).1) (record { kind = 2; align = 4; bytes = to_le_bytes w32 n; entries = 0 }) (placed (record { kind = 2; align = 4; bytes = to_le_bytes w32 n; entries = 0 }) out).0 = λ root. placed_leads _ out root (lit< tt) (lit< tt) fits in
+                let l : (root : ℕ) → Leads (payload_with_root root (put_item (record { kind = 2; align = 4; bytes = to_le_bytes w32 n; entries = 0 }) out).1) (record { kind = 2; align = 4; bytes = to_le_bytes w32 n; entries = 0 }) (put_item (record { kind = 2; align = 4; bytes = to_le_bytes w32 n; entries = 0 }) out).0 = λ root. placed_leads _ out root (lit< tt) (lit< tt) fits in
                 record { holds = λ root. ((l root).nonzero, int_of-32 _ _ n b (l root)); small = (l 0).small })
             | inr b ↦
                 let u : ltb n (2 ^ 32) ≡ false = le-ltb _ _ b in
                 let is : int_cell n ≡ apart (record { kind = 3; align = 8; bytes = to_le_bytes w64 n; entries = 0 }) = rw (t, u) refl in
                 subst P (sym is) (λ fits.
-                let l : (root : ℕ) → Leads (payload_of root (placed (record { kind = 3; align = 8; bytes = to_le_bytes w64 n; entries = 0 }) out).1) (record { kind = 3; align = 8; bytes = to_le_bytes w64 n; entries = 0 }) (placed (record { kind = 3; align = 8; bytes = to_le_bytes w64 n; entries = 0 }) out).0 = λ root. placed_leads _ out root (lit< tt) (lit< tt) fits in
+                let l : (root : ℕ) → Leads (payload_with_root root (put_item (record { kind = 3; align = 8; bytes = to_le_bytes w64 n; entries = 0 }) out).1) (record { kind = 3; align = 8; bytes = to_le_bytes w64 n; entries = 0 }) (put_item (record { kind = 3; align = 8; bytes = to_le_bytes w64 n; entries = 0 }) out).0 = λ root. placed_leads _ out root (lit< tt) (lit< tt) fits in
                 record { holds = λ root. ((l root).nonzero, int_of-64 _ _ n lt (l root)); small = (l 0).small })
           ]
     ]
 
 -- an item's bytes are in the payload, so there are not too many
-pub placed_len : (i : Item) (out : Layout) → here out + gap i.align (here out) + length i.bytes ≡ here (placed i out).1
+pub placed_len : (i : Item) (out : Layout) → end_offset out + gap i.align (end_offset out) + length i.bytes ≡ end_offset (put_item i out).1
 placed_len i out =
-    let zeros : List ℕ = replicate (gap i.align (here out)) 0 in
-    omega (arith, length-append out.body (zeros ++ i.bytes), length-append zeros i.bytes, length-replicate {A = ℕ} (gap i.align (here out)) 0)
+    let zeros : List ℕ = replicate (gap i.align (end_offset out)) 0 in
+    omega (arith, length-append out.body (zeros ++ i.bytes), length-append zeros i.bytes, length-replicate {A = ℕ} (gap i.align (end_offset out)) 0)
 
-pub blob_made : (b : List ℕ) (out : Layout) → b ≢ [] → Fits (blob_cell b) out → Made (blob b) (stored (blob_cell b) out)
+pub blob_made : (b : List ℕ) (out : Layout) → b ≢ [] → Fits (blob_cell b) out → Made (blob b) (put_cell (blob_cell b) out)
 unfolding Holds
 blob_made [] out ne = absurd (ne refl)
 blob_made (x ∷ xs) out ne =
     let b : List ℕ = x ∷ xs in
-    let P : Cell → Type 0 = λ c. Fits c out → Made (blob b) (stored c out) in
+    let P : Cell → Type 0 = λ c. Fits c out → Made (blob b) (put_cell c out) in
     elim (cases_lt (length b) (2 ^ 8)) [
       | inl a ↦
           let t : ltb (length b) (2 ^ 8) ≡ true = lt-ltb _ _ a in
           let i : Item = record { kind = 8; align = 1; bytes = to_le_bytes w8 (length b) ++ b; entries = 0 } in
           let is : blob_cell b ≡ apart i = rw t refl in
           subst P (sym is) (λ fits.
-          let l : (root : ℕ) → Leads (payload_of root (placed i out).1) i (placed i out).0 = λ root. placed_leads i out root (lit< tt) (lit< tt) fits in
+          let l : (root : ℕ) → Leads (payload_with_root root (put_item i out).1) i (put_item i out).0 = λ root. placed_leads i out root (lit< tt) (lit< tt) fits in
           record { holds = λ root. ((l root).nonzero, blob_of-8 _ _ b a (l root)); small = (l 0).small })
       | inr a ↦
           let t : ltb (length b) (2 ^ 8) ≡ false = le-ltb _ _ a in
@@ -361,14 +361,14 @@ blob_made (x ∷ xs) out ne =
                 let i : Item = record { kind = 9; align = 2; bytes = to_le_bytes w16 (length b) ++ b; entries = 0 } in
                 let is : blob_cell b ≡ apart i = rw (t, u) refl in
                 subst P (sym is) (λ fits.
-                let l : (root : ℕ) → Leads (payload_of root (placed i out).1) i (placed i out).0 = λ root. placed_leads i out root (lit< tt) (lit< tt) fits in
+                let l : (root : ℕ) → Leads (payload_with_root root (put_item i out).1) i (put_item i out).0 = λ root. placed_leads i out root (lit< tt) (lit< tt) fits in
                 record { holds = λ root. ((l root).nonzero, blob_of-16 _ _ b c (l root)); small = (l 0).small })
             | inr c ↦
                 let u : ltb (length b) (2 ^ 16) ≡ false = le-ltb _ _ c in
                 let i : Item = record { kind = 10; align = 4; bytes = to_le_bytes w32 (length b) ++ b; entries = 0 } in
                 let is : blob_cell b ≡ apart i = rw (t, u) refl in
                 subst P (sym is) (λ fits.
-                let l : (root : ℕ) → Leads (payload_of root (placed i out).1) i (placed i out).0 = λ root. placed_leads i out root (lit< tt) (lit< tt) fits in
+                let l : (root : ℕ) → Leads (payload_with_root root (put_item i out).1) i (put_item i out).0 = λ root. placed_leads i out root (lit< tt) (lit< tt) fits in
                 let few : length b < 2 ^ 32 = omega (arith, placed_len i out, length-append (to_le_bytes w32 (length b)) b) in
                 record { holds = λ root. ((l root).nonzero, blob_of-32 _ _ b few (l root)); small = (l 0).small })
           ]
@@ -378,12 +378,12 @@ blob_made (x ∷ xs) out ne =
 pub record MadeRun (kind : ℕ) (ws : List ℕ) (r : ℕ × Layout) : Type 0 where
   pub nonzero : r.0 ≢ 0
   pub small : r.0 < 2 ^ 32
-  pub reads : (root : ℕ) → run_of kind (payload_of root r.1) r.0 ≡ Ok ws
+  pub reads : (root : ℕ) → run_of kind (payload_with_root root r.1) r.0 ≡ Ok ws
 
-pub run_made : (kind : ℕ) (w : ℕ) (ws : List ℕ) (out : Layout) → 0 < kind → kind < 15 → AllByRecursion (λ w. w < 2 ^ 32) (w ∷ ws) → here (put_run kind (w ∷ ws) out).1 ≤ MOST_BYTES → MadeRun kind (w ∷ ws) (put_run kind (w ∷ ws) out)
+pub run_made : (kind : ℕ) (w : ℕ) (ws : List ℕ) (out : Layout) → 0 < kind → kind < 15 → AllByRecursion (λ w. w < 2 ^ 32) (w ∷ ws) → end_offset (put_run kind (w ∷ ws) out).1 ≤ MOST_BYTES → MadeRun kind (w ∷ ws) (put_run kind (w ∷ ws) out)
 run_made kind w ws out pos lt15 small fits =
     let i : Item = record { kind = kind; align = 4; bytes = run_bytes (w ∷ ws); entries = length (w ∷ ws) } in
-    let l : (root : ℕ) → Leads (payload_of root (placed i out).1) i (placed i out).0 = λ root. placed_leads i out root pos lt15 fits in
+    let l : (root : ℕ) → Leads (payload_with_root root (put_item i out).1) i (put_item i out).0 = λ root. placed_leads i out root pos lt15 fits in
     let few : suc (length (w ∷ ws)) < 2 ^ 32 = omega (arith, placed_len i out, length-append (to_le_bytes w32 (suc (length (w ∷ ws)))) (flat_map (to_le_bytes w32) (w ∷ ws)), words_len (w ∷ ws)) in
     record { nonzero = (l 0).nonzero; small = (l 0).small; reads = λ root. run_of-placed kind _ _ (w ∷ ws) small few (l root) }
 
@@ -433,7 +433,7 @@ words_stay p (more v vs) (w ∷ ws) e h =
 mutual
   unfolding write IsNormal Holds
 
-  pub write-made : (v : Plain) (out : Layout) → IsNormal v → here (write v out).1 ≤ MOST_BYTES → Made v (write v out)
+  pub write-made : (v : Plain) (out : Layout) → IsNormal v → end_offset (write v out).1 ≤ MOST_BYTES → Made v (write v out)
   write-made null out n fits = record { holds = λ root. refl; small = lit< tt }
   write-made (int k) out n fits = int_made k out n (fits_here (int_cell k) out fits)
   write-made (blob b) out n fits = blob_made b out n (fits_here (blob_cell b) out fits)
@@ -449,12 +449,12 @@ mutual
       let r = write_all (more v vs) out in
       let g = put_run-grows OBJECT (trimmed_words r.0) r.1 in
       let all = write_all-made (more v vs) out n.2 (le_trans (Grows-here _ _ g) fits) in
-      let stay : trimmed_words r.0 ≡ r.0 = words_stay (payload_of 0 r.1) (more v vs) r.0 n.1 (all.0 0) in
-      let run : MadeRun OBJECT r.0 (put_run OBJECT r.0 r.1) = run_made OBJECT _ _ r.1 (lit< tt) (lit< tt) all.1 (subst (λ (ws : List ℕ). here (put_run OBJECT ws r.1).1 ≤ MOST_BYTES) stay fits) in
+      let stay : trimmed_words r.0 ≡ r.0 = words_stay (payload_with_root 0 r.1) (more v vs) r.0 n.1 (all.0 0) in
+      let run : MadeRun OBJECT r.0 (put_run OBJECT r.0 r.1) = run_made OBJECT _ _ r.1 (lit< tt) (lit< tt) all.1 (subst (λ (ws : List ℕ). end_offset (put_run OBJECT ws r.1).1 ≤ MOST_BYTES) stay fits) in
       subst (λ (ws : List ℕ). Made (obj (more v vs)) (put_run OBJECT ws r.1)) (sym stay)
       (record { holds = λ root. (run.nonzero, r.0, run.reads root, Grows-HoldAll _ _ root (more v vs) r.0 (put_run-grows OBJECT r.0 r.1) (all.0 root)); small = run.small })
 
-  pub write_all-made : (vs : Plains) (out : Layout) → AreNormal vs → here (write_all vs out).1 ≤ MOST_BYTES → ((root : ℕ) → HoldAll (payload_of root (write_all vs out).1) vs (write_all vs out).0) × AllByRecursion (λ w. w < 2 ^ 32) (write_all vs out).0
+  pub write_all-made : (vs : Plains) (out : Layout) → AreNormal vs → end_offset (write_all vs out).1 ≤ MOST_BYTES → ((root : ℕ) → HoldAll (payload_with_root root (write_all vs out).1) vs (write_all vs out).0) × AllByRecursion (λ w. w < 2 ^ 32) (write_all vs out).0
   write_all-made none out n fits = (λ root. tt, tt)
   write_all-made (more v vs) out n fits =
       let g = write_all-grows vs (write v out).1 in
@@ -464,13 +464,13 @@ mutual
 
 -- ---- the law
 
-pub root_again : (root : ℕ) (out : Layout) → root < 2 ^ 32 → root_of (payload_of root out) ≡ root
+pub root_again : (root : ℕ) (out : Layout) → root < 2 ^ 32 → root_of (payload_with_root root out) ≡ root
 root_again root out lt =
-    let four : drop 4 (payload_of root out) ≡ to_le_bytes w32 root ++ out.body = drop_at (0 ∷ 0 ∷ 0 ∷ 0 ∷ []) (to_le_bytes w32 root ++ out.body) 4 refl in
+    let four : drop 4 (payload_with_root root out) ≡ to_le_bytes w32 root ++ out.body = drop_at (0 ∷ 0 ∷ 0 ∷ 0 ∷ []) (to_le_bytes w32 root ++ out.body) 4 refl in
     ap (λ (x : List ℕ). from_le_bytes w32 (take 4 x)) four ∙ ap (from_le_bytes w32) (take_at (to_le_bytes w32 root) out.body 4 (wide32.len root)) ∙ wide32.again root lt
 
 pub value_of-canonical : (s : Shape) (v : Plain) → IsNormal v → HasShape s v → length (canonical v) ≤ MOST_BYTES → value_of (canonical v) s ≡ Some v
 value_of-canonical s v n h fits =
-    let r = write v start in
-    let made = write-made v start n (omega arith) in
+    let r = write v empty_layout in
+    let made = write-made v empty_layout n (omega arith) in
     ap (plain_of (canonical v) s) (root_again r.0 r.1 made.small) ∙ plain_of-Holds (canonical v) s v r.0 n h (made.holds r.0)

@@ -5,17 +5,18 @@ use Rattle.adb_view.specs.Plain.{Plain, null, int, blob, arr, obj, Plains, none,
 use Rattle.adb_view.specs.Readers.{run_of, ARRAY, OBJECT}
 use Rattle.adb_view.specs.Head.{root_of}
 use Rattle.adb_view.specs.Visits.{Visit, visits, field_visits, each_visit, or_empty}
-use Rattle.adb_write.specs.Canonical.{start, write, canonical, size_of, count, entries_of, entries_of_all, value_count, MOST_BYTES}
+use Rattle.adb_write.specs.Canonical.{empty_layout, write, canonical, MOST_BYTES}
+use Rattle.adb_write.specs.Size.{size_of, entry_count, entries_of, entries_of_all, value_count}
 use Rattle.base_core.specs.declared.cause.Cause.{Cause}
 use Rattle.adb_view.specs.Shaped.{Each, HasShape, HaveShapes}
-use Rattle.adb_write.specs.Standing.{Holds, HoldAll}
+use Rattle.adb_write.specs.StandsFor.{Holds, HoldAll}
 use Rattle.adb_write.proofs.RoundTrip.{write-made, root_again}
 
 null_run : (kind : ℕ) (p : List ℕ) (w : ℕ) → w ≡ 0 → or_empty (run_of kind p w) ≡ []
 unfolding run_of
 null_run kind p w e = rw e refl
 
-each_visited : (p : List ℕ) (f : ℕ → List Visit) (P : Plain → Type 0) → ((v : Plain) (w : ℕ) → P v → Holds p v w → length (f w) ≡ suc (entries_of v)) → (vs : Plains) (ws : List ℕ) → Each P vs → HoldAll p vs ws → length (each_visit f ws) ≡ count vs + entries_of_all vs
+each_visited : (p : List ℕ) (f : ℕ → List Visit) (P : Plain → Type 0) → ((v : Plain) (w : ℕ) → P v → Holds p v w → length (f w) ≡ suc (entries_of v)) → (vs : Plains) (ws : List ℕ) → Each P vs → HoldAll p vs ws → length (each_visit f ws) ≡ entry_count vs + entries_of_all vs
 unfolding entries_of Holds
 each_visited p f P h none [] s a = refl
 each_visited p f P h none (w ∷ ws) s a = absurd a
@@ -58,7 +59,7 @@ mutual
   visited p (object schema fs) (obj vs) w s (ne, ws, is, all) =
       ap (λ (r : Result (List ℕ) Cause). suc (length (field_visits p fs (or_empty r)))) is ∙ ap suc (fields_visited p fs vs ws s all)
 
-  fields_visited : (p : List ℕ) (fs : Fields) (vs : Plains) (ws : List ℕ) → HaveShapes fs vs → HoldAll p vs ws → length (field_visits p fs ws) ≡ count vs + entries_of_all vs
+  fields_visited : (p : List ℕ) (fs : Fields) (vs : Plains) (ws : List ℕ) → HaveShapes fs vs → HoldAll p vs ws → length (field_visits p fs ws) ≡ entry_count vs + entries_of_all vs
   fields_visited p no_fields none [] s a = refl
   fields_visited p no_fields none (w ∷ ws) s a = absurd a
   fields_visited p no_fields (more v vs) ws s a = absurd s
@@ -70,6 +71,6 @@ mutual
 
 pub canonical_visited : (s : Shape) (v : Plain) → IsNormal v → HasShape s v → size_of v ≤ MOST_BYTES → length (visits (canonical v) s (root_of (canonical v))) ≡ value_count v
 canonical_visited s v n h fits =
-    let r = write v start in
-    let made = write-made v start n (omega arith) in
+    let r = write v empty_layout in
+    let made = write-made v empty_layout n (omega arith) in
     ap (λ (w : ℕ). length (visits (canonical v) s w)) (root_again r.0 r.1 made.small) ∙ visited (canonical v) s v r.0 h (made.holds r.0) ∙ omega arith

@@ -3,7 +3,8 @@ use Rattle.std.proofs.Common.{◌≡◌, ℕ, ◌^◌, List, [], ◌∷◌, refl
 use Rattle.std.specs.Prelude.{codes}
 use Rattle.adb_view.specs.Plain.{Plain, null, int, blob, arr, obj, none, more}
 use Rattle.adb_block.specs.Written.{head_bytes}
-use Rattle.adb_write.specs.Canonical.{canonical, size_of, value_count, write, entries_of}
+use Rattle.adb_write.specs.Canonical.{canonical, write}
+use Rattle.adb_write.specs.Size.{size_of, value_count, entries_of}
 use Rattle.adb_write.specs.File.{file_of}
 
 -- a package with the name `a` and the version `1`

@@ -9,7 +9,8 @@ use Rattle.adb_view.specs.Readers.{ARRAY, OBJECT}
 abbrev pub gap : ℕ → ℕ → ℕ
 gap align n = (align - n % align) % align
 
--- what one value takes outside its word: its kind, its alignment, its bytes, and how many entries it has
+-- what one value takes outside its word: its kind, its alignment, its bytes, and how many entries
+-- it has
 pub record Item : Type 0 where
   pub kind : ℕ
   pub align : ℕ
@@ -24,16 +25,34 @@ pub data Cell : Type 0 where
 abbrev pub int_cell : ℕ → Cell
 int_cell n =
     if nat_lt n (2 ^ 28) then in_place (2 ^ 28 + n)
-    else if nat_lt n (2 ^ 32) then apart (record { kind = 2; align = 4; bytes = to_le_bytes w32 n; entries = 0 })
+    else if nat_lt n (2 ^ 32)
+    then apart (record { kind = 2; align = 4; bytes = to_le_bytes w32 n; entries = 0 })
     else apart (record { kind = 3; align = 8; bytes = to_le_bytes w64 n; entries = 0 })
 
 -- a blob: its length, and its bytes; an empty one is NULL
 abbrev pub blob_cell : List ℕ → Cell
 blob_cell [] = in_place 0
 blob_cell (b ∷ bs) =
-    if nat_lt (length (b ∷ bs)) (2 ^ 8) then apart (record { kind = 8; align = 1; bytes = to_le_bytes w8 (length (b ∷ bs)) ++ b ∷ bs; entries = 0 })
-    else if nat_lt (length (b ∷ bs)) (2 ^ 16) then apart (record { kind = 9; align = 2; bytes = to_le_bytes w16 (length (b ∷ bs)) ++ b ∷ bs; entries = 0 })
-    else apart (record { kind = 10; align = 4; bytes = to_le_bytes w32 (length (b ∷ bs)) ++ b ∷ bs; entries = 0 })
+    if nat_lt (length (b ∷ bs)) (2 ^ 8)
+    then apart (record {
+      kind = 8;
+      align = 1;
+      bytes = to_le_bytes w8 (length (b ∷ bs)) ++ b ∷ bs;
+      entries = 0;
+    })
+    else if nat_lt (length (b ∷ bs)) (2 ^ 16)
+    then apart (record {
+      kind = 9;
+      align = 2;
+      bytes = to_le_bytes w16 (length (b ∷ bs)) ++ b ∷ bs;
+      entries = 0;
+    })
+    else apart (record {
+      kind = 10;
+      align = 4;
+      bytes = to_le_bytes w32 (length (b ∷ bs)) ++ b ∷ bs;
+      entries = 0;
+    })
 
 -- the number of the words with this one, and the words
 abbrev pub run_bytes : List ℕ → List ℕ
@@ -42,7 +61,8 @@ run_bytes ws = to_le_bytes w32 (suc (length ws)) ++ flat_map (to_le_bytes w32) w
 -- an array or an object of these words; an empty one is NULL
 abbrev pub run_cell : ℕ → List ℕ → Cell
 run_cell kind [] = in_place 0
-run_cell kind (w ∷ ws) = apart (record { kind = kind; align = 4; bytes = run_bytes (w ∷ ws); entries = length (w ∷ ws) })
+run_cell kind (w ∷ ws) =
+    apart (record { kind = kind; align = 4; bytes = run_bytes (w ∷ ws); entries = length (w ∷ ws) })
 
 -- the words of an object without the NULLs that stand last
 abbrev pub keep_word : ℕ → List ℕ → List ℕ
@@ -53,77 +73,58 @@ abbrev pub trimmed_words : List ℕ → List ℕ
 trimmed_words [] = []
 trimmed_words (w ∷ ws) = keep_word w (trimmed_words ws)
 
--- ---- what was written so far: the payload behind its first eight bytes, and the number of values with the root
+-- ---- what was written so far
 
+-- the payload behind its first eight bytes, and the number of values with the root
 pub record Layout : Type 0 where
   pub body : List ℕ
   pub values : ℕ
 
-abbrev pub start : Layout
-start = record { body = []; values = 1 }
+abbrev pub empty_layout : Layout
+empty_layout = record { body = []; values = 1 }
 
 -- the offset of the payload's end
-abbrev pub here : Layout → ℕ
-here out = 8 + length out.body
+abbrev pub end_offset : Layout → ℕ
+end_offset out = 8 + length out.body
 
 -- an item goes to the next offset that its alignment allows, with zeros before it
-abbrev pub placed : Item → Layout → ℕ × Layout
-placed i out = (
-  i.kind * 2 ^ 28 + (here out + gap i.align (here out)),
-  record { body = out.body ++ (replicate (gap i.align (here out)) 0 ++ i.bytes); values = out.values + i.entries },
+abbrev pub put_item : Item → Layout → ℕ × Layout
+put_item i out = (
+  i.kind * 2 ^ 28 + (end_offset out + gap i.align (end_offset out)),
+  record {
+    body = out.body ++ (replicate (gap i.align (end_offset out)) 0 ++ i.bytes);
+    values = out.values + i.entries;
+  },
 )
 
-abbrev pub stored : Cell → Layout → ℕ × Layout
-stored (in_place w) out = (w, out)
-stored (apart i) out = placed i out
+abbrev pub put_cell : Cell → Layout → ℕ × Layout
+put_cell (in_place w) out = (w, out)
+put_cell (apart i) out = put_item i out
 
 abbrev pub put_run : ℕ → List ℕ → Layout → ℕ × Layout
-put_run kind ws out = stored (run_cell kind ws) out
+put_run kind ws out = put_cell (run_cell kind ws) out
 
 -- a value's word, and what was written with it: its entries in order, then its run
 unfoldable mutual
   pub write : Plain → Layout → ℕ × Layout
   write null out = (0, out)
-  write (int n) out = stored (int_cell n) out
-  write (blob b) out = stored (blob_cell b) out
+  write (int n) out = put_cell (int_cell n) out
+  write (blob b) out = put_cell (blob_cell b) out
   write (arr vs) out = put_run ARRAY (write_all vs out).0 (write_all vs out).1
   write (obj vs) out = put_run OBJECT (trimmed_words (write_all vs out).0) (write_all vs out).1
 
   pub write_all : Plains → Layout → List ℕ × Layout
   write_all none out = ([], out)
-  write_all (more v vs) out = ((write v out).0 ∷ (write_all vs (write v out).1).0, (write_all vs (write v out).1).1)
+  write_all (more v vs) out =
+      ((write v out).0 ∷ (write_all vs (write v out).1).0, (write_all vs (write v out).1).1)
 
 -- the payload with this root: four bytes for the versions, the root's word, and what was written
-abbrev pub payload_of : ℕ → Layout → List ℕ
-payload_of root out = 0 ∷ 0 ∷ 0 ∷ 0 ∷ (to_le_bytes w32 root ++ out.body)
+abbrev pub payload_with_root : ℕ → Layout → List ℕ
+payload_with_root root out = 0 ∷ 0 ∷ 0 ∷ 0 ∷ (to_le_bytes w32 root ++ out.body)
 
 -- the payload of a value
 abbrev pub canonical : Plain → List ℕ
-canonical v = payload_of (write v start).0 (write v start).1
-
--- ---- its size, and the number of its values: the root, and every entry of the lists
-
-abbrev pub size_of : Plain → ℕ
-size_of v = length (canonical v)
-
-abbrev pub count : Plains → ℕ
-count none = 0
-count (more v vs) = suc (count vs)
-
-unfoldable mutual
-  pub entries_of : Plain → ℕ
-  entries_of null = 0
-  entries_of (int n) = 0
-  entries_of (blob b) = 0
-  entries_of (arr vs) = count vs + entries_of_all vs
-  entries_of (obj vs) = count vs + entries_of_all vs
-
-  pub entries_of_all : Plains → ℕ
-  entries_of_all none = 0
-  entries_of_all (more v vs) = entries_of v + entries_of_all vs
-
-abbrev pub value_count : Plain → ℕ
-value_count v = 1 + entries_of v
+canonical v = payload_with_root (write v empty_layout).0 (write v empty_layout).1
 
 -- ---- limits
 
@@ -134,36 +135,36 @@ abbrev pub MOST_VALUES : ℕ
 MOST_VALUES = 4194304
 
 -- the payload's bytes and its values
-abbrev pub Counts : Type 0
-Counts = ℕ × ℕ
+abbrev pub PayloadCounts : Type 0
+PayloadCounts = ℕ × ℕ
 
-abbrev pub counts_of : Layout → Counts
-counts_of out = (here out, out.values)
+abbrev pub layout_counts : Layout → PayloadCounts
+layout_counts out = (end_offset out, out.values)
 
-abbrev pub passes : Counts → Bool
+abbrev pub passes : PayloadCounts → Bool
 passes c = nat_lt MOST_BYTES c.0 || nat_lt MOST_VALUES c.1
 
 -- the counts behind each value, in the order of writing
 unfoldable mutual
-  pub trace : Plain → Layout → List Counts
+  pub trace : Plain → Layout → List PayloadCounts
   trace null out = []
-  trace (int n) out = counts_of (write (int n) out).1 ∷ []
-  trace (blob b) out = counts_of (write (blob b) out).1 ∷ []
-  trace (arr vs) out = trace_all vs out ++ counts_of (write (arr vs) out).1 ∷ []
-  trace (obj vs) out = trace_all vs out ++ counts_of (write (obj vs) out).1 ∷ []
+  trace (int n) out = layout_counts (write (int n) out).1 ∷ []
+  trace (blob b) out = layout_counts (write (blob b) out).1 ∷ []
+  trace (arr vs) out = trace_all vs out ++ layout_counts (write (arr vs) out).1 ∷ []
+  trace (obj vs) out = trace_all vs out ++ layout_counts (write (obj vs) out).1 ∷ []
 
-  pub trace_all : Plains → Layout → List Counts
+  pub trace_all : Plains → Layout → List PayloadCounts
   trace_all none out = []
   trace_all (more v vs) out = trace v out ++ trace_all vs (write v out).1
 
 -- the counts just behind the first value at which one passes its limit
-abbrev pub overflow_of : Plain → Option Counts
-overflow_of v = find passes (trace v start)
+abbrev pub overflow_of : Plain → Option PayloadCounts
+overflow_of v = find passes (trace v empty_layout)
 
-abbrev pub or_overflow : List ℕ → Option Counts → Result (List ℕ) Counts
+abbrev pub or_overflow : List ℕ → Option PayloadCounts → Result (List ℕ) PayloadCounts
 or_overflow payload None = Ok payload
 or_overflow payload (Some counts) = Err counts
 
 -- what a writer makes of a value: its canonical payload, or the counts at which it overflows
-unfoldable pub written_of : Plain → Result (List ℕ) Counts
+unfoldable pub written_of : Plain → Result (List ℕ) PayloadCounts
 written_of v = or_overflow (canonical v) (overflow_of v)

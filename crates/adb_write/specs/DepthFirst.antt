@@ -1,14 +1,16 @@
--- What a writer did between two moments, where it wrote values depth first: of each list its values in order, then the list.
+-- What a writer did between two moments, where it wrote values depth first: of each list its values
+-- in order, then the list.
 use Rattle.std.specs.Prelude.{◌≡◌, ℕ, List}
 use Rattle.adb_view.specs.Plain.{Plain, Plains, none, more}
 use Rattle.adb_write.specs.Writing.{Writing, calls, calls_all}
 
 -- it wrote this value, and the last call answered this word
-pub record Writes (before : Writing) (v : Plain) (word : ℕ) (later : Writing) : Type 0 where
+pub record WritesValue (before : Writing) (v : Plain) (word : ℕ) (later : Writing) : Type 0 where
   pub is : ◌≡◌ {A = ℕ × Writing} (word, later) (calls v before)
 
 -- it wrote these values, one after the other, and these are their words
-pub record WritesAll (before : Writing) (vs : Plains) (words : List ℕ) (later : Writing) : Type 0 where
+pub record WritesValues (before : Writing) (vs : Plains) (words : List ℕ)
+    (later : Writing) : Type 0 where
   pub is : ◌≡◌ {A = List ℕ × Writing} (words, later) (calls_all vs before)
 
 -- one value more, behind the others

@@ -29,6 +29,7 @@ abbrev pub item_of : Parts → Item
 item_of parts = record {
   kind = parts.kind;
   align = width_len parts.width;
-  bytes = take (width_len parts.width) (to_le_bytes w64 parts.number) ++ content_bytes parts.content;
+  bytes = take (width_len parts.width) (to_le_bytes w64 parts.number)
+      ++ content_bytes parts.content;
   entries = content_entries parts.content;
 }

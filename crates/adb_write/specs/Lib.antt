@@ -1,7 +1,10 @@
+-- what the contract of `apk` says
 pub mod Canonical
+pub mod File
+-- what only inner contracts and proofs use
+pub mod Size
 pub mod Writing
 pub mod DepthFirst
-pub mod Standing
-pub mod File
+pub mod StandsFor
 pub mod Items
-pub mod Kept
+pub mod WriterState

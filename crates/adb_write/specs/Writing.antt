@@ -2,43 +2,46 @@
 use Rattle.std.specs.Prelude.{ℕ, ◌<◌, Bool, List, [], ◌∷◌, length, Result, Ok, Err, if◌then◌else◌}
 use Rattle.adb_view.specs.Plain.{Plain, null, int, blob, arr, obj, Plains, none, more}
 use Rattle.adb_view.specs.Readers.{ARRAY, OBJECT}
-use Rattle.adb_write.specs.Canonical.{Cell, in_place, apart, int_cell, blob_cell, run_cell, trimmed_words, Layout, stored, Counts, counts_of, passes, payload_of}
+use Rattle.adb_write.specs.Canonical.{Cell, in_place, apart, int_cell, blob_cell, run_cell, trimmed_words, Layout, put_cell, PayloadCounts, layout_counts, passes, payload_with_root}
 
--- The payload behind its first eight bytes. The counts are those of what was written, or, once a value passed a limit, the ones just behind
--- that value.
+-- The payload behind its first eight bytes. The counts are those of what was written, or, once a
+-- value passed a limit, the ones just behind that value.
 pub record Writing : Type 0 where
   pub body : List ℕ
   pub bytes : ℕ
   pub values : ℕ
 
 -- the writer that has these parts
-abbrev pub made : List ℕ → ℕ → ℕ → Writing
-made body bytes values = record { body = body; bytes = bytes; values = values }
+abbrev pub writing_by : List ℕ → ℕ → ℕ → Writing
+writing_by body bytes values = record { body = body; bytes = bytes; values = values }
 
-abbrev pub empty : Writing
-empty = made [] 8 1
+abbrev pub empty_writing : Writing
+empty_writing = writing_by [] 8 1
 
-abbrev pub counts : Writing → Counts
-counts w = (w.bytes, w.values)
+abbrev pub writing_counts : Writing → PayloadCounts
+writing_counts w = (w.bytes, w.values)
 
 -- whether a limit was passed
 abbrev pub is_over : Writing → Bool
-is_over w = passes (counts w)
+is_over w = passes (writing_counts w)
 
-abbrev pub layout : Writing → Layout
-layout w = record { body = w.body; values = w.values }
+abbrev pub layout_of : Writing → Layout
+layout_of w = record { body = w.body; values = w.values }
 
-abbrev pub written_as : Layout → Writing
-written_as out = made out.body (counts_of out).0 (counts_of out).1
+abbrev pub writing_of : Layout → Writing
+writing_of out = writing_by out.body (layout_counts out).0 (layout_counts out).1
 
 -- past a limit the value is only counted
 abbrev pub unless_over : Writing → ℕ × Layout → ℕ × Writing
-unless_over w r = if passes (counts_of r.1) then (0, record (written_as r.1) { body = w.body }) else (r.0, written_as r.1)
+unless_over w r =
+    if passes (layout_counts r.1) then (0, record (writing_of r.1) { body = w.body })
+    else (r.0, writing_of r.1)
 
--- One call: the value's word, or NULL from the first value on that passes a limit. A value that its word holds whole adds nothing.
+-- One call: the value's word, or NULL from the first value on that passes a limit. A value that its
+-- word holds whole adds nothing.
 unfoldable pub call : Cell → Writing → ℕ × Writing
 call (in_place word) w = ((if is_over w then 0 else word), w)
-call (apart i) w = if is_over w then (0, w) else unless_over w (stored (apart i) (layout w))
+call (apart i) w = if is_over w then (0, w) else unless_over w (put_cell (apart i) (layout_of w))
 
 -- a call adds bytes between two moments, for which it wants memory
 abbrev pub Grows : Writing → Writing → Type 0
@@ -58,8 +61,9 @@ abbrev pub obj_call : List ℕ → Writing → ℕ × Writing
 obj_call ws w = call (run_cell OBJECT (trimmed_words ws)) w
 
 -- the payload with this root, or the counts of a writer that passed a limit
-abbrev pub finished : ℕ → Writing → Result (List ℕ) Counts
-finished root w = if is_over w then Err (counts w) else Ok (payload_of root (layout w))
+abbrev pub finish_result : ℕ → Writing → Result (List ℕ) PayloadCounts
+finish_result root w =
+    if is_over w then Err (writing_counts w) else Ok (payload_with_root root (layout_of w))
 
 -- the calls that are made depth first, each answer being used once
 unfoldable mutual
@@ -72,4 +76,5 @@ unfoldable mutual
 
   pub calls_all : Plains → Writing → List ℕ × Writing
   calls_all none w = ([], w)
-  calls_all (more v vs) w = ((calls v w).0 ∷ (calls_all vs (calls v w).1).0, (calls_all vs (calls v w).1).1)
+  calls_all (more v vs) w =
+      ((calls v w).0 ∷ (calls_all vs (calls v w).1).0, (calls_all vs (calls v w).1).1)

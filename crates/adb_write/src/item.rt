@@ -170,11 +170,13 @@ impl<'a> Parts<'a> {
         self.content.entries()
     }
 
-    /// Adds zeros up to an offset, and the item there. A refused growth leaves the bytes as they were.
+    /// Adds zeros up to an offset, and the item there. A refused growth leaves the bytes as they
+    /// were.
     pub(crate) fn append(&self, out: &mut Vec<u8>, at: usize) -> Result<(), AllocError>
         requires { length out.old.items ≤ at }
         ensures ok { OnOk result (out.new.items
-            ≡ out.old.items ++ (replicate (at - length out.old.items) 0 ++ (item_of self.now).bytes)) }
+            ≡ out.old.items
+            ++ (replicate (at - length out.old.items) 0 ++ (item_of self.now).bytes)) }
         ensures err { OnErr result (out.new.items ≡ out.old.items) }
     {
         let len = out.len();
@@ -189,7 +191,8 @@ impl<'a> Parts<'a> {
     fn try_append(&self, out: &mut Vec<u8>, at: usize) -> Result<(), AllocError>
         requires { length out.old.items ≤ at }
         ensures ok { OnOk result (out.new.items
-            ≡ out.old.items ++ (replicate (at - length out.old.items) 0 ++ (item_of self.now).bytes)) }
+            ≡ out.old.items
+            ++ (replicate (at - length out.old.items) 0 ++ (item_of self.now).bytes)) }
         ensures kept { take (length out.old.items) out.new.items ≡ out.old.items }
     {
         out.resize(at, 0)?;
@@ -203,7 +206,8 @@ impl<'a> Parts<'a> {
 
 /// Adds words, of four bytes each. A refused growth leaves those that were added before it.
 fn add_words(out: &mut Vec<u8>, words: &[Val]) -> Result<(), AllocError>
-    ensures ok { OnOk result (out.new.items ≡ out.old.items ++ flat_map (to_le_bytes w32) words.now) }
+    ensures ok { OnOk result
+        (out.new.items ≡ out.old.items ++ flat_map (to_le_bytes w32) words.now) }
     ensures kept { take (length out.old.items) out.new.items ≡ out.old.items }
 {
     for word in words {

@@ -5,45 +5,51 @@ ghost use Rattle.adb_view.specs.Head.{root_of};
 ghost use Rattle.adb_view.specs.Visits.{visits};
 ghost use Rattle.adb_block.specs.Container.{Spells};
 ghost use Rattle.adb_write.specs.File.{adb_piece, file_of};
-ghost use Rattle.adb_write.specs.Canonical.{canonical, size_of, value_count, passes, overflow_of, written_of, payload_of, MOST_BYTES};
-ghost use Rattle.adb_write.specs.Writing.{Writing, empty, is_over, layout, int_call, blob_call, arr_call, obj_call, finished};
-ghost use Rattle.adb_write.specs.DepthFirst.{Writes, WritesAll, push};
+ghost use Rattle.adb_write.specs.Canonical.{canonical, passes, overflow_of, written_of, payload_with_root, MOST_BYTES};
+ghost use Rattle.adb_write.specs.Size.{size_of, value_count};
+ghost use Rattle.adb_write.specs.Writing.{Writing, empty_writing, is_over, layout_of, int_call, blob_call, arr_call, obj_call, finish_result};
+ghost use Rattle.adb_write.specs.DepthFirst.{WritesValue, WritesValues, push};
 ghost use Rattle.adb_view.specs.Shaped.{HasShape};
-ghost use Rattle.adb_write.specs.Standing.{StandsFor, AllStandFor};
+ghost use Rattle.adb_write.specs.StandsFor.{StandsFor, AllStandFor};
 
 use adb_block::what_is_written_is_spelled;
 
 /// A canonical payload is read back: its value is the one that was written.
 pub fn a_canonical_payload_is_read_back()
     ensures { (shape : Shape) (v : Plain)
-        → IsNormal v → HasShape shape v → size_of v ≤ MOST_BYTES → value_of (canonical v) shape ≡ Some v }
+        → IsNormal v → HasShape shape v → size_of v ≤ MOST_BYTES
+        → value_of (canonical v) shape ≡ Some v }
 {}
 
-/// What a writer does between two moments is to write a value depth first: nothing for Null, the call of its kind for an
-/// integer or a blob, and for a list its values in order, each word being used once, then the call of the list's kind.
-/// An empty blob or list, and an object without a value, are Null.
+/// What a writer does between two moments is to write a value depth first: nothing for Null, the
+/// call of its kind for an integer or a blob, and for a list its values in order, each word being
+/// used once, then the call of the list's kind. An empty blob or list, and an object without a
+/// value, are Null.
 pub fn values_are_written_depth_first()
-    ensures null { (w : Writing) → Writes w null 0 w }
-    ensures int { (n : ℕ) (a : Writing) (x : ℕ) (b : Writing) → (x, b) ≡ int_call n a → Writes a (int n) x b }
+    ensures null { (w : Writing) → WritesValue w null 0 w }
+    ensures int { (n : ℕ) (a : Writing) (x : ℕ) (b : Writing) → (x, b) ≡ int_call n a
+        → WritesValue a (int n) x b }
     ensures blob { (bytes : List ℕ) (a : Writing) (x : ℕ) (b : Writing)
-        → (x, b) ≡ blob_call bytes a → Writes a (blob_value bytes) x b }
+        → (x, b) ≡ blob_call bytes a → WritesValue a (blob_value bytes) x b }
     ensures arr { (vs : Plains) (xs : List ℕ) (a b : Writing) (x : ℕ) (c : Writing)
-        → WritesAll a vs xs b → (x, c) ≡ arr_call xs b → Writes a (arr_value vs) x c }
+        → WritesValues a vs xs b → (x, c) ≡ arr_call xs b → WritesValue a (arr_value vs) x c }
     ensures obj { (vs : Plains) (xs : List ℕ) (a b : Writing) (x : ℕ) (c : Writing)
-        → WritesAll a vs xs b → (x, c) ≡ obj_call xs b → Writes a (obj_value vs) x c }
+        → WritesValues a vs xs b → (x, c) ≡ obj_call xs b → WritesValue a (obj_value vs) x c }
 
     // Values in order: from the first one on, or one more behind the others.
-    ensures none { (w : Writing) → WritesAll w none [] w }
+    ensures none { (w : Writing) → WritesValues w none [] w }
     ensures more { (v : Plain) (vs : Plains) (x : ℕ) (xs : List ℕ) (a b c : Writing)
-        → Writes a v x b → WritesAll b vs xs c → WritesAll a (more v vs) (x ∷ xs) c }
+        → WritesValue a v x b → WritesValues b vs xs c → WritesValues a (more v vs) (x ∷ xs) c }
     ensures push { (v : Plain) (vs : Plains) (x : ℕ) (xs : List ℕ) (a b c : Writing)
-        → WritesAll a vs xs b → Writes b v x c → WritesAll a (push vs v) (xs ++ x ∷ []) c }
+        → WritesValues a vs xs b → WritesValue b v x c
+        → WritesValues a (push vs v) (xs ++ x ∷ []) c }
 {}
 
-/// A writer that wrote one value depth first, and nothing else, ends with its canonical payload, or with the counts just
-/// behind the first value at which one passes its limit.
+/// A writer that wrote one value depth first, and nothing else, ends with its canonical payload, or
+/// with the counts just behind the first value at which one passes its limit.
 pub fn a_value_written_depth_first_is_canonical()
-    ensures { (v : Plain) (root : ℕ) (w : Writing) → Writes empty v root w → finished root w ≡ written_of v }
+    ensures { (v : Plain) (root : ℕ) (w : Writing) → WritesValue empty_writing v root w
+        → finish_result root w ≡ written_of v }
 {}
 
 /// In whatever order calls are made, a word that stands for a value goes on standing for it.
@@ -58,41 +64,46 @@ pub fn a_word_keeps_its_value()
         → StandsFor w v word → StandsFor (obj_call words w).1 v word }
 {}
 
-/// NULL stands for Null, and each answer for the value that was asked for: an integer, a blob, and an array or object
-/// of the values for which its words stand.
+/// NULL stands for Null, and each answer for the value that was asked for: an integer, a blob, and
+/// an array or object of the values for which its words stand.
 pub fn an_answer_stands_for_its_value()
     ensures null { (w : Writing) → StandsFor w null 0 }
-    ensures int { (n : ℕ) (w : Writing) → n < 2 ^ 64 → StandsFor (int_call n w).1 (int n) (int_call n w).0 }
+    ensures int { (n : ℕ) (w : Writing) → n < 2 ^ 64
+        → StandsFor (int_call n w).1 (int n) (int_call n w).0 }
     ensures blob { (bytes : List ℕ) (w : Writing)
         → StandsFor (blob_call bytes w).1 (blob_value bytes) (blob_call bytes w).0 }
     ensures arr { (vs : Plains) (words : List ℕ) (w : Writing)
-        → AllStandFor w vs words → StandsFor (arr_call words w).1 (arr_value vs) (arr_call words w).0 }
+        → AllStandFor w vs words
+        → StandsFor (arr_call words w).1 (arr_value vs) (arr_call words w).0 }
     ensures obj { (vs : Plains) (words : List ℕ) (w : Writing)
-        → AllStandFor w vs words → StandsFor (obj_call words w).1 (obj_value vs) (obj_call words w).0 }
+        → AllStandFor w vs words
+        → StandsFor (obj_call words w).1 (obj_value vs) (obj_call words w).0 }
 {}
 
-/// A word is read as the value for which it stands, in what a writer within its limits wrote, whatever the root will be.
+/// A word is read as the value for which it stands, in what a writer within its limits wrote,
+/// whatever the root will be.
 pub fn a_word_is_read_as_its_value()
     ensures { (shape : Shape) (v : Plain) (word : ℕ) (w : Writing)
         → StandsFor w v word → is_over w ≡ false → IsNormal v → HasShape shape v
-        → (root : ℕ) → plain_of (payload_of root (layout w)) shape word ≡ Some v }
+        → (root : ℕ) → plain_of (payload_with_root root (layout_of w)) shape word ≡ Some v }
 {}
 
 /// A finished payload is read back: its value is the one for which the root's word stands.
 pub fn a_finished_payload_is_read_back()
     ensures { (shape : Shape) (v : Plain) (root : ℕ) (w : Writing) (payload : List ℕ)
-        → finished root w ≡ Ok payload → StandsFor w v root → IsNormal v → HasShape shape v
+        → finish_result root w ≡ Ok payload → StandsFor w v root → IsNormal v → HasShape shape v
         → value_of payload shape ≡ Some v }
 {}
 
-/// A normal value overflows exactly where its canonical payload has more bytes than a payload may have, or the value
-/// has more values.
+/// A normal value overflows exactly where its canonical payload has more bytes than a payload may
+/// have, or the value has more values.
 pub fn a_value_overflows_exactly_past_a_limit()
-    ensures { (v : Plain) → IsNormal v → is_some (overflow_of v) ≡ passes (size_of v, value_count v) }
+    ensures { (v : Plain) → IsNormal v
+        → is_some (overflow_of v) ≡ passes (size_of v, value_count v) }
 {}
 
-/// A walk over a canonical payload visits as many words as the value has values. So what is written within the limits
-/// is never too large to be read.
+/// A walk over a canonical payload visits as many words as the value has values. So what is written
+/// within the limits is never too large to be read.
 pub fn a_canonical_payload_is_visited_once()
     ensures { (shape : Shape) (v : Plain) → IsNormal v → HasShape shape v → size_of v ≤ MOST_BYTES
         → length (visits (canonical v) shape (root_of (canonical v))) ≡ value_count v }
@@ -100,7 +111,8 @@ pub fn a_canonical_payload_is_visited_once()
 
 /// The file of a payload is spelled by its schema and one block, which holds the payload.
 pub fn a_file_is_spelled()
-    ensures { (schema : ℕ) (payload : List ℕ) → schema < 2 ^ 32 → 8 ≤ length payload → length payload ≤ MOST_BYTES
+    ensures { (schema : ℕ) (payload : List ℕ) → schema < 2 ^ 32 → 8 ≤ length payload
+        → length payload ≤ MOST_BYTES
         → Spells (file_of schema payload) schema (adb_piece payload ∷ []) }
 {
     what_is_written_is_spelled();

@@ -1,55 +1,107 @@
-ghost use Rattle.std.specs.Prelude.{◌≡◌, ◌<◌, ◌≤◌, ◌+◌, ◌^◌, IfOk, OnErr};
-ghost use Rattle.adb_view.specs.Plain.{Plains, int, blob_value, arr_value, obj_value};
-ghost use Rattle.adb_write.specs.DepthFirst.{Writes, WritesAll};
-ghost use Rattle.adb_write.specs.Canonical.{gap, in_place, apart, run_cell, trimmed_words};
-ghost use Rattle.adb_write.specs.Writing.{Writing, Grows, empty, call, int_call, blob_call, arr_call, obj_call, finished};
-ghost use Rattle.adb_write.specs.Items.{item_of};
-ghost use Rattle.adb_write.specs.Kept.{IsFinished};
+//! The writer of a payload with its limits and its refusals, and the file around a payload.
 
-use crate::counts::Counts;
-use crate::fault::WriteFault;
+ghost use Rattle.std.specs.Prelude.{◌≡◌, ◌<◌, ◌≤◌, ◌+◌, ◌^◌, IfOk, OnErr, length};
+ghost use Rattle.adb_write.specs.Canonical.{passes, gap, in_place, apart, run_cell, trimmed_words};
+ghost use Rattle.adb_view.specs.Plain.{Plains, int, blob_value, arr_value, obj_value};
+ghost use Rattle.adb_write.specs.DepthFirst.{WritesValue, WritesValues};
+ghost use Rattle.adb_write.specs.Writing.{Writing, Grows, empty_writing, call, int_call, blob_call, arr_call, obj_call, finish_result};
+ghost use Rattle.adb_write.specs.Items.{item_of};
+ghost use Rattle.adb_write.specs.WriterState.{IsFinished};
+ghost use Rattle.adb_write.specs.File.{file_of};
+
 use crate::item::{Parts, kind};
+use adb_block::{BlockKind, block_head, padding_of};
 use adb_view::Val;
 use std::alloc::{AllocError, Global};
+use std::fmt;
 use std::marker::Model;
+use thiserror::Error;
+
+/// Why a writer gave no payload.
+#[derive(Clone, Copy, Debug, PartialEq, Eq, Error)]
+pub enum WriteFault {
+    /// The payload would be longer than 268,435,455 bytes or have more than 4,194,304 values. The
+    /// counts are those just behind the first value at which one of them passed its limit: the
+    /// payload's bytes, and its values with the root.
+    #[error("a payload of {bytes} bytes and {values} values is too large")]
+    TooLarge { bytes: u64, values: u64 },
+
+    /// A growth of memory was refused.
+    #[error("out of memory")]
+    Memory,
+}
+
+impl From<AllocError> for WriteFault {
+    ghost use Rattle.std.specs.Prelude.{◌≡◌};
+    ghost use Rattle.adb_write.specs.declared.writer.WriteFault.TheVariants.{Memory};
+
+    ghost from_gives = { λ _ fault. fault ≡ Memory };
+
+    fn from(_: AllocError) -> WriteFault {
+        WriteFault::Memory
+    }
+}
+
+/// The most bytes of a payload that is written.
+const MOST_BYTES: u64 = 268_435_455;
+
+/// The most values of a payload that is written, with its root.
+const MOST_VALUES: u64 = 4_194_304;
+
+/// The bytes of a payload, and its values with the root.
+#[derive(Clone, Copy)]
+struct PayloadCounts {
+    pub bytes: u64,
+    pub values: u64,
+}
+
+impl PayloadCounts {
+    /// Whether one of them passes its limit.
+    fn passes(self) -> bool
+        ensures { result ≡ passes (self.bytes, self.values) }
+    {
+        self.bytes > MOST_BYTES || self.values > MOST_VALUES
+    }
+}
 
 /// How long a payload's head is: the versions, and the root's word.
 const HEAD: u64 = 8;
 
-/// Writes the values of one payload. A value's entries are written before it, and each call answers the value's word. A
-/// call whose growth of memory is refused leaves the writer as it was; one that adds no bytes is never refused.
+/// Writes the values of one payload. A value's entries are written before it, and each call answers
+/// the value's word. A call whose growth of memory is refused leaves the writer as it was; one that
+/// adds no bytes is never refused.
 ///
-/// A payload has at most 268,435,455 bytes and 4,194,304 values, its root and the entries of its lists. The first value
-/// that brings a count above its limit is counted, but not written, and its answer is NULL; every later call changes
-/// nothing and answers NULL, and `finish` tells the two counts. Contracts see what was written and the counts: `Writing`
-/// of `specs/`.
+/// A payload has at most 268,435,455 bytes and 4,194,304 values, its root and the entries of its
+/// lists. The first value that brings a count above its limit is counted, but not written, and its
+/// answer is NULL; every later call changes nothing and answers NULL, and `finish` reports the two
+/// counts. Contracts see what was written and the counts: `Writing` of `specs/`.
 #[derive(Drop)]
 pub struct Writer {
     // Nothing, or the head with zeros in it and what was written behind it.
     payload: Vec<u8>,
-    counts: Counts,
+    counts: PayloadCounts,
 }
 
 impl Model for Writer {
     ghost use Rattle.std.specs.Prelude.{drop};
-    ghost use Rattle.adb_write.specs.Writing.{Writing, made};
-    ghost use Rattle.adb_write.specs.Kept.{IsKept};
+    ghost use Rattle.adb_write.specs.Writing.{Writing, writing_by};
+    ghost use Rattle.adb_write.specs.WriterState.{IsWriterState};
 
     ghost Value = { Writing };
 
-    ghost view = { λ w. made (drop 8 w.payload.items) w.counts.bytes w.counts.values };
+    ghost view = { λ w. writing_by (drop 8 w.payload.items) w.counts.bytes w.counts.values };
 
-    ghost invariant = { λ w. IsKept w.payload.items w.counts.bytes w.counts.values };
+    ghost invariant = { λ w. IsWriterState w.payload.items w.counts.bytes w.counts.values };
 }
 
 impl Writer {
     /// A writer that wrote nothing.
     pub fn new(alloc: Global) -> Writer
-        ensures { result ≡ empty }
+        ensures { result ≡ empty_writing }
     {
         Writer {
             payload: Vec::new(alloc),
-            counts: Counts {
+            counts: PayloadCounts {
                 bytes: HEAD,
                 values: 1,
             },
@@ -59,7 +111,7 @@ impl Writer {
     /// Writes an integer: in its word below 2^28, in 32 bits below 2^32, else in 64.
     pub fn int(&mut self, n: u64) -> Result<Val, AllocError>
         ensures ok { IfOk result (λ word. (word, self.new) ≡ int_call n self.old) }
-        ensures written { IfOk result (λ word. Writes self.old (int n) word self.new) }
+        ensures written { IfOk result (λ word. WritesValue self.old (int n) word self.new) }
         ensures err { OnErr result (self.new ≡ self.old) }
         ensures wants { OnErr result (Grows self.old (int_call n self.old).1) }
     {
@@ -69,11 +121,13 @@ impl Writer {
         self.add(&Parts::int(n))
     }
 
-    /// Writes a blob, with its length in one byte below 256 bytes, in two below 65,536, else in four. An empty one is NULL.
+    /// Writes a blob, with its length in one byte below 256 bytes, in two below 65,536, else in
+    /// four. An empty one is NULL.
     #[tactic(auto, using(crate::proofs::WriterSteps::blob_null))]
     pub fn blob(&mut self, bytes: &[u8]) -> Result<Val, AllocError>
         ensures ok { IfOk result (λ word. (word, self.new) ≡ blob_call bytes.now self.old) }
-        ensures written { IfOk result (λ word. Writes self.old (blob_value bytes.now) word self.new) }
+        ensures written { IfOk result
+            (λ word. WritesValue self.old (blob_value bytes.now) word self.new) }
         ensures err { OnErr result (self.new ≡ self.old) }
         ensures wants { OnErr result (Grows self.old (blob_call bytes.now self.old).1) }
     {
@@ -87,29 +141,32 @@ impl Writer {
     pub fn arr(&mut self, entries: &[Val]) -> Result<Val, AllocError>
         ensures ok { IfOk result (λ word. (word, self.new) ≡ arr_call entries.now self.old) }
         ensures written { IfOk result (λ word. (vs : Plains) (before : Writing)
-            → WritesAll before vs entries.now self.old → Writes before (arr_value vs) word self.new) }
+            → WritesValues before vs entries.now self.old
+            → WritesValue before (arr_value vs) word self.new) }
         ensures err { OnErr result (self.new ≡ self.old) }
         ensures wants { OnErr result (Grows self.old (arr_call entries.now self.old).1) }
     {
         self.run(kind::ARRAY, entries)
     }
 
-    /// Writes an object of values of this writer, or NULLs, one for each field from the first on. NULLs that stand last
-    /// are dropped, and an object without a value is NULL.
+    /// Writes an object of values of this writer, or NULLs, one for each field from the first on.
+    /// NULLs that stand last are dropped, and an object without a value is NULL.
     pub fn obj(&mut self, fields: &[Val]) -> Result<Val, AllocError>
         ensures ok { IfOk result (λ word. (word, self.new) ≡ obj_call fields.now self.old) }
         ensures written { IfOk result (λ word. (vs : Plains) (before : Writing)
-            → WritesAll before vs fields.now self.old → Writes before (obj_value vs) word self.new) }
+            → WritesValues before vs fields.now self.old
+            → WritesValue before (obj_value vs) word self.new) }
         ensures err { OnErr result (self.new ≡ self.old) }
         ensures wants { OnErr result (Grows self.old (obj_call fields.now self.old).1) }
     {
         self.run(kind::OBJECT, trimmed(fields))
     }
 
-    /// The payload with this root, a value of this writer or NULL; the counts of a writer that passed a limit, exactly
-    /// where one is above its limit. Want of memory is answered only where nothing was written before.
+    /// The payload with this root, a value of this writer or NULL; the counts of a writer that
+    /// passed a limit, exactly where one is above its limit. Want of memory is answered only where
+    /// nothing was written before.
     pub fn finish(self, root: Val) -> Result<Vec<u8>, WriteFault>
-        ensures { IsFinished (λ payload. payload.items) self result (finished root self) }
+        ensures { IsFinished (λ payload. payload.items) self result (finish_result root self) }
     {
         if self.counts.passes() {
             return Err(WriteFault::TooLarge {
@@ -118,8 +175,8 @@ impl Writer {
             });
         }
         let mut payload = self.payload;
-        if payload.is_empty() && payload.resize(HEAD as usize, 0).is_err() {
-            return Err(WriteFault::Memory);
+        if payload.is_empty() {
+            payload.resize(HEAD as usize, 0)?;
         }
         payload[4..8].copy_from_slice(&root.word().to_le_bytes());
         Ok(payload)
@@ -129,7 +186,8 @@ impl Writer {
     #[tactic(auto, using(crate::proofs::WriterSteps::run_null))]
     fn run(&mut self, kind: u32, words: &[Val]) -> Result<Val, AllocError>
         requires { kind < 15 }
-        ensures ok { IfOk result (λ word. (word, self.new) ≡ call (run_cell kind words.now) self.old) }
+        ensures ok { IfOk result
+            (λ word. (word, self.new) ≡ call (run_cell kind words.now) self.old) }
         ensures err { OnErr result (self.new ≡ self.old) }
         ensures wants { OnErr result (Grows self.old (call (run_cell kind words.now) self.old).1) }
     {
@@ -153,16 +211,18 @@ impl Writer {
     /// Adds an item: its word, or NULL from the first value on that passes a limit.
     fn add(&mut self, parts: &Parts<'_>) -> Result<Val, AllocError>
         requires { parts.now.kind < 15 }
-        ensures ok { IfOk result (λ word. (word, self.new) ≡ call (apart (item_of parts.now)) self.old) }
+        ensures ok { IfOk result
+            (λ word. (word, self.new) ≡ call (apart (item_of parts.now)) self.old) }
         ensures err { OnErr result (self.new ≡ self.old) }
-        ensures wants { OnErr result (Grows self.old (call (apart (item_of parts.now)) self.old).1) }
+        ensures wants { OnErr result
+            (Grows self.old (call (apart (item_of parts.now)) self.old).1) }
     {
         let before = self.counts;
         if before.passes() {
             return Ok(Val::of(0));
         }
         let at = before.bytes + gap(parts.width.len() as u64, before.bytes);
-        let counts = Counts {
+        let counts = PayloadCounts {
             bytes: at + parts.len(),
             values: before.values + parts.entries(),
         };
@@ -195,4 +255,26 @@ fn trimmed(fields: &[Val]) -> &[Val]
         len -= 1;
     }
     &fields[..len]
+}
+
+/// How long a file's header is: `ADB.` and the schema.
+const FILE_HEADER: usize = 8;
+
+/// The container of this schema with one block, which holds the payload, and no signatures
+/// (apk-v3(5)). Its padding is zeros.
+pub fn file_of(alloc: Global, schema: u32, payload: &[u8]) -> Result<Vec<u8>, AllocError>
+    requires { length payload.now ≤ 268435455 }
+    ensures { IfOk result (λ file. file.items ≡ file_of schema payload.now) }
+{
+    let head = block_head(BlockKind::Adb, payload.len() as u64);
+    let head = head.bytes();
+    let end = FILE_HEADER + head.len() + payload.len();
+    let len = end + padding_of(head.len() + payload.len());
+    let mut file = Vec::with_capacity(alloc, len)?;
+    file.extend_from_slice(b"ADB.")?;
+    file.extend_from_slice(&schema.to_le_bytes())?;
+    file.extend_from_slice(head)?;
+    file.extend_from_slice(payload)?;
+    file.resize(len, 0)?;
+    Ok(file)
 }

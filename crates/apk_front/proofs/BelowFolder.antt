@@ -6,13 +6,15 @@ use Rattle.std.proofs.lemmas.Bool.{and_parts, and_from, eqb-true, eq-eqb}
 use Rattle.base_core.specs.Files.{IsFolderOf}
 use Rattle.base_core.specs.Listed.{IsListOf, IsNamesOf}
 use Rattle.base_core.specs.Tree.{TreeState, bytes_at, files_of}
-use Rattle.make_core.specs.Information.{Item, information}
-use Rattle.make_core.specs.Making.{AreBelow, IsMadeIn, made_package, or_info_bad, package_of}
-use Rattle.make_core.specs.Sources.{Reads, after, folders_below, given, scripts_from}
-use Rattle.make_core.specs.declared.fault.MakeFault.{MakeFault}
+use Rattle.make_info.specs.Information.{InfoItem, information}
+use Rattle.make_package.specs.Answers.{AreBelow, IsMadeIn}
+use Rattle.make_package.specs.Making.{made_package, or_info_bad, package_of_parts}
+use Rattle.make_package.specs.Sources.{unless_refused, folders_below, values_of, scripts_from}
+use Rattle.make_info.specs.Reads.{Reads}
+use Rattle.make_info.specs.declared.fault.MakeFault.{MakeFault}
 use Rattle.outcome.specs.Make.{IsBelow, below}
-use Rattle.words_core.specs.Command.{CommandLine, without_dot}
-use Rattle.words_core.specs.declared.values.OptionValue.{OptionValue}
+use Rattle.command_core.specs.Command.{CommandLine, without_dot}
+use Rattle.command_core.specs.declared.values.OptionValue.{OptionValue}
 use Rattle.apk_front.specs.Shown.{IsPackage}
 
 -- ---- a name below a folder begins with it and a slash
@@ -64,17 +66,17 @@ listed_below folder v names listed = record {
 
 -- ---- what is made of them
 
-no_folder : (command : CommandLine) (read : Reads) (names others : List (List ℕ)) → given 70 command.values ≡ [] → made_package command names read ≡ made_package command others read
+no_folder : (command : CommandLine) (read : Reads) (names others : List (List ℕ)) → values_of 70 command.values ≡ [] → made_package command names read ≡ made_package command others read
 unfolding made_package
 no_folder command read names others none =
     let by : List OptionValue → List (List ℕ) → Result (List ℕ) MakeFault = λ values ns.
-    after (scripts_from read 0 (given 115 command.values)) (λ scripts. after (or_info_bad (information command)) (λ about. after (folders_below read (length scripts) values ns) (package_of command scripts about))) in
+    unless_refused (scripts_from read 0 (values_of 115 command.values)) (λ scripts. unless_refused (or_info_bad (information command)) (λ about. unless_refused (folders_below read (length scripts) values ns) (package_of_parts command scripts about))) in
     ap (λ values. by values names) none ∙ sym (ap (λ values. by values others) none)
 
 pub package_here : (command : CommandLine) (v : TreeState) (made : Result (List ℕ) MakeFault) → IsMadeIn command v made → IsPackage command (files_of v) made
-package_here command v made m = by_values (given 70 command.values) refl m.below
+package_here command v made m = by_values (values_of 70 command.values) refl m.below
   where
-    by_values : (values : List OptionValue) → given 70 command.values ≡ values → AreBelow values v m.names → IsPackage command (files_of v) made
+    by_values : (values : List OptionValue) → values_of 70 command.values ≡ values → AreBelow values v m.names → IsPackage command (files_of v) made
     by_values [] is listed = record {
       names = [];
       below = subst (λ (vs : List OptionValue). IsBelow vs (files_of v) []) (sym is) refl;
@@ -88,17 +90,17 @@ package_here command v made m = by_values (given 70 command.values) refl m.below
 
 -- ---- what was made says that the information is allowed
 
-after_ok : {A B : Type 0} (r : Result A MakeFault) (next : A → Result B MakeFault) (y : B) → after r next ≡ Ok y → (x : A) × (r ≡ Ok x) × (next x ≡ Ok y)
+after_ok : {A B : Type 0} (r : Result A MakeFault) (next : A → Result B MakeFault) (y : B) → unless_refused r next ≡ Ok y → (x : A) × (r ≡ Ok x) × (next x ≡ Ok y)
 after_ok (Ok x) next y h = (x, refl, h)
 after_ok (Err why) next y h = cc
 
-info_ok : (r : Result (List Item) ℕ) (about : List Item) → or_info_bad r ≡ Ok about → is_ok r ≡ true
+info_ok : (r : Result (List InfoItem) ℕ) (about : List InfoItem) → or_info_bad r ≡ Ok about → is_ok r ≡ true
 info_ok (Ok info) about h = refl
 info_ok (Err place) about h = cc
 
 pub made_allowed : (command : CommandLine) (names : List (List ℕ)) (read : Reads) (file : List ℕ) → made_package command names read ≡ Ok file → is_ok (information command) ≡ true
 unfolding made_package
 made_allowed command names read file h =
-    let (scripts, one, more) = after_ok (scripts_from read 0 (given 115 command.values)) (λ scripts. after (or_info_bad (information command)) (λ about. after (folders_below read (length scripts) (given 70 command.values) names) (package_of command scripts about))) file h in
-    let (about, two, last) = after_ok (or_info_bad (information command)) (λ about. after (folders_below read (length scripts) (given 70 command.values) names) (package_of command scripts about)) file more in
+    let (scripts, one, more) = after_ok (scripts_from read 0 (values_of 115 command.values)) (λ scripts. unless_refused (or_info_bad (information command)) (λ about. unless_refused (folders_below read (length scripts) (values_of 70 command.values) names) (package_of_parts command scripts about))) file h in
+    let (about, two, last) = after_ok (or_info_bad (information command)) (λ about. unless_refused (folders_below read (length scripts) (values_of 70 command.values) names) (package_of_parts command scripts about)) file more in
     info_ok (information command) about two

@@ -11,9 +11,9 @@ use Rattle.base_core.specs.declared.tree.TreeFault.{TreeFault}
 use Rattle.base_core.specs.declared.tree.TreeFault.TheVariants.{Disk, Memory as NoMemory}
 use Rattle.journal_core.specs.Recovery.{IsSettled, RestsOn}
 use Rattle.journal_core.specs.Replacing.{IsReplacing}
-use Rattle.make_core.specs.Output.{output_name}
-use Rattle.make_core.specs.Sound.{AreNamesFor}
-use Rattle.make_core.specs.Sources.{Reads, given}
+use Rattle.make_info.specs.Output.{output_name}
+use Rattle.make_package.specs.Sources.{AreNamesFor, values_of}
+use Rattle.make_info.specs.Reads.{Reads}
 use Rattle.outcome.specs.Dump.{adbdump_by, dump_found, dump_told, dumped}
 use Rattle.outcome.specs.Make.{mkndx_by, mkpkg_by}
 use Rattle.outcome.specs.Outcome.{IsFoundOutcomeOf, IsGivenBySome, IsGivenTo, IsOutcome, IsOutcomeOf, run_applet, run_by, run_of}
@@ -23,14 +23,14 @@ use Rattle.outcome.specs.Verify.{verify_refusal, verified_lines}
 use Rattle.outcome.specs.Version.{compared, invalid_lines, version_refusal}
 use Rattle.report_core.specs.declared.refusal.Refusal.{Refusal}
 use Rattle.report_core.specs.declared.refusal.Refusal.TheVariants.{Usage}
-use Rattle.words_core.specs.Command.{CommandLine, without_dot}
+use Rattle.command_core.specs.Command.{CommandLine, without_dot}
 use Rattle.words_core.specs.Faults.{IsWordsFault}
 use Rattle.words_core.specs.Grammar.{command_of}
 use Rattle.words_core.specs.declared.read.WordsFault.{WordsFault}
 use Rattle.words_core.specs.declared.read.WordsFault.TheVariants.{Usage as WrongWord}
-use Rattle.words_core.specs.declared.applet.Applet.{Applet}
-use Rattle.words_core.specs.declared.applet.Applet.TheVariants.{Adbdump, Mkndx, Mkpkg, Verify, Version}
-use Rattle.words_core.specs.declared.operands.Operand.{Operand}
+use Rattle.command_core.specs.declared.command.Applet.{Applet}
+use Rattle.command_core.specs.declared.command.Applet.TheVariants.{Adbdump, Mkndx, Mkpkg, Verify, Version}
+use Rattle.command_core.specs.declared.operands.Operand.{Operand}
 use Rattle.apk_front.specs.Answers.{answer_by}
 use Rattle.apk_front.specs.Moments.{HasRoomFor, HidesScratchOf, IsCarriedOut, IsLeftUndone, IsRun}
 use Rattle.apk_front.specs.Shown.{IsIndexOutcome, IsPackageOutcome, IsShown, Tells, TellsOne, shown}
@@ -123,7 +123,7 @@ pub index_found_one : (command : CommandLine) (old : History) (judged : Judged) 
     → IfOk judged (λ verdict. IfObservable old (λ v. TellsOne (Ones command v) verdict))
 index_found_one command old judged same found = tells_among (λ v. IsIndexOutcome command (files_of v)) (Ones command) old judged (λ v o one. index_one command (files_of v) o same one) found
 
-pub package_read_one : (command : CommandLine) (judged : Judged) → Mkpkg ≡ command.applet → IfOk judged (λ verdict. (names : List (List ℕ)) × AreNamesFor (given 70 command.values) names × (read : Reads) × Tells verdict (mkpkg_by no_names read command names))
+pub package_read_one : (command : CommandLine) (judged : Judged) → Mkpkg ≡ command.applet → IfOk judged (λ verdict. (names : List (List ℕ)) × AreNamesFor (values_of 70 command.values) names × (read : Reads) × Tells verdict (mkpkg_by no_names read command names))
     → IfOk judged (TellsOne (IsFoundOutcomeOf (Ok command)))
 package_read_one command (Err e) same found = tt
 package_read_one command (Ok verdict) same (names, named, read, tells) =

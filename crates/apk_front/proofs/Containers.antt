@@ -7,22 +7,23 @@ use Rattle.base_core.specs.Calls.{IfObservable}
 use Rattle.base_core.specs.Files.{Files, no_names}
 use Rattle.base_core.specs.Listed.{IsNamesOf}
 use Rattle.base_core.specs.Tree.{TreeState, files_of}
-use Rattle.make_core.specs.Information.{information}
-use Rattle.make_core.specs.IndexCommand.{made_index}
-use Rattle.make_core.specs.IndexKept.{IsMadeBy}
-use Rattle.make_core.specs.IndexTold.{told_reads}
-use Rattle.make_core.specs.Making.{IsMadeBySome, IsMadeIn, OnRefusal, made_package}
-use Rattle.make_core.specs.Output.{output_name}
-use Rattle.make_core.specs.Sound.{AreFiles, AreNamesFor}
-use Rattle.make_core.specs.Sources.{Reads, given}
-use Rattle.make_core.specs.declared.fault.MakeFault.{MakeFault}
-use Rattle.make_core.specs.declared.fault.MakeFault.TheVariants as Faults
+use Rattle.make_info.specs.Information.{information}
+use Rattle.make_index.specs.Index.{made_index}
+use Rattle.make_index.specs.Kept.{IsMadeBy}
+use Rattle.make_info.specs.Reads.{reads_of, Reads}
+use Rattle.make_package.specs.Answers.{IsMadeBySome, IsMadeIn, OnRefusal}
+use Rattle.make_package.specs.Making.{made_package}
+use Rattle.make_info.specs.Output.{output_name}
+use Rattle.make_index.specs.Files.{AreFiles}
+use Rattle.make_package.specs.Sources.{AreNamesFor, values_of}
+use Rattle.make_info.specs.declared.fault.MakeFault.{MakeFault}
+use Rattle.make_info.specs.declared.fault.MakeFault.TheVariants as Faults
 use Rattle.outcome.specs.Make.{IsBelow, below, index_line, made, mkndx_by, mkpkg_by, unless_reserved}
 use Rattle.outcome.specs.Told.{Outcome, refused}
 use Rattle.report_core.specs.declared.refusal.Refusal.{Refusal}
 use Rattle.report_core.specs.declared.refusal.Refusal.TheVariants.{ResultTooLarge}
-use Rattle.words_core.specs.Command.{CommandLine, without_dot}
-use Rattle.words_core.specs.declared.values.OptionValue.{OptionValue}
+use Rattle.command_core.specs.Command.{CommandLine, without_dot}
+use Rattle.command_core.specs.declared.values.OptionValue.{OptionValue}
 use Rattle.apk_front.specs.Moments.{HasRoomFor, IsRun}
 use Rattle.apk_front.specs.Shown.{IsIndex, IsIndexFound, IsIndexOutcome, IsPackage, IsPackageFound, IsPackageOutcome, OnMade, Tells, TellsOne, is_cut, is_cut_off, made_in, shown}
 use Rattle.apk_front.specs.declared.verdict.Verdict.{Verdict}
@@ -88,10 +89,10 @@ made_means (Err (Faults.TooLarge bytes values)) answer h = λ cut. h
 made_means (Err Faults.Disk) answer h = λ cut. cc
 made_means (Err Faults.Memory) answer h = λ cut. cc
 
-pub index_told : (command : CommandLine) (container : Container) (old : History) → IfObservable old (λ v. IsMadeBy (λ (file : Vec ℕ Global). file.items) container (made_index command (told_reads v))) → IfObservable old (λ v. OnMade container (IsIndex command (files_of v)))
+pub index_told : (command : CommandLine) (container : Container) (old : History) → IfObservable old (λ v. IsMadeBy (λ (file : Vec ℕ Global). file.items) container (made_index command (reads_of v))) → IfObservable old (λ v. OnMade container (IsIndex command (files_of v)))
 index_told command container old told =
-    on_told_map old (λ v. IsMadeBy (λ (file : Vec ℕ Global). file.items) container (made_index command (told_reads v))) (λ v. OnMade container (IsIndex command (files_of v)))
-    (λ v m. made_means container (made_index command (told_reads v)) m) told
+    on_told_map old (λ v. IsMadeBy (λ (file : Vec ℕ Global). file.items) container (made_index command (reads_of v))) (λ v. OnMade container (IsIndex command (files_of v)))
+    (λ v m. made_means container (made_index command (reads_of v)) m) told
 
 pub index_found : (command : CommandLine) (container : Container) → (read : Reads) × AreFiles read 0 command.operands × IsMadeBy (λ (file : Vec ℕ Global). file.items) container (made_index command read) → OnMade container (IsIndexFound command)
 index_found command container (read, files, m) =
@@ -199,13 +200,13 @@ package_outcomes one command report none = record {
   only = λ v answer m o (names, listed, is).
       is
       ∙ ap (λ r. made (files_of v) (output_name command) r (made_package command names (λ n name. files_of v name))) (sym none)
-      ∙ ap (λ ns. made (files_of v) (output_name command) report (made_package command ns (λ n name. files_of v name))) (one_below one (given 70 command.values) (files_of v) names m.names listed m.below)
+      ∙ ap (λ ns. made (files_of v) (output_name command) report (made_package command ns (λ n name. files_of v name))) (one_below one (values_of 70 command.values) (files_of v) names m.names listed m.below)
       ∙ ap (made (files_of v) (output_name command) report) m.is;
 }
 
 pub package_read : (command : CommandLine) (report : List ℕ) (container : Container) (judged : Judged) → report ≡ [] → OnMade container (IsPackageFound command) → IfOk judged (λ verdict. is_cut_off container ≡ false)
     → IfOk judged (λ verdict. (files : Files) → Tells verdict (made files (output_name command) report (made_in container)))
-    → IfOk judged (λ verdict. (names : List (List ℕ)) × AreNamesFor (given 70 command.values) names × (read : Reads) × Tells verdict (mkpkg_by no_names read command names))
+    → IfOk judged (λ verdict. (names : List (List ℕ)) × AreNamesFor (values_of 70 command.values) names × (read : Reads) × Tells verdict (mkpkg_by no_names read command names))
 package_read command report container (Err e) none found whole tells = tt
 package_read command report container (Ok verdict) none found whole tells =
     let m = meant container (IsPackageFound command) whole found in

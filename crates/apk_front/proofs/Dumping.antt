@@ -28,11 +28,11 @@ use Rattle.outcome.specs.Told.{refused, reported}
 use Rattle.pkg_core.specs.Whole.{root_of_schema}
 use Rattle.report_core.specs.declared.refusal.Refusal.TheVariants.{FileMissing, FileBad}
 use Rattle.words_core.specs.Applets.{row_of}
-use Rattle.words_core.specs.Command.{CommandLine, IsCommand, are_files, are_values, is_plain, is_sound, is_sound_line, is_version, without_dot}
-use Rattle.words_core.specs.declared.applet.Applet.{Applet}
-use Rattle.words_core.specs.declared.applet.Applet.TheVariants.{Adbdump, Verify, Version}
-use Rattle.words_core.specs.declared.flags.Flags.{Flags}
-use Rattle.words_core.specs.declared.operands.Operand.{Operand}
+use Rattle.command_core.specs.Command.{CommandLine, IsCommand, are_files, are_values, is_plain, is_sound, is_sound_line, is_version, without_dot}
+use Rattle.command_core.specs.declared.command.Applet.{Applet}
+use Rattle.command_core.specs.declared.command.Applet.TheVariants.{Adbdump, Verify, Version}
+use Rattle.command_core.specs.declared.command.Flags.{Flags}
+use Rattle.command_core.specs.declared.operands.Operand.{Operand}
 use Rattle.apk_front.specs.Shown.{IsDumpFault, IsShapedFirst, first_refused, shown}
 use Rattle.apk_front.specs.declared.verdict.Verdict.{Verdict}
 

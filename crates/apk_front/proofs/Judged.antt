@@ -8,15 +8,15 @@ use Rattle.base_core.specs.Tree.{TreeState, files_of}
 use Rattle.base_core.specs.declared.tree.TreeFault.{TreeFault}
 use Rattle.base_core.specs.declared.tree.TreeFault.TheVariants.{Disk, Memory as NoMemory}
 use Rattle.report_core.specs.declared.refusal.Refusal.TheVariants.{Usage}
-use Rattle.words_core.specs.Command.{CommandLine}
+use Rattle.command_core.specs.Command.{CommandLine}
 use Rattle.words_core.specs.Faults.{IsWordsFault}
 use Rattle.words_core.specs.Grammar.{command_of}
 use Rattle.words_core.specs.declared.read.WordsFault.{WordsFault}
 use Rattle.words_core.specs.declared.read.WordsFault.TheVariants.{Usage as WrongWord}
-use Rattle.words_core.specs.declared.applet.Applet.{Applet}
-use Rattle.words_core.specs.declared.applet.Applet.TheVariants.{Adbdump, Mkndx, Mkpkg, Verify, Version}
-use Rattle.words_core.specs.declared.flags.Flags.{Flags}
-use Rattle.words_core.specs.declared.operands.Operand.{Operand}
+use Rattle.command_core.specs.declared.command.Applet.{Applet}
+use Rattle.command_core.specs.declared.command.Applet.TheVariants.{Adbdump, Mkndx, Mkpkg, Verify, Version}
+use Rattle.command_core.specs.declared.command.Flags.{Flags}
+use Rattle.command_core.specs.declared.operands.Operand.{Operand}
 use Rattle.outcome.specs.Told.{Outcome, refused}
 use Rattle.outcome.specs.Version.{version}
 use Rattle.outcome.specs.Outcome.{IsFoundOutcome, IsFoundOutcomeOf, IsGivenBySome, IsOutcome, IsOutcomeOf, IsGivenTo, run_by, run_of}

@@ -4,8 +4,8 @@ use Rattle.std.specs.Prelude.{IfOk, IsErrOf, OnOk}
 use Rattle.std.proofs.lemmas.Bool.{false≢true}
 use Rattle.base_core.specs.Faults.{Counts, IsNoFault}
 use Rattle.base_core.specs.declared.tree.TreeFault.TheVariants.{Memory as NoMemory}
-use Rattle.make_core.specs.MadeOf.{UnlessDisk}
-use Rattle.make_core.specs.declared.fault.MakeFault.TheVariants as Faults
+use Rattle.make_info.specs.Faults.{UnlessDisk}
+use Rattle.make_info.specs.declared.fault.MakeFault.TheVariants as Faults
 use Rattle.apk_front.specs.Shown.{is_cut_off}
 use Rattle.apk_front.proofs.Containers.{Container}
 use Rattle.apk_front.proofs.Counting.{no_fault_twice}

@@ -8,9 +8,9 @@ use Rattle.base_core.specs.Tree.{TreeState, files_of}
 use Rattle.report_core.specs.declared.refusal.Refusal.{Refusal}
 use Rattle.report_core.specs.declared.refusal.Refusal.TheVariants.{VersionBad}
 use Rattle.version_core.specs.Order.{is_version, version_cmp}
-use Rattle.words_core.specs.Command.{are_files, is_file, without_dot}
-use Rattle.words_core.specs.declared.operands.Operand.{Operand}
-use Rattle.make_core.specs.Sources.{Reads}
+use Rattle.command_core.specs.Command.{are_files, is_file, without_dot}
+use Rattle.command_core.specs.declared.operands.Operand.{Operand}
+use Rattle.make_info.specs.Reads.{Reads}
 use Rattle.outcome.specs.Verify.{file_refusal, or_later, refusal_by, verified_lines, verify, verify_by, verify_refusal}
 use Rattle.outcome.specs.Version.{compared, invalid_line, invalid_lines, order_line, version_refusal}
 use Rattle.outcome.specs.Told.{refused, reported, unless}

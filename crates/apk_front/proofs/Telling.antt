@@ -1,7 +1,8 @@
 -- A report, and the line of a refusal behind it.
 use Rattle.std.proofs.Common.{◌≡◌, ◌≢◌, ◌⊎◌, inl, inr, ℕ, List, [], Option, Some, None, Err, refl, sym, ap, subst, ◌∙◌, append-nil}
 use Rattle.base_core.specs.Files.{Files}
-use Rattle.base_core.specs.Sink.{Adds, AddsSome, SinkChange, Gets, GetsSome, SinkFailed, Writes}
+use Rattle.base_core.specs.Sink.{Adds, AddsSome, SinkChange, Gets, GetsSome, SinkFailed}
+use Rattle.base_core.specs.Write.{Writes}
 use Rattle.report_core.specs.Texts.{refusal_line}
 use Rattle.report_core.specs.declared.refusal.Refusal.{Refusal}
 use Rattle.outcome.specs.Told.{told, line_of}

@@ -11,7 +11,7 @@ use Rattle.report_core.specs.Texts.{tree_line, memory_line}
 use Rattle.apk_front.specs.declared.answer.Answer.{Answer}
 use Rattle.apk_front.specs.declared.answer.Answer.TheVariants.{Ok, Refused, TreeFault, OutFault, Memory}
 use Rattle.report_core.specs.declared.refusal.Refusal.{Refusal}
-use Rattle.words_core.specs.Flags.{no_flags}
+use Rattle.command_core.specs.Flags.{no_flags}
 use Rattle.words_core.specs.Grammar.{start_of}
 
 -- the answer of an outcome

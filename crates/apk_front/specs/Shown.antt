@@ -12,14 +12,14 @@ use Rattle.adb_schema.specs.declared.read.ReadFault.{ReadFault}
 use Rattle.adb_schema.specs.declared.read.ReadFault.TheVariants as ReadFaults
 use Rattle.adb_schema.specs.declared.schema.Which.{Which}
 use Rattle.base_core.specs.declared.cause.Cause.{Cause}
-use Rattle.make_core.specs.IndexCommand.{made_index}
-use Rattle.make_core.specs.Making.{made_package}
-use Rattle.make_core.specs.Sound.{AreNamesFor}
-use Rattle.make_core.specs.Sources.{Reads, given}
-use Rattle.make_core.specs.declared.fault.MakeFault.{MakeFault}
-use Rattle.make_core.specs.declared.fault.MakeFault.TheVariants.{FileMissing, FileBad, InfoBad, TooLarge}
-use Rattle.make_core.specs.declared.fault.MakeFault.TheVariants as MakeFaults
-use Rattle.words_core.specs.Command.{CommandLine}
+use Rattle.make_index.specs.Index.{made_index}
+use Rattle.make_package.specs.Making.{made_package}
+use Rattle.make_package.specs.Sources.{AreNamesFor, values_of}
+use Rattle.make_info.specs.Reads.{Reads}
+use Rattle.make_info.specs.declared.fault.MakeFault.{MakeFault}
+use Rattle.make_info.specs.declared.fault.MakeFault.TheVariants.{FileMissing, FileBad, InfoBad, TooLarge}
+use Rattle.make_info.specs.declared.fault.MakeFault.TheVariants as MakeFaults
+use Rattle.command_core.specs.Command.{CommandLine}
 use Rattle.outcome.specs.Dump.{form_fault}
 use Rattle.outcome.specs.Make.{IsBelow, mkndx, mkpkg}
 use Rattle.outcome.specs.Told.{Outcome, told}
@@ -109,7 +109,7 @@ OnMade (Err why) Means = is_cut why ≡ false → Means (Err why)
 -- what `mkpkg` makes over these files
 pub record IsPackage (command : CommandLine) (files : Files) (made : Result (List ℕ) MakeFault) : Type 0 where
   pub names : List (List ℕ)
-  pub below : IsBelow (given 70 command.values) files names
+  pub below : IsBelow (values_of 70 command.values) files names
   pub is : made_package command names (λ n name. files name) ≡ made
 
 -- what `mkndx` makes over these files
@@ -118,7 +118,7 @@ IsIndex command files made = made_index command (λ n name. files name) ≡ made
 
 -- the outcome of `mkpkg` over these files
 abbrev pub IsPackageOutcome : CommandLine → Files → Outcome → Type 0
-IsPackageOutcome command files outcome = (names : List (List ℕ)) × IsBelow (given 70 command.values) files names × (outcome ≡ mkpkg files command names)
+IsPackageOutcome command files outcome = (names : List (List ℕ)) × IsBelow (values_of 70 command.values) files names × (outcome ≡ mkpkg files command names)
 
 -- the outcome of `mkndx` over these files
 abbrev pub IsIndexOutcome : CommandLine → Files → Outcome → Type 0
@@ -127,7 +127,7 @@ IsIndexOutcome command files outcome = outcome ≡ mkndx files command
 -- by some names below the folder, and some reads
 pub record IsPackageFound (command : CommandLine) (made : Result (List ℕ) MakeFault) : Type 0 where
   pub names : List (List ℕ)
-  pub named : AreNamesFor (given 70 command.values) names
+  pub named : AreNamesFor (values_of 70 command.values) names
   pub read : Reads
   pub is : made_package command names read ≡ made
 

@@ -14,7 +14,7 @@ ghost use Rattle.base_core.specs.Read.{bytes_in};
 ghost use Rattle.base_core.specs.Tree.{files_of};
 ghost use Rattle.outcome.specs.Dump.{adbdump, adbdump_by, dump_found, dumped, dumped_blocks, form_fault, framing_fault};
 ghost use Rattle.pkg_core.specs.Whole.{root_of_schema};
-ghost use Rattle.words_core.specs.Command.{are_files, is_file, without_dot};
+ghost use Rattle.command_core.specs.Command.{are_files, is_file, without_dot};
 
 use crate::verdict::Verdict;
 use adb_block::Blocks;

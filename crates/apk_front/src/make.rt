@@ -6,15 +6,15 @@ ghost use Rattle.base_core.specs.Calls.{IfObservable};
 ghost use Rattle.base_core.specs.Faults.{GoesOn, HasCause, IsNoFault};
 ghost use Rattle.base_core.specs.Files.{Files, no_names};
 ghost use Rattle.base_core.specs.Tree.{files_of};
-ghost use Rattle.make_core.specs.MadeOf.{UnlessDisk};
-ghost use Rattle.make_core.specs.Output.{output_name};
-ghost use Rattle.make_core.specs.Sound.{AreNamesFor};
-ghost use Rattle.make_core.specs.Sources.{Reads, given};
+ghost use Rattle.make_info.specs.Faults.{UnlessDisk};
+ghost use Rattle.make_info.specs.Output.{output_name};
+ghost use Rattle.make_package.specs.Sources.{AreNamesFor, values_of};
+ghost use Rattle.make_info.specs.Reads.{Reads};
 ghost use Rattle.outcome.specs.Make.{index_line, made, mkndx, mkndx_by, mkpkg_by, unless_reserved};
 ghost use Rattle.outcome.specs.Told.{Outcome, refused};
 ghost use Rattle.report_core.specs.declared.refusal.Refusal.TheVariants.{ResultTooLarge};
-ghost use Rattle.words_core.specs.Command.{IsCommand};
-ghost use Rattle.words_core.specs.declared.applet.Applet.TheVariants.{Mkndx, Mkpkg};
+ghost use Rattle.command_core.specs.Command.{IsCommand};
+ghost use Rattle.command_core.specs.declared.command.Applet.TheVariants.{Mkndx, Mkpkg};
 
 use crate::verdict::Verdict;
 use adb_schema::is_reserved;
@@ -37,7 +37,7 @@ pub(crate) fn mkpkg<T: Tree>(
     requires command { IsCommand command.now }
     requires applet { command.now.applet ≡ Mkpkg }
     ensures found { IfOk result (λ verdict. IfObservable (T.history tree.old) (λ v. TellsOne (IsPackageOutcome command.now (files_of v)) verdict)) }
-    ensures by_reads { IfOk result (λ verdict. (names : List (List ℕ)) × AreNamesFor (given 70 command.now.values) names × (read : Reads) × Tells verdict (mkpkg_by no_names read command.now names)) }
+    ensures by_reads { IfOk result (λ verdict. (names : List (List ℕ)) × AreNamesFor (values_of 70 command.now.values) names × (read : Reads) × Tells verdict (mkpkg_by no_names read command.now names)) }
     ensures run { IfObservable (T.history tree.old) (λ v. IsRun (IsPackageOutcome command.now (files_of v)) false (output_name command.now) result v (T.history tree.old) (T.history tree.new)) }
     ensures refused { IfOk result (λ verdict. IsSome verdict.refusal → T.history tree.new ≡ T.history tree.old) }
     ensures undone { IsErrOf result TreeFault.Memory → T.history tree.new ≡ T.history tree.old }

@@ -1,7 +1,8 @@
 // What was judged, shown on the two sinks.
 ghost use Rattle.std.specs.Prelude.{◌≡◌, ◌≢◌, [], OnErr, Err};
 ghost use Rattle.base_core.specs.Files.{Files};
-ghost use Rattle.base_core.specs.Sink.{sink_change, Writes, KeepsCount};
+ghost use Rattle.base_core.specs.Sink.{sink_change, KeepsCount};
+ghost use Rattle.base_core.specs.Write.{Writes};
 ghost use Rattle.apk_front.specs.Answers.{GetsLine};
 ghost use Rattle.apk_front.specs.Shown.{IsShown, IsTold, IsRefused, shown};
 

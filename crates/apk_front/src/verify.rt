@@ -9,7 +9,7 @@ ghost use Rattle.base_core.specs.Read.{bytes_in};
 ghost use Rattle.base_core.specs.Tree.{files_of};
 ghost use Rattle.outcome.specs.Told.{unless};
 ghost use Rattle.outcome.specs.Verify.{file_refusal, refusal_by, verified_lines, verify, verify_by, verify_refusal};
-ghost use Rattle.words_core.specs.Command.{are_files, is_file, without_dot};
+ghost use Rattle.command_core.specs.Command.{are_files, is_file, without_dot};
 
 use crate::verdict::Verdict;
 use base_core::{Name, Text, Tree, TreeFault, read_all};

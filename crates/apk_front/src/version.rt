@@ -4,7 +4,7 @@ ghost use Rattle.apk_front.specs.Shown.{shown};
 ghost use Rattle.base_core.specs.Files.{Files};
 ghost use Rattle.outcome.specs.Told.{told, unless};
 ghost use Rattle.outcome.specs.Version.{compared, invalid_line, invalid_lines, order_line, version, version_refusal};
-ghost use Rattle.words_core.specs.Command.{is_version};
+ghost use Rattle.command_core.specs.Command.{is_version};
 
 use crate::verdict::Verdict;
 use base_core::Text;

@@ -1,24 +1,28 @@
 -- What a crash leaves.
-use Rattle.std.proofs.Common.{◌≡◌, inl, inr, ℕ, Bool, true, List, [], ◌∷◌, Option, None, Some, refl, sym, ap, ◌∙◌}
+use Rattle.std.proofs.Common.{◌≡◌, inl, inr, ℕ, true, List, [], ◌∷◌, Option, None, Some, refl, sym, ap, ◌∙◌}
 use Rattle.base_core.specs.Files.{Files, NameMap}
 use Rattle.base_core.specs.Tree.{TreeState, File, IsAmong, IsMapOf, bytes_at, files_by, files_of}
-use Rattle.base_core.specs.Crash.{MayLeave, IsImageBy, IsImage, IsCrashOf, IsOrderly}
+use Rattle.base_core.specs.Crash.{MayLeave, IsImageBy, IsImage, IsOrderly}
+use Rattle.base_core.specs.Restart.{IsCrashOf}
 
 may_leave_as_read : (files : ℕ → File) (n : Option ℕ) → MayLeave files n (bytes_at files n)
 may_leave_as_read files None = refl
 may_leave_as_read files (Some n) = λ _. refl
 
+pub map_is_left : (v : TreeState) (map : NameMap) → IsMapOf v map → IsImage v (files_by v map)
+map_is_left v map among = (map, among, λ q. may_leave_as_read v.files (map q))
+
 pub read_is_left : (v : TreeState) → IsImage v (files_of v)
-read_is_left v = (v.names, inl refl, λ q. may_leave_as_read v.files (v.names q))
+read_is_left v = map_is_left v v.names (inl refl)
 
 left_as_read : (files : ℕ → File) (n : Option ℕ) (bytes : Option (List ℕ)) → ((k : ℕ) → n ≡ Some k → (files k).synced ≡ true) → MayLeave files n bytes → bytes ≡ bytes_at files n
 left_as_read files None bytes synced may = may
 left_as_read files (Some n) None synced may = absurd may
 left_as_read files (Some n) (Some bytes) synced may = ap Some (may (synced n refl))
 
-pub order_lasts : (rests_on : Files → List ℕ → Bool) (v : TreeState) → IsOrderly (λ files q. rests_on files q ≡ true) v
+pub order_lasts : (rests_on : Files → List ℕ → Type 0) (v : TreeState) → IsOrderly rests_on v
     → (map : NameMap) → IsMapOf v map → (image : Files) → IsImageBy v map image
-    → (q : List ℕ) → rests_on (files_by v map) q ≡ true → image q ≡ files_by v map q
+    → (q : List ℕ) → rests_on (files_by v map) q → image q ≡ files_by v map q
 order_lasts rests_on v orderly map among image by q rests =
     left_as_read v.files (map q) (image q) (λ k is. orderly.each map among q k rests is) (by q)
 
@@ -38,5 +42,8 @@ crash_settles v w crash image (map, among, by) q =
     left_as_read w.files (map q) (image q) (λ k is. all_synced v w crash map among q k is) (by q)
     ∙ ap (λ (m : NameMap). bytes_at w.files (m q)) (only_map v w crash map among)
 
-pub crash_orderly : (rests_on : Files → List ℕ → Bool) (v w : TreeState) → IsCrashOf v w → IsOrderly (λ files q. rests_on files q ≡ true) w
+pub crash_orderly : (rests_on : Files → List ℕ → Type 0) (v w : TreeState) → IsCrashOf v w → IsOrderly rests_on w
 crash_orderly rests_on v w crash = record { each = λ map among q n rests is. all_synced v w crash map among q n is }
+
+pub orderly_still : (more fewer : Files → List ℕ → Type 0) (v : TreeState) → ((files : Files) (q : List ℕ) → fewer files q → more files q) → IsOrderly more v → IsOrderly fewer v
+orderly_still more fewer v up orderly = record { each = λ map among q n rests at. orderly.each map among q n (up (files_by v map) q rests) at }

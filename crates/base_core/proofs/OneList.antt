@@ -1,5 +1,5 @@
 -- One list of the names of a finite map, and one listing of each folder.
-use Rattle.std.proofs.Common.{◌≡◌, ◌↔◌, inl, ℕ, Bool, true, false, ◌&&◌, ◌==◌, List, [], ◌∷◌, ◌++◌, Option, None, Some, IsSome, is_some, Contains, refl, sym, ap, ap₂, ◌∙◌}
+use Rattle.std.proofs.Common.{◌≡◌, ◌↔◌, inl, ℕ, Bool, true, false, ◌&&◌, ◌==◌, List, [], ◌∷◌, ◌++◌, Option, None, Some, IsSome, is_some, All, Contains, get_or, refl, sym, ap, ap₂, subst, ◌∙◌}
 use Rattle.std.specs.Bool.{Decides}
 use Rattle.std.specs.List.{list_any}
 use Rattle.std.specs.Str.{bytes_eq}
@@ -7,10 +7,11 @@ use Rattle.std.proofs.lemmas.Bool.{and_parts}
 use Rattle.std.proofs.lemmas.Bool.Decides.{Decides-eqb}
 use Rattle.std.proofs.lemmas.Slice.Eq.{bytes_eq-Decides}
 use Rattle.std.proofs.lemmas.Map.Views.{Contains-from_any}
-use Rattle.base_core.specs.Files.{IsWithin, IsFolderOf}
-use Rattle.base_core.specs.Tree.{TreeState, IsWhole, bytes_at, files_of}
-use Rattle.base_core.specs.Listed.{IsRising, IsNamesOf, IsListOf}
-use Rattle.base_core.proofs.Rising.{keep, keep_rises, kept_passes, passing_kept, same_list, contains_from_in, in_from_contains, pairs_from_rises, rises_from_pairs}
+use Rattle.base_core.specs.Files.{NameMap, AreNamedFiles, IsFile, IsWithin, IsFolderOf}
+use Rattle.base_core.specs.Name.{IsName}
+use Rattle.base_core.specs.Tree.{File, TreeState, IsMapOf, IsWhole, bytes_at, files_by, files_of}
+use Rattle.base_core.specs.Listed.{AreNamesBelow, IsListOf, IsNameBelow, IsNamesOf, IsRising}
+use Rattle.base_core.proofs.Rising.{in_at, keep, keep_rises, kept_passes, passing_kept, same_list, contains_from_in, in_from_contains, pairs_from_rises, rises_from_pairs}
 
 -- just the names that P holds of, in byte order
 record IsListed (P : List ℕ → Type 0) (names : List (List ℕ)) : Type 0 where
@@ -78,11 +79,22 @@ list_decides folder v q = (
   λ h. ap₂ ◌&&◌ h.0 ((below_decides folder q).1 h.1),
 )
 
-pub list_exists : (v : TreeState) → IsWhole v → (folder : List ℕ) → (names : List (List ℕ)) × IsListOf folder v names
+-- what holds of each that a list contains holds of all of it
+all_contained : (P : List ℕ → Type 0) (names : List (List ℕ)) → ((q : List ℕ) → Contains names q → P q) → All P names
+all_contained P names each k d within = each (get_or names k d) (contains_from_in names (get_or names k d) (in_at names k d within))
+
+pub list_exists : (v : TreeState) → IsWhole v → (folder : List ℕ) → (names : List (List ℕ)) × IsListOf folder v names × AreNamesBelow folder names
 list_exists v whole folder =
     let finite = whole.finite v.names (inl refl) in
-    let found = listed (λ q. IsSome (v.names q) × IsFolderOf folder q) (λ q. is_some (v.names q) && is_below folder q) (list_decides folder v) finite.0 (λ q h. finite.1 q h.0) in
-    (found.0, record { rising = found.1.rising; each = found.1.each })
+    let found = listed (λ q. IsSome (v.names q) × IsFolderOf folder q) (λ q. is_some (v.names q) && is_below folder q) (list_decides folder v) finite.0 (λ q h. finite.1 q h.0) in (
+      found.0,
+      record { rising = found.1.rising; each = found.1.each },
+      record {
+        rising = found.1.rising;
+        each = all_contained (IsNameBelow folder) found.0 (λ q here.
+            let present = (found.1.each q).0 here in record { named = whole.named v.names (inl refl) q present.0; below = present.1 });
+      },
+    )
 
 pub list_one : (v : TreeState) (folder : List ℕ) (a b : List (List ℕ)) → IsListOf folder v a → IsListOf folder v b → a ≡ b
 list_one v folder a b one two = only_list (λ q. IsSome (v.names q) × IsFolderOf folder q) a b (record { rising = one.rising; each = one.each }) (record { rising = two.rising; each = two.each })
@@ -98,3 +110,20 @@ names_are_of_files v names of_map = record {
   rising = of_map.rising;
   each = λ q. (λ found. (has_bytes v (v.names q)).0 ((of_map.each q).0 found), λ some. (of_map.each q).1 ((has_bytes v (v.names q)).1 some));
 }
+
+-- ---- the files of a whole state
+
+some_bytes : (v : TreeState) (n : Option ℕ) (bytes : List ℕ) → IsWhole v → bytes_at v.files n ≡ Some bytes → IsFile bytes
+some_bytes v None bytes whole is = absurd (cc)
+some_bytes v (Some n) bytes whole is = let same : (v.files n).bytes ≡ bytes = cc in subst IsFile same (whole.bytes n)
+
+pub files_named : (v : TreeState) → IsWhole v → (map : NameMap) → IsMapOf v map → AreNamedFiles (files_by v map)
+files_named v whole map among = record {
+  named = λ q some. whole.named map among q ((has_bytes v (map q)).1 some);
+  each = λ q bytes is. some_bytes v (map q) bytes whole is;
+}
+
+pub files_finite : (v : TreeState) → IsWhole v → (names : List (List ℕ)) × IsWithin names (files_of v)
+files_finite v whole =
+    let finite = whole.finite v.names (inl refl) in
+    (finite.0, λ q some. finite.1 q ((has_bytes v (v.names q)).1 some))

@@ -24,7 +24,7 @@ contains_from_in [] q h = absurd h
 contains_from_in (x ∷ xs) q (inl is) = (0, omega arith, sym is)
 contains_from_in (x ∷ xs) q (inr more) = let found = contains_from_in xs q more in (suc found.0, omega (arith, found.1), found.2)
 
-in_at : (xs : List (List ℕ)) (k : ℕ) (d : List ℕ) → k < length xs → IsIn (get_or xs k d) xs
+pub in_at : (xs : List (List ℕ)) (k : ℕ) (d : List ℕ) → k < length xs → IsIn (get_or xs k d) xs
 in_at [] k d below = absurd (omega (arith, below))
 in_at (x ∷ xs) zero d below = inl refl
 in_at (x ∷ xs) (suc k) d below = inr (in_at xs k d (omega (arith, below)))

@@ -1,7 +1,7 @@
 -- What a crash leaves of a tree, and what holds at each moment of a run.
-use Rattle.std.specs.Prelude.{◌≡◌, ◌⊎◌, ◌≤◌, ℕ, true, List, [], ◌∷◌, ◌++◌, Option, Some, None, All}
+use Rattle.std.specs.Prelude.{◌≡◌, ℕ, true, List, ◌++◌, Option, Some, None, All}
 use Rattle.base_core.specs.Files.{Files, NameMap}
-use Rattle.base_core.specs.Tree.{TreeState, File, IsMapOf, files_of, files_by}
+use Rattle.base_core.specs.Tree.{TreeState, File, IsMapOf, files_by}
 
 -- what may be read under a number after a crash: a synced file's bytes, and of another any bytes
 abbrev pub MayLeave : (ℕ → File) → Option ℕ → Option (List ℕ) → Type 0
@@ -17,15 +17,11 @@ IsImageBy v map image = (q : List ℕ) → MayLeave v.files (map q) (image q)
 abbrev pub IsImage : TreeState → Files → Type 0
 IsImage v image = (map : NameMap) × IsMapOf v map × IsImageBy v map image
 
--- the tree that stands after a crash: an image, by one map of names, with each file synced
-pub record IsCrashOf (v w : TreeState) : Type 0 where
-  pub left : IsImage v (files_of w)
-  pub one_map : w.older ≡ []
-  pub synced : (q : List ℕ) (n : ℕ) → w.names q ≡ Some n → (w.files n).synced ≡ true
-
--- In each map, every file on which something rests is synced. What rests on which names is told by the files of that map.
+-- Each file that has to be durable is synced, in each map. Which files these are is a parameter: only a crate above, which
+-- can read the file that tells what is left to do, knows it. It is decided by the files of that map.
 pub record IsOrderly (rests_on : Files → List ℕ → Type 0) (v : TreeState) : Type 0 where
-  pub each : (map : NameMap) → IsMapOf v map → (q : List ℕ) (n : ℕ) → rests_on (files_by v map) q → map q ≡ Some n → (v.files n).synced ≡ true
+  pub each : (map : NameMap) → IsMapOf v map → (q : List ℕ) (n : ℕ) → rests_on (files_by v map) q
+      → map q ≡ Some n → (v.files n).synced ≡ true
 
 -- ---- moments, as the states that a history got since it was an older one, the newest first
 
@@ -34,18 +30,3 @@ pub record Since (P : TreeState → Type 0) (old new : List TreeState) : Type 0 
   pub added : List TreeState
   pub is : new ≡ added ++ old
   pub each : All P added
-
--- P holds at each moment, of the moments before it and of its state
-abbrev pub EachMoment : (List TreeState → TreeState → Type 0) → List TreeState → Type 0
-EachMoment P [] = Unit {0}
-EachMoment P (v ∷ earlier) = P earlier v × EachMoment P earlier
-
-pub record SinceBy (P : List TreeState → TreeState → Type 0) (old new : List TreeState) : Type 0 where
-  pub added : List TreeState
-  pub is : new ≡ added ++ old
-  pub each : EachMoment P added
-
--- at one of the moments the name as read led to a file that was made as number `made` or later
-abbrev pub HasLed : List ℕ → ℕ → List TreeState → Type 0
-HasLed name made [] = ⊥
-HasLed name made (v ∷ earlier) = ((n : ℕ) × (v.names name ≡ Some n) × (made ≤ n)) ⊎ HasLed name made earlier

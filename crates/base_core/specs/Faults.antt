@@ -36,9 +36,13 @@ pub record IsNoFault (before now : Counts) : Type 0 where
   pub faults : now.faults ≡ before.faults
   pub wants : now.wants ≡ before.wants
 
--- what a sink's counts say of a call: none falls, an error has its cause, a call that succeeds is no fault, and a sink is never misused
+-- what a call does to a sink's counts
 pub record FailsWithCause {T E : Type 0} (before now : Counts) (result : Result T E) : Type 0 where
+  -- no count falls
   pub goes_on : GoesOn before now
+  -- an error is a counted fault, and has its reason
   pub cause : OnErr result (HasCause before now)
+  -- a call that succeeds counts neither a fault nor a want
   pub kept : OnOk result (IsNoFault before now)
+  -- no call of a sink is a misuse
   pub proper : now.misuses ≡ before.misuses

@@ -1,7 +1,8 @@
 -- Files by their names, and maps from names.
-use Rattle.std.specs.Prelude.{◌≡◌, ℕ, true, if◌then◌else◌, List, ◌++◌, ◌∷◌, Option, Some, None, IsSome}
+use Rattle.std.specs.Prelude.{◌≡◌, ℕ, ◌<◌, ◌^◌, true, if◌then◌else◌, List, ◌++◌, ◌∷◌, length, Option, Some, None, IsSome, All}
 use Rattle.std.specs.Str.{bytes_eq}
 use Rattle.std.specs.List.{list_any}
+use Rattle.base_core.specs.Name.{IsName}
 
 -- the bytes under each name, or none where the name is absent
 abbrev pub Files : Type 0
@@ -31,6 +32,10 @@ no_names q = None
 abbrev pub IsWithin : {X : Type 0} → List (List ℕ) → (List ℕ → Option X) → Type 0
 IsWithin names map = (q : List ℕ) → IsSome (map q) → list_any (bytes_eq q) names ≡ true
 
+-- each present name is a name
+abbrev pub AreNames : {X : Type 0} → (List ℕ → Option X) → Type 0
+AreNames map = (q : List ℕ) → IsSome (map q) → IsName q
+
 -- the first name and a slash begin the second
 abbrev pub IsFolderOf : List ℕ → List ℕ → Type 0
 IsFolderOf folder name = (rest : List ℕ) × (name ≡ folder ++ 47 ∷ rest)
@@ -38,3 +43,13 @@ IsFolderOf folder name = (rest : List ℕ) × (name ≡ folder ++ 47 ∷ rest)
 -- no present name is a folder of another
 abbrev pub IsFolderLike : {X : Type 0} → (List ℕ → Option X) → Type 0
 IsFolderLike map = (p q : List ℕ) → IsFolderOf p q → IsSome (map p) → IsSome (map q) → ⊥
+
+-- the content of a file: bytes, fewer than 2 ^ 64
+pub record IsFile (bytes : List ℕ) : Type 0 where
+  pub each : All (λ b. b < 256) bytes
+  pub few : length bytes < 2 ^ 64
+
+-- each present name is a name, and has the content of a file
+pub record AreNamedFiles (files : Files) : Type 0 where
+  pub named : AreNames files
+  pub each : (q bytes : List ℕ) → files q ≡ Some bytes → IsFile bytes

@@ -1,9 +1,13 @@
+-- what the contract of `apk` says
 pub mod Name
 pub mod Files
 pub mod Tree
 pub mod Faults
 pub mod Calls
-pub mod Crash
 pub mod Listed
+pub mod Crash
 pub mod Sink
+-- what only inner contracts and proofs use
+pub mod Restart
 pub mod Read
+pub mod Write

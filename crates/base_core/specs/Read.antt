@@ -1,8 +1,26 @@
--- What reading a whole file answers.
-use Rattle.std.specs.Prelude.{ℕ, List, Option, Vec}
+-- What a call that reads a tree says.
+use Rattle.std.specs.Prelude.{◌≡◌, ℕ, List, Option, Result, OnOk, IfErr, IsErrOf, Vec}
 use Rattle.std.specs.Option.{option_map}
 use Rattle.std.specs.declared.alloc.Global.{Global}
+use Rattle.base_core.specs.Calls.{IfObservable}
+use Rattle.base_core.specs.Faults.{Counts, GoesOn, HasCause, IsNoFault}
+use Rattle.base_core.specs.Tree.{TreeState}
 
 -- the bytes that were read, without where they lie
 abbrev pub bytes_in : Option (Vec ℕ Global) → Option (List ℕ)
 bytes_in found = option_map (λ bytes. bytes.items) found
+
+-- a call that only reads; `disk_fault` is its answer where the tree failed
+pub record OnlyReads {A E : Type 0} (disk_fault : E) (old new : List TreeState) (before now : Counts)
+    (result : Result A E) : Type 0 where
+  -- the states stay
+  pub same : new ≡ old
+  -- no count falls
+  pub goes_on : GoesOn before now
+  -- the tree failed only where that has its cause
+  pub disk : IsErrOf result disk_fault → HasCause before now
+  -- an answer that is no fault of the tree raised neither faults nor wants
+  pub kept : OnOk result (IsNoFault before now)
+  pub others : IfErr result (λ fault. (fault ≡ disk_fault → ⊥) → IsNoFault before now)
+  -- where the history is observable, no call was a misuse
+  pub proper : IfObservable old (λ v. now.misuses ≡ before.misuses)

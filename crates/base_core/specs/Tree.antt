@@ -1,13 +1,14 @@
 -- A tree of files at one moment, what each call makes of it, and where a call is a misuse.
 use Rattle.std.specs.Prelude.{◌≡◌, ◌⊎◌, ◌≢◌, ◌≤◌, ◌<◌, ℕ, ◌+◌, Bool, true, false, if◌then◌else◌, ◌==◌, List, [], ◌∷◌, ◌++◌, Option, Some, None, IsSome, length}
-use Rattle.base_core.specs.Files.{Files, NameMap, put_name, drop_name, move_name, IsFolderLike, IsWithin}
+use Rattle.base_core.specs.Files.{Files, NameMap, put_name, drop_name, move_name, AreNames, IsFile, IsFolderLike, IsWithin}
 
 -- a file: its bytes as read, and whether a crash leaves just these
 pub record File : Type 0 where
   pub bytes : List ℕ
   pub synced : Bool
 
--- the files by number and how many were made; the names as read, and the maps of names before, since the names were last synced, the newest first
+-- the files by number, and how many were made; the names as read, and the maps of names before it, since the names were
+-- last synced, the newest first
 pub record TreeState : Type 0 where
   pub files : ℕ → File
   pub made : ℕ
@@ -49,11 +50,13 @@ after_create name v = record {
 }
 
 abbrev pub after_append : List ℕ → List ℕ → TreeState → TreeState
-after_append name piece v = change_at (λ f. record { bytes = f.bytes ++ piece; synced = false }) v (v.names name)
+after_append name piece v =
+    change_at (λ f. record { bytes = f.bytes ++ piece; synced = false }) v (v.names name)
 
 -- one that failed may have left the file unsynced
 abbrev pub after_failed_append : List ℕ → TreeState → TreeState
-after_failed_append name v = change_at (λ f. record { bytes = f.bytes; synced = false }) v (v.names name)
+after_failed_append name v =
+    change_at (λ f. record { bytes = f.bytes; synced = false }) v (v.names name)
 
 abbrev pub after_sync : List ℕ → TreeState → TreeState
 after_sync name v = change_at (λ f. record { bytes = f.bytes; synced = true }) v (v.names name)
@@ -110,7 +113,11 @@ IsAmong map (x ∷ xs) = (map ≡ x) ⊎ IsAmong map xs
 abbrev pub IsMapOf : TreeState → NameMap → Type 0
 IsMapOf v map = IsAmong map (v.names ∷ v.older)
 
--- each map has finitely many names, and each number that it leads to was made
+-- what holds of every state that a tree shows: in each map of names finitely many names are present, each is a name, none
+-- is a folder of another, and each leads to a file that was made; and each file has fewer than 2 ^ 64 bytes
 pub record IsWhole (v : TreeState) : Type 0 where
   pub finite : (map : NameMap) → IsMapOf v map → (names : List (List ℕ)) × IsWithin names map
+  pub named : (map : NameMap) → IsMapOf v map → AreNames map
+  pub folders : (map : NameMap) → IsMapOf v map → IsFolderLike map
   pub made : (map : NameMap) → IsMapOf v map → (q : List ℕ) (n : ℕ) → map q ≡ Some n → n < v.made
+  pub bytes : (n : ℕ) → IsFile (v.files n).bytes

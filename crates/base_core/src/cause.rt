@@ -1,3 +1,5 @@
+//! Why a container is refused.
+
 /// A digest of a file's bytes: SHA-1 (FIPS 180-4, 20 bytes), SHA-256 (32 bytes) or SHA-512 (64 bytes).
 #[derive(Clone, Copy, Debug, PartialEq, Eq)]
 pub enum Digest {
@@ -6,7 +8,8 @@ pub enum Digest {
     Sha512([u8; 64]),
 }
 
-/// Why a container (apk-v3(5)) is refused. `at` is an offset in bytes from the file's start, `word` a value's word.
+/// Why a container (apk-v3(5)), or a database that is a text, is refused. `at` is an offset in bytes
+/// from the file's start, `word` the 32-bit word of a value.
 #[derive(Clone, Copy, Debug, PartialEq, Eq)]
 pub enum Cause {
     /// The file does not begin as an ADB container does.
@@ -39,7 +42,8 @@ pub enum Cause {
     TooLarge {
         count: u32,
     },
-    /// A field's value is outside its grammar. `place` is 100 times the schema's number plus the field's number.
+    /// A field's value is outside its grammar. `place` is 100 times the schema's number plus the
+    /// field's number.
     BadText {
         place: u16,
     },
@@ -49,8 +53,8 @@ pub enum Cause {
         first: u32,
         second: u32,
     },
-    /// The contents of one file stand where those of another have to. Both are told by the positions of the folder and
-    /// of the file in it, which count from 1; (0, 0) is none.
+    /// The contents of one file stand where those of another have to. Each of the two is given by the
+    /// position of its folder and its position in the folder, which count from 1; (0, 0) is none.
     DataOrder {
         expected: (u32, u32),
         found: (u32, u32),
@@ -64,5 +68,9 @@ pub enum Cause {
     HashDiffers {
         wanted: Digest,
         found: Digest,
+    },
+    /// The line with this number, counted from 1, of a database that is a text breaks its grammar.
+    TextLine {
+        line: u64,
     },
 }

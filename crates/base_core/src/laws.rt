@@ -1,48 +1,78 @@
-//! What follows from the definitions of a crash and of a listing, for every state of a tree, and from those of the counts.
-ghost use Rattle.std.specs.Prelude.{◌≡◌, ℕ, List, Option, Bool, true};
-ghost use Rattle.base_core.specs.Crash.{IsImage, IsImageBy, IsCrashOf, IsOrderly};
+//! Laws: what follows from the definitions of a tree's states, of a crash, of a listing and of the
+//! counts. A crate above learns a law by a call of the function, which does nothing when it runs.
+ghost use Rattle.std.specs.Prelude.{◌≡◌, ◌≤◌, ◌++◌, ℕ, List, Option, Result, Bool};
+ghost use Rattle.base_core.specs.Crash.{IsImage, IsImageBy, IsOrderly};
 ghost use Rattle.base_core.specs.Faults.{Counts, GoesOn, HasCause, IsNoFault};
-ghost use Rattle.base_core.specs.Files.{Files, NameMap, IsWithin};
-ghost use Rattle.base_core.specs.Listed.{IsNamesOf, IsListOf};
+ghost use Rattle.base_core.specs.Files.{Files, NameMap, AreNamedFiles, IsWithin};
+ghost use Rattle.base_core.specs.Listed.{AreNamesBelow, IsListOf, IsNamesOf};
+ghost use Rattle.base_core.specs.Read.{OnlyReads};
+ghost use Rattle.base_core.specs.Restart.{HasLed, IsCrashOf};
 ghost use Rattle.base_core.specs.Tree.{TreeState, IsMapOf, IsWhole, files_of, files_by};
 
-/// The files as read are among what a crash may leave.
+// ---- crashes
+
+/// The files by each map of names, so the files as read too, are among what a crash may leave.
 pub fn a_crash_may_leave_the_files_as_read()
-    ensures { (v : TreeState) → IsImage v (files_of v) }
+    ensures read { (v : TreeState) → IsImage v (files_of v) }
+    ensures by_map { (v : TreeState) (map : NameMap) → IsMapOf v map → IsImage v (files_by v map) }
 {}
 
 /// After a crash all is settled: another one leaves the same files.
 pub fn a_crash_settles()
-    ensures { (v w : TreeState) → IsCrashOf v w → (image : Files) → IsImage w image → (q : List ℕ) → image q ≡ files_of w q }
+    ensures { (v w : TreeState) → IsCrashOf v w → (image : Files) → IsImage w image
+        → (q : List ℕ) → image q ≡ files_of w q }
 {}
+
+/// Which files have to be durable. A crate that can read what is left to do says so, and then learns the
+/// laws below for its own `rests_on`.
+pub trait Durability {
+    /// Whether something rests on the file of a name, by all files and the ignored names.
+    ghost rests_on: { (List ℕ → Bool) → Files → List ℕ → Type 0 };
+}
 
 /// After a crash a tree is orderly, whatever rests on its files.
-pub fn a_crash_leaves_order()
-    ensures { (rests_on : Files → List ℕ → Bool) (v w : TreeState) → IsCrashOf v w → IsOrderly (λ files q. rests_on files q ≡ true) w }
+pub fn a_crash_leaves_order<D: Durability>()
+    ensures { (ignored : List ℕ → Bool) (v w : TreeState) → IsCrashOf v w → IsOrderly (D.rests_on ignored) w }
 {}
 
-/// What a crash leaves of an orderly tree has, by one of its maps, the bytes of each file on which something rests.
-pub fn order_outlasts_a_crash()
-    ensures { (rests_on : Files → List ℕ → Bool) (v : TreeState) → IsOrderly (λ files q. rests_on files q ≡ true) v
+/// What a crash leaves of an orderly tree has, by one of its maps, the bytes of each file on which
+/// something rests.
+pub fn order_outlasts_a_crash<D: Durability>()
+    ensures { (ignored : List ℕ → Bool) (v : TreeState) → IsOrderly (D.rests_on ignored) v
         → (map : NameMap) → IsMapOf v map → (image : Files) → IsImageBy v map image
-        → (q : List ℕ) → rests_on (files_by v map) q ≡ true → image q ≡ files_by v map q }
+        → (q : List ℕ) → D.rests_on ignored (files_by v map) q → image q ≡ files_by v map q }
 {}
 
-/// Each folder of a whole state has a listing, and no second one.
+/// Where less rests on the files, an orderly tree is orderly still.
+pub fn order_lasts_where_less_rests<D: Durability>()
+    ensures { (more fewer : List ℕ → Bool) (v : TreeState)
+        → ((files : Files) (q : List ℕ) → D.rests_on fewer files q → D.rests_on more files q)
+        → IsOrderly (D.rests_on more) v → IsOrderly (D.rests_on fewer) v }
+{}
+
+// ---- names and files
+
+/// A listing can always be answered: each folder of a whole state has one, in which all are names, and
+/// no second one.
 pub fn a_folder_has_one_listing()
-    ensures exists { (v : TreeState) → IsWhole v → (folder : List ℕ) → (names : List (List ℕ)) × IsListOf folder v names }
-    ensures one { (v : TreeState) (folder : List ℕ) (a b : List (List ℕ)) → IsListOf folder v a → IsListOf folder v b → a ≡ b }
+    ensures exists { (v : TreeState) → IsWhole v → (folder : List ℕ)
+        → (names : List (List ℕ)) × IsListOf folder v names × AreNamesBelow folder names }
+    ensures one { (v : TreeState) (folder : List ℕ) (a b : List (List ℕ))
+        → IsListOf folder v a → IsListOf folder v b → a ≡ b }
 {}
 
-/// A map with finitely many names has a list of them, and no second one. Each map of a whole state is such a map.
+/// A map with finitely many names has a list of them, and no second one. Each map of a whole state is
+/// such a map.
 pub fn a_map_has_one_list_of_names()
-    ensures exists { (map : NameMap) (within : List (List ℕ)) → IsWithin within map → (names : List (List ℕ)) × IsNamesOf map names }
+    ensures exists { (map : NameMap) (within : List (List ℕ)) → IsWithin within map
+        → (names : List (List ℕ)) × IsNamesOf map names }
     ensures one { (map : NameMap) (a b : List (List ℕ)) → IsNamesOf map a → IsNamesOf map b → a ≡ b }
 {}
 
 /// Files under finitely many names have a list of their names, and no second one.
 pub fn files_have_one_list_of_names()
-    ensures exists { (files : Files) (within : List (List ℕ)) → IsWithin within files → (names : List (List ℕ)) × IsNamesOf files names }
+    ensures exists { (files : Files) (within : List (List ℕ)) → IsWithin within files
+        → (names : List (List ℕ)) × IsNamesOf files names }
     ensures one { (files : Files) (a b : List (List ℕ)) → IsNamesOf files a → IsNamesOf files b → a ≡ b }
 {}
 
@@ -51,11 +81,41 @@ pub fn the_files_as_read_have_the_names_as_read()
     ensures { (v : TreeState) (names : List (List ℕ)) → IsNamesOf v.names names → IsNamesOf (files_of v) names }
 {}
 
-/// What is said of the counts over each of two calls in a row holds over both, and with no call no count changes.
+/// The files of a whole state, by each of its maps, stand under names and have fewer than 2^64 bytes
+/// each, and there are finitely many.
+pub fn the_files_of_a_whole_state_are_named_files()
+    ensures named { (v : TreeState) → IsWhole v → (map : NameMap) → IsMapOf v map
+        → AreNamedFiles (files_by v map) }
+    ensures read { (v : TreeState) → IsWhole v → AreNamedFiles (files_of v) }
+    ensures finite { (v : TreeState) → IsWhole v → (names : List (List ℕ)) × IsWithin names (files_of v) }
+{}
+
+// ---- calls in a row
+
+/// What is said of the counts over each of two calls in a row holds over both, and with no call no count
+/// changes.
 pub fn counts_of_calls_in_a_row_join()
     ensures goes_on { (a b c : Counts) → GoesOn a b → GoesOn b c → GoesOn a c }
     ensures cause_before { (a b c : Counts) → HasCause a b → GoesOn b c → HasCause a c }
     ensures cause_behind { (a b c : Counts) → GoesOn a b → HasCause b c → HasCause a c }
     ensures no_fault { (a b c : Counts) → IsNoFault a b → IsNoFault b c → IsNoFault a c }
     ensures stays { (a : Counts) → GoesOn a a × IsNoFault a a }
+{}
+
+/// A call that only reads, behind others that do so and succeeded: together they only read.
+pub fn readings_in_a_row_join<A, B, E>()
+    ensures none { (disk_fault : E) (h : List TreeState) (a : Counts) (value : A)
+        → OnlyReads disk_fault h h a a (Ok value) }
+    ensures two { (disk_fault : E) (h0 h1 h2 : List TreeState) (a b c : Counts) (value : A) (then : Result B E)
+        → OnlyReads disk_fault h0 h1 a b (Ok value) → OnlyReads disk_fault h1 h2 b c then
+        → OnlyReads disk_fault h0 h2 a c then }
+{}
+
+/// That a name has led to a file that was made in a run holds of each run that began before, and of more
+/// moments.
+pub fn a_file_made_in_a_run_was_made_in_an_earlier_one()
+    ensures begun { (name : List ℕ) (a b : ℕ) (moments : List TreeState) → a ≤ b
+        → HasLed name b moments → HasLed name a moments }
+    ensures later { (name : List ℕ) (made : ℕ) (later moments : List TreeState)
+        → HasLed name made moments → HasLed name made (later ++ moments) }
 {}

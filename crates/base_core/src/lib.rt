@@ -1,9 +1,10 @@
-//! What the crates above share: names, texts and words; the traits of the outside, `Tree` and `Sink`, with what their
-//! calls mean; whole reads and writes; and the causes for which a container is refused.
+//! What the crates above share: names, texts and words; the traits of the outside, `Tree` and `Sink`, with
+//! what their calls mean; a read of a whole file and a write of all bytes; and why a container is refused.
 //!
-//! Bytes come in and leave as `Name`, `Text`, `Words` or `Names`. The contracts cite `Name` (what a name is), `Files`
-//! (files by their names), `Tree`, `Calls` and `Crash` (the states of a tree and what a crash leaves of it), `Listed`
-//! (listings), `Faults` (the counts), `Sink` and `Read` of `specs/`.
+//! Bytes come in and leave as `Name`, `Text`, `Words` or `Names`. The contracts cite `Name` (what a name
+//! is), `Files` (files by their names), `Tree`, `Calls` and `Crash` (the states of a tree, what each call
+//! makes of it, and what a crash leaves of it), `Listed` (listings), `Faults` (the counts) and `Sink` of
+//! `specs/`; those that only inner contracts need are `Restart`, `Read` and `Write`.
 #![tactic(auto)]
 
 mod cause;
@@ -12,19 +13,19 @@ mod name;
 mod sink;
 mod text;
 mod tree;
-mod whole;
 
 pub use cause::{Cause, Digest};
 pub use laws::{
-    a_crash_leaves_order, a_crash_may_leave_the_files_as_read, a_crash_settles,
-    a_folder_has_one_listing, a_map_has_one_list_of_names, counts_of_calls_in_a_row_join,
-    files_have_one_list_of_names, order_outlasts_a_crash, the_files_as_read_have_the_names_as_read,
+    Durability, a_crash_leaves_order, a_crash_may_leave_the_files_as_read, a_crash_settles,
+    a_file_made_in_a_run_was_made_in_an_earlier_one, a_folder_has_one_listing,
+    a_map_has_one_list_of_names, counts_of_calls_in_a_row_join, files_have_one_list_of_names,
+    order_lasts_where_less_rests, order_outlasts_a_crash, readings_in_a_row_join,
+    the_files_as_read_have_the_names_as_read, the_files_of_a_whole_state_are_named_files,
 };
 pub use name::{Name, Names, is_folder_of, is_name};
-pub use sink::{Sink, SinkFault};
+pub use sink::{Sink, SinkFault, write_all};
 pub use text::{Text, Words};
-pub use tree::{Disk, Tree, TreeFault};
-pub use whole::{read_all, write_all};
+pub use tree::{Disk, Tree, TreeFault, read_all};
 
 #[cfg(test)]
 mod tests;

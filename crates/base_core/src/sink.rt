@@ -1,6 +1,7 @@
-ghost use Rattle.std.specs.Prelude.{◌≡◌, [], List, ℕ, Option, take, IsOk, IfOk, OnErr};
+//! What takes bytes: the trait `Sink`, and a write of all bytes.
+ghost use Rattle.std.specs.Prelude.{◌≡◌, [], List, ℕ, Option, take, IsOk, IfOk, OnOk, OnErr};
 ghost use Rattle.base_core.specs.Faults.{Counts, FailsWithCause};
-ghost use Rattle.base_core.specs.Sink.{Adds, IsWriteCount};
+ghost use Rattle.base_core.specs.Sink.{Adds, AddsSome, IsWriteCount};
 
 use thiserror::Error;
 
@@ -9,19 +10,42 @@ use thiserror::Error;
 #[error("the sink failed")]
 pub struct SinkFault;
 
-/// What takes bytes at its end.
+/// What takes bytes at its end, as a file that is open for appending or a pipe.
 pub trait Sink {
-    /// The bytes written, where the sink tells them.
+    /// The bytes written so far, where they are observable.
     ghost bytes: { Self → Option (List ℕ) };
 
-    /// How often a write failed.
+    /// How often a write failed, and why.
     ghost counts: { Self → Counts };
 
-    /// Takes a front of the piece, at least one byte where there is one. An empty piece never fails.
+    /// Takes a front of the piece, at least one byte where there is one, and answers how many bytes
+    /// it took. An empty piece never fails.
+    ///
+    /// # Errors
+    ///
+    /// `SinkFault` where the sink failed; then it took nothing.
     fn write(&mut self, piece: &[u8]) -> Result<usize, SinkFault>
         ensures taken { IfOk result (λ n. IsWriteCount n piece.now) }
         ensures empty { piece.now ≡ [] → IsOk result }
         ensures added { IfOk result (λ n. Adds (bytes self.old) (bytes self.new) (take n piece.now)) }
         ensures unchanged { OnErr result (bytes self.new ≡ bytes self.old) }
         ensures cause { FailsWithCause (counts self.old) (counts self.new) result };
+}
+
+/// Writes all bytes, in as many calls as the sink needs.
+///
+/// # Errors
+///
+/// `SinkFault` where the sink failed; then a front of the bytes was added.
+pub fn write_all<S: Sink>(sink: &mut S, bytes: &[u8]) -> Result<(), SinkFault>
+    ensures ok { OnOk result (Adds (S.bytes sink.old) (S.bytes sink.new) bytes.now) }
+    ensures err { OnErr result (AddsSome (S.bytes sink.old) (S.bytes sink.new) bytes.now) }
+    ensures cause { FailsWithCause (S.counts sink.old) (S.counts sink.new) result }
+{
+    let mut rest = bytes;
+    while !rest.is_empty() {
+        let taken = sink.write(rest)?;
+        rest = &rest[taken..];
+    }
+    Ok(())
 }

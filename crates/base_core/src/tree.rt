@@ -1,9 +1,11 @@
+//! What holds files: the trait `Tree` with the meaning of its calls, and a read of a whole file.
 ghost use Rattle.std.specs.Prelude.{◌≡◌, List, Option, length, take, drop, IfOk, OnOk, IfSome, IsErrOf, All};
 ghost use Rattle.std.specs.Option.{option_map};
 ghost use Rattle.base_core.specs.Tree.{TreeState, files_of, after_create, after_append, after_failed_append, after_sync, after_rename, after_remove, after_sync_names, same_state, Anywhere, HasName, CanRead, CanCreate, CanRename, IsWhole};
 ghost use Rattle.base_core.specs.Faults.{Counts, GoesOn, HasCause, IsNoFault};
 ghost use Rattle.base_core.specs.Calls.{IsCounted, Moves, IfObservable};
 ghost use Rattle.base_core.specs.Listed.{AreNamesBelow, IsListOf};
+ghost use Rattle.base_core.specs.Read.{OnlyReads, bytes_in};
 ghost use Rattle.base_core.specs.declared.tree.TreeFault.TheVariants.{Memory, Disk as DiskFault};
 
 use crate::name::{Name, Names};
@@ -42,10 +44,11 @@ impl From<AllocError> for TreeFault {
     }
 }
 
-/// A tree of files under names. A call that would make one name a folder of another is a misuse. Each call answers
-/// `Disk` only where the tree's count of faults rose in it, also where the tree tells nothing else.
+/// Files under names, as a folder of the host or a tree in memory. A call that would make one name a
+/// folder of another is a misuse. Each call answers `Disk` only where the tree's count of faults rose in
+/// it, also where its history is not observable.
 pub trait Tree {
-    /// The states so far, the newest first. It is empty for a tree that tells nothing.
+    /// The states so far, the newest first. It is empty where they are not observable.
     ghost history: { Self → List TreeState };
 
     /// How often a call failed, and why.
@@ -55,51 +58,64 @@ pub trait Tree {
     fn size(&mut self, name: &Name) -> Result<Option<u64>, Disk>
         ensures same { history self.new ≡ history self.old }
         ensures counts { IsCounted Anywhere (history self.old) (counts self.old) (counts self.new) result }
-        ensures value { IfOk result (λ size. IfObservable (history self.old) (λ v. size ≡ option_map length (files_of v name.now))) };
+        ensures value { IfOk result (λ size. IfObservable (history self.old) (λ v.
+            size ≡ option_map length (files_of v name.now))) };
 
-    /// Fills the buffer with the file's bytes from `at` on. An absent name, or a read past the file's end, is a
-    /// misuse, and a fault.
+    /// Fills the buffer with the file's bytes from `at` on. An absent name, or a read past the file's
+    /// end, is a misuse, and a fault.
     fn read_at(&mut self, name: &Name, at: u64, into: &mut [u8]) -> Result<(), Disk>
         ensures same { history self.new ≡ history self.old }
-        ensures counts { IsCounted (CanRead name.now at (length into.old)) (history self.old) (counts self.old) (counts self.new) result }
-        ensures value { OnOk result (IfObservable (history self.old) (λ v. IfSome (files_of v name.now) (λ bytes.
-            into.new ≡ take (length into.old) (drop at bytes)))) };
+        ensures counts { IsCounted (CanRead name.now at (length into.old)) (history self.old)
+            (counts self.old) (counts self.new) result }
+        ensures value { OnOk result (IfObservable (history self.old) (λ v.
+            IfSome (files_of v name.now) (λ bytes. into.new ≡ take (length into.old) (drop at bytes)))) };
 
-    /// Makes an empty file, which is not synced. A name that is present, or that would make one name a folder of
-    /// another, is a misuse, and a fault.
+    /// Makes an empty file, which is not synced. A name that is present, or that would make one name a
+    /// folder of another, is a misuse, and a fault.
     fn create(&mut self, name: &Name) -> Result<(), Disk>
-        ensures moves { Moves (CanCreate name.now) (after_create name.now) (after_create name.now) (history self.old) (history self.new) result }
-        ensures counts { IsCounted (CanCreate name.now) (history self.old) (counts self.old) (counts self.new) result };
+        ensures moves { Moves (CanCreate name.now) (after_create name.now) (after_create name.now)
+            (history self.old) (history self.new) result }
+        ensures counts { IsCounted (CanCreate name.now) (history self.old)
+            (counts self.old) (counts self.new) result };
 
-    /// Adds a piece at the file's end. The file is not synced any more, and where the call fails it may not be either.
-    /// An absent name is a misuse, and a fault.
+    /// Adds a piece at the file's end. The file is not synced any more, and where the call fails it may
+    /// not be either. An absent name is a misuse, and a fault.
     fn append(&mut self, name: &Name, piece: &[u8]) -> Result<(), Disk>
-        ensures moves { Moves (HasName name.now) (after_append name.now piece.now) (after_failed_append name.now) (history self.old) (history self.new) result }
-        ensures counts { IsCounted (HasName name.now) (history self.old) (counts self.old) (counts self.new) result };
+        ensures moves { Moves (HasName name.now) (after_append name.now piece.now) (after_failed_append name.now)
+            (history self.old) (history self.new) result }
+        ensures counts { IsCounted (HasName name.now) (history self.old)
+            (counts self.old) (counts self.new) result };
 
-    /// Makes a crash leave the file's bytes as they are. An absent name is a misuse, and a fault.
+    /// File fsync: no later crash undoes what was written to the file before this call. An absent name
+    /// is a misuse, and a fault.
     fn sync(&mut self, name: &Name) -> Result<(), Disk>
-        ensures moves { Moves (HasName name.now) (after_sync name.now) same_state (history self.old) (history self.new) result }
-        ensures counts { IsCounted (HasName name.now) (history self.old) (counts self.old) (counts self.new) result };
+        ensures moves { Moves (HasName name.now) (after_sync name.now) same_state
+            (history self.old) (history self.new) result }
+        ensures counts { IsCounted (HasName name.now) (history self.old)
+            (counts self.old) (counts self.new) result };
 
-    /// Lets `to` lead to the file of `from`, and `from` to none, in one step; what `to` led to is gone. An absent
-    /// `from`, the same name twice, or a `to` that would make one name a folder of another is a misuse, and a fault.
+    /// Lets `to` lead to the file of `from`, and `from` to none, in one step; what `to` led to is gone.
+    /// An absent `from`, the same name twice, or a `to` that would make one name a folder of another is
+    /// a misuse, and a fault.
     fn rename(&mut self, from: &Name, to: &Name) -> Result<(), Disk>
-        ensures moves { Moves (CanRename from.now to.now) (after_rename from.now to.now) (after_rename from.now to.now) (history self.old) (history self.new) result }
-        ensures counts { IsCounted (CanRename from.now to.now) (history self.old) (counts self.old) (counts self.new) result };
+        ensures moves { Moves (CanRename from.now to.now) (after_rename from.now to.now)
+            (after_rename from.now to.now) (history self.old) (history self.new) result }
+        ensures counts { IsCounted (CanRename from.now to.now) (history self.old)
+            (counts self.old) (counts self.new) result };
 
     /// Takes a name away. An absent name is no fault, and nothing changes.
     fn remove(&mut self, name: &Name) -> Result<(), Disk>
-        ensures moves { Moves Anywhere (after_remove name.now) (after_remove name.now) (history self.old) (history self.new) result }
+        ensures moves { Moves Anywhere (after_remove name.now) (after_remove name.now)
+            (history self.old) (history self.new) result }
         ensures counts { IsCounted Anywhere (history self.old) (counts self.old) (counts self.new) result };
 
-    /// Makes every later crash leave the names as they are now, or as they are made later.
+    /// Directory fsync: no later crash undoes a change of names made before this call.
     fn sync_names(&mut self) -> Result<(), Disk>
         ensures moves { Moves Anywhere after_sync_names same_state (history self.old) (history self.new) result }
         ensures counts { IsCounted Anywhere (history self.old) (counts self.old) (counts self.new) result };
 
-    /// All names below a folder, at any depth. They are names below the folder in byte order, each once, whatever the
-    /// tree tells. Want of memory is no fault of the tree.
+    /// All names below a folder, at any depth. They are names below the folder in byte order, each once,
+    /// also where the history is not observable. Want of memory is no fault of the tree.
     fn list(&mut self, alloc: Global, folder: &Name) -> Result<Names, TreeFault>
         ensures same { history self.new ≡ history self.old }
         ensures goes_on { GoesOn (counts self.old) (counts self.new) }
@@ -110,6 +126,30 @@ pub trait Tree {
         ensures value { IfOk result (λ names. IfObservable (history self.old) (λ v. IsListOf folder.now v names)) }
         ensures order { IfOk result (λ names. AreNamesBelow folder.now names) };
 
-    /// Each state that is told has finitely many names, and led to no file that was never made.
+    /// Each state that is observable is whole: its names are names, finitely many, none a folder of
+    /// another, and each leads to a file that was made, of fewer than 2^64 bytes.
     ghost whole: { (tree : Self) → All IsWhole (history tree) };
+}
+
+/// The whole file, or None exactly where it is absent. The tree stays as it is, whatever the answer.
+///
+/// # Errors
+///
+/// `Disk` where the tree failed, `Memory` where there was no memory for the bytes.
+pub fn read_all<T: Tree>(
+    alloc: Global,
+    tree: &mut T,
+    name: &Name,
+) -> Result<Option<Vec<u8>>, TreeFault>
+    ensures answer { IfOk result (λ found. IfObservable (T.history tree.old) (λ v.
+        bytes_in found ≡ files_of v name.now)) }
+    ensures tree { OnlyReads TreeFault.Disk (T.history tree.old) (T.history tree.new)
+        (T.counts tree.old) (T.counts tree.new) result }
+{
+    let Some(size) = tree.size(name)? else {
+        return Ok(None);
+    };
+    let mut bytes = vec![in alloc; 0u8; size as usize]?;
+    tree.read_at(name, 0, &mut bytes)?;
+    Ok(Some(bytes))
 }

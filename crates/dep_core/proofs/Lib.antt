@@ -4,7 +4,7 @@ pub mod Places
 pub mod ByName
 pub mod Lines
 pub mod RepositoryLines
-pub mod VersionBytes
+pub mod Versions
 pub mod Operators
 pub mod Spelled
 pub mod ReadOut

@@ -5,7 +5,7 @@ use Rattle.std.specs.List.{list_all}
 use Rattle.std.specs.Str.{bytes_eq}
 use Rattle.std.specs.Cmp.Lexicographic.{bytes_decides}
 use Rattle.std.proofs.lemmas.Bool.{eqb-true, false≢true}
-use Rattle.dep_core.specs.Dependency.{operator_text}
+use Rattle.dep_core.specs.DependencyText.{operator_text}
 use Rattle.dep_core.specs.Reading.{is_operator_byte, operator_bits}
 
 abbrev pub begins_as_operator : List ℕ → Bool

@@ -11,8 +11,9 @@ use Rattle.std.proofs.lemmas.Bool.{and_parts, cases_lt}
 use Rattle.std.proofs.lemmas.List.Folds.{list_any_at}
 use Rattle.std.proofs.lemmas.List.Sums.{AllPass-from_list_all, list_all-from_AllPass}
 use Rattle.std.proofs.lemmas.List.Sorted.{searchable_from_sorted}
-use Rattle.dep_core.specs.Dependency.{Dependency, is_dependency}
-use Rattle.dep_core.specs.World.{IsWorld, has_name, is_in_order, name_cmp, with_entry, without}
+use Rattle.dep_core.specs.Dependency.{Dependency}
+use Rattle.dep_core.specs.DependencyText.{is_dependency}
+use Rattle.dep_core.specs.World.{IsWorld, has_name, is_in_order, name_cmp, with_entry, without_name}
 use Rattle.dep_core.proofs.Worlds.{names_total, is_behind, lt-less, cmp-equal, cmp-back, filter-same}
 
 -- two entries are in order
@@ -50,23 +51,23 @@ with_entry-set d (e ∷ rest) (suc i) h l t =
     ap (λ o. match_ordering o (d ∷ (e ∷ rest)) (d ∷ rest) (e ∷ with_entry d rest)) (cmp-back e.name d.name Less (before_at e rest d.name i d h (omega arith) (t d)))
     ∙ ap (λ more. e ∷ more) (with_entry-set d rest i (and_parts (list_all (is_behind e.name) rest) (is_in_order rest) h).1 (omega arith) t)
 
--- the test of `without`
+-- the test of `without_name`
 abbrev other : List ℕ → Dependency → Bool
 other name e = not (bytes_eq e.name name)
 
 other-by : (e : Dependency) (name : List ℕ) (o : Ordering) → name_cmp e.name name ≡ o → other name e ≡ not (is_eq o)
 other-by e name o h = ap not (texts_ties e.name name ∙ ap is_eq h)
 
-pub without-remove : (name : List ℕ) (w : List Dependency) (i : ℕ) → is_in_order w ≡ true → i < length w → HoldsAt (λ (e : Dependency). name_cmp e.name name ≡ Equal) w i → without name w ≡ remove w i
+pub without-remove : (name : List ℕ) (w : List Dependency) (i : ℕ) → is_in_order w ≡ true → i < length w → HoldsAt (λ (e : Dependency). name_cmp e.name name ≡ Equal) w i → without_name name w ≡ remove w i
 without-remove name [] i h l t = absurd (omega arith)
 without-remove name (e ∷ rest) zero h l t =
     let P : List ℕ → Type 0 = λ n. list_all (is_behind n) rest ≡ true in
     let behind : list_all (is_behind name) rest ≡ true =
     subst P (cmp-equal e.name name (t e)) (and_parts (list_all (is_behind e.name) rest) (is_in_order rest) h).0 in
-    ap (λ b. cond b (e ∷ without name rest) (without name rest)) (other-by e name Equal (t e))
+    ap (λ b. cond b (e ∷ without_name name rest) (without_name name rest)) (other-by e name Equal (t e))
     ∙ filter-same (other name) rest (list_all-from_AllPass (other name) rest (λ k f m. other-by (get_or rest k f) name Greater (cmp-back name (get_or rest k f).name Less (lt-less (name_cmp name (get_or rest k f).name) (AllPass-from_list_all (is_behind name) rest behind k f m)))))
 without-remove name (e ∷ rest) (suc i) h l t =
-    ap (λ b. cond b (e ∷ without name rest) (without name rest)) (other-by e name Less (before_at e rest name i e h (omega arith) (t e)))
+    ap (λ b. cond b (e ∷ without_name name rest) (without_name name rest)) (other-by e name Less (before_at e rest name i e h (omega arith) (t e)))
     ∙ ap (λ more. e ∷ more) (without-remove name rest i (and_parts (list_all (is_behind e.name) rest) (is_in_order rest) h).1 (omega arith) t)
 
 pub has_name-at : (name : List ℕ) (w : List Dependency) (i : ℕ) → i < length w → HoldsAt (λ (e : Dependency). name_cmp e.name name ≡ Equal) w i → has_name name w ≡ true
@@ -90,7 +91,7 @@ others name w i p =
     list_all-from_AllPass (other name) w
     (λ k f m. ⊎_elim (λ (below : k < i). other-by (get_or w k f) name Less (p.0 k f (omega arith) below)) (λ (above : i ≤ k). other-by (get_or w k f) name Greater (p.1 k f above m)) (cases_lt k i))
 
-pub without-same : (name : List ℕ) (w : List Dependency) (i : ℕ) → IsPartitionPoint (λ (e : Dependency). name_cmp e.name name ≡ Less) (λ (e : Dependency). name_cmp e.name name ≡ Greater) w i → without name w ≡ w
+pub without-same : (name : List ℕ) (w : List Dependency) (i : ℕ) → IsPartitionPoint (λ (e : Dependency). name_cmp e.name name ≡ Less) (λ (e : Dependency). name_cmp e.name name ≡ Greater) w i → without_name name w ≡ w
 without-same name w i p = filter-same (other name) w (others name w i p)
 
 none_by : (name : List ℕ) (w : List Dependency) → list_all (other name) w ≡ true → has_name name w ≡ false
@@ -118,13 +119,13 @@ abbrev IsGap : List ℕ → List Dependency → ℕ → Type 0
 IsGap name w i =
     (i ≤ length w) × (IsNonDecreasingBy (λ (e : Dependency). ordering_index (name_cmp e.name name)) w → IsPartitionPoint (λ (e : Dependency). name_cmp e.name name ≡ Less) (λ (e : Dependency). name_cmp e.name name ≡ Greater) w i)
 
-pub del-found : (name : List ℕ) (w v more : List Dependency) (i : ℕ) → v ≡ w → IsWorld w → IsPlace name v i → more ≡ remove w i → (more ≡ without name w) × (has_name name w ≡ true)
+pub del-found : (name : List ℕ) (w v more : List Dependency) (i : ℕ) → v ≡ w → IsWorld w → IsPlace name v i → more ≡ remove w i → (more ≡ without_name name w) × (has_name name w ≡ true)
 del-found name w v more i e h p r =
     let P : List Dependency → Type 0 = λ u. IsPlace name u i in
     let q : P w = subst P e p in
     (r ∙ sym (without-remove name w i (in_order w h) q.0 q.1), has_name-at name w i q.0 q.1)
 
-pub del-absent : (name : List ℕ) (w v : List Dependency) (i : ℕ) → v ≡ w → IsWorld w → IsGap name v i → (without name w ≡ w) × (has_name name w ≡ false)
+pub del-absent : (name : List ℕ) (w v : List Dependency) (i : ℕ) → v ≡ w → IsWorld w → IsGap name v i → (without_name name w ≡ w) × (has_name name w ≡ false)
 del-absent name w v i e h p =
     let P : List Dependency → Type 0 = λ u. IsGap name u i in
     let q : P w = subst P e p in

@@ -5,9 +5,10 @@ use Rattle.std.specs.List.{prefix_len, take_while}
 use Rattle.std.proofs.lemmas.List.{take-append-drop}
 use Rattle.std.proofs.lemmas.Bool.{and_parts, and_from, eqb-true, cases_Bool}
 use Rattle.version_core.specs.Order.{is_version}
-use Rattle.dep_core.specs.Dependency.{Dependency, IsDependency, dependency_by, is_dep_name, is_limit, is_name_byte, is_tag, is_tag_byte, is_tag_or_none, mark_text, operator_text, tag_text}
-use Rattle.dep_core.specs.Reading.{at_tag, behind, dependency_of, ended, is_not_at, is_operator_byte, limited, limited_by, named, operator_bits, tagged, versioned, with_limit, with_tag}
-use Rattle.dep_core.specs.Spelling.{Spells, SpellsLimit}
+use Rattle.dep_core.specs.Dependency.{Dependency, dependency_by, is_dep_name, is_name_byte, is_tag, is_tag_byte}
+use Rattle.dep_core.specs.DependencyText.{IsDependency, is_constraint, is_tag_or_none, mark_text, operator_text, tag_text}
+use Rattle.dep_core.specs.Reading.{at_tag, rest_behind, dependency_of, at_version_end, is_not_at, is_operator_byte, at_constraint, at_operator_end, at_name, operator_bits, at_name_end, at_version, with_constraint, with_tag}
+use Rattle.dep_core.specs.Spelling.{SpellsDependency, SpellsConstraint}
 use Rattle.dep_core.proofs.Operators.{operator-is, some-inj}
 
 cond_some : {A : Type 0} (b : Bool) (r : Option A) (d : A) → cond b r None ≡ Some d → (b ≡ true) × (r ≡ Some d)
@@ -21,7 +22,7 @@ none-from (Some x) h = (cc)
 some-none : {A : Type 0} {x : A} → Some x ≡ None → ⊥
 some-none h = (cc)
 
-front-behind : (p : ℕ → Bool) (text : List ℕ) → take_while p text ++ behind p text ≡ text
+front-behind : (p : ℕ → Bool) (text : List ℕ) → take_while p text ++ rest_behind p text ≡ text
 front-behind p text = take-append-drop (prefix_len p text) text
 
 abbrev bare : List ℕ → Bool → Option (List ℕ) → Dependency
@@ -29,8 +30,8 @@ bare name conflict tag = dependency_by name None 1 conflict tag
 
 -- ---- behind the version
 
-ended-out : (b : Dependency) (tail : List ℕ) (d : Dependency) → ended b tail ≡ Some d → ((b ≡ d) × (tail ≡ [])) ⊎ ((tag : List ℕ) × (b.tag ≡ None) × (is_tag tag ≡ true) × (with_tag b tag ≡ d) × (tail ≡ 64 ∷ tag))
-unfolding ended
+ended-out : (b : Dependency) (tail : List ℕ) (d : Dependency) → at_version_end b tail ≡ Some d → ((b ≡ d) × (tail ≡ [])) ⊎ ((tag : List ℕ) × (b.tag ≡ None) × (is_tag tag ≡ true) × (with_tag b tag ≡ d) × (tail ≡ 64 ∷ tag))
+unfolding at_version_end
 ended-out b [] d h = inl (some-inj h, refl)
 ended-out b (e ∷ tag) d h =
     let found = cond_some (eqb e 64 && (not (is_some b.tag) && is_tag tag)) (Some (with_tag b tag)) d h in
@@ -46,25 +47,25 @@ record IsLimited (name : List ℕ) (conflict : Bool) (tag : Option (List ℕ)) (
   same_conflict : d.conflict ≡ conflict
   good : IsDependency d
   limit : List ℕ
-  spelled : SpellsLimit limit d.version d.bits
+  spelled : SpellsConstraint limit d.version d.bits
   placed : ((d.tag ≡ tag) × (text ≡ limit)) ⊎ ((tag ≡ None) × (text ≡ limit ++ tag_text d.tag))
 
-good-by : (name : List ℕ) (conflict : Bool) (tag version : Option (List ℕ)) (bits : ℕ) → is_dep_name name ≡ true → is_limit version bits ≡ true → is_tag_or_none tag ≡ true → IsDependency (dependency_by name version bits conflict tag)
+good-by : (name : List ℕ) (conflict : Bool) (tag version : Option (List ℕ)) (bits : ℕ) → is_dep_name name ≡ true → is_constraint version bits ≡ true → is_tag_or_none tag ≡ true → IsDependency (dependency_by name version bits conflict tag)
 good-by name conflict tag version bits n l t =
-    and_from (is_dep_name name && is_limit version bits) (is_tag_or_none tag) (and_from (is_dep_name name) (is_limit version bits) n l) t
+    and_from (is_dep_name name && is_constraint version bits) (is_tag_or_none tag) (and_from (is_dep_name name) (is_constraint version bits) n l) t
 
-versioned-out : (name : List ℕ) (conflict : Bool) (tag : Option (List ℕ)) (bits : ℕ) (op rest text : List ℕ) (d : Dependency) → is_dep_name name ≡ true → is_tag_or_none tag ≡ true → operator_bits op ≡ Some bits → op ++ rest ≡ text → versioned (bare name conflict tag) bits rest ≡ Some d → IsLimited name conflict tag text d
-unfolding versioned
+versioned-out : (name : List ℕ) (conflict : Bool) (tag : Option (List ℕ)) (bits : ℕ) (op rest text : List ℕ) (d : Dependency) → is_dep_name name ≡ true → is_tag_or_none tag ≡ true → operator_bits op ≡ Some bits → op ++ rest ≡ text → at_version (bare name conflict tag) bits rest ≡ Some d → IsLimited name conflict tag text d
+unfolding at_version
 versioned-out name conflict tag bits op rest text d n t o e h =
     let v : List ℕ = take_while is_not_at rest in
-    let tail : List ℕ = behind is_not_at rest in
-    let found : (is_version v ≡ true) × (ended (with_limit (bare name conflict tag) v bits) tail ≡ Some d) =
-    cond_some (is_version v) (ended (with_limit (bare name conflict tag) v bits) tail) d h in
-    let limited_well : is_limit (Some v) bits ≡ true = and_from (is_version v) (is_some (operator_text bits)) found.0 (operator-is op bits o).2 in
+    let tail : List ℕ = rest_behind is_not_at rest in
+    let found : (is_version v ≡ true) × (at_version_end (with_constraint (bare name conflict tag) v bits) tail ≡ Some d) =
+    cond_some (is_version v) (at_version_end (with_constraint (bare name conflict tag) v bits) tail) d h in
+    let limited_well : is_constraint (Some v) bits ≡ true = and_from (is_version v) (is_some (operator_text bits)) found.0 (operator-is op bits o).2 in
     let whole : text ≡ (op ++ v) ++ tail =
     sym e ∙ (ap (λ r. op ++ r) (sym (front-behind is_not_at rest)) ∙ sym (append_assoc op v tail)) in
     let P : Dependency → Type 0 = λ x. IsLimited name conflict tag text x in
-    elim (ended-out (with_limit (bare name conflict tag) v bits) tail d found.1) [
+    elim (ended-out (with_constraint (bare name conflict tag) v bits) tail d found.1) [
       | inl s ↦ subst P s.0 (record {
         same_name = refl;
         same_conflict = refl;
@@ -83,12 +84,12 @@ versioned-out name conflict tag bits op rest text d n t o e h =
       })
     ]
 
-limited-by-out : (name : List ℕ) (conflict : Bool) (tag : Option (List ℕ)) (r : Option ℕ) (op rest text : List ℕ) (d : Dependency) → is_dep_name name ≡ true → is_tag_or_none tag ≡ true → operator_bits op ≡ r → op ++ rest ≡ text → limited_by (bare name conflict tag) r rest ≡ Some d → IsLimited name conflict tag text d
+limited-by-out : (name : List ℕ) (conflict : Bool) (tag : Option (List ℕ)) (r : Option ℕ) (op rest text : List ℕ) (d : Dependency) → is_dep_name name ≡ true → is_tag_or_none tag ≡ true → operator_bits op ≡ r → op ++ rest ≡ text → at_operator_end (bare name conflict tag) r rest ≡ Some d → IsLimited name conflict tag text d
 limited-by-out name conflict tag None op rest text d n t o e h = (cc)
 limited-by-out name conflict tag (Some bits) op rest text d n t o e h = versioned-out name conflict tag bits op rest text d n t o e h
 
-limited-out : (name : List ℕ) (conflict : Bool) (tag : Option (List ℕ)) (text : List ℕ) (d : Dependency) → is_dep_name name ≡ true → is_tag_or_none tag ≡ true → limited (bare name conflict tag) text ≡ Some d → IsLimited name conflict tag text d
-unfolding limited
+limited-out : (name : List ℕ) (conflict : Bool) (tag : Option (List ℕ)) (text : List ℕ) (d : Dependency) → is_dep_name name ≡ true → is_tag_or_none tag ≡ true → at_constraint (bare name conflict tag) text ≡ Some d → IsLimited name conflict tag text d
+unfolding at_constraint
 limited-out name conflict tag [] d n t h =
     let P : Dependency → Type 0 = λ x. IsLimited name conflict tag [] x in
     subst P (some-inj h) (record {
@@ -100,7 +101,7 @@ limited-out name conflict tag [] d n t h =
       placed = inl (refl, refl);
     })
 limited-out name conflict tag (c ∷ rest) d n t h =
-    limited-by-out name conflict tag (operator_bits (take_while is_operator_byte (c ∷ rest))) (take_while is_operator_byte (c ∷ rest)) (behind is_operator_byte (c ∷ rest)) (c ∷ rest) d n t refl (front-behind is_operator_byte (c ∷ rest)) h
+    limited-by-out name conflict tag (operator_bits (take_while is_operator_byte (c ∷ rest))) (take_while is_operator_byte (c ∷ rest)) (rest_behind is_operator_byte (c ∷ rest)) (c ∷ rest) d n t refl (front-behind is_operator_byte (c ∷ rest)) h
 
 -- ---- behind the name
 
@@ -110,16 +111,16 @@ record IsTagged (name : List ℕ) (conflict : Bool) (text : List ℕ) (d : Depen
   same_conflict : d.conflict ≡ conflict
   good : IsDependency d
   limit : List ℕ
-  spelled : SpellsLimit limit d.version d.bits
+  spelled : SpellsConstraint limit d.version d.bits
   placed : (text ≡ tag_text d.tag ++ limit) ⊎ (text ≡ limit ++ tag_text d.tag)
 
 at_tag-out : (name : List ℕ) (conflict : Bool) (c : ℕ) (rest : List ℕ) (d : Dependency) → is_dep_name name ≡ true → c ≡ 64 → at_tag (bare name conflict None) rest ≡ Some d → IsTagged name conflict (c ∷ rest) d
 unfolding at_tag
 at_tag-out name conflict c rest d n e h =
     let tag : List ℕ = take_while is_tag_byte rest in
-    let tail : List ℕ = behind is_tag_byte rest in
-    let found : (is_tag tag ≡ true) × (limited (bare name conflict (Some tag)) tail ≡ Some d) =
-    cond_some (is_tag tag) (limited (bare name conflict (Some tag)) tail) d h in
+    let tail : List ℕ = rest_behind is_tag_byte rest in
+    let found : (is_tag tag ≡ true) × (at_constraint (bare name conflict (Some tag)) tail ≡ Some d) =
+    cond_some (is_tag tag) (at_constraint (bare name conflict (Some tag)) tail) d h in
     let out : IsLimited name conflict (Some tag) tail d = limited-out name conflict (Some tag) tail d n found.0 found.1 in
     let whole : c ∷ rest ≡ 64 ∷ (tag ++ tail) = (λ i. e i ∷ sym (front-behind is_tag_byte rest) i) in
     record {
@@ -147,8 +148,8 @@ limited-tagged name conflict text d out = record {
   ];
 }
 
-tagged-out : (name : List ℕ) (conflict : Bool) (text : List ℕ) (d : Dependency) → is_dep_name name ≡ true → tagged (bare name conflict None) text ≡ Some d → IsTagged name conflict text d
-unfolding tagged
+tagged-out : (name : List ℕ) (conflict : Bool) (text : List ℕ) (d : Dependency) → is_dep_name name ≡ true → at_name_end (bare name conflict None) text ≡ Some d → IsTagged name conflict text d
+unfolding at_name_end
 tagged-out name conflict [] d n h =
     let P : Dependency → Type 0 = λ x. IsTagged name conflict [] x in
     subst P (some-inj h) (record {
@@ -161,19 +162,19 @@ tagged-out name conflict [] d n h =
     })
 tagged-out name conflict (c ∷ rest) d n h =
     elim (cases_Bool (eqb c 64)) [
-      | inl e ↦ at_tag-out name conflict c rest d n (eqb-true c 64 e) (sym (ap (λ b. cond b (at_tag (bare name conflict None) rest) (limited (bare name conflict None) (c ∷ rest))) e) ∙ h)
-      | inr e ↦ limited-tagged name conflict (c ∷ rest) d (limited-out name conflict None (c ∷ rest) d n refl (sym (ap (λ b. cond b (at_tag (bare name conflict None) rest) (limited (bare name conflict None) (c ∷ rest))) e) ∙ h))
+      | inl e ↦ at_tag-out name conflict c rest d n (eqb-true c 64 e) (sym (ap (λ b. cond b (at_tag (bare name conflict None) rest) (at_constraint (bare name conflict None) (c ∷ rest))) e) ∙ h)
+      | inr e ↦ limited-tagged name conflict (c ∷ rest) d (limited-out name conflict None (c ∷ rest) d n refl (sym (ap (λ b. cond b (at_tag (bare name conflict None) rest) (at_constraint (bare name conflict None) (c ∷ rest))) e) ∙ h))
     ]
 
 -- ---- the name, and the mark before it
 
-named-out : (conflict : Bool) (text : List ℕ) (d : Dependency) (whole : List ℕ) → mark_text conflict ++ text ≡ whole → named conflict text ≡ Some d → Spells whole d
-unfolding named
+named-out : (conflict : Bool) (text : List ℕ) (d : Dependency) (whole : List ℕ) → mark_text conflict ++ text ≡ whole → at_name conflict text ≡ Some d → SpellsDependency whole d
+unfolding at_name
 named-out conflict text d whole e h =
     let name : List ℕ = take_while is_name_byte text in
-    let rest : List ℕ = behind is_name_byte text in
-    let found : (is_dep_name name ≡ true) × (tagged (bare name conflict None) rest ≡ Some d) =
-    cond_some (is_dep_name name) (tagged (bare name conflict None) rest) d h in
+    let rest : List ℕ = rest_behind is_name_byte text in
+    let found : (is_dep_name name ≡ true) × (at_name_end (bare name conflict None) rest ≡ Some d) =
+    cond_some (is_dep_name name) (at_name_end (bare name conflict None) rest) d h in
     let out : IsTagged name conflict rest d = tagged-out name conflict rest d found.0 found.1 in
     let front : whole ≡ mark_text d.conflict ++ (d.name ++ rest) =
     sym e ∙ (ap (λ t. mark_text conflict ++ t) (sym (front-behind is_name_byte text)) ∙ (λ i. mark_text (sym out.same_conflict i) ++ (sym out.same_name i ++ rest))) in (
@@ -188,11 +189,11 @@ named-out conflict text d whole e h =
       ),
     )
 
-pub read-out : (text : List ℕ) (d : Dependency) → dependency_of text ≡ Some d → Spells text d
+pub read-out : (text : List ℕ) (d : Dependency) → dependency_of text ≡ Some d → SpellsDependency text d
 unfolding dependency_of
 read-out [] d h = absurd (some-none (sym h))
 read-out (b ∷ rest) d h =
     elim (cases_Bool (eqb b 33)) [
-      | inl e ↦ named-out true rest d (b ∷ rest) (ap (λ c. c ∷ rest) (sym (eqb-true b 33 e))) (sym (ap (λ x. cond x (named true rest) (named false (b ∷ rest))) e) ∙ h)
-      | inr e ↦ named-out false (b ∷ rest) d (b ∷ rest) refl (sym (ap (λ x. cond x (named true rest) (named false (b ∷ rest))) e) ∙ h)
+      | inl e ↦ named-out true rest d (b ∷ rest) (ap (λ c. c ∷ rest) (sym (eqb-true b 33 e))) (sym (ap (λ x. cond x (at_name true rest) (at_name false (b ∷ rest))) e) ∙ h)
+      | inr e ↦ named-out false (b ∷ rest) d (b ∷ rest) refl (sym (ap (λ x. cond x (at_name true rest) (at_name false (b ∷ rest))) e) ∙ h)
     ]

@@ -11,13 +11,14 @@ use Rattle.std.proofs.lemmas.List.Folds.{prefix_len-append}
 use Rattle.std.proofs.lemmas.List.Sums.{AllPass-from_list_all}
 use Rattle.std.proofs.lemmas.List.Splits.{slice_split_at}
 use Rattle.base_core.specs.Name.{is_name, is_part, parts_of}
-use Rattle.dep_core.specs.Dependency.{is_tag, is_tag_byte, is_tag_or_none}
-use Rattle.dep_core.specs.Reading.{behind}
-use Rattle.dep_core.specs.Repositories.{Repository, at_path, before_rest, begins_with_blank, is_comment, only, repositories_from, repositories_of, repositories_on, repository, repository_of, tagged_repository, trimmed, without_blanks_behind}
+use Rattle.dep_core.specs.Dependency.{is_tag, is_tag_byte}
+use Rattle.dep_core.specs.DependencyText.{is_tag_or_none}
+use Rattle.dep_core.specs.Reading.{rest_behind}
+use Rattle.dep_core.specs.Repositories.{Repository, at_path, with_repositories, begins_with_blank, is_comment, singleton, repositories_from, repositories_of, repositories_on, repository, repository_of, tagged_repository, without_outer_blanks, without_trailing_blanks}
 use Rattle.dep_core.specs.RepositoryText.{is_line_path, is_line_repository, repositories_text, tag_front}
 use Rattle.dep_core.specs.World.{is_blank, is_line_end, lines_of}
 use Rattle.dep_core.proofs.Spelled.{run, past_run}
-use Rattle.dep_core.proofs.VersionBytes.{all-append, all-imp}
+use Rattle.dep_core.proofs.Versions.{all-append, all-imp}
 
 -- ---- no line end in a line
 
@@ -49,7 +50,7 @@ suffix-none : (front back : List ℕ) → 0 < length back → suffix_len is_blan
 suffix-none front back l h =
     ap (prefix_len is_blank) (reverse-append front back) ∙ suffix-by is_blank (reverse back) (reverse front) (reverse-long back l) h
 
-nothing_cut : (text : List ℕ) → suffix_len is_blank text ≡ 0 → without_blanks_behind text ≡ text
+nothing_cut : (text : List ℕ) → suffix_len is_blank text ≡ 0 → without_trailing_blanks text ≡ text
 nothing_cut text h = take_all (length text - suffix_len is_blank text) text (omega arith)
 
 name-long : (path : List ℕ) → is_name path ≡ true → 0 < length path
@@ -61,7 +62,7 @@ name-long path h =
     let d : (nat_lt 0 (length path) ≡ true) × (nat_le (length path) 1024 ≡ true) = and_parts (nat_lt 0 (length path)) (nat_le (length path) 1024) c.0 in
     ltb-true 0 (length path) d.0
 
-whole_line : (tag : Option (List ℕ)) (path : List ℕ) → is_name path ≡ true → suffix_len is_blank path ≡ 0 → trimmed (tag_front tag ++ (47 ∷ path)) ≡ tag_front tag ++ (47 ∷ path)
+whole_line : (tag : Option (List ℕ)) (path : List ℕ) → is_name path ≡ true → suffix_len is_blank path ≡ 0 → without_outer_blanks (tag_front tag ++ (47 ∷ path)) ≡ tag_front tag ++ (47 ∷ path)
 whole_line None path n s = nothing_cut (47 ∷ path) (suffix-none (47 ∷ []) path (name-long path n) s)
 whole_line (Some tag) path n s =
     nothing_cut ((64 ∷ (tag ++ (32 ∷ []))) ++ (47 ∷ path)) (ap (suffix_len is_blank) (sym (append_assoc (64 ∷ (tag ++ (32 ∷ []))) (47 ∷ []) path)) ∙ suffix-none ((64 ∷ (tag ++ (32 ∷ []))) ++ (47 ∷ [])) path (name-long path n) s)
@@ -76,8 +77,8 @@ unfolding tagged_repository
 tagged-read tag path t n =
     let bytes : list_all is_tag_byte tag ≡ true = (and_parts (nat_lt 0 (length tag)) (list_all is_tag_byte tag) t).1 in
     let first : take_while is_tag_byte (tag ++ (32 ∷ (47 ∷ path))) ≡ tag = run is_tag_byte tag (32 ∷ (47 ∷ path)) bytes refl in
-    let rest : behind is_tag_byte (tag ++ (32 ∷ (47 ∷ path))) ≡ 32 ∷ (47 ∷ path) = past_run is_tag_byte tag (32 ∷ (47 ∷ path)) bytes refl in
-    (λ i. cond (is_tag (first i) && begins_with_blank (rest i)) (at_path (Some (first i)) (behind is_blank (rest i))) None)
+    let rest : rest_behind is_tag_byte (tag ++ (32 ∷ (47 ∷ path))) ≡ 32 ∷ (47 ∷ path) = past_run is_tag_byte tag (32 ∷ (47 ∷ path)) bytes refl in
+    (λ i. cond (is_tag (first i) && begins_with_blank (rest i)) (at_path (Some (first i)) (rest_behind is_blank (rest i))) None)
     ∙ (ap (λ b. cond (b && true) (at_path (Some tag) (47 ∷ path)) None) t ∙ path-read (Some tag) path n)
 
 line-read : (tag : Option (List ℕ)) (path : List ℕ) → is_tag_or_none tag ≡ true → is_name path ≡ true → repository_of (tag_front tag ++ (47 ∷ path)) ≡ Some (repository tag path)
@@ -92,9 +93,9 @@ is_no_comment (Some tag) path = refl
 
 on-line : (tag : Option (List ℕ)) (path : List ℕ) → is_tag_or_none tag ≡ true → is_name path ≡ true → suffix_len is_blank path ≡ 0 → repositories_on (tag_front tag ++ (47 ∷ path)) ≡ Some (repository tag path ∷ [])
 on-line tag path t n s =
-    (λ i. cond (is_comment (whole_line tag path n s i)) (Some []) (option_map only (repository_of (whole_line tag path n s i))))
-    ∙ (ap (λ b. cond b (Some []) (option_map only (repository_of (tag_front tag ++ (47 ∷ path))))) (is_no_comment tag path)
-    ∙ ap (option_map only) (line-read tag path t n))
+    (λ i. cond (is_comment (whole_line tag path n s i)) (Some []) (option_map singleton (repository_of (whole_line tag path n s i))))
+    ∙ (ap (λ b. cond b (Some []) (option_map singleton (repository_of (tag_front tag ++ (47 ∷ path))))) (is_no_comment tag path)
+    ∙ ap (option_map singleton) (line-read tag path t n))
 
 -- ---- the whole text
 
@@ -108,7 +109,7 @@ lines-read (r ∷ rs) k h =
     let in_line : list_all is_in_line (tag_front r.tag ++ (47 ∷ r.path)) ≡ true =
     all-append is_in_line (tag_front r.tag) (47 ∷ r.path) (front-in_line r.tag both.0) ends.0 in
     ap (repositories_from k) (slice_split_at is_line_end (tag_front r.tag ++ (47 ∷ r.path)) 10 (repositories_text rs) (no_line_end (tag_front r.tag ++ (47 ∷ r.path)) in_line) refl)
-    ∙ (λ i. before_rest k (on-line r.tag r.path both.0 path.0 (eqb-true (suffix_len is_blank r.path) 0 ends.1) i) (lines-read rs (k + 1) parts.1 i))
+    ∙ (λ i. with_repositories k (on-line r.tag r.path both.0 path.0 (eqb-true (suffix_len is_blank r.path) 0 ends.1) i) (lines-read rs (k + 1) parts.1 i))
 
 pub repositories-read : (rs : List Repository) → list_all is_line_repository rs ≡ true → repositories_of (repositories_text rs) ≡ Ok rs
 unfolding repositories_of

@@ -7,11 +7,13 @@ use Rattle.std.proofs.Math.Seq.{take-append_seam, drop-append_seam}
 use Rattle.std.proofs.lemmas.Bool.{and_parts, eqb-true}
 use Rattle.std.proofs.lemmas.Bool.Decides.{nat_tests}
 use Rattle.version_core.specs.Order.{is_version}
-use Rattle.dep_core.specs.Dependency.{Dependency, IsDependency, dependency_by, is_dep_name, is_limit, is_name_byte, is_tag, is_tag_byte, is_tag_or_none, dep_text, limit_text, mark_text, operator_text, tag_text}
-use Rattle.dep_core.specs.Reading.{any_version, at_tag, behind, dependency_of, ended, is_not_at, is_operator_byte, limited, limited_by, named, operator_bits, tagged, versioned, with_limit, with_tag}
-use Rattle.dep_core.specs.Spelling.{Spells, SpellsLimit}
+use Rattle.dep_core.specs.Dependency.{Dependency, dependency_by, is_dep_name, is_name_byte, is_tag, is_tag_byte}
+use Rattle.dep_core.specs.DependencyText.{IsDependency, is_constraint, is_tag_or_none, dep_text, constraint_text, mark_text, operator_text, tag_text}
+use Rattle.dep_core.specs.Reading.{any_version, at_tag, rest_behind, dependency_of, at_version_end, is_not_at, is_operator_byte, at_constraint, at_operator_end, at_name, operator_bits, at_name_end, at_version, with_constraint, with_tag}
+use Rattle.dep_core.specs.Spelling.{SpellsDependency, SpellsConstraint}
 use Rattle.dep_core.proofs.Operators.{IsOperator, begins_as_operator, operator-is, text-read}
-use Rattle.dep_core.proofs.VersionBytes.{AreSpelled, all-imp, begins_with_digit, is_version_byte, version-bytes, version-first}
+use Rattle.dep_core.proofs.Versions.{Versions, all-imp}
+use Rattle.version_core.specs.Grammar.{begins_with_digit, is_version_byte}
 
 -- ---- a run of bytes ends where the next text begins with another byte
 
@@ -33,7 +35,7 @@ run-len p (x ∷ xs) ys h s =
 pub run : (p : ℕ → Bool) (xs ys : List ℕ) → list_all p xs ≡ true → stops p ys ≡ true → take_while p (xs ++ ys) ≡ xs
 run p xs ys h s = ap (λ n. take n (xs ++ ys)) (run-len p xs ys h s) ∙ take-append_seam xs ys
 
-pub past_run : (p : ℕ → Bool) (xs ys : List ℕ) → list_all p xs ≡ true → stops p ys ≡ true → behind p (xs ++ ys) ≡ ys
+pub past_run : (p : ℕ → Bool) (xs ys : List ℕ) → list_all p xs ≡ true → stops p ys ≡ true → rest_behind p (xs ++ ys) ≡ ys
 past_run p xs ys h s = ap (λ n. drop n (xs ++ ys)) (run-len p xs ys h s) ∙ drop-append_seam xs ys
 
 -- ---- bytes
@@ -58,8 +60,8 @@ name_is_no_mark b h = grind (arith, nat_tests)
 
 -- ---- what stands behind the version
 
-ended-tag : (d : Dependency) (tag : Option (List ℕ)) → d.tag ≡ None → is_tag_or_none tag ≡ true → ended d (tag_text tag) ≡ Some (dependency_by d.name d.version d.bits d.conflict tag)
-unfolding ended
+ended-tag : (d : Dependency) (tag : Option (List ℕ)) → d.tag ≡ None → is_tag_or_none tag ≡ true → at_version_end d (tag_text tag) ≡ Some (dependency_by d.name d.version d.bits d.conflict tag)
+unfolding at_version_end
 ended-tag d None n t = ap (λ o. Some (dependency_by d.name d.version d.bits d.conflict o)) n
 ended-tag d (Some tag) n t =
     ap (λ o. cond (not (is_some o) && is_tag tag) (Some (with_tag d tag)) None) n
@@ -71,51 +73,51 @@ begins_with_digit-stops : (v tail : List ℕ) → begins_with_digit v ≡ true �
 begins_with_digit-stops [] tail h = (cc)
 begins_with_digit-stops (b ∷ v) tail h = digit_stops b h
 
-versioned-text : AreSpelled → (d : Dependency) (bits : ℕ) (v tail : List ℕ) → is_version v ≡ true → stops is_not_at tail ≡ true → versioned d bits (v ++ tail) ≡ ended (with_limit d v bits) tail
-unfolding versioned
+versioned-text : Versions → (d : Dependency) (bits : ℕ) (v tail : List ℕ) → is_version v ≡ true → stops is_not_at tail ≡ true → at_version d bits (v ++ tail) ≡ at_version_end (with_constraint d v bits) tail
+unfolding at_version
 versioned-text spelled d bits v tail h s =
-    let bytes : list_all is_not_at v ≡ true = all-imp is_version_byte is_not_at not_at v (version-bytes spelled v h) in
-    (λ i. cond (is_version (run is_not_at v tail bytes s i)) (ended (with_limit d (run is_not_at v tail bytes s i) bits) (past_run is_not_at v tail bytes s i)) None)
-    ∙ ap (λ b. cond b (ended (with_limit d v bits) tail) None) h
+    let bytes : list_all is_not_at v ≡ true = all-imp is_version_byte is_not_at not_at v (spelled.bytes v h) in
+    (λ i. cond (is_version (run is_not_at v tail bytes s i)) (at_version_end (with_constraint d (run is_not_at v tail bytes s i) bits) (past_run is_not_at v tail bytes s i)) None)
+    ∙ ap (λ b. cond b (at_version_end (with_constraint d v bits) tail) None) h
 
 -- ---- the operator
 
-limited-text : AreSpelled → (d : Dependency) (op v tail : List ℕ) (bits : ℕ) → operator_bits op ≡ Some bits → is_version v ≡ true → stops is_not_at tail ≡ true → limited d (op ++ (v ++ tail)) ≡ ended (with_limit d v bits) tail
-unfolding limited
+limited-text : Versions → (d : Dependency) (op v tail : List ℕ) (bits : ℕ) → operator_bits op ≡ Some bits → is_version v ≡ true → stops is_not_at tail ≡ true → at_constraint d (op ++ (v ++ tail)) ≡ at_version_end (with_constraint d v bits) tail
+unfolding at_constraint
 limited-text spelled d [] v tail bits o h s = absurd (nothing (operator-is [] bits o).1)
   where
     nothing : false ≡ true → ⊥
     nothing e = (cc)
 limited-text spelled d (b ∷ op) v tail bits o h s =
     let known : IsOperator (b ∷ op) bits = operator-is (b ∷ op) bits o in
-    let stop : stops is_operator_byte (v ++ tail) ≡ true = begins_with_digit-stops v tail (version-first spelled v h) in
-    (λ i. limited_by d (operator_bits (run is_operator_byte (b ∷ op) (v ++ tail) known.0 stop i)) (past_run is_operator_byte (b ∷ op) (v ++ tail) known.0 stop i))
-    ∙ (ap (λ r. limited_by d r (v ++ tail)) o ∙ versioned-text spelled d bits v tail h s)
+    let stop : stops is_operator_byte (v ++ tail) ≡ true = begins_with_digit-stops v tail (spelled.first v h) in
+    (λ i. at_operator_end d (operator_bits (run is_operator_byte (b ∷ op) (v ++ tail) known.0 stop i)) (past_run is_operator_byte (b ∷ op) (v ++ tail) known.0 stop i))
+    ∙ (ap (λ r. at_operator_end d r (v ++ tail)) o ∙ versioned-text spelled d bits v tail h s)
 
 -- a dependency on any version, with a tag or none
 abbrev bare : List ℕ → Bool → Option (List ℕ) → Dependency
 bare name conflict tag = dependency_by name None 1 conflict tag
 
-limited-limit : AreSpelled → (name : List ℕ) (conflict : Bool) (tag version : Option (List ℕ)) (bits : ℕ) (limit : List ℕ) → SpellsLimit limit version bits → is_limit version bits ≡ true → limited (bare name conflict tag) limit ≡ Some (dependency_by name version bits conflict tag)
-unfolding limited ended
+limited-limit : Versions → (name : List ℕ) (conflict : Bool) (tag version : Option (List ℕ)) (bits : ℕ) (limit : List ℕ) → SpellsConstraint limit version bits → is_constraint version bits ≡ true → at_constraint (bare name conflict tag) limit ≡ Some (dependency_by name version bits conflict tag)
+unfolding at_constraint at_version_end
 limited-limit spelled name conflict tag None bits limit e g =
-    ap (limited (bare name conflict tag)) e ∙ ap (λ n. Some (dependency_by name None n conflict tag)) (sym (eqb-true bits 1 g))
+    ap (at_constraint (bare name conflict tag)) e ∙ ap (λ n. Some (dependency_by name None n conflict tag)) (sym (eqb-true bits 1 g))
 limited-limit spelled name conflict tag (Some v) bits limit e g =
-    ap (limited (bare name conflict tag)) (e.2 ∙ ap (λ t. e.0 ++ t) (sym (append-nil v)))
+    ap (at_constraint (bare name conflict tag)) (e.2 ∙ ap (λ t. e.0 ++ t) (sym (append-nil v)))
     ∙ limited-text spelled (bare name conflict tag) e.0 v [] bits e.1 (and_parts (is_version v) _ g).0 refl
 
 at_stops : (tag : Option (List ℕ)) → stops is_not_at (tag_text tag) ≡ true
 at_stops None = refl
 at_stops (Some tag) = refl
 
-limited-limit_tag : AreSpelled → (name : List ℕ) (conflict : Bool) (tag : Option (List ℕ)) (v : List ℕ) (bits : ℕ) (op : List ℕ) → operator_bits op ≡ Some bits → is_version v ≡ true → is_tag_or_none tag ≡ true → limited (bare name conflict None) (op ++ (v ++ tag_text tag)) ≡ Some (dependency_by name (Some v) bits conflict tag)
+limited-limit_tag : Versions → (name : List ℕ) (conflict : Bool) (tag : Option (List ℕ)) (v : List ℕ) (bits : ℕ) (op : List ℕ) → operator_bits op ≡ Some bits → is_version v ≡ true → is_tag_or_none tag ≡ true → at_constraint (bare name conflict None) (op ++ (v ++ tag_text tag)) ≡ Some (dependency_by name (Some v) bits conflict tag)
 limited-limit_tag spelled name conflict tag v bits op o h t =
     limited-text spelled (bare name conflict None) op v (tag_text tag) bits o h (at_stops tag)
-    ∙ ended-tag (with_limit (bare name conflict None) v bits) tag refl t
+    ∙ ended-tag (with_constraint (bare name conflict None) v bits) tag refl t
 
 -- ---- the tag behind the name
 
-limit_stops : (p : ℕ → Bool) (version : Option (List ℕ)) (bits : ℕ) (limit : List ℕ) → ((b : ℕ) → is_operator_byte b ≡ true → not (p b) ≡ true) → SpellsLimit limit version bits → stops p limit ≡ true
+limit_stops : (p : ℕ → Bool) (version : Option (List ℕ)) (bits : ℕ) (limit : List ℕ) → ((b : ℕ) → is_operator_byte b ≡ true → not (p b) ≡ true) → SpellsConstraint limit version bits → stops p limit ≡ true
 limit_stops p None bits limit q e = ap (stops p) e
 limit_stops p (Some v) bits limit q e = ap (stops p) e.2 ∙ by e.0 (operator-is e.0 bits e.1).1
   where
@@ -123,58 +125,58 @@ limit_stops p (Some v) bits limit q e = ap (stops p) e.2 ∙ by e.0 (operator-is
     by [] h = (cc)
     by (b ∷ op) h = q b h
 
-tagged-at : AreSpelled → (name : List ℕ) (conflict : Bool) (tag : List ℕ) (version : Option (List ℕ)) (bits : ℕ) (limit : List ℕ) → is_tag tag ≡ true → SpellsLimit limit version bits → is_limit version bits ≡ true → tagged (bare name conflict None) (64 ∷ (tag ++ limit)) ≡ Some (dependency_by name version bits conflict (Some tag))
-unfolding tagged at_tag
+tagged-at : Versions → (name : List ℕ) (conflict : Bool) (tag : List ℕ) (version : Option (List ℕ)) (bits : ℕ) (limit : List ℕ) → is_tag tag ≡ true → SpellsConstraint limit version bits → is_constraint version bits ≡ true → at_name_end (bare name conflict None) (64 ∷ (tag ++ limit)) ≡ Some (dependency_by name version bits conflict (Some tag))
+unfolding at_name_end at_tag
 tagged-at spelled name conflict tag version bits limit t e g =
     let bytes : list_all is_tag_byte tag ≡ true = (and_parts (nat_lt 0 (length tag)) (list_all is_tag_byte tag) t).1 in
     let stop : stops is_tag_byte limit ≡ true = limit_stops is_tag_byte version bits limit operator_ends_tag e in
-    (λ i. cond (is_tag (run is_tag_byte tag limit bytes stop i)) (limited (with_tag (bare name conflict None) (run is_tag_byte tag limit bytes stop i)) (past_run is_tag_byte tag limit bytes stop i)) None)
-    ∙ (ap (λ b. cond b (limited (bare name conflict (Some tag)) limit) None) t ∙ limited-limit spelled name conflict (Some tag) version bits limit e g)
+    (λ i. cond (is_tag (run is_tag_byte tag limit bytes stop i)) (at_constraint (with_tag (bare name conflict None) (run is_tag_byte tag limit bytes stop i)) (past_run is_tag_byte tag limit bytes stop i)) None)
+    ∙ (ap (λ b. cond b (at_constraint (bare name conflict (Some tag)) limit) None) t ∙ limited-limit spelled name conflict (Some tag) version bits limit e g)
 
 -- an operator stands behind the name
-tagged-operator : (d : Dependency) (op rest : List ℕ) (bits : ℕ) → operator_bits op ≡ Some bits → tagged d (op ++ rest) ≡ limited d (op ++ rest)
-unfolding tagged
+tagged-operator : (d : Dependency) (op rest : List ℕ) (bits : ℕ) → operator_bits op ≡ Some bits → at_name_end d (op ++ rest) ≡ at_constraint d (op ++ rest)
+unfolding at_name_end
 tagged-operator d op rest bits o = by op (operator-is op bits o).1
   where
-    by : (op' : List ℕ) → begins_as_operator op' ≡ true → tagged d (op' ++ rest) ≡ limited d (op' ++ rest)
+    by : (op' : List ℕ) → begins_as_operator op' ≡ true → at_name_end d (op' ++ rest) ≡ at_constraint d (op' ++ rest)
     by [] h = (cc)
     by (b ∷ op') h =
-        ap (λ x. cond x (at_tag d (op' ++ rest)) (limited d (b ∷ (op' ++ rest)))) (operator_is_no_at b h)
+        ap (λ x. cond x (at_tag d (op' ++ rest)) (at_constraint d (b ∷ (op' ++ rest)))) (operator_is_no_at b h)
 
 -- ---- the name, and the mark before it
 
-tagged-none : (name : List ℕ) (conflict : Bool) → tagged (bare name conflict None) [] ≡ Some (bare name conflict None)
-unfolding tagged
+tagged-none : (name : List ℕ) (conflict : Bool) → at_name_end (bare name conflict None) [] ≡ Some (bare name conflict None)
+unfolding at_name_end
 tagged-none name conflict = refl
 
-limited-none : (name : List ℕ) (conflict : Bool) → limited (bare name conflict None) [] ≡ Some (bare name conflict None)
-unfolding limited
+limited-none : (name : List ℕ) (conflict : Bool) → at_constraint (bare name conflict None) [] ≡ Some (bare name conflict None)
+unfolding at_constraint
 limited-none name conflict = refl
 
 -- behind the name, where the tag stands there
-tagged-front : AreSpelled → (name : List ℕ) (conflict : Bool) (tag version : Option (List ℕ)) (bits : ℕ) (limit : List ℕ) → is_tag_or_none tag ≡ true → SpellsLimit limit version bits → is_limit version bits ≡ true → tagged (bare name conflict None) (tag_text tag ++ limit) ≡ Some (dependency_by name version bits conflict tag)
+tagged-front : Versions → (name : List ℕ) (conflict : Bool) (tag version : Option (List ℕ)) (bits : ℕ) (limit : List ℕ) → is_tag_or_none tag ≡ true → SpellsConstraint limit version bits → is_constraint version bits ≡ true → at_name_end (bare name conflict None) (tag_text tag ++ limit) ≡ Some (dependency_by name version bits conflict tag)
 tagged-front spelled name conflict (Some tag) version bits limit t e g = tagged-at spelled name conflict tag version bits limit t e g
 tagged-front spelled name conflict None None bits limit t e g =
-    ap (tagged (bare name conflict None)) e ∙ (tagged-none name conflict ∙ (sym (limited-none name conflict) ∙ limited-limit spelled name conflict None None bits [] refl g))
+    ap (at_name_end (bare name conflict None)) e ∙ (tagged-none name conflict ∙ (sym (limited-none name conflict) ∙ limited-limit spelled name conflict None None bits [] refl g))
 tagged-front spelled name conflict None (Some v) bits limit t e g =
-    ap (tagged (bare name conflict None)) e.2
-    ∙ (tagged-operator (bare name conflict None) e.0 v bits e.1 ∙ (ap (limited (bare name conflict None)) (sym e.2) ∙ limited-limit spelled name conflict None (Some v) bits limit e g))
+    ap (at_name_end (bare name conflict None)) e.2
+    ∙ (tagged-operator (bare name conflict None) e.0 v bits e.1 ∙ (ap (at_constraint (bare name conflict None)) (sym e.2) ∙ limited-limit spelled name conflict None (Some v) bits limit e g))
 
 -- behind the name, where the tag stands behind the version
-tagged-back : AreSpelled → (name : List ℕ) (conflict : Bool) (tag version : Option (List ℕ)) (bits : ℕ) (limit : List ℕ) → is_tag_or_none tag ≡ true → SpellsLimit limit version bits → is_limit version bits ≡ true → tagged (bare name conflict None) (limit ++ tag_text tag) ≡ Some (dependency_by name version bits conflict tag)
+tagged-back : Versions → (name : List ℕ) (conflict : Bool) (tag version : Option (List ℕ)) (bits : ℕ) (limit : List ℕ) → is_tag_or_none tag ≡ true → SpellsConstraint limit version bits → is_constraint version bits ≡ true → at_name_end (bare name conflict None) (limit ++ tag_text tag) ≡ Some (dependency_by name version bits conflict tag)
 tagged-back spelled name conflict tag None bits limit t e g =
-    ap (λ l. tagged (bare name conflict None) (l ++ tag_text tag)) e
-    ∙ (ap (tagged (bare name conflict None)) (sym (append-nil (tag_text tag))) ∙ tagged-front spelled name conflict tag None bits [] t refl g)
+    ap (λ l. at_name_end (bare name conflict None) (l ++ tag_text tag)) e
+    ∙ (ap (at_name_end (bare name conflict None)) (sym (append-nil (tag_text tag))) ∙ tagged-front spelled name conflict tag None bits [] t refl g)
 tagged-back spelled name conflict tag (Some v) bits limit t e g =
-    ap (λ l. tagged (bare name conflict None) (l ++ tag_text tag)) e.2
-    ∙ (ap (tagged (bare name conflict None)) (append_assoc e.0 v (tag_text tag))
+    ap (λ l. at_name_end (bare name conflict None) (l ++ tag_text tag)) e.2
+    ∙ (ap (at_name_end (bare name conflict None)) (append_assoc e.0 v (tag_text tag))
     ∙ (tagged-operator (bare name conflict None) e.0 (v ++ tag_text tag) bits e.1 ∙ limited-limit_tag spelled name conflict tag v bits e.0 e.1 (and_parts (is_version v) _ g).0 t))
 
-front_stops : (tag version : Option (List ℕ)) (bits : ℕ) (limit : List ℕ) → SpellsLimit limit version bits → stops is_name_byte (tag_text tag ++ limit) ≡ true
+front_stops : (tag version : Option (List ℕ)) (bits : ℕ) (limit : List ℕ) → SpellsConstraint limit version bits → stops is_name_byte (tag_text tag ++ limit) ≡ true
 front_stops (Some tag) version bits limit e = refl
 front_stops None version bits limit e = limit_stops is_name_byte version bits limit operator_ends_name e
 
-back_stops : (tag version : Option (List ℕ)) (bits : ℕ) (limit : List ℕ) → SpellsLimit limit version bits → stops is_name_byte (limit ++ tag_text tag) ≡ true
+back_stops : (tag version : Option (List ℕ)) (bits : ℕ) (limit : List ℕ) → SpellsConstraint limit version bits → stops is_name_byte (limit ++ tag_text tag) ≡ true
 back_stops None version bits limit e =
     ap (stops is_name_byte) (append-nil limit) ∙ limit_stops is_name_byte version bits limit operator_ends_name e
 back_stops (Some tag) None bits limit e = ap (λ l. stops is_name_byte (l ++ (64 ∷ tag))) e
@@ -185,25 +187,25 @@ back_stops (Some tag) (Some v) bits limit e =
     by [] h = (cc)
     by (b ∷ op) h = operator_ends_name b h
 
-named-text : (conflict : Bool) (name rest : List ℕ) → is_dep_name name ≡ true → stops is_name_byte rest ≡ true → named conflict (name ++ rest) ≡ tagged (bare name conflict None) rest
-unfolding named
+named-text : (conflict : Bool) (name rest : List ℕ) → is_dep_name name ≡ true → stops is_name_byte rest ≡ true → at_name conflict (name ++ rest) ≡ at_name_end (bare name conflict None) rest
+unfolding at_name
 named-text conflict name rest h s =
     let a = and_parts (nat_lt 0 (length name) && nat_le (length name) 255) (list_all is_name_byte name) h in
-    (λ i. cond (is_dep_name (run is_name_byte name rest a.1 s i)) (tagged (any_version conflict (run is_name_byte name rest a.1 s i)) (past_run is_name_byte name rest a.1 s i)) None)
-    ∙ ap (λ b. cond b (tagged (any_version conflict name) rest) None) h
+    (λ i. cond (is_dep_name (run is_name_byte name rest a.1 s i)) (at_name_end (any_version conflict (run is_name_byte name rest a.1 s i)) (past_run is_name_byte name rest a.1 s i)) None)
+    ∙ ap (λ b. cond b (at_name_end (any_version conflict name) rest) None) h
 
-marked : (conflict : Bool) (name rest : List ℕ) → is_dep_name name ≡ true → dependency_of (mark_text conflict ++ (name ++ rest)) ≡ named conflict (name ++ rest)
+marked : (conflict : Bool) (name rest : List ℕ) → is_dep_name name ≡ true → dependency_of (mark_text conflict ++ (name ++ rest)) ≡ at_name conflict (name ++ rest)
 unfolding dependency_of
 marked true name rest h = refl
 marked false [] rest h = (cc)
 marked false (b ∷ name) rest h =
     let a = and_parts (nat_lt 0 (length (b ∷ name)) && nat_le (length (b ∷ name)) 255) (list_all is_name_byte (b ∷ name)) h in
-    ap (λ x. cond x (named true (name ++ rest)) (named false (b ∷ (name ++ rest)))) (name_is_no_mark b (and_parts (is_name_byte b) (list_all is_name_byte name) a.1).0)
+    ap (λ x. cond x (at_name true (name ++ rest)) (at_name false (b ∷ (name ++ rest)))) (name_is_no_mark b (and_parts (is_name_byte b) (list_all is_name_byte name) a.1).0)
 
-pub read-spelled : AreSpelled → (text : List ℕ) (d : Dependency) → Spells text d → dependency_of text ≡ Some d
+pub read-spelled : Versions → (text : List ℕ) (d : Dependency) → SpellsDependency text d → dependency_of text ≡ Some d
 read-spelled spelled text d s =
-    let good = and_parts (is_dep_name d.name && is_limit d.version d.bits) (is_tag_or_none d.tag) s.0 in
-    let both = and_parts (is_dep_name d.name) (is_limit d.version d.bits) good.0 in
+    let good = and_parts (is_dep_name d.name && is_constraint d.version d.bits) (is_tag_or_none d.tag) s.0 in
+    let both = and_parts (is_dep_name d.name) (is_constraint d.version d.bits) good.0 in
     elim s.1.2 [
       | inl e ↦ ap dependency_of e
           ∙ (marked d.conflict d.name (tag_text d.tag ++ s.1.0) both.0
@@ -217,15 +219,15 @@ read-spelled spelled text d s =
 
 -- ---- the text that a dependency is written as
 
-limit-written : (version : Option (List ℕ)) (bits : ℕ) → is_limit version bits ≡ true → SpellsLimit (limit_text version bits) version bits
+limit-written : (version : Option (List ℕ)) (bits : ℕ) → is_constraint version bits ≡ true → SpellsConstraint (constraint_text version bits) version bits
 limit-written None bits g = refl
 limit-written (Some v) bits g =
     (unwrap_or (operator_text bits) [], text-read bits (and_parts (is_version v) (is_some (operator_text bits)) g).1, refl)
 
-pub written-spelled : (d : Dependency) → IsDependency d → Spells (dep_text d) d
+pub written-spelled : (d : Dependency) → IsDependency d → SpellsDependency (dep_text d) d
 written-spelled d g =
-    let good = and_parts (is_dep_name d.name && is_limit d.version d.bits) (is_tag_or_none d.tag) g in
-    (g, (limit_text d.version d.bits, limit-written d.version d.bits (and_parts (is_dep_name d.name) (is_limit d.version d.bits) good.0).1, inl refl))
+    let good = and_parts (is_dep_name d.name && is_constraint d.version d.bits) (is_tag_or_none d.tag) g in
+    (g, (constraint_text d.version d.bits, limit-written d.version d.bits (and_parts (is_dep_name d.name) (is_constraint d.version d.bits) good.0).1, inl refl))
 
-pub read-written : AreSpelled → (d : Dependency) → IsDependency d → dependency_of (dep_text d) ≡ Some d
+pub read-written : Versions → (d : Dependency) → IsDependency d → dependency_of (dep_text d) ≡ Some d
 read-written spelled d g = read-spelled spelled (dep_text d) d (written-spelled d g)

@@ -3,11 +3,13 @@ use Rattle.std.proofs.Common.{◌≡◌, ℕ, ◌%◌, Bool, true, false, not, c
 use Rattle.std.specs.Prelude.{◌&&◌, is_some, nat_lt, unwrap_or}
 use Rattle.std.proofs.lemmas.Bool.{and_parts, eqb-true}
 use Rattle.version_core.specs.Order.{is_version}
-use Rattle.dep_core.specs.Dependency.{Dependency, IsDependency, dependency_by, is_dep_name, is_limit, is_tag_or_none, operator_text}
+use Rattle.dep_core.specs.Dependency.{Dependency, dependency_by, is_dep_name}
+use Rattle.dep_core.specs.DependencyText.{IsDependency, is_constraint, is_tag_or_none, operator_text}
 use Rattle.dep_core.specs.Reading.{any_version}
-use Rattle.dep_core.specs.Value.{bits_of, dep_value, dependency_of_value, is_matching, is_version_or_empty, matching_of, on_version}
+use Rattle.dep_core.specs.Value.{dep_value, is_matching, is_version_or_empty, matching_of}
+use Rattle.dep_core.specs.ValueReading.{bits_of, dependency_of_value, on_version}
 use Rattle.dep_core.proofs.Operators.{each_operator}
-use Rattle.dep_core.proofs.VersionBytes.{AreSpelled, version-first}
+use Rattle.dep_core.proofs.Versions.{Versions}
 
 value-at : (name version : List ℕ) (matching : ℕ) (d : Dependency) → is_dep_name name ≡ true → is_version_or_empty version ≡ true → is_matching matching ≡ true → on_version (any_version (not (nat_lt matching 16)) name) version (bits_of (matching % 16)) ≡ d → dependency_of_value name version matching ≡ Some d
 unfolding dependency_of_value
@@ -40,12 +42,12 @@ with-version : (name : List ℕ) (b : ℕ) (rest : List ℕ) (bits : ℕ) → is
 with-version name b rest bits n v o =
     each_operator (IsRead name b rest) (row name b rest 1 17 0 n v refl refl refl refl refl refl refl refl) (row name b rest 2 18 2 n v refl refl refl refl refl refl refl refl) (row name b rest 3 19 3 n v refl refl refl refl refl refl refl refl) (row name b rest 4 20 4 n v refl refl refl refl refl refl refl refl) (row name b rest 5 21 5 n v refl refl refl refl refl refl refl refl) (row name b rest 9 25 9 n v refl refl refl refl refl refl refl refl) (row name b rest 11 27 11 n v refl refl refl refl refl refl refl refl) (row name b rest 13 29 13 n v refl refl refl refl refl refl refl refl) bits o
 
-by-version : AreSpelled → (name : List ℕ) (version : Option (List ℕ)) (bits : ℕ) (conflict : Bool) → is_dep_name name ≡ true → is_limit version bits ≡ true → dependency_of_value name (unwrap_or version []) (unwrap_or (matching_of version bits conflict) 0) ≡ Some (dependency_by name version bits conflict None)
+by-version : Versions → (name : List ℕ) (version : Option (List ℕ)) (bits : ℕ) (conflict : Bool) → is_dep_name name ≡ true → is_constraint version bits ≡ true → dependency_of_value name (unwrap_or version []) (unwrap_or (matching_of version bits conflict) 0) ≡ Some (dependency_by name version bits conflict None)
 by-version spelled name None bits conflict n l =
     ap (λ m. dependency_of_value name [] (unwrap_or (matching_of None m conflict) 0)) (eqb-true bits 1 l)
     ∙ (without-version name conflict n ∙ ap (λ m. Some (dependency_by name None m conflict None)) (sym (eqb-true bits 1 l)))
 by-version spelled name (Some []) bits conflict n l =
-    absurd (no_digit (version-first spelled [] (and_parts (is_version []) (is_some (operator_text bits)) l).0))
+    absurd (no_digit (spelled.first [] (and_parts (is_version []) (is_some (operator_text bits)) l).0))
   where
     no_digit : false ≡ true → ⊥
     no_digit e = (cc)
@@ -53,8 +55,8 @@ by-version spelled name (Some (b ∷ rest)) bits conflict n l =
     let parts = and_parts (is_version (b ∷ rest)) (is_some (operator_text bits)) l in
     with-version name b rest bits n parts.0 parts.1 conflict
 
-pub value-read_back : AreSpelled → (d : Dependency) → IsDependency d → d.tag ≡ None → dependency_of_value (dep_value d).name (dep_value d).version (unwrap_or (dep_value d).matching 0) ≡ Some d
+pub value-read_back : Versions → (d : Dependency) → IsDependency d → d.tag ≡ None → dependency_of_value (dep_value d).name (dep_value d).version (unwrap_or (dep_value d).matching 0) ≡ Some d
 value-read_back spelled d g t =
-    let good = and_parts (is_dep_name d.name && is_limit d.version d.bits) (is_tag_or_none d.tag) g in
-    let both = and_parts (is_dep_name d.name) (is_limit d.version d.bits) good.0 in
+    let good = and_parts (is_dep_name d.name && is_constraint d.version d.bits) (is_tag_or_none d.tag) g in
+    let both = and_parts (is_dep_name d.name) (is_constraint d.version d.bits) good.0 in
     by-version spelled d.name d.version d.bits d.conflict both.0 both.1 ∙ ap (λ o. Some (dependency_by d.name d.version d.bits d.conflict o)) (sym t)

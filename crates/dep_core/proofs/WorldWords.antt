@@ -13,8 +13,8 @@ use Rattle.std.proofs.lemmas.Bool.{and_parts, and_from, or_parts, not-true, not_
 use Rattle.std.proofs.lemmas.List.Sorted.{IsPermutation-refl, IsPermutation-sym, IsPermutation-trans, IsPermutation-cons, IsPermutation-middle, IsPermutation-append_right}
 use Rattle.dep_core.specs.Dependency.{Dependency}
 use Rattle.dep_core.specs.Reading.{dependency_of}
-use Rattle.dep_core.specs.World.{IsWorld, has_name, lines_of, name_cmp, or_bad_line, with_entry, with_lines, with_new, with_words, words_of, world_of}
-use Rattle.dep_core.specs.Entries.{IsFirstBadLine, IsWorldOf, are_apart, words_in}
+use Rattle.dep_core.specs.World.{IsWorld, has_name, lines_of, name_cmp, or_bad_line, with_entry, with_lines, with_new_entry, with_words, words_of, world_of}
+use Rattle.dep_core.specs.Entries.{IsFirstBadLine, IsWorldOf, have_different_names, words_in}
 use Rattle.dep_core.proofs.Operators.{some-inj}
 use Rattle.dep_core.proofs.ReadOut.{read-out}
 use Rattle.dep_core.proofs.Worlds.{IsWorld-with_entry, cmp-back}
@@ -28,7 +28,7 @@ append-by (Some w) front back h = h w
 words-append : (front back : List (List ℕ)) (w : List Dependency) → with_words w (front ++ back) ≡ option_and_then (λ m. with_words m back) (with_words w front)
 words-append [] back w = refl
 words-append (x ∷ front) back w =
-    append-by (option_and_then (with_new w) (dependency_of x)) front back (words-append front back)
+    append-by (option_and_then (with_new_entry w) (dependency_of x)) front back (words-append front back)
 
 line-by : (o : Option (List Dependency)) (k : ℕ) (lines : List (List ℕ)) → ((w : List Dependency) → result_ok (with_lines w (k + 1) lines) ≡ with_words w (flat_map words_of lines)) → result_ok (or_bad_line k (λ m. with_lines m (k + 1) lines) o) ≡ option_and_then (λ m. with_words m (flat_map words_of lines)) o
 line-by None k lines h = refl
@@ -108,7 +108,7 @@ new-joined d w (e ∷ ds) h a n =
 record AreRead (words : List (List ℕ)) (w v : List Dependency) : Type 0 where
   entries : List Dependency
   read : map dependency_of words ≡ map Some entries
-  apart : are_apart entries ≡ true
+  apart : have_different_names entries ≡ true
   fresh : are_new w entries ≡ true
   same : IsPermutation (entries ++ w) v
   kept : IsWorld w → IsWorld v
@@ -119,7 +119,7 @@ one-more x words d w v r h out =
     record {
       entries = d ∷ out.entries;
       read = (λ i. r i ∷ out.read i);
-      apart = and_from (not (has_name d.name out.entries)) (are_apart out.entries) (not_from_false (has_name d.name out.entries) parts.0) out.apart;
+      apart = and_from (not (has_name d.name out.entries)) (have_different_names out.entries) (not_from_false (has_name d.name out.entries) parts.0) out.apart;
       fresh = and_from (not (has_name d.name w)) (are_new w out.entries) (not_from_false (has_name d.name w) h) parts.1;
       same = IsPermutation-trans (d ∷ (out.entries ++ w)) (out.entries ++ (d ∷ w)) v (IsPermutation-sym (out.entries ++ (d ∷ w)) (d ∷ (out.entries ++ w)) (IsPermutation-middle out.entries d w)) (IsPermutation-trans (out.entries ++ (d ∷ w)) (out.entries ++ with_entry d w) v (IsPermutation-append_right out.entries (d ∷ w) (with_entry d w) (moved d w h)) out.same);
       kept = (λ world. out.kept (IsWorld-with_entry d w (read-out x d r).0 world));
@@ -129,7 +129,7 @@ new-by : (x : List ℕ) (words : List (List ℕ)) (d : Dependency) (w v : List D
 new-by x words d w v true r e h more = (cc)
 new-by x words d w v false r e h more = one-more x words d w v r e (more (with_entry d w) h)
 
-read-by : (x : List ℕ) (words : List (List ℕ)) (o : Option Dependency) (w v : List Dependency) → dependency_of x ≡ o → option_and_then (λ m. with_words m words) (option_and_then (with_new w) o) ≡ Some v → ((u : List Dependency) → with_words u words ≡ Some v → AreRead words u v) → AreRead (x ∷ words) w v
+read-by : (x : List ℕ) (words : List (List ℕ)) (o : Option Dependency) (w v : List Dependency) → dependency_of x ≡ o → option_and_then (λ m. with_words m words) (option_and_then (with_new_entry w) o) ≡ Some v → ((u : List Dependency) → with_words u words ≡ Some v → AreRead words u v) → AreRead (x ∷ words) w v
 read-by x words None w v r h more = (cc)
 read-by x words (Some d) w v r h more = new-by x words d w v (has_name d.name w) r refl h more
 
@@ -144,16 +144,16 @@ words-read [] v w h = record {
 }
 words-read (x ∷ words) v w h = read-by x words (dependency_of x) w v refl h (words-read words v)
 
-words-good : (words : List (List ℕ)) (ds w : List Dependency) → map dependency_of words ≡ map Some ds → are_apart ds ≡ true → are_new w ds ≡ true → is_some (with_words w words) ≡ true
+words-good : (words : List (List ℕ)) (ds w : List Dependency) → map dependency_of words ≡ map Some ds → have_different_names ds ≡ true → are_new w ds ≡ true → is_some (with_words w words) ≡ true
 words-good [] ds w r a n = refl
 words-good (x ∷ words) [] w r a n = (cc)
 words-good (x ∷ words) (d ∷ ds) w r a n =
     let first : dependency_of x ≡ Some d = cc in
     let others : map dependency_of words ≡ map Some ds = cc in
-    let apart : (not (has_name d.name ds) ≡ true) × (are_apart ds ≡ true) = and_parts (not (has_name d.name ds)) (are_apart ds) a in
+    let apart : (not (has_name d.name ds) ≡ true) × (have_different_names ds ≡ true) = and_parts (not (has_name d.name ds)) (have_different_names ds) a in
     let fresh : (not (has_name d.name w) ≡ true) × (are_new w ds ≡ true) = and_parts (not (has_name d.name w)) (are_new w ds) n in
     let absent : has_name d.name w ≡ false = not-true (has_name d.name w) fresh.0 in
-    ap (λ o. is_some (option_and_then (λ m. with_words m words) (option_and_then (with_new w) o))) first
+    ap (λ o. is_some (option_and_then (λ m. with_words m words) (option_and_then (with_new_entry w) o))) first
     ∙ (ap (λ b. is_some (option_and_then (λ m. with_words m words) (cond b None (Some (with_entry d w))))) absent
     ∙ words-good words ds (with_entry d w) others apart.1 (new-joined d w ds absent (not-true (has_name d.name ds) apart.0) fresh.1))
 
@@ -174,7 +174,7 @@ none_taken : (ds : List Dependency) → are_new [] ds ≡ true
 none_taken [] = refl
 none_taken (d ∷ ds) = none_taken ds
 
-pub words-world : (text : List ℕ) (ds : List Dependency) → map dependency_of (words_in text) ≡ map Some ds → are_apart ds ≡ true → is_ok (world_of text) ≡ true
+pub words-world : (text : List ℕ) (ds : List Dependency) → map dependency_of (words_in text) ≡ map Some ds → have_different_names ds ≡ true → is_ok (world_of text) ≡ true
 unfolding world_of
 words-world text ds r a =
     ok-by (with_lines [] 1 (lines_of text)) (ap is_some (lines-words (lines_of text) 1 []) ∙ words-good (words_in text) ds [] r a (none_taken ds))

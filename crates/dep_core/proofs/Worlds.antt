@@ -7,8 +7,9 @@ use Rattle.std.specs.Cmp.{IsTotalOrder}
 use Rattle.std.specs.Cmp.Lexicographic.{nat_list_cmp_total, texts_ties, bytes_decides}
 use Rattle.std.specs.declared.cmp.Ordering.TheVariants.{Less, Equal, Greater}
 use Rattle.std.proofs.lemmas.Bool.{and_parts, and_from}
-use Rattle.dep_core.specs.Dependency.{Dependency, is_dependency}
-use Rattle.dep_core.specs.World.{IsWorld, is_in_order, name_cmp, with_entry, without}
+use Rattle.dep_core.specs.Dependency.{Dependency}
+use Rattle.dep_core.specs.DependencyText.{is_dependency}
+use Rattle.dep_core.specs.World.{IsWorld, is_in_order, name_cmp, with_entry, without_name}
 
 -- ---- names
 
@@ -96,7 +97,7 @@ IsWorld-with_entry d w hd hw =
     let parts : (list_all is_dependency w ≡ true) × (is_in_order w ≡ true) = and_parts (list_all is_dependency w) (is_in_order w) hw in
     and_from (list_all is_dependency (with_entry d w)) (is_in_order (with_entry d w)) (all-with_entry is_dependency d w hd parts.0) (order-with_entry d w parts.1)
 
-pub IsWorld-without : (name : List ℕ) (w : List Dependency) → IsWorld w → IsWorld (without name w)
+pub IsWorld-without : (name : List ℕ) (w : List Dependency) → IsWorld w → IsWorld (without_name name w)
 IsWorld-without name w hw =
     let parts : (list_all is_dependency w ≡ true) × (is_in_order w ≡ true) = and_parts (list_all is_dependency w) (is_in_order w) hw in
-    and_from (list_all is_dependency (without name w)) (is_in_order (without name w)) (all-filter is_dependency (λ (d : Dependency). not (bytes_eq d.name name)) w parts.0) (order-filter (λ (d : Dependency). not (bytes_eq d.name name)) w parts.1)
+    and_from (list_all is_dependency (without_name name w)) (is_in_order (without_name name w)) (all-filter is_dependency (λ (d : Dependency). not (bytes_eq d.name name)) w parts.0) (order-filter (λ (d : Dependency). not (bytes_eq d.name name)) w parts.1)

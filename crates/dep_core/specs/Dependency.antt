@@ -1,12 +1,11 @@
--- Dependencies, after apk-package(5) and apk-world(5): their parts, and the one text that each is written as.
-use Rattle.std.specs.Prelude.{ℕ, ◌==◌, nat_lt, nat_le, Bool, true, false, not, ◌&&◌, ◌||◌, List, [], ◌∷◌, ◌++◌, length, map, codes, Option, Some, None, is_some, unwrap_or, IsTrue}
+-- Dependencies, after apk-package(5) and apk-world(5): their parts, and which bytes these have.
+use Rattle.std.specs.Prelude.{ℕ, ◌==◌, nat_lt, nat_le, Bool, false, not, ◌&&◌, ◌||◌, List, [], ◌∷◌, length, codes, Option}
 use Rattle.std.specs.Char.{is_ascii_alphanumeric}
 use Rattle.std.specs.List.{list_all, list_any}
-use Rattle.std.specs.Map.{lookup}
-use Rattle.version_core.specs.Order.{is_version}
 
--- what a package needs or excludes: a name, the wanted version if one is named, the match bits against it (1 equal, 2
--- less, 4 greater, 8 the fuzzy match), whether it excludes what meets it, and the tag that world gives the name
+-- what a package needs or excludes: a name, the wanted version if one is named, the match bits
+-- against it (1 equal, 2 less, 4 greater, 8 the fuzzy match), whether it excludes what meets it,
+-- and the tag that world gives the name
 pub record Dependency : Type 0 where
   pub name : List ℕ
   pub version : Option (List ℕ)
@@ -35,7 +34,8 @@ begins_with_punctuation (b ∷ rest) = (b == 45) || (b == 46)
 
 -- a name that a package may have: it has no `/`
 abbrev pub is_package_name : List ℕ → Bool
-is_package_name name = is_dep_name name && not (begins_with_punctuation name) && not (list_any (λ b. b == 47) name)
+is_package_name name =
+    is_dep_name name && not (begins_with_punctuation name) && not (list_any (λ b. b == 47) name)
 
 -- letters, digits, `_`, `-`, `.`
 abbrev pub is_tag_byte : ℕ → Bool
@@ -47,41 +47,6 @@ is_tag tag = nat_lt 0 (length tag) && list_all is_tag_byte tag
 -- each operator, and its match bits
 abbrev pub operators : List (List ℕ × ℕ)
 operators =
-    (codes "=", 1) ∷ (codes "<", 2) ∷ (codes "<=", 3) ∷ (codes ">", 4) ∷ (codes ">=", 5) ∷ (codes "~", 9)
+    (codes "=", 1) ∷ (codes "<", 2) ∷ (codes "<=", 3) ∷ (codes ">", 4) ∷ (codes ">=", 5)
+    ∷ (codes "~", 9)
     ∷ (codes "<~", 11) ∷ (codes ">~", 13) ∷ []
-
--- the operator of some bits, if there is one
-abbrev pub operator_text : ℕ → Option (List ℕ)
-operator_text bits = lookup (λ b. b == bits) (map (λ (o : List ℕ × ℕ). (o.1, o.0)) operators)
-
--- without version the bits are 1; with one they have an operator
-abbrev pub is_limit : Option (List ℕ) → ℕ → Bool
-is_limit None bits = bits == 1
-is_limit (Some version) bits = is_version version && is_some (operator_text bits)
-
-abbrev pub is_tag_or_none : Option (List ℕ) → Bool
-is_tag_or_none None = true
-is_tag_or_none (Some tag) = is_tag tag
-
--- whether the parts are in the grammar
-abbrev pub is_dependency : Dependency → Bool
-is_dependency d = is_dep_name d.name && is_limit d.version d.bits && is_tag_or_none d.tag
-
-abbrev pub IsDependency : Dependency → Type 0
-IsDependency d = IsTrue (is_dependency d)
-
-abbrev pub mark_text : Bool → List ℕ
-mark_text true = 33 ∷ []
-mark_text false = []
-
-abbrev pub tag_text : Option (List ℕ) → List ℕ
-tag_text None = []
-tag_text (Some tag) = 64 ∷ tag
-
-abbrev pub limit_text : Option (List ℕ) → ℕ → List ℕ
-limit_text None bits = []
-limit_text (Some version) bits = unwrap_or (operator_text bits) [] ++ version
-
--- the text that a dependency is written as: `!` for a conflict, the name, `@` and the tag, the operator and the version
-abbrev pub dep_text : Dependency → List ℕ
-dep_text d = mark_text d.conflict ++ (d.name ++ (tag_text d.tag ++ limit_text d.version d.bits))

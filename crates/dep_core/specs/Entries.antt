@@ -11,15 +11,16 @@ abbrev pub words_in : List ℕ → List (List ℕ)
 words_in text = flat_map words_of (lines_of text)
 
 -- whether no name stands twice
-abbrev pub are_apart : List Dependency → Bool
-are_apart [] = true
-are_apart (d ∷ rest) = not (has_name d.name rest) && are_apart rest
+abbrev pub have_different_names : List Dependency → Bool
+have_different_names [] = true
+have_different_names (d ∷ rest) = not (has_name d.name rest) && have_different_names rest
 
--- each word is a dependency, no name stands twice, and the world has just these dependencies, in order of their names
+-- each word is a dependency, no name stands twice, and the world has just these dependencies, in
+-- order of their names
 pub record IsWorldOf (text : List ℕ) (world : List Dependency) : Type 0 where
   pub entries : List Dependency
   pub read : map dependency_of (words_in text) ≡ map Some entries
-  pub apart : are_apart entries ≡ true
+  pub apart : have_different_names entries ≡ true
   pub same : IsPermutation entries world
   pub in_order : IsWorld world
 

@@ -7,8 +7,8 @@ use Rattle.version_core.specs.Order.{is_version}
 use Rattle.dep_core.specs.Dependency.{Dependency, dependency_by, is_name_byte, is_dep_name, is_tag_byte, is_tag, operators}
 
 -- what stands behind the longest front of such bytes
-abbrev pub behind : (ℕ → Bool) → List ℕ → List ℕ
-behind p text = drop (prefix_len p text) text
+abbrev pub rest_behind : (ℕ → Bool) → List ℕ → List ℕ
+rest_behind p text = drop (prefix_len p text) text
 
 -- `<`, `=`, `>`, `~`
 abbrev pub is_operator_byte : ℕ → Bool
@@ -28,48 +28,56 @@ any_version conflict name = dependency_by name None 1 conflict None
 abbrev pub with_tag : Dependency → List ℕ → Dependency
 with_tag d tag = dependency_by d.name d.version d.bits d.conflict (Some tag)
 
-abbrev pub with_limit : Dependency → List ℕ → ℕ → Dependency
-with_limit d version bits = dependency_by d.name (Some version) bits d.conflict d.tag
+abbrev pub with_constraint : Dependency → List ℕ → ℕ → Dependency
+with_constraint d version bits = dependency_by d.name (Some version) bits d.conflict d.tag
 
 -- behind the version: nothing, or the tag, if none stands behind the name
-unfoldable pub ended : Dependency → List ℕ → Option Dependency
-ended d [] = Some d
-ended d (b ∷ tag) = if (b == 64) && (not (is_some d.tag) && is_tag tag) then Some (with_tag d tag) else None
+unfoldable pub at_version_end : Dependency → List ℕ → Option Dependency
+at_version_end d [] = Some d
+at_version_end d (b ∷ tag) =
+    if (b == 64) && (not (is_some d.tag) && is_tag tag) then Some (with_tag d tag) else None
 
 -- behind the operator: the version
-unfoldable pub versioned : Dependency → ℕ → List ℕ → Option Dependency
-versioned d bits text =
-    if is_version (take_while is_not_at text) then ended (with_limit d (take_while is_not_at text) bits) (behind is_not_at text) else
-    None
+unfoldable pub at_version : Dependency → ℕ → List ℕ → Option Dependency
+at_version d bits text =
+    if is_version (take_while is_not_at text)
+    then at_version_end (with_constraint d (take_while is_not_at text) bits)
+    (rest_behind is_not_at text)
+    else None
 
-abbrev pub limited_by : Dependency → Option ℕ → List ℕ → Option Dependency
-limited_by d None text = None
-limited_by d (Some bits) text = versioned d bits text
+abbrev pub at_operator_end : Dependency → Option ℕ → List ℕ → Option Dependency
+at_operator_end d None text = None
+at_operator_end d (Some bits) text = at_version d bits text
 
 -- behind the name and its tag: nothing, or the operator
-unfoldable pub limited : Dependency → List ℕ → Option Dependency
-limited d [] = Some d
-limited d (b ∷ rest) =
-    limited_by d (operator_bits (take_while is_operator_byte (b ∷ rest))) (behind is_operator_byte (b ∷ rest))
+unfoldable pub at_constraint : Dependency → List ℕ → Option Dependency
+at_constraint d [] = Some d
+at_constraint d (b ∷ rest) =
+    at_operator_end d (operator_bits (take_while is_operator_byte (b ∷ rest)))
+    (rest_behind is_operator_byte (b ∷ rest))
 
 -- behind `@`: the tag
 unfoldable pub at_tag : Dependency → List ℕ → Option Dependency
 at_tag d text =
-    if is_tag (take_while is_tag_byte text) then limited (with_tag d (take_while is_tag_byte text)) (behind is_tag_byte text) else
-    None
+    if is_tag (take_while is_tag_byte text)
+    then at_constraint (with_tag d (take_while is_tag_byte text))
+    (rest_behind is_tag_byte text)
+    else None
 
 -- behind the name: the tag, if one stands there
-unfoldable pub tagged : Dependency → List ℕ → Option Dependency
-tagged d [] = Some d
-tagged d (b ∷ rest) = if b == 64 then at_tag d rest else limited d (b ∷ rest)
+unfoldable pub at_name_end : Dependency → List ℕ → Option Dependency
+at_name_end d [] = Some d
+at_name_end d (b ∷ rest) = if b == 64 then at_tag d rest else at_constraint d (b ∷ rest)
 
 -- behind the mark of a conflict: the name
-unfoldable pub named : Bool → List ℕ → Option Dependency
-named conflict text =
-    if is_dep_name (take_while is_name_byte text) then tagged (any_version conflict (take_while is_name_byte text)) (behind is_name_byte text) else
-    None
+unfoldable pub at_name : Bool → List ℕ → Option Dependency
+at_name conflict text =
+    if is_dep_name (take_while is_name_byte text)
+    then at_name_end (any_version conflict (take_while is_name_byte text))
+    (rest_behind is_name_byte text)
+    else None
 
 -- the dependency that a text is
 unfoldable pub dependency_of : List ℕ → Option Dependency
 dependency_of [] = None
-dependency_of (b ∷ rest) = if b == 33 then named true rest else named false (b ∷ rest)
+dependency_of (b ∷ rest) = if b == 33 then at_name true rest else at_name false (b ∷ rest)

@@ -4,7 +4,7 @@ use Rattle.std.specs.Option.{option_map}
 use Rattle.std.specs.List.{suffix_len, take_while}
 use Rattle.base_core.specs.Name.{is_name}
 use Rattle.dep_core.specs.Dependency.{is_tag_byte, is_tag}
-use Rattle.dep_core.specs.Reading.{behind}
+use Rattle.dep_core.specs.Reading.{rest_behind}
 use Rattle.dep_core.specs.World.{is_blank, lines_of}
 
 -- the file of an index, and the tag under which world may ask for its packages
@@ -15,12 +15,12 @@ pub record Repository : Type 0 where
 abbrev pub repository : Option (List ℕ) → List ℕ → Repository
 repository tag path = record { tag = tag; path = path }
 
-abbrev pub without_blanks_behind : List ℕ → List ℕ
-without_blanks_behind text = take (length text - suffix_len is_blank text) text
+abbrev pub without_trailing_blanks : List ℕ → List ℕ
+without_trailing_blanks text = take (length text - suffix_len is_blank text) text
 
 -- without spaces and tabs at both ends
-abbrev pub trimmed : List ℕ → List ℕ
-trimmed text = without_blanks_behind (behind is_blank text)
+abbrev pub without_outer_blanks : List ℕ → List ℕ
+without_outer_blanks text = without_trailing_blanks (rest_behind is_blank text)
 
 abbrev pub is_comment : List ℕ → Bool
 is_comment [] = true
@@ -36,36 +36,43 @@ without_slash (b ∷ rest) = if b == 47 then rest else b ∷ rest
 
 -- one leading slash is dropped, and the rest must be a name
 abbrev pub at_path : Option (List ℕ) → List ℕ → Option Repository
-at_path tag path = if is_name (without_slash path) then Some (repository tag (without_slash path)) else None
+at_path tag path =
+    if is_name (without_slash path) then Some (repository tag (without_slash path)) else None
 
 -- behind `@`: the tag, blanks, the path
 unfoldable pub tagged_repository : List ℕ → Option Repository
 tagged_repository text =
     let tag = take_while is_tag_byte text in
-    let rest = behind is_tag_byte text in
-    if is_tag tag && begins_with_blank rest then at_path (Some tag) (behind is_blank rest) else None
+    let rest = rest_behind is_tag_byte text in
+    if is_tag tag && begins_with_blank rest then at_path (Some tag) (rest_behind is_blank rest)
+    else None
 
 -- a line without blanks at its ends, which is neither empty nor a comment
 unfoldable pub repository_of : List ℕ → Option Repository
 repository_of [] = None
 repository_of (b ∷ rest) = if b == 64 then tagged_repository rest else at_path None (b ∷ rest)
 
-abbrev pub only : Repository → List Repository
-only found = found ∷ []
+abbrev pub singleton : Repository → List Repository
+singleton found = found ∷ []
 
 -- what a line names: nothing, one repository, or none where it is bad
 abbrev pub repositories_on : List ℕ → Option (List Repository)
-repositories_on line = if is_comment (trimmed line) then Some [] else option_map only (repository_of (trimmed line))
+repositories_on line =
+    if is_comment (without_outer_blanks line) then Some []
+    else option_map singleton (repository_of (without_outer_blanks line))
 
-abbrev pub before_rest : ℕ → Option (List Repository) → Result (List Repository) ℕ → Result (List Repository) ℕ
-before_rest line None rest = Err line
-before_rest line (Some found) (Ok rest) = Ok (found ++ rest)
-before_rest line (Some found) (Err bad) = Err bad
+abbrev pub with_repositories : ℕ → Option (List Repository) → Result (List Repository) ℕ
+    → Result (List Repository) ℕ
+with_repositories line None rest = Err line
+with_repositories line (Some found) (Ok rest) = Ok (found ++ rest)
+with_repositories line (Some found) (Err bad) = Err bad
 
--- the repositories of some lines, the first of which has a number, or the number of the first bad line
+-- the repositories of some lines, the first of which has a number, or the number of the first bad
+-- line
 abbrev pub repositories_from : ℕ → List (List ℕ) → Result (List Repository) ℕ
 repositories_from line [] = Ok []
-repositories_from line (text ∷ rest) = before_rest line (repositories_on text) (repositories_from (line + 1) rest)
+repositories_from line (text ∷ rest) =
+    with_repositories line (repositories_on text) (repositories_from (line + 1) rest)
 
 -- the repositories that a text names, or the number of its first bad line, counted from 1
 unfoldable pub repositories_of : List ℕ → Result (List Repository) ℕ

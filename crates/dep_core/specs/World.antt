@@ -1,11 +1,13 @@
--- World, after apk-world(5): what is asked of the installed packages, a dependency for each name, in byte order of the names.
+-- World, after apk-world(5): what is asked of the installed packages, a dependency for each name,
+-- in byte order of the names.
 use Rattle.std.specs.Prelude.{ℕ, ◌+◌, ◌==◌, Bool, true, not, ◌&&◌, ◌||◌, if◌then◌else◌, List, [], ◌∷◌, ◌++◌, length, Option, Some, None, option_and_then, Result, Ok, Err, IsTrue}
 use Rattle.std.specs.List.{filter, list_all, list_any, slice_split}
 use Rattle.std.specs.Ordering.{nat_cmp, is_lt, match_ordering}
 use Rattle.std.specs.Cmp.Lexicographic.{slice_cmp}
 use Rattle.std.specs.Str.{bytes_eq}
 use Rattle.std.specs.declared.cmp.Ordering.{Ordering}
-use Rattle.dep_core.specs.Dependency.{Dependency, dep_text, is_dependency}
+use Rattle.dep_core.specs.Dependency.{Dependency}
+use Rattle.dep_core.specs.DependencyText.{dep_text, is_dependency}
 use Rattle.dep_core.specs.Reading.{dependency_of}
 
 abbrev pub name_cmp : List ℕ → List ℕ → Ordering
@@ -14,7 +16,8 @@ name_cmp = slice_cmp nat_cmp
 -- whether each name comes before those behind it
 abbrev pub is_in_order : List Dependency → Bool
 is_in_order [] = true
-is_in_order (d ∷ rest) = list_all (λ (e : Dependency). is_lt (name_cmp d.name e.name)) rest && is_in_order rest
+is_in_order (d ∷ rest) =
+    list_all (λ (e : Dependency). is_lt (name_cmp d.name e.name)) rest && is_in_order rest
 
 abbrev pub IsWorld : List Dependency → Type 0
 IsWorld world = IsTrue (list_all is_dependency world && is_in_order world)
@@ -25,11 +28,12 @@ has_name name world = list_any (λ (d : Dependency). bytes_eq d.name name) world
 -- world with a dependency, in place of the one of its name or where its name belongs
 abbrev pub with_entry : Dependency → List Dependency → List Dependency
 with_entry d [] = d ∷ []
-with_entry d (e ∷ rest) = match_ordering (name_cmp d.name e.name) (d ∷ (e ∷ rest)) (d ∷ rest) (e ∷ with_entry d rest)
+with_entry d (e ∷ rest) =
+    match_ordering (name_cmp d.name e.name) (d ∷ (e ∷ rest)) (d ∷ rest) (e ∷ with_entry d rest)
 
 -- world without the entry of a name
-abbrev pub without : List ℕ → List Dependency → List Dependency
-without name world = filter (λ (d : Dependency). not (bytes_eq d.name name)) world
+abbrev pub without_name : List ℕ → List Dependency → List Dependency
+without_name name world = filter (λ (d : Dependency). not (bytes_eq d.name name)) world
 
 -- a line for each entry
 abbrev pub world_text : List Dependency → List ℕ
@@ -50,20 +54,23 @@ abbrev pub words_of : List ℕ → List (List ℕ)
 words_of line = filter (λ word. not (length word == 0)) (slice_split is_blank line)
 
 -- world with an entry, unless it is none or its name stands there
-abbrev pub with_new : List Dependency → Dependency → Option (List Dependency)
-with_new world d = if has_name d.name world then None else Some (with_entry d world)
+abbrev pub with_new_entry : List Dependency → Dependency → Option (List Dependency)
+with_new_entry world d = if has_name d.name world then None else Some (with_entry d world)
 
 -- world with the entries of some words, unless one is no dependency or repeats a name
 abbrev pub with_words : List Dependency → List (List ℕ) → Option (List Dependency)
 with_words world [] = Some world
 with_words world (word ∷ words) =
-    option_and_then (λ more. with_words more words) (option_and_then (with_new world) (dependency_of word))
+    option_and_then (λ more. with_words more words)
+    (option_and_then (with_new_entry world) (dependency_of word))
 
-abbrev pub or_bad_line : ℕ → (List Dependency → Result (List Dependency) ℕ) → Option (List Dependency) → Result (List Dependency) ℕ
+abbrev pub or_bad_line : ℕ → (List Dependency → Result (List Dependency) ℕ)
+    → Option (List Dependency) → Result (List Dependency) ℕ
 or_bad_line line next None = Err line
 or_bad_line line next (Some world) = next world
 
--- world with the entries of some lines, the first of which has a number, or the number of the first bad line
+-- world with the entries of some lines, the first of which has a number, or the number of the first
+-- bad line
 abbrev pub with_lines : List Dependency → ℕ → List (List ℕ) → Result (List Dependency) ℕ
 with_lines world line [] = Ok world
 with_lines world line (text ∷ rest) =

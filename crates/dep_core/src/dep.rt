@@ -1,6 +1,11 @@
-ghost use Rattle.std.specs.Prelude.{IsTrue};
+//! Dependencies: their parts, names, tags and operators, and what meets them.
+
+ghost use Rattle.std.specs.Prelude.{IsTrue, ◌≡◌, Some, IfSome, is_some, ◌==◌};
 ghost use Rattle.std.specs.Option.{option_copied};
-ghost use Rattle.dep_core.specs.Dependency.{dependency_by, is_dependency};
+ghost use Rattle.dep_core.specs.Dependency.{dependency_by, begins_with_punctuation, is_dep_name, is_name_byte, is_package_name, is_tag, is_tag_byte};
+ghost use Rattle.dep_core.specs.DependencyText.{is_dependency, operator_text};
+ghost use Rattle.dep_core.specs.Reading.{operator_bits};
+ghost use Rattle.std.specs.List.{list_all, list_any};
 
 use version_core::{Op, Version};
 
@@ -17,16 +22,18 @@ pub struct Dep<'a> {
     pub conflict: bool,
     /// The tag of the repositories that may serve it; it stands in world only (apk-world(5)).
     pub tag: Option<&'a [u8]>,
-    pub ghost in_grammar: { IsTrue (is_dependency (dependency_by name.now version op conflict (option_copied tag))) },
+    pub ghost in_grammar: { IsTrue (is_dependency
+        (dependency_by name.now version op conflict (option_copied tag))) },
 }
 
 impl<'a> Dep<'a> {
     ghost use Rattle.std.specs.Prelude.{◌≡◌};
     ghost use Rattle.std.specs.Option.{option_copied};
-    ghost use Rattle.dep_core.specs.Seen.{dependency, meets};
+    ghost use Rattle.dep_core.specs.Reading.{any_version, with_constraint, with_tag};
+    ghost use Rattle.dep_core.specs.Meets.{dependency, meets};
 
-    /// Whether a name and a version, if there is one, meet it: the names are equal, and it wants no version or the
-    /// given one matches. It does not matter whether it is a conflict.
+    /// Whether a name and a version, if there is one, meet it: the names are equal, and it wants no
+    /// version or the given one matches. It does not matter whether it is a conflict.
     pub fn met_by(&self, name: &[u8], version: Option<&Version<'_>>) -> bool
         ensures { result ≡ meets (dependency self.now) name.now (option_copied version.entry) }
     {
@@ -40,5 +47,160 @@ impl<'a> Dep<'a> {
             None => false,
             Some(found) => found.matches(self.op, wanted),
         }
+    }
+
+    /// The dependency on any version of a name.
+    pub(crate) fn any_version(conflict: bool, name: &'a [u8]) -> Dep<'a>
+        requires { IsTrue (is_dep_name name.now) }
+        ensures { dependency result ≡ any_version conflict name.entry.now }
+    {
+        Dep {
+            name,
+            version: None,
+            op: equal(),
+            conflict,
+            tag: None,
+        }
+    }
+
+    /// The dependency with a tag.
+    pub(crate) fn with_tag(self, tag: &'a [u8]) -> Dep<'a>
+        requires { IsTrue (is_tag tag.now) }
+        ensures { dependency result ≡ with_tag (dependency self.entry) tag.entry.now }
+    {
+        let mut dep = self;
+        dep.tag = Some(tag);
+        dep
+    }
+
+    /// The dependency on some versions.
+    pub(crate) fn with_constraint(self, version: Version<'a>, op: Op) -> Dep<'a>
+        requires { IsTrue (is_some (operator_text op)) }
+        ensures { dependency result ≡ with_constraint (dependency self.entry) version.entry op }
+    {
+        let mut dep = self;
+        dep.version = Some(version);
+        dep.op = op;
+        dep
+    }
+}
+
+/// The operator `=`, which a dependency without version has.
+fn equal() -> Op
+    ensures { result ≡ 1 }
+{
+    Op::of(1).unwrap()
+}
+
+/// The operator that a text is. None comes exactly where it is none.
+pub fn operator_of(text: &[u8]) -> Option<Op>
+    ensures bits { result ≡ operator_bits text.now }
+    ensures has_text { IfSome result (λ op. IsTrue (is_some (operator_text op))) }
+{
+    match text {
+        b"=" => Op::of(1),
+        b"<" => Op::of(2),
+        b"<=" => Op::of(3),
+        b">" => Op::of(4),
+        b">=" => Op::of(5),
+        b"~" | b"=~" | b"~=" => Op::of(9),
+        b"<~" => Op::of(11),
+        b">~" => Op::of(13),
+        _ => None,
+    }
+}
+
+/// The text of an operator that has one.
+pub fn operator_text(op: Op) -> &'static [u8]
+    requires { IsTrue (is_some (operator_text op)) }
+    ensures { operator_text op ≡ Some result.now }
+{
+    match op.bits() {
+        1 => b"=",
+        2 => b"<",
+        3 => b"<=",
+        4 => b">",
+        5 => b">=",
+        9 => b"~",
+        11 => b"<~",
+        _ => b">~",
+    }
+}
+
+/// Whether the bytes are the name of a dependency: 1 to 255 bytes from 0x21 to 0x7e, none of them
+/// `!`, `<`, `=`, `>`, `@` or `~`.
+pub fn is_dep_name(name: &[u8]) -> bool
+    ensures { result ≡ is_dep_name name.now }
+{
+    if name.is_empty() || name.len() > 255 {
+        return false;
+    }
+    has_name_bytes(name)
+}
+
+fn has_name_bytes(name: &[u8]) -> bool
+    ensures { result ≡ list_all is_name_byte name.now }
+{
+    name.iter().all(|byte| is_name_byte(*byte))
+}
+
+/// Whether the bytes are the name of a package: a dependency's name that has no `/` and does not
+/// begin with `-` or `.`.
+pub fn is_package_name(name: &[u8]) -> bool
+    ensures { result ≡ is_package_name name.now }
+{
+    if !is_dep_name(name) || begins_with_punctuation(name) {
+        return false;
+    }
+    !has_slash(name)
+}
+
+fn has_slash(name: &[u8]) -> bool
+    ensures { result ≡ list_any (λ b. b == 47) name.now }
+{
+    name.contains(&b'/')
+}
+
+fn begins_with_punctuation(name: &[u8]) -> bool
+    ensures { result ≡ begins_with_punctuation name.now }
+{
+    match name.first() {
+        Some(byte) => *byte == b'-' || *byte == b'.',
+        None => false,
+    }
+}
+
+/// Whether the bytes are a tag: letters, digits, `_`, `-` and `.`, at least one.
+pub fn is_tag(tag: &[u8]) -> bool
+    ensures { result ≡ is_tag tag.now }
+{
+    if tag.is_empty() {
+        return false;
+    }
+    has_tag_bytes(tag)
+}
+
+fn has_tag_bytes(tag: &[u8]) -> bool
+    ensures { result ≡ list_all is_tag_byte tag.now }
+{
+    tag.iter().all(|byte| is_tag_byte(*byte))
+}
+
+pub fn is_name_byte(byte: u8) -> bool
+    ensures { result ≡ is_name_byte byte }
+{
+    match byte {
+        b'!' | b'<' | b'=' | b'>' | b'@' | b'~' => false,
+        0x21..=0x7e => true,
+        _ => false,
+    }
+}
+
+pub fn is_tag_byte(byte: u8) -> bool
+    ensures { result ≡ is_tag_byte byte }
+{
+    match byte {
+        b'_' | b'-' | b'.' => true,
+        _ => byte.is_ascii_alphanumeric(),
     }
 }

@@ -1,34 +1,41 @@
+//! What follows from the definitions, for all texts and dependencies: the body of a law only calls
+//! laws of lower crates, and its contract is proved.
+
 ghost use Rattle.std.specs.Prelude.{◌≡◌, ℕ, List, None, Some, Ok, Err, IsTrue, is_ok, map, unwrap_or};
-ghost use Rattle.dep_core.specs.Dependency.{Dependency, IsDependency, dep_text};
+ghost use Rattle.dep_core.specs.Dependency.{Dependency};
+ghost use Rattle.dep_core.specs.DependencyText.{IsDependency, dep_text};
 ghost use Rattle.dep_core.specs.Reading.{dependency_of};
-ghost use Rattle.dep_core.specs.Spelling.{Spells};
-ghost use Rattle.dep_core.specs.Value.{dep_value, dependency_of_value};
+ghost use Rattle.dep_core.specs.Spelling.{SpellsDependency};
+ghost use Rattle.dep_core.specs.Value.{dep_value};
+ghost use Rattle.dep_core.specs.ValueReading.{dependency_of_value};
 ghost use Rattle.dep_core.specs.World.{IsWorld, world_of, world_text};
-ghost use Rattle.dep_core.specs.Entries.{IsFirstBadLine, IsWorldOf, are_apart, words_in};
+ghost use Rattle.dep_core.specs.Entries.{IsFirstBadLine, IsWorldOf, have_different_names, words_in};
 ghost use Rattle.dep_core.specs.Repositories.{Repository, repositories_of};
 ghost use Rattle.dep_core.specs.RepositoryText.{is_line_repository, repositories_text};
 ghost use Rattle.std.specs.List.{list_all};
 
-use version_core::read_is_spelled;
+use version_core::versions_have_version_bytes;
 
 /// A text that is read as a dependency is one of that dependency's texts.
 pub fn read_texts_are_spelled()
-    ensures { (text : List ℕ) (d : Dependency) → dependency_of text ≡ Some d → Spells text d }
+    ensures { (text : List ℕ) (d : Dependency) → dependency_of text ≡ Some d
+        → SpellsDependency text d }
 {}
 
 /// Each text of a dependency is read as that dependency.
 pub fn spelled_texts_are_read()
-    ensures { (text : List ℕ) (d : Dependency) → Spells text d → dependency_of text ≡ Some d }
+    ensures { (text : List ℕ) (d : Dependency) → SpellsDependency text d
+        → dependency_of text ≡ Some d }
 {
-    read_is_spelled();
+    versions_have_version_bytes();
 }
 
 /// The text that a dependency is written as is one of its texts, and is read as that dependency.
 pub fn texts_are_read_back()
-    ensures spelled { (d : Dependency) → IsDependency d → Spells (dep_text d) d }
+    ensures spelled { (d : Dependency) → IsDependency d → SpellsDependency (dep_text d) d }
     ensures read { (d : Dependency) → IsDependency d → dependency_of (dep_text d) ≡ Some d }
 {
-    read_is_spelled();
+    versions_have_version_bytes();
 }
 
 /// The value of a dependency without tag is read as that dependency.
@@ -37,30 +44,31 @@ pub fn values_are_read_back()
         (let v = dep_value d in
         dependency_of_value v.name v.version (unwrap_or v.matching 0) ≡ Some d) }
 {
-    read_is_spelled();
+    versions_have_version_bytes();
 }
 
 /// The text that a world is written as is read as that world.
 pub fn worlds_are_read_back()
     ensures { (world : List Dependency) → IsWorld world → world_of (world_text world) ≡ Ok world }
 {
-    read_is_spelled();
+    versions_have_version_bytes();
 }
 
 /// The world of a text has just the dependencies that its words are, one a name.
 pub fn worlds_hold_their_words()
-    ensures { (text : List ℕ) (world : List Dependency) → world_of text ≡ Ok world → IsWorldOf text world }
+    ensures { (text : List ℕ) (world : List Dependency) → world_of text ≡ Ok world
+        → IsWorldOf text world }
 {}
 
 /// A text whose words are dependencies of different names is a world.
-pub fn words_apart_are_a_world()
+pub fn words_of_different_names_are_a_world()
     ensures { (text : List ℕ) (entries : List Dependency) →
-        map dependency_of (words_in text) ≡ map Some entries → IsTrue (are_apart entries) →
-        IsTrue (is_ok (world_of text)) }
+        map dependency_of (words_in text) ≡ map Some entries
+        → IsTrue (have_different_names entries) → IsTrue (is_ok (world_of text)) }
 {}
 
-/// The bad line that is told is the first one.
-pub fn first_bad_line_is_told()
+/// The bad line that is reported is the first one.
+pub fn first_bad_line_is_reported()
     ensures { (text : List ℕ) (line : ℕ) → world_of text ≡ Err line → IsFirstBadLine text line }
 {}
 

@@ -1,10 +1,12 @@
+//! Repositories: the lines of `etc/apk/repositories` and how they are read.
+
 ghost use Rattle.std.specs.Prelude.{◌≡◌, ◌<◌, ◌==◌, ◌++◌, length, slice_get, Some, None, if◌then◌else◌, IfOk, IfErr, option_copied};
 ghost use Rattle.std.specs.Option.{option_map};
-ghost use Rattle.dep_core.specs.Repositories.{at_path, begins_with_blank, is_comment, repositories_of, repositories_on, repository_of, tagged_repository, trimmed, without_blanks_behind, without_slash};
+ghost use Rattle.dep_core.specs.Repositories.{at_path, begins_with_blank, is_comment, repositories_of, repositories_on, repository_of, tagged_repository, without_outer_blanks, without_trailing_blanks, without_slash};
 ghost use Rattle.dep_core.specs.Faults.{IsReposFault};
 
-use crate::names::is_tag;
-use crate::runs::{blank_len, is_blank, tag_len};
+use crate::dep::is_tag;
+use crate::text::{blank_len, is_blank, tag_len};
 use base_core::{Name, Text};
 use std::alloc::{AllocError, Global};
 use std::marker::Model;
@@ -29,7 +31,7 @@ impl From<AllocError> for ReposFault {
     }
 }
 
-// The file of an index, and its tag.
+/// The file of an index, and its tag.
 #[derive(Drop)]
 struct Repo {
     tag: Option<Text>,
@@ -60,9 +62,9 @@ impl Model for Repos {
 }
 
 impl Repos {
-    /// The repositories that a text names, a path on each line, or `@`, a tag, spaces or tabs and a path. Lines that
-    /// are empty or begin with `#` are passed over, as are spaces and tabs at both ends of a line. One leading `/` of
-    /// a path is dropped, and the rest must be a name.
+    /// The repositories that a text names, a path on each line, or `@`, a tag, spaces or tabs and a
+    /// path. Lines that are empty or begin with `#` are passed over, as are spaces and tabs at both
+    /// ends of a line. One leading `/` of a path is dropped, and the rest must be a name.
     pub fn read(alloc: Global, bytes: &[u8]) -> Result<Repos, ReposFault>
         ensures ok { IfOk result (λ repos. repositories_of bytes.now ≡ Ok repos) }
         ensures bad { IfErr result (λ fault. IsReposFault fault (repositories_of bytes.now)) }
@@ -92,7 +94,7 @@ impl Repos {
         self.repos.is_empty()
     }
 
-    /// The path at a place, counted from 0.
+    /// The path at an index.
     pub fn path(&self, i: usize) -> &Name
         requires { i < length self.now }
         ensures { option_map (λ repo. repo.path) (slice_get self.now i) ≡ Some result.now }
@@ -100,22 +102,23 @@ impl Repos {
         &self.repos[i].path
     }
 
-    /// The tag at a place, counted from 0.
+    /// The tag at an index.
     pub fn tag(&self, i: usize) -> Option<&[u8]>
         requires { i < length self.now }
-        ensures { option_map (λ repo. repo.tag) (slice_get self.now i) ≡ Some (option_copied result) }
+        ensures { option_map (λ repo. repo.tag) (slice_get self.now i)
+            ≡ Some (option_copied result) }
     {
         self.repos[i].tag.as_ref().map(|tag| tag.as_bytes())
     }
 }
 
-// Adds what a line names, and tells whether the line is good.
+/// Adds what a line names, and tells whether the line is good.
 fn add_line(alloc: Global, repos: &mut Vec<Repo>, line: &[u8]) -> Result<bool, AllocError>
     ensures { IfOk result (λ good.
         option_map (λ found. repos.old.items ++ found) (repositories_on line.now)
         ≡ (if good then Some repos.new.items else None)) }
 {
-    let line = trimmed(line);
+    let line = without_outer_blanks(line);
     if is_comment(line) {
         return Ok(true);
     }
@@ -126,15 +129,15 @@ fn add_line(alloc: Global, repos: &mut Vec<Repo>, line: &[u8]) -> Result<bool, A
     Ok(true)
 }
 
-// Without spaces and tabs at both ends.
-fn trimmed(text: &[u8]) -> &[u8]
-    ensures { result.now ≡ trimmed text.now }
+/// Without spaces and tabs at both ends.
+fn without_outer_blanks(text: &[u8]) -> &[u8]
+    ensures { result.now ≡ without_outer_blanks text.now }
 {
-    without_blanks_behind(&text[blank_len(text)..])
+    without_trailing_blanks(&text[blank_len(text)..])
 }
 
-fn without_blanks_behind(text: &[u8]) -> &[u8]
-    ensures { result.now ≡ without_blanks_behind text.now }
+fn without_trailing_blanks(text: &[u8]) -> &[u8]
+    ensures { result.now ≡ without_trailing_blanks text.now }
 {
     let mut end = text.len();
     while end > 0 && is_blank(text[end - 1]) {
@@ -143,7 +146,7 @@ fn without_blanks_behind(text: &[u8]) -> &[u8]
     &text[..end]
 }
 
-// Whether a line without blanks at its ends is passed over.
+/// Whether a line without blanks at its ends is passed over.
 fn is_comment(text: &[u8]) -> bool
     ensures { result ≡ is_comment text.now }
 {

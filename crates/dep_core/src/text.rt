@@ -1,11 +1,141 @@
-ghost use Rattle.std.specs.Prelude.{◌≡◌, ◌++◌, IfOk, OnOk};
-ghost use Rattle.dep_core.specs.Dependency.{dep_text};
-ghost use Rattle.dep_core.specs.Seen.{dependency};
+//! Dependencies as texts and as values of a package's information: how they are read and written.
 
-use crate::dep::Dep;
-use crate::operator::operator_text;
+ghost use Rattle.std.specs.Prelude.{◌≡◌, IsTrue, is_some, IfSome, ◌++◌, IfOk, OnOk, ◌≤◌, length, not, position};
+ghost use Rattle.std.specs.Option.{option_map};
+ghost use Rattle.dep_core.specs.Dependency.{is_name_byte, is_tag_byte};
+ghost use Rattle.dep_core.specs.DependencyText.{operator_text, dep_text};
+ghost use Rattle.dep_core.specs.Reading.{at_tag, dependency_of, at_version_end, at_constraint, at_name, at_name_end, at_version, is_not_at, is_operator_byte};
+ghost use Rattle.dep_core.specs.Meets.{dependency};
+ghost use Rattle.dep_core.specs.ValueReading.{bits_of, dependency_of_value};
+ghost use Rattle.std.specs.List.{prefix_len};
+ghost use Rattle.dep_core.specs.World.{is_blank};
+
+use crate::dep::{Dep, is_dep_name, is_name_byte, is_tag, is_tag_byte, operator_of, operator_text};
 use base_core::Text;
 use std::alloc::{AllocError, Global};
+use version_core::{Op, Version};
+
+/// The dependency that a text is, as `name`, `!name`, `name@tag>=1.2` or `name>=1.2@tag`. None
+/// comes exactly where it is none.
+#[tactic(auto, unfolding(crate::specs::Reading::dependency_of))]
+pub fn read_dep(text: &[u8]) -> Option<Dep<'_>>
+    ensures { option_map dependency result ≡ dependency_of text.entry.now }
+{
+    match text.split_first() {
+        Some((b'!', rest)) => at_name(true, rest),
+        Some(_) => at_name(false, text),
+        None => None,
+    }
+}
+
+#[tactic(auto, unfolding(crate::specs::Reading::at_name))]
+fn at_name(conflict: bool, text: &[u8]) -> Option<Dep<'_>>
+    ensures { option_map dependency result ≡ at_name conflict text.entry.now }
+{
+    let (name, rest) = text.split_at(name_len(text));
+    if !is_dep_name(name) {
+        return None;
+    }
+    at_name_end(Dep::any_version(conflict, name), rest)
+}
+
+#[tactic(auto, unfolding(crate::specs::Reading::at_name_end))]
+fn at_name_end<'a>(dep: Dep<'a>, text: &'a [u8]) -> Option<Dep<'a>>
+    ensures { option_map dependency result ≡ at_name_end (dependency dep.entry) text.entry.now }
+{
+    match text.split_first() {
+        None => Some(dep),
+        Some((b'@', rest)) => at_tag(dep, rest),
+        Some(_) => at_constraint(dep, text),
+    }
+}
+
+#[tactic(auto, unfolding(crate::specs::Reading::at_tag))]
+fn at_tag<'a>(dep: Dep<'a>, text: &'a [u8]) -> Option<Dep<'a>>
+    ensures { option_map dependency result ≡ at_tag (dependency dep.entry) text.entry.now }
+{
+    let (tag, rest) = text.split_at(tag_len(text));
+    if !is_tag(tag) {
+        return None;
+    }
+    at_constraint(dep.with_tag(tag), rest)
+}
+
+#[tactic(auto, unfolding(crate::specs::Reading::at_constraint))]
+fn at_constraint<'a>(dep: Dep<'a>, text: &'a [u8]) -> Option<Dep<'a>>
+    ensures { option_map dependency result ≡ at_constraint (dependency dep.entry) text.entry.now }
+{
+    if text.is_empty() {
+        return Some(dep);
+    }
+    let (operator, rest) = text.split_at(operator_len(text));
+    let op = operator_of(operator)?;
+    at_version(dep, op, rest)
+}
+
+#[tactic(auto, unfolding(crate::specs::Reading::at_version))]
+fn at_version<'a>(dep: Dep<'a>, op: Op, text: &'a [u8]) -> Option<Dep<'a>>
+    requires { IsTrue (is_some (operator_text op)) }
+    ensures { option_map dependency result ≡ at_version (dependency dep.entry) op text.entry.now }
+{
+    let (version, rest) = text.split_at(len_before_at(text));
+    let version = Version::read(version)?;
+    at_version_end(dep.with_constraint(version, op), rest)
+}
+
+#[tactic(auto, unfolding(crate::specs::Reading::at_version_end))]
+fn at_version_end<'a>(dep: Dep<'a>, text: &'a [u8]) -> Option<Dep<'a>>
+    ensures { option_map dependency result ≡ at_version_end (dependency dep.entry) text.entry.now }
+{
+    match text.split_first() {
+        None => Some(dep),
+        Some((b'@', tag)) if dep.tag.is_none() && is_tag(tag) => Some(dep.with_tag(tag)),
+        Some(_) => None,
+    }
+}
+
+/// What a match number says of a conflict, above the bits of the operator.
+const CONFLICT: u64 = 16;
+
+/// The dependency of a package's information: a name, a version, which may be empty, and a match
+/// number. The low four bits are the operator's, and 16 stands for a conflict. With the low bits 7
+/// or 15 any version is taken; 0 stands for 1, and 8, 10, 12 for 9, 11, 13. None comes exactly
+/// where the name is none, the version is neither empty nor one, or the number is above 31 or has
+/// the low bits 6 or 14.
+#[tactic(auto, unfolding(crate::specs::ValueReading::dependency_of_value))]
+pub fn dep_of<'a>(name: &'a [u8], version: &'a [u8], matching: u64) -> Option<Dep<'a>>
+    ensures { option_map dependency result
+        ≡ dependency_of_value name.entry.now version.entry.now matching }
+{
+    if !is_dep_name(name) || matching >= 2 * CONFLICT {
+        return None;
+    }
+    let low = Op::of((matching % CONFLICT) as u8)?;
+    let dep = Dep::any_version(matching >= CONFLICT, name);
+    if version.is_empty() {
+        return Some(dep);
+    }
+    let version = Version::read(version)?;
+    match wanted_op(low) {
+        Some(op) => Some(dep.with_constraint(version, op)),
+        None => Some(dep),
+    }
+}
+
+/// The operator against the wanted version, if there is one.
+fn wanted_op(low: Op) -> Option<Op>
+    ensures bits { result ≡ bits_of low }
+    ensures has_text { IfSome result (λ op. IsTrue (is_some (operator_text op))) }
+{
+    match low.bits() {
+        7 | 15 => None,
+        0 => Op::of(1),
+        8 => Op::of(9),
+        10 => Op::of(11),
+        12 => Op::of(13),
+        _ => Some(low),
+    }
+}
 
 /// The one text that a dependency is written as, which is read as that dependency.
 pub fn dep_text(alloc: Global, dep: &Dep<'_>) -> Result<Text, AllocError>
@@ -33,4 +163,92 @@ pub fn append_dep(text: &mut Vec<u8>, dep: &Dep<'_>) -> Result<(), AllocError>
         text.extend_from_slice(version.text())?;
     }
     Ok(())
+}
+
+/// How many bytes of a name a text begins with.
+#[tactic(auto, using(crate::proofs::Prefixes::len_at))]
+pub fn name_len(text: &[u8]) -> usize
+    ensures len { result ≡ prefix_len is_name_byte text.now }
+    ensures within { result ≤ length text.now }
+{
+    name_end(text).unwrap_or(text.len())
+}
+
+fn name_end(text: &[u8]) -> Option<usize>
+    ensures { result ≡ position (λ b. not (is_name_byte b)) text.now }
+{
+    text.iter().position(|byte| !is_name_byte(*byte))
+}
+
+/// How many bytes of a tag a text begins with.
+#[tactic(auto, using(crate::proofs::Prefixes::len_at))]
+pub fn tag_len(text: &[u8]) -> usize
+    ensures len { result ≡ prefix_len is_tag_byte text.now }
+    ensures within { result ≤ length text.now }
+{
+    tag_end(text).unwrap_or(text.len())
+}
+
+fn tag_end(text: &[u8]) -> Option<usize>
+    ensures { result ≡ position (λ b. not (is_tag_byte b)) text.now }
+{
+    text.iter().position(|byte| !is_tag_byte(*byte))
+}
+
+/// How many bytes of an operator a text begins with.
+#[tactic(auto, using(crate::proofs::Prefixes::len_at))]
+pub fn operator_len(text: &[u8]) -> usize
+    ensures len { result ≡ prefix_len is_operator_byte text.now }
+    ensures within { result ≤ length text.now }
+{
+    operator_end(text).unwrap_or(text.len())
+}
+
+fn operator_end(text: &[u8]) -> Option<usize>
+    ensures { result ≡ position (λ b. not (is_operator_byte b)) text.now }
+{
+    text.iter().position(|byte| !is_operator_byte(*byte))
+}
+
+fn is_operator_byte(byte: u8) -> bool
+    ensures { result ≡ is_operator_byte byte }
+{
+    matches!(byte, b'<' | b'=' | b'>' | b'~')
+}
+
+/// How many bytes stand in front of the first `@`.
+#[tactic(auto, using(crate::proofs::Prefixes::len_at))]
+pub fn len_before_at(text: &[u8]) -> usize
+    ensures len { result ≡ prefix_len is_not_at text.now }
+    ensures within { result ≤ length text.now }
+{
+    at_sign(text).unwrap_or(text.len())
+}
+
+fn at_sign(text: &[u8]) -> Option<usize>
+    ensures { result ≡ position (λ b. not (is_not_at b)) text.now }
+{
+    text.iter().position(|byte| *byte == b'@')
+}
+
+/// How many spaces and tabs a text begins with.
+#[tactic(auto, using(crate::proofs::Prefixes::len_at))]
+pub fn blank_len(text: &[u8]) -> usize
+    ensures len { result ≡ prefix_len is_blank text.now }
+    ensures within { result ≤ length text.now }
+{
+    blank_end(text).unwrap_or(text.len())
+}
+
+fn blank_end(text: &[u8]) -> Option<usize>
+    ensures { result ≡ position (λ b. not (is_blank b)) text.now }
+{
+    text.iter().position(|byte| !is_blank(*byte))
+}
+
+/// Whether a byte is a space or a tab.
+pub fn is_blank(byte: u8) -> bool
+    ensures { result ≡ is_blank byte }
+{
+    matches!(byte, b' ' | b'\t')
 }

@@ -1,21 +1,27 @@
-ghost use Rattle.std.specs.Prelude.{◌≡◌, ◌<◌, ◌==◌, Some, length, slice_get, IfOk, IfErr, OnOk, OnErr};
-ghost use Rattle.dep_core.specs.Seen.{dependency};
-ghost use Rattle.dep_core.specs.World.{IsWorld, has_name, with_entry, without, world_of, world_text};
+//! World (apk-world(5)): its entries, how they are read from a text and written as one, and edits.
+
+ghost use Rattle.std.specs.Prelude.{◌≡◌, ◌<◌, ◌==◌, Some, length, slice_get, IfOk, IfErr, OnOk, OnErr, IsTrue, [], None, not, if◌then◌else◌};
+ghost use Rattle.dep_core.specs.Meets.{dependency};
+ghost use Rattle.dep_core.specs.World.{IsWorld, has_name, with_entry, without_name, world_of, world_text, name_cmp, with_new_entry, with_words, words_of};
 ghost use Rattle.dep_core.specs.Faults.{IsWorldFault};
+ghost use Rattle.dep_core.specs.DependencyText.{is_dependency, IsDependency};
+ghost use Rattle.std.specs.List.Sorted.{IsBinarySearchResult, IsSearchInRange};
+ghost use Rattle.std.specs.Option.{option_and_then};
+ghost use Rattle.dep_core.specs.Reading.{dependency_of};
 
 use crate::dep::Dep;
-use crate::entries::{put, take_out};
-use crate::entry::Entry;
-use crate::found::Found;
-use crate::text::append_dep;
+use crate::text::{append_dep, is_blank, read_dep};
 use base_core::Text;
 use std::alloc::{AllocError, Global};
+use std::collections::BTreeMap;
 use std::marker::Model;
+use version_core::{Op, Version};
 
 /// Why a world is not read.
 #[derive(Clone, Copy, Debug, PartialEq, Eq)]
 pub enum WorldFault {
-    /// The first line, counted from 1, that has an entry which is no dependency or whose name stands before.
+    /// The first line, counted from 1, that has an entry which is no dependency or whose name
+    /// stands before.
     Bad { line: u64 },
     /// There was no memory.
     Memory,
@@ -32,7 +38,8 @@ impl From<AllocError> for WorldFault {
     }
 }
 
-/// What is asked of the installed packages (apk-world(5)): dependencies in byte order of their names, one a name.
+/// What is asked of the installed packages (apk-world(5)): dependencies in byte order of their
+/// names, one a name.
 #[derive(Drop)]
 pub struct World {
     alloc: Global,
@@ -70,7 +77,8 @@ impl World {
         Ok(World { alloc, entries })
     }
 
-    /// Puts the dependency in place of the entry of its name, or adds it. A refused call changes nothing.
+    /// Puts the dependency in place of the entry of its name, or adds it. A refused call changes
+    /// nothing.
     pub fn add(&mut self, dep: &Dep<'_>) -> Result<(), AllocError>
         ensures ok { OnOk result (self.new ≡ with_entry (dependency dep.now) self.old) }
         ensures err { OnErr result (self.new ≡ self.old) }
@@ -82,7 +90,7 @@ impl World {
     /// Takes the entry of a name out, and tells whether there was one.
     pub fn del(&mut self, name: &[u8]) -> bool
         ensures found { result ≡ has_name name.now self.old }
-        ensures rest { self.new ≡ without name.now self.old }
+        ensures rest { self.new ≡ without_name name.now self.old }
     {
         take_out(&mut self.entries, name)
     }
@@ -115,11 +123,206 @@ impl World {
         self.entries.is_empty()
     }
 
-    /// The entry at a place, counted from 0.
+    /// The entry at an index.
     pub fn entry(&self, i: usize) -> Dep<'_>
         requires { i < length self.now }
         ensures { slice_get self.now i ≡ Some (dependency result) }
     {
         self.entries[i].dep()
+    }
+}
+
+/// A dependency that owns its parts.
+#[derive(Drop)]
+pub struct Entry {
+    name: Text,
+    version: Option<Text>,
+    op: Op,
+    conflict: bool,
+    tag: Option<Text>,
+}
+
+impl Model for Entry {
+    ghost use Rattle.std.specs.Prelude.{IsTrue};
+    ghost use Rattle.dep_core.specs.Dependency.{Dependency, dependency_by};
+    ghost use Rattle.dep_core.specs.DependencyText.{is_dependency};
+
+    ghost Value = { Dependency };
+
+    ghost view = { λ e. dependency_by e.name e.version e.op e.conflict e.tag };
+
+    ghost invariant = { λ e.
+        IsTrue (is_dependency (dependency_by e.name e.version e.op e.conflict e.tag)) };
+}
+
+impl Entry {
+    /// A copy of the dependency.
+    pub fn of(alloc: Global, dep: &Dep<'_>) -> Result<Entry, AllocError>
+        ensures value { IfOk result (λ entry. entry ≡ dependency dep.now) }
+        ensures grammar { IsTrue (is_dependency (dependency dep.now)) }
+    {
+        let name = Text::of(alloc, dep.name)?;
+        let version = match &dep.version {
+            Some(version) => Some(Text::of(alloc, version.text())?),
+            None => None,
+        };
+        let tag = match dep.tag {
+            Some(tag) => Some(Text::of(alloc, tag)?),
+            None => None,
+        };
+        Ok(Entry {
+            name,
+            version,
+            op: dep.op,
+            conflict: dep.conflict,
+            tag,
+        })
+    }
+
+    /// The dependency.
+    pub fn dep(&self) -> Dep<'_>
+        ensures { dependency result ≡ self.now }
+    {
+        let version = match &self.version {
+            Some(version) => Version::read(version.as_bytes()),
+            None => None,
+        };
+        let tag = self.tag.as_ref().map(|tag| tag.as_bytes());
+        Dep {
+            name: self.name.as_bytes(),
+            version,
+            op: self.op,
+            conflict: self.conflict,
+            tag,
+        }
+    }
+
+    /// Its name.
+    pub fn name(&self) -> &[u8]
+        ensures { result.now ≡ self.now.name }
+    {
+        self.name.as_bytes()
+    }
+}
+
+/// Puts an entry in place of the one of its name, or where its name belongs. A refused call changes
+/// nothing.
+pub fn put(entries: &mut Vec<Entry>, entry: Entry) -> Result<(), AllocError>
+    requires world { IsWorld entries.old.items }
+    requires dependency { IsDependency entry }
+    ensures ok { OnOk result (entries.new.items ≡ with_entry entry entries.old.items) }
+    ensures err { OnErr result (entries.new.items ≡ entries.old.items) }
+    ensures still_world { IsWorld entries.new.items }
+{
+    match index_of(entries, entry.name()) {
+        Ok(index) => entries[index] = entry,
+        Err(index) => entries.insert(index, entry)?,
+    }
+    Ok(())
+}
+
+/// Takes the entry of a name out, and tells whether there was one.
+pub fn take_out(entries: &mut Vec<Entry>, name: &[u8]) -> bool
+    requires { IsWorld entries.old.items }
+    ensures found { result ≡ has_name name.now entries.old.items }
+    ensures rest { entries.new.items ≡ without_name name.now entries.old.items }
+    ensures still_world { IsWorld entries.new.items }
+{
+    match index_of(entries, name) {
+        Ok(index) => {
+            entries.remove(index);
+            true
+        }
+        Err(_) => false,
+    }
+}
+
+/// The index of the entry of a name, or the one that it would have.
+fn index_of(entries: &[Entry], name: &[u8]) -> Result<usize, usize>
+    ensures within { IsSearchInRange result (length entries.now) }
+    ensures index { IsBinarySearchResult
+        (λ entry. name_cmp entry.name name.now) entries.now result }
+{
+    entries.binary_search_by(|entry| entry.name().cmp(name))
+}
+
+/// The entries found in a text so far, in byte order of their names.
+#[derive(Drop)]
+pub struct Found<'a> {
+    alloc: Global,
+    by_name: BTreeMap<&'a [u8], Entry>,
+}
+
+impl<'a> Model for Found<'a> {
+    ghost use Rattle.std.specs.Prelude.{List};
+    ghost use Rattle.std.specs.BTreeMap.{values};
+    ghost use Rattle.dep_core.specs.Dependency.{Dependency};
+    ghost use Rattle.dep_core.specs.Found.{IsByName};
+    ghost use Rattle.dep_core.specs.World.{IsWorld};
+
+    ghost Value = { List Dependency };
+
+    ghost view = { λ found. values found.by_name };
+
+    ghost invariant = { λ found. IsByName found.by_name.entries × IsWorld (values found.by_name) };
+}
+
+impl<'a> Found<'a> {
+    /// Nothing.
+    pub fn new(alloc: Global) -> Found<'a>
+        ensures { result ≡ [] }
+    {
+        Found {
+            alloc,
+            by_name: BTreeMap::new(alloc),
+        }
+    }
+
+    /// Adds the entries of a line, and tells whether each of its words is a dependency of a new
+    /// name.
+    pub fn add_line(&mut self, line: &'a [u8]) -> Result<bool, AllocError>
+        ensures { IfOk result (λ good.
+            with_words self.old (words_of line.entry.now)
+            ≡ (if good then Some self.new else None)) }
+    {
+        for word in line.split(|byte| is_blank(*byte)) {
+            if word.is_empty() {
+                continue;
+            }
+            if !self.add_word(word)? {
+                return Ok(false);
+            }
+        }
+        Ok(true)
+    }
+
+    /// Adds the entry that a word is, and tells whether it is a dependency of a new name.
+    fn add_word(&mut self, word: &'a [u8]) -> Result<bool, AllocError>
+        ensures { IfOk result (λ good.
+            option_and_then (with_new_entry self.old) (dependency_of word.entry.now)
+            ≡ (if good then Some self.new else None)) }
+    {
+        match read_dep(word) {
+            Some(dep) => self.add(&dep),
+            None => Ok(false),
+        }
+    }
+
+    /// Puts an entry in, and tells whether its name is new.
+    fn add(&mut self, dep: &Dep<'a>) -> Result<bool, AllocError>
+        ensures new { IfOk result (λ new. new ≡ not (has_name dep.now.name.now self.old)) }
+        ensures added { OnOk result (self.new ≡ with_entry (dependency dep.now) self.old) }
+    {
+        let entry = Entry::of(self.alloc, dep)?;
+        let old = self.by_name.insert(dep.name, entry)?;
+        Ok(old.is_none())
+    }
+
+    /// The entries.
+    pub fn into_entries(self) -> Result<Vec<Entry>, AllocError>
+        ensures value { IfOk result (λ entries. entries.items ≡ self.entry) }
+        ensures world { IsWorld self.entry }
+    {
+        self.by_name.into_values().collect(self.alloc)
     }
 }

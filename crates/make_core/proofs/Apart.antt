@@ -12,10 +12,9 @@ use Rattle.adb_view.specs.Plain.{Plain}
 use Rattle.adb_schema.specs.Pairs.{IsFirstOf, IsIn, IsPair, Named}
 use Rattle.adb_schema.specs.Repeated.{IsPairInOne, file_twice, files_in, folder_twice, folders_in, name_of, numbered_from, repeated_fault, twice_in_one}
 use Rattle.adb_schema.specs.declared.schema.Which.TheVariants.{Package}
-use Rattle.make_core.specs.Folders.{all_placed, in_order, placed, placed_by}
-use Rattle.make_core.specs.Package.{Script, Source, SourceFolder, file_value, folder_value, package_value}
+use Rattle.make_package.specs.Folders.{with_names, sorted_names, with_name, with_name_by}
+use Rattle.make_package.specs.Package.{Script, Source, SourceFolder, value_of_file, value_of_folder, value_of_package, kind_of_file}
 use Rattle.make_core.proofs.PackageFiles.{files_stand, folder_name_stands, folders_stand, name_stands}
-use Rattle.make_core.specs.Package.{kind_of}
 
 abbrev pub cmp : List ℕ → List ℕ → Ordering
 cmp = slice_cmp nat_cmp
@@ -57,11 +56,11 @@ rises_from_pairs (x ∷ xs) pairs = (
 
 -- ---- placed one by one
 
-placed_in : (q name : List ℕ) (xs : List (List ℕ)) → IsIn q (placed name xs) → (q ≡ name) ⊎ IsIn q xs
+placed_in : (q name : List ℕ) (xs : List (List ℕ)) → IsIn q (with_name name xs) → (q ≡ name) ⊎ IsIn q xs
 placed_in q name [] h = h
 placed_in q name (x ∷ xs) h = by_order (cmp name x) (placed_in q name xs) h
   where
-    by_order : (o : Ordering) → (IsIn q (placed name xs) → (q ≡ name) ⊎ IsIn q xs) → IsIn q (placed_by o name x xs (placed name xs)) → (q ≡ name) ⊎ IsIn q (x ∷ xs)
+    by_order : (o : Ordering) → (IsIn q (with_name name xs) → (q ≡ name) ⊎ IsIn q xs) → IsIn q (with_name_by o name x xs (with_name name xs)) → (q ≡ name) ⊎ IsIn q (x ∷ xs)
     by_order Less further h = h
     by_order Equal further h = inr h
     by_order Greater further (inl is) = inr (inl is)
@@ -79,23 +78,23 @@ all_behind : (name x : List ℕ) (xs : List (List ℕ)) → cmp name x ≡ Less 
 all_behind name x xs less all q (inl is) = subst (λ (z : List ℕ). cmp name z ≡ Less) (sym is) less
 all_behind name x xs less all q (inr here) = nat_list_cmp_total.trans name x q less (all q here)
 
-placed_rises : (name : List ℕ) (xs : List (List ℕ)) → Rises xs → Rises (placed name xs)
+placed_rises : (name : List ℕ) (xs : List (List ℕ)) → Rises xs → Rises (with_name name xs)
 placed_rises name [] r = (λ q h. absurd h, tt)
 placed_rises name (x ∷ xs) r = by_order (cmp name x) refl (placed_rises name xs r.1)
   where
-    by_order : (o : Ordering) → cmp name x ≡ o → Rises (placed name xs) → Rises (placed_by o name x xs (placed name xs))
+    by_order : (o : Ordering) → cmp name x ≡ o → Rises (with_name name xs) → Rises (with_name_by o name x xs (with_name name xs))
     by_order Less e further = (all_behind name x xs e r.0, r)
     by_order Equal e further = r
     by_order Greater e further = (λ q here. below_placed x name xs (turned name x Greater e) r.0 q (placed_in q name xs here), further)
 
-all_placed_rises : (so_far names : List (List ℕ)) → Rises so_far → Rises (all_placed so_far names)
+all_placed_rises : (so_far names : List (List ℕ)) → Rises so_far → Rises (with_names so_far names)
 all_placed_rises so_far [] r = r
-all_placed_rises so_far (name ∷ names) r = all_placed_rises (placed name so_far) names (placed_rises name so_far r)
+all_placed_rises so_far (name ∷ names) r = all_placed_rises (with_name name so_far) names (placed_rises name so_far r)
 
-pub in_order_rises : (names : List (List ℕ)) → Rises (in_order names)
+pub in_order_rises : (names : List (List ℕ)) → Rises (sorted_names names)
 in_order_rises names = all_placed_rises [] names tt
 
-either_in : (q name : List ℕ) (so_far names : List (List ℕ)) → IsIn q (placed name so_far) ⊎ IsIn q names → IsIn q so_far ⊎ IsIn q (name ∷ names)
+either_in : (q name : List ℕ) (so_far names : List (List ℕ)) → IsIn q (with_name name so_far) ⊎ IsIn q names → IsIn q so_far ⊎ IsIn q (name ∷ names)
 either_in q name so_far names (inr here) = inr (inr here)
 either_in q name so_far names (inl here) = shift (placed_in q name so_far here)
   where
@@ -103,15 +102,15 @@ either_in q name so_far names (inl here) = shift (placed_in q name so_far here)
     shift (inl is) = inr (inl is)
     shift (inr more) = inl more
 
-all_placed_in : (q : List ℕ) (so_far names : List (List ℕ)) → IsIn q (all_placed so_far names) → IsIn q so_far ⊎ IsIn q names
+all_placed_in : (q : List ℕ) (so_far names : List (List ℕ)) → IsIn q (with_names so_far names) → IsIn q so_far ⊎ IsIn q names
 all_placed_in q so_far [] h = inl h
-all_placed_in q so_far (name ∷ names) h = either_in q name so_far names (all_placed_in q (placed name so_far) names h)
+all_placed_in q so_far (name ∷ names) h = either_in q name so_far names (all_placed_in q (with_name name so_far) names h)
 
 right_in : (q : List ℕ) (names : List (List ℕ)) → IsIn q [] ⊎ IsIn q names → IsIn q names
 right_in q names (inl h) = absurd h
 right_in q names (inr h) = h
 
-pub in_order_in : (q : List ℕ) (names : List (List ℕ)) → IsIn q (in_order names) → IsIn q names
+pub in_order_in : (q : List ℕ) (names : List (List ℕ)) → IsIn q (sorted_names names) → IsIn q names
 in_order_in q names h = right_in q names (all_placed_in q [] names h)
 
 -- ---- nothing stands twice
@@ -158,18 +157,18 @@ abbrev pub AreApartFiles : List SourceFolder → Type 0
 AreApartFiles [] = Unit {0}
 AreApartFiles (folder ∷ folders) = IsApart (source_names folder.files) × AreApartFiles folders
 
-names_of_files : (files : List Source) → map name_of (map file_value files) ≡ source_names files
+names_of_files : (files : List Source) → map name_of (map value_of_file files) ≡ source_names files
 names_of_files [] = refl
-names_of_files (file ∷ files) = λ k. (name_stands file.name (kind_of file.bytes)) k ∷ (names_of_files files) k
+names_of_files (file ∷ files) = λ k. (name_stands file.name (kind_of_file file.bytes)) k ∷ (names_of_files files) k
 
-names_of_folders : (folders : List SourceFolder) → map name_of (map folder_value folders) ≡ folder_names_of folders
+names_of_folders : (folders : List SourceFolder) → map name_of (map value_of_folder folders) ≡ folder_names_of folders
 names_of_folders [] = refl
 names_of_folders (folder ∷ folders) = λ k. (folder_name_stands folder) k ∷ (names_of_folders folders) k
 
 abbrev names_by_folder : List Plain → List (List (List ℕ))
 names_by_folder folders = map (λ folder. map name_of (files_in folder)) folders
 
-apart_by_folder : (folders : List SourceFolder) → AreApartFiles folders → (names : List (List ℕ)) → IsIn names (names_by_folder (map folder_value folders)) → IsApart names
+apart_by_folder : (folders : List SourceFolder) → AreApartFiles folders → (names : List (List ℕ)) → IsIn names (names_by_folder (map value_of_folder folders)) → IsApart names
 apart_by_folder [] apart names h = absurd h
 apart_by_folder (folder ∷ folders) apart names (inl is) =
     subst IsApart (sym (is ∙ (ap (map name_of) (files_stand folder) ∙ names_of_files folder.files))) apart.0
@@ -177,7 +176,7 @@ apart_by_folder (folder ∷ folders) apart names (inr h) = apart_by_folder folde
 
 module _ (info : Plain) (folders : List SourceFolder) (scripts : List Script) (triggers : List (List ℕ)) (priority : Option ℕ) where
   abbrev value : Plain
-  value = package_value info folders scripts triggers priority
+  value = value_of_package info folders scripts triggers priority
 
   folders_none : Tells → IsApart (folder_names_of folders) → folder_twice (value ∷ []) ≡ None
   folders_none tells apart = none_twice tells (map name_of (folders_in value) ∷ []) (λ names h. one names h)
@@ -188,7 +187,7 @@ module _ (info : Plain) (folders : List SourceFolder) (scripts : List Script) (t
 
   files_none : Tells → AreApartFiles folders → file_twice (value ∷ []) ≡ None
   files_none tells apart =
-      let lists : List (List (List ℕ)) = names_by_folder (map folder_value folders) in
+      let lists : List (List (List ℕ)) = names_by_folder (map value_of_folder folders) in
       let same : flat_map (λ (pkg : Plain). names_by_folder (folders_in pkg)) (value ∷ []) ≡ lists =
       flat_map-cons (λ (pkg : Plain). names_by_folder (folders_in pkg)) value []
       ∙ (append-nil (names_by_folder (folders_in value)) ∙ ap names_by_folder (folders_stand info folders scripts triggers priority)) in

@@ -12,7 +12,7 @@ use Rattle.adb_schema.specs.declared.schema.Which.{Which}
 use Rattle.adb_schema.specs.declared.schema.Which.TheVariants.{Dep, Package, PkgInfo, Index}
 use Rattle.adb_schema.specs.declared.schema.Kind.TheVariants.{Obj}
 use Rattle.pkg_core.specs.Whole.{package_fault, package_id, package_of}
-use Rattle.make_core.specs.IndexEntries.{entry_of, entry_value, with_at}
+use Rattle.make_index.specs.Entries.{entry_of_package, entry_value, with_at}
 use Rattle.make_core.proofs.Blind.{AreBlind, AreBlindBut, IsBlind, turned_but}
 use Rattle.make_core.proofs.OpenedPackage.{IsOpened, Values, opened}
 use Rattle.make_core.proofs.ValueParts.{entries_shaped, part_kept, part_shaped, placed_kept, placed_later, placed_shaped, placed_there}
@@ -129,6 +129,6 @@ entry_by v id len place around o long small root =
     }
 
 pub entry_good : Values → (file : List ℕ) (place : ℕ) (around : Around) → All (λ b. b < 256) file → length file < 2 ^ 64 → around.root ≡ Index → package_fault file ≡ None
-    → IsGood (shape_of (Obj PkgInfo)) place around (entry_of file)
+    → IsGood (shape_of (Obj PkgInfo)) place around (entry_of_package file)
 entry_good laws file place around bytes small root e =
     entry_by (package_of file).value (package_id file) (length file) place around (opened laws file bytes e) (length-sha256 (payload_in file)) small root

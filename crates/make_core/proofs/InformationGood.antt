@@ -6,91 +6,94 @@ use Rattle.std.proofs.lemmas.Bool.{and_parts, ltb-true}
 use Rattle.std.proofs.lemmas.List.Concat.{flat_map-cons}
 use Rattle.std.proofs.lemmas.List.Folds.{list_any-append}
 use Rattle.version_core.specs.Order.{is_version}
-use Rattle.dep_core.specs.Dependency.{Dependency, IsDependency, is_dep_name, is_package_name}
+use Rattle.dep_core.specs.Dependency.{Dependency, is_dep_name, is_package_name}
+use Rattle.dep_core.specs.DependencyText.{IsDependency}
 use Rattle.dep_core.specs.Reading.{dependency_of}
-use Rattle.dep_core.specs.Spelling.{Spells}
-use Rattle.dep_core.specs.Value.{DepValue, dep_value, dependency_of_value, is_matching, is_version_or_empty}
-use Rattle.words_core.specs.declared.values.OptionValue.{OptionValue}
+use Rattle.dep_core.specs.Spelling.{SpellsDependency}
+use Rattle.dep_core.specs.Value.{DepValue, dep_value, is_matching, is_version_or_empty}
+use Rattle.dep_core.specs.ValueReading.{dependency_of_value}
+use Rattle.command_core.specs.declared.values.OptionValue.{OptionValue}
 use Rattle.adb_view.specs.Plain.{Plain, null, Plains, none, more, text as text_shape, hash, number as number_shape, array, blob_value, obj_value}
 use Rattle.adb_view.specs.Shaped.{Each}
 use Rattle.adb_schema.specs.Schema.{shape_of, shapes_of, table}
 use Rattle.adb_schema.specs.Texts.{Around, inside_of, number_rule, text_rule}
 use Rattle.adb_schema.specs.declared.schema.Which.TheVariants.{Dep, PkgInfo}
 use Rattle.adb_schema.specs.declared.schema.Kind.TheVariants.{Obj}
-use Rattle.make_core.specs.declared.field.Field.{Field}
-use Rattle.make_core.specs.declared.field.Field.TheVariants as Fields
-use Rattle.make_core.specs.declared.field.Kind.{Kind}
-use Rattle.make_core.specs.declared.field.Kind.TheVariants as Kinds
-use Rattle.make_core.specs.Fields.{Said, text, number, need, kind_of, said_as, text_if, untagged}
-use Rattle.make_core.specs.Given.{Given, given_by, infos, is_for, is_given_for, is_same, is_too_long}
-use Rattle.make_core.specs.Information.{Item, all_said, first_offending, info_fields, info_value, information_of, is_of, item_of, item_value, items_given, items_of, lacks, listed, need_value, number_said, number_value, offends, replaces_priority, said_value, single, unless_offending, values_said, with_said}
+use Rattle.make_info.specs.declared.field.Field.{Field}
+use Rattle.make_info.specs.declared.field.Field.TheVariants as Fields
+use Rattle.make_info.specs.declared.field.Kind.{Kind}
+use Rattle.make_info.specs.declared.field.Kind.TheVariants as Kinds
+use Rattle.make_info.specs.Fields.{FieldValue, text, number, need, kind_of_field, values_by_kind, text_if, if_untagged}
+use Rattle.make_info.specs.FieldTexts.{FieldText, field_text_in, info_options, is_for, is_text_for, is_same, is_too_long}
+use Rattle.make_info.specs.Information.{InfoItem, all_items, first_offence, information_fields, information_value, information_of, is_item_for, info_item, item_value, items_of_text, items_of_option, lacks_name_or_version, value_of_list, need_value, number_in, offends, replaces_priority, plain_value, value_of_single, unless_offence, plains_for, with_values}
+use Rattle.make_info.specs.Values.{number_value}
 use Rattle.make_core.proofs.GoodValues.{IsGood, arr_good, hash_good, null_number, number_good, obj_good, text_good}
 use Rattle.make_core.proofs.PackageFiles.{around_folder, size_good}
 use Rattle.make_core.proofs.SaidGood.{AreSaidAs, IsNeed, IsSaidAs, said_good, same_kind}
 
 -- what the layer of dependencies says of them
 pub record Needs : Type 0 where
-  pub spelled : (t : List ℕ) (d : Dependency) → dependency_of t ≡ Some d → Spells t d
+  pub spelled : (t : List ℕ) (d : Dependency) → dependency_of t ≡ Some d → SpellsDependency t d
   pub back : (d : Dependency) → IsDependency d → d.tag ≡ None → dependency_of_value (dep_value d).name (dep_value d).version (unwrap_or (dep_value d).matching 0) ≡ Some d
 
 -- ---- items
 
-abbrev pub AreItems : List Item → Type 0
+abbrev pub AreItems : List InfoItem → Type 0
 AreItems [] = Unit {0}
-AreItems (item ∷ items) = IsSaidAs (kind_of item.field) item.said × AreItems items
+AreItems (item ∷ items) = IsSaidAs (kind_of_field item.field) item.said × AreItems items
 
-items_append : (xs ys : List Item) → AreItems xs → AreItems ys → AreItems (xs ++ ys)
+items_append : (xs ys : List InfoItem) → AreItems xs → AreItems ys → AreItems (xs ++ ys)
 items_append [] ys a b = b
 items_append (x ∷ xs) ys a b = (a.0, items_append xs ys a.1 b)
 
-items_said : (f : Field) (ss : List Said) → AreSaidAs (kind_of f) ss → AreItems (map (item_of f) ss)
+items_said : (f : Field) (ss : List FieldValue) → AreSaidAs (kind_of_field f) ss → AreItems (map (info_item f) ss)
 items_said f [] h = tt
 items_said f (s ∷ ss) h = (h.0, items_said f ss h.1)
 
-with_good : (f : Field) (o : Option (List Said)) (items : List Item) → ((ss : List Said) → o ≡ Some ss → AreSaidAs (kind_of f) ss) → with_said [] f o ≡ Some items → AreItems items
+with_good : (f : Field) (o : Option (List FieldValue)) (items : List InfoItem) → ((ss : List FieldValue) → o ≡ Some ss → AreSaidAs (kind_of_field f) ss) → with_values [] f o ≡ Some items → AreItems items
 with_good f None items h e = absurd (cc (e))
-with_good f (Some ss) items h e = let same : map (item_of f) ss ≡ items = cc (e) in subst AreItems same (items_said f ss (h ss refl))
+with_good f (Some ss) items h e = let same : map (info_item f) ss ≡ items = cc (e) in subst AreItems same (items_said f ss (h ss refl))
 
-given_good : (o : Option Given) (items : List Item) → option_and_then items_given o ≡ Some items → AreItems items
+given_good : (o : Option FieldText) (items : List InfoItem) → option_and_then items_of_text o ≡ Some items → AreItems items
 given_good None items e = absurd (cc (e))
-given_good (Some g) items e = with_good g.field (said_as (kind_of g.field) g.value) items (λ ss is. said_good (kind_of g.field) g.value ss is) e
+given_good (Some g) items e = with_good g.field (values_by_kind (kind_of_field g.field) g.value) items (λ ss is. said_good (kind_of_field g.field) g.value ss is) e
 
-or_none_good : (o : Option (List Item)) → ((items : List Item) → o ≡ Some items → AreItems items) → AreItems (unwrap_or o [])
+or_none_good : (o : Option (List InfoItem)) → ((items : List InfoItem) → o ≡ Some items → AreItems items) → AreItems (unwrap_or o [])
 or_none_good None h = tt
 or_none_good (Some items) h = h items refl
 
-abbrev said_by : OptionValue → List Item
-said_by v = unwrap_or (items_of v) []
+abbrev said_by : OptionValue → List InfoItem
+said_by v = unwrap_or (items_of_option v) []
 
-all_good : (told : List OptionValue) → AreItems (all_said told)
+all_good : (told : List OptionValue) → AreItems (all_items told)
 all_good [] = tt
 all_good (v ∷ vs) =
-    subst AreItems (sym (flat_map-cons said_by v vs)) (items_append (said_by v) (all_said vs) (or_none_good (items_of v) (λ items is. given_good (given_by v.text) items is)) (all_good vs))
+    subst AreItems (sym (flat_map-cons said_by v vs)) (items_append (said_by v) (all_items vs) (or_none_good (items_of_option v) (λ items is. given_good (field_text_in v.text) items is)) (all_good vs))
 
 -- ---- the name and the version are among them
 
 abbrev AreAllowed : List OptionValue → Type 0
 AreAllowed [] = Unit {0}
-AreAllowed (v ∷ vs) = (is_some (items_of v) ≡ true) × AreAllowed vs
+AreAllowed (v ∷ vs) = (is_some (items_of_option v) ≡ true) × AreAllowed vs
 
 some_if_not : (b c : Bool) → (not b || c) ≡ false → b ≡ true
 some_if_not true c e = refl
 some_if_not false c e = absurd (cc (e))
 
-allowed : (too_long : Bool) (before told : List OptionValue) → first_offending too_long before told ≡ None → AreAllowed told
+allowed : (too_long : Bool) (before told : List OptionValue) → first_offence too_long before told ≡ None → AreAllowed told
 allowed too_long before [] e = tt
 allowed too_long before (v ∷ vs) e = by_offence (offends too_long before v) refl (allowed too_long (before ++ v ∷ []) vs) e
   where
-    by_offence : (b : Bool) → offends too_long before v ≡ b → (first_offending too_long (before ++ v ∷ []) vs ≡ None → AreAllowed vs)
-        → (if b then Some v.place else first_offending too_long (before ++ v ∷ []) vs) ≡ None → AreAllowed (v ∷ vs)
+    by_offence : (b : Bool) → offends too_long before v ≡ b → (first_offence too_long (before ++ v ∷ []) vs ≡ None → AreAllowed vs)
+        → (if b then Some v.place else first_offence too_long (before ++ v ∷ []) vs) ≡ None → AreAllowed (v ∷ vs)
     by_offence true is further k = absurd (cc (k))
-    by_offence false is further k = (some_if_not (is_some (items_of v)) _ is, further k)
+    by_offence false is further k = (some_if_not (is_some (items_of_option v)) _ is, further k)
 
 -- each value of the field says a thing of it
 abbrev SaysOne : Kind → Type 0
-SaysOne k = (value : List ℕ) (ss : List Said) → said_as k value ≡ Some ss → (s : Said) × (ts : List Said) × (ss ≡ s ∷ ts)
+SaysOne k = (value : List ℕ) (ss : List FieldValue) → values_by_kind k value ≡ Some ss → (s : FieldValue) × (ts : List FieldValue) × (ss ≡ s ∷ ts)
 
-if_one : (b : Bool) (value : List ℕ) (ss : List Said) → text_if b value ≡ Some ss → (s : Said) × (ts : List Said) × (ss ≡ s ∷ ts)
+if_one : (b : Bool) (value : List ℕ) (ss : List FieldValue) → text_if b value ≡ Some ss → (s : FieldValue) × (ts : List FieldValue) × (ss ≡ s ∷ ts)
 if_one true value ss e = (text value, [], cc (e))
 if_one false value ss e = absurd (cc (e))
 
@@ -100,19 +103,19 @@ name_says value ss e = if_one (is_package_name value) value ss e
 version_says : SaysOne Kinds.PackageVersion
 version_says value ss e = if_one (is_version value) value ss e
 
-among_first : (f : Field) (g : Given) (ss : List Said) → is_same g.field f ≡ true → (s : Said) × (ts : List Said) × (ss ≡ s ∷ ts) → list_any (is_of f) (map (item_of g.field) ss) ≡ true
-among_first f g ss is (s, ts, e) = ap (λ (xs : List Said). list_any (is_of f) (map (item_of g.field) xs)) e ∙ ap (λ b. b || list_any (is_of f) (map (item_of g.field) ts)) is
+among_first : (f : Field) (g : FieldText) (ss : List FieldValue) → is_same g.field f ≡ true → (s : FieldValue) × (ts : List FieldValue) × (ss ≡ s ∷ ts) → list_any (is_item_for f) (map (info_item g.field) ss) ≡ true
+among_first f g ss is (s, ts, e) = ap (λ (xs : List FieldValue). list_any (is_item_for f) (map (info_item g.field) xs)) e ∙ ap (λ b. b || list_any (is_item_for f) (map (info_item g.field) ts)) is
 
-among_given : (f : Field) (g : Given) (o : Option (List Said)) → is_same g.field f ≡ true → ((ss : List Said) → o ≡ Some ss → (s : Said) × (ts : List Said) × (ss ≡ s ∷ ts))
-    → is_some (with_said [] g.field o) ≡ true → list_any (is_of f) (unwrap_or (with_said [] g.field o) []) ≡ true
+among_given : (f : Field) (g : FieldText) (o : Option (List FieldValue)) → is_same g.field f ≡ true → ((ss : List FieldValue) → o ≡ Some ss → (s : FieldValue) × (ts : List FieldValue) × (ss ≡ s ∷ ts))
+    → is_some (with_values [] g.field o) ≡ true → list_any (is_item_for f) (unwrap_or (with_values [] g.field o) []) ≡ true
 among_given f g None is says some = absurd (cc (some))
 among_given f g (Some ss) is says some = among_first f g ss is (says ss refl)
 
-among_by : (f : Field) (o : Option Given) → SaysOne (kind_of f) → is_given_for f o ≡ true → is_some (option_and_then items_given o) ≡ true → list_any (is_of f) (unwrap_or (option_and_then items_given o) []) ≡ true
+among_by : (f : Field) (o : Option FieldText) → SaysOne (kind_of_field f) → is_text_for f o ≡ true → is_some (option_and_then items_of_text o) ≡ true → list_any (is_item_for f) (unwrap_or (option_and_then items_of_text o) []) ≡ true
 among_by f None says is some = absurd (cc (is))
 among_by f (Some g) says is some =
     let kind = same_kind g.field f is in
-    among_given f g (said_as (kind_of g.field) g.value) is (λ ss e. says g.value ss (ap (λ (k : Kind). said_as k g.value) (sym kind) ∙ e)) some
+    among_given f g (values_by_kind (kind_of_field g.field) g.value) is (λ ss e. says g.value ss (ap (λ (k : Kind). values_by_kind k g.value) (sym kind) ∙ e)) some
 
 either_any : (a b : Bool) → (a || b) ≡ true → (a ≡ true) ⊎ (b ≡ true)
 either_any true b e = inl refl
@@ -126,32 +129,32 @@ or_right : (a b : Bool) → b ≡ true → (a || b) ≡ true
 or_right true b e = refl
 or_right false b e = e
 
-among : (f : Field) (told : List OptionValue) → SaysOne (kind_of f) → AreAllowed told → list_any (is_for f) told ≡ true → list_any (is_of f) (all_said told) ≡ true
+among : (f : Field) (told : List OptionValue) → SaysOne (kind_of_field f) → AreAllowed told → list_any (is_for f) told ≡ true → list_any (is_item_for f) (all_items told) ≡ true
 among f [] says ok e = absurd (cc (e))
 among f (v ∷ vs) says ok e =
-    ap (list_any (is_of f)) (flat_map-cons said_by v vs)
-    ∙ (list_any-append (is_of f) (said_by v) (all_said vs) ∙ by_side (either_any (is_for f v) (list_any (is_for f) vs) e) (among f vs says ok.1))
+    ap (list_any (is_item_for f)) (flat_map-cons said_by v vs)
+    ∙ (list_any-append (is_item_for f) (said_by v) (all_items vs) ∙ by_side (either_any (is_for f v) (list_any (is_for f) vs) e) (among f vs says ok.1))
   where
-    by_side : (is_for f v ≡ true) ⊎ (list_any (is_for f) vs ≡ true) → (list_any (is_for f) vs ≡ true → list_any (is_of f) (all_said vs) ≡ true) → (list_any (is_of f) (said_by v) || list_any (is_of f) (all_said vs)) ≡ true
-    by_side (inl here) further = or_left _ _ (among_by f (given_by v.text) says here ok.0)
-    by_side (inr there) further = or_right (list_any (is_of f) (said_by v)) _ (further there)
+    by_side : (is_for f v ≡ true) ⊎ (list_any (is_for f) vs ≡ true) → (list_any (is_for f) vs ≡ true → list_any (is_item_for f) (all_items vs) ≡ true) → (list_any (is_item_for f) (said_by v) || list_any (is_item_for f) (all_items vs)) ≡ true
+    by_side (inl here) further = or_left _ _ (among_by f (field_text_in v.text) says here ok.0)
+    by_side (inr there) further = or_right (list_any (is_item_for f) (said_by v)) _ (further there)
 
-pub record IsInformation (items : List Item) : Type 0 where
+pub record IsInformation (items : List InfoItem) : Type 0 where
   pub good : AreItems items
-  pub name : list_any (is_of Fields.Name) items ≡ true
-  pub version : list_any (is_of Fields.Version) items ≡ true
+  pub name : list_any (is_item_for Fields.Name) items ≡ true
+  pub version : list_any (is_item_for Fields.Version) items ≡ true
 
 neither_lacks : (a b : Bool) → (not a || not b) ≡ false → (a ≡ true) × (b ≡ true)
 neither_lacks true true e = (refl, refl)
 neither_lacks true false e = absurd (cc (e))
 neither_lacks false b e = absurd (cc (e))
 
-information_by : (told : List OptionValue) (o : Option ℕ) (b : Bool) (behind : ℕ) (items : List Item) → (o ≡ None → AreAllowed told) → lacks told ≡ b
-    → unless_offending o (if b then Err behind else Ok (all_said told)) ≡ Ok items → IsInformation items
+information_by : (told : List OptionValue) (o : Option ℕ) (b : Bool) (behind : ℕ) (items : List InfoItem) → (o ≡ None → AreAllowed told) → lacks_name_or_version told ≡ b
+    → unless_offence o (if b then Err behind else Ok (all_items told)) ≡ Ok items → IsInformation items
 information_by told (Some place) b behind items ok is e = absurd (cc (e))
 information_by told None true behind items ok is e = absurd (cc (e))
 information_by told None false behind items ok is e =
-    let same : all_said told ≡ items = cc (e) in
+    let same : all_items told ≡ items = cc (e) in
     let both = neither_lacks (list_any (is_for Fields.Name) told) (list_any (is_for Fields.Version) told) is in
     subst IsInformation same (record {
       good = all_good told;
@@ -159,64 +162,64 @@ information_by told None false behind items ok is e =
       version = among Fields.Version told version_says (ok refl) both.1;
     })
 
-pub information_good : (values : List OptionValue) (behind : ℕ) (items : List Item) → information_of values behind ≡ Ok items → IsInformation items
+pub information_good : (values : List OptionValue) (behind : ℕ) (items : List InfoItem) → information_of values behind ≡ Ok items → IsInformation items
 unfolding information_of
 information_good values behind items e =
-    information_by (infos values) (first_offending (is_too_long values) [] (infos values)) (lacks (infos values)) behind items (λ k. allowed (is_too_long values) [] (infos values) k) refl e
+    information_by (info_options values) (first_offence (is_too_long values) [] (info_options values)) (lacks_name_or_version (info_options values)) behind items (λ k. allowed (is_too_long values) [] (info_options values) k) refl e
 
 -- ---- what is found of a field
 
-abbrev IsFound : Field → Option Item → Type 0
+abbrev IsFound : Field → Option InfoItem → Type 0
 IsFound f None = Unit {0}
-IsFound f (Some item) = IsSaidAs (kind_of f) item.said
+IsFound f (Some item) = IsSaidAs (kind_of_field f) item.said
 
-found : (f : Field) (items : List Item) → AreItems items → IsFound f (find (is_of f) items)
+found : (f : Field) (items : List InfoItem) → AreItems items → IsFound f (find (is_item_for f) items)
 found f [] h = tt
-found f (item ∷ items) h = by_field (is_of f item) refl (found f items h.1)
+found f (item ∷ items) h = by_field (is_item_for f item) refl (found f items h.1)
   where
-    by_field : (b : Bool) → is_of f item ≡ b → IsFound f (find (is_of f) items) → IsFound f (cond b (Some item) (find (is_of f) items))
+    by_field : (b : Bool) → is_item_for f item ≡ b → IsFound f (find (is_item_for f) items) → IsFound f (cond b (Some item) (find (is_item_for f) items))
     by_field true is further = subst (λ (k : Kind). IsSaidAs k item.said) (same_kind item.field f is) h.0
     by_field false is further = further
 
-there : (f : Field) (items : List Item) → list_any (is_of f) items ≡ true → is_some (find (is_of f) items) ≡ true
+there : (f : Field) (items : List InfoItem) → list_any (is_item_for f) items ≡ true → is_some (find (is_item_for f) items) ≡ true
 there f [] e = absurd (cc (e))
-there f (item ∷ items) e = by_field (is_of f item) (there f items) e
+there f (item ∷ items) e = by_field (is_item_for f item) (there f items) e
   where
-    by_field : (b : Bool) → (list_any (is_of f) items ≡ true → is_some (find (is_of f) items) ≡ true) → (b || list_any (is_of f) items) ≡ true → is_some (cond b (Some item) (find (is_of f) items)) ≡ true
+    by_field : (b : Bool) → (list_any (is_item_for f) items ≡ true → is_some (find (is_item_for f) items) ≡ true) → (b || list_any (is_item_for f) items) ≡ true → is_some (cond b (Some item) (find (is_item_for f) items)) ≡ true
     by_field true further k = refl
     by_field false further k = further k
 
-single_by : (P : Plain → Type 0) (f : Field) (o : Option Item) → IsFound f o → P null → ((s : Said) → IsSaidAs (kind_of f) s → P (said_value s)) → P (item_value o)
+single_by : (P : Plain → Type 0) (f : Field) (o : Option InfoItem) → IsFound f o → P null → ((s : FieldValue) → IsSaidAs (kind_of_field f) s → P (plain_value s)) → P (item_value o)
 single_by P f None h lacking good = lacking
 single_by P f (Some item) h lacking good = good item.said h
 
-single_good : (P : Plain → Type 0) (f : Field) (items : List Item) → AreItems items → P null → ((s : Said) → IsSaidAs (kind_of f) s → P (said_value s)) → P (single f items)
-single_good P f items h lacking good = single_by P f (find (is_of f) items) (found f items h) lacking good
+single_good : (P : Plain → Type 0) (f : Field) (items : List InfoItem) → AreItems items → P null → ((s : FieldValue) → IsSaidAs (kind_of_field f) s → P (plain_value s)) → P (value_of_single f items)
+single_good P f items h lacking good = single_by P f (find (is_item_for f) items) (found f items h) lacking good
 
-given_by_some : (P : Plain → Type 0) (f : Field) (o : Option Item) → IsFound f o → is_some o ≡ true → ((s : Said) → IsSaidAs (kind_of f) s → P (said_value s)) → P (item_value o)
+given_by_some : (P : Plain → Type 0) (f : Field) (o : Option InfoItem) → IsFound f o → is_some o ≡ true → ((s : FieldValue) → IsSaidAs (kind_of_field f) s → P (plain_value s)) → P (item_value o)
 given_by_some P f None h some good = absurd (cc (some))
 given_by_some P f (Some item) h some good = good item.said h
 
-given_single : (P : Plain → Type 0) (f : Field) (items : List Item) → AreItems items → list_any (is_of f) items ≡ true → ((s : Said) → IsSaidAs (kind_of f) s → P (said_value s)) → P (single f items)
-given_single P f items h any good = given_by_some P f (find (is_of f) items) (found f items h) (there f items any) good
+given_single : (P : Plain → Type 0) (f : Field) (items : List InfoItem) → AreItems items → list_any (is_item_for f) items ≡ true → ((s : FieldValue) → IsSaidAs (kind_of_field f) s → P (plain_value s)) → P (value_of_single f items)
+given_single P f items h any good = given_by_some P f (find (is_item_for f) items) (found f items h) (there f items any) good
 
-values_good : (P : Plain → Type 0) (f : Field) (items : List Item) → AreItems items → ((s : Said) → IsSaidAs (kind_of f) s → P (said_value s)) → Each P (values_said f items)
+values_good : (P : Plain → Type 0) (f : Field) (items : List InfoItem) → AreItems items → ((s : FieldValue) → IsSaidAs (kind_of_field f) s → P (plain_value s)) → Each P (plains_for f items)
 values_good P f [] h good = tt
-values_good P f (item ∷ items) h good = by_field (is_of f item) refl (values_good P f items h.1 good)
+values_good P f (item ∷ items) h good = by_field (is_item_for f item) refl (values_good P f items h.1 good)
   where
-    by_field : (b : Bool) → is_of f item ≡ b → Each P (values_said f items) → Each P (if b then more (said_value item.said) (values_said f items) else values_said f items)
+    by_field : (b : Bool) → is_item_for f item ≡ b → Each P (plains_for f items) → Each P (if b then more (plain_value item.said) (plains_for f items) else plains_for f items)
     by_field true is further = (good item.said (subst (λ (k : Kind). IsSaidAs k item.said) (same_kind item.field f is) h.0), further)
     by_field false is further = further
 
 -- ---- the values of what is said
 
-name_good : (a : Around) (s : Said) → IsSaidAs Kinds.PackageName s → IsGood text_shape 301 a (said_value s)
+name_good : (a : Around) (s : FieldValue) → IsSaidAs Kinds.PackageName s → IsGood text_shape 301 a (plain_value s)
 unfolding text_rule
 name_good a (text b) h = text_good 301 a b h
 name_good a (number n) h = absurd h
 name_good a (need d) h = absurd h
 
-version_good : (a : Around) (s : Said) → IsSaidAs Kinds.PackageVersion s → IsGood text_shape 302 a (said_value s)
+version_good : (a : Around) (s : FieldValue) → IsSaidAs Kinds.PackageVersion s → IsGood text_shape 302 a (plain_value s)
 unfolding text_rule
 version_good a (text b) h = text_good 302 a b h
 version_good a (number n) h = absurd h
@@ -225,22 +228,22 @@ version_good a (need d) h = absurd h
 abbrev IsFree : ℕ → Type 0
 IsFree place = (a : Around) (b : List ℕ) → text_rule place a b ≡ true
 
-any_text : (place : ℕ) (a : Around) → IsFree place → (s : Said) → IsSaidAs Kinds.AnyText s → IsGood text_shape place a (said_value s)
+any_text : (place : ℕ) (a : Around) → IsFree place → (s : FieldValue) → IsSaidAs Kinds.AnyText s → IsGood text_shape place a (plain_value s)
 any_text place a free (text b) h = text_good place a b (free a b)
 any_text place a free (number n) h = absurd h
 any_text place a free (need d) h = absurd h
 
-tag_text : (place : ℕ) (a : Around) → IsFree place → (s : Said) → IsSaidAs Kinds.Texts s → IsGood text_shape place a (said_value s)
+tag_text : (place : ℕ) (a : Around) → IsFree place → (s : FieldValue) → IsSaidAs Kinds.Texts s → IsGood text_shape place a (plain_value s)
 tag_text place a free (text b) h = text_good place a b (free a b)
 tag_text place a free (number n) h = absurd h
 tag_text place a free (need d) h = absurd h
 
-hex_bytes : (place : ℕ) (a : Around) → IsFree place → (s : Said) → IsSaidAs Kinds.HexDigits s → IsGood hash place a (said_value s)
+hex_bytes : (place : ℕ) (a : Around) → IsFree place → (s : FieldValue) → IsSaidAs Kinds.HexDigits s → IsGood hash place a (plain_value s)
 hex_bytes place a free (text b) h = hash_good place a b (free a b)
 hex_bytes place a free (number n) h = absurd h
 hex_bytes place a free (need d) h = absurd h
 
-any_number : (place : ℕ) (a : Around) → ((n : ℕ) → number_rule place n ≡ true) → (s : Said) → IsSaidAs Kinds.Number s → IsGood number_shape place a (said_value s)
+any_number : (place : ℕ) (a : Around) → ((n : ℕ) → number_rule place n ≡ true) → (s : FieldValue) → IsSaidAs Kinds.Number s → IsGood number_shape place a (plain_value s)
 any_number place a free (text b) h = absurd h
 any_number place a free (number n) h = number_good place a n h (free n)
 any_number place a free (need d) h = absurd h
@@ -262,40 +265,40 @@ need_parts name version m d e = if_some _ _ d e
 
 need_good : Needs → (place : ℕ) (a : Around) (d : Dependency) → IsNeed d → IsGood (shape_of (Obj Dep)) place a (need_value (dep_value d))
 unfolding shape_of text_rule
-need_good needs place a d (part, is, untagged) =
+need_good needs place a d (part, is, if_untagged) =
     let v : DepValue = dep_value d in
-    let all = and_parts (is_dep_name v.name) (is_version_or_empty v.version && is_matching (unwrap_or v.matching 0)) (need_parts v.name v.version (unwrap_or v.matching 0) d (needs.back d (needs.spelled part d is).0 untagged)) in
+    let all = and_parts (is_dep_name v.name) (is_version_or_empty v.version && is_matching (unwrap_or v.matching 0)) (need_parts v.name v.version (unwrap_or v.matching 0) d (needs.back d (needs.spelled part d is).0 if_untagged)) in
     let both = and_parts (is_version_or_empty v.version) (is_matching (unwrap_or v.matching 0)) all.1 in
     let vs : Plains = more (blob_value v.name) (more (blob_value v.version) (more (number_value v.matching) none)) in
     let inside : Around = inside_of 1 a (obj_value vs) in
     obj_good 1 (shapes_of (table Dep)) place a inside vs refl (text_good 101 inside v.name all.0, (text_good 102 inside v.version both.0, (matching_good inside v.matching both.1, tt)))
 
-a_need : Needs → (place : ℕ) (a : Around) (s : Said) → IsSaidAs Kinds.Dependencies s → IsGood (shape_of (Obj Dep)) place a (said_value s)
+a_need : Needs → (place : ℕ) (a : Around) (s : FieldValue) → IsSaidAs Kinds.Dependencies s → IsGood (shape_of (Obj Dep)) place a (plain_value s)
 a_need needs place a (text b) h = absurd h
 a_need needs place a (number n) h = absurd h
 a_need needs place a (need d) h = need_good needs place a d h
 
 -- ---- all of them
 
-module _ (needs : Needs) (items : List Item) (is : IsInformation items) where
-  text_at : (place : ℕ) (a : Around) (f : Field) → kind_of f ≡ Kinds.AnyText → IsFree place → IsGood text_shape place a (single f items)
+module _ (needs : Needs) (items : List InfoItem) (is : IsInformation items) where
+  text_at : (place : ℕ) (a : Around) (f : Field) → kind_of_field f ≡ Kinds.AnyText → IsFree place → IsGood text_shape place a (value_of_single f items)
   text_at place a f k free =
       single_good (IsGood text_shape place a) f items is.good (text_good place a [] (free a [])) (λ s h. any_text place a free s (subst (λ (kind : Kind). IsSaidAs kind s) k h))
 
-  number_at : (place : ℕ) (a : Around) (f : Field) → kind_of f ≡ Kinds.Number → ((n : ℕ) → number_rule place n ≡ true) → IsGood number_shape place a (single f items)
+  number_at : (place : ℕ) (a : Around) (f : Field) → kind_of_field f ≡ Kinds.Number → ((n : ℕ) → number_rule place n ≡ true) → IsGood number_shape place a (value_of_single f items)
   number_at place a f k free =
       single_good (IsGood number_shape place a) f items is.good (null_number place a (free 0)) (λ s h. any_number place a free s (subst (λ (kind : Kind). IsSaidAs kind s) k h))
 
-  needs_at : (place : ℕ) (a : Around) (f : Field) → kind_of f ≡ Kinds.Dependencies → IsGood (array (shape_of (Obj Dep))) place a (listed f items)
+  needs_at : (place : ℕ) (a : Around) (f : Field) → kind_of_field f ≡ Kinds.Dependencies → IsGood (array (shape_of (Obj Dep))) place a (value_of_list f items)
   needs_at place a f k =
-      arr_good (shape_of (Obj Dep)) place a (values_said f items)
+      arr_good (shape_of (Obj Dep)) place a (plains_for f items)
       (values_good (IsGood (shape_of (Obj Dep)) place a) f items is.good (λ s h. a_need needs place a s (subst (λ (kind : Kind). IsSaidAs kind s) k h)))
 
-  pub info_good : (size : ℕ) → size < 2 ^ 64 → IsGood (shape_of (Obj PkgInfo)) 701 around_folder (info_value items size)
-  unfolding shape_of text_rule info_value
+  pub info_good : (size : ℕ) → size < 2 ^ 64 → IsGood (shape_of (Obj PkgInfo)) 701 around_folder (information_value items size)
+  unfolding shape_of text_rule information_value
   info_good size small =
-      let a : Around = inside_of 3 around_folder (obj_value (info_fields items size)) in
-      obj_good 3 (shapes_of (table PkgInfo)) 701 around_folder a (info_fields items size) refl (
+      let a : Around = inside_of 3 around_folder (obj_value (information_fields items size)) in
+      obj_good 3 (shapes_of (table PkgInfo)) 701 around_folder a (information_fields items size) refl (
         given_single (IsGood text_shape 301 a) Fields.Name items is.good is.name (name_good a),
         (
           given_single (IsGood text_shape 302 a) Fields.Version items is.good is.version (version_good a),
@@ -336,7 +339,7 @@ module _ (needs : Needs) (items : List Item) (is : IsInformation items) where
                                             (
                                               null_number 320 a refl,
                                               (
-                                                arr_good text_shape 321 a (values_said Fields.Tags items) (values_good (IsGood text_shape 321 a) Fields.Tags items is.good (tag_text 321 a (λ b x. refl))),
+                                                arr_good text_shape 321 a (plains_for Fields.Tags items) (values_good (IsGood text_shape 321 a) Fields.Tags items is.good (tag_text 321 a (λ b x. refl))),
                                                 (null_number 322 a refl, tt),
                                               ),
                                             ),
@@ -360,14 +363,14 @@ module _ (needs : Needs) (items : List Item) (is : IsInformation items) where
         ),
       )
 
-  priority_by : (o : Option Item) → IsFound Fields.ReplacesPriority o → IsGood number_shape 705 around_folder (number_value (option_and_then (λ (item : Item). number_said item.said) o))
+  priority_by : (o : Option InfoItem) → IsFound Fields.ReplacesPriority o → IsGood number_shape 705 around_folder (number_value (option_and_then (λ (item : InfoItem). number_in item.said) o))
   priority_by None h = null_number 705 around_folder refl
   priority_by (Some item) h = by_said item.said h
     where
-      by_said : (s : Said) → IsSaidAs Kinds.Number s → IsGood number_shape 705 around_folder (number_value (number_said s))
+      by_said : (s : FieldValue) → IsSaidAs Kinds.Number s → IsGood number_shape 705 around_folder (number_value (number_in s))
       by_said (text b) h = absurd h
       by_said (number n) h = number_good 705 around_folder n h refl
       by_said (need d) h = absurd h
 
   pub priority_good : IsGood number_shape 705 around_folder (number_value (replaces_priority items))
-  priority_good = priority_by (find (is_of Fields.ReplacesPriority) items) (found Fields.ReplacesPriority items is.good)
+  priority_good = priority_by (find (is_item_for Fields.ReplacesPriority) items) (found Fields.ReplacesPriority items is.good)

@@ -11,10 +11,11 @@ use Rattle.base_core.specs.Name.{is_name}
 use Rattle.adb_schema.specs.Pairs.{IsIn}
 use Rattle.adb_schema.specs.Reserved.{path_of}
 use Rattle.adb_schema.specs.Rules.{is_file_name, is_folder_name}
-use Rattle.make_core.specs.Folders.{Listed, before_slashes, below, files_in, folder_names, folder_of, folders_of, folders_over, is_slash, listed, part_of}
-use Rattle.make_core.specs.Package.{Source, SourceFolder, kind_of, installed_size, size_in, size_of}
-use Rattle.make_core.specs.Sources.{Reads, after, each_from, file_at, files_from, folder_at, folders_from, found_at}
-use Rattle.make_core.specs.declared.fault.MakeFault.{MakeFault}
+use Rattle.make_package.specs.Folders.{FolderListing, before_slashes, path_below, names_in_folder, folder_names, folder_of, folders_of, folders_over, is_slash, listing_of, last_part_of}
+use Rattle.make_package.specs.Package.{Source, SourceFolder, kind_of_file, installed_size, size_of_folder, size_of_kind}
+use Rattle.make_package.specs.Sources.{unless_refused, each_from, file_at, sources_from, folder_at, source_folders_from, found_at}
+use Rattle.make_info.specs.Reads.{Reads}
+use Rattle.make_info.specs.declared.fault.MakeFault.{MakeFault}
 use Rattle.make_core.proofs.Apart.{AreApartFiles, IsApart, Rises, folder_names_of, in_order_in, in_order_rises, rises_apart, source_names}
 use Rattle.make_core.proofs.NameParts.{folder_good, path_good, same_part, sides}
 use Rattle.make_core.proofs.PackageFiles.{AreGoodFiles, AreGoodFolders}
@@ -26,17 +27,17 @@ AreListed dir (name ∷ names) = ((path : List ℕ) × (name ≡ dir ++ 47 ∷ p
 
 -- ---- a name and its path
 
-below_is : (dir path : List ℕ) → below dir (dir ++ 47 ∷ path) ≡ path
+below_is : (dir path : List ℕ) → path_below dir (dir ++ 47 ∷ path) ≡ path
 below_is dir path =
     ap (drop (length dir + 1)) (sym (append_assoc dir (47 ∷ []) path)) ∙ drop_at (dir ++ 47 ∷ []) path (length dir + 1) (omega (arith, length-append dir (47 ∷ [])))
 
 record IsListed (dir name : List ℕ) : Type 0 where
-  is : name ≡ dir ++ 47 ∷ below dir name
-  named : is_name (below dir name) ≡ true
+  is : name ≡ dir ++ 47 ∷ path_below dir name
+  named : is_name (path_below dir name) ≡ true
 
 listed_name : (dir name path : List ℕ) → name ≡ dir ++ 47 ∷ path → is_name name ≡ true → IsListed dir name
 listed_name dir name path is named =
-    let same : below dir name ≡ path = ap (below dir) is ∙ below_is dir path in
+    let same : path_below dir name ≡ path = ap (path_below dir) is ∙ below_is dir path in
     record {
       is = is ∙ ap (λ (p : List ℕ). dir ++ 47 ∷ p) (sym same);
       named = ap is_name same ∙ (sides dir path (ap is_name (sym is) ∙ named)).1;
@@ -94,10 +95,10 @@ over_good : (path f : List ℕ) → is_name path ≡ true → IsIn f (folders_ov
 over_good path f name (inl is) = ap is_folder_name is
 over_good path f name (inr h) = let (rest, e) = before_slash path f h in folder_good f rest (ap is_name (sym e) ∙ name)
 
-pub folder_named : (dir : List ℕ) (names : List (List ℕ)) (f : List ℕ) → AreListed dir names → IsIn f (folder_names (map (below dir) names)) → is_folder_name f ≡ true
+pub folder_named : (dir : List ℕ) (names : List (List ℕ)) (f : List ℕ) → AreListed dir names → IsIn f (folder_names (map (path_below dir) names)) → is_folder_name f ≡ true
 folder_named dir names f all h =
-    let (path, at, over) = in_flat folders_over f (map (below dir) names) (in_order_in f (flat_map folders_over (map (below dir) names)) h) in
-    let (name, here, is) = in_map (below dir) path names at in
+    let (path, at, over) = in_flat folders_over f (map (path_below dir) names) (in_order_in f (flat_map folders_over (map (path_below dir) names)) h) in
+    let (name, here, is) = in_map (path_below dir) path names at in
     over_good path f (ap is_name is ∙ (listed_in dir names name all here).named) over
 
 -- ---- files
@@ -108,31 +109,31 @@ AreFileNames f [] = Unit {0}
 AreFileNames f (part ∷ parts) = (is_file_name f part ≡ true) × AreFileNames f parts
 
 abbrev stands_in : List ℕ → List ℕ → List ℕ → Bool
-stands_in dir f name = bytes_eq (folder_of (below dir name)) f
+stands_in dir f name = bytes_eq (folder_of (path_below dir name)) f
 
-part_is : (dir name : List ℕ) → IsListed dir name → part_of name ≡ part_of (below dir name)
-part_is dir name l = ap part_of l.is ∙ same_part dir (below dir name)
+part_is : (dir name : List ℕ) → IsListed dir name → last_part_of name ≡ last_part_of (path_below dir name)
+part_is dir name l = ap last_part_of l.is ∙ same_part dir (path_below dir name)
 
-file_named : (dir f name : List ℕ) → IsListed dir name → stands_in dir f name ≡ true → is_file_name f (part_of name) ≡ true
+file_named : (dir f name : List ℕ) → IsListed dir name → stands_in dir f name ≡ true → is_file_name f (last_part_of name) ≡ true
 file_named dir f name l here =
-    let path : List ℕ = below dir name in
+    let path : List ℕ = path_below dir name in
     let folder : folder_of path ≡ f = (bytes_eq-Decides (folder_of path) f).0 here in
     let part = part_is dir name l in
     (λ k. is_file_name (sym folder k) (part k)) ∙ (path_good path l.named).good
 
-recovered : (dir f name : List ℕ) → IsListed dir name → stands_in dir f name ≡ true → name ≡ dir ++ 47 ∷ path_of f (part_of name)
+recovered : (dir f name : List ℕ) → IsListed dir name → stands_in dir f name ≡ true → name ≡ dir ++ 47 ∷ path_of f (last_part_of name)
 recovered dir f name l here =
-    let path : List ℕ = below dir name in
+    let path : List ℕ = path_below dir name in
     let folder : folder_of path ≡ f = (bytes_eq-Decides (folder_of path) f).0 here in
     let part = part_is dir name l in
-    let whole : path_of f (part_of name) ≡ path = (λ k. path_of (sym folder k) (part k)) ∙ (path_good path l.named).is in
+    let whole : path_of f (last_part_of name) ≡ path = (λ k. path_of (sym folder k) (part k)) ∙ (path_good path l.named).is in
     l.is ∙ ap (λ (p : List ℕ). dir ++ 47 ∷ p) (sym whole)
 
-files_named : (dir f : List ℕ) (names : List (List ℕ)) → AreListed dir names → AreFileNames f (map part_of (files_in dir names f))
+files_named : (dir f : List ℕ) (names : List (List ℕ)) → AreListed dir names → AreFileNames f (map last_part_of (names_in_folder dir names f))
 files_named dir f [] all = tt
 files_named dir f (name ∷ names) all = by_folder (stands_in dir f name) refl (files_named dir f names all.1)
   where
-    by_folder : (b : Bool) → stands_in dir f name ≡ b → AreFileNames f (map part_of (files_in dir names f)) → AreFileNames f (map part_of (cond b (name ∷ files_in dir names f) (files_in dir names f)))
+    by_folder : (b : Bool) → stands_in dir f name ≡ b → AreFileNames f (map last_part_of (names_in_folder dir names f)) → AreFileNames f (map last_part_of (cond b (name ∷ names_in_folder dir names f) (names_in_folder dir names f)))
     by_folder true e further = (file_named dir f name (listed_name dir name all.0.0 all.0.1 all.0.2) e, further)
     by_folder false e further = further
 
@@ -146,19 +147,19 @@ filter_in p z (x ∷ xs) h = by_test (p x) refl (filter_in p z xs) h
     by_test false e further h = let both = further h in (inr both.0, both.1)
 
 other_part : (dir f name : List ℕ) (names : List (List ℕ)) → IsListed dir name → AreListed dir names → stands_in dir f name ≡ true → ((q : List ℕ) → IsIn q names → name ≢ q)
-    → (q : List ℕ) → IsIn q (map part_of (files_in dir names f)) → part_of name ≢ q
+    → (q : List ℕ) → IsIn q (map last_part_of (names_in_folder dir names f)) → last_part_of name ≢ q
 other_part dir f name names l all here apart q h same =
-    let (z, at, is) = in_map part_of q (files_in dir names f) h in
+    let (z, at, is) = in_map last_part_of q (names_in_folder dir names f) h in
     let both = filter_in (stands_in dir f) z names at in
     let one = recovered dir f name l here in
     let two = recovered dir f z (listed_in dir names z all both.0) both.1 in
     apart z both.0 (one ∙ (ap (λ (p : List ℕ). dir ++ 47 ∷ path_of f p) (same ∙ is) ∙ sym two))
 
-files_apart : (dir f : List ℕ) (names : List (List ℕ)) → AreListed dir names → IsApart names → IsApart (map part_of (files_in dir names f))
+files_apart : (dir f : List ℕ) (names : List (List ℕ)) → AreListed dir names → IsApart names → IsApart (map last_part_of (names_in_folder dir names f))
 files_apart dir f [] all apart = tt
 files_apart dir f (name ∷ names) all apart = by_folder (stands_in dir f name) refl (files_apart dir f names all.1 apart.1)
   where
-    by_folder : (b : Bool) → stands_in dir f name ≡ b → IsApart (map part_of (files_in dir names f)) → IsApart (map part_of (cond b (name ∷ files_in dir names f) (files_in dir names f)))
+    by_folder : (b : Bool) → stands_in dir f name ≡ b → IsApart (map last_part_of (names_in_folder dir names f)) → IsApart (map last_part_of (cond b (name ∷ names_in_folder dir names f) (names_in_folder dir names f)))
     by_folder true e further = (other_part dir f name names (listed_name dir name all.0.0 all.0.1 all.0.2) all.1 e apart.0, further)
     by_folder false e further = further
 
@@ -169,7 +170,7 @@ pub record IsAfter {A B : Type 0} (r : Result A MakeFault) (next : A → Result 
   pub is : r ≡ Ok x
   pub gives : next x ≡ Ok y
 
-pub after_ok : {A B : Type 0} (r : Result A MakeFault) (next : A → Result B MakeFault) (y : B) → after r next ≡ Ok y → IsAfter r next y
+pub after_ok : {A B : Type 0} (r : Result A MakeFault) (next : A → Result B MakeFault) (y : B) → unless_refused r next ≡ Ok y → IsAfter r next y
 after_ok (Ok x) next y e = record { x = x; is = refl; gives = e }
 after_ok (Err f) next y e = absurd (cc (e))
 
@@ -184,46 +185,46 @@ each_read : {X Y : Type 0} (R : X → Y → Type 0) (count : X → ℕ) (of : �
     → (n : ℕ) (xs : List X) (ys : List Y) → each_from count of n xs ≡ Ok ys → AllOf R xs ys
 each_read R count of h n [] ys e = let same : [] ≡ ys = cc (e) in subst (AllOf R []) same tt
 each_read R count of h n (x ∷ xs) ys e =
-    let one = after_ok (of n x) (λ y. after (each_from count of (n + count x) xs) (λ zs. Ok (y ∷ zs))) ys e in
+    let one = after_ok (of n x) (λ y. unless_refused (each_from count of (n + count x) xs) (λ zs. Ok (y ∷ zs))) ys e in
     let two = after_ok (each_from count of (n + count x) xs) (λ zs. Ok (one.x ∷ zs)) ys one.gives in
     let gives = two.gives in
     let same : one.x ∷ two.x ≡ ys = cc (gives) in
     subst (AllOf R (x ∷ xs)) same (h n x one.x one.is, each_read R count of h (n + count x) xs two.x two.is)
 
 abbrev IsFileOf : List ℕ → Source → Type 0
-IsFileOf name file = file.name ≡ part_of name
+IsFileOf name file = file.name ≡ last_part_of name
 
 file_read : (place : ℕ) (read : Reads) (n : ℕ) (name : List ℕ) (file : Source) → file_at place read n name ≡ Ok file → IsFileOf name file
 file_read place read n name file e =
-    let one = after_ok (found_at place (read n name)) (λ bytes. Ok (record { name = part_of name; bytes = bytes })) file e in
+    let one = after_ok (found_at place (read n name)) (λ bytes. Ok (record { name = last_part_of name; bytes = bytes })) file e in
     let gives = one.gives in
-    let same : record { name = part_of name; bytes = one.x } ≡ file = cc (gives) in
+    let same : record { name = last_part_of name; bytes = one.x } ≡ file = cc (gives) in
     ap (λ (f : Source). f.name) (sym same)
 
-names_read : (names : List (List ℕ)) (files : List Source) → AllOf IsFileOf names files → source_names files ≡ map part_of names
+names_read : (names : List (List ℕ)) (files : List Source) → AllOf IsFileOf names files → source_names files ≡ map last_part_of names
 names_read [] [] h = refl
 names_read [] (file ∷ files) h = absurd h
 names_read (name ∷ names) [] h = absurd h
 names_read (name ∷ names) (file ∷ files) h = λ k. h.0 k ∷ (names_read names files h.1) k
 
 -- a folder and its files have their names
-abbrev IsFolderOf : Listed → SourceFolder → Type 0
-IsFolderOf l s = (s.name ≡ l.name) × (source_names s.files ≡ map part_of l.files)
+abbrev IsFolderOf : FolderListing → SourceFolder → Type 0
+IsFolderOf l s = (s.name ≡ l.name) × (source_names s.files ≡ map last_part_of l.files)
 
-folder_read : (place : ℕ) (read : Reads) (n : ℕ) (folder : Listed) (source : SourceFolder) → folder_at place read n folder ≡ Ok source → IsFolderOf folder source
+folder_read : (place : ℕ) (read : Reads) (n : ℕ) (folder : FolderListing) (source : SourceFolder) → folder_at place read n folder ≡ Ok source → IsFolderOf folder source
 folder_read place read n folder source e =
-    let one = after_ok (files_from place read n folder.files) (λ files. Ok (record { name = folder.name; files = files })) source e in
+    let one = after_ok (sources_from place read n folder.files) (λ files. Ok (record { name = folder.name; files = files })) source e in
     let gives = one.gives in
     let same : record { name = folder.name; files = one.x } ≡ source = cc (gives) in
     let names = names_read folder.files one.x (each_read IsFileOf (λ name. 1) (file_at place read) (file_read place read) n folder.files one.x one.is) in
     subst (IsFolderOf folder) same (refl, names)
 
-abbrev AreOf : List Listed → List SourceFolder → Type 0
+abbrev AreOf : List FolderListing → List SourceFolder → Type 0
 AreOf folders sources = AllOf IsFolderOf folders sources
 
-folders_read : (place : ℕ) (read : Reads) (n : ℕ) (folders : List Listed) (sources : List SourceFolder) → folders_from place read n folders ≡ Ok sources → AreOf folders sources
+folders_read : (place : ℕ) (read : Reads) (n : ℕ) (folders : List FolderListing) (sources : List SourceFolder) → source_folders_from place read n folders ≡ Ok sources → AreOf folders sources
 folders_read place read n folders sources e =
-    each_read IsFolderOf (λ (folder : Listed). length folder.files) (folder_at place read) (folder_read place read) n folders sources e
+    each_read IsFolderOf (λ (folder : FolderListing). length folder.files) (folder_at place read) (folder_read place read) n folders sources e
 
 -- ---- so they may stand in a package
 
@@ -237,7 +238,7 @@ pub record AreSources (sources : List SourceFolder) : Type 0 where
   pub files_apart : AreApartFiles sources
 
 module _ (dir : List ℕ) (names : List (List ℕ)) where
-  all_named : (fs : List (List ℕ)) (sources : List SourceFolder) → AreListed dir names → ((f : List ℕ) → IsIn f fs → is_folder_name f ≡ true) → AreOf (map (listed dir names) fs) sources → AreNamedFolders sources
+  all_named : (fs : List (List ℕ)) (sources : List SourceFolder) → AreListed dir names → ((f : List ℕ) → IsIn f fs → is_folder_name f ≡ true) → AreOf (map (listing_of dir names) fs) sources → AreNamedFolders sources
   all_named [] [] all named are = tt
   all_named [] (s ∷ ss) all named are = absurd are
   all_named (f ∷ fs) [] all named are = absurd are
@@ -247,33 +248,33 @@ module _ (dir : List ℕ) (names : List (List ℕ)) where
     all_named fs ss all (λ g here. named g (inr here)) are.1,
   )
 
-  all_apart : (fs : List (List ℕ)) (sources : List SourceFolder) → AreListed dir names → IsApart names → AreOf (map (listed dir names) fs) sources → AreApartFiles sources
+  all_apart : (fs : List (List ℕ)) (sources : List SourceFolder) → AreListed dir names → IsApart names → AreOf (map (listing_of dir names) fs) sources → AreApartFiles sources
   all_apart [] [] all apart are = tt
   all_apart [] (s ∷ ss) all apart are = absurd are
   all_apart (f ∷ fs) [] all apart are = absurd are
   all_apart (f ∷ fs) (s ∷ ss) all apart are = (subst IsApart (sym are.0.1) (files_apart dir f names all apart), all_apart fs ss all apart are.1)
 
-  names_are : (fs : List (List ℕ)) (sources : List SourceFolder) → AreOf (map (listed dir names) fs) sources → folder_names_of sources ≡ fs
+  names_are : (fs : List (List ℕ)) (sources : List SourceFolder) → AreOf (map (listing_of dir names) fs) sources → folder_names_of sources ≡ fs
   names_are [] [] are = refl
   names_are [] (s ∷ ss) are = absurd are
   names_are (f ∷ fs) [] are = absurd are
   names_are (f ∷ fs) (s ∷ ss) are = λ k. are.0.0 k ∷ (names_are fs ss are.1) k
 
-  pub sources_good : (place : ℕ) (read : Reads) (n : ℕ) (sources : List SourceFolder) → AreListed dir names → Rises names → folders_from place read n (folders_of dir names) ≡ Ok sources → AreSources sources
+  pub sources_good : (place : ℕ) (read : Reads) (n : ℕ) (sources : List SourceFolder) → AreListed dir names → Rises names → source_folders_from place read n (folders_of dir names) ≡ Ok sources → AreSources sources
   unfolding folders_of
   sources_good place read n sources all rises e =
-      let fs : List (List ℕ) = folder_names (map (below dir) names) in
-      let are = folders_read place read n (map (listed dir names) fs) sources e in
+      let fs : List (List ℕ) = folder_names (map (path_below dir) names) in
+      let are = folders_read place read n (map (listing_of dir names) fs) sources e in
       record {
         named = all_named fs sources all (λ f here. folder_named dir names f all here) are;
-        apart = subst IsApart (sym (names_are fs sources are)) (rises_apart fs (in_order_rises (flat_map folders_over (map (below dir) names))));
+        apart = subst IsApart (sym (names_are fs sources are)) (rises_apart fs (in_order_rises (flat_map folders_over (map (path_below dir) names))));
         files_apart = all_apart fs sources all (rises_apart names rises) are;
       }
 
 -- ---- where their sizes are small
 
 abbrev file_size : Source → ℕ
-file_size file = size_of (kind_of file.bytes)
+file_size file = size_of_kind (kind_of_file file.bytes)
 
 files_sized : (f : List ℕ) (files : List Source) → AreFileNames f (source_names files) → sum_by file_size files < 2 ^ 64 → AreGoodFiles f files
 files_sized f [] named small = tt
@@ -284,5 +285,5 @@ files_sized f (file ∷ files) named small =
 pub folders_sized : (sources : List SourceFolder) → AreNamedFolders sources → installed_size sources < 2 ^ 64 → AreGoodFolders sources
 folders_sized [] named small = tt
 folders_sized (s ∷ ss) named small =
-    let sum = sum_by-cons size_in s ss in
+    let sum = sum_by-cons size_of_folder s ss in
     (named.0, files_sized s.name s.files named.1 (omega arith), folders_sized ss named.2 (omega arith))

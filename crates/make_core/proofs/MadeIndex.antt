@@ -2,12 +2,12 @@
 use Rattle.std.proofs.Common.{◌≡◌, ℕ, List, None, Result, Ok, Err, Vec, IfOk}
 use Rattle.std.specs.declared.alloc.Global.{Global}
 use Rattle.pkg_core.specs.Whole.{container_fault}
-use Rattle.words_core.specs.Command.{CommandLine}
-use Rattle.make_core.specs.IndexCommand.{made_index}
-use Rattle.make_core.specs.IndexKept.{IsMadeBy}
-use Rattle.make_core.specs.Sound.{AreFiles}
-use Rattle.make_core.specs.Sources.{Reads}
-use Rattle.make_core.specs.declared.fault.MakeFault.{MakeFault}
+use Rattle.command_core.specs.Command.{CommandLine}
+use Rattle.make_index.specs.Index.{made_index}
+use Rattle.make_index.specs.Kept.{IsMadeBy}
+use Rattle.make_index.specs.Files.{AreFiles}
+use Rattle.make_info.specs.Reads.{Reads}
+use Rattle.make_info.specs.declared.fault.MakeFault.{MakeFault}
 
 abbrev pub SoundIndex : Type 0
 SoundIndex = (command : CommandLine) (read : Reads) (bytes : List ℕ) → AreFiles read 0 command.operands → made_index command read ≡ Ok bytes → container_fault bytes ≡ None

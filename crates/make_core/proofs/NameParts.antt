@@ -10,7 +10,7 @@ use Rattle.std.proofs.lemmas.Str.{IsCharBoundary-after_ascii, IsCharBoundary-bef
 use Rattle.base_core.specs.Name.{is_name, is_part, parts_of}
 use Rattle.adb_schema.specs.Reserved.{path_of}
 use Rattle.adb_schema.specs.Rules.{is_file_name, is_folder_name, is_one_part}
-use Rattle.make_core.specs.Folders.{folder_of, is_slash, part_of}
+use Rattle.make_package.specs.Folders.{folder_of, is_slash, last_part_of}
 
 -- ---- the parts on both sides
 
@@ -138,14 +138,14 @@ suffix_behind folder part free =
     let stops : 0 < n → is_other (get_or all (n - 1) 0) ≡ false = λ lt. ap is_other (ap (λ m. get_or all m 0) (omega arith) ∙ get_or-append-add folder (47 ∷ part) 0 0) in
     suffix_len_is is_other all n 0 (omega arith) passes stops ∙ omega arith
 
-pub part_alone : (part : List ℕ) → list_any is_slash part ≡ false → (folder_of part ≡ []) × (part_of part ≡ part)
+pub part_alone : (part : List ℕ) → list_any is_slash part ≡ false → (folder_of part ≡ []) × (last_part_of part ≡ part)
 part_alone part free =
     let n = suffix_whole part free in
     let none_left : length part - suffix_len is_other part ≡ 0 = omega arith in
     let before : length part - suffix_len is_other part - 1 ≡ 0 = omega arith in
     (ap (λ k. take k part) before, ap (λ k. drop k part) none_left)
 
-pub part_behind : (folder part : List ℕ) → list_any is_slash part ≡ false → (folder_of (folder ++ 47 ∷ part) ≡ folder) × (part_of (folder ++ 47 ∷ part) ≡ part)
+pub part_behind : (folder part : List ℕ) → list_any is_slash part ≡ false → (folder_of (folder ++ 47 ∷ part) ≡ folder) × (last_part_of (folder ++ 47 ∷ part) ≡ part)
 part_behind folder part free =
     let all : List ℕ = folder ++ 47 ∷ part in
     let n = suffix_behind folder part free in
@@ -182,16 +182,16 @@ path_behind [] part some = absurd (omega arith)
 path_behind (b ∷ bs) part some = refl
 
 pub record IsPath (path : List ℕ) : Type 0 where
-  pub is : path_of (folder_of path) (part_of path) ≡ path
-  pub good : is_file_name (folder_of path) (part_of path) ≡ true
+  pub is : path_of (folder_of path) (last_part_of path) ≡ path
+  pub good : is_file_name (folder_of path) (last_part_of path) ≡ true
 
-file_by : (path folder part : List ℕ) → folder_of path ≡ folder → part_of path ≡ part → path_of folder part ≡ path → is_name part ≡ true → list_any is_slash part ≡ false → length path ≤ 1024 → IsPath path
+file_by : (path folder part : List ℕ) → folder_of path ≡ folder → last_part_of path ≡ part → path_of folder part ≡ path → is_name part ≡ true → list_any is_slash part ≡ false → length path ≤ 1024 → IsPath path
 file_by path folder part f p is name free short =
-    let whole : path_of (folder_of path) (part_of path) ≡ path = (λ k. path_of (f k) (p k)) ∙ is in
-    let one : is_one_part (part_of path) ≡ true = ap is_one_part p ∙ both_true (is_name part) (not (list_any (λ b. b == 47) part)) name (ap not free) in
+    let whole : path_of (folder_of path) (last_part_of path) ≡ path = (λ k. path_of (f k) (p k)) ∙ is in
+    let one : is_one_part (last_part_of path) ≡ true = ap is_one_part p ∙ both_true (is_name part) (not (list_any (λ b. b == 47) part)) name (ap not free) in
     record {
       is = whole;
-      good = both_true (is_one_part (part_of path)) (nat_le (length (path_of (folder_of path) (part_of path))) 1024) one (ap (λ (xs : List ℕ). nat_le (length xs) 1024) whole ∙ le-leb (length path) 1024 short);
+      good = both_true (is_one_part (last_part_of path)) (nat_le (length (path_of (folder_of path) (last_part_of path))) 1024) one (ap (λ (xs : List ℕ). nat_le (length xs) 1024) whole ∙ le-leb (length path) 1024 short);
     }
 
 pub path_good : (path : List ℕ) → is_name path ≡ true → IsPath path
@@ -208,22 +208,22 @@ path_good path name = by_slash (last_slash path)
         let both = sides last.folder last.part (ap is_name (sym is) ∙ name) in
         let some = (named last.folder both.0).some in
         let short = (named path name).short in
-        file_by path last.folder last.part (ap folder_of is ∙ there.0) (ap part_of is ∙ there.1) (path_behind last.folder last.part some ∙ sym is) both.1 last.free short
+        file_by path last.folder last.part (ap folder_of is ∙ there.0) (ap last_part_of is ∙ there.1) (path_behind last.folder last.part some ∙ sym is) both.1 last.free short
 
 -- a folder of a name, and the last part of a name below a folder
 pub folder_good : (folder rest : List ℕ) → is_name (folder ++ 47 ∷ rest) ≡ true → is_folder_name folder ≡ true
 folder_good [] rest name = refl
 folder_good (b ∷ bs) rest name = (sides (b ∷ bs) rest name).0
 
-pub same_part : (dir path : List ℕ) → part_of (dir ++ 47 ∷ path) ≡ part_of path
+pub same_part : (dir path : List ℕ) → last_part_of (dir ++ 47 ∷ path) ≡ last_part_of path
 same_part dir path = by_slash (last_slash path)
   where
-    by_slash : (list_any is_slash path ≡ false) ⊎ IsLast path → part_of (dir ++ 47 ∷ path) ≡ part_of path
+    by_slash : (list_any is_slash path ≡ false) ⊎ IsLast path → last_part_of (dir ++ 47 ∷ path) ≡ last_part_of path
     by_slash (inl free) = (part_behind dir path free).1 ∙ sym (part_alone path free).1
     by_slash (inr last) =
         let is = last.is in
         let grouped : (dir ++ 47 ∷ last.folder) ++ 47 ∷ last.part ≡ dir ++ 47 ∷ (last.folder ++ 47 ∷ last.part) = append_assoc dir (47 ∷ last.folder) (47 ∷ last.part) in
-        ap (λ (xs : List ℕ). part_of (dir ++ 47 ∷ xs)) is
-        ∙ (ap part_of (sym grouped)
+        ap (λ (xs : List ℕ). last_part_of (dir ++ 47 ∷ xs)) is
+        ∙ (ap last_part_of (sym grouped)
         ∙ ((part_behind (dir ++ 47 ∷ last.folder) last.part last.free).1
-        ∙ (sym (part_behind last.folder last.part last.free).1 ∙ ap part_of (sym is))))
+        ∙ (sym (part_behind last.folder last.part last.free).1 ∙ ap last_part_of (sym is))))

@@ -4,10 +4,10 @@ use Rattle.std.specs.Prelude.{All, IfSome, is_some, unwrap_or}
 use Rattle.std.proofs.lemmas.List.Elements.{All-drop, All-take}
 use Rattle.base_core.specs.declared.cause.Cause.{Cause}
 use Rattle.base_core.specs.declared.cause.Cause.TheVariants.{BlockOrder, Truncated}
-use Rattle.adb_block.specs.Container.{Piece, comes_after}
-use Rattle.adb_block.specs.Framing.{HeadFields, Step, ended, failed, block, head_of, headed, kind_numbered, ordered, sized, step}
+use Rattle.adb_block.specs.Piece.{Piece, comes_after}
+use Rattle.adb_block.specs.Framing.{HeadFields, Step, ended, failed, block, head_of, step_by_head, kind_of_number, step_by_order, step_by_size, next_step}
 use Rattle.adb_block.specs.Header.{header_of}
-use Rattle.adb_block.specs.Reading.{Reading, reading_from, reading_of, stepped}
+use Rattle.adb_block.specs.Reading.{Reading, reading_from, reading_of, reading_by_step}
 use Rattle.adb_block.specs.declared.block.BlockKind.{BlockKind}
 use Rattle.adb_view.specs.Head.{head_fault, root_of}
 use Rattle.adb_view.specs.Plain.{Plain, null, IsNormal, Shape, plain_of}
@@ -58,21 +58,21 @@ either : (b : Bool) (x y : Step) → IsFirst x → IsFirst y → IsFirst (if b t
 either true x y a c = a
 either false x y a c = c
 
-sized_first : (at : ℕ) (bytes : List ℕ) (head : HeadFields) (kind : BlockKind) → AreBytes bytes → IsFirst (sized at bytes head kind)
+sized_first : (at : ℕ) (bytes : List ℕ) (head : HeadFields) (kind : BlockKind) → AreBytes bytes → IsFirst (step_by_size at bytes head kind)
 sized_first at bytes head kind h =
     either _ _ _ (failed_first (Truncated at)) (either _ _ _ (failed_first (Truncated at))
     (block_first _ _ (All-take (λ b. b < 256) (head.raw - head.len) (drop head.len bytes) (All-drop (λ b. b < 256) head.len bytes h))))
 
-ordered_first : (at : ℕ) (bytes : List ℕ) (head : HeadFields) (kind : Option BlockKind) → AreBytes bytes → IsFirst (ordered None at bytes head kind)
+ordered_first : (at : ℕ) (bytes : List ℕ) (head : HeadFields) (kind : Option BlockKind) → AreBytes bytes → IsFirst (step_by_order None at bytes head kind)
 ordered_first at bytes head None h = failed_first (BlockOrder at)
 ordered_first at bytes head (Some kind) h = either (comes_after None kind) _ _ (sized_first at bytes head kind h) (failed_first (BlockOrder at))
 
-headed_first : (at : ℕ) (bytes : List ℕ) (head : Option HeadFields) → AreBytes bytes → IsFirst (headed None at bytes head)
+headed_first : (at : ℕ) (bytes : List ℕ) (head : Option HeadFields) → AreBytes bytes → IsFirst (step_by_head None at bytes head)
 headed_first at bytes None h = failed_first (Truncated at)
-headed_first at bytes (Some head) h = ordered_first at bytes head (kind_numbered head.kind) h
+headed_first at bytes (Some head) h = ordered_first at bytes head (kind_of_number head.kind) h
 
-step_first : (at : ℕ) (bytes : List ℕ) → AreBytes bytes → IsFirst (step None at bytes)
-unfolding step
+step_first : (at : ℕ) (bytes : List ℕ) → AreBytes bytes → IsFirst (next_step None at bytes)
+unfolding next_step
 step_first at bytes h = either _ _ _ (failed_first (Truncated at)) (headed_first at bytes (head_of bytes) h)
 
 -- ---- so its payload is good
@@ -80,7 +80,7 @@ step_first at bytes h = either _ _ _ (failed_first (Truncated at)) (headed_first
 abbrev IsPayload : List ℕ → Type 0
 IsPayload payload = AreBytes payload × (payload_fault Package payload ≡ None)
 
-first_passed : (at : ℕ) (further : Piece → ℕ → Reading) (s : Step) → IsFirst s → blocks_fault (behind_fault Package) Package (stepped at further s) ≡ None → IsPayload (first_payload (stepped at further s))
+first_passed : (at : ℕ) (further : Piece → ℕ → Reading) (s : Step) → IsFirst s → blocks_fault (behind_fault Package) Package (reading_by_step at further s) ≡ None → IsPayload (first_payload (reading_by_step at further s))
 unfolding IsFirst
 first_passed at further ended f h = absurd f
 first_passed at further (failed c) f h = absurd cc
@@ -89,7 +89,7 @@ first_passed at further (block b size) f h = (f, front_none (payload_fault Packa
 header_passed : (file : List ℕ) (h : Result ℕ Cause) → AreBytes file → file_fault (behind_fault Package) Package file h ≡ None → IsPayload (payload_behind file h)
 unfolding reading_of reading_from
 header_passed file (Ok schema) bytes e =
-    first_passed 8 _ (step None 8 (drop 8 file)) (step_first 8 (drop 8 file) (All-drop (λ b. b < 256) 8 file bytes)) (back_none (schema_fault Package schema) _ e)
+    first_passed 8 _ (next_step None 8 (drop 8 file)) (step_first 8 (drop 8 file) (All-drop (λ b. b < 256) 8 file bytes)) (back_none (schema_fault Package schema) _ e)
 header_passed file (Err c) bytes e = absurd cc
 
 passed : (file : List ℕ) → AreBytes file → package_fault file ≡ None → IsPayload (payload_in file)

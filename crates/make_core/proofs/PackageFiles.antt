@@ -15,10 +15,11 @@ use Rattle.adb_schema.specs.Texts.{Around, at_root, inside_of, is_file_hash, num
 use Rattle.adb_schema.specs.Views.{entries_in, entry_in, int_in, text_in}
 use Rattle.adb_schema.specs.declared.schema.Which.TheVariants.{Acl, File, Dir, Scripts, PkgInfo, Package}
 use Rattle.adb_schema.specs.declared.schema.Kind.TheVariants.{Obj}
-use Rattle.words_core.specs.Values.{script_types}
-use Rattle.make_core.specs.Package.{Source, SourceFolder, Script, acl_value, kind_of, kind_value, file_value, folder_value, hash_of, int_or_null, is_link, link_text, package_value, plains, script_in, scripts_value, size_of, size_value, target_of}
-use Rattle.make_core.specs.declared.file.FileKind.{FileKind}
-use Rattle.make_core.specs.declared.file.FileKind.TheVariants.{Link, Regular}
+use Rattle.command_core.specs.Values.{script_types}
+use Rattle.make_package.specs.Package.{Source, SourceFolder, Script, access_value, kind_of_file, value_of_kind, value_of_file, value_of_folder, hash_of_kind, is_link_file, link_text, value_of_package, script_in, value_of_scripts, size_of_kind, target_of_kind}
+use Rattle.make_info.specs.Values.{number_value, plains_of, size_value}
+use Rattle.make_package.specs.declared.file.FileKind.{FileKind}
+use Rattle.make_package.specs.declared.file.FileKind.TheVariants.{Link, Regular}
 use Rattle.make_core.proofs.GoodValues.{IsGood, arr_good, entries-arr_value, entry-obj_value, hash_good, null_array, null_number, number_good, obj_good, text_good, text-blob_value}
 use Rattle.make_core.proofs.Zeros.{inside_same}
 
@@ -50,19 +51,19 @@ not_true false e = refl
 both_true : (a b : Bool) → a ≡ true → b ≡ true → (a && b) ≡ true
 both_true a b e f = rw (e, f) refl
 
-link_target : (bytes : List ℕ) → is_link bytes ≡ true → is_target (0 ∷ 160 ∷ link_text bytes) ≡ true
-unfolding is_link
+link_target : (bytes : List ℕ) → is_link_file bytes ≡ true → is_target (0 ∷ 160 ∷ link_text bytes) ≡ true
+unfolding is_link_file
 link_target bytes e =
     let a = and_parts (bytes_eq (take 10 bytes) (codes "!<symlink>") && not (length bytes == 10)) (is_utf8 (link_text bytes)) e in
     let b = and_parts (bytes_eq (take 10 bytes) (codes "!<symlink>")) (not (length bytes == 10)) a.0 in
     let mark = (bytes_eq-Decides (take 10 bytes) (codes "!<symlink>")).0 b.0 in
     both_true (nat_lt 0 (length (link_text bytes))) (is_utf8 (link_text bytes)) (lt-ltb 0 (length (link_text bytes)) (behind_mark bytes mark (not_true _ b.1))) a.1
 
-pub good_kind : (bytes : List ℕ) → size_of (kind_of bytes) < 2 ^ 64 → IsGoodKind (kind_of bytes)
-unfolding kind_of
-good_kind bytes = by_link (is_link bytes) refl
+pub good_kind : (bytes : List ℕ) → size_of_kind (kind_of_file bytes) < 2 ^ 64 → IsGoodKind (kind_of_file bytes)
+unfolding kind_of_file
+good_kind bytes = by_link (is_link_file bytes) refl
   where
-    by_link : (b : Bool) → is_link bytes ≡ b → size_of (if b then Link (0 ∷ 160 ∷ link_text bytes) else Regular (length bytes) (sha256 bytes)) < 2 ^ 64
+    by_link : (b : Bool) → is_link_file bytes ≡ b → size_of_kind (if b then Link (0 ∷ 160 ∷ link_text bytes) else Regular (length bytes) (sha256 bytes)) < 2 ^ 64
         → IsGoodKind (if b then Link (0 ∷ 160 ∷ link_text bytes) else Regular (length bytes) (sha256 bytes))
     by_link true e small = (link_text bytes, refl, link_target bytes e)
     by_link false e small = (small, length-sha256 bytes)
@@ -82,7 +83,7 @@ pub size_good : (place : ℕ) (around : Around) (n : ℕ) → n < 2 ^ 64 → ((k
 size_good place around zero small free = null_number place around (free 0)
 size_good place around (suc n) small free = subst (IsGood number place around) (sym (size-suc n)) (number_good place around (suc n) small (free (suc n)))
 
-acl_good : (mode place : ℕ) (around : Around) → mode < 2 ^ 64 → IsGood (shape_of (Obj Acl)) place around (acl_value mode)
+acl_good : (mode place : ℕ) (around : Around) → mode < 2 ^ 64 → IsGood (shape_of (Obj Acl)) place around (access_value mode)
 unfolding shape_of text_rule
 acl_good mode place around small =
     let root : List ℕ = codes "root" in
@@ -98,31 +99,31 @@ abbrev pub in_folder : List ℕ → Around
 in_folder name = record { root = Package; folder = name; has_contents = false }
 
 abbrev pub with_contents : FileKind → Bool
-with_contents kind = (length (target_of kind) == 0) && nat_lt 0 (size_of kind)
+with_contents kind = (length (target_of_kind kind) == 0) && nat_lt 0 (size_of_kind kind)
 
 abbrev around_file : List ℕ → FileKind → Around
 around_file folder kind = record { root = Package; folder = folder; has_contents = with_contents kind }
 
 abbrev file_fields : List ℕ → FileKind → Plains
 file_fields name kind =
-    more (blob_value name) (more (acl_value 420) (more (size_value (size_of kind)) (more null
-    (more (blob_value (hash_of kind)) (more (blob_value (target_of kind)) none)))))
+    more (blob_value name) (more (access_value 420) (more (size_value (size_of_kind kind)) (more null
+    (more (blob_value (hash_of_kind kind)) (more (blob_value (target_of_kind kind)) none)))))
 
-pub name_stands : (name : List ℕ) (kind : FileKind) → text_in (entry_in (kind_value name kind) 0) ≡ name
+pub name_stands : (name : List ℕ) (kind : FileKind) → text_in (entry_in (value_of_kind name kind) 0) ≡ name
 name_stands name kind = ap text_in (entry-obj_value (file_fields name kind) 0) ∙ text-blob_value name
 
-pub size_stands : (name : List ℕ) (kind : FileKind) → int_in (entry_in (kind_value name kind) 2) ≡ size_of kind
-size_stands name kind = ap int_in (entry-obj_value (file_fields name kind) 2) ∙ int-size_value (size_of kind)
+pub size_stands : (name : List ℕ) (kind : FileKind) → int_in (entry_in (value_of_kind name kind) 2) ≡ size_of_kind kind
+size_stands name kind = ap int_in (entry-obj_value (file_fields name kind) 2) ∙ int-size_value (size_of_kind kind)
 
-pub hash_stands : (name : List ℕ) (kind : FileKind) → text_in (entry_in (kind_value name kind) 4) ≡ hash_of kind
-hash_stands name kind = ap text_in (entry-obj_value (file_fields name kind) 4) ∙ text-blob_value (hash_of kind)
+pub hash_stands : (name : List ℕ) (kind : FileKind) → text_in (entry_in (value_of_kind name kind) 4) ≡ hash_of_kind kind
+hash_stands name kind = ap text_in (entry-obj_value (file_fields name kind) 4) ∙ text-blob_value (hash_of_kind kind)
 
-pub target_stands : (name : List ℕ) (kind : FileKind) → text_in (entry_in (kind_value name kind) 5) ≡ target_of kind
-target_stands name kind = ap text_in (entry-obj_value (file_fields name kind) 5) ∙ text-blob_value (target_of kind)
+pub target_stands : (name : List ℕ) (kind : FileKind) → text_in (entry_in (value_of_kind name kind) 5) ≡ target_of_kind kind
+target_stands name kind = ap text_in (entry-obj_value (file_fields name kind) 5) ∙ text-blob_value (target_of_kind kind)
 
-file_inside : (folder name : List ℕ) (kind : FileKind) → inside_of 4 (in_folder folder) (kind_value name kind) ≡ around_file folder kind
+file_inside : (folder name : List ℕ) (kind : FileKind) → inside_of 4 (in_folder folder) (value_of_kind name kind) ≡ around_file folder kind
 file_inside folder name kind =
-    inside_same 4 (in_folder folder) (kind_value name kind) name (target_of kind) (size_of kind) (name_stands name kind) (target_stands name kind) (size_stands name kind)
+    inside_same 4 (in_folder folder) (value_of_kind name kind) name (target_of_kind kind) (size_of_kind kind) (name_stands name kind) (target_stands name kind) (size_stands name kind)
 
 digest_by : (b : Bool) → (if b then is_digest_length 32 else is_digest_length_or_none 32) ≡ true
 digest_by true = refl
@@ -132,21 +133,21 @@ no_digest : (b : Bool) → (if b && nat_lt 0 0 then is_digest_length 0 else is_d
 no_digest true = refl
 no_digest false = refl
 
-hash_kept : (folder : List ℕ) (kind : FileKind) → IsGoodKind kind → is_file_hash (around_file folder kind) (length (hash_of kind)) ≡ true
+hash_kept : (folder : List ℕ) (kind : FileKind) → IsGoodKind kind → is_file_hash (around_file folder kind) (length (hash_of_kind kind)) ≡ true
 hash_kept folder (Link target) good =
     no_digest (length target == 0)
 hash_kept folder (Regular size digest) good =
     ap (λ n. if (0 == 0) && nat_lt 0 size then is_digest_length n else is_digest_length_or_none n) good.1 ∙ digest_by (nat_lt 0 size)
 
-target_kept : (kind : FileKind) → IsGoodKind kind → is_target (target_of kind) ≡ true
+target_kept : (kind : FileKind) → IsGoodKind kind → is_target (target_of_kind kind) ≡ true
 target_kept (Link target) good = ap is_target good.1 ∙ good.2
 target_kept (Regular size digest) good = refl
 
-size_small : (kind : FileKind) → IsGoodKind kind → size_of kind < 2 ^ 64
+size_small : (kind : FileKind) → IsGoodKind kind → size_of_kind kind < 2 ^ 64
 size_small (Link target) good = lit< tt
 size_small (Regular size digest) good = good.0
 
-pub file_good : (folder name : List ℕ) (kind : FileKind) → is_file_name folder name ≡ true → IsGoodKind kind → IsGood (shape_of (Obj File)) 503 (in_folder folder) (kind_value name kind)
+pub file_good : (folder name : List ℕ) (kind : FileKind) → is_file_name folder name ≡ true → IsGoodKind kind → IsGood (shape_of (Obj File)) 503 (in_folder folder) (value_of_kind name kind)
 unfolding shape_of text_rule
 file_good folder name kind named good =
     let inside : Around = around_file folder kind in
@@ -155,13 +156,13 @@ file_good folder name kind named good =
       (
         acl_good 420 402 inside (lit< tt),
         (
-          size_good 403 inside (size_of kind) (size_small kind good) (λ k. refl),
+          size_good 403 inside (size_of_kind kind) (size_small kind good) (λ k. refl),
           (
             null_number 404 inside refl,
             (
-              hash_good 405 inside (hash_of kind) (hash_kept folder kind good),
+              hash_good 405 inside (hash_of_kind kind) (hash_kept folder kind good),
               (
-                text_good 406 inside (target_of kind) (target_kept kind good),
+                text_good 406 inside (target_of_kind kind) (target_kept kind good),
                 (null_number 407 inside refl, tt),
               ),
             ),
@@ -175,26 +176,26 @@ file_good folder name kind named good =
 -- each file has a name that it may have there, and a size below 2 ^ 64
 abbrev pub AreGoodFiles : List ℕ → List Source → Type 0
 AreGoodFiles folder [] = Unit {0}
-AreGoodFiles folder (file ∷ files) = (is_file_name folder file.name ≡ true) × (size_of (kind_of file.bytes) < 2 ^ 64) × AreGoodFiles folder files
+AreGoodFiles folder (file ∷ files) = (is_file_name folder file.name ≡ true) × (size_of_kind (kind_of_file file.bytes) < 2 ^ 64) × AreGoodFiles folder files
 
-files_good : (folder : List ℕ) (files : List Source) → AreGoodFiles folder files → Each (IsGood (shape_of (Obj File)) 503 (in_folder folder)) (plains (map file_value files))
+files_good : (folder : List ℕ) (files : List Source) → AreGoodFiles folder files → Each (IsGood (shape_of (Obj File)) 503 (in_folder folder)) (plains_of (map value_of_file files))
 files_good folder [] good = tt
-files_good folder (file ∷ files) good = (file_good folder file.name (kind_of file.bytes) good.0 (good_kind file.bytes good.1), files_good folder files good.2)
+files_good folder (file ∷ files) good = (file_good folder file.name (kind_of_file file.bytes) good.0 (good_kind file.bytes good.1), files_good folder files good.2)
 
 abbrev pub around_folder : Around
 around_folder = record { root = Package; folder = []; has_contents = false }
 
 abbrev folder_fields : SourceFolder → Plains
-folder_fields folder = more (blob_value folder.name) (more (acl_value 493) (more (arr_value (plains (map file_value folder.files))) none))
+folder_fields folder = more (blob_value folder.name) (more (access_value 493) (more (arr_value (plains_of (map value_of_file folder.files))) none))
 
-pub folder_name_stands : (folder : SourceFolder) → text_in (entry_in (folder_value folder) 0) ≡ folder.name
+pub folder_name_stands : (folder : SourceFolder) → text_in (entry_in (value_of_folder folder) 0) ≡ folder.name
 folder_name_stands folder = ap text_in (entry-obj_value (folder_fields folder) 0) ∙ text-blob_value folder.name
 
-folder_inside : (folder : SourceFolder) → inside_of 5 around_folder (folder_value folder) ≡ in_folder folder.name
+folder_inside : (folder : SourceFolder) → inside_of 5 around_folder (value_of_folder folder) ≡ in_folder folder.name
 folder_inside folder =
-    inside_same 5 around_folder (folder_value folder) folder.name (text_in (entry_in (folder_value folder) 5)) (int_in (entry_in (folder_value folder) 2)) (folder_name_stands folder) refl refl
+    inside_same 5 around_folder (value_of_folder folder) folder.name (text_in (entry_in (value_of_folder folder) 5)) (int_in (entry_in (value_of_folder folder) 2)) (folder_name_stands folder) refl refl
 
-pub folder_good : (folder : SourceFolder) → is_folder_name folder.name ≡ true → AreGoodFiles folder.name folder.files → IsGood (shape_of (Obj Dir)) 702 around_folder (folder_value folder)
+pub folder_good : (folder : SourceFolder) → is_folder_name folder.name ≡ true → AreGoodFiles folder.name folder.files → IsGood (shape_of (Obj Dir)) 702 around_folder (value_of_folder folder)
 unfolding shape_of text_rule
 folder_good folder named files =
     let inside : Around = in_folder folder.name in
@@ -202,7 +203,7 @@ folder_good folder named files =
       text_good 501 inside folder.name named,
       (
         acl_good 493 502 inside (lit< tt),
-        (arr_good (shape_of (Obj File)) 503 inside (plains (map file_value folder.files)) (files_good folder.name folder.files files), tt),
+        (arr_good (shape_of (Obj File)) 503 inside (plains_of (map value_of_file folder.files)) (files_good folder.name folder.files files), tt),
       ),
     )
 
@@ -210,16 +211,16 @@ abbrev pub AreGoodFolders : List SourceFolder → Type 0
 AreGoodFolders [] = Unit {0}
 AreGoodFolders (folder ∷ folders) = (is_folder_name folder.name ≡ true) × AreGoodFiles folder.name folder.files × AreGoodFolders folders
 
-folders_good : (folders : List SourceFolder) → AreGoodFolders folders → Each (IsGood (shape_of (Obj Dir)) 702 around_folder) (plains (map folder_value folders))
+folders_good : (folders : List SourceFolder) → AreGoodFolders folders → Each (IsGood (shape_of (Obj Dir)) 702 around_folder) (plains_of (map value_of_folder folders))
 folders_good [] good = tt
 folders_good (folder ∷ folders) good = (folder_good folder good.0 good.1, folders_good folders good.2)
 
 -- ---- a package
 
-scripts_good : (scripts : List Script) → IsGood (shape_of (Obj Scripts)) 703 around_folder (scripts_value scripts)
+scripts_good : (scripts : List Script) → IsGood (shape_of (Obj Scripts)) 703 around_folder (value_of_scripts scripts)
 unfolding shape_of text_rule
 scripts_good scripts =
-    let vs : Plains = plains (map (λ field. blob_value (script_in scripts field)) script_types) in
+    let vs : Plains = plains_of (map (λ field. blob_value (script_in scripts field)) script_types) in
     let inside : Around = inside_of 6 around_folder (obj_value vs) in
     let of : List ℕ → List ℕ = script_in scripts in
     obj_good 6 (shapes_of (table Scripts)) 703 around_folder inside vs refl (
@@ -242,29 +243,29 @@ scripts_good scripts =
       ),
     )
 
-triggers_good : (triggers : List (List ℕ)) → Each (IsGood text 704 around_folder) (plains (map blob_value triggers))
+triggers_good : (triggers : List (List ℕ)) → Each (IsGood text 704 around_folder) (plains_of (map blob_value triggers))
 unfolding text_rule
 triggers_good [] = tt
 triggers_good (t ∷ ts) = (text_good 704 around_folder t refl, triggers_good ts)
 
 abbrev package_fields : Plain → List SourceFolder → List Script → List (List ℕ) → Option ℕ → Plains
 package_fields info folders scripts triggers priority =
-    more info (more (arr_value (plains (map folder_value folders))) (more (scripts_value scripts)
-    (more (arr_value (plains (map blob_value triggers))) (more (int_or_null priority) none))))
+    more info (more (arr_value (plains_of (map value_of_folder folders))) (more (value_of_scripts scripts)
+    (more (arr_value (plains_of (map blob_value triggers))) (more (number_value priority) none))))
 
 pub package_value_good : (info : Plain) (folders : List SourceFolder) (scripts : List Script) (triggers : List (List ℕ)) (priority : Option ℕ)
-    → IsGood (shape_of (Obj PkgInfo)) 701 around_folder info → AreGoodFolders folders → IsGood number 705 around_folder (int_or_null priority)
-    → IsGood (shape_of (Obj Package)) 0 (at_root Package) (package_value info folders scripts triggers priority)
+    → IsGood (shape_of (Obj PkgInfo)) 701 around_folder info → AreGoodFolders folders → IsGood number 705 around_folder (number_value priority)
+    → IsGood (shape_of (Obj Package)) 0 (at_root Package) (value_of_package info folders scripts triggers priority)
 unfolding shape_of
 package_value_good info folders scripts triggers priority about named number_good =
     obj_good 7 (shapes_of (table Package)) 0 (at_root Package) around_folder (package_fields info folders scripts triggers priority) refl (
       about,
       (
-        arr_good (shape_of (Obj Dir)) 702 around_folder (plains (map folder_value folders)) (folders_good folders named),
+        arr_good (shape_of (Obj Dir)) 702 around_folder (plains_of (map value_of_folder folders)) (folders_good folders named),
         (
           scripts_good scripts,
           (
-            arr_good text 704 around_folder (plains (map blob_value triggers)) (triggers_good triggers),
+            arr_good text 704 around_folder (plains_of (map blob_value triggers)) (triggers_good triggers),
             (number_good, tt),
           ),
         ),
@@ -273,17 +274,17 @@ package_value_good info folders scripts triggers priority about named number_goo
 
 -- ---- the folders and files of its value
 
-pub list-plains : (vs : List Plain) → list_of (plains vs) ≡ vs
+pub list-plains : (vs : List Plain) → list_of (plains_of vs) ≡ vs
 list-plains [] = refl
 list-plains (v ∷ vs) = ap (λ (us : List Plain). v ∷ us) (list-plains vs)
 
 pub folders_stand : (info : Plain) (folders : List SourceFolder) (scripts : List Script) (triggers : List (List ℕ)) (priority : Option ℕ)
-    → folders_in (package_value info folders scripts triggers priority) ≡ map folder_value folders
+    → folders_in (value_of_package info folders scripts triggers priority) ≡ map value_of_folder folders
 folders_stand info folders scripts triggers priority =
     ap (λ (v : Plain). list_of (entries_in v)) (entry-obj_value (package_fields info folders scripts triggers priority) 1)
-    ∙ (ap list_of (entries-arr_value (plains (map folder_value folders))) ∙ list-plains (map folder_value folders))
+    ∙ (ap list_of (entries-arr_value (plains_of (map value_of_folder folders))) ∙ list-plains (map value_of_folder folders))
 
-pub files_stand : (folder : SourceFolder) → files_in (folder_value folder) ≡ map file_value folder.files
+pub files_stand : (folder : SourceFolder) → files_in (value_of_folder folder) ≡ map value_of_file folder.files
 files_stand folder =
     ap (λ (v : Plain). list_of (entries_in v)) (entry-obj_value (folder_fields folder) 2)
-    ∙ (ap list_of (entries-arr_value (plains (map file_value folder.files))) ∙ list-plains (map file_value folder.files))
+    ∙ (ap list_of (entries-arr_value (plains_of (map value_of_file folder.files))) ∙ list-plains (map value_of_file folder.files))

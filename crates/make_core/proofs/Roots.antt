@@ -8,15 +8,16 @@ use Rattle.adb_schema.specs.Texts.{at_root}
 use Rattle.adb_schema.specs.Repeated.{repeated_fault}
 use Rattle.adb_schema.specs.declared.schema.Which.{Which}
 use Rattle.adb_schema.specs.declared.schema.Kind.TheVariants.{Obj}
-use Rattle.adb_write.specs.Canonical.{Counts, canonical, or_overflow, overflow_of, passes, size_of, value_count, written_of, MOST_BYTES, MOST_VALUES}
-use Rattle.make_core.specs.Sound.{IsRootOf}
+use Rattle.adb_write.specs.Canonical.{PayloadCounts, canonical, or_overflow, overflow_of, passes, written_of, MOST_BYTES, MOST_VALUES}
+use Rattle.adb_write.specs.Size.{size_of, value_count}
+use Rattle.adb_sound.specs.Root.{IsRootOf}
 use Rattle.make_core.proofs.GoodValues.{IsGood}
 
 pub record IsWritten (v : Plain) (payload : List ℕ) : Type 0 where
   pub none : overflow_of v ≡ None
   pub is : canonical v ≡ payload
 
-written_by : (v : Plain) (payload : List ℕ) (o : Option Counts) → overflow_of v ≡ o → or_overflow (canonical v) o ≡ Ok payload → IsWritten v payload
+written_by : (v : Plain) (payload : List ℕ) (o : Option PayloadCounts) → overflow_of v ≡ o → or_overflow (canonical v) o ≡ Ok payload → IsWritten v payload
 written_by v payload None e h = record { none = e; is = cc (h) }
 written_by v payload (Some c) e h = absurd (cc (h))
 

@@ -14,18 +14,19 @@ use Rattle.adb_schema.specs.Soundness.{schema_word}
 use Rattle.adb_schema.specs.declared.schema.Which.TheVariants.{Package, PkgInfo, Index}
 use Rattle.adb_schema.specs.declared.schema.Kind.TheVariants.{Obj}
 use Rattle.adb_schema.specs.declared.read.TheConstants.{INDEX_WORD}
-use Rattle.adb_write.specs.Canonical.{Counts, written_of, canonical}
+use Rattle.adb_write.specs.Canonical.{PayloadCounts, written_of, canonical}
 use Rattle.adb_write.specs.File.{file_of}
 use Rattle.pkg_core.specs.Whole.{container_fault, package_fault}
-use Rattle.words_core.specs.Command.{without_dot}
-use Rattle.words_core.specs.declared.operands.Operand.{Operand}
-use Rattle.make_core.specs.Index.{and_entries, found_entries, found_entry, index_by, index_file, index_of, index_of_found, index_value, plains, tested}
-use Rattle.words_core.specs.Command.{CommandLine}
-use Rattle.make_core.specs.IndexCommand.{description_in, made_index}
-use Rattle.make_core.specs.IndexEntries.{entry_of}
-use Rattle.make_core.specs.IndexOrder.{entry_cmp, in_order, placed}
-use Rattle.make_core.specs.Sound.{AreFiles, IsFile, IsRootOf}
-use Rattle.make_core.specs.declared.fault.MakeFault.{MakeFault}
+use Rattle.command_core.specs.Files.{without_dot}
+use Rattle.command_core.specs.declared.operands.Operand.{Operand}
+use Rattle.make_index.specs.Index.{and_entries, found_entries, found_entry, index_by, index_container, index_of, index_of_found, value_of_index, entry_unless, description_in, made_index}
+use Rattle.make_info.specs.Values.{plains_of}
+use Rattle.command_core.specs.Command.{CommandLine}
+use Rattle.make_index.specs.Entries.{entry_of_package}
+use Rattle.make_index.specs.EntryOrder.{entry_cmp, sorted_by, with_element}
+use Rattle.make_index.specs.Files.{AreFiles, IsFile}
+use Rattle.adb_sound.specs.Root.{IsRootOf}
+use Rattle.make_info.specs.declared.fault.MakeFault.{MakeFault}
 use Rattle.make_core.proofs.IndexEntry.{entry_good}
 use Rattle.make_core.proofs.OpenedPackage.{Values}
 use Rattle.make_core.proofs.Roots.{Exact, root_good, written}
@@ -33,18 +34,18 @@ use Rattle.make_core.proofs.GoodValues.{IsGood, arr_good, obj_good, text_good}
 
 -- ---- in order
 
-each_by : (P : Plain → Type 0) (b : Bool) (xs ys : List Plain) → Each P (plains xs) → Each P (plains ys) → Each P (plains (if b then xs else ys))
+each_by : (P : Plain → Type 0) (b : Bool) (xs ys : List Plain) → Each P (plains_of xs) → Each P (plains_of ys) → Each P (plains_of (if b then xs else ys))
 each_by P true xs ys x y = x
 each_by P false xs ys x y = y
 
-each_placed : (P : Plain → Type 0) (cmp : Plain → Plain → Ordering) (x : Plain) (xs : List Plain) → P x → Each P (plains xs) → Each P (plains (placed cmp x xs))
+each_placed : (P : Plain → Type 0) (cmp : Plain → Plain → Ordering) (x : Plain) (xs : List Plain) → P x → Each P (plains_of xs) → Each P (plains_of (with_element cmp x xs))
 each_placed P cmp x [] a h = (a, tt)
 each_placed P cmp x (y ∷ ys) a h =
-    each_by P (is_gt (cmp x y)) (y ∷ placed cmp x ys) (x ∷ y ∷ ys) (h.0, each_placed P cmp x ys a h.1) (a, (h.0, h.1))
+    each_by P (is_gt (cmp x y)) (y ∷ with_element cmp x ys) (x ∷ y ∷ ys) (h.0, each_placed P cmp x ys a h.1) (a, (h.0, h.1))
 
-each_in_order : (P : Plain → Type 0) (cmp : Plain → Plain → Ordering) (xs : List Plain) → Each P (plains xs) → Each P (plains (in_order cmp xs))
+each_in_order : (P : Plain → Type 0) (cmp : Plain → Plain → Ordering) (xs : List Plain) → Each P (plains_of xs) → Each P (plains_of (sorted_by cmp xs))
 each_in_order P cmp [] h = tt
-each_in_order P cmp (x ∷ xs) h = each_placed P cmp x (in_order cmp xs) h.0 (each_in_order P cmp xs h.1)
+each_in_order P cmp (x ∷ xs) h = each_placed P cmp x (sorted_by cmp xs) h.0 (each_in_order P cmp xs h.1)
 
 -- ---- the entries
 
@@ -52,9 +53,9 @@ abbrev IsEntry : Around → Plain → Type 0
 IsEntry around v = IsGood (shape_of (Obj PkgInfo)) 802 around v
 
 tested_good : Values → (place : ℕ) (around : Around) (file : List ℕ) (v : Plain) (o : Option Cause) → All (λ b. b < 256) file → length file < 2 ^ 64 → around.root ≡ Index
-    → package_fault file ≡ o → tested place file o ≡ Ok v → IsEntry around v
+    → package_fault file ≡ o → entry_unless place file o ≡ Ok v → IsEntry around v
 tested_good laws place around file v None bytes small root is e =
-    let same : entry_of file ≡ v = cc (e) in
+    let same : entry_of_package file ≡ v = cc (e) in
     subst (IsEntry around) same (entry_good laws file 802 around bytes small root is)
 tested_good laws place around file v (Some c) bytes small root is e = absurd (cc (e))
 
@@ -66,18 +67,18 @@ found_good laws place n name around read v (Some file) files root is e =
     tested_good laws place around file v (package_fault file) good.0 good.1 root refl e
 
 entries_by : (around : Around) (r : Result Plain MakeFault) (rs : Result (List Plain) MakeFault) (entries : List Plain) → and_entries r rs ≡ Ok entries
-    → ((v : Plain) → r ≡ Ok v → IsEntry around v) → ((vs : List Plain) → rs ≡ Ok vs → Each (IsEntry around) (plains vs)) → Each (IsEntry around) (plains entries)
+    → ((v : Plain) → r ≡ Ok v → IsEntry around v) → ((vs : List Plain) → rs ≡ Ok vs → Each (IsEntry around) (plains_of vs)) → Each (IsEntry around) (plains_of entries)
 entries_by around (Err f) rs entries e a b = absurd (cc (e))
 entries_by around (Ok v) (Err f) entries e a b = absurd (cc (e))
 entries_by around (Ok v) (Ok vs) entries e a b =
     let same : v ∷ vs ≡ entries = cc (e) in
-    subst (λ us. Each (IsEntry around) (plains us)) same (a v refl, b vs refl)
+    subst (λ us. Each (IsEntry around) (plains_of us)) same (a v refl, b vs refl)
 
 entries_good : Values → (around : Around) (read : ℕ → List ℕ → Option (List ℕ)) (n : ℕ) (operands : List Operand) (entries : List Plain) → AreFiles read n operands → around.root ≡ Index
-    → found_entries read n operands ≡ Ok entries → Each (IsEntry around) (plains entries)
+    → found_entries read n operands ≡ Ok entries → Each (IsEntry around) (plains_of entries)
 entries_good laws around read n [] entries files root e =
     let same : [] ≡ entries = cc (e) in
-    subst (λ us. Each (IsEntry around) (plains us)) same tt
+    subst (λ us. Each (IsEntry around) (plains_of us)) same tt
 entries_good laws around read n (o ∷ operands) entries files root e =
     entries_by around _ _ entries e (λ v is. found_good laws o.place n (without_dot o.text) around read v (read n (without_dot o.text)) files.0 root refl is)
     (λ vs is. entries_good laws around read (n + 1) operands vs files.1 root is)
@@ -85,18 +86,18 @@ entries_good laws around read n (o ∷ operands) entries files root e =
 -- ---- the index
 
 abbrev index_fields : List ℕ → List Plain → Plains
-index_fields description entries = more (blob_value description) (more (arr_value (plains entries)) none)
+index_fields description entries = more (blob_value description) (more (arr_value (plains_of entries)) none)
 
 abbrev around_entries : List ℕ → List Plain → Around
 around_entries description entries = inside_of 8 (at_root Index) (obj_value (index_fields description entries))
 
-index_good : (description : List ℕ) (entries : List Plain) → ((around : Around) → around.root ≡ Index → Each (IsEntry around) (plains entries))
-    → IsGood (shape_of (Obj Index)) 0 (at_root Index) (index_value description entries)
-unfolding shape_of index_value text_rule
+index_good : (description : List ℕ) (entries : List Plain) → ((around : Around) → around.root ≡ Index → Each (IsEntry around) (plains_of entries))
+    → IsGood (shape_of (Obj Index)) 0 (at_root Index) (value_of_index description entries)
+unfolding shape_of value_of_index text_rule
 index_good description entries each =
     let around : Around = around_entries description entries in
     obj_good 8 (shapes_of (table Index)) 0 (at_root Index) around (index_fields description entries) refl
-    (text_good 801 around description refl, (arr_good (shape_of (Obj PkgInfo)) 802 around (plains entries) (each around refl), (text_good 803 around [] refl, tt)))
+    (text_good 801 around description refl, (arr_good (shape_of (Obj PkgInfo)) 802 around (plains_of entries) (each around refl), (text_good 803 around [] refl, tt)))
 
 none_repeated : (v : Plain) → repeated_fault Index v ≡ None
 unfolding repeated_fault
@@ -109,7 +110,7 @@ not_package e = (cc)
 abbrev pub Sound : Type 0
 Sound = (which : Which) (schema : ℕ) (v : Plain) → schema_word which ≡ Some schema → which ≢ Package → IsRootOf which v → container_fault (file_of schema (canonical v)) ≡ None
 
-file_sound : Sound → Exact → (v : Plain) (r : Result (List ℕ) Counts) (bytes : List ℕ) → IsGood (shape_of (Obj Index)) 0 (at_root Index) v → written_of v ≡ r → index_file r ≡ Ok bytes → container_fault bytes ≡ None
+file_sound : Sound → Exact → (v : Plain) (r : Result (List ℕ) PayloadCounts) (bytes : List ℕ) → IsGood (shape_of (Obj Index)) 0 (at_root Index) v → written_of v ≡ r → index_container r ≡ Ok bytes → container_fault bytes ≡ None
 file_sound sound exact v (Err c) bytes g w e = absurd (cc (e))
 file_sound sound exact v (Ok payload) bytes g w e =
     let is = written v payload w in
@@ -117,13 +118,13 @@ file_sound sound exact v (Ok payload) bytes g w e =
     let good = sound Index INDEX_WORD v refl not_package (root_good exact Index v payload g (none_repeated v) is) in
     ap container_fault (sym same) ∙ (ap (λ (p : List ℕ). container_fault (file_of INDEX_WORD p)) (sym is.is) ∙ good)
 
-found_sound : Sound → Exact → (description : List ℕ) (r : Result (List Plain) MakeFault) (bytes : List ℕ) → ((entries : List Plain) (around : Around) → r ≡ Ok entries → around.root ≡ Index → Each (IsEntry around) (plains entries))
+found_sound : Sound → Exact → (description : List ℕ) (r : Result (List Plain) MakeFault) (bytes : List ℕ) → ((entries : List Plain) (around : Around) → r ≡ Ok entries → around.root ≡ Index → Each (IsEntry around) (plains_of entries))
     → index_of_found description r ≡ Ok bytes → container_fault bytes ≡ None
 unfolding index_of
 found_sound sound exact description (Err f) bytes each e = absurd (cc (e))
 found_sound sound exact description (Ok entries) bytes each e =
-    let v : Plain = index_value description (in_order entry_cmp entries) in
-    file_sound sound exact v (written_of v) bytes (index_good description (in_order entry_cmp entries) (λ around root. each_in_order (IsEntry around) entry_cmp entries (each entries around refl root))) refl e
+    let v : Plain = value_of_index description (sorted_by entry_cmp entries) in
+    file_sound sound exact v (written_of v) bytes (index_good description (sorted_by entry_cmp entries) (λ around root. each_in_order (IsEntry around) entry_cmp entries (each entries around refl root))) refl e
 
 index_sound : Sound → Exact → Values → (description : List ℕ) (operands : List Operand) (read : ℕ → List ℕ → Option (List ℕ)) (bytes : List ℕ) → AreFiles read 0 operands → index_by description operands read ≡ Ok bytes → container_fault bytes ≡ None
 index_sound sound exact values description operands read bytes files e =

@@ -1,4 +1,5 @@
 -- A package that is made is sound.
+use Rattle.command_core.specs.declared.values.TheConstants.{FILES, SCRIPT, TRIGGER}
 use Rattle.std.proofs.Common.{◌≡◌, ℕ, ◌^◌, ◌<◌, List, [], ◌∷◌, length, Option, Some, None, Result, Ok, Err, refl, ap, sym, subst, ◌∙◌, arith}
 use Rattle.std.specs.Prelude.{All}
 use Rattle.std.proofs.lemmas.List.Elements.{All-head, All-tail}
@@ -6,63 +7,69 @@ use Rattle.base_core.specs.Listed.{IsNameBelow}
 use Rattle.adb_view.specs.Plain.{Plain}
 use Rattle.adb_schema.specs.declared.read.TheConstants.{PACKAGE_WORD}
 use Rattle.adb_schema.specs.declared.schema.Which.TheVariants.{Package}
-use Rattle.adb_write.specs.Canonical.{Counts, canonical, overflow_of}
+use Rattle.adb_write.specs.Canonical.{PayloadCounts, canonical, overflow_of}
 use Rattle.pkg_core.specs.Contents.{AreContentsOf, Contents, expected_contents}
 use Rattle.pkg_core.specs.Whole.{container_fault}
-use Rattle.words_core.specs.Command.{CommandLine}
-use Rattle.words_core.specs.Values.{without_dot}
-use Rattle.words_core.specs.declared.values.OptionValue.{OptionValue}
-use Rattle.make_core.specs.Information.{Item, info_value, information, replaces_priority}
-use Rattle.make_core.specs.Laid.{laid}
-use Rattle.make_core.specs.Making.{file_unless, made_package, or_info_bad, package_file, package_of}
-use Rattle.make_core.specs.Package.{Script, SourceFolder, contents_of, installed_size, package_value}
-use Rattle.make_core.specs.Sound.{AreNamesFor, IsRootOf}
-use Rattle.make_core.specs.Sources.{Reads, after, folders_below, given, scripts_from, texts}
+use Rattle.command_core.specs.Command.{CommandLine}
+use Rattle.command_core.specs.Files.{without_dot}
+use Rattle.command_core.specs.declared.values.OptionValue.{OptionValue}
+use Rattle.make_info.specs.Information.{InfoItem, information_value, information, replaces_priority}
+use Rattle.adb_sound.specs.Contents.{contents_size}
+use Rattle.adb_sound.specs.Container.{container_of}
+use Rattle.make_package.specs.Making.{container_unless, made_package, or_info_bad, package_container, package_of_parts}
+use Rattle.make_package.specs.Package.{Script, SourceFolder, contents_of_folders, installed_size, value_of_package}
+use Rattle.make_package.specs.Sources.{AreNamesFor, unless_refused, folders_below, values_of, scripts_from, texts_of}
+use Rattle.adb_sound.specs.Root.{IsRootOf}
+use Rattle.make_info.specs.Reads.{Reads}
 use Rattle.make_core.proofs.Apart.{Tells, package_once, rises_from_pairs}
 use Rattle.make_core.proofs.InformationGood.{IsInformation, Needs, info_good, information_good, priority_good}
 use Rattle.make_core.proofs.ListedNames.{AreListed, AreSources, after_ok, folders_sized, sources_good}
-use Rattle.make_core.proofs.PackageContents.{installed_total, package_contents}
-use Rattle.make_core.proofs.LaidSizes.{laid_total}
+use Rattle.make_core.proofs.PackageContents.{package_contents}
 use Rattle.make_core.proofs.PackageFiles.{package_value_good}
 use Rattle.make_core.proofs.Roots.{root_good, Exact}
 
 -- a package of a good value and its contents is sound
 abbrev pub Sound : Type 0
-Sound = (v : Plain) (contents : List Contents) → IsRootOf Package v → AreContentsOf (expected_contents v) contents → length (laid PACKAGE_WORD v contents) < 2 ^ 64 → container_fault (laid PACKAGE_WORD v contents) ≡ None
+Sound = (v : Plain) (contents : List Contents) → IsRootOf Package v → AreContentsOf (expected_contents v) contents → length (container_of PACKAGE_WORD v contents) < 2 ^ 64 → container_fault (container_of PACKAGE_WORD v contents) ≡ None
+
+-- what the layers below say of sizes
+pub record Sizes : Type 0 where
+  pub installed : (i : ℕ) (folders : List SourceFolder) → installed_size folders ≡ contents_size (contents_of_folders i folders)
+  pub container : (schema : ℕ) (v : Plain) (contents : List Contents) → length (container_of schema v contents) < 2 ^ 64 → contents_size contents < 2 ^ 64
 
 -- ---- of its parts
 
-value_sound : Sound → Exact → Needs → Tells → (items : List Item) (sources : List SourceFolder) (scripts : List Script) (triggers : List (List ℕ)) → IsInformation items → AreSources sources
-    → (v : Plain) → v ≡ package_value (info_value items (installed_size sources)) sources scripts triggers (replaces_priority items)
-    → overflow_of v ≡ None → length (laid PACKAGE_WORD v (contents_of 1 sources)) < 2 ^ 64 → container_fault (laid PACKAGE_WORD v (contents_of 1 sources)) ≡ None
-value_sound sound exact needs tells items sources scripts triggers about are v is fits short =
-    let contents : List Contents = contents_of 1 sources in
-    let bound = laid_total PACKAGE_WORD v contents short in
-    let sum = installed_total 1 sources in
+value_sound : Sound → Sizes → Exact → Needs → Tells → (items : List InfoItem) (sources : List SourceFolder) (scripts : List Script) (triggers : List (List ℕ)) → IsInformation items → AreSources sources
+    → (v : Plain) → v ≡ value_of_package (information_value items (installed_size sources)) sources scripts triggers (replaces_priority items)
+    → overflow_of v ≡ None → length (container_of PACKAGE_WORD v (contents_of_folders 1 sources)) < 2 ^ 64 → container_fault (container_of PACKAGE_WORD v (contents_of_folders 1 sources)) ≡ None
+value_sound sound sizes exact needs tells items sources scripts triggers about are v is fits short =
+    let contents : List Contents = contents_of_folders 1 sources in
+    let bound = sizes.container PACKAGE_WORD v contents short in
+    let sum = sizes.installed 1 sources in
     let small : installed_size sources < 2 ^ 64 = omega arith in
-    let info : Plain = info_value items (installed_size sources) in
+    let info : Plain = information_value items (installed_size sources) in
     let priority : Option ℕ = replaces_priority items in
     let good = package_value_good info sources scripts triggers priority (info_good needs items about (installed_size sources) small) (folders_sized sources are.named small) (priority_good needs items about) in
     let once = package_once info sources scripts triggers priority tells are.apart are.files_apart in
-    let made : Plain = package_value info sources scripts triggers priority in
+    let made : Plain = value_of_package info sources scripts triggers priority in
     let root = root_good exact Package made (canonical made) good once (record { none = ap overflow_of (sym is) ∙ fits; is = refl }) in
-    let whole = sound made contents root (package_contents info sources scripts triggers priority) (subst (λ (u : Plain). length (laid PACKAGE_WORD u contents) < 2 ^ 64) is short) in
-    ap (λ (u : Plain). container_fault (laid PACKAGE_WORD u contents)) is ∙ whole
+    let whole = sound made contents root (package_contents info sources scripts triggers priority) (subst (λ (u : Plain). length (container_of PACKAGE_WORD u contents) < 2 ^ 64) is short) in
+    ap (λ (u : Plain). container_fault (container_of PACKAGE_WORD u contents)) is ∙ whole
 
-file_sound : (v : Plain) (contents : List Contents) (o : Option Counts) (bytes : List ℕ) → overflow_of v ≡ o → length bytes < 2 ^ 64
-    → (overflow_of v ≡ None → length (laid PACKAGE_WORD v contents) < 2 ^ 64 → container_fault (laid PACKAGE_WORD v contents) ≡ None) → file_unless o v contents ≡ Ok bytes → container_fault bytes ≡ None
+file_sound : (v : Plain) (contents : List Contents) (o : Option PayloadCounts) (bytes : List ℕ) → overflow_of v ≡ o → length bytes < 2 ^ 64
+    → (overflow_of v ≡ None → length (container_of PACKAGE_WORD v contents) < 2 ^ 64 → container_fault (container_of PACKAGE_WORD v contents) ≡ None) → container_unless o v contents ≡ Ok bytes → container_fault bytes ≡ None
 file_sound v contents (Some counts) bytes is short sound e = absurd (cc (e))
 file_sound v contents None bytes is short sound e =
-    let same : laid PACKAGE_WORD v contents ≡ bytes = cc (e) in
+    let same : container_of PACKAGE_WORD v contents ≡ bytes = cc (e) in
     ap container_fault (sym same) ∙ sound is (subst (λ (b : List ℕ). length b < 2 ^ 64) (sym same) short)
 
-package_sound : Sound → Exact → Needs → Tells → (command : CommandLine) (scripts : List Script) (items : List Item) (sources : List SourceFolder) (bytes : List ℕ) → IsInformation items → AreSources sources
-    → length bytes < 2 ^ 64 → package_of command scripts items sources ≡ Ok bytes → container_fault bytes ≡ None
-unfolding package_file
-package_sound sound exact needs tells command scripts items sources bytes about are short e =
-    let triggers : List (List ℕ) = texts (given 116 command.values) in
-    let v : Plain = package_value (info_value items (installed_size sources)) sources scripts triggers (replaces_priority items) in
-    file_sound v (contents_of 1 sources) (overflow_of v) bytes refl short (value_sound sound exact needs tells items sources scripts triggers about are v refl) e
+package_sound : Sound → Sizes → Exact → Needs → Tells → (command : CommandLine) (scripts : List Script) (items : List InfoItem) (sources : List SourceFolder) (bytes : List ℕ) → IsInformation items → AreSources sources
+    → length bytes < 2 ^ 64 → package_of_parts command scripts items sources ≡ Ok bytes → container_fault bytes ≡ None
+unfolding package_container
+package_sound sound sizes exact needs tells command scripts items sources bytes about are short e =
+    let triggers : List (List ℕ) = texts_of (values_of TRIGGER command.values) in
+    let v : Plain = value_of_package (information_value items (installed_size sources)) sources scripts triggers (replaces_priority items) in
+    file_sound v (contents_of_folders 1 sources) (overflow_of v) bytes refl short (value_sound sound sizes exact needs tells items sources scripts triggers about are v refl) e
 
 -- ---- of a command
 
@@ -79,20 +86,20 @@ sources_are read n [] names sources below e =
 sources_are read n (v ∷ vs) names sources below e =
     sources_good (without_dot v.text) names v.place read n sources (are_listed (without_dot v.text) names below.each) (rises_from_pairs names below.rising) e
 
-info_ok : (r : Result (List Item) ℕ) (items : List Item) → or_info_bad r ≡ Ok items → r ≡ Ok items
+info_ok : (r : Result (List InfoItem) ℕ) (items : List InfoItem) → or_info_bad r ≡ Ok items → r ≡ Ok items
 info_ok (Ok x) items e = let same : x ≡ items = cc (e) in ap Ok same
 info_ok (Err place) items e = absurd (cc (e))
 
-pub made_sound : Sound → Exact → Needs → Tells → (command : CommandLine) (names : List (List ℕ)) (read : Reads) (bytes : List ℕ) → AreNamesFor (given 70 command.values) names
+pub made_sound : Sound → Sizes → Exact → Needs → Tells → (command : CommandLine) (names : List (List ℕ)) (read : Reads) (bytes : List ℕ) → AreNamesFor (values_of FILES command.values) names
     → made_package command names read ≡ Ok bytes → length bytes < 2 ^ 64 → container_fault bytes ≡ None
 unfolding made_package
-made_sound sound exact needs tells command names read bytes below e short =
-    let one = after_ok (scripts_from read 0 (given 115 command.values)) (λ scripts.
-    after (or_info_bad (information command)) (λ about.
-    after (folders_below read (length scripts) (given 70 command.values) names) (package_of command scripts about))) bytes e in
+made_sound sound sizes exact needs tells command names read bytes below e short =
+    let one = after_ok (scripts_from read 0 (values_of SCRIPT command.values)) (λ scripts.
+    unless_refused (or_info_bad (information command)) (λ about.
+    unless_refused (folders_below read (length scripts) (values_of FILES command.values) names) (package_of_parts command scripts about))) bytes e in
     let two = after_ok (or_info_bad (information command)) (λ about.
-    after (folders_below read (length one.x) (given 70 command.values) names) (package_of command one.x about)) bytes one.gives in
-    let three = after_ok (folders_below read (length one.x) (given 70 command.values) names) (package_of command one.x two.x) bytes two.gives in
-    package_sound sound exact needs tells command one.x two.x three.x bytes
+    unless_refused (folders_below read (length one.x) (values_of FILES command.values) names) (package_of_parts command one.x about)) bytes one.gives in
+    let three = after_ok (folders_below read (length one.x) (values_of FILES command.values) names) (package_of_parts command one.x two.x) bytes two.gives in
+    package_sound sound sizes exact needs tells command one.x two.x three.x bytes
     (information_good command.values command.behind two.x (info_ok (information command) two.x two.is))
-    (sources_are read (length one.x) (given 70 command.values) names three.x below three.is) short three.gives
+    (sources_are read (length one.x) (values_of FILES command.values) names three.x below three.is) short three.gives

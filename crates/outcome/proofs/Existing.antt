@@ -7,13 +7,14 @@ use Rattle.std.proofs.lemmas.Bool.{false≢true}
 use Rattle.base_core.specs.Files.{Files, IsWithin}
 use Rattle.base_core.specs.Listed.{IsNamesOf}
 use Rattle.report_core.specs.declared.refusal.Refusal.TheVariants.{Usage}
-use Rattle.words_core.specs.Command.{CommandLine, without_dot}
+use Rattle.command_core.specs.Command.{CommandLine}
+use Rattle.command_core.specs.Files.{without_dot}
 use Rattle.words_core.specs.Grammar.{command_of}
-use Rattle.words_core.specs.declared.applet.Applet.{Applet}
-use Rattle.words_core.specs.declared.applet.Applet.TheVariants.{Mkpkg}
-use Rattle.words_core.specs.declared.values.OptionValue.{OptionValue}
-use Rattle.make_core.specs.Sources.{given}
-use Rattle.outcome.specs.Commands.{IsListingFor, IsOutcome, IsOutcomeOf, reads_of, run}
+use Rattle.command_core.specs.declared.command.Applet.{Applet}
+use Rattle.command_core.specs.declared.command.Applet.TheVariants.{Mkpkg}
+use Rattle.command_core.specs.declared.values.OptionValue.{OptionValue}
+use Rattle.make_package.specs.Sources.{values_of}
+use Rattle.outcome.specs.Commands.{IsListingFor, IsOutcome, IsOutcomeOf, reads_in, run}
 use Rattle.outcome.specs.Make.{IsListing, files_below}
 use Rattle.outcome.specs.Outcome.{Outcome, just_refusal}
 
@@ -37,14 +38,14 @@ listing_exists have [] files within h = ([], refl)
 listing_exists have (v ∷ values) files within h = have (files_below (without_dot v.text) files) within (within_below (without_dot v.text) files within h)
 
 names_exist : HaveList → (applet : Applet) (command : CommandLine) (files : Files) (within : List (List ℕ)) → IsWithin within files → (names : List (List ℕ)) × IsListingFor applet command files names
-names_exist have Mkpkg command files within h = listing_exists have (given 70 command.values) files within h
+names_exist have Mkpkg command files within h = listing_exists have (values_of FILES command.values) files within h
 names_exist have other command files within h = ([], refl)
 
 outcome_by : HaveList → (read : Result CommandLine ℕ) (files : Files) (within : List (List ℕ)) → IsWithin within files → (o : Outcome) × IsOutcomeOf read files o
 outcome_by have (Err place) files within h = (just_refusal files (Usage place), refl)
 outcome_by have (Ok command) files within h =
     let found = names_exist have command.applet command files within h in
-    (run command found.0 (reads_of files) files, (found.0, found.1, refl))
+    (run command found.0 (reads_in files) files, (found.0, found.1, refl))
 
 pub outcome_exists : HaveList → (words within : List (List ℕ)) (files : Files) → IsWithin within files → (o : Outcome) × IsOutcome words files o
 outcome_exists have words within files h = outcome_by have (command_of words) files within h
@@ -54,13 +55,13 @@ listing_one one [] files a b x y = x ∙ sym y
 listing_one one (v ∷ values) files a b x y = one (files_below (without_dot v.text) files) a b x y
 
 names_one : HaveOneList → (applet : Applet) (command : CommandLine) (files : Files) (a b : List (List ℕ)) → IsListingFor applet command files a → IsListingFor applet command files b → a ≡ b
-names_one one Mkpkg command files a b x y = listing_one one (given 70 command.values) files a b x y
+names_one one Mkpkg command files a b x y = listing_one one (values_of FILES command.values) files a b x y
 names_one one other command files a b x y = x ∙ sym y
 
 outcome_one : HaveOneList → (read : Result CommandLine ℕ) (files : Files) (a b : Outcome) → IsOutcomeOf read files a → IsOutcomeOf read files b → a ≡ b
 outcome_one one (Err place) files a b x y = x ∙ sym y
 outcome_one one (Ok command) files a b (n, g, x) (m, k, y) =
-    x ∙ (ap (λ names. run command names (reads_of files) files) (names_one one command.applet command files n m g k) ∙ sym y)
+    x ∙ (ap (λ names. run command names (reads_in files) files) (names_one one command.applet command files n m g k) ∙ sym y)
 
 pub outcome_unique : HaveOneList → (words : List (List ℕ)) (files : Files) (a b : Outcome) → IsOutcome words files a → IsOutcome words files b → a ≡ b
 outcome_unique one words files a b x y = outcome_one one (command_of words) files a b x y

@@ -7,43 +7,44 @@ use Rattle.std.proofs.lemmas.List.Elements.{All-contains_itself, All-weaker}
 use Rattle.std.proofs.lemmas.Slice.Eq.{bytes_eq-Decides}
 use Rattle.adb_schema.specs.Reserved.{is_reserved}
 use Rattle.adb_view.specs.Plain.{Plain}
-use Rattle.adb_write.specs.Canonical.{Counts, overflow_of, written_of}
-use Rattle.base_core.specs.Files.{Files, IsFolderOf, drop_name}
+use Rattle.adb_write.specs.Canonical.{PayloadCounts, overflow_of, written_of}
+use Rattle.base_core.specs.Files.{AreNamedFiles, Files, IsFolderOf, drop_name}
 use Rattle.base_core.specs.Listed.{AreNamesBelow, IsNameBelow, IsNamesOf}
 use Rattle.base_core.specs.declared.cause.Cause.{Cause}
 use Rattle.journal_core.specs.Replacing.{replaced_files, scratch_of}
-use Rattle.make_core.specs.Folders.{Listed, folders_of, part_of}
-use Rattle.make_core.specs.Index.{and_entries, found_entries, found_entry, index_file, index_of, index_of_found, index_value, tested}
-use Rattle.make_core.specs.IndexCommand.{description_in, made_index}
-use Rattle.make_core.specs.IndexOrder.{entry_cmp, in_order}
-use Rattle.make_core.specs.Information.{Item, info_value, information, replaces_priority}
-use Rattle.make_core.specs.Making.{file_unless, made_package, or_info_bad, package_file, package_of}
-use Rattle.make_core.specs.Output.{output_name}
-use Rattle.make_core.specs.Package.{Script, Source, SourceFolder, contents_of, installed_size, package_value}
-use Rattle.make_core.specs.Sound.{AreFiles, AreNamesFor}
-use Rattle.make_core.specs.Sources.{Reads, after, each_from, file_at, files_from, folder_at, folders_below, found_at, given, script_at, scripts_from, texts}
-use Rattle.make_core.specs.declared.fault.MakeFault.{MakeFault}
-use Rattle.make_core.specs.declared.fault.MakeFault.TheVariants.{FileMissing, FileBad, InfoBad, TooLarge, Disk, Memory}
+use Rattle.make_package.specs.Folders.{FolderListing, folders_of, last_part_of}
+use Rattle.make_index.specs.Index.{and_entries, found_entries, found_entry, index_container, index_of, index_of_found, value_of_index, entry_unless, description_in, made_index}
+use Rattle.make_index.specs.EntryOrder.{entry_cmp, sorted_by}
+use Rattle.make_info.specs.Information.{InfoItem, information_value, information, replaces_priority}
+use Rattle.make_package.specs.Making.{container_unless, made_package, or_info_bad, package_container, package_of_parts}
+use Rattle.make_info.specs.Output.{output_name}
+use Rattle.make_package.specs.Package.{Script, Source, SourceFolder, contents_of_folders, installed_size, value_of_package}
+use Rattle.make_index.specs.Files.{AreFiles}
+use Rattle.make_package.specs.Sources.{AreNamesFor, unless_refused, each_from, file_at, sources_from, folder_at, folders_below, found_at, values_of, script_at, scripts_from, texts_of}
+use Rattle.make_info.specs.Reads.{Reads}
+use Rattle.make_info.specs.declared.fault.MakeFault.{MakeFault}
+use Rattle.make_info.specs.declared.fault.MakeFault.TheVariants.{FileMissing, FileBad, InfoBad, TooLarge, Disk, Memory}
 use Rattle.pkg_core.specs.Contents.{Contents}
 use Rattle.pkg_core.specs.Whole.{container_fault, package_fault}
 use Rattle.report_core.specs.declared.refusal.Refusal.{Refusal}
 use Rattle.report_core.specs.declared.refusal.Refusal.TheVariants.{Reserved, ResultTooLarge}
-use Rattle.words_core.specs.Command.{CommandLine, without_dot}
+use Rattle.command_core.specs.Command.{CommandLine}
+use Rattle.command_core.specs.Files.{without_dot}
 use Rattle.words_core.specs.Grammar.{command_of}
-use Rattle.words_core.specs.Values.{script_file, script_type}
-use Rattle.words_core.specs.declared.applet.Applet.{Applet}
-use Rattle.words_core.specs.declared.applet.Applet.TheVariants.{Mkndx, Mkpkg}
-use Rattle.words_core.specs.declared.operands.Operand.{Operand}
-use Rattle.words_core.specs.declared.values.OptionValue.{OptionValue}
-use Rattle.outcome.specs.Commands.{IsListingFor, IsOutcome, IsOutcomeOf, reads_of, run_applet}
+use Rattle.command_core.specs.Values.{script_file, script_type}
+use Rattle.command_core.specs.declared.command.Applet.{Applet}
+use Rattle.command_core.specs.declared.command.Applet.TheVariants.{Mkndx, Mkpkg}
+use Rattle.command_core.specs.declared.operands.Operand.{Operand}
+use Rattle.command_core.specs.declared.values.OptionValue.{OptionValue}
+use Rattle.outcome.specs.Commands.{IsListingFor, IsOutcome, IsOutcomeOf, reads_in, run_applet}
 use Rattle.outcome.specs.Effect.{effect_of, output, output_by, output_if}
 use Rattle.outcome.specs.Make.{IsListing, files_below, index_line, make_outcome, mkndx, mkpkg}
 use Rattle.outcome.specs.Outcome.{Outcome, just_refusal, just_report}
-use Rattle.outcome.specs.Sound.{AreNamedFiles, IsSoundAt}
+use Rattle.outcome.specs.Sound.{IsSoundAt}
 
 -- a package that is made of names below its folder is sound, and so is an index of files
 abbrev pub SoundPackage : Type 0
-SoundPackage = (command : CommandLine) (names : List (List ℕ)) (read : Reads) (bytes : List ℕ) → AreNamesFor (given 70 command.values) names → made_package command names read ≡ Ok bytes → length bytes < 2 ^ 64 → container_fault bytes ≡ None
+SoundPackage = (command : CommandLine) (names : List (List ℕ)) (read : Reads) (bytes : List ℕ) → AreNamesFor (values_of FILES command.values) names → made_package command names read ≡ Ok bytes → length bytes < 2 ^ 64 → container_fault bytes ≡ None
 
 abbrev pub SoundIndex : Type 0
 SoundIndex = (command : CommandLine) (read : Reads) (bytes : List ℕ) → AreFiles read 0 command.operands → made_index command read ≡ Ok bytes → container_fault bytes ≡ None
@@ -83,7 +84,7 @@ names_for (folder ∷ values) files names good are = names_below (without_dot fo
 
 -- ---- what reads find in the files are files
 
-files_found : (files : Files) → AreNamedFiles files → (n : ℕ) (operands : List Operand) → AreFiles (reads_of files) n operands
+files_found : (files : Files) → AreNamedFiles files → (n : ℕ) (operands : List Operand) → AreFiles (reads_in files) n operands
 files_found files good n [] = tt
 files_found files good n (o ∷ operands) = (good.each (without_dot o.text), files_found files good (n + 1) operands)
 
@@ -98,115 +99,115 @@ IsRefusalOrMade (Err (TooLarge bytes values)) = Unit {0}
 IsRefusalOrMade (Err Disk) = ⊥
 IsRefusalOrMade (Err Memory) = ⊥
 
-given_err : (A B : Type 0) (why : MakeFault) → IsRefusalOrMade {A = A} (Err why) → IsRefusalOrMade {A = B} (Err why)
-given_err A B (FileMissing place) h = tt
-given_err A B (FileBad place cause) h = tt
-given_err A B (InfoBad place) h = tt
-given_err A B (TooLarge bytes values) h = tt
-given_err A B Disk h = absurd h
-given_err A B Memory h = absurd h
+fine_err : (A B : Type 0) (why : MakeFault) → IsRefusalOrMade {A = A} (Err why) → IsRefusalOrMade {A = B} (Err why)
+fine_err A B (FileMissing place) h = tt
+fine_err A B (FileBad place cause) h = tt
+fine_err A B (InfoBad place) h = tt
+fine_err A B (TooLarge bytes values) h = tt
+fine_err A B Disk h = absurd h
+fine_err A B Memory h = absurd h
 
-after_given : {A B : Type 0} (r : Result A MakeFault) (next : A → Result B MakeFault) → IsRefusalOrMade r → ((x : A) → IsRefusalOrMade (next x)) → IsRefusalOrMade (after r next)
-after_given (Ok x) next h further = further x
-after_given {A} {B} (Err why) next h further = given_err A B why h
+after_fine : {A B : Type 0} (r : Result A MakeFault) (next : A → Result B MakeFault) → IsRefusalOrMade r → ((x : A) → IsRefusalOrMade (next x)) → IsRefusalOrMade (unless_refused r next)
+after_fine (Ok x) next h further = further x
+after_fine {A} {B} (Err why) next h further = fine_err A B why h
 
-each_given : {X Y : Type 0} (count : X → ℕ) (of : ℕ → X → Result Y MakeFault) → ((n : ℕ) (x : X) → IsRefusalOrMade (of n x)) → (n : ℕ) (xs : List X) → IsRefusalOrMade (each_from count of n xs)
-each_given count of h n [] = tt
-each_given count of h n (x ∷ xs) =
-    after_given (of n x) (λ y. after (each_from count of (n + count x) xs) (λ ys. Ok (y ∷ ys))) (h n x)
-    (λ y. after_given (each_from count of (n + count x) xs) (λ ys. Ok (y ∷ ys)) (each_given count of h (n + count x) xs) (λ ys. tt))
+each_fine : {X Y : Type 0} (count : X → ℕ) (of : ℕ → X → Result Y MakeFault) → ((n : ℕ) (x : X) → IsRefusalOrMade (of n x)) → (n : ℕ) (xs : List X) → IsRefusalOrMade (each_from count of n xs)
+each_fine count of h n [] = tt
+each_fine count of h n (x ∷ xs) =
+    after_fine (of n x) (λ y. unless_refused (each_from count of (n + count x) xs) (λ ys. Ok (y ∷ ys))) (h n x)
+    (λ y. after_fine (each_from count of (n + count x) xs) (λ ys. Ok (y ∷ ys)) (each_fine count of h (n + count x) xs) (λ ys. tt))
 
-found_given : (place : ℕ) (found : Option (List ℕ)) → IsRefusalOrMade (found_at place found)
-found_given place None = tt
-found_given place (Some bytes) = tt
+found_fine : (place : ℕ) (found : Option (List ℕ)) → IsRefusalOrMade (found_at place found)
+found_fine place None = tt
+found_fine place (Some bytes) = tt
 
-info_given : (r : Result (List Item) ℕ) → IsRefusalOrMade (or_info_bad r)
-info_given (Ok items) = tt
-info_given (Err place) = tt
+info_fine : (r : Result (List InfoItem) ℕ) → IsRefusalOrMade (or_info_bad r)
+info_fine (Ok items) = tt
+info_fine (Err place) = tt
 
 script_of : OptionValue → List ℕ → Result Script MakeFault
 script_of v bytes = Ok (record { field = script_type v.text; bytes = bytes })
 
-script_given : (read : Reads) (n : ℕ) (v : OptionValue) → IsRefusalOrMade (script_at read n v)
+script_fine : (read : Reads) (n : ℕ) (v : OptionValue) → IsRefusalOrMade (script_at read n v)
 unfolding script_of
-script_given read n v = after_given (found_at v.place (read n (without_dot (script_file v.text)))) (script_of v) (found_given v.place (read n (without_dot (script_file v.text)))) (λ bytes. tt)
+script_fine read n v = after_fine (found_at v.place (read n (without_dot (script_file v.text)))) (script_of v) (found_fine v.place (read n (without_dot (script_file v.text)))) (λ bytes. tt)
 
 source_of : List ℕ → List ℕ → Result Source MakeFault
-source_of name bytes = Ok (record { name = part_of name; bytes = bytes })
+source_of name bytes = Ok (record { name = last_part_of name; bytes = bytes })
 
-file_given : (place : ℕ) (read : Reads) (n : ℕ) (name : List ℕ) → IsRefusalOrMade (file_at place read n name)
+file_fine : (place : ℕ) (read : Reads) (n : ℕ) (name : List ℕ) → IsRefusalOrMade (file_at place read n name)
 unfolding source_of
-file_given place read n name = after_given (found_at place (read n name)) (source_of name) (found_given place (read n name)) (λ bytes. tt)
+file_fine place read n name = after_fine (found_at place (read n name)) (source_of name) (found_fine place (read n name)) (λ bytes. tt)
 
-folder_of : Listed → List Source → Result SourceFolder MakeFault
+folder_of : FolderListing → List Source → Result SourceFolder MakeFault
 folder_of folder files = Ok (record { name = folder.name; files = files })
 
-folder_given : (place : ℕ) (read : Reads) (n : ℕ) (folder : Listed) → IsRefusalOrMade (folder_at place read n folder)
+folder_fine : (place : ℕ) (read : Reads) (n : ℕ) (folder : FolderListing) → IsRefusalOrMade (folder_at place read n folder)
 unfolding folder_of
-folder_given place read n folder =
-    after_given (files_from place read n folder.files) (folder_of folder) (each_given (λ name. 1) (file_at place read) (file_given place read) n folder.files) (λ files. tt)
+folder_fine place read n folder =
+    after_fine (sources_from place read n folder.files) (folder_of folder) (each_fine (λ name. 1) (file_at place read) (file_fine place read) n folder.files) (λ files. tt)
 
-folders_given : (read : Reads) (n : ℕ) (values : List OptionValue) (names : List (List ℕ)) → IsRefusalOrMade (folders_below read n values names)
-folders_given read n [] names = tt
-folders_given read n (v ∷ values) names =
-    each_given (λ (folder : Listed). length folder.files) (folder_at v.place read) (folder_given v.place read) n (folders_of (without_dot v.text) names)
+folders_fine : (read : Reads) (n : ℕ) (values : List OptionValue) (names : List (List ℕ)) → IsRefusalOrMade (folders_below read n values names)
+folders_fine read n [] names = tt
+folders_fine read n (v ∷ values) names =
+    each_fine (λ (folder : FolderListing). length folder.files) (folder_at v.place read) (folder_fine v.place read) n (folders_of (without_dot v.text) names)
 
-unless_given : (counts : Option Counts) (v : Plain) (contents : List Contents) → IsRefusalOrMade (file_unless counts v contents)
-unless_given None v contents = tt
-unless_given (Some counts) v contents = tt
+unless_fine : (counts : Option PayloadCounts) (v : Plain) (contents : List Contents) → IsRefusalOrMade (container_unless counts v contents)
+unless_fine None v contents = tt
+unless_fine (Some counts) v contents = tt
 
-file_of_given : (v : Plain) (contents : List Contents) → IsRefusalOrMade (package_file v contents)
-unfolding package_file
-file_of_given v contents = unless_given (overflow_of v) v contents
+file_of_fine : (v : Plain) (contents : List Contents) → IsRefusalOrMade (package_container v contents)
+unfolding package_container
+file_of_fine v contents = unless_fine (overflow_of v) v contents
 
-package_given : (command : CommandLine) (names : List (List ℕ)) (read : Reads) → IsRefusalOrMade (made_package command names read)
+package_fine : (command : CommandLine) (names : List (List ℕ)) (read : Reads) → IsRefusalOrMade (made_package command names read)
 unfolding made_package
-package_given command names read =
-    after_given (scripts_from read 0 (given 115 command.values))
-    (λ scripts. after (or_info_bad (information command)) (λ about. after (folders_below read (length scripts) (given 70 command.values) names) (package_of command scripts about)))
-    (each_given (λ v. 1) (script_at read) (script_given read) 0 (given 115 command.values))
+package_fine command names read =
+    after_fine (scripts_from read 0 (values_of SCRIPT command.values))
+    (λ scripts. unless_refused (or_info_bad (information command)) (λ about. unless_refused (folders_below read (length scripts) (values_of FILES command.values) names) (package_of_parts command scripts about)))
+    (each_fine (λ v. 1) (script_at read) (script_fine read) 0 (values_of SCRIPT command.values))
     (λ scripts.
-    after_given (or_info_bad (information command)) (λ about. after (folders_below read (length scripts) (given 70 command.values) names) (package_of command scripts about))
-    (info_given (information command))
+    after_fine (or_info_bad (information command)) (λ about. unless_refused (folders_below read (length scripts) (values_of FILES command.values) names) (package_of_parts command scripts about))
+    (info_fine (information command))
     (λ about.
-    after_given (folders_below read (length scripts) (given 70 command.values) names) (package_of command scripts about)
-    (folders_given read (length scripts) (given 70 command.values) names)
+    after_fine (folders_below read (length scripts) (values_of FILES command.values) names) (package_of_parts command scripts about)
+    (folders_fine read (length scripts) (values_of FILES command.values) names)
     (λ folders.
-    file_of_given
-    (package_value (info_value about (installed_size folders)) folders scripts (texts (given 116 command.values)) (replaces_priority about))
-    (contents_of 1 folders))))
+    file_of_fine
+    (value_of_package (information_value about (installed_size folders)) folders scripts (texts_of (values_of TRIGGER command.values)) (replaces_priority about))
+    (contents_of_folders 1 folders))))
 
-tested_given : (place : ℕ) (file : List ℕ) (cause : Option Cause) → IsRefusalOrMade (tested place file cause)
-tested_given place file None = tt
-tested_given place file (Some cause) = tt
+tested_fine : (place : ℕ) (file : List ℕ) (cause : Option Cause) → IsRefusalOrMade (entry_unless place file cause)
+tested_fine place file None = tt
+tested_fine place file (Some cause) = tt
 
-entry_given : (place : ℕ) (found : Option (List ℕ)) → IsRefusalOrMade (found_entry place found)
-entry_given place None = tt
-entry_given place (Some file) = tested_given place file (package_fault file)
+entry_fine : (place : ℕ) (found : Option (List ℕ)) → IsRefusalOrMade (found_entry place found)
+entry_fine place None = tt
+entry_fine place (Some file) = tested_fine place file (package_fault file)
 
-and_given : (entry : Result Plain MakeFault) (others : Result (List Plain) MakeFault) → IsRefusalOrMade entry → IsRefusalOrMade others → IsRefusalOrMade (and_entries entry others)
-and_given (Err why) others h further = given_err Plain (List Plain) why h
-and_given (Ok entry) (Err why) h further = further
-and_given (Ok entry) (Ok entries) h further = tt
+and_fine : (entry : Result Plain MakeFault) (others : Result (List Plain) MakeFault) → IsRefusalOrMade entry → IsRefusalOrMade others → IsRefusalOrMade (and_entries entry others)
+and_fine (Err why) others h further = fine_err Plain (List Plain) why h
+and_fine (Ok entry) (Err why) h further = further
+and_fine (Ok entry) (Ok entries) h further = tt
 
-entries_given : (read : Reads) (n : ℕ) (operands : List Operand) → IsRefusalOrMade (found_entries read n operands)
-entries_given read n [] = tt
-entries_given read n (o ∷ operands) =
-    and_given (found_entry o.place (read n (without_dot o.text))) (found_entries read (n + 1) operands)
-    (entry_given o.place (read n (without_dot o.text))) (entries_given read (n + 1) operands)
+entries_fine : (read : Reads) (n : ℕ) (operands : List Operand) → IsRefusalOrMade (found_entries read n operands)
+entries_fine read n [] = tt
+entries_fine read n (o ∷ operands) =
+    and_fine (found_entry o.place (read n (without_dot o.text))) (found_entries read (n + 1) operands)
+    (entry_fine o.place (read n (without_dot o.text))) (entries_fine read (n + 1) operands)
 
-written_given : (payload : Result (List ℕ) Counts) → IsRefusalOrMade (index_file payload)
-written_given (Ok payload) = tt
-written_given (Err counts) = tt
+written_fine : (payload : Result (List ℕ) PayloadCounts) → IsRefusalOrMade (index_container payload)
+written_fine (Ok payload) = tt
+written_fine (Err counts) = tt
 
-of_found_given : (description : List ℕ) (entries : Result (List Plain) MakeFault) → IsRefusalOrMade entries → IsRefusalOrMade (index_of_found description entries)
+of_found_fine : (description : List ℕ) (entries : Result (List Plain) MakeFault) → IsRefusalOrMade entries → IsRefusalOrMade (index_of_found description entries)
 unfolding index_of
-of_found_given description (Ok entries) h = written_given (written_of (index_value description (in_order entry_cmp entries)))
-of_found_given description (Err why) h = given_err (List Plain) (List ℕ) why h
+of_found_fine description (Ok entries) h = written_fine (written_of (value_of_index description (sorted_by entry_cmp entries)))
+of_found_fine description (Err why) h = fine_err (List Plain) (List ℕ) why h
 
-index_given : (command : CommandLine) (read : Reads) → IsRefusalOrMade (made_index command read)
+index_fine : (command : CommandLine) (read : Reads) → IsRefusalOrMade (made_index command read)
 unfolding made_index
-index_given command read = of_found_given (description_in command.values) (found_entries read 0 command.operands) (entries_given read 0 command.operands)
+index_fine command read = of_found_fine (description_in command.values) (found_entries read 0 command.operands) (entries_fine read 0 command.operands)
 
 -- ---- what was made, where nothing is refused, stands under the output's name
 
@@ -241,22 +242,22 @@ stands_at files output name report result fine is =
 
 -- ---- the outcome of a command
 
-package_sound : SoundPackage → (command : CommandLine) (names : List (List ℕ)) (files : Files) (name : List ℕ) → AreNamedFiles files → IsListing (given 70 command.values) files names → output_name command ≡ Some name
-    → (mkpkg (reads_of files) files command names).refusal ≡ None → IsSoundAt name (mkpkg (reads_of files) files command names).files
+package_sound : SoundPackage → (command : CommandLine) (names : List (List ℕ)) (files : Files) (name : List ℕ) → AreNamedFiles files → IsListing (values_of FILES command.values) files names → output_name command ≡ Some name
+    → (mkpkg (reads_in files) files command names).refusal ≡ None → IsSoundAt name (mkpkg (reads_in files) files command names).files
 package_sound law command names files name good are is none =
-    let read : Reads = reads_of files in
-    let (bytes, ok, here) = stands_at files (output_name command) name [] (made_package command names read) (package_given command names read) is none in
-    (bytes, here, law command names read bytes (names_for (given 70 command.values) files names good are) ok)
+    let read : Reads = reads_in files in
+    let (bytes, ok, here) = stands_at files (output_name command) name [] (made_package command names read) (package_fine command names read) is none in
+    (bytes, here, law command names read bytes (names_for (values_of FILES command.values) files names good are) ok)
 
 index_sound : SoundIndex → (command : CommandLine) (files : Files) (name : List ℕ) → AreNamedFiles files → output_name command ≡ Some name
-    → (mkndx (reads_of files) files command).refusal ≡ None → IsSoundAt name (mkndx (reads_of files) files command).files
+    → (mkndx (reads_in files) files command).refusal ≡ None → IsSoundAt name (mkndx (reads_in files) files command).files
 index_sound law command files name good is none =
-    let read : Reads = reads_of files in
-    let (bytes, ok, here) = stands_at files (output_name command) name (index_line (length command.operands)) (made_index command read) (index_given command read) is none in
+    let read : Reads = reads_in files in
+    let (bytes, ok, here) = stands_at files (output_name command) name (index_line (length command.operands)) (made_index command read) (index_fine command read) is none in
     (bytes, here, λ few. law command read bytes (files_found files good 0 command.operands) ok)
 
 applet_sound : SoundPackage → SoundIndex → (applet : Applet) (command : CommandLine) (names : List (List ℕ)) (files : Files) (name : List ℕ) → AreNamedFiles files → IsListingFor applet command files names
-    → output_if (effect_of applet) command ≡ Some name → (run_applet applet command names (reads_of files) files).refusal ≡ None → IsSoundAt name (run_applet applet command names (reads_of files) files).files
+    → output_if (effect_of applet) command ≡ Some name → (run_applet applet command names (reads_in files) files).refusal ≡ None → IsSoundAt name (run_applet applet command names (reads_in files) files).files
 applet_sound packages indexes Mkpkg command names files name good are is none = package_sound packages command names files name good are is none
 applet_sound packages indexes Mkndx command names files name good are is none = index_sound indexes command files name good is none
 applet_sound packages indexes other command names files name good are is none = absurd (cc (is))

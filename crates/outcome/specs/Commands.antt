@@ -1,13 +1,14 @@
 -- The outcome of a command line.
 use Rattle.std.specs.Prelude.{◌≡◌, ℕ, List, [], Result, Ok, Err}
 use Rattle.base_core.specs.Files.{Files, no_names}
-use Rattle.make_core.specs.Sound.{AreNamesFor}
-use Rattle.make_core.specs.Sources.{Reads, given}
+use Rattle.command_core.specs.declared.values.TheConstants.{FILES}
+use Rattle.make_info.specs.Reads.{Reads}
+use Rattle.make_package.specs.Sources.{AreNamesFor, values_of}
 use Rattle.report_core.specs.declared.refusal.Refusal.TheVariants.{Usage}
-use Rattle.words_core.specs.Command.{CommandLine}
+use Rattle.command_core.specs.Command.{CommandLine}
 use Rattle.words_core.specs.Grammar.{command_of}
-use Rattle.words_core.specs.declared.applet.Applet.{Applet}
-use Rattle.words_core.specs.declared.applet.Applet.TheVariants.{Adbdump, Mkndx, Mkpkg, Verify, Version}
+use Rattle.command_core.specs.declared.command.Applet.{Applet}
+use Rattle.command_core.specs.declared.command.Applet.TheVariants.{Adbdump, Mkndx, Mkpkg, Verify, Version}
 use Rattle.outcome.specs.Dump.{adbdump}
 use Rattle.outcome.specs.Make.{IsListing, mkndx, mkpkg}
 use Rattle.outcome.specs.Outcome.{Outcome, just_refusal, just_report}
@@ -33,19 +34,19 @@ run command names read files = run_applet command.applet command names read file
 
 -- the names that an applet lists: `mkpkg` those below its folder, the others none
 abbrev pub IsListingFor : Applet → CommandLine → Files → List (List ℕ) → Type 0
-IsListingFor Mkpkg command files names = IsListing (given 70 command.values) files names
+IsListingFor Mkpkg command files names = IsListing (values_of FILES command.values) files names
 IsListingFor other command files names = names ≡ []
 
 -- each read finds the file under its name
-abbrev pub reads_of : Files → Reads
-reads_of files n name = files name
+abbrev pub reads_in : Files → Reads
+reads_in files n name = files name
 
 abbrev pub IsOutcomeOf : Result CommandLine ℕ → Files → Outcome → Type 0
 IsOutcomeOf (Err place) files outcome = outcome ≡ just_refusal files (Usage place)
 IsOutcomeOf (Ok command) files outcome =
     (names : List (List ℕ))
     × IsListingFor command.applet command files names
-    × (outcome ≡ run command names (reads_of files) files)
+    × (outcome ≡ run command names (reads_in files) files)
 
 -- the outcome of a command line over these files
 abbrev pub IsOutcome : List (List ℕ) → Files → Outcome → Type 0
@@ -56,7 +57,7 @@ IsOutcome words files outcome = IsOutcomeOf (command_of words) files outcome
 -- names that an applet may list: `mkpkg` some below its folder, in byte order and each once, the
 -- others none
 abbrev pub MayBeListedFor : Applet → CommandLine → List (List ℕ) → Type 0
-MayBeListedFor Mkpkg command names = AreNamesFor (given 70 command.values) names
+MayBeListedFor Mkpkg command names = AreNamesFor (values_of FILES command.values) names
 MayBeListedFor other command names = names ≡ []
 
 abbrev pub IsFoundOutcomeOf : Result CommandLine ℕ → Outcome → Type 0

@@ -4,8 +4,8 @@ use Rattle.base_core.specs.Files.{Files}
 use Rattle.base_core.specs.declared.cause.Cause.{Cause}
 use Rattle.base_core.specs.declared.cause.Cause.TheVariants.{WrongSchema}
 use Rattle.report_core.specs.declared.refusal.Refusal.TheVariants.{FileMissing, FileBad}
-use Rattle.words_core.specs.Command.{without_dot}
-use Rattle.words_core.specs.declared.operands.Operand.{Operand}
+use Rattle.command_core.specs.Files.{without_dot}
+use Rattle.command_core.specs.declared.operands.Operand.{Operand}
 use Rattle.adb_block.specs.Header.{header_of}
 use Rattle.adb_block.specs.Standing.{start_of}
 use Rattle.adb_block.specs.Reading.{Reading, done, fault, more, reading_of}
@@ -16,7 +16,7 @@ use Rattle.adb_schema.specs.Walk.{or_else, shape_fault}
 use Rattle.adb_schema.specs.declared.schema.Which.{Which}
 use Rattle.adb_schema.specs.declared.schema.Kind.TheVariants.{Obj}
 use Rattle.adb_dump.specs.Dump.{dump_text}
-use Rattle.make_core.specs.Sources.{Reads}
+use Rattle.make_info.specs.Reads.{Reads}
 use Rattle.pkg_core.specs.Whole.{root_of_schema}
 use Rattle.outcome.specs.Outcome.{Outcome, just_refusal, just_report}
 

@@ -1,10 +1,10 @@
 -- What a command looks at, and what it changes.
 use Rattle.std.specs.Prelude.{ℕ, Bool, true, false, List, Option, None, Result, Ok, Err}
-use Rattle.make_core.specs.Output.{output_name}
-use Rattle.words_core.specs.Command.{CommandLine}
+use Rattle.make_info.specs.Output.{output_name}
+use Rattle.command_core.specs.Command.{CommandLine}
 use Rattle.words_core.specs.Grammar.{command_of}
-use Rattle.words_core.specs.declared.applet.Applet.{Applet}
-use Rattle.words_core.specs.declared.applet.Applet.TheVariants.{Adbdump, Mkndx, Mkpkg, Verify, Version}
+use Rattle.command_core.specs.declared.command.Applet.{Applet}
+use Rattle.command_core.specs.declared.command.Applet.TheVariants.{Adbdump, Mkndx, Mkpkg, Verify, Version}
 
 pub data Effect : Type 0 where
   -- it looks at the words alone

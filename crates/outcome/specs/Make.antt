@@ -6,15 +6,16 @@ use Rattle.adb_schema.specs.Reserved.{is_reserved}
 use Rattle.base_core.specs.Files.{Files}
 use Rattle.base_core.specs.Listed.{IsNamesOf}
 use Rattle.journal_core.specs.Replacing.{replaced_files}
-use Rattle.make_core.specs.IndexCommand.{made_index}
-use Rattle.make_core.specs.Making.{made_package}
-use Rattle.make_core.specs.Output.{output_name}
-use Rattle.make_core.specs.Sources.{Reads}
-use Rattle.make_core.specs.declared.fault.MakeFault.{MakeFault}
-use Rattle.make_core.specs.declared.fault.MakeFault.TheVariants.{FileMissing as NoFile, FileBad as BadFile, InfoBad as BadInfo, TooLarge, Disk, Memory}
+use Rattle.make_index.specs.Index.{made_index}
+use Rattle.make_package.specs.Making.{made_package}
+use Rattle.make_info.specs.Output.{output_name}
+use Rattle.make_info.specs.Reads.{Reads}
+use Rattle.make_info.specs.declared.fault.MakeFault.{MakeFault}
+use Rattle.make_info.specs.declared.fault.MakeFault.TheVariants.{FileMissing as NoFile, FileBad as BadFile, InfoBad as BadInfo, TooLarge, Disk, Memory}
 use Rattle.report_core.specs.declared.refusal.Refusal.TheVariants.{FileMissing, FileBad, InfoBad, Reserved, ResultTooLarge}
-use Rattle.words_core.specs.Command.{CommandLine, without_dot}
-use Rattle.words_core.specs.declared.values.OptionValue.{OptionValue}
+use Rattle.command_core.specs.Command.{CommandLine}
+use Rattle.command_core.specs.Files.{without_dot}
+use Rattle.command_core.specs.declared.values.OptionValue.{OptionValue}
 use Rattle.outcome.specs.Outcome.{Outcome, just_refusal, just_report}
 
 -- ---- what is below the folder that `-F` names

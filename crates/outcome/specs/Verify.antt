@@ -2,11 +2,11 @@
 use Rattle.std.specs.Prelude.{ℕ, ◌+◌, List, [], ◌∷◌, ◌++◌, codes, Option, Some, None}
 use Rattle.base_core.specs.Files.{Files}
 use Rattle.base_core.specs.declared.cause.Cause.{Cause}
-use Rattle.make_core.specs.Sources.{Reads}
+use Rattle.make_info.specs.Reads.{Reads}
 use Rattle.report_core.specs.declared.refusal.Refusal.{Refusal}
 use Rattle.report_core.specs.declared.refusal.Refusal.TheVariants.{FileMissing, FileBad}
-use Rattle.words_core.specs.Command.{without_dot}
-use Rattle.words_core.specs.declared.operands.Operand.{Operand}
+use Rattle.command_core.specs.Files.{without_dot}
+use Rattle.command_core.specs.declared.operands.Operand.{Operand}
 use Rattle.pkg_core.specs.Whole.{container_fault}
 use Rattle.outcome.specs.Outcome.{Outcome, report_unless}
 

@@ -6,8 +6,8 @@ use Rattle.base_core.specs.Files.{Files}
 use Rattle.report_core.specs.declared.refusal.Refusal.{Refusal}
 use Rattle.report_core.specs.declared.refusal.Refusal.TheVariants.{VersionBad}
 use Rattle.version_core.specs.Order.{is_version, version_cmp}
-use Rattle.words_core.specs.declared.flags.Flags.{Flags}
-use Rattle.words_core.specs.declared.operands.Operand.{Operand}
+use Rattle.command_core.specs.declared.command.Flags.{Flags}
+use Rattle.command_core.specs.declared.operands.Operand.{Operand}
 use Rattle.outcome.specs.Outcome.{Outcome, outcome_of, report_unless}
 
 -- the refusal of the first operand that is no version

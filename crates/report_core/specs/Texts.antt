@@ -4,7 +4,7 @@ use Rattle.std.specs.Fmt.{decimal}
 use Rattle.std.specs.Int.{w32, to_be_bytes}
 use Rattle.hex.specs.Hex.{encode_lower}
 use Rattle.base_core.specs.declared.cause.Cause.{Cause}
-use Rattle.base_core.specs.declared.cause.Cause.TheVariants.{NotAdb, Compressed, Truncated, BlockOrder, CompatVersion, Outside, WrongKind, WrongSchema, TooLarge, BadText, Repeated, DataOrder, DataSize, HashDiffers}
+use Rattle.base_core.specs.declared.cause.Cause.TheVariants.{NotAdb, Compressed, Truncated, BlockOrder, CompatVersion, Outside, WrongKind, WrongSchema, TooLarge, BadText, Repeated, DataOrder, DataSize, HashDiffers, TextLine}
 use Rattle.base_core.specs.declared.cause.Digest.{Digest}
 use Rattle.base_core.specs.declared.cause.Digest.TheVariants.{Sha1, Sha256, Sha512}
 use Rattle.report_core.specs.declared.refusal.Refusal.{Refusal}
@@ -40,6 +40,7 @@ cause_text (Repeated place first second) = codes "field " ++ decimal place ++ co
 cause_text (DataOrder expected found) = codes "contents " ++ position_text found.0 found.1 ++ codes " where " ++ position_text expected.0 expected.1 ++ codes " was expected"
 cause_text (DataSize wanted found) = codes "contents of " ++ decimal found ++ codes " bytes where " ++ decimal wanted ++ codes " were expected"
 cause_text (HashDiffers wanted found) = codes "hash " ++ encode_lower (digest_bytes found) ++ codes " where " ++ encode_lower (digest_bytes wanted) ++ codes " was expected"
+cause_text (TextLine line) = codes "bad line " ++ decimal line
 
 -- ---- refusals
 

@@ -1,5 +1,6 @@
 // The lines of refusals.
-ghost use Rattle.base_core.specs.Sink.{sink_change, Writes};
+ghost use Rattle.base_core.specs.Sink.{sink_change};
+ghost use Rattle.base_core.specs.Write.{Writes};
 ghost use Rattle.report_core.specs.Pieces.{cause_part, sentence_text};
 ghost use Rattle.report_core.specs.Texts.{refusal_line};
 

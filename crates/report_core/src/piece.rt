@@ -1,6 +1,7 @@
 // Texts put together from pieces, and written without memory.
 ghost use Rattle.std.specs.Prelude.{◌≡◌, [], ◌∷◌, decimal};
-ghost use Rattle.base_core.specs.Sink.{sink_change, Writes};
+ghost use Rattle.base_core.specs.Sink.{sink_change};
+ghost use Rattle.base_core.specs.Write.{Writes};
 ghost use Rattle.hex.specs.Hex.{encode_lower};
 ghost use Rattle.report_core.specs.Pieces.{piece_text, pieces_text};
 ghost use Rattle.report_core.specs.Texts.{digest_bytes, position_text};

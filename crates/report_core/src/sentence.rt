@@ -265,6 +265,7 @@ pub(crate) fn cause_pieces(cause: Cause) -> Pieces<'static>
             Digest(wanted),
             Bytes(b" was expected"),
         ),
+        Cause::TextLine { line } => two(Bytes(b"bad line "), Number(line)),
     }
 }
 

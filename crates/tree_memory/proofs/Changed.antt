@@ -1,17 +1,20 @@
 -- What a store keeps stays in step with its record: changes of one file, and of names.
-use Rattle.std.proofs.Common.{◌≡◌, ◌≢◌, ⊎_elim, ℕ, ◌<◌, Bool, true, false, cond, List, [], ◌∷◌, ◌++◌, length, map, get_or, set, take, Option, None, Some, IsSome, is_some, refl, sym, ap, subst, ◌∙◌, arith}
+use Rattle.std.proofs.Common.{◌≡◌, ◌≢◌, inl, ⊎_elim, ℕ, ◌<◌, ◌^◌, Bool, true, false, cond, List, [], ◌∷◌, ◌++◌, length, map, get_or, set, take, Option, None, Some, IsSome, is_some, refl, sym, ap, subst, ◌∙◌, arith}
+use Rattle.std.specs.List.{All}
 use Rattle.std.specs.Str.{bytes_eq}
+use Rattle.std.proofs.lemmas.List.Elements.{All-append}
 use Rattle.std.proofs.Math.Seq.{take-length, map-set_same}
 use Rattle.std.proofs.lemmas.List.{map-set, set-get_or, get_or-set_same, length-set}
-use Rattle.base_core.specs.Files.{put_name, drop_name, move_name}
+use Rattle.base_core.specs.Files.{IsFile, put_name, drop_name, move_name}
+use Rattle.base_core.specs.Name.{IsName}
 use Rattle.base_core.specs.Tree.{TreeState, File, CanRename, HasName, set_file, change_at, after_append, after_sync, move_at, after_rename, remove_at, after_remove, after_sync_names}
 use Rattle.tree_memory.specs.Table.{lookup}
 use Rattle.tree_memory.specs.Changes.{empty_state, step, state_on, earlier_on, contents_of, can_step, is_record}
-use Rattle.tree_memory.specs.Kept.{IsKept, IsStore, HasFolders}
+use Rattle.tree_memory.specs.Kept.{IsKept, IsSoundState, IsStore}
 use Rattle.tree_memory.proofs.AtName.{name_cases, off_name, drop_name-off, put-at, put-off}
 use Rattle.tree_memory.proofs.Folders.{folder_like_fewer, folder_like_number, fewer_dropped}
 use Rattle.tree_memory.proofs.Growing.{front_is, Grows, grows_not, grows_set, IsPushed}
-use Rattle.tree_memory.proofs.Keeping.{length-contents, kept_set, folders_with, folders_one, folders_changed, newest_folders, store_pushed, history_pushed, leads_within}
+use Rattle.tree_memory.proofs.Keeping.{length-contents, kept_set, named_drop, named_put, sound_changed, sound_one, sound_with, store_pushed, store_sound, history_pushed, leads_within}
 use Rattle.tree_memory.specs.declared.changes.Change.{Change}
 use Rattle.tree_memory.specs.declared.changes.Change.TheVariants.{Append, Sync, Rename, Remove, SyncNames, Stay}
 use Rattle.tree_memory.specs.declared.changes.Stored.{Stored}
@@ -49,8 +52,11 @@ module _ (name : List ℕ) (n : ℕ) (cs ds : List Change) (es : List Entry) (fi
       subst (λ (l : List Stored). IsKept (change_at change was (was.names name)) es l) (sym m.stored)
       (subst (λ (o : Option ℕ). IsKept (change_at change was o) es (set files n s)) (sym leads) (kept_set was es files n change s store.kept within bytes synced))
 
-  changed_folders : (change : File → File) → HasFolders (change_at change was (was.names name))
-  changed_folders change = subst (λ (o : Option ℕ). HasFolders (change_at change was o)) (sym leads) (folders_changed change was n store.folders)
+  was_sound : IsSoundState was
+  was_sound = store_sound cs es files store
+
+  changed_sound : (change : File → File) → IsFile (change (was.files n)).bytes → IsSoundState (change_at change was (was.names name))
+  changed_sound change file = subst (λ (o : Option ℕ). IsSoundState (change_at change was o)) (sym leads) (sound_changed change was n was_sound file)
 
   -- a piece at its end
   module _ (piece : List ℕ) (grown : s.bytes.items ≡ get_or (contents_of files) n [] ++ piece) where
@@ -75,11 +81,20 @@ module _ (name : List ℕ) (n : ℕ) (cs ds : List Change) (es : List Entry) (fi
         ∙ take-length s.bytes.items ∙ grown ∙ ap (λ (l : List ℕ). l ++ piece) (sym (store.kept.bytes n)))
         ∙ sym (ap (change_at (λ (f : File). record { bytes = f.bytes ++ piece; synced = false }) was) leads)
 
-    pub store_append : ds ≡ cs ++ Append n (length s.bytes.items) ∷ [] → s.synced ≡ false → IsStore ds es more
-    store_append is unsynced =
+    grown_read : (was.files n).bytes ++ piece ≡ s.bytes.items
+    grown_read = ap (λ (l : List ℕ). l ++ piece) (store.kept.bytes n) ∙ sym grown
+
+    grown_file : All (λ b. b < 256) piece → length s.bytes.items < 2 ^ 64 → IsFile ((was.files n).bytes ++ piece)
+    grown_file each few = record {
+      each = All-append (λ b. b < 256) (was.files n).bytes piece (was_sound.bytes n).each each;
+      few = subst (λ (l : List ℕ). length l < 2 ^ 64) (sym grown_read) few;
+    }
+
+    pub store_append : ds ≡ cs ++ Append n (length s.bytes.items) ∷ [] → s.synced ≡ false → All (λ b. b < 256) piece → length s.bytes.items < 2 ^ 64 → IsStore ds es more
+    store_append is unsynced each few =
         store_pushed (Append n (length s.bytes.items)) cs ds es (contents_of files) more (after_append name piece was) (append_pushed is) append_step
         (changed_kept (λ (f : File). record { bytes = f.bytes ++ piece; synced = false }) (ap (λ (l : List ℕ). l ++ piece) (store.kept.bytes n) ∙ sym grown) (sym unsynced))
-        (changed_folders (λ (f : File). record { bytes = f.bytes ++ piece; synced = false }))
+        (changed_sound (λ (f : File). record { bytes = f.bytes ++ piece; synced = false }) (grown_file each few)) store.sound
 
     pub history_append : ds ≡ cs ++ Append n (length s.bytes.items) ∷ [] → told_of ds more ≡ after_append name piece was ∷ told_of cs files
     history_append is = history_pushed (Append n (length s.bytes.items)) cs ds (contents_of files) (contents_of more) (after_append name piece was) (append_pushed is) append_step
@@ -99,7 +114,7 @@ module _ (name : List ℕ) (n : ℕ) (cs ds : List Change) (es : List Entry) (fi
     store_sync is synced =
         store_pushed (Sync n) cs ds es (contents_of files) more (after_sync name was) (sync_pushed is) sync_step
         (changed_kept (λ (f : File). record { bytes = f.bytes; synced = true }) (store.kept.bytes n ∙ sym same) (sym synced))
-        (changed_folders (λ (f : File). record { bytes = f.bytes; synced = true }))
+        (changed_sound (λ (f : File). record { bytes = f.bytes; synced = true }) (was_sound.bytes n)) store.sound
 
     pub history_sync : ds ≡ cs ++ Sync n ∷ [] → told_of ds more ≡ after_sync name was ∷ told_of cs files
     history_sync is = history_pushed (Sync n) cs ds (contents_of files) (contents_of more) (after_sync name was) (sync_pushed is) sync_step
@@ -116,7 +131,7 @@ store_same n cs es files more s d store is inside bytes synced at =
         bytes = λ k. store.kept.bytes k ∙ sym (ap (λ (l : List (List ℕ)). get_or l k []) same_bytes);
         synced = λ k. store.kept.synced k ∙ sym (ap (λ (l : List Bool). get_or l k false) same_flags);
       });
-      folders = subst HasFolders (sym (ap (λ (l : List (List ℕ)). state_on l empty_state cs) same_bytes)) store.folders;
+      sound = subst (All IsSoundState) (sym (ap (λ (l : List (List ℕ)). state_on l empty_state cs ∷ earlier_on l empty_state [] cs) same_bytes)) store.sound;
     }
 
 pub told_same : (n : ℕ) (cs : List Change) (files more : List Stored) (s d : Stored) → more ≡ set files n s → s.bytes.items ≡ d.bytes.items → d ≡ get_or files n d → told_of cs more ≡ told_of cs files
@@ -128,6 +143,9 @@ told_same n cs files more s d is bytes at =
 module _ (cs ds : List Change) (es fs : List Entry) (files : List Stored) (store : IsStore cs es files) where
   abbrev now : TreeState
   now = newest_of cs files
+
+  now_sound : IsSoundState now
+  now_sound = store_sound cs es files store
 
   pushed_names : (c : Change) → ds ≡ cs ++ c ∷ [] → can_step (contents_of files) c now ≡ true → IsPushed c cs ds (contents_of files) (contents_of files)
   pushed_names c is can = record { recorded = store.recorded; grows = grows_not (contents_of files); pushed = is; can = can }
@@ -151,13 +169,14 @@ module _ (cs ds : List Change) (es fs : List Entry) (files : List Stored) (store
     renamed_kept names =
         subst (λ (o : Option ℕ). IsKept (move_at from to now o) fs files) (sym (store.kept.names from ∙ there)) (record { names = names; made = store.kept.made; bytes = store.kept.bytes; synced = store.kept.synced })
 
-    renamed_folders : CanRename from to now → HasFolders (after_rename from to now)
-    renamed_folders can =
-        subst (λ (o : Option ℕ). HasFolders (move_at from to now o)) (sym (store.kept.names from ∙ there)) (folders_with now (move_name now.names from to n) store.folders (folder_like_number (drop_name now.names from) to 0 n can.folders))
+    renamed_sound : IsName to → CanRename from to now → IsSoundState (after_rename from to now)
+    renamed_sound named can =
+        subst (λ (o : Option ℕ). IsSoundState (move_at from to now o)) (sym (store.kept.names from ∙ there)) (sound_with now (move_name now.names from to n) now_sound (folder_like_number (drop_name now.names from) to 0 n can.folders)
+        (named_put (drop_name now.names from) to n (named_drop now.names from (now_sound.named now.names (inl refl))) named))
 
-    pub store_rename : ds ≡ cs ++ Rename from to ∷ [] → CanRename from to now → (es₁ : List Entry) → ((q : List ℕ) → lookup es₁ q ≡ put_name (lookup es) to n q) → ((q : List ℕ) → lookup fs q ≡ drop_name (lookup es₁) from q) → IsStore ds fs files
-    store_rename is can es₁ first second =
-        store_pushed (Rename from to) cs ds fs (contents_of files) files (after_rename from to now) (pushed_names (Rename from to) is rename_can) refl (renamed_kept (moved can.apart es₁ first second)) (renamed_folders can)
+    pub store_rename : ds ≡ cs ++ Rename from to ∷ [] → IsName to → CanRename from to now → (es₁ : List Entry) → ((q : List ℕ) → lookup es₁ q ≡ put_name (lookup es) to n q) → ((q : List ℕ) → lookup fs q ≡ drop_name (lookup es₁) from q) → IsStore ds fs files
+    store_rename is named can es₁ first second =
+        store_pushed (Rename from to) cs ds fs (contents_of files) files (after_rename from to now) (pushed_names (Rename from to) is rename_can) refl (renamed_kept (moved can.apart es₁ first second)) (renamed_sound named can) store.sound
 
     pub history_rename : ds ≡ cs ++ Rename from to ∷ [] → told_of ds files ≡ after_rename from to now ∷ told_of cs files
     history_rename is = history_pushed (Rename from to) cs ds (contents_of files) (contents_of files) (after_rename from to now) (pushed_names (Rename from to) is rename_can) refl
@@ -168,13 +187,14 @@ module _ (cs ds : List Change) (es fs : List Entry) (files : List Stored) (store
     removed_kept None some gone = absurd (cc (some))
     removed_kept (Some n) some gone = record { names = λ q. ap (cond (bytes_eq q name) None) (store.kept.names q) ∙ sym (gone q); made = store.kept.made; bytes = store.kept.bytes; synced = store.kept.synced }
 
-    removed_folders : (o : Option ℕ) → HasFolders (remove_at name now o)
-    removed_folders None = store.folders
-    removed_folders (Some n) = folders_with now (drop_name now.names name) store.folders (folder_like_fewer now.names (drop_name now.names name) (fewer_dropped now.names name) (newest_folders now store.folders))
+    removed_sound : (o : Option ℕ) → IsSoundState (remove_at name now o)
+    removed_sound None = now_sound
+    removed_sound (Some n) = sound_with now (drop_name now.names name) now_sound (folder_like_fewer now.names (drop_name now.names name) (fewer_dropped now.names name) (now_sound.folders now.names (inl refl)))
+        (named_drop now.names name (now_sound.named now.names (inl refl)))
 
     pub store_remove : ds ≡ cs ++ Remove name ∷ [] → HasName name now → ((q : List ℕ) → lookup fs q ≡ drop_name (lookup es) name q) → IsStore ds fs files
     store_remove is has gone =
-        store_pushed (Remove name) cs ds fs (contents_of files) files (after_remove name now) (pushed_names (Remove name) is has) refl (removed_kept (now.names name) has gone) (removed_folders (now.names name))
+        store_pushed (Remove name) cs ds fs (contents_of files) files (after_remove name now) (pushed_names (Remove name) is has) refl (removed_kept (now.names name) has gone) (removed_sound (now.names name)) store.sound
 
     pub history_remove : ds ≡ cs ++ Remove name ∷ [] → HasName name now → told_of ds files ≡ after_remove name now ∷ told_of cs files
     history_remove is has = history_pushed (Remove name) cs ds (contents_of files) (contents_of files) (after_remove name now) (pushed_names (Remove name) is has) refl
@@ -188,12 +208,12 @@ module _ (cs ds : List Change) (es fs : List Entry) (files : List Stored) (store
     history_stay is absent = history_pushed Stay cs ds (contents_of files) (contents_of files) (after_remove name now) (pushed_names Stay is refl) (stayed (now.names name) absent)
 
   pub store_stay : ds ≡ cs ++ Stay ∷ [] → IsStore ds es files
-  store_stay is = store_pushed Stay cs ds es (contents_of files) files now (pushed_names Stay is refl) refl store.kept store.folders
+  store_stay is = store_pushed Stay cs ds es (contents_of files) files now (pushed_names Stay is refl) refl store.kept now_sound store.sound
 
   pub store_sync_names : ds ≡ cs ++ SyncNames ∷ [] → IsStore ds es files
   store_sync_names is =
       store_pushed SyncNames cs ds es (contents_of files) files (after_sync_names now) (pushed_names SyncNames is refl) refl (record { names = store.kept.names; made = store.kept.made; bytes = store.kept.bytes; synced = store.kept.synced })
-      (folders_one (after_sync_names now) refl (newest_folders now store.folders))
+      (sound_one (after_sync_names now) refl (now_sound.folders now.names (inl refl)) (now_sound.named now.names (inl refl)) now_sound.bytes) store.sound
 
   pub history_sync_names : ds ≡ cs ++ SyncNames ∷ [] → told_of ds files ≡ after_sync_names now ∷ told_of cs files
   history_sync_names is = history_pushed SyncNames cs ds (contents_of files) (contents_of files) (after_sync_names now) (pushed_names SyncNames is refl) refl

@@ -4,14 +4,16 @@ use Rattle.std.proofs.lemmas.List.{take_more, take_all, drop_all, get_or-map, ge
 use Rattle.std.proofs.lemmas.Bool.{cases_eq, eq-eqb, ne_eqb}
 use Rattle.std.specs.Str.{bytes_eq}
 use Rattle.std.specs.Option.{option_map}
-use Rattle.base_core.specs.Crash.{IsCrashOf, MayLeave}
+use Rattle.base_core.specs.Crash.{MayLeave}
+use Rattle.base_core.specs.Restart.{IsCrashOf}
 use Rattle.base_core.specs.Files.{Files, NameMap, no_names, put_name, IsFolderLike}
-use Rattle.base_core.specs.Tree.{TreeState, IsMapOf, IsWhole, bytes_at, files_of, set_file}
+use Rattle.base_core.specs.Tree.{TreeState, IsMapOf, bytes_at, files_of, set_file}
 use Rattle.std.proofs.lemmas.Nat.{mod_below}
 use Rattle.tree_memory.specs.Changes.{empty_state, after_put, state_on, is_record}
 use Rattle.tree_memory.specs.Images.{maps_of, newest_first, picked_map, filled, picked, file_of}
 use Rattle.tree_memory.specs.Kept.{IsKept, CanPut}
 use Rattle.tree_memory.specs.Table.{IsTable, lookup}
+use Rattle.tree_memory.specs.WholeLaw.{AreBounded}
 use Rattle.tree_memory.proofs.AtName.{name_cases, off_name, put-at, put-off}
 use Rattle.tree_memory.proofs.Keeping.{read-after_put, stored_bytes}
 use Rattle.tree_memory.proofs.Picking.{among_at}
@@ -79,7 +81,7 @@ module _ (v : TreeState) (way : ℕ) (es : List Entry) (table : IsTable es) (i :
             (λ off. subst IsSome (sym (same q)) (lookup_take es i q (present q (subst IsSome (put-off w.names e.name w.made q (off_name q e.name off)) some))))
             (name_cases q e.name)
 
-    pub so_far_next : (bytes : List ℕ) (u : TreeState) → IsWhole w → bytes ≡ filled way (v.files e.file) → u ≡ after_put e.name bytes w → IsSoFar v way es (i + 1) u
+    pub so_far_next : (bytes : List ℕ) (u : TreeState) → AreBounded w → bytes ≡ filled way (v.files e.file) → u ≡ after_put e.name bytes w → IsSoFar v way es (i + 1) u
     so_far_next bytes u whole are is = subst (IsSoFar v way es (i + 1)) (sym is) (record { files = files; one_map = refl; synced = synced })
       where
         both_ways : (b : Bool) (r : Option ℕ) → cond b (Some (filled way (v.files e.file))) (option_map (λ n. filled way (v.files n)) r) ≡ option_map (λ n. filled way (v.files n)) (cond b (Some e.file) r)
@@ -105,9 +107,9 @@ module _ (v : TreeState) (way : ℕ) (es : List Entry) (table : IsTable es) (i :
             some_same e = cc (e)
 
     -- it leads to a file that was made
-    pub number_made : (map : NameMap) → IsMapOf v map → IsWhole v → ((q : List ℕ) → map q ≡ lookup es q) → e.file < v.made
+    pub number_made : (map : NameMap) → IsMapOf v map → AreBounded v → ((q : List ℕ) → map q ≡ lookup es q) → e.file < v.made
     number_made map is whole same =
-        whole.made map is e.name e.file (same e.name ∙ lookup_named es i e.name e table (record { within = within; here = λ d. ap (λ (x : Entry). x.name) (entry_at es i e d within here) }) ∙ ap (λ (x : Entry). Some x.file) (sym here))
+        (whole.each map is).below e.name e.file (same e.name ∙ lookup_named es i e.name e table (record { within = within; here = λ d. ap (λ (x : Entry). x.name) (entry_at es i e d within here) }) ∙ ap (λ (x : Entry). Some x.file) (sym here))
 
 -- ---- the tree that is done
 

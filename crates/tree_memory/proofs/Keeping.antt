@@ -1,6 +1,6 @@
 -- What a store keeps stays in step with its record.
-use Rattle.std.proofs.Common.{◌≡◌, ◌≢◌, inl, inr, ⊎_elim, ℕ, ◌+◌, ◌<◌, Bool, true, false, cond, List, [], ◌∷◌, ◌++◌, length, get_or, set, take, Option, None, Some, IsSome, refl, sym, ap, subst, ◌∙◌, arith, length-append}
-use Rattle.std.specs.List.{AllPairs, Contains}
+use Rattle.std.proofs.Common.{◌≡◌, ◌≢◌, inl, inr, ⊎_elim, ℕ, ◌+◌, ◌<◌, Bool, true, false, cond, List, [], ◌∷◌, ◌++◌, length, get_or, set, take, Option, None, Some, IsSome, refl, sym, ap, subst, ◌∙◌, arith, lit<, length-append, ◌==◌}
+use Rattle.std.specs.List.{All, AllPairs, Contains}
 use Rattle.std.specs.Ordering.{nat_cmp}
 use Rattle.std.specs.Cmp.Lexicographic.{slice_cmp}
 use Rattle.std.specs.Str.{bytes_eq}
@@ -8,14 +8,16 @@ use Rattle.std.specs.declared.cmp.Ordering.TheVariants.{Less}
 use Rattle.std.proofs.Math.ListN.{get_or-append}
 use Rattle.std.proofs.Math.Seq.{get_or-append_seam, take-length}
 use Rattle.std.proofs.lemmas.List.{get_or-map, get_or_past, length-map, length-set, map-set, get_or-set_same, get_or-set_other}
+use Rattle.std.proofs.lemmas.List.Elements.{All-nil, All-cons, All-head}
 use Rattle.std.proofs.lemmas.Bool.{cases_eq, cases_lt, eq-eqb, ne_eqb}
-use Rattle.base_core.specs.Files.{NameMap, IsFolderLike, put_name}
+use Rattle.base_core.specs.Files.{NameMap, AreNames, IsFile, IsFolderLike, drop_name, put_name}
+use Rattle.base_core.specs.Name.{IsName}
 use Rattle.base_core.specs.Listed.{IsNamesOf}
-use Rattle.base_core.specs.Tree.{TreeState, File, IsMapOf, IsWhole, CanCreate, bytes_at, files_of, set_file, change_at, with_names, after_create}
+use Rattle.base_core.specs.Tree.{TreeState, File, IsMapOf, CanCreate, bytes_at, files_of, set_file, change_at, with_names, after_create}
 use Rattle.tree_memory.specs.Table.{IsTable, lookup, names_of}
 use Rattle.tree_memory.specs.Changes.{empty_state, after_put, step, state_on, earlier_on, contents_of, flags_of}
-use Rattle.tree_memory.specs.Kept.{IsKept, IsStore, HasFolders, CanPut}
-use Rattle.tree_memory.specs.WholeLaw.{whole_state}
+use Rattle.tree_memory.specs.Kept.{IsKept, IsSoundState, IsStore, CanPut}
+use Rattle.tree_memory.specs.WholeLaw.{AreBounded, bounded_state}
 use Rattle.tree_memory.proofs.AtName.{name_cases, off_name, put-at, put-off}
 use Rattle.tree_memory.proofs.Growing.{front_is, Grows, grows_push, IsPushed, pushed_state, pushed_record, pushed_history}
 use Rattle.tree_memory.proofs.Placed.{stands, looked_up}
@@ -84,45 +86,89 @@ kept_set v es files n change s kept within bytes synced = record {
       ∙ sym (ap (λ (l : List Bool). get_or l k false) (map-set (λ (f : Stored). f.synced) files n s));
 }
 
--- ---- folders
+-- ---- sound states
 
-pub folders_with : (v : TreeState) (new : NameMap) → HasFolders v → IsFolderLike new → HasFolders (with_names v new)
-folders_with v new old good = record { each = each }
+pub empty_file : IsFile []
+empty_file = record { each = All-nil (λ b. b < 256); few = lit< tt }
+
+pub sound_empty : All IsSoundState (empty_state ∷ earlier_on [] empty_state [] [])
+sound_empty = All-cons IsSoundState empty_state [] (record { folders = folders; named = named; bytes = λ n. empty_file }) (All-nil IsSoundState)
   where
-    each : (map : NameMap) → IsMapOf (with_names v new) map → IsFolderLike map
-    each map (inl is) = subst IsFolderLike (sym is) good
-    each map (inr other) = old.each map other
+    none : (map : NameMap) → IsMapOf empty_state map → (q : List ℕ) → IsSome (map q) → ⊥
+    none map (inl is) q some = let absent : map q ≡ None = ap (λ (m : NameMap). m q) is in absurd (cc (absent, some))
+    none map (inr other) q some = other
 
-pub folders_one : (v : TreeState) → v.older ≡ [] → IsFolderLike v.names → HasFolders v
-folders_one v none good = record { each = λ map is. by v.older none map is }
+    folders : (map : NameMap) → IsMapOf empty_state map → IsFolderLike map
+    folders map is p q folder has_p has_q = none map is p has_p
+
+    named : (map : NameMap) → IsMapOf empty_state map → AreNames map
+    named map is q some = absurd (none map is q some)
+
+-- names, one more or one less
+pub named_put : (names : NameMap) (name : List ℕ) (n : ℕ) → AreNames names → IsName name → AreNames (put_name names name n)
+named_put names name n named is q some = ⊎_elim (λ same. subst IsName (sym same) is) (λ off. named q (subst IsSome (put-off names name n q (off_name q name off)) some)) (name_cases q name)
+
+pub named_drop : (names : NameMap) (name : List ℕ) → AreNames names → AreNames (drop_name names name)
+named_drop names name named q some = by (bytes_eq q name) some
   where
-    by : (older : List NameMap) → older ≡ [] → (map : NameMap) → IsMapOf (record v { older = older }) map → IsFolderLike map
-    by [] none map (inl is) = subst IsFolderLike (sym is) good
-    by [] none map (inr other) = absurd other
-    by (x ∷ xs) none map is = absurd (cc (none))
+    by : (b : Bool) → IsSome (cond b None (names q)) → IsName q
+    by true here = absurd (cc (here))
+    by false here = named q here
 
-pub folders_changed : (change : File → File) (v : TreeState) (n : ℕ) → HasFolders v → HasFolders (change_at change v (Some n))
-folders_changed change v n old = record { each = old.each }
+pub sound_with : (v : TreeState) (new : NameMap) → IsSoundState v → IsFolderLike new → AreNames new → IsSoundState (with_names v new)
+sound_with v new old good names = record { folders = folders; named = named; bytes = old.bytes }
+  where
+    folders : (map : NameMap) → IsMapOf (with_names v new) map → IsFolderLike map
+    folders map (inl is) = subst IsFolderLike (sym is) good
+    folders map (inr other) = old.folders map other
 
-pub newest_folders : (v : TreeState) → HasFolders v → IsFolderLike v.names
-newest_folders v old = old.each v.names (inl refl)
+    named : (map : NameMap) → IsMapOf (with_names v new) map → AreNames map
+    named map (inl is) = subst AreNames (sym is) names
+    named map (inr other) = old.named map other
+
+pub sound_one : (v : TreeState) → v.older ≡ [] → IsFolderLike v.names → AreNames v.names → ((n : ℕ) → IsFile (v.files n).bytes) → IsSoundState v
+sound_one v none good names bytes = record { folders = λ map is. folders v.older none map is; named = λ map is. named v.older none map is; bytes = bytes }
+  where
+    folders : (older : List NameMap) → older ≡ [] → (map : NameMap) → IsMapOf (record v { older = older }) map → IsFolderLike map
+    folders [] none map (inl is) = subst IsFolderLike (sym is) good
+    folders [] none map (inr other) = absurd other
+    folders (x ∷ xs) none map is = absurd (cc (none))
+
+    named : (older : List NameMap) → older ≡ [] → (map : NameMap) → IsMapOf (record v { older = older }) map → AreNames map
+    named [] none map (inl is) = subst AreNames (sym is) names
+    named [] none map (inr other) = absurd other
+    named (x ∷ xs) none map is = absurd (cc (none))
+
+pub set_bytes : (files : ℕ → File) (n : ℕ) (f : File) → ((k : ℕ) → IsFile (files k).bytes) → IsFile f.bytes → (k : ℕ) → IsFile (set_file files n f k).bytes
+set_bytes files n f old new k = by (k == n)
+  where
+    by : (b : Bool) → IsFile (cond b f (files k)).bytes
+    by true = new
+    by false = old k
+
+pub sound_changed : (change : File → File) (v : TreeState) (n : ℕ) → IsSoundState v → IsFile (change (v.files n)).bytes → IsSoundState (change_at change v (Some n))
+sound_changed change v n old new = record { folders = old.folders; named = old.named; bytes = set_bytes v.files n (change (v.files n)) old.bytes new }
+
+-- the newest state of a store is sound
+pub store_sound : (cs : List Change) (es : List Entry) (files : List Stored) → IsStore cs es files → IsSoundState (state_on (contents_of files) empty_state cs)
+store_sound cs es files store = All-head IsSoundState (state_on (contents_of files) empty_state cs) (earlier_on (contents_of files) empty_state [] cs) store.sound
 
 -- ---- the changes
 
--- a store with one change more
-pub store_pushed : (c : Change) (cs ds : List Change) (es : List Entry) (contents : List (List ℕ)) (files : List Stored) (w : TreeState) → IsPushed c cs ds contents (contents_of files) → step (contents_of files) c (state_on contents empty_state cs) ≡ w
-    → IsKept w es files → HasFolders w → IsStore ds es files
-store_pushed c cs ds es contents files w p is kept folders =
-    let same = sym (pushed_state c cs ds contents (contents_of files) p ∙ is) in record {
-      recorded = pushed_record c cs ds contents (contents_of files) p;
-      kept = subst (λ (v : TreeState). IsKept v es files) same kept;
-      folders = subst HasFolders same folders;
-    }
-
--- and the states that it tells
+-- the states that a store has with one change more
 pub history_pushed : (c : Change) (cs ds : List Change) (contents more : List (List ℕ)) (w : TreeState) → IsPushed c cs ds contents more → step more c (state_on contents empty_state cs) ≡ w
     → state_on more empty_state ds ∷ earlier_on more empty_state [] ds ≡ w ∷ (state_on contents empty_state cs ∷ earlier_on contents empty_state [] cs)
 history_pushed c cs ds contents more w p is = pushed_history c cs ds contents more p ∙ ap (λ (v : TreeState). v ∷ (state_on contents empty_state cs ∷ earlier_on contents empty_state [] cs)) is
+
+-- and such a store
+pub store_pushed : (c : Change) (cs ds : List Change) (es : List Entry) (contents : List (List ℕ)) (files : List Stored) (w : TreeState) → IsPushed c cs ds contents (contents_of files) → step (contents_of files) c (state_on contents empty_state cs) ≡ w
+    → IsKept w es files → IsSoundState w → All IsSoundState (state_on contents empty_state cs ∷ earlier_on contents empty_state [] cs) → IsStore ds es files
+store_pushed c cs ds es contents files w p is kept sound earlier =
+    let same = sym (pushed_state c cs ds contents (contents_of files) p ∙ is) in record {
+      recorded = pushed_record c cs ds contents (contents_of files) p;
+      kept = subst (λ (v : TreeState). IsKept v es files) same kept;
+      sound = subst (All IsSoundState) (sym (history_pushed c cs ds contents (contents_of files) w p is)) (All-cons IsSoundState w (state_on contents empty_state cs ∷ earlier_on contents empty_state [] cs) sound earlier);
+    }
 
 -- one file more
 pub record IsMore (name : List ℕ) (es fs : List Entry) (files more : List Stored) (s : Stored) : Type 0 where
@@ -171,11 +217,15 @@ module _ (name : List ℕ) (cs ds : List Change) (es fs : List Entry) (files mor
   put_kept synced = subst (IsKept (after_put name s.bytes.items was) fs) (sym m.stored)
       (kept_push was (after_put name s.bytes.items was) es fs files (record { bytes = s.bytes.items; synced = true }) s store.kept refl (sym synced) refl refl (more_names was name es fs files more s m store.kept))
 
-  pub put_folders : CanPut name was → HasFolders (after_put name s.bytes.items was)
-  put_folders can = folders_one (after_put name s.bytes.items was) refl can.folders
+  pub was_sound : IsSoundState was
+  was_sound = store_sound cs es files store
 
-  pub store_put : ds ≡ cs ++ Put name (length files) (length s.bytes.items) ∷ [] → s.synced ≡ true → CanPut name was → IsStore ds fs more
-  store_put is synced can = store_pushed (Put name (length files) (length s.bytes.items)) cs ds fs (contents_of files) more (after_put name s.bytes.items was) (put_pushed is) put_step (put_kept synced) (put_folders can)
+  pub put_sound : IsName name → IsFile s.bytes.items → CanPut name was → IsSoundState (after_put name s.bytes.items was)
+  put_sound named file can = sound_one (after_put name s.bytes.items was) refl can.folders (named_put was.names name was.made (was_sound.named was.names (inl refl)) named)
+      (set_bytes was.files was.made (record { bytes = s.bytes.items; synced = true }) was_sound.bytes file)
+
+  pub store_put : ds ≡ cs ++ Put name (length files) (length s.bytes.items) ∷ [] → s.synced ≡ true → IsName name → IsFile s.bytes.items → CanPut name was → IsStore ds fs more
+  store_put is synced named file can = store_pushed (Put name (length files) (length s.bytes.items)) cs ds fs (contents_of files) more (after_put name s.bytes.items was) (put_pushed is) put_step (put_kept synced) (put_sound named file can) store.sound
 
   pub history_put : ds ≡ cs ++ Put name (length files) (length s.bytes.items) ∷ [] → state_on (contents_of more) empty_state ds ∷ earlier_on (contents_of more) empty_state [] ds ≡ after_put name s.bytes.items was ∷ (was ∷ earlier_on (contents_of files) empty_state [] cs)
   history_put is = history_pushed (Put name (length files) (length s.bytes.items)) cs ds (contents_of files) (contents_of more) (after_put name s.bytes.items was) (put_pushed is) put_step
@@ -187,15 +237,19 @@ module _ (name : List ℕ) (cs ds : List Change) (es fs : List Entry) (files mor
   create_kept empty unsynced = subst (IsKept (after_create name was) fs) (sym m.stored)
       (kept_push was (after_create name was) es fs files (record { bytes = []; synced = false }) s store.kept (sym empty) (sym unsynced) refl refl (more_names was name es fs files more s m store.kept))
 
-  pub create_folders : CanCreate name was → HasFolders (after_create name was)
-  create_folders can = record { each = each }
+  pub create_sound : IsName name → CanCreate name was → IsSoundState (after_create name was)
+  create_sound name_is can = record { folders = folders; named = named; bytes = set_bytes was.files was.made (record { bytes = []; synced = false }) was_sound.bytes empty_file }
     where
-      each : (map : NameMap) → IsMapOf (after_create name was) map → IsFolderLike map
-      each map (inl is) = subst IsFolderLike (sym is) can.folders
-      each map (inr other) = store.folders.each map other
+      folders : (map : NameMap) → IsMapOf (after_create name was) map → IsFolderLike map
+      folders map (inl is) = subst IsFolderLike (sym is) can.folders
+      folders map (inr other) = was_sound.folders map other
 
-  pub store_create : ds ≡ cs ++ Create name ∷ [] → s.bytes.items ≡ [] → s.synced ≡ false → CanCreate name was → IsStore ds fs more
-  store_create is empty unsynced can = store_pushed (Create name) cs ds fs (contents_of files) more (after_create name was) (create_pushed is) refl (create_kept empty unsynced) (create_folders can)
+      named : (map : NameMap) → IsMapOf (after_create name was) map → AreNames map
+      named map (inl is) = subst AreNames (sym is) (named_put was.names name was.made (was_sound.named was.names (inl refl)) name_is)
+      named map (inr other) = was_sound.named map other
+
+  pub store_create : ds ≡ cs ++ Create name ∷ [] → s.bytes.items ≡ [] → s.synced ≡ false → IsName name → CanCreate name was → IsStore ds fs more
+  store_create is empty unsynced named can = store_pushed (Create name) cs ds fs (contents_of files) more (after_create name was) (create_pushed is) refl (create_kept empty unsynced) (create_sound named can) store.sound
 
   pub history_create : ds ≡ cs ++ Create name ∷ [] → state_on (contents_of more) empty_state ds ∷ earlier_on (contents_of more) empty_state [] ds ≡ after_create name was ∷ (was ∷ earlier_on (contents_of files) empty_state [] cs)
   history_create is = history_pushed (Create name) cs ds (contents_of files) (contents_of more) (after_create name was) (create_pushed is) refl
@@ -212,7 +266,7 @@ read_present v es files name n kept present = ap (bytes_at v.files) (kept.names 
 pub leads_within : (cs : List Change) (es : List Entry) (files : List Stored) (name : List ℕ) (n : ℕ) → IsStore cs es files → lookup es name ≡ Some n → n < length files
 leads_within cs es files name n store present =
     let v = state_on (contents_of files) empty_state cs in
-    let below = (whole_state (contents_of files) cs).made v.names (inl refl) name n (store.kept.names name ∙ present) in
+    let below = ((bounded_state (contents_of files) cs).each v.names (inl refl)).below name n (store.kept.names name ∙ present) in
     omega (arith, below, store.kept.made)
 
 -- the bytes that are stored under a number
@@ -220,13 +274,13 @@ pub stored_bytes : (files : List Stored) (n : ℕ) (file : Stored) → n < lengt
 stored_bytes files n file within is = get_or-map (λ (f : Stored). f.bytes.items) files n file [] within ∙ ap (λ (f : Stored). f.bytes.items) (sym is)
 
 -- a file put is read, and the others as before
-pub read-after_put : (name bytes : List ℕ) (v : TreeState) → IsWhole v → files_of (after_put name bytes v) ≡ put_name (files_of v) name bytes
-read-after_put name bytes v whole = λ i q. read q i
+pub read-after_put : (name bytes : List ℕ) (v : TreeState) → AreBounded v → files_of (after_put name bytes v) ≡ put_name (files_of v) name bytes
+read-after_put name bytes v bounded = λ i q. read q i
   where
     apart : (q : List ℕ) (o : Option ℕ) → v.names q ≡ o → bytes_at (after_put name bytes v).files o ≡ bytes_at v.files o
     apart q None is = refl
     apart q (Some n) is =
-        let below : n < v.made = whole.made v.names (inl refl) q n is in
+        let below : n < v.made = (bounded.each v.names (inl refl)).below q n is in
         ap (λ b. Some (cond b (record { bytes = bytes; synced = true }) (v.files n)).bytes) (ne_eqb n v.made (λ same. omega (arith, below, same)))
 
     read : (q : List ℕ) → files_of (after_put name bytes v) q ≡ put_name (files_of v) name bytes q

@@ -7,13 +7,23 @@ use Rattle.std.proofs.lemmas.List.Elements.{All-nil, All-cons}
 use Rattle.base_core.specs.Files.{NameMap, IsWithin, put_name, drop_name, move_name}
 use Rattle.base_core.specs.Tree.{TreeState, File, IsWhole, IsMapOf, change_at, with_names, after_create, move_at, remove_at, after_sync_names}
 use Rattle.tree_memory.specs.Changes.{empty_state, after_put, step, front_of, state_on, earlier_on, contents_of}
+use Rattle.tree_memory.specs.Kept.{IsSoundState}
 use Rattle.tree_memory.specs.Memory.{history_of}
 use Rattle.tree_memory.specs.declared.changes.Change.{Change}
 use Rattle.tree_memory.specs.declared.changes.Change.TheVariants.{Put, Create, Append, Sync, Rename, Remove, SyncNames, Stay}
 use Rattle.tree_memory.specs.declared.tree.MemoryTree.{MemoryTree}
 
-whole_empty : IsWhole empty_state
-whole_empty = record { finite = finite; made = made }
+-- a map has finitely many names, and leads to numbers below one
+pub record IsBounded (made : ℕ) (map : NameMap) : Type 0 where
+  pub finite : (names : List (List ℕ)) × IsWithin names map
+  pub below : (q : List ℕ) (n : ℕ) → map q ≡ Some n → n < made
+
+-- each map of a state is such a map
+pub record AreBounded (v : TreeState) : Type 0 where
+  pub each : (map : NameMap) → IsMapOf v map → IsBounded v.made map
+
+bounded_empty : AreBounded empty_state
+bounded_empty = record { each = λ map is. record { finite = finite map is; below = made map is } }
   where
     finite : (map : NameMap) → IsMapOf empty_state map → (names : List (List ℕ)) × IsWithin names map
     finite map (inl is) = ([], λ q some. let none : map q ≡ None = ap (λ (m : NameMap). m q) is in cc (none, some))
@@ -24,17 +34,6 @@ whole_empty = record { finite = finite; made = made }
     made map (inr other) q n at = absurd other
 
 -- ---- one map more, or the maps of a state with other files
-
--- a map is finite, and leads to numbers below one
-record IsBounded (made : ℕ) (map : NameMap) : Type 0 where
-  finite : (names : List (List ℕ)) × IsWithin names map
-  below : (q : List ℕ) (n : ℕ) → map q ≡ Some n → n < made
-
-bounded : (v : TreeState) → IsWhole v → (map : NameMap) → IsMapOf v map → IsBounded v.made map
-bounded v whole map is = record { finite = whole.finite map is; below = whole.made map is }
-
-whole_by : (v : TreeState) → ((map : NameMap) → IsMapOf v map → IsBounded v.made map) → IsWhole v
-whole_by v each = record { finite = λ map is. (each map is).finite; made = λ map is. (each map is).below }
 
 more_made : (made more : ℕ) (map : NameMap) → made ≤ more → IsBounded made map → IsBounded more map
 more_made made more map up old = record { finite = old.finite; below = λ q n at. let lower : n < made = old.below q n at in omega (arith, lower, up) }
@@ -72,72 +71,84 @@ bounded_drop made name map old = record {
 same_map : (made : ℕ) (map new : NameMap) → map ≡ new → IsBounded made new → IsBounded made map
 same_map made map new is = subst (IsBounded made) (sym is)
 
-whole-after_put : (name bytes : List ℕ) (v : TreeState) → IsWhole v → IsWhole (after_put name bytes v)
-whole-after_put name bytes v whole = whole_by (after_put name bytes v) each
+bounded-after_put : (name bytes : List ℕ) (v : TreeState) → AreBounded v → AreBounded (after_put name bytes v)
+bounded-after_put name bytes v whole = record { each = each }
   where
     each : (map : NameMap) → IsMapOf (after_put name bytes v) map → IsBounded (v.made + 1) map
-    each map (inl is) = same_map (v.made + 1) map (put_name v.names name v.made) is (bounded_put (v.made + 1) name v.made v.names (omega arith) (more_made v.made (v.made + 1) v.names (omega arith) (bounded v whole v.names (inl refl))))
+    each map (inl is) = same_map (v.made + 1) map (put_name v.names name v.made) is (bounded_put (v.made + 1) name v.made v.names (omega arith) (more_made v.made (v.made + 1) v.names (omega arith) (whole.each v.names (inl refl))))
     each map (inr other) = absurd other
 
-whole-after_create : (name : List ℕ) (v : TreeState) → IsWhole v → IsWhole (after_create name v)
-whole-after_create name v whole = whole_by (after_create name v) each
+bounded-after_create : (name : List ℕ) (v : TreeState) → AreBounded v → AreBounded (after_create name v)
+bounded-after_create name v whole = record { each = each }
   where
     each : (map : NameMap) → IsMapOf (after_create name v) map → IsBounded (v.made + 1) map
-    each map (inl is) = same_map (v.made + 1) map (put_name v.names name v.made) is (bounded_put (v.made + 1) name v.made v.names (omega arith) (more_made v.made (v.made + 1) v.names (omega arith) (bounded v whole v.names (inl refl))))
-    each map (inr old) = more_made v.made (v.made + 1) map (omega arith) (bounded v whole map old)
+    each map (inl is) = same_map (v.made + 1) map (put_name v.names name v.made) is (bounded_put (v.made + 1) name v.made v.names (omega arith) (more_made v.made (v.made + 1) v.names (omega arith) (whole.each v.names (inl refl))))
+    each map (inr old) = more_made v.made (v.made + 1) map (omega arith) (whole.each map old)
 
-whole-change_at : (change : File → File) (v : TreeState) (o : Option ℕ) → IsWhole v → IsWhole (change_at change v o)
-whole-change_at change v None whole = whole
-whole-change_at change v (Some n) whole = record { finite = whole.finite; made = whole.made }
+bounded-change_at : (change : File → File) (v : TreeState) (o : Option ℕ) → AreBounded v → AreBounded (change_at change v o)
+bounded-change_at change v None whole = whole
+bounded-change_at change v (Some n) whole = record { each = whole.each }
 
-whole-with_names : (v : TreeState) (new : NameMap) → IsWhole v → IsBounded v.made new → IsWhole (with_names v new)
-whole-with_names v new whole small = whole_by (with_names v new) each
+bounded-with_names : (v : TreeState) (new : NameMap) → AreBounded v → IsBounded v.made new → AreBounded (with_names v new)
+bounded-with_names v new whole small = record { each = each }
   where
     each : (map : NameMap) → IsMapOf (with_names v new) map → IsBounded v.made map
     each map (inl is) = same_map v.made map new is small
-    each map (inr old) = bounded v whole map old
+    each map (inr old) = whole.each map old
 
-whole-move_at : (from to : List ℕ) (v : TreeState) (o : Option ℕ) → v.names from ≡ o → IsWhole v → IsWhole (move_at from to v o)
-whole-move_at from to v None is whole = whole
-whole-move_at from to v (Some n) is whole =
-    let old = bounded v whole v.names (inl refl) in
-    whole-with_names v (move_name v.names from to n) whole (bounded_put v.made to n (drop_name v.names from) (old.below from n is) (bounded_drop v.made from v.names old))
+bounded-move_at : (from to : List ℕ) (v : TreeState) (o : Option ℕ) → v.names from ≡ o → AreBounded v → AreBounded (move_at from to v o)
+bounded-move_at from to v None is whole = whole
+bounded-move_at from to v (Some n) is whole =
+    let old = whole.each v.names (inl refl) in
+    bounded-with_names v (move_name v.names from to n) whole (bounded_put v.made to n (drop_name v.names from) (old.below from n is) (bounded_drop v.made from v.names old))
 
-whole-remove_at : (name : List ℕ) (v : TreeState) (o : Option ℕ) → IsWhole v → IsWhole (remove_at name v o)
-whole-remove_at name v None whole = whole
-whole-remove_at name v (Some n) whole = whole-with_names v (drop_name v.names name) whole (bounded_drop v.made name v.names (bounded v whole v.names (inl refl)))
+bounded-remove_at : (name : List ℕ) (v : TreeState) (o : Option ℕ) → AreBounded v → AreBounded (remove_at name v o)
+bounded-remove_at name v None whole = whole
+bounded-remove_at name v (Some n) whole = bounded-with_names v (drop_name v.names name) whole (bounded_drop v.made name v.names (whole.each v.names (inl refl)))
 
-whole-after_sync_names : (v : TreeState) → IsWhole v → IsWhole (after_sync_names v)
-whole-after_sync_names v whole = whole_by (after_sync_names v) each
+bounded-after_sync_names : (v : TreeState) → AreBounded v → AreBounded (after_sync_names v)
+bounded-after_sync_names v whole = record { each = each }
   where
     each : (map : NameMap) → IsMapOf (after_sync_names v) map → IsBounded v.made map
-    each map (inl is) = same_map v.made map v.names is (bounded v whole v.names (inl refl))
+    each map (inl is) = same_map v.made map v.names is (whole.each v.names (inl refl))
     each map (inr other) = absurd other
 
-pub whole-step : (contents : List (List ℕ)) (c : Change) (v : TreeState) → IsWhole v → IsWhole (step contents c v)
-whole-step contents (Put name file len) v whole = whole-after_put name (front_of contents file len) v whole
-whole-step contents (Create name) v whole = whole-after_create name v whole
-whole-step contents (Append file len) v whole = whole-change_at (λ (f : File). record { bytes = front_of contents file len; synced = false }) v (Some file) whole
-whole-step contents (Sync file) v whole = whole-change_at (λ (f : File). record { bytes = f.bytes; synced = true }) v (Some file) whole
-whole-step contents (Rename from to) v whole = whole-move_at from to v (v.names from) refl whole
-whole-step contents (Remove name) v whole = whole-remove_at name v (v.names name) whole
-whole-step contents SyncNames v whole = whole-after_sync_names v whole
-whole-step contents Stay v whole = whole
+pub bounded-step : (contents : List (List ℕ)) (c : Change) (v : TreeState) → AreBounded v → AreBounded (step contents c v)
+bounded-step contents (Put name file len) v whole = bounded-after_put name (front_of contents file len) v whole
+bounded-step contents (Create name) v whole = bounded-after_create name v whole
+bounded-step contents (Append file len) v whole = bounded-change_at (λ (f : File). record { bytes = front_of contents file len; synced = false }) v (Some file) whole
+bounded-step contents (Sync file) v whole = bounded-change_at (λ (f : File). record { bytes = f.bytes; synced = true }) v (Some file) whole
+bounded-step contents (Rename from to) v whole = bounded-move_at from to v (v.names from) refl whole
+bounded-step contents (Remove name) v whole = bounded-remove_at name v (v.names name) whole
+bounded-step contents SyncNames v whole = bounded-after_sync_names v whole
+bounded-step contents Stay v whole = whole
 
-whole_from : (contents : List (List ℕ)) (v : TreeState) (cs : List Change) → IsWhole v → IsWhole (state_on contents v cs)
-whole_from contents v [] whole = whole
-whole_from contents v (c ∷ cs) whole = whole_from contents (step contents c v) cs (whole-step contents c v whole)
+bounded_from : (contents : List (List ℕ)) (v : TreeState) (cs : List Change) → AreBounded v → AreBounded (state_on contents v cs)
+bounded_from contents v [] whole = whole
+bounded_from contents v (c ∷ cs) whole = bounded_from contents (step contents c v) cs (bounded-step contents c v whole)
 
 -- the newest state of a record is whole
-pub whole_state : (contents : List (List ℕ)) (cs : List Change) → IsWhole (state_on contents empty_state cs)
-whole_state contents cs = whole_from contents empty_state cs whole_empty
+pub bounded_state : (contents : List (List ℕ)) (cs : List Change) → AreBounded (state_on contents empty_state cs)
+bounded_state contents cs = bounded_from contents empty_state cs bounded_empty
 
-whole_earlier : (contents : List (List ℕ)) (v : TreeState) (earlier : List TreeState) (cs : List Change) → IsWhole v → All IsWhole earlier → All IsWhole (earlier_on contents v earlier cs)
-whole_earlier contents v earlier [] whole all = all
-whole_earlier contents v earlier (c ∷ cs) whole all =
-    whole_earlier contents (step contents c v) (v ∷ earlier) cs (whole-step contents c v whole) (All-cons IsWhole v earlier whole all)
+bounded_earlier : (contents : List (List ℕ)) (v : TreeState) (earlier : List TreeState) (cs : List Change) → AreBounded v → All AreBounded earlier → All AreBounded (earlier_on contents v earlier cs)
+bounded_earlier contents v earlier [] whole all = all
+bounded_earlier contents v earlier (c ∷ cs) whole all =
+    bounded_earlier contents (step contents c v) (v ∷ earlier) cs (bounded-step contents c v whole) (All-cons AreBounded v earlier whole all)
+
+bounded_history : (contents : List (List ℕ)) (cs : List Change) → All AreBounded (state_on contents empty_state cs ∷ earlier_on contents empty_state [] cs)
+bounded_history contents cs =
+    All-cons AreBounded (state_on contents empty_state cs) _ (bounded_state contents cs) (bounded_earlier contents empty_state [] cs bounded_empty (All-nil AreBounded))
+
+whole_by_both : (v : TreeState) → AreBounded v → IsSoundState v → IsWhole v
+whole_by_both v bounded sound = record {
+  finite = λ map is. (bounded.each map is).finite;
+  named = sound.named;
+  folders = sound.folders;
+  made = λ map is. (bounded.each map is).below;
+  bytes = sound.bytes;
+}
 
 pub whole_history : (tree : MemoryTree) → All IsWhole (history_of tree)
-whole_history tree =
-    let contents = contents_of tree.store.files.items in
-    All-cons IsWhole (state_on contents empty_state tree.store.changes.items) _ (whole_state contents tree.store.changes.items) (whole_earlier contents empty_state [] tree.store.changes.items whole_empty (All-nil IsWhole))
+whole_history tree i d within =
+    whole_by_both _ (bounded_history (contents_of tree.store.files.items) tree.store.changes.items i d within) (tree.store.in_step.sound i d within)

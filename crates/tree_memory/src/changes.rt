@@ -1,4 +1,4 @@
-ghost use Rattle.std.specs.Prelude.{◌≡◌, ◌++◌, false, OnOk, OnErr};
+ghost use Rattle.std.specs.Prelude.{◌≡◌, ◌<◌, ◌++◌, false, OnOk, OnErr, All};
 
 use base_core::Name;
 use std::alloc::AllocError;
@@ -37,6 +37,7 @@ impl Stored {
     pub fn append(&mut self, piece: &[u8]) -> Result<(), AllocError>
         ensures bytes { OnOk result (self.new.bytes.items ≡ self.old.bytes.items ++ piece.now) }
         ensures synced { OnOk result (self.new.synced ≡ false) }
+        ensures piece { All (λ b. b < 256) piece.now }
         ensures same_bytes { OnErr result (self.new.bytes.items ≡ self.old.bytes.items) }
         ensures same_synced { OnErr result (self.new.synced ≡ self.old.synced) }
     {

@@ -1,7 +1,7 @@
 //! What a crash leaves of a store.
 ghost use Rattle.std.specs.Prelude.{◌≡◌, ◌+◌, ◌-◌, ◌<◌, ◌≤◌, ◌^◌, ℕ, List, true, IfOk, length, take, slice_index_or};
 ghost use Rattle.base_core.specs.Files.{no_names};
-ghost use Rattle.base_core.specs.Crash.{IsCrashOf};
+ghost use Rattle.base_core.specs.Restart.{IsCrashOf};
 ghost use Rattle.base_core.specs.Tree.{TreeState, files_of};
 ghost use Rattle.tree_memory.specs.Changes.{empty_state, state_on, is_record, step};
 ghost use Rattle.tree_memory.specs.Images.{maps_of, newest_first, adds_map, maps_on, picked, filled, file_of, HasNames};

@@ -1,7 +1,7 @@
 ghost use Rattle.std.specs.Prelude.{◌≡◌, ◌↔◌, [], ◌∷◌, List, Some, None, IsTrue, IsOk, IfOk, IfSome, IsErrOf, OnOk, OnErr, false, true, length, take, drop, if◌then◌else◌};
 ghost use Rattle.std.specs.Option.{option_map, option_copied};
 ghost use Rattle.base_core.specs.Calls.{IsCounted, Moves, IfObservable};
-ghost use Rattle.base_core.specs.Crash.{IsCrashOf};
+ghost use Rattle.base_core.specs.Restart.{IsCrashOf};
 ghost use Rattle.base_core.specs.Faults.{GoesOn, HasCause, IsNoFault, next_count};
 ghost use Rattle.base_core.specs.Files.{put_name};
 ghost use Rattle.base_core.specs.Listed.{AreNamesBelow, IsNamesOf, IsListOf};

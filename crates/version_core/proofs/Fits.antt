@@ -8,7 +8,8 @@ use Rattle.std.proofs.lemmas.Cmp.{ranked}
 use Rattle.version_core.specs.declared.token.Class.{Class}
 use Rattle.version_core.specs.declared.token.Class.TheVariants.{Stray, PreRelease, End, Revision, Hash, SuffixNumber, Suffix, Letter, ZeroComponent, Component}
 use Rattle.version_core.specs.Token.{Token}
-use Rattle.version_core.specs.Order.{all_fit, begins_with, class_rank, fits, is_last, is_zero_component, token_cmp}
+use Rattle.version_core.specs.Order.{class_rank, is_last, token_cmp}
+use Rattle.version_core.specs.Matching.{all_fit, begins_with, fits, is_zero_component}
 
 abbrev is_last_rank : ℕ → Bool
 is_last_rank rank = eqb rank 2 || eqb rank 0

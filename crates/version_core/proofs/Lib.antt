@@ -8,3 +8,4 @@ pub mod Rows
 pub mod Runs
 pub mod Spelled
 pub mod Walk
+pub mod VersionBytes

@@ -12,9 +12,9 @@ use Rattle.std.proofs.lemmas.List.{take_all}
 use Rattle.std.proofs.lemmas.Slice.Eq.{bytes_eq-Decides}
 use Rattle.version_core.specs.declared.token.Class.{Class}
 use Rattle.version_core.specs.declared.token.Class.TheVariants.{Stray, PreRelease, End, Revision, Hash, SuffixNumber, Suffix, Letter, ZeroComponent, Component}
-use Rattle.version_core.specs.Op.{has_bit}
 use Rattle.version_core.specs.Token.{Token}
-use Rattle.version_core.specs.Order.{all_fit, begins_with, class_rank, fits, is_fuzzy_match, is_last, is_zero_component, matches, token_cmp, tokens, version_cmp}
+use Rattle.version_core.specs.Order.{class_rank, is_last, token_cmp, tokens, version_cmp}
+use Rattle.version_core.specs.Matching.{all_fit, begins_with, fits, is_fuzzy_match, is_zero_component, matches, has_bit}
 
 -- each part of the comparison of two tokens is a total order
 pub token_cmp-total : IsTotalOrder token_cmp

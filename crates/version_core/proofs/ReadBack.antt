@@ -11,8 +11,8 @@ use Rattle.std.proofs.lemmas.List.Sums.{take_while-cons}
 use Rattle.std.proofs.lemmas.List.Folds.{length-prefix_len}
 use Rattle.version_core.specs.declared.token.Class.{Class}
 use Rattle.version_core.specs.declared.token.Class.TheVariants.{Stray, PreRelease, End, Revision, Hash, SuffixNumber, Suffix, Letter, ZeroComponent, Component}
-use Rattle.version_core.specs.Token.{Token, Lexeme, numbered, worded, lexeme, stray, is_number, is_hex_digit, is_component, is_suffix, is_before_hash, is_before_revision, begins_with_zero, digits_at, hex_digits_at, word_at, number_lexeme, component_lexeme, suffix_rank, suffix_lexeme, suffix_lexeme_by, hash_lexeme, revision_lexeme, next_lexeme}
-use Rattle.version_core.specs.Order.{are_sound, is_last, is_stray, is_version, tokens, tokens_behind}
+use Rattle.version_core.specs.Token.{Token, Lexeme, number_token, text_token, lexeme, stray_lexeme, is_number, is_hex_digit, is_component, is_suffix, is_before_hash, is_before_revision, begins_with_zero, digits_at, hex_digits_at, letters_at, number_lexeme, component_lexeme, suffix_rank, suffix_lexeme, suffix_lexeme_by, hash_lexeme, revision_lexeme, next_lexeme}
+use Rattle.version_core.specs.Order.{are_in_grammar, is_last, is_stray, is_version, tokens, tokens_behind}
 use Rattle.version_core.specs.Grammar.{Parts, IsSpelled, if_some, is_numeral, is_hash_text, is_suffix_part, SuffixPart, later_text, letter_text, number_text, suffixes_text, hash_text, revision_text, component_token}
 use Rattle.version_core.proofs.Walk.{after, is_number-pos, tokens_behind-step}
 use Rattle.version_core.proofs.Spelled.{first_true, then_true, number_read, component_read, component_is_not_last_by, suffix_whole_by, suffix_class_by, suffix_is_not_last, hash_read, component_before_hash, before_hash_before_revision, suffix_before_hash}
@@ -37,16 +37,16 @@ and_true a b h k = rw (h, k) refl
 -- ---- what a sound lexeme shows
 
 abbrev GoesOn : List ℕ → Lexeme → Type 0
-GoesOn text found = are_sound (found.token ∷ after text found) ≡ true
+GoesOn text found = are_in_grammar (found.token ∷ after text found) ≡ true
 
-sound_or_stray : (text : List ℕ) (b : Bool) (found : Lexeme) → GoesOn text (cond b found stray) → b ≡ true
+sound_or_stray : (text : List ℕ) (b : Bool) (found : Lexeme) → GoesOn text (cond b found stray_lexeme) → b ≡ true
 sound_or_stray text true found h = refl
 sound_or_stray text false found h = h
 
 number_goes_on : (text : List ℕ) (class : Class) (mark : ℕ) (ds : List ℕ) → GoesOn text (number_lexeme class mark ds) → is_number ds ≡ true
 unfolding number_lexeme
 number_goes_on text class mark ds h =
-    sound_or_stray text (is_number ds) (lexeme (numbered class (digits_value 10 ds)) (mark + length ds)) h
+    sound_or_stray text (is_number ds) (lexeme (number_token class (digits_value 10 ds)) (mark + length ds)) h
 
 component_by : (text ds : List ℕ) (starts : Bool) (found : Lexeme) → GoesOn text (cond (is_number ds && starts) found (number_lexeme Component 1 ds)) → (b : Bool) → (is_number ds && starts) ≡ b → is_number ds ≡ true
 component_by text ds starts found h true e = first_true (is_number ds) starts e
@@ -55,7 +55,7 @@ component_by text ds starts found h false e = number_goes_on text Component 1 ds
 component_goes_on : (text ds : List ℕ) → GoesOn text (component_lexeme ds) → is_number ds ≡ true
 unfolding component_lexeme
 component_goes_on text ds h =
-    component_by text ds (begins_with_zero ds) (lexeme (worded ZeroComponent ds) (1 + length ds)) h (is_number ds && begins_with_zero ds) refl
+    component_by text ds (begins_with_zero ds) (lexeme (text_token ZeroComponent ds) (1 + length ds)) h (is_number ds && begins_with_zero ds) refl
 
 suffix_by : (text word : List ℕ) (rank : Option ℕ) → GoesOn text (suffix_lexeme_by word rank) → is_some rank ≡ true
 suffix_by text word None h = h
@@ -63,15 +63,15 @@ suffix_by text word (Some rank) h = refl
 
 hash_goes_on : (text ds : List ℕ) → GoesOn text (hash_lexeme ds) → ltb 0 (length ds) ≡ true
 unfolding hash_lexeme
-hash_goes_on text ds h = sound_or_stray text (ltb 0 (length ds)) (lexeme (worded Hash ds) (1 + length ds)) h
+hash_goes_on text ds h = sound_or_stray text (ltb 0 (length ds)) (lexeme (text_token Hash ds) (1 + length ds)) h
 
 -- what stands behind a lexeme is sound too
-sound_behind : (text behind : List ℕ) (found : Lexeme) (token : Token) (width : ℕ) → found ≡ lexeme token width → is_last token.class ≡ false → drop width text ≡ behind → GoesOn text found → are_sound (tokens_behind (Some token.class) 0 behind) ≡ true
+sound_behind : (text behind : List ℕ) (found : Lexeme) (token : Token) (width : ℕ) → found ≡ lexeme token width → is_last token.class ≡ false → drop width text ≡ behind → GoesOn text found → are_in_grammar (tokens_behind (Some token.class) 0 behind) ≡ true
 sound_behind text behind found token width e h d sound =
-    let here : are_sound (token ∷ after text (lexeme token width)) ≡ true = subst (GoesOn text) e sound in
-    let rest = then_true (not (is_stray token.class)) (are_sound (after text (lexeme token width))) here in
-    subst (λ b. are_sound (cond b [] (tokens_behind (Some token.class) 0 behind)) ≡ true) h
-    (subst (λ t. are_sound (cond (is_last token.class) [] (tokens_behind (Some token.class) 0 t)) ≡ true) d rest)
+    let here : are_in_grammar (token ∷ after text (lexeme token width)) ≡ true = subst (GoesOn text) e sound in
+    let rest = then_true (not (is_stray token.class)) (are_in_grammar (after text (lexeme token width))) here in
+    subst (λ b. are_in_grammar (cond b [] (tokens_behind (Some token.class) 0 behind)) ≡ true) h
+    (subst (λ t. are_in_grammar (cond (is_last token.class) [] (tokens_behind (Some token.class) 0 t)) ≡ true) d rest)
 
 -- ---- the end of a version, behind a token of some class
 
@@ -290,7 +290,7 @@ with_revision last ds behind h numeral end = record {
 
 -- what holds of shorter texts
 abbrev Shorter : ℕ → Type 0
-Shorter n = (last : Class) (text : List ℕ) → length text ≤ n → are_sound (tokens_behind (Some last) 0 text) ≡ true → IsTail last text
+Shorter n = (last : Class) (text : List ℕ) → length text ≤ n → are_in_grammar (tokens_behind (Some last) 0 text) ≡ true → IsTail last text
 
 cond_case : (P : Lexeme → Type 0) (b : Bool) (x y : Lexeme) → (b ≡ true → P x) → P y → P (cond b x y)
 cond_case P true x y f g = f refl
@@ -308,7 +308,7 @@ drop_one k b rest = let e : 1 + k ≡ suc k = omega arith in ap (λ m. drop m (b
 drop_two : (k b c : ℕ) (rest : List ℕ) → drop (2 + k) (b ∷ c ∷ rest) ≡ drop k rest
 drop_two k b c rest = let e : 2 + k ≡ suc (suc k) = omega arith in ap (λ m. drop m (b ∷ c ∷ rest)) e
 
-component_no_suffix_by : (starts : Bool) (text : List ℕ) (n : ℕ) → is_suffix (cond starts (worded ZeroComponent text) (numbered Component n)).class ≡ false
+component_no_suffix_by : (starts : Bool) (text : List ℕ) (n : ℕ) → is_suffix (cond starts (text_token ZeroComponent text) (number_token Component n)).class ≡ false
 component_no_suffix_by true text n = refl
 component_no_suffix_by false text n = refl
 
@@ -327,9 +327,9 @@ component_case n shorter last b rest few guard sound =
     subst (IsTail last)
     (λ i. same_byte b 46 (first_true (eqb b 46) (is_component last) guard) i ∷ sym (split_run is_ascii_digit rest) i) tail
 
-letter_case : (n : ℕ) → Shorter n → (last : Class) (b : ℕ) (rest : List ℕ) → length rest ≤ n → (is_ascii_lowercase b && is_component last) ≡ true → GoesOn (b ∷ rest) (lexeme (numbered Letter b) 1) → IsTail last (b ∷ rest)
+letter_case : (n : ℕ) → Shorter n → (last : Class) (b : ℕ) (rest : List ℕ) → length rest ≤ n → (is_ascii_lowercase b && is_component last) ≡ true → GoesOn (b ∷ rest) (lexeme (number_token Letter b) 1) → IsTail last (b ∷ rest)
 letter_case n shorter last b rest few guard sound =
-    let end = shorter Letter rest few (sound_behind (b ∷ rest) rest (lexeme (numbered Letter b) 1) (numbered Letter b) 1 refl refl refl sound) in
+    let end = shorter Letter rest few (sound_behind (b ∷ rest) rest (lexeme (number_token Letter b) 1) (number_token Letter b) 1 refl refl refl sound) in
     with_letter last b rest (then_true (is_ascii_lowercase b) (is_component last) guard) (first_true (is_ascii_lowercase b) (is_component last) guard) end
 
 suffix_no_component : (class : Class) → is_suffix class ≡ true → is_component class ≡ false
@@ -344,9 +344,9 @@ suffix_no_component Letter h = refl
 suffix_no_component ZeroComponent h = absurd (false≢true h)
 suffix_no_component Component h = absurd (false≢true h)
 
-suffix_case : (n : ℕ) → Shorter n → (last : Class) (b : ℕ) (rest : List ℕ) → length rest ≤ n → (eqb b 95 && is_before_hash last) ≡ true → GoesOn (b ∷ rest) (suffix_lexeme (word_at rest)) → IsTail last (b ∷ rest)
+suffix_case : (n : ℕ) → Shorter n → (last : Class) (b : ℕ) (rest : List ℕ) → length rest ≤ n → (eqb b 95 && is_before_hash last) ≡ true → GoesOn (b ∷ rest) (suffix_lexeme (letters_at rest)) → IsTail last (b ∷ rest)
 suffix_case n shorter last b rest few guard sound =
-    let word : List ℕ = word_at rest in
+    let word : List ℕ = letters_at rest in
     let behind : List ℕ = drop (length word) rest in
     let known = suffix_by (b ∷ rest) word (suffix_rank word) sound in
     let class = suffix_class_by word (suffix_rank word) known in
@@ -369,7 +369,7 @@ number_case n shorter last b rest few guard sound =
     let short : length behind ≤ n = omega (arith, length-drop (length ds) (b ∷ rest)) in
     let same : drop (0 + length ds) (b ∷ rest) ≡ behind = let e : 0 + length ds ≡ length ds = omega arith in ap (λ m. drop m (b ∷ rest)) e in
     let end = shorter SuffixNumber behind short
-    (sound_behind (b ∷ rest) behind (number_lexeme SuffixNumber 0 ds) (numbered SuffixNumber (digits_value 10 ds)) (0 + length ds) (number_read SuffixNumber 0 ds numeral) refl same sound) in
+    (sound_behind (b ∷ rest) behind (number_lexeme SuffixNumber 0 ds) (number_token SuffixNumber (digits_value 10 ds)) (0 + length ds) (number_read SuffixNumber 0 ds numeral) refl same sound) in
     let suffix = then_true (is_ascii_digit b) (is_suffix last) guard in
     let tail = with_number last ds behind suffix (suffix_no_component last suffix) numeral end in
     subst (IsTail last) (sym (split_run is_ascii_digit (b ∷ rest))) tail
@@ -381,7 +381,7 @@ hash_case n shorter last b rest few guard sound =
     let hash = and_true (ltb 0 (length ds)) (list_all is_hex_digit ds) (hash_goes_on (b ∷ rest) ds sound) (take_while_passes is_hex_digit rest) in
     let short : length behind ≤ n = omega (arith, length-drop (length ds) rest) in
     let end = shorter Hash behind short
-    (sound_behind (b ∷ rest) behind (hash_lexeme ds) (worded Hash ds) (1 + length ds) (hash_read ds hash) refl (drop_one (length ds) b rest) sound) in
+    (sound_behind (b ∷ rest) behind (hash_lexeme ds) (text_token Hash ds) (1 + length ds) (hash_read ds hash) refl (drop_one (length ds) b rest) sound) in
     let tail = with_hash last ds behind (then_true (eqb b 126) (is_before_hash last) guard) hash end in
     subst (IsTail last)
     (λ i. same_byte b 126 (first_true (eqb b 126) (is_before_hash last) guard) i ∷ sym (split_run is_hex_digit rest) i) tail
@@ -395,11 +395,11 @@ revision_by n shorter last b (c ∷ rest) few dash guard sound =
     let behind : List ℕ = drop (length ds) rest in
     let text : List ℕ = b ∷ c ∷ rest in
     let letter = sound_or_stray text (eqb c 114) (number_lexeme Revision 2 ds) sound in
-    let here : GoesOn text (number_lexeme Revision 2 ds) = subst (λ t. GoesOn text (cond t (number_lexeme Revision 2 ds) stray)) letter sound in
+    let here : GoesOn text (number_lexeme Revision 2 ds) = subst (λ t. GoesOn text (cond t (number_lexeme Revision 2 ds) stray_lexeme)) letter sound in
     let numeral = digits_numeral rest (number_goes_on text Revision 2 ds here) in
     let short : length behind ≤ n = omega (arith, length-drop (length ds) rest) in
     let end = shorter Revision behind short
-    (sound_behind text behind (number_lexeme Revision 2 ds) (numbered Revision (digits_value 10 ds)) (2 + length ds) (number_read Revision 2 ds numeral) refl (drop_two (length ds) b c rest) here) in
+    (sound_behind text behind (number_lexeme Revision 2 ds) (number_token Revision (digits_value 10 ds)) (2 + length ds) (number_read Revision 2 ds numeral) refl (drop_two (length ds) b c rest) here) in
     let tail = with_revision last ds behind guard numeral end in
     subst (IsTail last)
     (λ i. sym dash i ∷ same_byte c 114 letter i ∷ sym (split_run is_ascii_digit rest) i) tail
@@ -414,11 +414,11 @@ unfolding next_lexeme
 lexeme_case n shorter last b rest few =
     let P : Lexeme → Type 0 = λ found. GoesOn (b ∷ rest) found → IsTail last (b ∷ rest) in
     cond_case P (eqb b 46 && is_component last) (component_lexeme (digits_at rest)) _ (component_case n shorter last b rest few)
-    (cond_case P (is_ascii_lowercase b && is_component last) (lexeme (numbered Letter b) 1) _ (letter_case n shorter last b rest few)
-    (cond_case P (eqb b 95 && is_before_hash last) (suffix_lexeme (word_at rest)) _ (suffix_case n shorter last b rest few)
+    (cond_case P (is_ascii_lowercase b && is_component last) (lexeme (number_token Letter b) 1) _ (letter_case n shorter last b rest few)
+    (cond_case P (eqb b 95 && is_before_hash last) (suffix_lexeme (letters_at rest)) _ (suffix_case n shorter last b rest few)
     (cond_case P (is_ascii_digit b && is_suffix last) (number_lexeme SuffixNumber 0 (digits_at (b ∷ rest))) _ (number_case n shorter last b rest few)
     (cond_case P (eqb b 126 && is_before_hash last) (hash_lexeme (hex_digits_at rest)) _ (hash_case n shorter last b rest few)
-    (cond_case P (eqb b 45 && is_before_revision last) (revision_lexeme rest) stray (revision_case n shorter last b rest few)
+    (cond_case P (eqb b 45 && is_before_revision last) (revision_lexeme rest) stray_lexeme (revision_case n shorter last b rest few)
     (λ sound. absurd (false≢true sound)))))))
 
 tails : (n : ℕ) → Shorter n
@@ -426,18 +426,18 @@ tails zero last [] few sound = at_end last
 tails zero last (b ∷ rest) few sound = absurd (omega arith)
 tails (suc n) last [] few sound = at_end last
 tails (suc n) last (b ∷ rest) few sound =
-    lexeme_case n (tails n) last b rest (omega arith) (ap are_sound (sym (tokens_behind-step (Some last) (b ∷ rest))) ∙ sound)
+    lexeme_case n (tails n) last b rest (omega arith) (ap are_in_grammar (sym (tokens_behind-step (Some last) (b ∷ rest))) ∙ sound)
 
 pub spelled : (text : List ℕ) → is_version text ≡ true → IsSpelled text
 unfolding is_version tokens
 spelled text h =
     let ds : List ℕ = digits_at text in
     let behind : List ℕ = drop (length ds) text in
-    let here : GoesOn text (number_lexeme Component 0 ds) = ap are_sound (sym (tokens_behind-step None text)) ∙ h in
+    let here : GoesOn text (number_lexeme Component 0 ds) = ap are_in_grammar (sym (tokens_behind-step None text)) ∙ h in
     let numeral = digits_numeral text (number_goes_on text Component 0 ds here) in
     let same : drop (0 + length ds) text ≡ behind = let e : 0 + length ds ≡ length ds = omega arith in ap (λ m. drop m text) e in
     let end = tails (length behind) Component behind (omega arith)
-    (sound_behind text behind (number_lexeme Component 0 ds) (numbered Component (digits_value 10 ds)) (0 + length ds) (number_read Component 0 ds numeral) refl same here) in
+    (sound_behind text behind (number_lexeme Component 0 ds) (number_token Component (digits_value 10 ds)) (0 + length ds) (number_read Component 0 ds numeral) refl same here) in
     let parts : Parts = record { first = ds; later = end.later; letter = end.letter; suffixes = end.suffixes; hash = end.hash; revision = end.revision } in
     record {
       parts = parts;

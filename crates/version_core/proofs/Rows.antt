@@ -2,7 +2,8 @@
 use Rattle.std.proofs.Common.{◌≡◌, refl, true, false, codes}
 use Rattle.std.specs.declared.cmp.Ordering.TheVariants.{Less, Equal, Greater}
 use Rattle.version_core.specs.Token.{next_lexeme, number_lexeme, component_lexeme, suffix_rank, hash_lexeme, revision_lexeme}
-use Rattle.version_core.specs.Order.{is_version, tokens, version_cmp, matches, is_fuzzy_match, fits}
+use Rattle.version_core.specs.Order.{is_version, tokens, version_cmp}
+use Rattle.version_core.specs.Matching.{matches, is_fuzzy_match, fits}
 
 component_that_begins_with_zero : version_cmp (codes "1.01") (codes "1.1") ≡ Less
 unfolding version_cmp tokens next_lexeme number_lexeme component_lexeme

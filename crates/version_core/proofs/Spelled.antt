@@ -12,8 +12,8 @@ use Rattle.std.proofs.lemmas.List.Sums.{take_while-cons}
 use Rattle.std.proofs.lemmas.Slice.Eq.{bytes_eq-Decides}
 use Rattle.version_core.specs.declared.token.Class.{Class}
 use Rattle.version_core.specs.declared.token.Class.TheVariants.{Stray, PreRelease, End, Revision, Hash, SuffixNumber, Suffix, Letter, ZeroComponent, Component}
-use Rattle.version_core.specs.Token.{Token, Lexeme, bare, numbered, worded, lexeme, stray, is_number, is_hex_digit, is_component, is_suffix, is_before_hash, is_before_revision, begins_with_zero, digits_at, hex_digits_at, word_at, number_lexeme, component_lexeme, suffix_rank, suffix_lexeme, suffix_lexeme_by, hash_lexeme, revision_lexeme, next_lexeme, lexeme_at}
-use Rattle.version_core.specs.Order.{are_sound, is_last, is_stray, is_version, tokens, tokens_behind}
+use Rattle.version_core.specs.Token.{Token, Lexeme, bare_token, number_token, text_token, lexeme, stray_lexeme, is_number, is_hex_digit, is_component, is_suffix, is_before_hash, is_before_revision, begins_with_zero, digits_at, hex_digits_at, letters_at, number_lexeme, component_lexeme, suffix_rank, suffix_lexeme, suffix_lexeme_by, hash_lexeme, revision_lexeme, next_lexeme, lexeme_at}
+use Rattle.version_core.specs.Order.{are_in_grammar, is_last, is_stray, is_version, tokens, tokens_behind}
 use Rattle.version_core.specs.Grammar.{Parts, are_parts, spelling, tokens_of, if_some, is_numeral, is_hash_text, is_suffix_part, SuffixPart, later_text, letter_text, number_text, suffixes_text, hash_text, revision_text, component_token, later_tokens, letter_tokens, number_tokens, suffix_tokens, hash_tokens, revision_tokens}
 use Rattle.version_core.proofs.Walk.{after, tokens_behind-step}
 
@@ -96,10 +96,10 @@ read_token last text front rest token width whole long e h =
     ∙ ap (λ (l : Lexeme). l.token ∷ after text l) e
     ∙ (λ i. token ∷ cond (h i) [] (tokens_behind (Some token.class) 0 (behind i)))
 
-pub number_read : (class : Class) (mark : ℕ) (ds : List ℕ) → is_numeral ds ≡ true → number_lexeme class mark ds ≡ lexeme (numbered class (digits_value 10 ds)) (mark + length ds)
+pub number_read : (class : Class) (mark : ℕ) (ds : List ℕ) → is_numeral ds ≡ true → number_lexeme class mark ds ≡ lexeme (number_token class (digits_value 10 ds)) (mark + length ds)
 unfolding number_lexeme
 number_read class mark ds h =
-    ap (λ t. cond t (lexeme (numbered class (digits_value 10 ds)) (mark + length ds)) stray) (first_true (is_number ds) (list_all is_ascii_digit ds) h)
+    ap (λ t. cond t (lexeme (number_token class (digits_value 10 ds)) (mark + length ds)) stray_lexeme) (first_true (is_number ds) (list_all is_ascii_digit ds) h)
 
 pub numeral_digits : (ds : List ℕ) → is_numeral ds ≡ true → list_all is_ascii_digit ds ≡ true
 numeral_digits ds h = then_true (is_number ds) (list_all is_ascii_digit ds) h
@@ -110,22 +110,22 @@ next_revision : (last : Class) (rest : List ℕ) → is_before_revision last ≡
 unfolding next_lexeme
 next_revision last rest h = rw h refl
 
-pub revision_digits : (ds : List ℕ) → is_numeral ds ≡ true → revision_lexeme (114 ∷ ds) ≡ lexeme (numbered Revision (digits_value 10 ds)) (2 + length ds)
+pub revision_digits : (ds : List ℕ) → is_numeral ds ≡ true → revision_lexeme (114 ∷ ds) ≡ lexeme (number_token Revision (digits_value 10 ds)) (2 + length ds)
 unfolding revision_lexeme
 revision_digits ds ok =
     ap (number_lexeme Revision 2) (run_all is_ascii_digit ds (numeral_digits ds ok)) ∙ number_read Revision 2 ds ok
 
-at_end : (last : Class) → tokens_behind (Some last) 0 [] ≡ bare End ∷ []
+at_end : (last : Class) → tokens_behind (Some last) 0 [] ≡ bare_token End ∷ []
 unfolding next_lexeme
 at_end last = refl
 
-read_revision : (revision : Option (List ℕ)) (last : Class) → is_before_revision last ≡ true → if_some is_numeral revision ≡ true → tokens_behind (Some last) 0 (revision_text revision) ≡ revision_tokens revision ++ bare End ∷ []
+read_revision : (revision : Option (List ℕ)) (last : Class) → is_before_revision last ≡ true → if_some is_numeral revision ≡ true → tokens_behind (Some last) 0 (revision_text revision) ≡ revision_tokens revision ++ bare_token End ∷ []
 read_revision None last h ok = at_end last
 read_revision (Some ds) last h ok =
     let long : 2 + length ds ≡ length (45 ∷ 114 ∷ ds) = omega arith in
-    read_token (Some last) (45 ∷ 114 ∷ ds) (45 ∷ 114 ∷ ds) [] (numbered Revision (digits_value 10 ds)) (2 + length ds)
+    read_token (Some last) (45 ∷ 114 ∷ ds) (45 ∷ 114 ∷ ds) [] (number_token Revision (digits_value 10 ds)) (2 + length ds)
     (sym (append-nil (45 ∷ 114 ∷ ds))) long (next_revision last (114 ∷ ds) h ∙ revision_digits ds ok) refl
-    ∙ ap (λ ts. numbered Revision (digits_value 10 ds) ∷ ts) (at_end Revision)
+    ∙ ap (λ ts. number_token Revision (digits_value 10 ds) ∷ ts) (at_end Revision)
 
 -- ---- hash
 
@@ -133,10 +133,10 @@ next_hash : (last : Class) (rest : List ℕ) → is_before_hash last ≡ true �
 unfolding next_lexeme
 next_hash last rest h = rw h refl
 
-pub hash_read : (ds : List ℕ) → is_hash_text ds ≡ true → hash_lexeme ds ≡ lexeme (worded Hash ds) (1 + length ds)
+pub hash_read : (ds : List ℕ) → is_hash_text ds ≡ true → hash_lexeme ds ≡ lexeme (text_token Hash ds) (1 + length ds)
 unfolding hash_lexeme
 hash_read ds h =
-    ap (λ t. cond t (lexeme (worded Hash ds) (1 + length ds)) stray) (first_true (ltb 0 (length ds)) (list_all is_hex_digit ds) h)
+    ap (λ t. cond t (lexeme (text_token Hash ds) (1 + length ds)) stray_lexeme) (first_true (ltb 0 (length ds)) (list_all is_hex_digit ds) h)
 
 pub before_hash_before_revision : (last : Class) → is_before_hash last ≡ true → is_before_revision last ≡ true
 before_hash_before_revision Stray h = h
@@ -155,9 +155,9 @@ read_hash None last rest ts h ok other more = more last (before_hash_before_revi
 read_hash (Some ds) last rest ts h ok other more =
     let long : 1 + length ds ≡ length (126 ∷ ds) = omega arith in
     let all = then_true (ltb 0 (length ds)) (list_all is_hex_digit ds) ok in
-    read_token (Some last) (126 ∷ (ds ++ rest)) (126 ∷ ds) rest (worded Hash ds) (1 + length ds) refl long
+    read_token (Some last) (126 ∷ (ds ++ rest)) (126 ∷ ds) rest (text_token Hash ds) (1 + length ds) refl long
     (next_hash last (ds ++ rest) h ∙ ap hash_lexeme (run-append is_hex_digit ds rest all other) ∙ hash_read ds ok) refl
-    ∙ ap (λ tokens. worded Hash ds ∷ tokens) (more Hash refl)
+    ∙ ap (λ tokens. text_token Hash ds ∷ tokens) (more Hash refl)
 
 -- ---- suffixes
 
@@ -196,12 +196,12 @@ read_number (Some []) last rest ts h ok other more = absurd (false≢true ok)
 read_number (Some (d ∷ ds)) last rest ts h ok other more =
     let all = numeral_digits (d ∷ ds) ok in
     let long : 0 + length (d ∷ ds) ≡ length (d ∷ ds) = omega arith in
-    read_token (Some last) (d ∷ (ds ++ rest)) (d ∷ ds) rest (numbered SuffixNumber (digits_value 10 (d ∷ ds))) (0 + length (d ∷ ds)) refl long
+    read_token (Some last) (d ∷ (ds ++ rest)) (d ∷ ds) rest (number_token SuffixNumber (digits_value 10 (d ∷ ds))) (0 + length (d ∷ ds)) refl long
     (next_number last d (ds ++ rest) h (first_true (is_ascii_digit d) (list_all is_ascii_digit ds) all)
     ∙ ap (number_lexeme SuffixNumber 0) (run-append is_ascii_digit (d ∷ ds) rest all other) ∙ number_read SuffixNumber 0 (d ∷ ds) ok) refl
-    ∙ ap (λ tokens. numbered SuffixNumber (digits_value 10 (d ∷ ds)) ∷ tokens) (more SuffixNumber refl)
+    ∙ ap (λ tokens. number_token SuffixNumber (digits_value 10 (d ∷ ds)) ∷ tokens) (more SuffixNumber refl)
 
-next_suffix : (last : Class) (rest : List ℕ) → is_before_hash last ≡ true → next_lexeme last (95 ∷ rest) ≡ suffix_lexeme (word_at rest)
+next_suffix : (last : Class) (rest : List ℕ) → is_before_hash last ≡ true → next_lexeme last (95 ∷ rest) ≡ suffix_lexeme (letters_at rest)
 unfolding next_lexeme
 next_suffix last rest h = rw h refl
 
@@ -265,7 +265,7 @@ read_suffixes (s ∷ ss) last rest ts h ok no_digit no_letter more =
 
 -- ---- letter
 
-next_letter : (last : Class) (b : ℕ) (rest : List ℕ) → is_component last ≡ true → is_ascii_lowercase b ≡ true → next_lexeme last (b ∷ rest) ≡ lexeme (numbered Letter b) 1
+next_letter : (last : Class) (b : ℕ) (rest : List ℕ) → is_component last ≡ true → is_ascii_lowercase b ≡ true → next_lexeme last (b ∷ rest) ≡ lexeme (number_token Letter b) 1
 unfolding next_lexeme
 next_letter last b rest h small = rw (letter_is_no_dot b small, small, h) refl
 
@@ -284,8 +284,8 @@ component_before_hash Component h = refl
 read_letter : (letter : Option ℕ) (last : Class) (rest : List ℕ) (ts : List Token) → is_component last ≡ true → if_some is_ascii_lowercase letter ≡ true → ((class : Class) → is_before_hash class ≡ true → tokens_behind (Some class) 0 rest ≡ ts) → tokens_behind (Some last) 0 (letter_text letter ++ rest) ≡ letter_tokens letter ++ ts
 read_letter None last rest ts h ok more = more last (component_before_hash last h)
 read_letter (Some b) last rest ts h ok more =
-    read_token (Some last) (b ∷ rest) (b ∷ []) rest (numbered Letter b) 1 refl refl (next_letter last b rest h ok) refl
-    ∙ ap (λ tokens. numbered Letter b ∷ tokens) (more Letter refl)
+    read_token (Some last) (b ∷ rest) (b ∷ []) rest (number_token Letter b) 1 refl refl (next_letter last b rest h ok) refl
+    ∙ ap (λ tokens. number_token Letter b ∷ tokens) (more Letter refl)
 
 -- ---- components
 
@@ -301,16 +301,16 @@ pub component_read : (ds : List ℕ) → is_numeral ds ≡ true → component_le
 unfolding component_lexeme
 component_read ds ok =
     let number = first_true (is_number ds) (list_all is_ascii_digit ds) ok in
-    let zero : Lexeme = lexeme (worded ZeroComponent ds) (1 + length ds) in
+    let zero : Lexeme = lexeme (text_token ZeroComponent ds) (1 + length ds) in
     ap (λ t. cond (t && begins_with_zero ds) zero (number_lexeme Component 1 ds)) number
     ∙ ap (λ l. cond (begins_with_zero ds) zero l) (number_read Component 1 ds ok)
-    ∙ component_by (begins_with_zero ds) (worded ZeroComponent ds) (numbered Component (digits_value 10 ds)) (1 + length ds)
+    ∙ component_by (begins_with_zero ds) (text_token ZeroComponent ds) (number_token Component (digits_value 10 ds)) (1 + length ds)
 
-pub component_class_by : (zero : Bool) (text : List ℕ) (n : ℕ) → is_component (cond zero (worded ZeroComponent text) (numbered Component n)).class ≡ true
+pub component_class_by : (zero : Bool) (text : List ℕ) (n : ℕ) → is_component (cond zero (text_token ZeroComponent text) (number_token Component n)).class ≡ true
 component_class_by true text n = refl
 component_class_by false text n = refl
 
-pub component_is_not_last_by : (zero : Bool) (text : List ℕ) (n : ℕ) → is_last (cond zero (worded ZeroComponent text) (numbered Component n)).class ≡ false
+pub component_is_not_last_by : (zero : Bool) (text : List ℕ) (n : ℕ) → is_last (cond zero (text_token ZeroComponent text) (number_token Component n)).class ≡ false
 component_is_not_last_by true text n = refl
 component_is_not_last_by false text n = refl
 
@@ -364,7 +364,7 @@ read_spelling parts ok =
     let t3 : List ℕ = suffixes_text parts.suffixes ++ t4 in
     let t2 : List ℕ = letter_text parts.letter ++ t3 in
     let t1 : List ℕ = later_text parts.later ++ t2 in
-    let s5 : List Token = revision_tokens parts.revision ++ bare End ∷ [] in
+    let s5 : List Token = revision_tokens parts.revision ++ bare_token End ∷ [] in
     let s4 : List Token = hash_tokens parts.hash ++ s5 in
     let s3 : List Token = suffix_tokens parts.suffixes ++ s4 in
     let s2 : List Token = letter_tokens parts.letter ++ s3 in
@@ -374,34 +374,34 @@ read_spelling parts ok =
     let digit2 = begins-letter parts.letter t3 each.letter digit3 in
     let digit1 = begins-later is_ascii_digit parts.later t2 refl digit2 in
     let long : 0 + length parts.first ≡ length parts.first = omega arith in
-    read_token None (parts.first ++ t1) parts.first t1 (numbered Component (digits_value 10 parts.first)) (0 + length parts.first) refl long
+    read_token None (parts.first ++ t1) parts.first t1 (number_token Component (digits_value 10 parts.first)) (0 + length parts.first) refl long
     (ap (number_lexeme Component 0) (run-append is_ascii_digit parts.first t1 (numeral_digits parts.first each.first) digit1)
     ∙ number_read Component 0 parts.first each.first) refl
-    ∙ ap (λ ts. numbered Component (digits_value 10 parts.first) ∷ ts)
+    ∙ ap (λ ts. number_token Component (digits_value 10 parts.first) ∷ ts)
     (read_later parts.later Component t2 s2 refl each.later digit2
     (λ c2 h2. read_letter parts.letter c2 t3 s3 h2 each.letter
     (λ c3 h3. read_suffixes parts.suffixes c3 t4 s4 h3 each.suffixes digit4 letter4
     (λ c4 h4. read_hash parts.hash c4 t5 s5 h4 each.hash (begins-revision is_hex_digit parts.revision refl)
     (λ c5 h5. read_revision parts.revision c5 h5 each.revision)))))
 
-sound-append : (xs ys : List Token) → are_sound xs ≡ true → are_sound ys ≡ true → are_sound (xs ++ ys) ≡ true
+sound-append : (xs ys : List Token) → are_in_grammar xs ≡ true → are_in_grammar ys ≡ true → are_in_grammar (xs ++ ys) ≡ true
 sound-append [] ys h k = k
 sound-append (x ∷ xs) ys h k =
-    rw (first_true (not (is_stray x.class)) (are_sound xs) h) (sound-append xs ys (then_true (not (is_stray x.class)) (are_sound xs) h) k)
+    rw (first_true (not (is_stray x.class)) (are_in_grammar xs) h) (sound-append xs ys (then_true (not (is_stray x.class)) (are_in_grammar xs) h) k)
 
-component_sound : (zero : Bool) (text : List ℕ) (n : ℕ) → not (is_stray (cond zero (worded ZeroComponent text) (numbered Component n)).class) ≡ true
+component_sound : (zero : Bool) (text : List ℕ) (n : ℕ) → not (is_stray (cond zero (text_token ZeroComponent text) (number_token Component n)).class) ≡ true
 component_sound true text n = refl
 component_sound false text n = refl
 
-later_sound : (later : List (List ℕ)) → are_sound (later_tokens later) ≡ true
+later_sound : (later : List (List ℕ)) → are_in_grammar (later_tokens later) ≡ true
 later_sound [] = refl
 later_sound (ds ∷ later) = rw (component_sound (begins_with_zero ds) ds (digits_value 10 ds)) (later_sound later)
 
-letter_sound : (letter : Option ℕ) → are_sound (letter_tokens letter) ≡ true
+letter_sound : (letter : Option ℕ) → are_in_grammar (letter_tokens letter) ≡ true
 letter_sound None = refl
 letter_sound (Some b) = refl
 
-number_sound : (number : Option (List ℕ)) → are_sound (number_tokens number) ≡ true
+number_sound : (number : Option (List ℕ)) → are_in_grammar (number_tokens number) ≡ true
 number_sound None = refl
 number_sound (Some ds) = refl
 
@@ -413,18 +413,18 @@ suffix_sound : (word : List ℕ) (rank : Option ℕ) → is_some rank ≡ true �
 suffix_sound word None h = absurd (false≢true h)
 suffix_sound word (Some rank) h = suffix_sound_by (ltb rank 4)
 
-suffixes_sound : (suffixes : List SuffixPart) → list_all is_suffix_part suffixes ≡ true → are_sound (suffix_tokens suffixes) ≡ true
+suffixes_sound : (suffixes : List SuffixPart) → list_all is_suffix_part suffixes ≡ true → are_in_grammar (suffix_tokens suffixes) ≡ true
 suffixes_sound [] ok = refl
 suffixes_sound (s ∷ ss) ok =
     let known = first_true (is_some (suffix_rank s.name)) (if_some is_numeral s.number) (first_true (is_suffix_part s) (list_all is_suffix_part ss) ok) in
     rw (suffix_sound s.name (suffix_rank s.name) known)
     (sound-append (number_tokens s.number) (suffix_tokens ss) (number_sound s.number) (suffixes_sound ss (then_true (is_suffix_part s) (list_all is_suffix_part ss) ok)))
 
-hash_sound : (hash : Option (List ℕ)) → are_sound (hash_tokens hash) ≡ true
+hash_sound : (hash : Option (List ℕ)) → are_in_grammar (hash_tokens hash) ≡ true
 hash_sound None = refl
 hash_sound (Some ds) = refl
 
-revision_sound : (revision : Option (List ℕ)) → are_sound (revision_tokens revision) ≡ true
+revision_sound : (revision : Option (List ℕ)) → are_in_grammar (revision_tokens revision) ≡ true
 revision_sound None = refl
 revision_sound (Some ds) = refl
 
@@ -432,9 +432,9 @@ pub spelling_is_version : (parts : Parts) → are_parts parts ≡ true → is_ve
 unfolding is_version
 spelling_is_version parts ok =
     let each = in_grammar parts ok in
-    ap are_sound (read_spelling parts ok)
+    ap are_in_grammar (read_spelling parts ok)
     ∙ sound-append (later_tokens parts.later) _ (later_sound parts.later)
     (sound-append (letter_tokens parts.letter) _ (letter_sound parts.letter)
     (sound-append (suffix_tokens parts.suffixes) _ (suffixes_sound parts.suffixes each.suffixes)
     (sound-append (hash_tokens parts.hash) _ (hash_sound parts.hash)
-    (sound-append (revision_tokens parts.revision) (bare End ∷ []) (revision_sound parts.revision) refl))))
+    (sound-append (revision_tokens parts.revision) (bare_token End ∷ []) (revision_sound parts.revision) refl))))

@@ -10,17 +10,17 @@ use Rattle.std.proofs.lemmas.List.Folds.{length-prefix_len}
 use Rattle.std.proofs.lemmas.List.Sums.{prefix_len-le-length}
 use Rattle.version_core.specs.declared.token.Class.{Class}
 use Rattle.version_core.specs.declared.token.Class.TheVariants.{Revision, Hash, SuffixNumber, Letter, ZeroComponent, Component}
-use Rattle.version_core.specs.Token.{Token, Lexeme, numbered, worded, lexeme, stray, is_number, is_component, is_suffix, is_before_hash, is_before_revision, begins_with_zero, is_hex_digit, digits_at, hex_digits_at, word_at, number_lexeme, component_lexeme, suffix_rank, suffix_lexeme, suffix_lexeme_by, hash_lexeme, revision_lexeme, next_lexeme, lexeme_at}
+use Rattle.version_core.specs.Token.{Token, Lexeme, number_token, text_token, lexeme, stray_lexeme, is_number, is_component, is_suffix, is_before_hash, is_before_revision, begins_with_zero, is_hex_digit, digits_at, hex_digits_at, letters_at, number_lexeme, component_lexeme, suffix_rank, suffix_lexeme, suffix_lexeme_by, hash_lexeme, revision_lexeme, next_lexeme, lexeme_at}
 use Rattle.version_core.specs.declared.lexeme.Lexeme.{Lexeme as LexemeAt}
 use Rattle.version_core.specs.Order.{is_last, tokens_behind}
-use Rattle.version_core.specs.Reading.{lexeme_view, token_view, unread}
+use Rattle.version_core.specs.Reading.{lexeme_view, token_view, unread_len}
 
 -- a lexeme is no longer than its text, and has a byte at least, unless it is the last
 pub record IsWithin (text : List ℕ) (found : Lexeme) : Type 0 where
   pub most : found.width ≤ length text
   pub some : is_last found.token.class ≡ false → 0 < found.width
 
-stray_within : (text : List ℕ) → IsWithin text stray
+stray_within : (text : List ℕ) → IsWithin text stray_lexeme
 stray_within text = record { most = omega arith; some = λ h. absurd (false≢true (sym h)) }
 
 cond_within : (text : List ℕ) (b : Bool) (x y : Lexeme) → (b ≡ true → IsWithin text x) → IsWithin text y → IsWithin text (cond b x y)
@@ -39,14 +39,14 @@ is_number-pos ds h = grind (arith, nat_tests)
 number_within : (text : List ℕ) (class : Class) (mark : ℕ) (ds : List ℕ) → mark + length ds ≤ length text → IsWithin text (number_lexeme class mark ds)
 unfolding number_lexeme
 number_within text class mark ds most =
-    cond_within text (is_number ds) (lexeme (numbered class (digits_value 10 ds)) (mark + length ds)) stray
+    cond_within text (is_number ds) (lexeme (number_token class (digits_value 10 ds)) (mark + length ds)) stray_lexeme
     (λ h. let pos = is_number-pos ds h in lexeme_within text _ (mark + length ds) most (omega arith))
     (stray_within text)
 
 component_within : (text ds : List ℕ) → 1 + length ds ≤ length text → IsWithin text (component_lexeme ds)
 unfolding component_lexeme
 component_within text ds most =
-    cond_within text (is_number ds && begins_with_zero ds) (lexeme (worded ZeroComponent ds) (1 + length ds)) (number_lexeme Component 1 ds)
+    cond_within text (is_number ds && begins_with_zero ds) (lexeme (text_token ZeroComponent ds) (1 + length ds)) (number_lexeme Component 1 ds)
     (λ _. lexeme_within text _ (1 + length ds) most (omega arith))
     (number_within text Component 1 ds most)
 
@@ -57,7 +57,7 @@ suffix_within_by text word (Some rank) most = lexeme_within text _ (1 + length w
 hash_within : (text ds : List ℕ) → 1 + length ds ≤ length text → IsWithin text (hash_lexeme ds)
 unfolding hash_lexeme
 hash_within text ds most =
-    cond_within text (ltb 0 (length ds)) (lexeme (worded Hash ds) (1 + length ds)) stray
+    cond_within text (ltb 0 (length ds)) (lexeme (text_token Hash ds) (1 + length ds)) stray_lexeme
     (λ _. lexeme_within text _ (1 + length ds) most (omega arith))
     (stray_within text)
 
@@ -65,7 +65,7 @@ revision_within : (text rest : List ℕ) → 1 + length rest ≤ length text →
 unfolding revision_lexeme
 revision_within text [] most = stray_within text
 revision_within text (b ∷ rest) most =
-    cond_within text (eqb b 114) (number_lexeme Revision 2 (digits_at rest)) stray
+    cond_within text (eqb b 114) (number_lexeme Revision 2 (digits_at rest)) stray_lexeme
     (λ _. number_within text Revision 2 (digits_at rest) (omega (arith, length-take_while is_ascii_digit rest)))
     (stray_within text)
 
@@ -75,14 +75,14 @@ next_within last [] = record { most = omega arith; some = λ h. absurd (false≢
 next_within last (b ∷ rest) =
     let text : List ℕ = b ∷ rest in
     let digits : 1 + length (digits_at rest) ≤ length text = omega (arith, length-take_while is_ascii_digit rest) in
-    let word : 1 + length (word_at rest) ≤ length text = omega (arith, length-take_while is_ascii_lowercase rest) in
+    let word : 1 + length (letters_at rest) ≤ length text = omega (arith, length-take_while is_ascii_lowercase rest) in
     let hex : 1 + length (hex_digits_at rest) ≤ length text = omega (arith, length-take_while is_hex_digit rest) in
     cond_within text (eqb b 46 && is_component last) (component_lexeme (digits_at rest)) _ (λ _. component_within text (digits_at rest) digits)
-    (cond_within text (is_ascii_lowercase b && is_component last) (lexeme (numbered Letter b) 1) _ (λ _. lexeme_within text (numbered Letter b) 1 (omega arith) (omega arith))
-    (cond_within text (eqb b 95 && is_before_hash last) (suffix_lexeme (word_at rest)) _ (λ _. suffix_within_by text (word_at rest) (suffix_rank (word_at rest)) word)
+    (cond_within text (is_ascii_lowercase b && is_component last) (lexeme (number_token Letter b) 1) _ (λ _. lexeme_within text (number_token Letter b) 1 (omega arith) (omega arith))
+    (cond_within text (eqb b 95 && is_before_hash last) (suffix_lexeme (letters_at rest)) _ (λ _. suffix_within_by text (letters_at rest) (suffix_rank (letters_at rest)) word)
     (cond_within text (is_ascii_digit b && is_suffix last) (number_lexeme SuffixNumber 0 (digits_at text)) _ (λ _. number_within text SuffixNumber 0 (digits_at text) (omega (arith, length-take_while is_ascii_digit text)))
     (cond_within text (eqb b 126 && is_before_hash last) (hash_lexeme (hex_digits_at rest)) _ (λ _. hash_within text (hex_digits_at rest) hex)
-    (cond_within text (eqb b 45 && is_before_revision last) (revision_lexeme rest) stray (λ _. revision_within text rest (omega arith))
+    (cond_within text (eqb b 45 && is_before_revision last) (revision_lexeme rest) stray_lexeme (λ _. revision_within text rest (omega arith))
     (stray_within text))))))
 
 pub lexeme_at_within : (last : Option Class) (text : List ℕ) → IsWithin text (lexeme_at last text)
@@ -134,32 +134,32 @@ advance_within last text found e =
     let width = ap (λ (l : Lexeme). l.width) e in
     omega (arith, within, width)
 
-behind_at : (class : Class) (text : List ℕ) (advance : ℕ) → tokens_behind (Some class) 0 (drop (advance + unread (Some class) (drop advance text)) text) ≡ tokens_behind (Some class) (unread (Some class) (drop advance text)) (drop advance text)
+behind_at : (class : Class) (text : List ℕ) (advance : ℕ) → tokens_behind (Some class) 0 (drop (advance + unread_len (Some class) (drop advance text)) text) ≡ tokens_behind (Some class) (unread_len (Some class) (drop advance text)) (drop advance text)
 behind_at class text advance =
-    sym (tokens_behind-drop (Some class) (unread (Some class) (drop advance text)) (drop advance text)
-    ∙ ap (tokens_behind (Some class) 0) (drop-drop (unread (Some class) (drop advance text)) advance text))
+    sym (tokens_behind-drop (Some class) (unread_len (Some class) (drop advance text)) (drop advance text)
+    ∙ ap (tokens_behind (Some class) 0) (drop-drop (unread_len (Some class) (drop advance text)) advance text))
 
-left_at : (last : Option Class) (text : List ℕ) (found : LexemeAt) → lexeme_view text found ≡ lexeme_at last text → tokens_behind last 0 text ≡ token_view found.token ∷ cond (is_last found.token.class) [] (tokens_behind (Some found.token.class) (unread (Some found.token.class) (drop found.advance text)) (drop found.advance text))
+left_at : (last : Option Class) (text : List ℕ) (found : LexemeAt) → lexeme_view text found ≡ lexeme_at last text → tokens_behind last 0 text ≡ token_view found.token ∷ cond (is_last found.token.class) [] (tokens_behind (Some found.token.class) (unread_len (Some found.token.class) (drop found.advance text)) (drop found.advance text))
 left_at last text found e =
     tokens_behind-step last text
     ∙ ap (λ (l : Lexeme). l.token ∷ after text l) (sym e)
     ∙ ap (λ ts. token_view found.token ∷ cond (is_last found.token.class) [] ts) (behind_at found.token.class text found.advance)
 
-pub left_behind : (last : Option Class) (rest text behind : List ℕ) (found : LexemeAt) → text ≡ drop (unread last rest) rest → lexeme_view text found ≡ lexeme_at last text → behind ≡ drop found.advance text → tokens_behind last (unread last rest) rest ≡ token_view found.token ∷ cond (is_last found.token.class) [] (tokens_behind (Some found.token.class) (unread (Some found.token.class) behind) behind)
+pub left_behind : (last : Option Class) (rest text behind : List ℕ) (found : LexemeAt) → text ≡ drop (unread_len last rest) rest → lexeme_view text found ≡ lexeme_at last text → behind ≡ drop found.advance text → tokens_behind last (unread_len last rest) rest ≡ token_view found.token ∷ cond (is_last found.token.class) [] (tokens_behind (Some found.token.class) (unread_len (Some found.token.class) behind) behind)
 left_behind last rest text behind found here e there =
-    tokens_behind-drop last (unread last rest) rest
+    tokens_behind-drop last (unread_len last rest) rest
     ∙ ap (tokens_behind last 0) (sym here)
     ∙ left_at last text found e
-    ∙ ap (λ b. token_view found.token ∷ cond (is_last found.token.class) [] (tokens_behind (Some found.token.class) (unread (Some found.token.class) b) b)) (sym there)
+    ∙ ap (λ b. token_view found.token ∷ cond (is_last found.token.class) [] (tokens_behind (Some found.token.class) (unread_len (Some found.token.class) b) b)) (sym there)
 
-fewer_at : (last : Option Class) (text : List ℕ) (found : LexemeAt) → lexeme_view text found ≡ lexeme_at last text → is_last found.token.class ≡ false → length (drop (unread (Some found.token.class) (drop found.advance text)) (drop found.advance text)) < length text
+fewer_at : (last : Option Class) (text : List ℕ) (found : LexemeAt) → lexeme_view text found ≡ lexeme_at last text → is_last found.token.class ≡ false → length (drop (unread_len (Some found.token.class) (drop found.advance text)) (drop found.advance text)) < length text
 fewer_at last text found e h =
     let within = lexeme_at_within last text in
-    let width : found.advance + unread (Some found.token.class) (drop found.advance text) ≡ (lexeme_at last text).width = ap (λ (l : Lexeme). l.width) e in
+    let width : found.advance + unread_len (Some found.token.class) (drop found.advance text) ≡ (lexeme_at last text).width = ap (λ (l : Lexeme). l.width) e in
     let class : found.token.class ≡ (lexeme_at last text).token.class = ap (λ (l : Lexeme). l.token.class) e in
     let some = within.some (ap is_last (sym class) ∙ h) in
-    omega (arith, within.most, some, width, length-drop (unread (Some found.token.class) (drop found.advance text)) (drop found.advance text), length-drop found.advance text)
+    omega (arith, within.most, some, width, length-drop (unread_len (Some found.token.class) (drop found.advance text)) (drop found.advance text), length-drop found.advance text)
 
-pub fewer_bytes : (last : Option Class) (rest text behind : List ℕ) (found : LexemeAt) → text ≡ drop (unread last rest) rest → lexeme_view text found ≡ lexeme_at last text → behind ≡ drop found.advance text → is_last found.token.class ≡ false → length (drop (unread (Some found.token.class) behind) behind) < length (drop (unread last rest) rest)
+pub fewer_bytes : (last : Option Class) (rest text behind : List ℕ) (found : LexemeAt) → text ≡ drop (unread_len last rest) rest → lexeme_view text found ≡ lexeme_at last text → behind ≡ drop found.advance text → is_last found.token.class ≡ false → length (drop (unread_len (Some found.token.class) behind) behind) < length (drop (unread_len last rest) rest)
 fewer_bytes last rest text behind found here e there h =
     rw (there, ← here) (fewer_at last text found e h)

@@ -1,11 +1,12 @@
--- The grammar of a version, after apk-package(5): `number{.number}{letter}{_suffix{number}}{~hash}{-r#}`,
--- as the parts of a version and how they are spelled.
-use Rattle.std.specs.Prelude.{◌≡◌, ℕ, Bool, true, ◌&&◌, nat_lt, List, [], ◌∷◌, ◌++◌, length, Option, Some, None, is_some, if◌then◌else◌}
+-- The grammar of a version, after apk-package(5):
+-- `number{.number}{letter}{_suffix{number}}{~hash}{-r#}`. Here it is told as the parts of a version
+-- and how they are spelled.
+use Rattle.std.specs.Prelude.{◌≡◌, ◌==◌, ℕ, Bool, true, false, ◌&&◌, ◌||◌, nat_lt, List, [], ◌∷◌, ◌++◌, length, Option, Some, None, is_some, if◌then◌else◌}
 use Rattle.std.specs.Char.{is_ascii_digit, is_ascii_lowercase}
 use Rattle.std.specs.List.{list_all}
 use Rattle.std.specs.Str.Parse.{digits_value}
 use Rattle.version_core.specs.declared.token.Class.TheVariants.{End, Revision, Hash, SuffixNumber, Letter, ZeroComponent, Component}
-use Rattle.version_core.specs.Token.{Token, bare, numbered, worded, begins_with_zero, is_hex_digit, is_number, suffix_lexeme, suffix_rank}
+use Rattle.version_core.specs.Token.{Token, bare_token, number_token, text_token, begins_with_zero, is_hex_digit, is_number, suffix_lexeme, suffix_rank}
 
 -- a suffix, and the digits of its number where it has one
 pub record SuffixPart : Type 0 where
@@ -39,8 +40,9 @@ is_suffix_part suffix = is_some (suffix_rank suffix.name) && if_some is_numeral 
 
 abbrev pub are_parts : Parts → Bool
 are_parts parts =
-    is_numeral parts.first && (list_all is_numeral parts.later && (if_some is_ascii_lowercase parts.letter
-    && (list_all is_suffix_part parts.suffixes && (if_some is_hash_text parts.hash && if_some is_numeral parts.revision))))
+    is_numeral parts.first && (list_all is_numeral parts.later
+    && (if_some is_ascii_lowercase parts.letter && (list_all is_suffix_part parts.suffixes
+    && (if_some is_hash_text parts.hash && if_some is_numeral parts.revision))))
 
 -- `.` before each later component
 abbrev pub later_text : List (List ℕ) → List ℕ
@@ -58,7 +60,8 @@ number_text (Some digits) = digits
 -- `_` before each suffix
 abbrev pub suffixes_text : List SuffixPart → List ℕ
 suffixes_text [] = []
-suffixes_text (suffix ∷ rest) = 95 ∷ (suffix.name ++ (number_text suffix.number ++ suffixes_text rest))
+suffixes_text (suffix ∷ rest) =
+    95 ∷ (suffix.name ++ (number_text suffix.number ++ suffixes_text rest))
 
 -- `~` before the hash
 abbrev pub hash_text : Option (List ℕ) → List ℕ
@@ -73,13 +76,14 @@ revision_text (Some digits) = 45 ∷ 114 ∷ digits
 -- the text of a version
 abbrev pub spelling : Parts → List ℕ
 spelling parts =
-    parts.first ++ (later_text parts.later ++ (letter_text parts.letter ++ (suffixes_text parts.suffixes
-    ++ (hash_text parts.hash ++ revision_text parts.revision))))
+    parts.first ++ (later_text parts.later ++ (letter_text parts.letter
+    ++ (suffixes_text parts.suffixes ++ (hash_text parts.hash ++ revision_text parts.revision))))
 
 -- a component behind the first is a text where it begins with 0
 abbrev pub component_token : List ℕ → Token
 component_token digits =
-    if begins_with_zero digits then worded ZeroComponent digits else numbered Component (digits_value 10 digits)
+    if begins_with_zero digits then text_token ZeroComponent digits
+    else number_token Component (digits_value 10 digits)
 
 abbrev pub later_tokens : List (List ℕ) → List Token
 later_tokens [] = []
@@ -87,11 +91,11 @@ later_tokens (digits ∷ later) = component_token digits ∷ later_tokens later
 
 abbrev pub letter_tokens : Option ℕ → List Token
 letter_tokens None = []
-letter_tokens (Some letter) = numbered Letter letter ∷ []
+letter_tokens (Some letter) = number_token Letter letter ∷ []
 
 abbrev pub number_tokens : Option (List ℕ) → List Token
 number_tokens None = []
-number_tokens (Some digits) = numbered SuffixNumber (digits_value 10 digits) ∷ []
+number_tokens (Some digits) = number_token SuffixNumber (digits_value 10 digits) ∷ []
 
 abbrev pub suffix_tokens : List SuffixPart → List Token
 suffix_tokens [] = []
@@ -100,20 +104,33 @@ suffix_tokens (suffix ∷ rest) =
 
 abbrev pub hash_tokens : Option (List ℕ) → List Token
 hash_tokens None = []
-hash_tokens (Some digits) = worded Hash digits ∷ []
+hash_tokens (Some digits) = text_token Hash digits ∷ []
 
 abbrev pub revision_tokens : Option (List ℕ) → List Token
 revision_tokens None = []
-revision_tokens (Some digits) = numbered Revision (digits_value 10 digits) ∷ []
+revision_tokens (Some digits) = number_token Revision (digits_value 10 digits) ∷ []
 
 -- the tokens of a version
 abbrev pub tokens_of : Parts → List Token
 tokens_of parts =
-    numbered Component (digits_value 10 parts.first) ∷ (later_tokens parts.later ++ (letter_tokens parts.letter
-    ++ (suffix_tokens parts.suffixes ++ (hash_tokens parts.hash ++ (revision_tokens parts.revision ++ bare End ∷ [])))))
+    number_token Component (digits_value 10 parts.first)
+    ∷ (later_tokens parts.later ++ (letter_tokens parts.letter ++ (suffix_tokens parts.suffixes
+    ++ (hash_tokens parts.hash ++ (revision_tokens parts.revision ++ bare_token End ∷ [])))))
 
 -- parts of the grammar that are spelled as the text
 pub record IsSpelled (text : List ℕ) : Type 0 where
   pub parts : Parts
   pub sound : are_parts parts ≡ true
   pub whole : spelling parts ≡ text
+
+-- ---- the bytes of a version
+
+-- digits, lower-case letters, `.`, `_`, `~`, `-`
+abbrev pub is_version_byte : ℕ → Bool
+is_version_byte b =
+    is_ascii_digit b
+    || (is_ascii_lowercase b || ((b == 46) || ((b == 95) || ((b == 126) || (b == 45)))))
+
+abbrev pub begins_with_digit : List ℕ → Bool
+begins_with_digit [] = false
+begins_with_digit (b ∷ rest) = is_ascii_digit b

@@ -11,20 +11,21 @@ use Rattle.version_core.specs.Order.{tokens_behind}
 
 -- the text of a token ends before the first byte that is no hexadecimal digit
 abbrev pub token_view : TokenAt → Token
-token_view token = record { class = token.class; number = token.number; text = hex_digits_at token.text.now }
+token_view token =
+    record { class = token.class; number = token.number; text = hex_digits_at token.text.now }
 
 abbrev pub is_hash : Class → Bool
 is_hash Hash = true
 is_hash _ = false
 
 -- how many bytes of the rest still belong to the token before: those of a hash
-abbrev pub unread : Option Class → List ℕ → ℕ
-unread None rest = 0
-unread (Some class) rest = if is_hash class then length (hex_digits_at rest) else 0
+abbrev pub unread_len : Option Class → List ℕ → ℕ
+unread_len None rest = 0
+unread_len (Some class) rest = if is_hash class then length (hex_digits_at rest) else 0
 
 -- the tokens that are left
 abbrev pub tokens_left : Tokens → List Token
-tokens_left left = tokens_behind left.last (unread left.last left.rest.now) left.rest.now
+tokens_left left = tokens_behind left.last (unread_len left.last left.rest.now) left.rest.now
 
 -- a lexeme whose bytes are passed over at once
 abbrev pub plain_view : LexemeAt → Lexeme
@@ -33,7 +34,8 @@ plain_view found = lexeme (token_view found.token) found.advance
 -- a lexeme that a text begins with: of a hash only the mark is passed over
 abbrev pub lexeme_view : List ℕ → LexemeAt → Lexeme
 lexeme_view text found =
-    lexeme (token_view found.token) (found.advance + unread (Some found.token.class) (drop found.advance text))
+    lexeme (token_view found.token)
+    (found.advance + unread_len (Some found.token.class) (drop found.advance text))
 
 -- the bytes are digits
 abbrev pub AreDigits : List ℕ → Type 0
@@ -49,4 +51,4 @@ hex_digit_at text at = hex_digit_by (slice_get text at)
 
 -- how many bytes are not read yet
 abbrev pub bytes_left : Tokens → ℕ
-bytes_left left = length (drop (unread left.last left.rest.now) left.rest.now)
+bytes_left left = length (drop (unread_len left.last left.rest.now) left.rest.now)

@@ -13,14 +13,14 @@ pub record Token : Type 0 where
   pub number : ℕ
   pub text : List ℕ
 
-abbrev pub bare : Class → Token
-bare class = record { class = class; number = 0; text = [] }
+abbrev pub bare_token : Class → Token
+bare_token class = record { class = class; number = 0; text = [] }
 
-abbrev pub numbered : Class → ℕ → Token
-numbered class number = record { class = class; number = number; text = [] }
+abbrev pub number_token : Class → ℕ → Token
+number_token class number = record { class = class; number = number; text = [] }
 
-abbrev pub worded : Class → List ℕ → Token
-worded class text = record { class = class; number = 0; text = text }
+abbrev pub text_token : Class → List ℕ → Token
+text_token class text = record { class = class; number = 0; text = text }
 
 -- a token, and how many bytes spell it
 pub record Lexeme : Type 0 where
@@ -31,8 +31,8 @@ abbrev pub lexeme : Token → ℕ → Lexeme
 lexeme token width = record { token = token; width = width }
 
 -- what stands outside the grammar
-abbrev pub stray : Lexeme
-stray = lexeme (bare Stray) 0
+abbrev pub stray_lexeme : Lexeme
+stray_lexeme = lexeme (bare_token Stray) 0
 
 abbrev pub is_hex_digit : ℕ → Bool
 is_hex_digit b = is_ascii_digit b || (nat_le 97 b && nat_le b 102)
@@ -43,17 +43,22 @@ digits_at text = take_while is_ascii_digit text
 abbrev pub hex_digits_at : List ℕ → List ℕ
 hex_digits_at text = take_while is_hex_digit text
 
-abbrev pub word_at : List ℕ → List ℕ
-word_at text = take_while is_ascii_lowercase text
+abbrev pub letters_at : List ℕ → List ℕ
+letters_at text = take_while is_ascii_lowercase text
+
+abbrev pub MOST_DIGITS : ℕ
+MOST_DIGITS = 18
 
 -- a number has 1 to 18 digits
 abbrev pub is_number : List ℕ → Bool
-is_number digits = nat_lt 0 (length digits) && nat_le (length digits) 18
+is_number digits = nat_lt 0 (length digits) && nat_le (length digits) MOST_DIGITS
 
 -- a number behind its mark, which has so many bytes
 unfoldable pub number_lexeme : Class → ℕ → List ℕ → Lexeme
 number_lexeme class mark digits =
-    if is_number digits then lexeme (numbered class (digits_value 10 digits)) (mark + length digits) else stray
+    if is_number digits
+    then lexeme (number_token class (digits_value 10 digits)) (mark + length digits)
+    else stray_lexeme
 
 abbrev pub begins_with_zero : List ℕ → Bool
 begins_with_zero [] = false
@@ -62,10 +67,11 @@ begins_with_zero (b ∷ rest) = b == 48
 -- a component behind the first: a text where it begins with 0, else a number
 unfoldable pub component_lexeme : List ℕ → Lexeme
 component_lexeme digits =
-    if is_number digits && begins_with_zero digits then lexeme (worded ZeroComponent digits) (1 + length digits) else
-    number_lexeme Component 1 digits
+    if is_number digits && begins_with_zero digits
+    then lexeme (text_token ZeroComponent digits) (1 + length digits)
+    else number_lexeme Component 1 digits
 
--- the place of a suffix in their order
+-- the rank of a suffix in their order
 unfoldable pub suffix_rank : List ℕ → Option ℕ
 suffix_rank word =
     if bytes_eq word (codes "alpha") then Some 0 else
@@ -84,19 +90,23 @@ abbrev pub suffix_class : ℕ → Class
 suffix_class rank = if nat_lt rank 4 then PreRelease else Suffix
 
 abbrev pub suffix_lexeme_by : List ℕ → Option ℕ → Lexeme
-suffix_lexeme_by word None = stray
-suffix_lexeme_by word (Some rank) = lexeme (numbered (suffix_class rank) rank) (1 + length word)
+suffix_lexeme_by word None = stray_lexeme
+suffix_lexeme_by word (Some rank) =
+    lexeme (number_token (suffix_class rank) rank) (1 + length word)
 
 abbrev pub suffix_lexeme : List ℕ → Lexeme
 suffix_lexeme word = suffix_lexeme_by word (suffix_rank word)
 
 unfoldable pub hash_lexeme : List ℕ → Lexeme
-hash_lexeme digits = if nat_lt 0 (length digits) then lexeme (worded Hash digits) (1 + length digits) else stray
+hash_lexeme digits =
+    if nat_lt 0 (length digits) then lexeme (text_token Hash digits) (1 + length digits)
+    else stray_lexeme
 
 -- behind the `-` of a revision
 unfoldable pub revision_lexeme : List ℕ → Lexeme
-revision_lexeme [] = stray
-revision_lexeme (b ∷ rest) = if b == 114 then number_lexeme Revision 2 (digits_at rest) else stray
+revision_lexeme [] = stray_lexeme
+revision_lexeme (b ∷ rest) =
+    if b == 114 then number_lexeme Revision 2 (digits_at rest) else stray_lexeme
 
 -- behind which tokens a component or a letter may stand
 abbrev pub is_component : Class → Bool
@@ -123,15 +133,16 @@ is_before_revision class = is_before_hash class
 
 -- the token that begins a text behind a token of some class
 unfoldable pub next_lexeme : Class → List ℕ → Lexeme
-next_lexeme last [] = lexeme (bare End) 0
+next_lexeme last [] = lexeme (bare_token End) 0
 next_lexeme last (b ∷ rest) =
     if (b == 46) && is_component last then component_lexeme (digits_at rest) else
-    if is_ascii_lowercase b && is_component last then lexeme (numbered Letter b) 1 else
-    if (b == 95) && is_before_hash last then suffix_lexeme (word_at rest) else
-    if is_ascii_digit b && is_suffix last then number_lexeme SuffixNumber 0 (digits_at (b ∷ rest)) else
+    if is_ascii_lowercase b && is_component last then lexeme (number_token Letter b) 1 else
+    if (b == 95) && is_before_hash last then suffix_lexeme (letters_at rest) else
+    if is_ascii_digit b && is_suffix last
+    then number_lexeme SuffixNumber 0 (digits_at (b ∷ rest)) else
     if (b == 126) && is_before_hash last then hash_lexeme (hex_digits_at rest) else
     if (b == 45) && is_before_revision last then revision_lexeme rest else
-    stray
+    stray_lexeme
 
 -- the token that begins a text: at the front the first component, else by the token before it
 abbrev pub lexeme_at : Option Class → List ℕ → Lexeme

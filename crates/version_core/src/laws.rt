@@ -1,8 +1,14 @@
+//! What follows from the definitions, for all texts and versions: the body of a law is empty, and
+//! its contract is proved.
+
 ghost use Rattle.std.specs.Prelude.{◌≡◌, ◌∷◌, ◌↔◌, [], ℕ, List, count_by, true};
 ghost use Rattle.std.specs.Cmp.{IsTotalOrder};
 ghost use Rattle.std.specs.declared.cmp.Ordering.TheVariants.{Equal};
-ghost use Rattle.version_core.specs.Grammar.{IsSpelled, Parts, are_parts, spelling, tokens_of};
-ghost use Rattle.version_core.specs.Order.{is_fuzzy_match, is_version, matches, tokens, version_cmp};
+ghost use Rattle.version_core.specs.Grammar.{IsSpelled, Parts, are_parts, begins_with_digit, is_version_byte, spelling, tokens_of};
+ghost use Rattle.version_core.specs.Op.{EQUAL, GREATER, LESS};
+ghost use Rattle.std.specs.List.{list_all};
+ghost use Rattle.version_core.specs.Order.{is_version, tokens, version_cmp};
+ghost use Rattle.version_core.specs.Matching.{is_fuzzy_match, matches};
 
 /// The order is total: of two texts one comes first or both are equal, and it is transitive.
 pub fn order_is_total()
@@ -16,26 +22,40 @@ pub fn order_is_reflexive()
 
 /// Two texts are equal in the order exactly where their tokens are.
 pub fn equal_versions_have_equal_tokens()
-    ensures { (left right : List ℕ) → (version_cmp left right ≡ Equal) ↔ (tokens left ≡ tokens right) }
+    ensures { (left right : List ℕ)
+        → (version_cmp left right ≡ Equal) ↔ (tokens left ≡ tokens right) }
 {}
 
 /// Exactly one of `<`, `=` and `>` matches.
 pub fn one_of_three_matches()
-    ensures { (found wanted : List ℕ) → count_by (λ holds. holds) (matches 2 found wanted ∷ matches 1 found wanted ∷ matches 4 found wanted ∷ []) ≡ 1 }
+    ensures { (found wanted : List ℕ) → count_by (λ holds. holds)
+        (matches LESS found wanted ∷ matches EQUAL found wanted ∷ matches GREATER found wanted
+        ∷ []) ≡ 1 }
 {}
 
 /// What is equal in the order matches fuzzily.
 pub fn equal_versions_match_fuzzily()
-    ensures { (found wanted : List ℕ) → version_cmp found wanted ≡ Equal → is_fuzzy_match found wanted ≡ true }
+    ensures { (found wanted : List ℕ)
+        → version_cmp found wanted ≡ Equal → is_fuzzy_match found wanted ≡ true }
 {}
 
 /// What is spelled after the grammar is a version, and is read as the tokens of its parts.
 pub fn spelled_is_read()
-    ensures version { (parts : Parts) → are_parts parts ≡ true → is_version (spelling parts) ≡ true }
-    ensures tokens { (parts : Parts) → are_parts parts ≡ true → tokens (spelling parts) ≡ tokens_of parts }
+    ensures version { (parts : Parts)
+        → are_parts parts ≡ true → is_version (spelling parts) ≡ true }
+    ensures tokens { (parts : Parts)
+        → are_parts parts ≡ true → tokens (spelling parts) ≡ tokens_of parts }
 {}
 
 /// A version is spelled after the grammar.
 pub fn read_is_spelled()
     ensures { (text : List ℕ) → is_version text ≡ true → IsSpelled text }
+{}
+
+/// A version begins with a digit, and consists of digits, lower-case letters, `.`, `_`, `~` and
+/// `-`.
+pub fn versions_have_version_bytes()
+    ensures bytes { (text : List ℕ)
+        → is_version text ≡ true → list_all is_version_byte text ≡ true }
+    ensures first { (text : List ℕ) → is_version text ≡ true → begins_with_digit text ≡ true }
 {}

@@ -1,9 +1,11 @@
+//! The token that begins a text, and how many of its bytes its reader passes over.
+
 ghost use Rattle.std.specs.Prelude.{◌≡◌, ◌≤◌, ◌<◌, false, length, drop, position, not};
 ghost use Rattle.std.specs.Char.{is_ascii_digit, is_ascii_lowercase};
 ghost use Rattle.std.specs.Ordering.{nat_cmp};
 ghost use Rattle.std.specs.Cmp.Lexicographic.{slice_cmp};
 ghost use Rattle.std.specs.Str.Parse.{digits_value};
-ghost use Rattle.version_core.specs.Token.{begins_with_zero, component_lexeme, digits_at, hash_lexeme, hex_digits_at, is_hex_digit, lexeme, lexeme_at, next_lexeme, number_lexeme, numbered, revision_lexeme, stray, suffix_class, suffix_lexeme, suffix_rank, word_at, worded};
+ghost use Rattle.version_core.specs.Token.{begins_with_zero, component_lexeme, digits_at, hash_lexeme, hex_digits_at, is_hex_digit, lexeme, lexeme_at, next_lexeme, number_lexeme, number_token, revision_lexeme, stray_lexeme, suffix_class, suffix_lexeme, suffix_rank, letters_at, text_token};
 ghost use Rattle.version_core.specs.Reading.{AreDigits, hex_digit_at, is_hash, lexeme_view, plain_view};
 
 use crate::token::{Class, TokenAt};
@@ -20,8 +22,8 @@ pub struct Lexeme<'a> {
     pub advance: usize,
 }
 
-fn numbered<'a>(class: Class, number: u64, advance: usize) -> Lexeme<'a>
-    ensures token { plain_view result ≡ lexeme (numbered class number) advance }
+fn lexeme_of_number<'a>(class: Class, number: u64, advance: usize) -> Lexeme<'a>
+    ensures token { plain_view result ≡ lexeme (number_token class number) advance }
     ensures class { result.token.class ≡ class }
 {
     let token = TokenAt {
@@ -32,8 +34,8 @@ fn numbered<'a>(class: Class, number: u64, advance: usize) -> Lexeme<'a>
     Lexeme { token, advance }
 }
 
-fn worded(class: Class, text: &[u8], advance: usize) -> Lexeme<'_>
-    ensures token { plain_view result ≡ lexeme (worded class (hex_digits_at text.now)) advance }
+fn lexeme_of_text(class: Class, text: &[u8], advance: usize) -> Lexeme<'_>
+    ensures token { plain_view result ≡ lexeme (text_token class (hex_digits_at text.now)) advance }
     ensures class { result.token.class ≡ class }
     ensures text { result.token.text.now ≡ text.now }
 {
@@ -45,11 +47,11 @@ fn worded(class: Class, text: &[u8], advance: usize) -> Lexeme<'_>
     Lexeme { token, advance }
 }
 
-fn stray<'a>() -> Lexeme<'a>
-    ensures token { plain_view result ≡ stray }
+fn stray_lexeme<'a>() -> Lexeme<'a>
+    ensures token { plain_view result ≡ stray_lexeme }
     ensures class { result.token.class ≡ Class.Stray }
 {
-    numbered(Class::Stray, 0, 0)
+    lexeme_of_number(Class::Stray, 0, 0)
 }
 
 /// The token that begins a text: at the front the first component, else by the token before it.
@@ -67,20 +69,20 @@ fn next_lexeme<'a>(last: Class, text: &'a [u8]) -> Lexeme<'a>
     ensures { lexeme_view text.entry.now result ≡ next_lexeme last text.entry.now }
 {
     let Some((mark, rest)) = text.split_first() else {
-        return numbered(Class::End, 0, 0);
+        return lexeme_of_number(Class::End, 0, 0);
     };
     match *mark {
         b'.' if last.is_component() => component(digits_at(rest)),
-        b'a'..=b'z' if last.is_component() => numbered(Class::Letter, u64::from(*mark), 1),
-        b'_' if last.is_before_hash() => suffix(word_at(rest)),
+        b'a'..=b'z' if last.is_component() => lexeme_of_number(Class::Letter, u64::from(*mark), 1),
+        b'_' if last.is_before_hash() => suffix(letters_at(rest)),
         b'0'..=b'9' if last.is_suffix() => number(Class::SuffixNumber, 0, digits_at(text)),
         b'~' if last.is_before_hash() => hash(text),
         b'-' if last.is_before_revision() => revision(rest),
-        _ => stray(),
+        _ => stray_lexeme(),
     }
 }
 
-// A number behind its mark, which has so many bytes.
+/// A number behind its mark, which has so many bytes.
 #[tactic(auto, unfolding(crate::specs::Token::number_lexeme))]
 fn number(class: Class, mark: usize, digits: &[u8]) -> Lexeme<'_>
     requires digits { AreDigits digits.now }
@@ -90,12 +92,12 @@ fn number(class: Class, mark: usize, digits: &[u8]) -> Lexeme<'_>
     ensures plain { is_hash result.token.class ≡ false }
 {
     if digits.is_empty() || digits.len() > MOST_DIGITS {
-        return stray();
+        return stray_lexeme();
     }
-    numbered(class, value_of(digits), mark + digits.len())
+    lexeme_of_number(class, value_of(digits), mark + digits.len())
 }
 
-// A component behind the first: a text where it begins with 0, else a number.
+/// A component behind the first: a text where it begins with 0, else a number.
 #[tactic(auto, using(crate::proofs::Lexemes::component_lexeme_zero), unfolding(crate::specs::Token::component_lexeme))]
 fn component(digits: &[u8]) -> Lexeme<'_>
     requires { AreDigits digits.now }
@@ -103,7 +105,7 @@ fn component(digits: &[u8]) -> Lexeme<'_>
     ensures plain { is_hash result.token.class ≡ false }
 {
     if begins_with_zero(digits) && digits.len() <= MOST_DIGITS {
-        return worded(Class::ZeroComponent, digits, 1 + digits.len());
+        return lexeme_of_text(Class::ZeroComponent, digits, 1 + digits.len());
     }
     number(Class::Component, 1, digits)
 }
@@ -119,12 +121,12 @@ fn suffix(word: &[u8]) -> Lexeme<'_>
     ensures plain { is_hash result.token.class ≡ false }
 {
     match suffix_rank(word) {
-        Some(rank) => numbered(suffix_class(rank), rank, 1 + word.len()),
-        None => stray(),
+        Some(rank) => lexeme_of_number(suffix_class(rank), rank, 1 + word.len()),
+        None => stray_lexeme(),
     }
 }
 
-// The place of a suffix among all of them.
+/// The rank of a suffix among all of them.
 #[tactic(auto, unfolding(crate::specs::Token::suffix_rank))]
 fn suffix_rank(word: &[u8]) -> Option<u64>
     ensures { result ≡ suffix_rank word.now }
@@ -143,7 +145,7 @@ fn suffix_rank(word: &[u8]) -> Option<u64>
     }
 }
 
-// The first four make pre-releases.
+/// The first four make pre-releases.
 fn suffix_class(rank: u64) -> Class
     ensures { result ≡ suffix_class rank }
 {
@@ -154,7 +156,7 @@ fn suffix_class(rank: u64) -> Class
     }
 }
 
-// A text that begins with the mark of a hash.
+/// A text that begins with the mark of a hash.
 #[tactic(auto, unfolding(crate::specs::Token::hash_lexeme))]
 fn hash(text: &[u8]) -> Lexeme<'_>
     requires { 0 < length text.now }
@@ -162,12 +164,12 @@ fn hash(text: &[u8]) -> Lexeme<'_>
 {
     let digits = behind(text, 1);
     if hex_digit_at(digits, 0).is_none() {
-        return stray();
+        return stray_lexeme();
     }
-    worded(Class::Hash, digits, 1)
+    lexeme_of_text(Class::Hash, digits, 1)
 }
 
-// Behind the `-` of a revision.
+/// Behind the `-` of a revision.
 #[tactic(auto, unfolding(crate::specs::Token::revision_lexeme))]
 fn revision(text: &[u8]) -> Lexeme<'_>
     ensures token { plain_view result ≡ revision_lexeme text.now }
@@ -175,11 +177,11 @@ fn revision(text: &[u8]) -> Lexeme<'_>
 {
     match text.split_first() {
         Some((b'r', rest)) => number(Class::Revision, 2, digits_at(rest)),
-        _ => stray(),
+        _ => stray_lexeme(),
     }
 }
 
-// The number that the digits represent.
+/// The number that the digits represent.
 fn value_of(digits: &[u8]) -> u64
     requires digits { AreDigits digits.now }
     requires few { length digits.now ≤ 18 }
@@ -210,16 +212,16 @@ fn digits_end(text: &[u8]) -> Option<usize>
 }
 
 #[tactic(auto, using(crate::proofs::Runs::run_at))]
-fn word_at(text: &[u8]) -> &[u8]
-    ensures { result.now ≡ word_at text.now }
+fn letters_at(text: &[u8]) -> &[u8]
+    ensures { result.now ≡ letters_at text.now }
 {
-    match word_end(text) {
+    match letters_end(text) {
         Some(len) => &text[..len],
         None => text,
     }
 }
 
-fn word_end(text: &[u8]) -> Option<usize>
+fn letters_end(text: &[u8]) -> Option<usize>
     ensures { result ≡ position (λ b. not (is_ascii_lowercase b)) text.now }
 {
     text.iter().position(|byte| !byte.is_ascii_lowercase())

@@ -1,20 +1,19 @@
 //! The versions of packages, after apk-package(5): which texts are versions, how two of them
 //! compare, and which versions an operator takes. Texts come in as borrowed bytes, and orders and
 //! answers go out; nothing here takes memory. A version is seen as its text. The contracts cite
-//! `is_version`, `version_cmp` and `matches` of `specs/Order.antt`, which stand on the tokens of
-//! `specs/Token.antt`; `specs/Grammar.antt` says the grammar once more as texts are spelled, and
-//! the functions of `laws` say what the definitions keep.
+//! `is_version` and `version_cmp` of `specs/Order.antt` and `matches` of `specs/Matching.antt`,
+//! which stand on the tokens of `specs/Token.antt`; `specs/Grammar.antt` says the grammar once more
+//! as texts are spelled, and the functions of `laws` say what the definitions keep.
 #![tactic(auto)]
 
 mod laws;
 mod lexeme;
-mod op;
 mod token;
 mod version;
 
 pub use laws::{
     equal_versions_have_equal_tokens, equal_versions_match_fuzzily, one_of_three_matches,
     order_is_reflexive, order_is_total, read_is_spelled, spelled_is_read,
+    versions_have_version_bytes,
 };
-pub use op::Op;
-pub use version::Version;
+pub use version::{Op, Version};

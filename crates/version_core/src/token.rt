@@ -1,7 +1,10 @@
+//! The classes of tokens, the order of tokens, and the tokens of a text one after the other.
+
 ghost use Rattle.std.specs.Prelude.{◌≡◌, ◌<◌, false, [], ◌∷◌, drop, if◌then◌else◌};
 ghost use Rattle.version_core.specs.Token.{is_before_hash, is_before_revision, is_component, is_suffix};
-ghost use Rattle.version_core.specs.Order.{class_rank, fits, is_last, token_cmp, tokens};
-ghost use Rattle.version_core.specs.Reading.{bytes_left, token_view, tokens_left, unread};
+ghost use Rattle.version_core.specs.Order.{class_rank, is_last, token_cmp, tokens};
+ghost use Rattle.version_core.specs.Matching.{fits};
+ghost use Rattle.version_core.specs.Reading.{bytes_left, token_view, tokens_left, unread_len};
 
 use crate::lexeme::{behind, compare_hex_digits, hex_digits_at, lexeme_at};
 use std::cmp::Ordering;
@@ -88,7 +91,7 @@ impl TokenAt<'_> {
     }
 
     /// Whether a token may stand where a fuzzy match wants this one.
-    #[tactic(auto, unfolding(crate::specs::Order::fits))]
+    #[tactic(auto, unfolding(crate::specs::Matching::fits))]
     pub fn fits(&self, found: &TokenAt<'_>) -> bool
         ensures { result ≡ fits (token_view self.now) (token_view found.now) }
     {
@@ -120,19 +123,20 @@ impl<'a> Tokens<'a> {
 
     /// Takes the next token.
     pub fn next(&mut self) -> TokenAt<'a>
-        ensures tokens { tokens_left self.old ≡ token_view result ∷ (if is_last result.class then [] else tokens_left self.new) }
+        ensures tokens { tokens_left self.old
+            ≡ token_view result ∷ (if is_last result.class then [] else tokens_left self.new) }
         ensures shorter { is_last result.class ≡ false → bytes_left self.new < bytes_left self.old }
     {
-        let rest = self.unread();
+        let rest = self.unread_text();
         let lexeme = lexeme_at(self.last, rest);
         self.rest = behind(rest, lexeme.advance);
         self.last = Some(lexeme.token.class);
         lexeme.token
     }
 
-    // What is left behind the token before.
-    fn unread(&self) -> &'a [u8]
-        ensures { result.now ≡ drop (unread self.now.last self.now.rest.now) self.now.rest.now }
+    /// What is left behind the token before.
+    fn unread_text(&self) -> &'a [u8]
+        ensures { result.now ≡ drop (unread_len self.now.last self.now.rest.now) self.now.rest.now }
     {
         match self.last {
             Some(Class::Hash) => behind(self.rest, hex_digits_at(self.rest).len()),

@@ -1,10 +1,73 @@
-ghost use Rattle.std.specs.Prelude.{◌≡◌, IfSome, IsTrue, is_some};
-ghost use Rattle.version_core.specs.Order.{all_fit, is_fuzzy_match, is_version, matches, tokens, version_cmp};
+//! Versions and the operators that they are matched with.
 
-use crate::op::Op;
+ghost use Rattle.std.specs.Prelude.{◌≡◌, IfSome, IsTrue, is_some};
+ghost use Rattle.version_core.specs.Op.{is_op};
+ghost use Rattle.version_core.specs.Order.{is_version, tokens, version_cmp};
+ghost use Rattle.version_core.specs.Matching.{has_bit, op_of, all_fit, is_fuzzy_match, matches};
+
 use crate::token::{Class, Tokens};
 use std::cmp::Ordering;
 use std::marker::Model;
+
+/// The match bit of versions that are equal to the wanted one.
+const EQUAL: u8 = 1;
+
+/// The match bit of versions that are less.
+const LESS: u8 = 2;
+
+/// The match bit of versions that are greater.
+const GREATER: u8 = 4;
+
+/// The match bit of versions that match fuzzily.
+const FUZZY: u8 = 8;
+
+/// An operator of a dependency, as its four match bits: 1 equal, 2 less, 4 greater, 8 the fuzzy
+/// match (apk-package(5), "depend").
+#[derive(Clone, Copy, Debug, PartialEq, Eq)]
+pub struct Op {
+    bits: u8,
+}
+
+impl Model for Op {
+    ghost use Rattle.std.specs.Prelude.{ℕ, IsTrue};
+    ghost use Rattle.version_core.specs.Op.{is_op};
+
+    ghost Value = { ℕ };
+
+    ghost view = { λ op. op.bits };
+
+    ghost invariant = { λ op. IsTrue (is_op op.bits) };
+
+    ghost inverse = { λ bits. record { bits = bits } };
+}
+
+impl Op {
+    /// The operator of these bits. None comes exactly for 6 and 14, which would be less or greater
+    /// without equal, and above 15.
+    pub fn of(bits: u8) -> Option<Op>
+        ensures { result ≡ op_of bits }
+    {
+        if bits > 15 || bits == 6 || bits == 14 {
+            return None;
+        }
+        Some(Op { bits })
+    }
+
+    /// The bits that it was made of.
+    pub fn bits(self) -> u8
+        ensures bits { result ≡ self }
+        ensures op { IsTrue (is_op self) }
+    {
+        self.bits
+    }
+
+    /// Whether a match bit is set.
+    pub(crate) fn has_bit(self, bit: u8) -> bool
+        ensures { result ≡ has_bit self bit }
+    {
+        self.bits & bit != 0
+    }
+}
 
 /// A version, seen as its text (apk-package(5)).
 #[derive(Drop)]
@@ -54,21 +117,21 @@ impl<'a> Version<'a> {
 
     /// Whether one of the operator's bits holds for this version against the wanted one. An
     /// operator without bits matches nothing. It takes time in proportion to the shorter text.
-    #[tactic(auto, unfolding(crate::specs::Order::matches))]
+    #[tactic(auto, unfolding(crate::specs::Matching::matches))]
     pub fn matches(&self, op: Op, wanted: &Version<'_>) -> bool
         ensures { result ≡ matches op self.now wanted.now }
     {
         let order = self.compare(wanted);
-        if op.has_bit(1) && order.is_eq() {
+        if op.has_bit(EQUAL) && order.is_eq() {
             return true;
         }
-        if op.has_bit(2) && order.is_lt() {
+        if op.has_bit(LESS) && order.is_lt() {
             return true;
         }
-        if op.has_bit(4) && order.is_gt() {
+        if op.has_bit(GREATER) && order.is_gt() {
             return true;
         }
-        op.has_bit(8) && is_fuzzy_match(self.text, wanted.text)
+        op.has_bit(FUZZY) && is_fuzzy_match(self.text, wanted.text)
     }
 }
 
@@ -101,7 +164,7 @@ fn compare(left: &[u8], right: &[u8]) -> Ordering
     }
 }
 
-#[tactic(auto, unfolding(crate::specs::Order::is_fuzzy_match))]
+#[tactic(auto, unfolding(crate::specs::Matching::is_fuzzy_match))]
 fn is_fuzzy_match(found: &[u8], wanted: &[u8]) -> bool
     ensures { result ≡ is_fuzzy_match found.now wanted.now }
 {
@@ -117,6 +180,3 @@ fn is_fuzzy_match(found: &[u8], wanted: &[u8]) -> bool
         }
     }
 }
-
-#[cfg(test)]
-mod tests;

@@ -1,6 +1,6 @@
 use Rattle.std.proofs.Common.{◌∙◌, List, ap, length}
 use Rattle.outcome.specs.Make.{index_line}
-use Rattle.words_core.specs.declared.operands.Operand.{Operand}
+use Rattle.command_core.specs.declared.operands.Operand.{Operand}
 use Rattle.apk_front.proofs.Containers.{index_outcomes, index_read, proper_by, runs, tells_one}
 use Rattle.apk_front.proofs.NothingFailed.{kept_both, memory_both}
 use Rattle.apk_front.proofs.make.mkndx.Goals as goal

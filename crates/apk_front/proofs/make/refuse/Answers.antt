@@ -1,5 +1,5 @@
 use Rattle.apk_front.proofs.Containers.{refused_some, refused_tells}
-use Rattle.make_core.specs.Output.{output_name}
+use Rattle.make_info.specs.Output.{output_name}
 use Rattle.apk_front.proofs.make.refuse.Goals as goal
 
 pub returns-clause-told : goal.returns-clause-told

@@ -3,7 +3,7 @@ use Rattle.base_core.specs.Calls.{IfObservable}
 use Rattle.base_core.specs.Faults.{GoesOn, IsNoFault}
 use Rattle.base_core.specs.Tree.{files_of}
 use Rattle.outcome.specs.Verify.{verify_refusal}
-use Rattle.words_core.specs.Command.{are_files}
+use Rattle.command_core.specs.Command.{are_files}
 use Rattle.apk_front.proofs.Operands.{IsReadTo}
 use Rattle.apk_front.proofs.verify.first_refusal.Given as goal
 

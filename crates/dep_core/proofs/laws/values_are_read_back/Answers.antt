@@ -2,4 +2,4 @@ use Rattle.dep_core.proofs.Values.{value-read_back}
 use Rattle.dep_core.proofs.laws.values_are_read_back.Goals as goal
 
 pub returns : goal.returns
-returns c = value-read_back c.read_is_spelled.ensures
+returns c = value-read_back (record { bytes = c.versions_have_version_bytes.ensures.bytes; first = c.versions_have_version_bytes.ensures.first })

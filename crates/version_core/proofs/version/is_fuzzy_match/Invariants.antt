@@ -1,5 +1,6 @@
 use Rattle.std.proofs.Common.{◌≡◌}
-use Rattle.version_core.specs.Order.{all_fit, tokens}
+use Rattle.version_core.specs.Order.{tokens}
+use Rattle.version_core.specs.Matching.{all_fit}
 use Rattle.version_core.specs.Reading.{bytes_left, tokens_left}
 use Rattle.version_core.proofs.version.is_fuzzy_match.Given as goal
 

@@ -1,6 +1,6 @@
 use Rattle.std.proofs.Common.{◌≡◌, ◌<◌, ℕ, ◌+◌, ◌*◌, ◌^◌, true, false, List, ◌++◌, length, drop, replicate, refl, sym, ap, subst, ◌∙◌}
 use Rattle.adb_write.specs.Canonical.{gap, Item, apart, passes}
-use Rattle.adb_write.specs.Writing.{Writing, Grows, call, made}
+use Rattle.adb_write.specs.Writing.{Writing, Grows, call, writing_by}
 use Rattle.adb_write.specs.Items.{item_of}
 use Rattle.adb_write.proofs.WriterSteps.{end_of, call_past, call_stops, call_fits, call_grows, on_err}
 use Rattle.adb_write.proofs.Grown.{Grown, grown, grown_len}
@@ -23,7 +23,7 @@ returns-then-passes-2-clause-ok c =
     let end : s.counts.bytes + c.gap.result + c.len-2.result ≡ end_of i s.counts.bytes = rw (c.len-2.ensures.value, c.gap.ensures.value, c.len.ensures.value) refl in
     let count : s.counts.values + c.entries.result ≡ s.counts.values + i.entries = ap (λ (k : ℕ). s.counts.values + k) c.entries.ensures.value in
     let past : passes (end_of i s.counts.bytes, s.counts.values + i.entries) ≡ true = rw (sym end, sym count) (sym c.passes-2.ensures ∙ c.if-passes-2.true) in
-    rw (c.of-then-passes-2.ensures, end, count) (subst (λ (x : Writing). ◌≡◌ {A = ℕ × Writing} (0, made body (end_of i s.counts.bytes) (s.counts.values + i.entries)) (call (apart i) x)) c.self.view_is (sym (call_stops i body s.counts.bytes s.counts.values fine agree past)))
+    rw (c.of-then-passes-2.ensures, end, count) (subst (λ (x : Writing). ◌≡◌ {A = ℕ × Writing} (0, writing_by body (end_of i s.counts.bytes) (s.counts.values + i.entries)) (call (apart i) x)) c.self.view_is (sym (call_stops i body s.counts.bytes s.counts.values fine agree past)))
 
 pub returns-in_err-append-clause-wants : goal.returns-in_err-append-clause-wants
 returns-in_err-append-clause-wants c =
@@ -62,9 +62,9 @@ returns-clause-ok c =
     let fits : passes (end_of i s.counts.bytes, s.counts.values + i.entries) ≡ false = rw (sym end, sym count) (sym c.passes-2.ensures ∙ c.if-passes-2.false) in
     let new : drop 8 c.append.new.out.items ≡ body ++ (replicate {A = ℕ} (gap i.align s.counts.bytes) 0 ++ i.bytes) = g.body ∙ ap (λ (k : ℕ). body ++ (replicate {A = ℕ} k 0 ++ i.bytes)) zeros in
     let word : c.of-2.result ≡ i.kind * 2 ^ 28 + (s.counts.bytes + gap i.align s.counts.bytes) = c.of-2.ensures ∙ ap (λ (k : ℕ). i.kind * 2 ^ 28 + (s.counts.bytes + k)) zeros in
-    let old : ◌≡◌ {A = ℕ × Writing} (i.kind * 2 ^ 28 + (s.counts.bytes + gap i.align s.counts.bytes), made (body ++ (replicate {A = ℕ} (gap i.align s.counts.bytes) 0 ++ i.bytes)) (end_of i s.counts.bytes) (s.counts.values + i.entries)) (call (apart i) c.args.self.now) =
-    subst (λ (x : Writing). ◌≡◌ {A = ℕ × Writing} (i.kind * 2 ^ 28 + (s.counts.bytes + gap i.align s.counts.bytes), made (body ++ (replicate {A = ℕ} (gap i.align s.counts.bytes) 0 ++ i.bytes)) (end_of i s.counts.bytes) (s.counts.values + i.entries)) (call (apart i) x)) c.self.view_is (sym (call_fits i body s.counts.bytes s.counts.values fine agree fits)) in
+    let old : ◌≡◌ {A = ℕ × Writing} (i.kind * 2 ^ 28 + (s.counts.bytes + gap i.align s.counts.bytes), writing_by (body ++ (replicate {A = ℕ} (gap i.align s.counts.bytes) 0 ++ i.bytes)) (end_of i s.counts.bytes) (s.counts.values + i.entries)) (call (apart i) c.args.self.now) =
+    subst (λ (x : Writing). ◌≡◌ {A = ℕ × Writing} (i.kind * 2 ^ 28 + (s.counts.bytes + gap i.align s.counts.bytes), writing_by (body ++ (replicate {A = ℕ} (gap i.align s.counts.bytes) 0 ++ i.bytes)) (end_of i s.counts.bytes) (s.counts.values + i.entries)) (call (apart i) x)) c.self.view_is (sym (call_fits i body s.counts.bytes s.counts.values fine agree fits)) in
     same _ _ _ _ _ _ _ _ word new end count ∙ old
   where
-    same : (w v : ℕ) (x y : List ℕ) (b d : ℕ) (e f : ℕ) → w ≡ v → x ≡ y → b ≡ d → e ≡ f → ◌≡◌ {A = ℕ × Writing} (w, made x b e) (v, made y d f)
+    same : (w v : ℕ) (x y : List ℕ) (b d : ℕ) (e f : ℕ) → w ≡ v → x ≡ y → b ≡ d → e ≡ f → ◌≡◌ {A = ℕ × Writing} (w, writing_by x b e) (v, writing_by y d f)
     same w v x y b d e f p q r t = cc

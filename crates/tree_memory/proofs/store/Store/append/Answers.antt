@@ -59,7 +59,7 @@ invariant_of-self-in-Some c =
     c.in_ok-append.ensures.bytes ∙ ap (λ (l : List ℕ). l ++ c.args.piece.now) (sym (stored_bytes files c.in-Some.file c.index_mut.result.now within c.index_mut.ensures.value))
     in record {
       in_step = store_append c.args.name.now c.in-Some.file c.args.self.now.changes.items c.add.new.list.items es files (set files c.in-Some.file s) s c.args.self.now.in_step m c.args.piece.now grown
-          (c.add.ensures ∙ (λ i. c.in_ok-reserve.ensures.items i ++ Append c.in-Some.file (len_is i) ∷ [])) c.in_ok-append.ensures.synced;
+          (c.add.ensures ∙ (λ i. c.in_ok-reserve.ensures.items i ++ Append c.in-Some.file (len_is i) ∷ [])) c.in_ok-append.ensures.synced c.in_ok-append.ensures.piece (omega (arith, len_is, s.bytes.small));
     }
 
 pub returns-in_ok-append-clause-ok : goal.returns-in_ok-append-clause-ok

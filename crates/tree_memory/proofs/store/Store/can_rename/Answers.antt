@@ -1,10 +1,10 @@
-use Rattle.std.proofs.Common.{List, ℕ, sym, subst, ◌∙◌}
+use Rattle.std.proofs.Common.{List, ℕ, inl, refl, sym, subst, ◌∙◌}
 use Rattle.std.specs.Str.{bytes_eq}
 use Rattle.tree_memory.specs.Table.{IsFit}
 use Rattle.tree_memory.specs.Stores.{store_state}
 use Rattle.tree_memory.proofs.AtName.{off_name}
 use Rattle.tree_memory.proofs.Folders.{fits_moved, moved_fits}
-use Rattle.tree_memory.proofs.Keeping.{newest_folders}
+use Rattle.tree_memory.proofs.Keeping.{store_sound}
 use Rattle.tree_memory.proofs.store.Store.can_rename.Goals as goal
 
 pub returns-then-not-has : goal.returns-then-not-has
@@ -21,7 +21,7 @@ returns c =
       λ t. record {
         present = c.has.ensures.0 c.if-not-has.false;
         apart = off_name c.args.from.now c.args.to.now off;
-        folders = fits_moved v.names es kept c.args.from.now c.args.to.now 0 (newest_folders v c.args.self.now.in_step.folders) (there (c.fits.ensures.0 t));
+        folders = fits_moved v.names es kept c.args.from.now c.args.to.now 0 ((store_sound c.args.self.now.changes.items es c.args.self.now.files.items c.args.self.now.in_step).folders v.names (inl refl)) (there (c.fits.ensures.0 t));
       },
       λ can. c.fits.ensures.1 (back (moved_fits v.names es kept c.args.from.now c.args.to.now 0 can.folders)),
     )

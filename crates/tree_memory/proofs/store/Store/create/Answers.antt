@@ -1,5 +1,6 @@
-use Rattle.std.proofs.Common.{◌≡◌, false, List, [], ◌∷◌, ◌++◌, length, ap, ◌∙◌, refl, rules}
+use Rattle.std.proofs.Common.{◌≡◌, false, List, [], ◌∷◌, ◌++◌, length, ap, ◌∙◌, refl, rules, ℕ, subst}
 use Rattle.base_core.specs.Files.{put_name}
+use Rattle.base_core.specs.Name.{IsName}
 use Rattle.tree_memory.specs.Table.{lookup}
 use Rattle.tree_memory.specs.declared.changes.Change.TheVariants.{Create}
 use Rattle.tree_memory.specs.declared.changes.Stored.{Stored}
@@ -17,7 +18,7 @@ invariant_of-self-2 c =
       stored = c.add.ensures ∙ ap (λ (l : List Stored). l ++ s ∷ []) c.in_ok-reserve-2.ensures.items;
     } in record {
       in_step = store_create c.args.name.now c.args.self.now.changes.items c.add-2.new.list.items es c.set.new.self.entries.items files c.add.new.list.items s c.args.self.now.in_step m
-          (c.add-2.ensures ∙ (λ i. c.in_ok-reserve.ensures.items i ++ Create (c.in_ok-recorded.ensures i) ∷ [])) (search rules) refl c.requires;
+          (c.add-2.ensures ∙ (λ i. c.in_ok-reserve.ensures.items i ++ Create (c.in_ok-recorded.ensures i) ∷ [])) (search rules) refl (let same : c.recorded.inside.bytes.items ≡ c.args.name.now = cc (c.recorded.view_is, c.in_ok-recorded.ensures) in subst IsName same c.recorded.invariant) c.requires;
     }
 
 pub returns-clause-ok : goal.returns-clause-ok

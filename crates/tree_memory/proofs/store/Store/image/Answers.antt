@@ -3,10 +3,10 @@ use Rattle.tree_memory.specs.Changes.{contents_of}
 use Rattle.tree_memory.specs.Images.{filled, picked_map}
 use Rattle.tree_memory.specs.Stores.{store_state}
 use Rattle.tree_memory.specs.Table.{IsTable}
-use Rattle.tree_memory.specs.WholeLaw.{whole_state}
+use Rattle.tree_memory.specs.WholeLaw.{bounded_state}
 use Rattle.base_core.specs.Tree.{files_of}
 use Rattle.tree_memory.proofs.Imaging.{so_far_none, can_next, so_far_next, number_made, image_files, image_crash, IsPickedMap, picked_from, picked_files, file_at}
-use Rattle.tree_memory.proofs.Keeping.{newest}
+use Rattle.tree_memory.proofs.Keeping.{newest, store_sound}
 use Rattle.tree_memory.proofs.store.Store.image.Goals as goal
 
 pub loop-entry-init : goal.loop-entry-init
@@ -24,7 +24,7 @@ index-requires c =
     picked_from (contents_of own.files.items) own.changes.items c.deref.result.now c.deref-2.result.now c.args.choice c.maps-maps.result c.moment-moment.result c.in_ok-names.names.entries.items es own.in_step.recorded c.deref.ensures.value
     c.deref-2.ensures.value c.maps-maps.ensures.count c.maps-maps.ensures.some c.moment-moment.ensures.names c.in_ok-names.ensures c.deref-entry-items.ensures.value
     in
-    let whole = whole_state (contents_of own.files.items) own.changes.items in
+    let whole = bounded_state (contents_of own.files.items) own.changes.items in
     let made = number_made v way es table c.loop-entry.entry-index (store_state c.loop-entry.image) c.loop-entry.invariant c.entry-item.result c.loop-entry-test.true c.entry-item.is (picked_map c.args.choice v) p.is_map whole p.same in
     omega (arith, made, own.in_step.kept.made)
 
@@ -39,7 +39,7 @@ put-requires c =
     picked_from (contents_of own.files.items) own.changes.items c.deref.result.now c.deref-2.result.now c.args.choice c.maps-maps.result c.moment-moment.result c.in_ok-names.names.entries.items es own.in_step.recorded c.deref.ensures.value
     c.deref-2.ensures.value c.maps-maps.ensures.count c.maps-maps.ensures.some c.moment-moment.ensures.names c.in_ok-names.ensures c.deref-entry-items.ensures.value
     in
-    can_next v way es table c.loop-entry.entry-index (store_state c.loop-entry.image) c.loop-entry.invariant c.entry-item.result c.loop-entry-test.true c.entry-item.is (picked_map c.args.choice v) (own.in_step.folders.each (picked_map c.args.choice v) p.is_map) p.same
+    can_next v way es table c.loop-entry.entry-index (store_state c.loop-entry.image) c.loop-entry.invariant c.entry-item.result c.loop-entry-test.true c.entry-item.is (picked_map c.args.choice v) ((store_sound own.changes.items own.names.entries.items own.files.items own.in_step).folders (picked_map c.args.choice v) p.is_map) p.same
 
 pub loop-entry-preserved : goal.loop-entry-preserved
 loop-entry-preserved c =
@@ -52,11 +52,11 @@ loop-entry-preserved c =
     picked_from (contents_of own.files.items) own.changes.items c.deref.result.now c.deref-2.result.now c.args.choice c.maps-maps.result c.moment-moment.result c.in_ok-names.names.entries.items es own.in_step.recorded c.deref.ensures.value
     c.deref-2.ensures.value c.maps-maps.ensures.count c.maps-maps.ensures.some c.moment-moment.ensures.names c.in_ok-names.ensures c.deref-entry-items.ensures.value
     in
-    let whole = whole_state (contents_of own.files.items) own.changes.items in
+    let whole = bounded_state (contents_of own.files.items) own.changes.items in
     let made = number_made v way es table c.loop-entry.entry-index (store_state c.loop-entry.image) c.loop-entry.invariant c.entry-item.result c.loop-entry-test.true c.entry-item.is (picked_map c.args.choice v) p.is_map whole p.same in
     let bytes = c.in_ok-bytes.ensures ∙ ap (filled way) (file_at v own.names.entries.items own.files.items c.entry-item.result.file c.index.result.now own.in_step.kept (omega (arith, made, own.in_step.kept.made)) c.index.ensures) in
     so_far_next v way es table c.loop-entry.entry-index (store_state c.loop-entry.image) c.loop-entry.invariant c.entry-item.result c.loop-entry-test.true c.entry-item.is c.in_ok-bytes.bytes.items (store_state c.put.new.self)
-    (whole_state (contents_of c.loop-entry.image.files.items) c.loop-entry.image.changes.items) bytes (ap newest c.in_ok-put.ensures.ok)
+    (bounded_state (contents_of c.loop-entry.image.files.items) c.loop-entry.image.changes.items) bytes (ap newest c.in_ok-put.ensures.ok)
 
 pub returns-clause-files : goal.returns-clause-files
 returns-clause-files c =

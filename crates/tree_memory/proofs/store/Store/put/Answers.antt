@@ -1,5 +1,6 @@
-use Rattle.std.proofs.Common.{◌≡◌, true, List, [], ◌∷◌, ◌++◌, length, ap, ◌∙◌, refl, rules}
+use Rattle.std.proofs.Common.{◌≡◌, true, List, [], ◌∷◌, ◌++◌, length, ap, ◌∙◌, refl, rules, ℕ, subst}
 use Rattle.base_core.specs.Files.{put_name}
+use Rattle.base_core.specs.Name.{IsName}
 use Rattle.tree_memory.specs.Table.{lookup}
 use Rattle.tree_memory.specs.declared.changes.Change.TheVariants.{Put}
 use Rattle.tree_memory.specs.declared.changes.Stored.{Stored}
@@ -18,7 +19,7 @@ invariant_of-self-2 c =
       stored = c.add.ensures ∙ ap (λ (l : List Stored). l ++ s ∷ []) c.in_ok-reserve-2.ensures.items;
     } in record {
       in_step = store_put c.args.name.now c.args.self.now.changes.items c.add-2.new.list.items es c.set.new.self.entries.items files c.add.new.list.items s c.args.self.now.in_step m
-          (c.add-2.ensures ∙ (λ i. c.in_ok-reserve.ensures.items i ++ Put (c.in_ok-recorded.ensures i) (n_is i) (len_is i) ∷ [])) refl c.requires;
+          (c.add-2.ensures ∙ (λ i. c.in_ok-reserve.ensures.items i ++ Put (c.in_ok-recorded.ensures i) (n_is i) (len_is i) ∷ [])) refl (let same : c.recorded.inside.bytes.items ≡ c.args.name.now = cc (c.recorded.view_is, c.in_ok-recorded.ensures) in subst IsName same c.recorded.invariant) (record { each = search rules; few = search rules }) c.requires;
     }
 
 pub returns-clause-ok : goal.returns-clause-ok

@@ -1,0 +1,36 @@
+-- A block by itself: its kind and its payload, and which kind may stand behind which.
+use Rattle.std.specs.Prelude.{ℕ, ◌-◌, ◌%◌, Bool, true, false, List, Option, Some, None}
+use Rattle.adb_block.specs.declared.block.BlockKind.{BlockKind}
+use Rattle.adb_block.specs.declared.block.BlockKind.TheVariants.{Adb, Signature, Contents}
+
+-- a block, without where it stands
+pub record Piece : Type 0 where
+  pub kind : BlockKind
+  pub payload : List ℕ
+
+-- the number of a kind in a header
+abbrev pub kind_number : BlockKind → ℕ
+kind_number Adb = 0
+kind_number Signature = 1
+kind_number Contents = 2
+
+-- how many bytes lead from a size up to a multiple of eight
+abbrev pub padding_of : ℕ → ℕ
+padding_of size = (8 - size % 8) % 8
+
+-- one ADB block comes first, then signatures, then contents
+abbrev pub comes_after : Option BlockKind → BlockKind → Bool
+comes_after None Adb = true
+comes_after None Signature = false
+comes_after None Contents = false
+comes_after (Some last) Adb = false
+comes_after (Some Contents) Signature = false
+comes_after (Some Adb) Signature = true
+comes_after (Some Signature) Signature = true
+comes_after (Some last) Contents = true
+
+-- how long a payload is at least
+abbrev pub least_payload : BlockKind → ℕ
+least_payload Adb = 8
+least_payload Signature = 0
+least_payload Contents = 0

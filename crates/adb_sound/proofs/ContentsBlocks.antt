@@ -1,0 +1,92 @@
+-- Blocks that hold the contents of the files that are expected fail no test.
+use Rattle.std.proofs.Common.{◌≡◌, ℕ, ◌^◌, ◌<◌, Bool, true, false, ◌&&◌, eqb, ltb, List, [], ◌∷◌, length, Option, Some, None, Result, Ok, Err, refl, ap, sym, subst, ◌∙◌, arith}
+use Rattle.std.specs.Prelude.{map}
+use Rattle.std.proofs.lemmas.Bool.{le-ltb, eq-eqb}
+use Rattle.std.proofs.lemmas.Nat.{from_le_bytes-to_le_bytes_4}
+use Rattle.base_core.specs.declared.cause.Cause.{Cause}
+use Rattle.adb_block.specs.Piece.{Piece}
+use Rattle.adb_block.specs.Reading.{Reading, done, fault, more}
+use Rattle.adb_block.specs.AllBlocks.{with_block, pieces_of}
+use Rattle.adb_block.specs.Container.{MayStand}
+use Rattle.adb_block.specs.declared.block.BlockKind.TheVariants as Kinds
+use Rattle.adb_schema.specs.Soundness.{file_pair}
+use Rattle.pkg_core.specs.Contents.{Expected, Contents, IsContentsOf, AreContentsOf, bytes_in, contents_block_fault, contents_fault, fault_in, file_fault, files_of, is_of, unless, with_next}
+use Rattle.adb_sound.specs.Container.{contents_payload, contents_piece}
+use Rattle.adb_sound.proofs.LaidSizes.{AreShort}
+use Rattle.adb_sound.proofs.Positions.{AreBelow}
+
+-- ---- a reading that gives these blocks
+
+pub record IsFirstOf (r : Reading) (b : Piece) (bs : List Piece) : Type 0 where
+  pub at : ℕ
+  pub later : Reading
+  pub is : r ≡ more b at later
+  pub others : pieces_of later ≡ Ok bs
+
+in_front_is : (c b : Piece) (bs : List Piece) (o : Result (List Piece) Cause) → with_block c o ≡ Ok (b ∷ bs) → (c ≡ b) × (o ≡ Ok bs)
+in_front_is c b bs (Ok cs) e = (cc, cc)
+in_front_is c b bs (Err f) e = absurd cc
+
+in_front_some : (c : Piece) (o : Result (List Piece) Cause) → with_block c o ≡ Ok [] → ⊥
+in_front_some c (Ok cs) e = cc
+in_front_some c (Err f) e = cc
+
+pub first_of : (r : Reading) (b : Piece) (bs : List Piece) → pieces_of r ≡ Ok (b ∷ bs) → IsFirstOf r b bs
+first_of done b bs e = absurd cc
+first_of (fault c) b bs e = absurd cc
+first_of (more c at r) b bs e =
+    let p = in_front_is c b bs (pieces_of r) e in
+    record { at = at; later = r; is = ap (λ (d : Piece). more d at r) p.0; others = p.1 }
+
+pub none_of_blocks : (r : Reading) → pieces_of r ≡ Ok [] → r ≡ done
+none_of_blocks done e = refl
+none_of_blocks (fault c) e = absurd cc
+none_of_blocks (more c at r) e = absurd (in_front_some c (pieces_of r) e)
+
+-- ---- a block of contents
+
+pair_again : (c : Contents) → c.folder < 2 ^ 32 → c.file < 2 ^ 32 → ((file_pair (contents_payload c)).0 ≡ c.folder) × ((file_pair (contents_payload c)).1 ≡ c.file)
+pair_again c a b = (from_le_bytes-to_le_bytes_4 c.folder a, from_le_bytes-to_le_bytes_4 c.file b)
+
+bytes_again : (c : Contents) → bytes_in (contents_payload c) ≡ c.bytes
+bytes_again c = refl
+
+both_true : (a b : Bool) → a ≡ true → b ≡ true → (a && b) ≡ true
+both_true a b e f = rw (e, f) refl
+
+file_good : (c : Contents) (e : Expected) → e.folder < 2 ^ 32 → e.file < 2 ^ 32 → IsContentsOf e c → file_fault (contents_payload c) e ≡ None
+file_good c e a b is =
+    let folder = is.folder in
+    let file = is.file in
+    let size = is.size in
+    let pair = pair_again c (omega arith) (omega arith) in
+    let one : is_of (contents_payload c) e ≡ true = both_true _ _ (eq-eqb _ _ (pair.0 ∙ folder)) (eq-eqb _ _ (pair.1 ∙ file)) in
+    let two : eqb (length (bytes_in (contents_payload c))) e.size ≡ true = eq-eqb _ _ size in
+    rw (one, two) is.hash
+
+block_good : (c : Contents) (at : ℕ) (e : Expected) (es : List Expected) → e.folder < 2 ^ 32 → e.file < 2 ^ 32 → IsContentsOf e c → contents_block_fault (contents_payload c) at (e ∷ es) ≡ None
+block_good c at e es a b is =
+    let t : ltb (length (contents_payload c)) 8 ≡ false = le-ltb _ _ (omega arith) in
+    rw t (file_good c e a b is)
+
+-- ---- all of them
+
+pub blocks_good : (es : List Expected) (cs : List Contents) (r : Reading) → pieces_of r ≡ Ok (map contents_piece cs) → AreBelow (2 ^ 32) es → AreContentsOf es cs → contents_fault es r ≡ None
+unfolding files_of
+blocks_good [] [] r p small all = subst (λ (q : Reading). contents_fault [] q ≡ None) (sym (none_of_blocks r p)) refl
+blocks_good [] (c ∷ cs) r p small all = absurd all
+blocks_good (e ∷ es) [] r p small all = absurd all
+blocks_good (e ∷ es) (c ∷ cs) r p small all =
+    let first = first_of r (contents_piece c) (map contents_piece cs) p in
+    let good = block_good c first.at e es small.0 small.1 all.0 in
+    subst (λ (q : Reading). contents_fault (e ∷ es) q ≡ None) (sym first.is)
+    (ap (λ (o : Option Cause). fault_in (unless o (with_next (contents_payload c) (λ left. files_of left first.later) (e ∷ es)))) good ∙ blocks_good es cs first.later first.others small.2 all.1)
+
+-- and they may stand behind the value
+more_contents : (cs : List Contents) → AreShort cs → MayStand (Some Kinds.Contents) (map contents_piece cs)
+more_contents [] short = tt
+more_contents (c ∷ cs) short = (record { order = refl; long = omega arith }, omega (arith, short.0), more_contents cs short.1)
+
+pub contents_stand : (cs : List Contents) → AreShort cs → MayStand (Some Kinds.Adb) (map contents_piece cs)
+contents_stand [] short = tt
+contents_stand (c ∷ cs) short = (record { order = refl; long = omega arith }, omega (arith, short.0), more_contents cs short.1)

@@ -1,0 +1,6 @@
+pub mod ContentsBlocks
+pub mod LaidSizes
+pub mod Lower
+pub mod Payloads
+pub mod Positions
+pub mod SoundFiles

@@ -1,0 +1,49 @@
+-- No test of the payload of a good value fails.
+use Rattle.std.proofs.Common.{◌≡◌, ℕ, ◌≤◌, false, ltb, length, Option, Some, None, refl, ap, ◌∙◌, arith}
+use Rattle.std.specs.Prelude.{is_some, unwrap_or}
+use Rattle.std.specs.Int.{w32, to_le_bytes}
+use Rattle.std.proofs.lemmas.Bool.{le-ltb}
+use Rattle.std.proofs.lemmas.List.{length-append}
+use Rattle.base_core.specs.declared.cause.Cause.{Cause}
+use Rattle.adb_view.specs.Head.{head_fault, root_of}
+use Rattle.adb_view.specs.Plain.{Plain, null}
+use Rattle.adb_schema.specs.Schema.{shape_of}
+use Rattle.adb_schema.specs.Views.{value_at}
+use Rattle.adb_schema.specs.Walk.{or_else, shape_fault}
+use Rattle.adb_schema.specs.Texts.{text_fault}
+use Rattle.adb_schema.specs.Repeated.{repeated_fault}
+use Rattle.adb_schema.specs.Soundness.{payload_fault, root_value}
+use Rattle.adb_schema.specs.declared.schema.Which.{Which}
+use Rattle.adb_schema.specs.declared.schema.Kind.TheVariants.{Obj}
+use Rattle.adb_write.specs.Canonical.{canonical, payload_with_root, Layout, empty_layout, write}
+use Rattle.adb_sound.specs.Root.{IsRootOf}
+use Rattle.adb_sound.proofs.Lower.{Lower}
+
+pub none_of : (o u : Option Cause) → o ≡ None → u ≡ None → or_else o u ≡ None
+none_of None u h e = e
+none_of (Some c) u h e = cc
+
+pub payload_long : (root : ℕ) (out : Layout) → 8 ≤ length (payload_with_root root out)
+payload_long root out = omega (arith, length-append (to_le_bytes w32 root) out.body)
+
+head_good : (root : ℕ) (out : Layout) → head_fault (payload_with_root root out) ≡ None
+head_good root out =
+    let t : ltb (length (payload_with_root root out)) 8 ≡ false = le-ltb _ _ (payload_long root out) in
+    rw t refl
+
+shape_good : Lower → (which : Which) (v : Plain) → IsRootOf which v → shape_fault (canonical v) (shape_of (Obj which)) (root_of (canonical v)) ≡ None
+shape_good laws which v g =
+    let visits_are = laws.visited (shape_of (Obj which)) v g.normal g.shaped g.fits in
+    let few = g.few in
+    (laws.faultless (canonical v) (shape_of (Obj which)) (root_of (canonical v))).1
+    (ap is_some (laws.back (shape_of (Obj which)) v g.normal g.shaped g.fits), omega arith)
+
+pub value_is : Lower → (which : Which) (v : Plain) → IsRootOf which v → root_value which (canonical v) ≡ v
+unfolding value_at
+value_is laws which v g = ap (λ (o : Option Plain). unwrap_or o null) (laws.back (shape_of (Obj which)) v g.normal g.shaped g.fits)
+
+pub payload_good : Lower → (which : Which) (v : Plain) → IsRootOf which v → payload_fault which (canonical v) ≡ None
+payload_good laws which v g =
+    none_of _ _ (head_good (write v empty_layout).0 (write v empty_layout).1)
+    (none_of _ _ (shape_good laws which v g)
+    (none_of _ _ (ap (text_fault which) (value_is laws which v g) ∙ g.texts) (ap (repeated_fault which) (value_is laws which v g) ∙ g.once)))

@@ -1,0 +1,22 @@
+-- A container that is made of a value, and of a package the contents of its files behind it.
+use Rattle.std.specs.Prelude.{ℕ, List, ◌∷◌, ◌++◌, map}
+use Rattle.std.specs.Int.{w32, to_le_bytes}
+use Rattle.adb_block.specs.Piece.{Piece}
+use Rattle.adb_block.specs.Written.{container}
+use Rattle.adb_block.specs.declared.block.BlockKind.TheVariants as Kinds
+use Rattle.adb_view.specs.Plain.{Plain}
+use Rattle.adb_write.specs.Canonical.{canonical}
+use Rattle.adb_write.specs.File.{adb_piece}
+use Rattle.pkg_core.specs.Contents.{Contents}
+
+-- the positions of the folder and of the file in it, of four bytes each, and the file's bytes
+abbrev pub contents_payload : Contents → List ℕ
+contents_payload c = to_le_bytes w32 c.folder ++ (to_le_bytes w32 c.file ++ c.bytes)
+
+abbrev pub contents_piece : Contents → Piece
+contents_piece c = record { kind = Kinds.Contents; payload = contents_payload c }
+
+-- the container of a value's payload, and behind it a block for each contents
+abbrev pub container_of : ℕ → Plain → List Contents → List ℕ
+container_of schema v contents =
+    container schema (adb_piece (canonical v) ∷ map contents_piece contents)

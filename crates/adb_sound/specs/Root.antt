@@ -1,0 +1,21 @@
+-- What may stand at the root of a container.
+use Rattle.std.specs.Prelude.{◌≡◌, ◌≤◌, None}
+use Rattle.adb_view.specs.Plain.{Plain, IsNormal}
+use Rattle.adb_view.specs.Shaped.{HasShape}
+use Rattle.adb_schema.specs.Schema.{shape_of}
+use Rattle.adb_schema.specs.Texts.{text_fault}
+use Rattle.adb_schema.specs.Repeated.{repeated_fault}
+use Rattle.adb_schema.specs.declared.schema.Which.{Which}
+use Rattle.adb_schema.specs.declared.schema.Kind.TheVariants.{Obj}
+use Rattle.adb_write.specs.Size.{size_of, value_count}
+use Rattle.adb_write.specs.Canonical.{MOST_BYTES, MOST_VALUES}
+
+-- a value that may stand at the root of a container with this table: of its shape, within the
+-- limits, each text and number keeps the rule of its field, and no name stands twice
+pub record IsRootOf (which : Which) (v : Plain) : Type 0 where
+  pub normal : IsNormal v
+  pub shaped : HasShape (shape_of (Obj which)) v
+  pub fits : size_of v ≤ MOST_BYTES
+  pub few : value_count v ≤ MOST_VALUES
+  pub texts : text_fault which v ≡ None
+  pub once : repeated_fault which v ≡ None

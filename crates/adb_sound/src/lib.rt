@@ -1,0 +1,63 @@
+//! What may stand in a container so that no test of it fails (apk-v3(5)): laws for all that makes
+//! containers.
+//!
+//! They cite `Root` (a value that may stand at the root of a container) and `Container` (a
+//! container that is made of a value and of contents) of `specs/`.
+#![tactic(auto)]
+
+ghost use Rattle.adb_block.specs.Written.{block_bytes};
+ghost use Rattle.adb_schema.specs.Soundness.{schema_word};
+ghost use Rattle.adb_schema.specs.declared.read.TheConstants.{PACKAGE_WORD};
+ghost use Rattle.adb_schema.specs.declared.schema.Which.{Which};
+ghost use Rattle.adb_schema.specs.declared.schema.Which.TheVariants as Tables;
+ghost use Rattle.adb_sound.specs.Container.{contents_piece, container_of};
+ghost use Rattle.adb_sound.specs.Contents.{contents_size};
+ghost use Rattle.adb_sound.specs.Root.{IsRootOf};
+ghost use Rattle.adb_view.specs.Plain.{Plain};
+ghost use Rattle.adb_write.specs.Canonical.{canonical};
+ghost use Rattle.adb_write.specs.File.{file_of};
+ghost use Rattle.pkg_core.specs.Contents.{AreContentsOf, Contents, expected_contents};
+ghost use Rattle.pkg_core.specs.Whole.{container_fault};
+ghost use Rattle.std.specs.List.{flat_map};
+ghost use Rattle.std.specs.Prelude.{◌≡◌, ◌≢◌, ◌<◌, ◌≤◌, ◌^◌, ℕ, List, length, map, Some, None};
+
+use adb_block::{what_is_spelled_is_read, what_is_written_is_spelled};
+use adb_schema::values_of_few_visits_have_no_fault;
+use adb_write::{a_canonical_payload_is_read_back, a_canonical_payload_is_visited_once};
+
+/// The container of a value that may stand at its root is sound, where no contents are due: an
+/// index, a database or an intent.
+pub fn a_container_of_a_good_value_is_sound()
+    ensures { (which : Which) (schema : ℕ) (v : Plain)
+        → schema_word which ≡ Some schema → which ≢ Tables.Package → IsRootOf which v
+        → container_fault (file_of schema (canonical v)) ≡ None }
+{
+    what_is_written_is_spelled();
+    what_is_spelled_is_read();
+    a_canonical_payload_is_read_back();
+    a_canonical_payload_is_visited_once();
+    values_of_few_visits_have_no_fault();
+}
+
+/// A package of a value that may stand at its root, with the contents of each of its files in order
+/// and no others, is sound where it has fewer than 2^64 bytes.
+pub fn a_package_of_a_good_value_and_its_contents_is_sound()
+    ensures { (v : Plain) (contents : List Contents)
+        → IsRootOf Tables.Package v → AreContentsOf (expected_contents v) contents
+        → length (container_of PACKAGE_WORD v contents) < 2 ^ 64
+        → container_fault (container_of PACKAGE_WORD v contents) ≡ None }
+{
+    what_is_written_is_spelled();
+    what_is_spelled_is_read();
+    a_canonical_payload_is_read_back();
+    a_canonical_payload_is_visited_once();
+    values_of_few_visits_have_no_fault();
+}
+
+/// Contents stand whole in their blocks, and in a container with these.
+pub fn contents_stand_in_their_container()
+    ensures blocks { (contents : List Contents)
+        → contents_size contents ≤ length (flat_map block_bytes (map contents_piece contents)) }
+    ensures container { (schema : ℕ) (v : Plain) (contents : List Contents)
+        → length (container_of schema v contents) < 2 ^ 64 → contents_size contents < 2 ^ 64 }
+{}

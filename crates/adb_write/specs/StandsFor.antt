@@ -1,0 +1,37 @@
+-- What a word stands for in a payload or in a writer, whatever the schema.
+use Rattle.std.specs.Prelude.{◌≡◌, ◌≢◌, ℕ, ◌<◌, ◌^◌, false, List, [], ◌∷◌, Ok}
+use Rattle.adb_view.specs.Plain.{Plain, null, int, blob, arr, obj, Plains, none, more}
+use Rattle.adb_view.specs.Readers.{int_of, blob_of, run_of, ARRAY, OBJECT}
+use Rattle.adb_write.specs.Canonical.{Layout, payload_with_root}
+use Rattle.adb_write.specs.Writing.{Writing, is_over, layout_of}
+
+-- the word leads to this value in the payload
+unfoldable mutual
+  pub Holds : List ℕ → Plain → ℕ → Type 0
+  Holds p null w = w ≡ 0
+  Holds p (int n) w = (w ≢ 0) × (int_of p w ≡ Ok n)
+  Holds p (blob b) w = (w ≢ 0) × (blob_of p w ≡ Ok b)
+  Holds p (arr vs) w = (w ≢ 0) × (ws : List ℕ) × (run_of ARRAY p w ≡ Ok ws) × HoldAll p vs ws
+  Holds p (obj vs) w = (w ≢ 0) × (ws : List ℕ) × (run_of OBJECT p w ≡ Ok ws) × HoldAll p vs ws
+
+  pub HoldAll : List ℕ → Plains → List ℕ → Type 0
+  HoldAll p none [] = Unit {0}
+  HoldAll p none (w ∷ ws) = ⊥
+  HoldAll p (more v vs) [] = ⊥
+  HoldAll p (more v vs) (w ∷ ws) = Holds p v w × HoldAll p vs ws
+
+-- in what was written the word is one of this value, whatever the root will be
+pub record IsWordOf (out : Layout) (v : Plain) (word : ℕ) : Type 0 where
+  pub small : word < 2 ^ 32
+  pub holds : (root : ℕ) → Holds (payload_with_root root out) v word
+
+-- unless the writer passed a limit, the word stands for this value in what it wrote
+abbrev pub StandsFor : Writing → Plain → ℕ → Type 0
+StandsFor w v word = is_over w ≡ false → IsWordOf (layout_of w) v word
+
+-- the words stand for these values, one for one
+abbrev pub AllStandFor : Writing → Plains → List ℕ → Type 0
+AllStandFor w none [] = Unit {0}
+AllStandFor w none (x ∷ xs) = ⊥
+AllStandFor w (more v vs) [] = ⊥
+AllStandFor w (more v vs) (x ∷ xs) = StandsFor w v x × AllStandFor w vs xs

@@ -1,0 +1,26 @@
+-- What stands after a crash, and what holds at a moment by those before it.
+use Rattle.std.specs.Prelude.{◌≡◌, ◌⊎◌, ◌≤◌, ℕ, true, List, [], ◌∷◌, ◌++◌, Some}
+use Rattle.base_core.specs.Crash.{IsImage}
+use Rattle.base_core.specs.Tree.{TreeState, files_of}
+
+-- the tree that stands after a crash: an image, by one map of names, with each file synced
+pub record IsCrashOf (v w : TreeState) : Type 0 where
+  pub left : IsImage v (files_of w)
+  pub one_map : w.older ≡ []
+  pub synced : (q : List ℕ) (n : ℕ) → w.names q ≡ Some n → (w.files n).synced ≡ true
+
+-- P holds at each moment: of the moments before it, and of its state
+abbrev pub EachMoment : (List TreeState → TreeState → Type 0) → List TreeState → Type 0
+EachMoment P [] = Unit {0}
+EachMoment P (v ∷ earlier) = P earlier v × EachMoment P earlier
+
+-- P holds so at each moment since
+pub record SinceBy (P : List TreeState → TreeState → Type 0) (old new : List TreeState) : Type 0 where
+  pub added : List TreeState
+  pub is : new ≡ added ++ old
+  pub each : EachMoment P added
+
+-- at one of the moments the name as read led to a file that was made as number `made` or later
+abbrev pub HasLed : List ℕ → ℕ → List TreeState → Type 0
+HasLed name made [] = ⊥
+HasLed name made (v ∷ earlier) = ((n : ℕ) × (v.names name ≡ Some n) × (made ≤ n)) ⊎ HasLed name made earlier

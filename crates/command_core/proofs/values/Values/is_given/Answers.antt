@@ -1,0 +1,17 @@
+use Rattle.std.proofs.Common.{◌≡◌, sym, ◌∙◌, ap, rules, tests}
+use Rattle.std.specs.Prelude.{◌==◌}
+use Rattle.std.proofs.lemmas.Iterator.{YieldsList-from_slice}
+use Rattle.std.proofs.lemmas.Iterator.Search.{any_from_yields_List}
+use Rattle.command_core.specs.declared.values.OptionValue.{OptionValue}
+use Rattle.command_core.specs.declared.values.ValueEntry.{ValueEntry}
+use Rattle.command_core.specs.Values.{is_given}
+use Rattle.command_core.proofs.Entries.{list_any-map}
+use Rattle.command_core.proofs.values.Values.is_given.Goals as goal
+
+pub returns : goal.returns
+returns c =
+    any_from_yields_List (λ (e : ValueEntry). e.value.letter == c.args.letter) _ _ c.any.result c.any.ensures.ran
+    (YieldsList-from_slice c.self.inside.entries.items cc)
+    (λ x b q k. search (rules, tests))
+    ∙ (sym (list_any-map (λ (v : OptionValue). v.letter == c.args.letter) (λ (e : ValueEntry). e.value) c.self.inside.entries.items)
+    ∙ ap (is_given c.args.letter) c.self.view_is)

@@ -1,0 +1,28 @@
+-- Files and paths, as operands and values name them.
+use Rattle.std.specs.Prelude.{ℕ, nat_le, Bool, ◌&&◌, if◌then◌else◌, List, length, take, drop, codes, Option, Some, None}
+use Rattle.std.specs.Str.{bytes_eq}
+use Rattle.base_core.specs.Name.{is_name}
+
+-- a text without one leading `./`
+abbrev pub without_dot : List ℕ → List ℕ
+without_dot text = if bytes_eq (take 2 text) (codes "./") then drop 2 text else text
+
+-- whether a text names a file
+abbrev pub is_file : List ℕ → Bool
+is_file text = is_name (without_dot text)
+
+-- the name of the file that a text names; None where it names none
+abbrev pub file_name : List ℕ → Option (List ℕ)
+file_name text = if is_file text then Some (without_dot text) else None
+
+-- whether a text names a file that may be written: its scratch name, eight bytes longer, is a name too
+abbrev pub is_output : List ℕ → Bool
+is_output text = is_file text && nat_le (length (without_dot text)) 1016
+
+-- a text without one leading `/`
+abbrev pub without_leading_slash : List ℕ → List ℕ
+without_leading_slash text = if bytes_eq (take 1 text) (codes "/") then drop 1 text else text
+
+-- whether a text is a path, as `info --who-owns` takes it
+abbrev pub is_path : List ℕ → Bool
+is_path text = is_name (without_leading_slash text)

@@ -1,0 +1,70 @@
+-- The options of a command line that take no value.
+use Rattle.std.specs.Prelude.{Bool, true, false, not, ◌&&◌, ◌||◌, List, [], ◌∷◌}
+use Rattle.std.specs.List.{list_all, list_any}
+use Rattle.command_core.specs.declared.command.Flag.{Flag}
+use Rattle.command_core.specs.declared.command.Flag.TheVariants.{AllowUntrusted, NoScripts, Initdb, Simulate, Purge, Installed, Contents, Depends, WhoOwns, Test, Check}
+use Rattle.command_core.specs.declared.command.Flags.{Flags}
+
+abbrev pub no_flags : Flags
+no_flags = record {
+  allow_untrusted = false;
+  no_scripts = false;
+  initdb = false;
+  simulate = false;
+  purge = false;
+  installed = false;
+  contents = false;
+  depends = false;
+  who_owns = false;
+  test = false;
+  check = false;
+}
+
+abbrev pub has_flag : Flag → Flags → Bool
+has_flag AllowUntrusted flags = flags.allow_untrusted
+has_flag NoScripts flags = flags.no_scripts
+has_flag Initdb flags = flags.initdb
+has_flag Simulate flags = flags.simulate
+has_flag Purge flags = flags.purge
+has_flag Installed flags = flags.installed
+has_flag Contents flags = flags.contents
+has_flag Depends flags = flags.depends
+has_flag WhoOwns flags = flags.who_owns
+has_flag Test flags = flags.test
+has_flag Check flags = flags.check
+
+abbrev pub with_flag : Flag → Flags → Flags
+with_flag AllowUntrusted flags = record flags { allow_untrusted = true }
+with_flag NoScripts flags = record flags { no_scripts = true }
+with_flag Initdb flags = record flags { initdb = true }
+with_flag Simulate flags = record flags { simulate = true }
+with_flag Purge flags = record flags { purge = true }
+with_flag Installed flags = record flags { installed = true }
+with_flag Contents flags = record flags { contents = true }
+with_flag Depends flags = record flags { depends = true }
+with_flag WhoOwns flags = record flags { who_owns = true }
+with_flag Test flags = record flags { test = true }
+with_flag Check flags = record flags { check = true }
+
+abbrev pub all_flags : List Flag
+all_flags =
+    AllowUntrusted ∷ (NoScripts ∷ (Initdb ∷ (Simulate ∷ (Purge ∷
+    (Installed ∷ (Contents ∷ (Depends ∷ (WhoOwns ∷ (Test ∷ (Check ∷ []))))))))))
+
+-- the flags that say of which kind a command is: those of `info`, and those of `version`
+abbrev pub kinds : List Flag
+kinds = Installed ∷ (Contents ∷ (Depends ∷ (WhoOwns ∷ (Test ∷ (Check ∷ [])))))
+
+-- whether a flag that says of which kind the command is was given
+abbrev pub has_kind : Flags → Bool
+has_kind flags = list_any (λ flag. has_flag flag flags) kinds
+
+-- whether of some flags at most one was given
+abbrev pub is_single : List Flag → Flags → Bool
+is_single [] flags = true
+is_single (flag ∷ others) flags =
+    not (has_flag flag flags && list_any (λ other. has_flag other flags) others) && is_single others flags
+
+-- whether each flag that was given is among those that are allowed
+abbrev pub are_within : Flags → Flags → Bool
+are_within allowed flags = list_all (λ flag. not (has_flag flag flags) || has_flag flag allowed) all_flags

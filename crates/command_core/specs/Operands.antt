@@ -1,0 +1,84 @@
+-- Operands: of which kind a text is, and which operands a rule takes.
+use Rattle.std.specs.Prelude.{ℕ, ◌+◌, ◌==◌, nat_lt, nat_le, Bool, true, false, not, ◌&&◌, if◌then◌else◌, List, [], ◌∷◌, length, Option, Some, None, is_some}
+use Rattle.std.specs.Char.{is_ascii_digit}
+use Rattle.std.specs.List.{list_all}
+use Rattle.std.specs.Str.Parse.{digits_value}
+use Rattle.dep_core.specs.Dependency.{is_dep_name, is_package_name}
+use Rattle.dep_core.specs.Reading.{dependency_of}
+use Rattle.command_core.specs.declared.operands.Operand.{Operand}
+use Rattle.command_core.specs.declared.operands.OperandKind.{OperandKind}
+use Rattle.command_core.specs.declared.operands.OperandKind.TheVariants.{File, Any, Dependency, DependencyName, PackageName, Path, Number}
+use Rattle.command_core.specs.declared.operands.OperandRule.{OperandRule}
+use Rattle.command_core.specs.Files.{is_file, is_path, without_dot}
+
+abbrev pub operand_at : ℕ → List ℕ → Operand
+operand_at place word = record { place = place; text = word }
+
+-- the name of the file that an operand is
+abbrev pub operand_file : Operand → List ℕ
+operand_file operand = without_dot operand.text
+
+abbrev pub are_files : List Operand → Bool
+are_files operands = list_all (λ (o : Operand). is_file o.text) operands
+
+-- ---- kinds
+
+-- whether a zero stands before other bytes
+abbrev pub has_zero_in_front : List ℕ → Bool
+has_zero_in_front [] = false
+has_zero_in_front (d ∷ ds) = (d == 48) && nat_lt 0 (length ds)
+
+-- whether a text is a decimal number without leading zeros
+abbrev pub is_decimal : List ℕ → Bool
+is_decimal text = nat_lt 0 (length text) && not (has_zero_in_front text) && list_all is_ascii_digit text
+
+-- whether a text is a number of packages for `demo`
+abbrev pub is_demo_number : List ℕ → Bool
+is_demo_number text = is_decimal text && nat_lt 0 (digits_value 10 text) && nat_le (digits_value 10 text) 20000
+
+abbrev pub is_of_kind : OperandKind → List ℕ → Bool
+is_of_kind File text = is_file text
+is_of_kind Any text = true
+is_of_kind Dependency text = is_some (dependency_of text)
+is_of_kind DependencyName text = is_dep_name text
+is_of_kind PackageName text = is_package_name text
+is_of_kind Path text = is_path text
+is_of_kind Number text = is_demo_number text
+
+-- ---- rules
+
+-- so many operands of a kind, or more
+abbrev pub at_least : ℕ → OperandKind → OperandRule
+at_least least kind = record { kind = kind; least = least; most = None }
+
+-- so many operands of a kind
+abbrev pub exactly : ℕ → OperandKind → OperandRule
+exactly count kind = record { kind = kind; least = count; most = Some count }
+
+-- whether there may be an operand with so many before it
+abbrev pub has_room : Option ℕ → ℕ → Bool
+has_room None before = true
+has_room (Some most) before = nat_lt before most
+
+-- whether a text may be an operand with so many before it
+abbrev pub takes : OperandRule → ℕ → List ℕ → Bool
+takes rule before text = has_room rule.most before && is_of_kind rule.kind text
+
+-- the place of the first operand that a rule does not take, where so many stand before
+abbrev pub first_refused : OperandRule → ℕ → List Operand → Option ℕ
+first_refused rule before [] = None
+first_refused rule before (operand ∷ operands) =
+    if takes rule before operand.text then first_refused rule (before + 1) operands else Some operand.place
+
+-- whether there are no more operands than a rule takes
+abbrev pub is_at_most : Option ℕ → ℕ → Bool
+is_at_most None count = true
+is_at_most (Some most) count = nat_le count most
+
+-- whether operands are those of an applet: each of its kind, and as many as it takes. There are none of an applet that
+-- lacks its kind
+abbrev pub are_operands : Option OperandRule → List Operand → Bool
+are_operands None operands = false
+are_operands (Some rule) operands =
+    nat_le rule.least (length operands) && is_at_most rule.most (length operands)
+    && list_all (λ (o : Operand). is_of_kind rule.kind o.text) operands

@@ -1,0 +1,289 @@
+//! Applets, the options without a value, and what a command line asks for.
+ghost use Rattle.std.specs.Prelude.{◌≡◌, IsTrue};
+ghost use Rattle.command_core.specs.Applets.{info_operands, needed_option, operand_rule, version_operands};
+ghost use Rattle.command_core.specs.Command.{IsCommand, command_by, is_command};
+ghost use Rattle.command_core.specs.Flags.{has_flag, has_kind, no_flags, with_flag};
+
+use crate::operands::{OperandKind, OperandRule, Operands};
+use crate::values::{OUTPUT, Values};
+use std::marker::Model;
+
+/// What a command does (apk(8)).
+#[derive(Clone, Copy, Debug, PartialEq, Eq)]
+pub enum Applet {
+    /// Put packages into the world, and install what it then needs.
+    Add,
+    /// Take packages out of the world, and remove what it then no longer needs.
+    Del,
+    /// Bring packages to the versions that are preferred.
+    Upgrade,
+    /// Install packages again as they are.
+    Fix,
+    /// Tell of installed packages.
+    Info,
+    /// Test containers.
+    Verify,
+    /// Print a container as text.
+    Adbdump,
+    /// Make a package.
+    Mkpkg,
+    /// Make an index of packages.
+    Mkndx,
+    /// Compare two versions, or check texts for being versions.
+    Version,
+    /// Show an installation of so many packages in memory.
+    Demo,
+}
+
+/// An option without a value.
+#[derive(Clone, Copy)]
+pub enum Flag {
+    AllowUntrusted,
+    NoScripts,
+    Initdb,
+    Simulate,
+    Purge,
+    Installed,
+    Contents,
+    Depends,
+    WhoOwns,
+    Test,
+    Check,
+}
+
+/// The options without a value that were given.
+#[derive(Clone, Copy, Debug, PartialEq, Eq)]
+pub struct Flags {
+    /// `--allow-untrusted`: repositories are read though nobody checks who signed them.
+    pub allow_untrusted: bool,
+    /// `--no-scripts`: changes are made though scripts of theirs are not run.
+    pub no_scripts: bool,
+    /// `--initdb` of `add`: a root without a package database gets one.
+    pub initdb: bool,
+    /// `--simulate`: nothing is changed, and what would be done is printed.
+    pub simulate: bool,
+    /// `--purge` of `del`: changed configuration files are removed too.
+    pub purge: bool,
+    /// `--installed` of `info`: which of the packages are installed.
+    pub installed: bool,
+    /// `--contents` of `info`: the paths of the packages.
+    pub contents: bool,
+    /// `--depends` of `info`: what the packages depend on.
+    pub depends: bool,
+    /// `--who-owns` of `info`: which package a path is of.
+    pub who_owns: bool,
+    /// `--test` of `version`: two versions are compared.
+    pub test: bool,
+    /// `--check` of `version`: texts that are no versions are printed.
+    pub check: bool,
+}
+
+impl Flags {
+    /// None given.
+    pub fn none() -> Flags
+        ensures { result ≡ no_flags }
+    {
+        Flags {
+            allow_untrusted: false,
+            no_scripts: false,
+            initdb: false,
+            simulate: false,
+            purge: false,
+            installed: false,
+            contents: false,
+            depends: false,
+            who_owns: false,
+            test: false,
+            check: false,
+        }
+    }
+
+    /// Whether a flag was given.
+    pub fn has(&self, flag: Flag) -> bool
+        ensures { result ≡ has_flag flag self.now }
+    {
+        match flag {
+            Flag::AllowUntrusted => self.allow_untrusted,
+            Flag::NoScripts => self.no_scripts,
+            Flag::Initdb => self.initdb,
+            Flag::Simulate => self.simulate,
+            Flag::Purge => self.purge,
+            Flag::Installed => self.installed,
+            Flag::Contents => self.contents,
+            Flag::Depends => self.depends,
+            Flag::WhoOwns => self.who_owns,
+            Flag::Test => self.test,
+            Flag::Check => self.check,
+        }
+    }
+
+    /// Whether a flag was given that says of which kind the command is: one of `info`, or one of `version`.
+    pub fn has_kind(&self) -> bool
+        ensures { result ≡ has_kind self.now }
+    {
+        if self.installed || self.contents || self.depends || self.who_owns {
+            return true;
+        }
+        self.test || self.check
+    }
+
+    /// These flags and one more.
+    pub fn with(mut self, flag: Flag) -> Flags
+        ensures { result ≡ with_flag flag self }
+    {
+        match flag {
+            Flag::AllowUntrusted => self.allow_untrusted = true,
+            Flag::NoScripts => self.no_scripts = true,
+            Flag::Initdb => self.initdb = true,
+            Flag::Simulate => self.simulate = true,
+            Flag::Purge => self.purge = true,
+            Flag::Installed => self.installed = true,
+            Flag::Contents => self.contents = true,
+            Flag::Depends => self.depends = true,
+            Flag::WhoOwns => self.who_owns = true,
+            Flag::Test => self.test = true,
+            Flag::Check => self.check = true,
+        }
+        self
+    }
+}
+
+impl Applet {
+    /// The letter of the option that has to be given a value, if there is one.
+    pub fn needed_option(self) -> Option<u8>
+        ensures { result ≡ needed_option self }
+    {
+        match self {
+            Applet::Mkndx => Some(OUTPUT),
+            _ => None,
+        }
+    }
+
+    /// Which operands the applet takes under some flags. None: a flag is lacking that says so.
+    pub fn operands(self, flags: Flags) -> Option<OperandRule>
+        ensures { result ≡ operand_rule self flags }
+    {
+        match self {
+            Applet::Add => Some(OperandRule::at_least(0, OperandKind::Dependency)),
+            Applet::Del => Some(OperandRule::at_least(1, OperandKind::DependencyName)),
+            Applet::Upgrade => Some(OperandRule::at_least(0, OperandKind::PackageName)),
+            Applet::Fix => Some(OperandRule::at_least(1, OperandKind::PackageName)),
+            Applet::Info => Some(info_operands(flags)),
+            Applet::Verify => Some(OperandRule::at_least(1, OperandKind::File)),
+            Applet::Adbdump => Some(OperandRule::exactly(1, OperandKind::File)),
+            Applet::Mkpkg => Some(OperandRule::exactly(0, OperandKind::File)),
+            Applet::Mkndx => Some(OperandRule::at_least(0, OperandKind::File)),
+            Applet::Version => version_operands(flags),
+            Applet::Demo => Some(OperandRule::exactly(1, OperandKind::Number)),
+        }
+    }
+}
+
+// The operands of `info` under some flags.
+fn info_operands(flags: Flags) -> OperandRule
+    ensures { result ≡ info_operands flags }
+{
+    if flags.who_owns {
+        return OperandRule::exactly(1, OperandKind::Path);
+    }
+    if flags.installed || flags.contents || flags.depends {
+        return OperandRule::at_least(1, OperandKind::PackageName);
+    }
+    OperandRule::at_least(0, OperandKind::PackageName)
+}
+
+// The operands of `version` under some flags, one of which says what is done.
+fn version_operands(flags: Flags) -> Option<OperandRule>
+    ensures { result ≡ version_operands flags }
+{
+    if flags.test {
+        return Some(OperandRule::exactly(2, OperandKind::Any));
+    }
+    if flags.check {
+        return Some(OperandRule::at_least(1, OperandKind::Any));
+    }
+    None
+}
+
+/// What a command line asks for.
+#[derive(Drop)]
+pub struct Command {
+    applet: Applet,
+    flags: Flags,
+    operands: Operands,
+    values: Values,
+    behind: u32,
+}
+
+impl Model for Command {
+    ghost use Rattle.command_core.specs.Command.{CommandLine, command_by, is_command};
+    ghost use Rattle.std.specs.Prelude.{IsTrue};
+
+    ghost Value = { CommandLine };
+
+    ghost view = { λ c. command_by c.applet c.flags c.operands c.values c.behind };
+
+    ghost invariant = { λ c.
+        IsTrue (is_command (command_by c.applet c.flags c.operands c.values c.behind)) };
+}
+
+impl Command {
+    /// A command of its parts.
+    pub fn of(
+        applet: Applet,
+        flags: Flags,
+        operands: Operands,
+        values: Values,
+        behind: u32,
+    ) -> Command
+        requires { IsTrue (is_command (command_by applet flags operands values behind)) }
+        ensures { result ≡ command_by applet flags operands values behind }
+    {
+        Command {
+            applet,
+            flags,
+            operands,
+            values,
+            behind,
+        }
+    }
+
+    /// What is to be done.
+    pub fn applet(&self) -> Applet
+        ensures value { result ≡ self.now.applet }
+        ensures command { IsCommand self.now }
+    {
+        self.applet
+    }
+
+    /// The options without a value that were given.
+    pub fn flags(&self) -> Flags
+        ensures value { result ≡ self.now.flags }
+        ensures command { IsCommand self.now }
+    {
+        self.flags
+    }
+
+    /// What it is to be done with.
+    pub fn operands(&self) -> &Operands
+        ensures value { result.now ≡ self.now.operands }
+        ensures command { IsCommand self.now }
+    {
+        &self.operands
+    }
+
+    /// The values that its options were given.
+    pub fn values(&self) -> &Values
+        ensures value { result.now ≡ self.now.values }
+        ensures command { IsCommand self.now }
+    {
+        &self.values
+    }
+
+    /// The place behind the last word, where a word that is missing is refused.
+    pub fn behind(&self) -> u32
+        ensures { result ≡ self.now.behind }
+    {
+        self.behind
+    }
+}

@@ -1,0 +1,20 @@
+//! What a command is, after apk(8): its applet, the options that it was given, its operands, and which of them may stand
+//! together.
+//!
+//! `words_core` reads a `Command` from the words of a command line; what is done with it needs this crate alone. The
+//! contracts cite `Command` (what a command is), `Applets` (what each applet may have), `Flags`, `Operands`, `Values` and
+//! `Files` of `specs/`.
+#![tactic(auto)]
+
+mod command;
+mod operands;
+mod texts;
+mod values;
+
+pub use command::{Applet, Command, Flag, Flags};
+pub use operands::{Operand, OperandKind, OperandRule, Operands};
+pub use texts::{is_file, script_file, script_type, without_dot};
+pub use values::{
+    COMPRESSION, DESCRIPTION, FILES, INFO, OUTPUT, OptionValue, SCRIPT, TRIGGER, ValueKind,
+    ValueRule, Values,
+};

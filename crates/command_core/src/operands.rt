@@ -1,0 +1,221 @@
+//! Operands: which an applet takes, and those that a command has.
+ghost use Rattle.std.specs.Prelude.{◌≡◌, ◌<◌, ◌==◌, ◌++◌, ◌∷◌, [], IfOk, IsTrue, None, OnOk, Some, length, slice_get};
+ghost use Rattle.std.specs.Option.{option_map};
+ghost use Rattle.command_core.specs.Files.{file_name, without_dot};
+ghost use Rattle.command_core.specs.Operands.{are_files, at_least, exactly, operand_file, first_refused, has_room, is_of_kind, operand_at, takes};
+
+use crate::texts::{is_demo_number, is_file, is_path, read_file, without_dot};
+use base_core::{Name, Text};
+use dep_core::{is_dep_name, is_package_name, read_dep};
+use std::alloc::{AllocError, Global};
+use std::marker::Model;
+
+/// What an operand is.
+#[derive(Clone, Copy)]
+pub enum OperandKind {
+    /// A file, as a path below the root, which one leading `./` may stand before.
+    File,
+    /// Any text.
+    Any,
+    /// The text of a dependency (apk-world(5)).
+    Dependency,
+    /// The name of a dependency.
+    DependencyName,
+    /// The name of a package.
+    PackageName,
+    /// A path below the root, which one leading `/` may stand before.
+    Path,
+    /// A decimal number from 1 to 20,000, without leading zeros.
+    Number,
+}
+
+impl OperandKind {
+    /// Whether a text is an operand of this kind.
+    pub fn has(self, text: &[u8]) -> bool
+        ensures { result ≡ is_of_kind self text.now }
+    {
+        match self {
+            OperandKind::File => is_file(text),
+            OperandKind::Any => true,
+            OperandKind::Dependency => read_dep(text).is_some(),
+            OperandKind::DependencyName => is_dep_name(text),
+            OperandKind::PackageName => is_package_name(text),
+            OperandKind::Path => is_path(text),
+            OperandKind::Number => is_demo_number(text),
+        }
+    }
+}
+
+/// Which operands an applet takes, and how many.
+#[derive(Clone, Copy)]
+pub struct OperandRule {
+    /// What each of them is.
+    pub kind: OperandKind,
+    /// How many there are at least.
+    pub least: usize,
+    /// How many there are at most. None: any number.
+    pub most: Option<usize>,
+}
+
+impl OperandRule {
+    /// So many operands of a kind, or more.
+    pub fn at_least(least: usize, kind: OperandKind) -> OperandRule
+        ensures { result ≡ at_least least kind }
+    {
+        OperandRule {
+            kind,
+            least,
+            most: None,
+        }
+    }
+
+    /// So many operands of a kind.
+    pub fn exactly(count: usize, kind: OperandKind) -> OperandRule
+        ensures { result ≡ exactly count kind }
+    {
+        OperandRule {
+            kind,
+            least: count,
+            most: Some(count),
+        }
+    }
+
+    /// The place of the first operand that is not taken.
+    pub fn first_refused(&self, operands: &Operands) -> Option<u32>
+        ensures { result ≡ first_refused self.now 0 operands.now }
+    {
+        for i in 0..operands.len() {
+            let operand = operands.get(i);
+            if !self.takes(i, operand.text.as_bytes()) {
+                return Some(operand.place);
+            }
+        }
+        None
+    }
+
+    // Whether a text may be an operand with so many before it.
+    fn takes(&self, before: usize, text: &[u8]) -> bool
+        ensures { result ≡ takes self.now before text.now }
+    {
+        if !self.has_room(before) {
+            return false;
+        }
+        self.kind.has(text)
+    }
+
+    // Whether there may be an operand with so many before it.
+    fn has_room(&self, before: usize) -> bool
+        ensures { result ≡ has_room self.now.most before }
+    {
+        match self.most {
+            Some(most) => before < most,
+            None => true,
+        }
+    }
+}
+
+/// A word that is an operand.
+#[derive(Drop)]
+pub struct Operand {
+    /// Its place among the words, counted from 1.
+    pub place: u32,
+    /// The word as given.
+    pub text: Text,
+}
+
+impl Operand {
+    /// The path that the operand names where it is a file: the word without one leading `./`.
+    pub fn file(&self) -> &[u8]
+        ensures { result.now ≡ without_dot self.now.text }
+    {
+        without_dot(self.text.as_bytes())
+    }
+}
+
+// An operand, with the name that it is where it is a file.
+#[derive(Drop)]
+struct OperandEntry {
+    operand: Operand,
+    file: Option<Name>,
+}
+
+/// The operands of a command, in the order given.
+#[derive(Drop)]
+pub struct Operands {
+    alloc: Global,
+    entries: Vec<OperandEntry>,
+}
+
+impl Model for Operands {
+    ghost use Rattle.std.specs.Prelude.{◌≡◌, List, map};
+    ghost use Rattle.command_core.specs.Files.{file_name};
+    ghost use Rattle.command_core.specs.declared.operands.Operand.{Operand};
+    ghost use Rattle.command_core.specs.declared.operands.OperandEntry.{OperandEntry};
+
+    ghost Value = { List Operand };
+
+    ghost view = { λ operands. map (λ (e : OperandEntry). e.operand) operands.entries.items };
+
+    ghost invariant = { λ operands.
+        map (λ (e : OperandEntry). e.file) operands.entries.items
+        ≡ map (λ (e : OperandEntry). file_name e.operand.text) operands.entries.items };
+}
+
+impl Operands {
+    /// No operands.
+    pub fn new(alloc: Global) -> Operands
+        ensures { result ≡ [] }
+    {
+        Operands {
+            alloc,
+            entries: Vec::new(alloc),
+        }
+    }
+
+    /// Adds the word at a place as an operand.
+    pub fn push(&mut self, place: u32, word: &[u8]) -> Result<(), AllocError>
+        ensures { OnOk result (self.new ≡ self.old ++ operand_at place word.now ∷ []) }
+    {
+        let file = read_file(self.alloc, word)?;
+        let text = Text::of(self.alloc, word)?;
+        self.entries.push(OperandEntry {
+            operand: Operand { place, text },
+            file,
+        })?;
+        Ok(())
+    }
+
+    /// How many operands there are.
+    pub fn len(&self) -> usize
+        ensures { result ≡ length self.now }
+    {
+        self.entries.len()
+    }
+
+    /// Whether there is no operand.
+    pub fn is_empty(&self) -> bool
+        ensures { result ≡ (length self.now == 0) }
+    {
+        self.entries.is_empty()
+    }
+
+    /// The operand with this index in the list, counted from 0.
+    pub fn get(&self, i: usize) -> &Operand
+        requires { i < length self.now }
+        ensures { slice_get self.now i ≡ Some result.now }
+    {
+        &self.entries[i].operand
+    }
+
+    /// The name that the operand with this index is, without one leading `./`. The operands are files.
+    pub fn file(&self, i: usize) -> &Name
+        requires here { i < length self.now }
+        requires files { IsTrue (are_files self.now) }
+        ensures { option_map operand_file (slice_get self.now i) ≡ Some result.now }
+    {
+        match &self.entries[i].file {
+            Some(file) => file,
+            None => unreachable!(),
+        }
+    }
+}

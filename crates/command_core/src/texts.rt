@@ -1,0 +1,174 @@
+//! What a single text is: a file, a path, a script, a number.
+ghost use Rattle.std.specs.Prelude.{◌≡◌, ◌==◌, IfOk, drop};
+ghost use Rattle.std.specs.Char.{is_ascii_digit};
+ghost use Rattle.std.specs.List.{list_all, list_any, position};
+ghost use Rattle.std.specs.Str.{bytes_eq};
+ghost use Rattle.command_core.specs.Files.{file_name, is_file, is_output, is_path, without_dot, without_leading_slash};
+ghost use Rattle.command_core.specs.Operands.{has_zero_in_front, is_decimal, is_demo_number};
+ghost use Rattle.command_core.specs.Values.{is_script, script_file, script_type, script_types};
+
+use base_core::{Name, is_name};
+use std::alloc::{AllocError, Global};
+use std::str;
+
+// How long the path of a file to be written may be, so that its scratch name is a name too.
+const LONGEST_OUTPUT: usize = 1016;
+
+// The largest number of packages that `demo` makes.
+const LARGEST_DEMO: u32 = 20000;
+
+// The types of a package's scripts (apk-package(5)).
+static SCRIPT_TYPES: [&[u8]; 7] = [
+    b"trigger",
+    b"pre-install",
+    b"post-install",
+    b"pre-deinstall",
+    b"post-deinstall",
+    b"pre-upgrade",
+    b"post-upgrade",
+];
+
+/// A text without one leading `./`.
+pub fn without_dot(text: &[u8]) -> &[u8]
+    ensures { result.now ≡ without_dot text.now }
+{
+    if text.starts_with(b"./".as_slice()) {
+        &text[2..]
+    } else {
+        text
+    }
+}
+
+/// Whether a text is a file: a path below the root, which one leading `./` may stand before.
+pub fn is_file(text: &[u8]) -> bool
+    ensures { result ≡ is_file text.now }
+{
+    is_name(without_dot(text))
+}
+
+/// The name that a text is, without one leading `./`. None comes where it is no file.
+pub(crate) fn read_file(alloc: Global, text: &[u8]) -> Result<Option<Name>, AllocError>
+    ensures { IfOk result (λ file. file ≡ file_name text.now) }
+{
+    Name::read(alloc, without_dot(text))
+}
+
+/// Whether a text is a file that may be written: its path has at most 1,016 bytes.
+pub(crate) fn is_output(text: &[u8]) -> bool
+    ensures { result ≡ is_output text.now }
+{
+    if !is_file(text) {
+        return false;
+    }
+    without_dot(text).len() <= LONGEST_OUTPUT
+}
+
+/// Whether a text is a path below the root, which one leading `/` may stand before.
+pub(crate) fn is_path(text: &[u8]) -> bool
+    ensures { result ≡ is_path text.now }
+{
+    is_name(without_leading_slash(text))
+}
+
+// A text without one leading `/`.
+fn without_leading_slash(text: &[u8]) -> &[u8]
+    ensures { result.now ≡ without_leading_slash text.now }
+{
+    if text.starts_with(b"/".as_slice()) {
+        &text[1..]
+    } else {
+        text
+    }
+}
+
+/// Whether a text is TYPE:FILE, with the type of a package's script.
+pub(crate) fn is_script(text: &[u8]) -> bool
+    ensures { result ≡ is_script text.now }
+{
+    if !is_script_type(script_type(text)) {
+        return false;
+    }
+    is_file(script_file(text))
+}
+
+// Whether a text is the type of a package's script.
+fn is_script_type(text: &[u8]) -> bool
+    ensures { result ≡ list_any (λ t. bytes_eq t text.now) script_types }
+{
+    is_among(&SCRIPT_TYPES, text)
+}
+
+// Whether a text is among some.
+fn is_among(texts: &[&[u8]], text: &[u8]) -> bool
+    ensures { result ≡ list_any (λ t. bytes_eq t.now text.now) texts.now }
+{
+    texts.iter().any(|one| *one == text)
+}
+
+/// Of TYPE:FILE the part before the first `:`, or all where there is none.
+pub fn script_type(text: &[u8]) -> &[u8]
+    ensures { result.now ≡ script_type text.now }
+{
+    match colon(text) {
+        Some(i) => &text[..i],
+        None => text,
+    }
+}
+
+/// Of TYPE:FILE the part behind the first `:`, or nothing where there is none.
+pub fn script_file(text: &[u8]) -> &[u8]
+    ensures { result.now ≡ script_file text.now }
+{
+    match colon(text) {
+        Some(i) => &text[i + 1..],
+        None => b"",
+    }
+}
+
+// Where the first `:` stands.
+fn colon(text: &[u8]) -> Option<usize>
+    ensures { result ≡ position (λ b. b == 58) text.now }
+{
+    text.iter().position(|byte| *byte == b':')
+}
+
+/// Whether a text is a number of packages for `demo`: decimal, from 1 to 20,000, without leading zeros.
+pub(crate) fn is_demo_number(text: &[u8]) -> bool
+    ensures { result ≡ is_demo_number text.now }
+{
+    if !is_decimal(text) {
+        return false;
+    }
+    match str::from_utf8(text) {
+        Ok(digits) => match digits.parse::<u32>() {
+            Ok(number) => 0 < number && number <= LARGEST_DEMO,
+            Err(_) => false,
+        },
+        Err(_) => false,
+    }
+}
+
+// Whether a text is a decimal number without leading zeros.
+fn is_decimal(text: &[u8]) -> bool
+    ensures { result ≡ is_decimal text.now }
+{
+    if text.is_empty() || has_zero_in_front(text) {
+        return false;
+    }
+    are_digits(text)
+}
+
+fn has_zero_in_front(text: &[u8]) -> bool
+    ensures { result ≡ has_zero_in_front text.now }
+{
+    match text.split_first() {
+        Some((b'0', rest)) => !rest.is_empty(),
+        _ => false,
+    }
+}
+
+fn are_digits(text: &[u8]) -> bool
+    ensures { result ≡ list_all is_ascii_digit text.now }
+{
+    text.iter().all(|digit| digit.is_ascii_digit())
+}

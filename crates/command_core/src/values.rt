@@ -1,0 +1,275 @@
+//! Options with values: which values each may have, and those that a command was given.
+ghost use Rattle.std.specs.Prelude.{◌≡◌, ◌<◌, ◌==◌, ◌++◌, ◌∷◌, [], IfOk, IfSome, IsTrue, OnOk, Some, length, not, slice_get};
+ghost use Rattle.std.specs.Option.{option_map};
+ghost use Rattle.command_core.specs.Files.{file_name, is_file, without_dot};
+ghost use Rattle.command_core.specs.Values.{excludes, file_in, file_part, is_excluded, is_given, is_spent, is_value, script_file, script_type, option_value, first_value};
+ghost use Rattle.command_core.specs.declared.values.OptionValue.{OptionValue};
+
+use crate::texts::{
+    is_file, is_output, is_script, read_file, script_file, script_type, without_dot,
+};
+use base_core::{Name, Text};
+use std::alloc::{AllocError, Global};
+use std::marker::Model;
+
+/// The letter of `--compression`.
+pub const COMPRESSION: u8 = b'c';
+/// The letter of `--description`.
+pub const DESCRIPTION: u8 = b'd';
+/// The letter of `--files`.
+pub const FILES: u8 = b'F';
+/// The letter of `--info`.
+pub const INFO: u8 = b'I';
+/// The letter of `--output`.
+pub const OUTPUT: u8 = b'o';
+/// The letter of `--script`.
+pub const SCRIPT: u8 = b's';
+/// The letter of `--trigger`.
+pub const TRIGGER: u8 = b't';
+
+/// Which values an option has.
+#[derive(Clone, Copy)]
+pub struct ValueRule {
+    /// The letter of the option's short word.
+    pub letter: u8,
+    /// Whether the option may stand only once.
+    pub single: bool,
+    /// What a value is.
+    pub kind: ValueKind,
+}
+
+/// What a value is.
+#[derive(Clone, Copy)]
+pub enum ValueKind {
+    /// Any text.
+    Any,
+    /// A text of one or more bytes.
+    Nonempty,
+    /// A file or a folder, as a path below the root.
+    File,
+    /// A file to be written: its path has at most 1,016 bytes, so that a scratch name beside it is a path too.
+    Output,
+    /// The word `none`: what is written is not compressed.
+    Uncompressed,
+    /// TYPE:FILE, with the type of a package's script. No type may stand twice.
+    Script,
+}
+
+impl ValueKind {
+    /// Whether a text is a value of this kind.
+    pub fn has(self, text: &[u8]) -> bool
+        ensures { result ≡ is_value self text.now }
+    {
+        match self {
+            ValueKind::Any => true,
+            ValueKind::Nonempty => !text.is_empty(),
+            ValueKind::File => is_file(text),
+            ValueKind::Output => is_output(text),
+            ValueKind::Uncompressed => text == b"none".as_slice(),
+            ValueKind::Script => is_script(text),
+        }
+    }
+
+    /// Whether two values of one option exclude each other: of scripts, those of one type do.
+    pub fn excludes(self, a: &[u8], b: &[u8]) -> bool
+        ensures { result ≡ excludes self a.now b.now }
+    {
+        match self {
+            ValueKind::Script => script_type(a) == script_type(b),
+            _ => false,
+        }
+    }
+}
+
+/// A value that an option was given.
+#[derive(Drop)]
+pub struct OptionValue {
+    /// The place among the words, counted from 1, of the word that holds the value.
+    pub place: u32,
+    /// The letter of the option's short form.
+    pub letter: u8,
+    /// The value as given.
+    pub text: Text,
+}
+
+impl OptionValue {
+    /// The path that the value names where it is a file: the value without one leading `./`.
+    pub fn file(&self) -> &[u8]
+        ensures { result.now ≡ without_dot self.now.text }
+    {
+        without_dot(self.text.as_bytes())
+    }
+
+    /// Of a value TYPE:FILE the path that the part behind the first `:` names.
+    pub fn script_file(&self) -> &[u8]
+        ensures { result.now ≡ without_dot (script_file self.now.text) }
+    {
+        without_dot(script_file(self.text.as_bytes()))
+    }
+
+    /// Of a value TYPE:FILE, as `--script` has, the part before the first `:`.
+    pub fn script_type(&self) -> &[u8]
+        ensures { result.now ≡ script_type self.now.text }
+    {
+        script_type(self.text.as_bytes())
+    }
+}
+
+// A value, with the name of the file in it where there is one.
+#[derive(Drop)]
+struct ValueEntry {
+    value: OptionValue,
+    file: Option<Name>,
+}
+
+/// The values that the options of a command were given, in the order given.
+#[derive(Drop)]
+pub struct Values {
+    alloc: Global,
+    entries: Vec<ValueEntry>,
+}
+
+impl Model for Values {
+    ghost use Rattle.std.specs.Prelude.{◌≡◌, List, map};
+    ghost use Rattle.command_core.specs.Values.{file_in};
+    ghost use Rattle.command_core.specs.declared.values.OptionValue.{OptionValue};
+    ghost use Rattle.command_core.specs.declared.values.ValueEntry.{ValueEntry};
+
+    ghost Value = { List OptionValue };
+
+    ghost view = { λ values. map (λ (e : ValueEntry). e.value) values.entries.items };
+
+    ghost invariant = { λ values.
+        map (λ (e : ValueEntry). e.file) values.entries.items
+        ≡ map (λ (e : ValueEntry). file_in e.value) values.entries.items };
+}
+
+impl Values {
+    /// No values.
+    pub fn new(alloc: Global) -> Values
+        ensures { result ≡ [] }
+    {
+        Values {
+            alloc,
+            entries: Vec::new(alloc),
+        }
+    }
+
+    /// Adds a value of the option with a letter, which the word at a place holds.
+    pub fn push(&mut self, place: u32, letter: u8, text: &[u8]) -> Result<(), AllocError>
+        ensures { OnOk result (self.new ≡ self.old ++ option_value place letter text.now ∷ []) }
+    {
+        let file = read_value_file(self.alloc, letter, text)?;
+        let text = Text::of(self.alloc, text)?;
+        self.entries.push(ValueEntry {
+            value: OptionValue {
+                place,
+                letter,
+                text,
+            },
+            file,
+        })?;
+        Ok(())
+    }
+
+    /// Whether the option with a letter was given a value.
+    pub fn is_given(&self, letter: u8) -> bool
+        ensures { result ≡ is_given letter self.now }
+    {
+        self.entries
+            .iter()
+            .any(|entry| entry.value.letter == letter)
+    }
+
+    /// Whether an option may not stand again.
+    pub fn are_spent(&self, rule: ValueRule) -> bool
+        ensures { result ≡ is_spent rule self.now }
+    {
+        rule.single && self.is_given(rule.letter)
+    }
+
+    /// Whether a text is excluded by values that the option was given before.
+    pub fn exclude(&self, rule: ValueRule, text: &[u8]) -> bool
+        ensures { result ≡ is_excluded rule text.now self.now }
+    {
+        self.entries.iter().any(|entry| entry.value.letter == rule.letter
+            && rule.kind.excludes(entry.value.text.as_bytes(), text))
+    }
+
+    /// How many values there are.
+    pub fn len(&self) -> usize
+        ensures { result ≡ length self.now }
+    {
+        self.entries.len()
+    }
+
+    /// Whether there is no value.
+    pub fn is_empty(&self) -> bool
+        ensures { result ≡ (length self.now == 0) }
+    {
+        self.entries.is_empty()
+    }
+
+    /// The value with this index in the list, counted from 0.
+    pub fn get(&self, i: usize) -> &OptionValue
+        requires { i < length self.now }
+        ensures { slice_get self.now i ≡ Some result.now }
+    {
+        &self.entries[i].value
+    }
+
+    /// The first value that the option with a letter was given, if there is one.
+    pub fn first(&self, letter: u8) -> Option<&OptionValue>
+        ensures { option_map (λ value. value.now) result ≡ first_value letter self.entry.now }
+    {
+        match self.first_entry(letter) {
+            Some(entry) => Some(&entry.value),
+            None => None,
+        }
+    }
+
+    /// The name of the first file that the option with a letter was given, without one leading `./`, if there is one. The
+    /// option's values are files.
+    pub fn first_file(&self, letter: u8) -> Option<&Name>
+        requires letter { IsTrue (not (letter == SCRIPT)) }
+        requires file { IfSome (first_value letter self.now) (λ value. IsTrue (is_file value.text)) }
+        ensures { option_map (λ name. name.now) result ≡ option_map (λ value. without_dot value.text) (first_value letter self.entry.now) }
+    {
+        match self.first_entry(letter) {
+            Some(entry) => entry.file.as_ref(),
+            None => None,
+        }
+    }
+
+    /// The name of the file that `--script` was given by the value with this index, without one leading `./`.
+    pub fn script_file(&self, i: usize) -> &Name
+        requires here { i < length self.now }
+        requires script { IfSome (slice_get self.now i) (λ value. value.letter ≡ SCRIPT × IsTrue (is_file (script_file value.text))) }
+        ensures { option_map (λ value. without_dot (script_file value.text)) (slice_get self.now i) ≡ Some result.now }
+    {
+        match &self.entries[i].file {
+            Some(file) => file,
+            None => unreachable!(),
+        }
+    }
+
+    // The first value that the option with a letter was given, and the file in it.
+    fn first_entry(&self, letter: u8) -> Option<&ValueEntry>
+        ensures value { option_map (λ entry. entry.now.value) result ≡ first_value letter self.entry.now }
+        ensures file { IfSome result (λ entry. entry.now.file ≡ file_in entry.now.value) }
+    {
+        self.entries
+            .iter()
+            .find(|entry| entry.value.letter == letter)
+    }
+}
+
+// The name of the file in a value of the option with a letter, if there is one.
+fn read_value_file(alloc: Global, letter: u8, text: &[u8]) -> Result<Option<Name>, AllocError>
+    ensures { IfOk result (λ file. file ≡ file_name (file_part letter text.now)) }
+{
+    if letter == SCRIPT {
+        return read_file(alloc, script_file(text));
+    }
+    read_file(alloc, text)
+}

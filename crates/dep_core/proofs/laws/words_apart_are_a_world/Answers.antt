@@ -1,5 +1,0 @@
-use Rattle.dep_core.proofs.WorldWords.{words-world}
-use Rattle.dep_core.proofs.laws.words_apart_are_a_world.Goals as goal
-
-pub returns : goal.returns
-returns c = words-world

@@ -1,5 +1,0 @@
-use Rattle.make_core.proofs.OutputFacts.{package_output_there}
-use Rattle.make_core.proofs.output_laws.a_package_with_information_has_an_output.Goals as goal
-
-pub returns : goal.returns
-returns c = package_output_there

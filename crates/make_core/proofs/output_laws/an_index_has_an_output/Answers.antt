@@ -1,5 +1,0 @@
-use Rattle.make_core.proofs.OutputFacts.{index_output_there}
-use Rattle.make_core.proofs.output_laws.an_index_has_an_output.Goals as goal
-
-pub returns : goal.returns
-returns c = index_output_there

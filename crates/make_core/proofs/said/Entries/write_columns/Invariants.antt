@@ -1,8 +1,0 @@
-use Rattle.std.proofs.Common.{take}
-use Rattle.adb_write.specs.DepthFirst.{WritesAll}
-use Rattle.make_core.specs.Columns.{column_values}
-use Rattle.make_core.proofs.said.Entries.write_columns.Given as goal
-
-abbrev pub invariant-loop-column : goal.invariant-loop-column
-invariant-loop-column l =
-    WritesAll l.initial.writer (column_values l.self l.installed_size (take l.column-index l.columns)) l.words.items l.writer

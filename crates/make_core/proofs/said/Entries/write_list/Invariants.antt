@@ -1,8 +1,0 @@
-use Rattle.std.proofs.Common.{take}
-use Rattle.adb_write.specs.DepthFirst.{WritesAll}
-use Rattle.make_core.proofs.Written.{said_by}
-use Rattle.make_core.proofs.said.Entries.write_list.Given as goal
-
-abbrev pub invariant-loop-entry : goal.invariant-loop-entry
-invariant-loop-entry l =
-    WritesAll l.initial.writer (said_by l.field (take l.entry-index l.entry-items)) l.words.items l.writer

@@ -1,0 +1,63 @@
+//! `mkpkg` and `mkndx`: a package and an index are made, and they are sound.
+ghost use Rattle.base_core.specs.Calls.{IfObservable};
+ghost use Rattle.base_core.specs.Read.{OnlyReads};
+ghost use Rattle.make_index.specs.Files.{AreFiles};
+ghost use Rattle.make_index.specs.Index.{made_index};
+ghost use Rattle.make_index.specs.Kept.{IsMadeBy};
+ghost use Rattle.make_info.specs.Reads.{Reads, reads_of};
+ghost use Rattle.make_package.specs.Answers.{IsMadeBySome, IsMadeIn, OnRefusal};
+ghost use Rattle.pkg_core.specs.Whole.{container_fault};
+ghost use Rattle.std.specs.Prelude.{◌≡◌, Ok, None, IfOk, IfErr};
+
+use crate::laws::{a_made_index_is_sound, a_made_package_is_sound};
+use base_core::Tree;
+use command_core::{Applet, Command};
+use make_info::MakeFault;
+use std::alloc::Global;
+
+/// Makes the package that a command asks for (apk(8), `mkpkg`): the container's bytes, which pass
+/// all tests of a package. The tree stays as it is, whatever the answer.
+///
+/// # Errors
+///
+/// `FileMissing` at the place of the first script whose file is absent; then `InfoBad` as
+/// `read_information` says; then `FileMissing` at the folder's place where a file that was listed
+/// is not found; then `TooLarge` where the package's values pass a limit of the writer. `Disk`
+/// where the tree failed, and `Memory`.
+pub fn mkpkg<T: Tree>(alloc: Global, command: &Command, tree: &mut T) -> Result<Vec<u8>, MakeFault>
+    requires { command.now.applet ≡ Applet.Mkpkg }
+    ensures ok { IfOk result (λ file. IfObservable (T.history tree.old) (λ v.
+        IsMadeIn command.now v (Ok file.items))) }
+    ensures err { IfErr result (λ fault. OnRefusal fault (λ made.
+        IfObservable (T.history tree.old) (λ v. IsMadeIn command.now v made))) }
+    ensures found { IfOk result (λ file. IsMadeBySome command.now (Ok file.items)) }
+    ensures found_err { IfErr result (λ fault. OnRefusal fault (IsMadeBySome command.now)) }
+    ensures sound { IfOk result (λ file. container_fault file.items ≡ None) }
+    ensures tree { OnlyReads MakeFault.Disk (T.history tree.old) (T.history tree.new)
+        (T.counts tree.old) (T.counts tree.new) result }
+{
+    a_made_package_is_sound();
+    make_package::make(alloc, command, tree)
+}
+
+/// Makes an index (apk(8), `mkndx`) of the packages that the operands name: the container's bytes,
+/// which pass all tests of an index. Each package passes all its tests. The tree stays as it is,
+/// whatever the answer.
+///
+/// # Errors
+///
+/// Operand by operand, `FileMissing` or `FileBad` at the operand's place; then `TooLarge` where the
+/// index passes a limit of the writer. `Disk` where the tree failed, and `Memory`.
+pub fn mkndx<T: Tree>(alloc: Global, command: &Command, tree: &mut T) -> Result<Vec<u8>, MakeFault>
+    requires { command.now.applet ≡ Applet.Mkndx }
+    ensures made { IfObservable (T.history tree.old) (λ v.
+        IsMadeBy (λ file. file.items) result (made_index command.now (reads_of v))) }
+    ensures found { (read : Reads) × AreFiles read 0 command.now.operands
+        × IsMadeBy (λ file. file.items) result (made_index command.now read) }
+    ensures sound { IfOk result (λ file. container_fault file.items ≡ None) }
+    ensures tree { OnlyReads MakeFault.Disk (T.history tree.old) (T.history tree.new)
+        (T.counts tree.old) (T.counts tree.new) result }
+{
+    a_made_index_is_sound();
+    make_index::make(alloc, command, tree)
+}

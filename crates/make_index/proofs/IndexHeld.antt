@@ -1,0 +1,183 @@
+-- An entry in a payload of its own.
+use Rattle.std.proofs.Common.{◌≡◌, ℕ, suc, zero, ◌+◌, ◌<◌, ◌≤◌, ◌^◌, Bool, true, false, List, [], ◌++◌, length, Option, Some, None, Result, Ok, Err, refl, ap, sym, subst, ◌∙◌, arith, true≢false, length-append, get_or}
+use Rattle.std.specs.Prelude.{is_some, is_none, unwrap_or, nat_lt, ◌||◌, IfSome, All, if◌then◌else◌, Vec}
+use Rattle.std.proofs.lemmas.Bool.{ltb-false, le-ltb}
+use Rattle.base_core.specs.declared.cause.Cause.TheVariants.{Truncated}
+use Rattle.std.specs.Int.{w32, to_le_bytes}
+use Rattle.adb_view.specs.Head.{head_fault, root_of}
+use Rattle.adb_view.specs.Plain.{Plain, null, int, blob, arr, obj, Plains, none, more, Shape, plain_of, value_of, IsNormal, AreNormal}
+use Rattle.adb_view.specs.Shaped.{HasShape}
+use Rattle.adb_write.specs.Canonical.{Layout, write, empty_layout, payload_with_root, canonical, passes, overflow_of, or_overflow, written_of, PayloadCounts, MOST_BYTES}
+use Rattle.adb_write.specs.Size.{size_of, value_count}
+use Rattle.adb_schema.specs.Schema.{shape_of}
+use Rattle.adb_schema.specs.Views.{is_sound, value_at, nth, entry_in, text_in}
+use Rattle.adb_schema.specs.Soundness.{root_value, payload_in, first_fault}
+use Rattle.adb_schema.specs.declared.schema.Which.TheVariants as Tables
+use Rattle.adb_schema.specs.declared.schema.Kind.{Kind}
+use Rattle.adb_schema.specs.declared.schema.Kind.TheVariants as Kinds
+use Rattle.pkg_core.specs.Whole.{package_id}
+use Rattle.make_index.specs.Entries.{entry_of_package, entry_value}
+use Rattle.make_index.specs.Kept.{HoldsEntry, IsKeyed, copy_of_entry}
+use Rattle.version_core.specs.Order.{is_version}
+use Rattle.std.proofs.lemmas.List.{get_or_default}
+use Rattle.make_index.proofs.IndexAgain.{entry_again, entry_id, entry_name, entry_normal, entry_shape, entry_version}
+use Rattle.make_index.proofs.IndexRules.{package_version}
+use Rattle.sha2.specs.Sha256.{sha256}
+use Rattle.std.specs.declared.alloc.Global.{Global}
+use Rattle.make_index.proofs.IndexShapes.{info_of_package, value_shape}
+use Rattle.make_index.proofs.IndexSound.{payload_all}
+
+-- ---- what was written within the limits
+
+err_ok : {A B : Type 0} (a : A) (b : B) → Err a ≡ Ok b → ⊥
+err_ok {A} {B} a b e = subst is_err e tt
+  where
+    is_err : Result B A → Type 0
+    is_err (Ok x) = ⊥
+    is_err (Err x) = Unit {0}
+
+ok_in : List ℕ → Result (List ℕ) PayloadCounts → List ℕ
+ok_in d (Ok x) = x
+ok_in d (Err c) = d
+
+pub written_is : (v : Plain) (p : List ℕ) → written_of v ≡ Ok p → (p ≡ canonical v) × (overflow_of v ≡ None)
+unfolding written_of ok_in
+written_is v p h = go (overflow_of v) refl
+  where
+    go : (o : Option PayloadCounts) → overflow_of v ≡ o → (p ≡ canonical v) × (overflow_of v ≡ None)
+    go None e = (ap (ok_in []) (sym h ∙ ap (or_overflow (canonical v)) e), e)
+    go (Some c) e = absurd (err_ok c p (sym (ap (or_overflow (canonical v)) e) ∙ h))
+
+small_of : (a b : Bool) → (a || b) ≡ false → a ≡ false
+small_of true b h = absurd (true≢false h)
+small_of false b h = refl
+
+within : (v : Plain) → (is_some (overflow_of v) ≡ passes (size_of v, value_count v)) → overflow_of v ≡ None → size_of v ≤ MOST_BYTES
+within v law e = ltb-false MOST_BYTES (size_of v) (small_of (nat_lt MOST_BYTES (size_of v)) _ (sym law ∙ ap is_some e))
+
+-- ---- it is read back
+
+head_good : (root : ℕ) (out : Layout) → head_fault (payload_with_root root out) ≡ None
+head_good root out = ap (λ b. if b then Some (Truncated 0) else None) (le-ltb (length (payload_with_root root out)) 8 (omega (arith, long)))
+  where
+    long : length (to_le_bytes w32 root ++ out.body) ≡ 4 + length out.body
+    long = length-append (to_le_bytes w32 root) out.body
+
+sound_of : (p : List ℕ) (k : Kind) (w : ℕ) (v : Plain) → plain_of p (shape_of k) w ≡ Some v → is_sound p k w ≡ true
+unfolding is_sound
+sound_of p k w v h = ap is_some h
+
+value_of_plain : (p : List ℕ) (k : Kind) (w : ℕ) (v : Plain) → plain_of p (shape_of k) w ≡ Some v → value_at p k w ≡ v
+unfolding value_at
+value_of_plain p k w v h = ap (λ o. unwrap_or o null) h
+
+module _
+    (read_back : (shape : Shape) (v : Plain) → IsNormal v → HasShape shape v → size_of v ≤ MOST_BYTES → value_of (canonical v) shape ≡ Some v)
+    (overflows : (v : Plain) → IsNormal v → is_some (overflow_of v) ≡ passes (size_of v, value_count v))
+    (normal : (payload : List ℕ) → All (λ b. b < 256) payload → (shape : Shape) (word : ℕ) → IfSome (plain_of payload shape word) IsNormal) where
+  value_normal : (p : List ℕ) (k : Kind) (w : ℕ) → All (λ b. b < 256) p → IsNormal (value_at p k w)
+  unfolding value_at IsNormal
+  value_normal p k w h = go (plain_of p (shape_of k) w) (normal p h (shape_of k) w)
+    where
+      go : (o : Option Plain) → IfSome o IsNormal → IsNormal (unwrap_or o null)
+      go None g = tt
+      go (Some v) g = g
+
+  nth_normal : (vs : Plains) (i : ℕ) → AreNormal vs → IsNormal (nth vs i)
+  unfolding IsNormal
+  nth_normal none i h = tt
+  nth_normal (more v vs) zero h = h.0
+  nth_normal (more v vs) (suc i) h = nth_normal vs i h.1
+
+  entry_in_normal : (v : Plain) (i : ℕ) → IsNormal v → IsNormal (entry_in v i)
+  unfolding IsNormal
+  entry_in_normal null i h = tt
+  entry_in_normal (int n) i h = tt
+  entry_in_normal (blob b) i h = tt
+  entry_in_normal (arr vs) i h = nth_normal vs i h.1
+  entry_in_normal (obj vs) i h = nth_normal vs i h.2
+
+  pub holds : (info : Plain) (id : List ℕ) (len : ℕ) (p : List ℕ) → IsNormal info → HasShape (shape_of (Kinds.Obj Tables.PkgInfo)) info → len < 2 ^ 64 → written_of (entry_value info id len) ≡ Ok p → HoldsEntry p (entry_value info id len)
+  holds info id len p good shaped small made =
+      let e : Plain = entry_value info id len in
+      let n : IsNormal e = entry_normal info id len good small in
+      let is : p ≡ canonical e = (written_is e p made).0 in
+      let back : value_of (canonical e) (shape_of (Kinds.Obj Tables.PkgInfo)) ≡ Some e = read_back (shape_of (Kinds.Obj Tables.PkgInfo)) e n (entry_shape info id len shaped) (within e (overflows e n) (written_is e p made).1) in
+      subst (λ q. HoldsEntry q e) (sym is) (record {
+        head = ap is_none (head_good (write e empty_layout).0 (write e empty_layout).1);
+        sound = sound_of (canonical e) (Kinds.Obj Tables.PkgInfo) (root_of (canonical e)) e back;
+        value = ap copy_of_entry (value_of_plain (canonical e) (Kinds.Obj Tables.PkgInfo) (root_of (canonical e)) e back) ∙ entry_again info id len;
+      })
+
+-- the info of a package has the shape of one
+package_info_shape : (payload : List ℕ) → HasShape (shape_of (Kinds.Obj Tables.PkgInfo)) (entry_in (root_value Tables.Package payload) 0)
+package_info_shape payload = info_of_package (root_value Tables.Package payload) (value_shape payload (Kinds.Obj Tables.Package) (root_of payload))
+
+-- ---- what an entry is ordered by
+
+pub keyed_of : (file name version id : List ℕ) (info : Plain) → info ≡ entry_in (root_value Tables.Package (payload_in file)) 0 → name ≡ text_in (entry_in info 0) → version ≡ text_in (entry_in info 1) → id ≡ package_id file → first_fault Tables.Package file ≡ None → IsKeyed name version id (entry_of_package file)
+keyed_of file name version id info is e0 e1 e2 sound =
+    let here : Plain = entry_in (root_value Tables.Package (payload_in file)) 0 in
+    let v : version ≡ text_in (entry_in here 1) = e1 ∙ ap (λ i. text_in (entry_in i 1)) is in
+    record {
+      by_name = e0 ∙ (ap (λ i. text_in (entry_in i 0)) is ∙ sym (entry_name here (package_id file) (length file)));
+      by_version = v ∙ sym (entry_version here (package_id file) (length file));
+      by_id = e2 ∙ sym (entry_id here (package_id file) (length file));
+      sound = ap is_version v ∙ package_version file sound;
+    }
+
+pub if_some : {T : Type 0} (P Q : T → Type 0) (o : Option T) → ((x : T) → P x → Q x) → IfSome o P → IfSome o Q
+if_some P Q None f h = h
+if_some P Q (Some x) f h = f x h
+
+pub bytes_all : (xs : List ℕ) → ((i : ℕ) → get_or xs i 0 < 256) → All (λ b. b < 256) xs
+bytes_all xs h k d l = subst (λ n. n < 256) (get_or_default xs k 0 d l) (h k)
+
+pub holds_found :
+    ((shape : Shape) (v : Plain) → IsNormal v → HasShape shape v → size_of v ≤ MOST_BYTES → value_of (canonical v) shape ≡ Some v)
+    → ((v : Plain) → IsNormal v → is_some (overflow_of v) ≡ passes (size_of v, value_count v))
+    → ((payload : List ℕ) → All (λ b. b < 256) payload → (shape : Shape) (word : ℕ) → IfSome (plain_of payload shape word) IsNormal)
+    → (file : List ℕ) (value : Plain) (payload : List ℕ) → value ≡ root_value Tables.Package (payload_in file) → payload ≡ payload_in file → All (λ b. b < 256) file → length file < 2 ^ 64
+    → (found : Option (Vec ℕ Global)) → IfSome found (λ own. written_of (entry_value (entry_in value 0) (sha256 payload) (length file)) ≡ Ok own.items) → IfSome found (λ own. HoldsEntry own.items (entry_of_package file))
+holds_found read_back overflows normal file value payload is_value is_payload bytes small found h =
+    let info : Plain = entry_in (root_value Tables.Package (payload_in file)) 0 in
+    let value_is_normal : IsNormal (root_value Tables.Package (payload_in file)) = value_normal read_back overflows normal (payload_in file) (Kinds.Obj Tables.Package) (root_of (payload_in file)) (payload_all (λ b. b < 256) file bytes) in
+    if_some _ _ found (λ own made. holds read_back overflows normal info (package_id file) (length file) own.items
+    (entry_in_normal read_back overflows normal (root_value Tables.Package (payload_in file)) 0 value_is_normal)
+    (package_info_shape (payload_in file)) small
+    ((λ j. written_of (entry_value (entry_in (sym is_value j) 0) (sha256 (sym is_payload j)) (length file))) ∙ made)) h
+
+-- ---- the entry of any package
+
+pub entry_of_shape : (file : List ℕ) → HasShape (shape_of (Kinds.Obj Tables.PkgInfo)) (entry_of_package file)
+entry_of_shape file = entry_shape (entry_in (root_value Tables.Package (payload_in file)) 0) (package_id file) (length file) (package_info_shape (payload_in file))
+
+pub entry_of_version : (file : List ℕ) → first_fault Tables.Package file ≡ None → is_version (text_in (entry_in (entry_of_package file) 1)) ≡ true
+entry_of_version file sound = ap is_version (entry_version (entry_in (root_value Tables.Package (payload_in file)) 0) (package_id file) (length file)) ∙ package_version file sound
+
+all_normal : ((payload : List ℕ) → All (λ b. b < 256) payload → (shape : Shape) (word : ℕ) → IfSome (plain_of payload shape word) IsNormal) → (p : List ℕ) (k : Kind) (w : ℕ) → All (λ b. b < 256) p → IsNormal (value_at p k w)
+unfolding value_at IsNormal
+all_normal normal p k w h = go (plain_of p (shape_of k) w) (normal p h (shape_of k) w)
+  where
+    go : (o : Option Plain) → IfSome o IsNormal → IsNormal (unwrap_or o null)
+    go None g = tt
+    go (Some v) g = g
+
+nth_is_normal : (vs : Plains) (i : ℕ) → AreNormal vs → IsNormal (nth vs i)
+unfolding IsNormal
+nth_is_normal none i h = tt
+nth_is_normal (more v vs) zero h = h.0
+nth_is_normal (more v vs) (suc i) h = nth_is_normal vs i h.1
+
+in_normal : (v : Plain) (i : ℕ) → IsNormal v → IsNormal (entry_in v i)
+unfolding IsNormal
+in_normal null i h = tt
+in_normal (int n) i h = tt
+in_normal (blob b) i h = tt
+in_normal (arr vs) i h = nth_is_normal vs i h.1
+in_normal (obj vs) i h = nth_is_normal vs i h.2
+
+pub entry_of_normal : ((payload : List ℕ) → All (λ b. b < 256) payload → (shape : Shape) (word : ℕ) → IfSome (plain_of payload shape word) IsNormal) → (file : List ℕ) → All (λ b. b < 256) file → length file < 2 ^ 64 → IsNormal (entry_of_package file)
+entry_of_normal normal file bytes small =
+    entry_normal (entry_in (root_value Tables.Package (payload_in file)) 0) (package_id file) (length file)
+    (in_normal (root_value Tables.Package (payload_in file)) 0 (all_normal normal (payload_in file) (Kinds.Obj Tables.Package) (root_of (payload_in file)) (payload_all (λ b. b < 256) file bytes))) small

@@ -1,0 +1,62 @@
+-- The values of sound packages, and of their entries.
+use Rattle.std.proofs.Common.{ℕ, ◌+◌, ◌-◌, Bool, true, false, List, [], length, take, drop, Option, Some, None, Result, Ok, Err, arith}
+use Rattle.std.specs.Prelude.{All, nat_lt, if◌then◌else◌, ◌||◌, ◌==◌}
+use Rattle.std.proofs.lemmas.List.Elements.{All-take, All-drop}
+use Rattle.base_core.specs.declared.cause.Cause.{Cause}
+use Rattle.adb_block.specs.declared.block.BlockKind.{BlockKind}
+use Rattle.adb_block.specs.Framing.{HeadFields, Step, ended, failed, block, step_by_size, step_by_order, step_by_head, step_at_end, next_step, head_of, kind_of_number}
+use Rattle.adb_block.specs.Piece.{Piece, comes_after, least_payload, padding_of}
+use Rattle.adb_block.specs.Header.{header_of}
+use Rattle.adb_block.specs.Reading.{Reading, reading_by_step, reading_from, reading_of}
+use Rattle.adb_schema.specs.Soundness.{first_payload, payload_behind, payload_in}
+
+-- ---- the payload is a part of the file
+
+abbrev pub PieceAll : (ℕ → Type 0) → Step → Type 0
+PieceAll P ended = Unit {0}
+PieceAll P (failed c) = Unit {0}
+PieceAll P (block b size) = All P b.payload
+
+module _ (P : ℕ → Type 0) where
+  if_step : (b : Bool) (s t : Step) → PieceAll P s → PieceAll P t → PieceAll P (if b then s else t)
+  if_step true s t h g = h
+  if_step false s t h g = g
+
+  sized_all : (at : ℕ) (bytes : List ℕ) (head : HeadFields) (kind : BlockKind) → All P bytes → PieceAll P (step_by_size at bytes head kind)
+  sized_all at bytes head kind h =
+      if_step (nat_lt head.raw head.len || nat_lt (length bytes) head.raw) _ _ tt
+      (if_step (nat_lt (head.raw - head.len) (least_payload kind)) _ (block (record { kind = kind; payload = take (head.raw - head.len) (drop head.len bytes) }) (head.raw + padding_of head.raw)) tt
+      (All-take P (head.raw - head.len) (drop head.len bytes) (All-drop P head.len bytes h)))
+
+  ordered_all : (last : Option BlockKind) (at : ℕ) (bytes : List ℕ) (head : HeadFields) (kind : Option BlockKind) → All P bytes → PieceAll P (step_by_order last at bytes head kind)
+  ordered_all last at bytes head None h = tt
+  ordered_all last at bytes head (Some kind) h = if_step (comes_after last kind) _ _ (sized_all at bytes head kind h) tt
+
+  headed_all : (last : Option BlockKind) (at : ℕ) (bytes : List ℕ) (head : Option HeadFields) → All P bytes → PieceAll P (step_by_head last at bytes head)
+  headed_all last at bytes None h = tt
+  headed_all last at bytes (Some head) h = ordered_all last at bytes head (kind_of_number head.kind) h
+
+  at_end_all : (last : Option BlockKind) (at : ℕ) → PieceAll P (step_at_end last at)
+  at_end_all None at = tt
+  at_end_all (Some kind) at = tt
+
+  step_all : (last : Option BlockKind) (at : ℕ) (bytes : List ℕ) → All P bytes → PieceAll P (next_step last at bytes)
+  unfolding next_step
+  step_all last at bytes h = if_step (length bytes == 0) _ _ (at_end_all last at) (headed_all last at bytes (head_of bytes) h)
+
+  nothing : All P []
+  nothing = λ k d h. absurd (omega arith)
+
+  stepped_all : (at : ℕ) (f : Piece → ℕ → Reading) (s : Step) → PieceAll P s → All P (first_payload (reading_by_step at f s))
+  stepped_all at f ended h = nothing
+  stepped_all at f (failed c) h = nothing
+  stepped_all at f (block b size) h = h
+
+  behind_all : (file : List ℕ) (header : Result ℕ Cause) → All P file → All P (payload_behind file header)
+  unfolding reading_of reading_from
+  behind_all file (Ok schema) h = stepped_all _ _ _ (step_all None 8 (drop 8 file) (All-drop P 8 file h))
+  behind_all file (Err c) h = nothing
+
+  pub payload_all : (file : List ℕ) → All P file → All P (payload_in file)
+  unfolding payload_in
+  payload_all file h = behind_all file (header_of file) h

@@ -1,0 +1,63 @@
+-- The index that a command asks for, over any tree.
+use Rattle.std.proofs.Common.{◌≡◌, ℕ, true, List, [], ◌∷◌, Option, Result, Ok, Err, refl, sym, ◌∙◌, ap, subst, Bool, not, ◌&&◌, length}
+use Rattle.std.specs.Prelude.{nat_le}
+use Rattle.base_core.specs.Calls.{IfObservable}
+use Rattle.base_core.specs.Tree.{TreeState}
+use Rattle.adb_view.specs.Plain.{Plain}
+use Rattle.command_core.specs.Command.{CommandLine, IsCommand}
+use Rattle.command_core.specs.Applets.{may_have, needed_option, operand_rule, value_rules}
+use Rattle.command_core.specs.Operands.{are_files, are_operands}
+use Rattle.command_core.specs.Values.{are_values, lacks_value}
+use Rattle.command_core.specs.declared.operands.Operand.{Operand}
+use Rattle.command_core.specs.declared.command.Applet.{Applet}
+use Rattle.command_core.specs.declared.command.Applet.TheVariants.{Mkndx}
+use Rattle.make_index.specs.Index.{found_entries, index_of, index_of_found, description_in, made_index}
+use Rattle.make_index.specs.Kept.{IsMade, IsMadeBy}
+use Rattle.make_info.specs.Reads.{reads_of}
+use Rattle.make_index.specs.Files.{AreFiles}
+use Rattle.make_info.specs.declared.fault.MakeFault.{MakeFault}
+use Rattle.make_info.specs.declared.fault.MakeFault.TheVariants.{FileMissing, FileBad, InfoBad, TooLarge, Disk, Memory}
+use Rattle.make_index.proofs.IndexReads.{both_true, by_made}
+
+pub command_files : (command : CommandLine) → IsCommand command → command.applet ≡ Mkndx → are_files command.operands ≡ true
+command_files command h e =
+    let operands : Bool = are_operands (operand_rule command.applet command.flags) command.operands in
+    let values : Bool = are_values (value_rules command.applet) command.values in
+    let all : (may_have command.applet command.flags && operands && values) ≡ true = (both_true (may_have command.applet command.flags && operands && values) (not (lacks_value (needed_option command.applet) command.values)) h).0 in
+    let taken : operands ≡ true = (both_true (may_have command.applet command.flags) operands (both_true (may_have command.applet command.flags && operands) values all).0).1 in
+    let own : are_operands (operand_rule Mkndx command.flags) command.operands ≡ true = subst (λ (a : Applet). are_operands (operand_rule a command.flags) command.operands ≡ true) e taken in
+    (both_true (nat_le 0 (length command.operands) && true) (are_files command.operands) own).1
+
+made_all : {A : Type 0} (view : A → List ℕ) (d : List ℕ) (r : Result A MakeFault) (told : Result (List Plain) MakeFault) (es : List Plain) → told ≡ Ok es → IsMade view r (index_of d es) → IsMadeBy view r (index_of_found d told)
+made_all view d r told es e h = subst (λ (t : Result (List Plain) MakeFault). IsMadeBy view r (index_of_found d t)) (sym e) (by_made view r (index_of d es) h)
+
+refused_all : {A B : Type 0} (one : B → List Plain) (view : A → List ℕ) (d : List ℕ) (fault : MakeFault) (told : Result (List Plain) MakeFault) → IsMadeBy one (Err fault) told → IsMadeBy view (Err fault) (index_of_found d told)
+refused_all one view d (FileMissing p) told h = ap (index_of_found d) h
+refused_all one view d (FileBad p c) told h = ap (index_of_found d) h
+refused_all one view d (InfoBad p) told h = ap (index_of_found d) h
+refused_all one view d (TooLarge b v) told h = ap (index_of_found d) h
+refused_all one view d Disk told h = tt
+refused_all one view d Memory told h = tt
+
+module _ (command : CommandLine) (d : List ℕ) (os : List Operand) (is_d : d ≡ description_in command.values) (is_os : os ≡ command.operands) where
+  by_command : {A : Type 0} (view : A → List ℕ) (read : ℕ → List ℕ → Option (List ℕ)) (r : Result A MakeFault) → IsMadeBy view r (index_of_found d (found_entries read 0 os)) → IsMadeBy view r (made_index command read)
+  unfolding made_index
+  by_command view read r h = subst (λ o. IsMadeBy view r (index_of_found (description_in command.values) (found_entries read 0 o))) is_os (subst (λ (x : List ℕ). IsMadeBy view r (index_of_found x (found_entries read 0 os))) is_d h)
+
+  pub told_made : {A : Type 0} (view : A → List ℕ) (history : List TreeState) (es : List Plain) (r : Result A MakeFault) → IfObservable history (λ v. found_entries (reads_of v) 0 os ≡ Ok es) → IsMade view r (index_of d es) → IfObservable history (λ v. IsMadeBy view r (made_index command (reads_of v)))
+  told_made view [] es r so made = tt
+  told_made view (v ∷ earlier) es r so made = by_command view (reads_of v) r (made_all view d r _ es so made)
+
+  pub found_made : {A : Type 0} (view : A → List ℕ) (es : List Plain) (r : Result A MakeFault) → (read : ℕ → List ℕ → Option (List ℕ)) × AreFiles read 0 os × (found_entries read 0 os ≡ Ok es) → IsMade view r (index_of d es) → (read : ℕ → List ℕ → Option (List ℕ)) × AreFiles read 0 command.operands × IsMadeBy view r (made_index command read)
+  found_made view es r so made = (so.0, subst (AreFiles so.0 0) is_os so.1, by_command view so.0 r (made_all view d r _ es so.2 made))
+
+module _ (command : CommandLine) (os : List Operand) (is_os : os ≡ command.operands) where
+  pub told_refused : {A B : Type 0} (one : B → List Plain) (view : A → List ℕ) (history : List TreeState) (fault : MakeFault) (r : Result A MakeFault) → IfObservable history (λ v. IsMadeBy one (Err fault) (found_entries (reads_of v) 0 os)) → r ≡ Err fault → IfObservable history (λ v. IsMadeBy view r (made_index command (reads_of v)))
+  told_refused one view [] fault r so e = tt
+  told_refused one view (v ∷ earlier) fault r so e = by_command command (description_in command.values) os refl is_os view (reads_of v) r (subst (λ x. IsMadeBy view x (index_of_found (description_in command.values) (found_entries (reads_of v) 0 os))) (sym e) (refused_all one view (description_in command.values) fault _ so))
+
+  pub found_refused : {A B : Type 0} (one : B → List Plain) (view : A → List ℕ) (fault : MakeFault) (r : Result A MakeFault) → (read : ℕ → List ℕ → Option (List ℕ)) × AreFiles read 0 os × IsMadeBy one (Err fault) (found_entries read 0 os) → r ≡ Err fault → (read : ℕ → List ℕ → Option (List ℕ)) × AreFiles read 0 command.operands × IsMadeBy view r (made_index command read)
+  found_refused one view fault r so e = (so.0, subst (AreFiles so.0 0) is_os so.1, by_command command (description_in command.values) os refl is_os view so.0 r (subst (λ x. IsMadeBy view x (index_of_found (description_in command.values) (found_entries so.0 0 os))) (sym e) (refused_all one view (description_in command.values) fault _ so.2)))
+
+pub files_by : (command : CommandLine) (os : List Operand) → IsCommand command → command.applet ≡ Mkndx → os ≡ command.operands → are_files os ≡ true
+files_by command os h e is = ap are_files is ∙ command_files command h e

@@ -1,0 +1,10 @@
+use Rattle.adb_schema.specs.Views.{entries_in}
+use Rattle.adb_schema.specs.Shown.{list_value}
+use Rattle.adb_write.specs.DepthFirst.{WritesValues}
+use Rattle.make_index.specs.Entries.{all_without_zeros}
+use Rattle.make_index.proofs.IndexLists.{front}
+use Rattle.make_index.proofs.writing.write_tags.Given as goal
+
+-- those so far were written
+abbrev pub invariant-loop-i : goal.invariant-loop-i
+invariant-loop-i l = WritesValues l.initial.writer (all_without_zeros (front l.i (entries_in (list_value l.texts)))) l.words.items l.writer

@@ -1,0 +1,89 @@
+-- What `mkndx` makes (apk(8)): an index of packages.
+use Rattle.command_core.specs.declared.values.TheConstants.{DESCRIPTION}
+use Rattle.std.specs.Prelude.{ℕ, ◌+◌, ◌==◌, List, [], ◌∷◌, Option, Some, None, Result, Ok, Err}
+use Rattle.std.specs.List.{find}
+use Rattle.base_core.specs.declared.cause.Cause.{Cause}
+use Rattle.adb_view.specs.Plain.{Plain, none, more, blob_value, arr_value, obj_value}
+use Rattle.adb_schema.specs.declared.read.TheConstants.{INDEX_WORD}
+use Rattle.adb_write.specs.Canonical.{PayloadCounts, written_of}
+use Rattle.adb_write.specs.File.{file_of}
+use Rattle.pkg_core.specs.Whole.{package_fault}
+use Rattle.command_core.specs.Command.{CommandLine}
+use Rattle.command_core.specs.Files.{without_dot}
+use Rattle.command_core.specs.declared.operands.Operand.{Operand}
+use Rattle.command_core.specs.declared.values.OptionValue.{OptionValue}
+use Rattle.make_info.specs.Reads.{Reads}
+use Rattle.make_info.specs.Values.{plains_of}
+use Rattle.make_info.specs.declared.fault.MakeFault.{MakeFault}
+use Rattle.make_info.specs.declared.fault.MakeFault.TheVariants.{FileMissing, FileBad, TooLarge}
+use Rattle.make_index.specs.Entries.{entry_of_package}
+use Rattle.make_index.specs.EntryOrder.{entry_cmp, sorted_by}
+
+-- ---- the value
+
+-- an index with this description and these entries; no pattern tells the names of the packages'
+-- files
+unfoldable pub value_of_index : List ℕ → List Plain → Plain
+value_of_index description entries =
+    obj_value (more (blob_value description) (more (arr_value (plains_of entries)) none))
+
+-- ---- the packages, operand by operand
+
+abbrev pub entry_unless : ℕ → List ℕ → Option Cause → Result Plain MakeFault
+entry_unless place file None = Ok (entry_of_package file)
+entry_unless place file (Some cause) = Err (FileBad place cause)
+
+-- the entry of what was found under the name that an argument gives, if it is a sound package
+abbrev pub found_entry : ℕ → Option (List ℕ) → Result Plain MakeFault
+found_entry place None = Err (FileMissing place)
+found_entry place (Some file) = entry_unless place file (package_fault file)
+
+-- an entry in front of others, or the first refusal
+abbrev pub and_entries :
+    Result Plain MakeFault → Result (List Plain) MakeFault → Result (List Plain) MakeFault
+and_entries (Err fault) others = Err fault
+and_entries (Ok entry) (Err fault) = Err fault
+and_entries (Ok entry) (Ok entries) = Ok (entry ∷ entries)
+
+-- the entries of all, or the first refusal; the read of the first operand has this number, counted
+-- from 0
+abbrev pub found_entries : Reads → ℕ → List Operand → Result (List Plain) MakeFault
+found_entries read n [] = Ok []
+found_entries read n (o ∷ operands) =
+    and_entries (found_entry o.place (read n (without_dot o.text)))
+    (found_entries read (n + 1) operands)
+
+-- ---- the file
+
+-- the container of a payload, unless it passes a limit
+abbrev pub index_container : Result (List ℕ) PayloadCounts → Result (List ℕ) MakeFault
+index_container (Ok payload) = Ok (file_of INDEX_WORD payload)
+index_container (Err counts) = Err (TooLarge counts.0 counts.1)
+
+-- of these entries, in any order
+unfoldable pub index_of : List ℕ → List Plain → Result (List ℕ) MakeFault
+index_of description entries =
+    index_container (written_of (value_of_index description (sorted_by entry_cmp entries)))
+
+abbrev pub index_of_found : List ℕ → Result (List Plain) MakeFault → Result (List ℕ) MakeFault
+index_of_found description (Ok entries) = index_of description entries
+index_of_found description (Err fault) = Err fault
+
+-- of the packages that operands name
+abbrev pub index_by : List ℕ → List Operand → Reads → Result (List ℕ) MakeFault
+index_by description operands read = index_of_found description (found_entries read 0 operands)
+
+-- ---- of a command
+
+abbrev pub text_or_empty : Option OptionValue → List ℕ
+text_or_empty None = []
+text_or_empty (Some v) = v.text
+
+-- the value of the first `-d`, or nothing
+abbrev pub description_in : List OptionValue → List ℕ
+description_in values = text_or_empty (find (λ (v : OptionValue). v.letter == DESCRIPTION) values)
+
+-- the container's bytes, or the first refusal, by what each read finds under a name; reads are
+-- numbered from 0
+unfoldable pub made_index : CommandLine → Reads → Result (List ℕ) MakeFault
+made_index command read = index_by (description_in command.values) command.operands read

@@ -1,0 +1,64 @@
+-- What is kept of a package until the index is written, and what the calls that keep it answer.
+use Rattle.std.specs.Prelude.{◌≡◌, ℕ, List, true, IsTrue, is_none, Option, Some, Result, Ok, Err}
+use Rattle.base_core.specs.declared.cause.Cause.{Cause}
+use Rattle.adb_view.specs.Head.{head_fault, root_of}
+use Rattle.adb_view.specs.Plain.{Plain}
+use Rattle.adb_schema.specs.Soundness.{root_value}
+use Rattle.adb_schema.specs.Views.{entry_in, int_in, is_sound, text_in}
+use Rattle.adb_schema.specs.declared.schema.Which.TheVariants.{PkgInfo}
+use Rattle.adb_schema.specs.declared.schema.Kind.TheVariants.{Obj}
+use Rattle.version_core.specs.Order.{is_version}
+use Rattle.make_info.specs.declared.fault.MakeFault.{MakeFault}
+use Rattle.make_info.specs.declared.fault.MakeFault.TheVariants.{FileBad, Disk, Memory}
+use Rattle.make_index.specs.Entries.{entry_of_package, entry_value}
+use Rattle.make_index.specs.EntryOrder.{id_in, name_in, version_in}
+use Rattle.make_index.specs.declared.source.EntrySource.{EntrySource}
+use Rattle.make_index.specs.declared.source.EntrySource.TheVariants.{Payload, File}
+
+-- ---- entries
+
+-- an entry made once more of its own fields
+abbrev pub copy_of_entry : Plain → Plain
+copy_of_entry entry = entry_value entry (text_in (entry_in entry 2)) (int_in (entry_in entry 12))
+
+-- the entry that is still to be written
+abbrev pub kept_value : EntrySource → Plain
+kept_value (Payload own) = copy_of_entry (root_value PkgInfo own.payload.items)
+kept_value (File own) = entry_of_package own.file.items
+
+-- a payload of its own can be read, and holds this entry
+pub record HoldsEntry (payload : List ℕ) (entry : Plain) : Type 0 where
+  pub head : is_none (head_fault payload) ≡ true
+  pub sound : is_sound payload (Obj PkgInfo) (root_of payload) ≡ true
+  pub value : copy_of_entry (root_value PkgInfo payload) ≡ entry
+
+-- what an entry is ordered by
+pub record IsKeyed (name version id : List ℕ) (entry : Plain) : Type 0 where
+  pub by_name : name ≡ name_in entry
+  pub by_version : version ≡ version_in entry
+  pub by_id : id ≡ id_in entry
+  pub sound : IsTrue (is_version version)
+
+-- ---- answers
+
+-- an answer, seen by a view, is what a definition gives; want of memory says nothing of it
+abbrev pub IsMade :
+    {A B : Type 0} → (A → B) → Result A MakeFault → Result B MakeFault → Type 0
+IsMade view (Ok x) wanted = wanted ≡ Ok (view x)
+IsMade view (Err Memory) wanted = Unit {0}
+IsMade view (Err Disk) wanted = ⊥
+IsMade view (Err fault) wanted = wanted ≡ Err fault
+
+-- the same of an answer that a tree may have failed
+abbrev pub IsMadeBy :
+    {A B : Type 0} → (A → B) → Result A MakeFault → Result B MakeFault → Type 0
+IsMadeBy view (Ok x) wanted = wanted ≡ Ok (view x)
+IsMadeBy view (Err Memory) wanted = Unit {0}
+IsMadeBy view (Err Disk) wanted = Unit {0}
+IsMadeBy view (Err fault) wanted = wanted ≡ Err fault
+
+-- a package at this place is refused for the first of its tests that fails
+abbrev pub IsRefusedAt : ℕ → MakeFault → Option Cause → Type 0
+IsRefusedAt place (FileBad at cause) failed = (at ≡ place) × (failed ≡ Some cause)
+IsRefusedAt place Memory failed = Unit {0}
+IsRefusedAt place fault failed = ⊥

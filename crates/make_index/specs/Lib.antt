@@ -1,0 +1,9 @@
+-- what the contract of `apk` says
+pub mod Entries
+pub mod EntryOrder
+pub mod Index
+-- what only inner contracts and proofs use
+pub mod Appending
+pub mod Files
+pub mod Kept
+pub mod Views

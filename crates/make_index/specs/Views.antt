@@ -1,0 +1,13 @@
+-- What the program's entries stand for.
+use Rattle.std.specs.Prelude.{List, Vec, map}
+use Rattle.std.specs.declared.alloc.Global.{Global}
+use Rattle.adb_view.specs.Plain.{Plain}
+use Rattle.make_index.specs.Kept.{kept_value}
+use Rattle.make_index.specs.declared.entry.Entry.{Entry}
+
+-- the plain value
+abbrev pub entry_view : Entry → Plain
+entry_view entry = kept_value entry.source
+
+abbrev pub entries_view : Vec Entry Global → List Plain
+entries_view entries = map entry_view entries.items

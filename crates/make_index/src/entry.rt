@@ -1,0 +1,184 @@
+//! An entry of an index: the tests of its package, and its order among the others.
+ghost use Rattle.adb_schema.specs.Soundness.{first_fault, payload_in, root_value};
+ghost use Rattle.adb_view.specs.Gives.{cause_of};
+ghost use Rattle.adb_write.specs.DepthFirst.{WritesValue};
+ghost use Rattle.base_core.specs.declared.cause.Cause.{Cause};
+ghost use Rattle.make_index.specs.Entries.{entry_of_package};
+ghost use Rattle.make_index.specs.EntryOrder.{entry_cmp};
+ghost use Rattle.make_index.specs.Index.{found_entry};
+ghost use Rattle.make_index.specs.Kept.{kept_value, HoldsEntry, IsKeyed, IsMade, IsRefusedAt};
+ghost use Rattle.pkg_core.specs.Contents.{fault_in};
+ghost use Rattle.pkg_core.specs.Opened.{opened_files, opened_payload, opened_value};
+ghost use Rattle.pkg_core.specs.Whole.{package_fault, IsRefused};
+ghost use Rattle.std.specs.Prelude.{◌≡◌, Some, None, IfOk, IfErr, IfSome, IsTrue, Option};
+ghost use Rattle.version_core.specs.Order.{is_version, version_cmp};
+ghost use Rattle.adb_schema.specs.declared.schema.Which.TheVariants as Tables;
+
+use crate::source::{EntryPayload, EntrySource, PackageFile, entry_payload};
+use adb_view::{Val, values_are_normal};
+use adb_write::{Writer, a_canonical_payload_is_read_back, a_value_overflows_exactly_past_a_limit};
+use base_core::Cause;
+use make_info::MakeFault;
+use pkg_core::{Package, PackageFault, a_package_is_tested_by_its_values_and_then_its_files};
+use std::alloc::{AllocError, Global};
+use std::cmp::Ordering;
+use version_core::Version;
+
+/// What an index says of a package. Contracts see the plain value, by `entry_view` of `specs/`.
+#[derive(Drop)]
+pub(crate) struct Entry {
+    name: Vec<u8>,
+    version: Vec<u8>,
+    id: [u8; 32],
+    source: EntrySource,
+    ghost keyed: { IsKeyed name.items version.items id (kept_value source) },
+}
+
+impl Entry {
+    ghost use Rattle.make_index.specs.Views.{entry_view};
+    ghost use Rattle.make_index.specs.Files.{IsFile};
+
+    /// The entry of the package in this file, which an operand at this place names. The file is
+    /// dropped, but where its entry alone passes a limit of the writer.
+    ///
+    /// # Errors
+    ///
+    /// `FileBad` with the cause of the first test that fails, or `Memory`.
+    pub(crate) fn of(alloc: Global, place: u32, file: Vec<u8>) -> Result<Entry, MakeFault>
+        ensures made { IsMade entry_view result (found_entry place (Some file.items)) }
+        ensures bytes { IsFile file.items }
+    {
+        let parts = read_parts(alloc, place, &file)?;
+        Ok(Entry {
+            name: parts.name,
+            version: parts.version,
+            id: parts.id,
+            source: match parts.payload {
+                Some(payload) => EntrySource::Payload(EntryPayload { payload }),
+                None => EntrySource::File(PackageFile { file }),
+            },
+        })
+    }
+
+    /// The order of two entries: by name, then by version, then by the version's text, then by id.
+    pub(crate) fn compare(&self, other: &Entry) -> Ordering
+        ensures { result ≡ entry_cmp (entry_view self.now) (entry_view other.now) }
+    {
+        let order = self.name.cmp(&other.name);
+        if order.is_ne() {
+            return order;
+        }
+        let order = compare_versions(&self.version, &other.version);
+        if order.is_ne() {
+            return order;
+        }
+        let order = self.version.cmp(&other.version);
+        if order.is_ne() {
+            return order;
+        }
+        self.id.cmp(&other.id)
+    }
+
+    /// Writes the entry.
+    pub(crate) fn write(&self, alloc: Global, writer: &mut Writer) -> Result<Val, AllocError>
+        ensures { IfOk result (λ word. WritesValue writer.old (entry_view self.now) word writer.new) }
+    {
+        self.source.write(alloc, writer)
+    }
+}
+
+/// The order of two texts that are versions.
+fn compare_versions(one: &[u8], other: &[u8]) -> Ordering
+    requires one { IsTrue (is_version one.now) }
+    requires other { IsTrue (is_version other.now) }
+    ensures { result ≡ version_cmp one.now other.now }
+{
+    match (Version::read(one), Version::read(other)) {
+        (Some(one), Some(other)) => one.compare(&other),
+        _ => unreachable!(),
+    }
+}
+
+/// What an entry is made of. No payload: it passes a limit of the writer.
+#[derive(Drop)]
+struct Parts {
+    name: Vec<u8>,
+    version: Vec<u8>,
+    id: [u8; 32],
+    payload: Option<Vec<u8>>,
+}
+
+/// Makes all tests of a package, and gives what its entry is made of.
+fn read_parts(alloc: Global, place: u32, file: &[u8]) -> Result<Parts, MakeFault>
+    ensures bad { IfErr result (λ fault. IsRefusedAt place fault (package_fault file.now)) }
+    ensures sound { IfOk result (λ _. package_fault file.now ≡ None) }
+    ensures opened { IfOk result (λ _. first_fault Tables.Package file.now ≡ None) }
+    ensures keys { IfOk result (λ parts.
+        IsKeyed parts.name.items parts.version.items parts.id (entry_of_package file.now)) }
+    ensures payload { IfOk result (λ parts.
+        IfSome parts.payload (λ payload. HoldsEntry payload.items (entry_of_package file.now))) }
+{
+    a_canonical_payload_is_read_back();
+    a_value_overflows_exactly_past_a_limit();
+    values_are_normal();
+    let pkg = open_tested(alloc, place, file)?;
+    let info = pkg.view().info();
+    let mut name = Vec::new(alloc);
+    name.extend_from_slice(info.name())?;
+    let mut version = Vec::new(alloc);
+    version.extend_from_slice(info.version())?;
+    Ok(Parts {
+        name,
+        version,
+        id: pkg.id(),
+        payload: entry_payload(alloc, &pkg, file.len() as u64)?,
+    })
+}
+
+/// Makes all tests of a package.
+///
+/// # Errors
+///
+/// `FileBad` at this place with the cause of the first test that fails, or `Memory`.
+pub(crate) fn open_tested<'a>(
+    alloc: Global,
+    place: u32,
+    file: &'a [u8],
+) -> Result<Package<'a>, MakeFault>
+    ensures bad { IfErr result (λ fault. IsRefusedAt place fault (package_fault file.entry.now)) }
+    ensures sound { IfOk result (λ _. package_fault file.entry.now ≡ None) }
+    ensures opened { IfOk result (λ _. first_fault Tables.Package file.entry.now ≡ None) }
+    ensures value { IfOk result (λ pkg.
+        opened_value pkg ≡ root_value Tables.Package (payload_in file.entry.now)) }
+    ensures payload { IfOk result (λ pkg. opened_payload pkg ≡ payload_in file.entry.now) }
+{
+    a_package_is_tested_by_its_values_and_then_its_files();
+    let mut pkg = match Package::new(alloc, file) {
+        Ok(pkg) => pkg,
+        Err(fault) => return Err(refused(place, fault)),
+    };
+    match test_files(&mut pkg) {
+        Ok(()) => Ok(pkg),
+        Err(cause) => Err(MakeFault::FileBad { place, cause }),
+    }
+}
+
+/// Reads the files of a package to the last.
+fn test_files(pkg: &mut Package<'_>) -> Result<(), Cause>
+    ensures files { cause_of result ≡ fault_in (opened_files pkg.old) }
+    ensures value { opened_value pkg.new ≡ opened_value pkg.old }
+    ensures payload { opened_payload pkg.new ≡ opened_payload pkg.old }
+{
+    while pkg.next_file()?.is_some() {}
+    Ok(())
+}
+
+/// A package at this place is refused.
+fn refused(place: u32, fault: PackageFault) -> MakeFault
+    ensures { (failed : Option Cause) → IsRefused fault failed → IsRefusedAt place result failed }
+{
+    match fault {
+        PackageFault::Bad(cause) => MakeFault::FileBad { place, cause },
+        PackageFault::Memory => MakeFault::Memory,
+    }
+}

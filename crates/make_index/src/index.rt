@@ -1,0 +1,215 @@
+//! Makes an index of packages (apk(8), `mkndx`): reads the packages that operands name, puts their
+//! entries in order, and writes the container.
+ghost use Rattle.adb_schema.specs.Schema.{shape_of};
+ghost use Rattle.adb_schema.specs.Soundness.{first_fault};
+ghost use Rattle.adb_schema.specs.declared.schema.Kind.TheVariants as Kinds;
+ghost use Rattle.adb_schema.specs.declared.schema.Which.TheVariants as Tables;
+ghost use Rattle.adb_view.specs.Plain.{arr_value, IsNormal};
+ghost use Rattle.adb_view.specs.Shaped.{HasShape};
+ghost use Rattle.adb_write.specs.Canonical.{written_of, MOST_BYTES};
+ghost use Rattle.adb_write.specs.DepthFirst.{WritesValue};
+ghost use Rattle.base_core.specs.Calls.{IfObservable};
+ghost use Rattle.base_core.specs.Read.{OnlyReads, bytes_in};
+ghost use Rattle.base_core.specs.Tree.{files_of};
+ghost use Rattle.make_index.specs.Entries.{entry_of_package};
+ghost use Rattle.make_index.specs.EntryOrder.{entry_cmp, sorted_by, version_in};
+ghost use Rattle.make_index.specs.Files.{AreFiles, IsFile};
+ghost use Rattle.make_index.specs.Index.{description_in, index_of, value_of_index, found_entries, found_entry, made_index};
+ghost use Rattle.make_index.specs.Kept.{IsMade, IsMadeBy};
+ghost use Rattle.make_index.specs.Views.{entries_view, entry_view};
+ghost use Rattle.make_info.specs.Faults.{IsOverflow};
+ghost use Rattle.make_info.specs.Reads.{Reads, reads_of};
+ghost use Rattle.make_info.specs.Values.{plains_of};
+ghost use Rattle.std.specs.Prelude.{◌≡◌, ◌≤◌, Ok, IfOk, IfErr, length, map, ◌<◌, ◌^◌, ℕ, List, All, true, None, ◌++◌, ◌∷◌, [], Option, IfSome, IsTrue};
+ghost use Rattle.version_core.specs.Order.{is_version};
+ghost use Rattle.command_core.specs.Operands.{are_files};
+
+use crate::entry::Entry;
+use adb_schema::INDEX_WORD;
+use adb_view::{Val, values_are_normal};
+use adb_write::{
+    Writer, a_value_written_depth_first_is_canonical, file_of, values_are_written_depth_first,
+};
+use base_core::{Name, Tree, read_all};
+use command_core::{Applet, Command, DESCRIPTION, Operands, Values};
+use make_info::MakeFault;
+use std::alloc::{AllocError, Global};
+use version_core::order_is_total;
+
+/// Makes an index of the packages that the operands of a command name: the container's bytes. Each
+/// package passes all its tests. The tree stays as it is, whatever the answer.
+///
+/// # Errors
+///
+/// Operand by operand, `FileMissing` or `FileBad` at the operand's place; then `TooLarge` where the
+/// index passes a limit of the writer. `Disk` where the tree failed, and `Memory`.
+pub fn make<T: Tree>(alloc: Global, command: &Command, tree: &mut T) -> Result<Vec<u8>, MakeFault>
+    requires { command.now.applet ≡ Applet.Mkndx }
+    ensures made { IfObservable (T.history tree.old) (λ v.
+        IsMadeBy (λ file. file.items) result (made_index command.now (reads_of v))) }
+    ensures found { (read : Reads) × AreFiles read 0 command.now.operands
+        × IsMadeBy (λ file. file.items) result (made_index command.now read) }
+    ensures tree { OnlyReads MakeFault.Disk (T.history tree.old) (T.history tree.new)
+        (T.counts tree.old) (T.counts tree.new) result }
+{
+    let entries = read_entries(alloc, command.operands(), tree)?;
+    index_file(alloc, description(command.values()), entries)
+}
+
+/// The description that a command gives, or nothing.
+fn description(values: &Values) -> &[u8]
+    ensures { result.now ≡ description_in values.now }
+{
+    match values.first(DESCRIPTION) {
+        Some(value) => value.text.as_bytes(),
+        None => &[],
+    }
+}
+
+/// Reads the packages that operands name, one after another up to the first that is no sound one.
+/// The bytes of each file are dropped before the next is read, but where its entry alone passes a
+/// limit of the writer.
+fn read_entries<T: Tree>(
+    alloc: Global,
+    operands: &Operands,
+    tree: &mut T,
+) -> Result<Vec<Entry>, MakeFault>
+    requires { IsTrue (are_files operands.now) }
+    ensures made { IfObservable (T.history tree.old) (λ v.
+        IsMadeBy entries_view result (found_entries (reads_of v) 0 operands.now)) }
+    ensures found { (read : Reads) × AreFiles read 0 operands.now
+        × IsMadeBy entries_view result (found_entries read 0 operands.now) }
+    ensures tree { OnlyReads MakeFault.Disk (T.history tree.old) (T.history tree.new)
+        (T.counts tree.old) (T.counts tree.new) result }
+{
+    let mut entries = Vec::new(alloc);
+    for i in 0..operands.len() {
+        let place = operands.get(i).place;
+        let entry = read_entry(alloc, place, operands.file(i), tree)?;
+        add_entry(&mut entries, entry)?;
+    }
+    Ok(entries)
+}
+
+/// Adds an entry at the end.
+fn add_entry(entries: &mut Vec<Entry>, entry: Entry) -> Result<(), AllocError>
+    ensures { IfOk result (λ _.
+        map entry_view entries.new.items
+        ≡ map entry_view entries.old.items ++ entry_view entry ∷ []) }
+{
+    entries.push(entry)?;
+    Ok(())
+}
+
+/// Reads the package in the file of this name, and makes all tests of it. The operand at a place
+/// names it.
+fn read_entry<T: Tree>(
+    alloc: Global,
+    place: u32,
+    file: &Name,
+    tree: &mut T,
+) -> Result<Entry, MakeFault>
+    ensures made { IfObservable (T.history tree.old) (λ v.
+        IsMadeBy entry_view result (found_entry place (files_of v file.now))) }
+    ensures found { (found : Option (List ℕ)) × IfSome found IsFile
+        × IsMadeBy entry_view result (found_entry place found) }
+    ensures tree { OnlyReads MakeFault.Disk (T.history tree.old) (T.history tree.new)
+        (T.counts tree.old) (T.counts tree.new) result }
+{
+    let found = read_all(alloc, tree, file)?;
+    entry_of(alloc, place, found)
+}
+
+/// The entry of what was found.
+fn entry_of(alloc: Global, place: u32, found: Option<Vec<u8>>) -> Result<Entry, MakeFault>
+    ensures made { IsMade entry_view result (found_entry place (bytes_in found)) }
+    ensures bytes { IfSome (bytes_in found) IsFile }
+{
+    match found {
+        Some(file) => Entry::of(alloc, place, file),
+        None => Err(MakeFault::FileMissing { place }),
+    }
+}
+
+/// The container of an index with this description and these entries, in any order.
+///
+/// # Errors
+///
+/// `TooLarge` where the payload passes a limit of the writer, or `Memory`.
+fn index_file(alloc: Global, description: &[u8], entries: Vec<Entry>) -> Result<Vec<u8>, MakeFault>
+    ensures { IsMade (λ file. file.items) result
+        (index_of description.now (map entry_view entries.items)) }
+{
+    let mut entries = entries;
+    sort_entries(&mut entries)?;
+    let payload = index_payload(alloc, description, &entries)?;
+    Ok(file_of(alloc, INDEX_WORD, &payload)?)
+}
+
+/// Puts entries into their order; equal ones stay in theirs.
+fn sort_entries(entries: &mut Vec<Entry>) -> Result<(), AllocError>
+    ensures { IfOk result (λ _.
+        map entry_view entries.new.items ≡ sorted_by entry_cmp (map entry_view entries.old.items)) }
+{
+    order_is_total();
+    entries.sort_by(|one, other| one.compare(other))?;
+    Ok(())
+}
+
+/// The payload of an index.
+fn index_payload(alloc: Global, description: &[u8], entries: &[Entry]) -> Result<Vec<u8>, MakeFault>
+    ensures made { IfOk result (λ payload.
+        written_of (value_of_index description.now (map entry_view entries.now))
+        ≡ Ok payload.items) }
+    ensures small { IfOk result (λ payload. length payload.items ≤ MOST_BYTES) }
+    ensures err { IfErr result (λ fault. IsOverflow fault
+        (written_of (value_of_index description.now (map entry_view entries.now)))) }
+{
+    a_value_written_depth_first_is_canonical();
+    let mut writer = Writer::new(alloc);
+    let root = write_index(alloc, &mut writer, description, entries)?;
+    Ok(writer.finish(root)?)
+}
+
+/// Writes the values of an index.
+fn write_index(
+    alloc: Global,
+    writer: &mut Writer,
+    description: &[u8],
+    entries: &[Entry],
+) -> Result<Val, AllocError>
+    ensures { IfOk result (λ root. WritesValue writer.old
+        (value_of_index description.now (map entry_view entries.now)) root writer.new) }
+{
+    values_are_written_depth_first();
+    let description = writer.blob(description)?;
+    let packages = write_entries(alloc, writer, entries)?;
+    let fields = [description, packages];
+    writer.obj(&fields)
+}
+
+/// Writes an array of entries.
+fn write_entries(alloc: Global, writer: &mut Writer, entries: &[Entry]) -> Result<Val, AllocError>
+    ensures { IfOk result (λ word.
+        WritesValue writer.old (arr_value (plains_of (map entry_view entries.now))) word writer.new) }
+{
+    values_are_written_depth_first();
+    let mut words = Vec::with_capacity(alloc, entries.len())?;
+    for entry in entries {
+        words.push(entry.write(alloc, writer)?)?;
+    }
+    writer.arr(&words)
+}
+
+/// The entry of a package is normal and has the shape of an info, and its version is one where the
+/// package is sound.
+pub fn an_entry_is_an_info()
+    ensures shape { (file : List ℕ)
+        → HasShape (shape_of (Kinds.Obj Tables.PkgInfo)) (entry_of_package file) }
+    ensures normal { (file : List ℕ) → All (λ b. b < 256) file → length file < 2 ^ 64
+        → IsNormal (entry_of_package file) }
+    ensures version { (file : List ℕ) → first_fault Tables.Package file ≡ None
+        → is_version (version_in (entry_of_package file)) ≡ true }
+{
+    values_are_normal();
+}

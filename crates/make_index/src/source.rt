@@ -1,0 +1,124 @@
+//! What is kept of a package until the index is written.
+ghost use Rattle.adb_schema.specs.Soundness.{first_fault, root_value};
+ghost use Rattle.adb_schema.specs.Views.{is_sound, entry_in};
+ghost use Rattle.adb_view.specs.Head.{head_fault, root_of};
+ghost use Rattle.adb_write.specs.Canonical.{written_of};
+ghost use Rattle.adb_write.specs.DepthFirst.{WritesValue};
+ghost use Rattle.make_index.specs.Entries.{entry_of_package, entry_value};
+ghost use Rattle.pkg_core.specs.Opened.{opened_payload, opened_value};
+ghost use Rattle.sha2.specs.Sha256.{sha256};
+ghost use Rattle.std.specs.Prelude.{◌≡◌, true, is_none, ◌<◌, ◌^◌, Ok, IfOk, IfSome};
+ghost use Rattle.adb_schema.specs.declared.schema.Kind.TheVariants as Kinds;
+ghost use Rattle.adb_schema.specs.declared.schema.Which.TheVariants as Tables;
+
+use crate::writing::write_info;
+use adb_schema::{PkgInfo, View};
+use adb_view::{Adb, Val};
+use adb_write::{WriteFault, Writer, a_value_written_depth_first_is_canonical};
+use pkg_core::{Package, PackageFault};
+use std::alloc::{AllocError, Global};
+
+/// A payload of its own for an entry, which is its root.
+#[derive(Drop)]
+pub(crate) struct EntryPayload {
+    pub(crate) payload: Vec<u8>,
+    ghost head: { is_none (head_fault payload.items) ≡ true },
+    ghost sound: { is_sound payload.items (Kinds.Obj Tables.PkgInfo) (root_of payload.items)
+        ≡ true },
+}
+
+/// The file of a package.
+#[derive(Drop)]
+pub(crate) struct PackageFile {
+    pub(crate) file: Vec<u8>,
+    ghost sound: { is_none (first_fault Tables.Package file.items) ≡ true },
+}
+
+/// An entry of an index that is still to be written.
+#[derive(Drop)]
+pub(crate) enum EntrySource {
+    /// The entry in a payload of its own.
+    Payload(EntryPayload),
+    /// The package's file, where the entry alone passes a limit of the writer. An index with it is
+    /// too large.
+    File(PackageFile),
+}
+
+impl EntrySource {
+    ghost use Rattle.make_index.specs.Kept.{kept_value, copy_of_entry};
+
+    /// Writes the entry.
+    pub(crate) fn write(&self, alloc: Global, writer: &mut Writer) -> Result<Val, AllocError>
+        ensures { IfOk result (λ word. WritesValue writer.old (kept_value self.now) word writer.new) }
+    {
+        match self {
+            EntrySource::Payload(own) => own.write(alloc, writer),
+            EntrySource::File(own) => own.write(alloc, writer),
+        }
+    }
+}
+
+impl EntryPayload {
+    /// Writes the entry.
+    fn write(&self, alloc: Global, writer: &mut Writer) -> Result<Val, AllocError>
+        ensures { IfOk result (λ word. WritesValue writer.old
+            (copy_of_entry (root_value Tables.PkgInfo self.now.payload.items)) word writer.new) }
+    {
+        let Ok(adb) = Adb::new(&self.payload) else {
+            unreachable!()
+        };
+        let info = PkgInfo::of(adb, adb.root());
+        write_info(alloc, writer, &info, info.hashes(), info.file_size())
+    }
+}
+
+impl PackageFile {
+    /// Writes the entry.
+    fn write(&self, alloc: Global, writer: &mut Writer) -> Result<Val, AllocError>
+        ensures { IfOk result (λ word. WritesValue writer.old
+            (entry_of_package self.now.file.items) word writer.new) }
+    {
+        match Package::new(alloc, &self.file) {
+            Ok(pkg) => write_package(alloc, writer, &pkg, self.file.len() as u64),
+            Err(PackageFault::Memory) => Err(AllocError),
+            Err(PackageFault::Bad(_)) => unreachable!(),
+        }
+    }
+}
+
+/// Writes the entry of a package whose file has this length.
+fn write_package(
+    alloc: Global,
+    writer: &mut Writer,
+    pkg: &Package<'_>,
+    len: u64,
+) -> Result<Val, AllocError>
+    ensures { IfOk result (λ word. WritesValue writer.old
+        (entry_value (entry_in (opened_value pkg.now) 0) (sha256 (opened_payload pkg.now)) len)
+        word writer.new) }
+{
+    let id = pkg.id();
+    let info = pkg.view().info();
+    write_info(alloc, writer, &info, &id, len)
+}
+
+/// The entry of a package in a payload of its own, or None where it passes a limit of the writer.
+pub(crate) fn entry_payload(
+    alloc: Global,
+    pkg: &Package<'_>,
+    len: u64,
+) -> Result<Option<Vec<u8>>, AllocError>
+    ensures small { len < 2 ^ 64 }
+    ensures payload { IfOk result (λ found. IfSome found (λ payload. written_of
+        (entry_value (entry_in (opened_value pkg.now) 0) (sha256 (opened_payload pkg.now)) len)
+        ≡ Ok payload.items)) }
+{
+    a_value_written_depth_first_is_canonical();
+    let mut writer = Writer::new(alloc);
+    let root = write_package(alloc, &mut writer, pkg, len)?;
+    match writer.finish(root) {
+        Ok(payload) => Ok(Some(payload)),
+        Err(WriteFault::TooLarge { .. }) => Ok(None),
+        Err(WriteFault::Memory) => Err(AllocError),
+    }
+}

@@ -1,0 +1,9 @@
+pub mod FileNames
+pub mod Left
+pub mod Numbers
+pub mod OutputFacts
+pub mod Outputs
+pub mod Reading
+pub mod Saying
+pub mod Seeing
+pub mod Written

@@ -1,0 +1,168 @@
+-- An output is short, and it is there.
+use Rattle.command_core.specs.declared.values.TheConstants.{OUTPUT}
+use Rattle.std.proofs.Common.{◌≡◌, ℕ, ◌≤◌, Bool, true, false, not, cond, List, [], ◌∷◌, ◌++◌, length, map, Option, Some, None, Result, Ok, Err, refl, sym, ◌∙◌, ap, subst}
+use Rattle.std.specs.Prelude.{is_ok, is_some, nat_le, ◌&&◌, ◌||◌, if◌then◌else◌}
+use Rattle.std.specs.List.{find, list_any}
+use Rattle.std.specs.Option.{option_and_then, option_map, option_or}
+use Rattle.std.proofs.lemmas.Bool.{and_parts, leb-true}
+use Rattle.std.proofs.lemmas.Option.{none-some}
+use Rattle.version_core.specs.Order.{is_version}
+use Rattle.dep_core.specs.Dependency.{is_package_name}
+use Rattle.command_core.specs.Applets.{may_have, needed_option, operand_rule, value_rules}
+use Rattle.command_core.specs.Command.{CommandLine, IsCommand}
+use Rattle.command_core.specs.Values.{are_values, is_given, lacks_value}
+use Rattle.command_core.specs.Operands.{are_operands}
+use Rattle.command_core.specs.Files.{is_file, without_dot}
+use Rattle.command_core.specs.declared.command.Applet.{Applet}
+use Rattle.command_core.specs.declared.command.Applet.TheVariants.{Add, Adbdump, Del, Demo, Fix, Info, Mkndx, Mkpkg, Upgrade, Verify, Version}
+use Rattle.command_core.specs.declared.values.OptionValue.{OptionValue}
+use Rattle.make_info.specs.declared.field.Field.{Field}
+use Rattle.make_info.specs.declared.field.Field.TheVariants as Fields
+use Rattle.make_info.specs.Fields.{kind_of_field, values_by_kind, text_if}
+use Rattle.make_info.specs.FieldTexts.{FieldText, file_name_in, first_text_for, field_text_in, if_passes, info_options, is_for, is_text_for, is_info_option, is_output_option, is_too_long, package_name, named_output, default_output, package_file_name_of, text_when_for, package_version}
+use Rattle.make_info.specs.Information.{InfoItem, all_items, first_offence, information, information_of, is_second, info_item, items_of_text, items_of_option, lacks_name_or_version, offends, unless_offence}
+use Rattle.make_info.specs.Output.{if_allowed, is_mkpkg, output_name, package_output}
+use Rattle.make_info.proofs.Outputs.{IsAllowedOutput, allowed, allowed_output, by_offending, no_value, own_fits, unoffended, values_are}
+use Rattle.make_info.proofs.Reading.{same_field}
+
+-- ---- it is short
+
+short_by : (applet : Applet) (file : List ℕ) → IsAllowedOutput (value_rules applet) file → length file ≤ 1016
+short_by Add file a = cc
+short_by Del file a = cc
+short_by Upgrade file a = cc
+short_by Fix file a = cc
+short_by Info file a = cc
+short_by Demo file a = cc
+short_by Verify file a = cc
+short_by Version file a = cc
+short_by Adbdump file a = cc
+short_by Mkpkg file a = subst (λ f. length f ≤ 1016) a.2 (leb-true (length (without_dot a.0)) 1016 (and_parts (is_file a.0) (nat_le (length (without_dot a.0)) 1016) a.1).1)
+short_by Mkndx file a = subst (λ f. length f ≤ 1016) a.2 (leb-true (length (without_dot a.0)) 1016 (and_parts (is_file a.0) (nat_le (length (without_dot a.0)) 1016) a.1).1)
+
+named_short : (command : CommandLine) (file : List ℕ) → IsCommand command → named_output command.values ≡ Some file → length file ≤ 1016
+named_short command file is h =
+    short_by command.applet file (allowed_output (value_rules command.applet) command.values file (values_are command is) h)
+
+package_short : (command : CommandLine) (file : List ℕ) (r : Result (List InfoItem) ℕ) (named : Option (List ℕ)) → r ≡ information command → named ≡ named_output command.values → IsCommand command → if_allowed r (option_or named (default_output command.values)) ≡ Some file → length file ≤ 1016
+package_short command file (Err place) named r n is h = absurd (none-some file h)
+package_short command file (Ok about) (Some name) r n is h = named_short command file is (sym n ∙ h)
+package_short command file (Ok about) None r n is h = own_fits command.values command.behind file (ap is_ok (sym r)) (sym n) h
+
+pub output_short : (command : CommandLine) (name : List ℕ) → IsCommand command → output_name command ≡ Some name → length name ≤ 1016
+output_short command name is h =
+    elim (is_mkpkg command.applet) as (λ b. (if b then package_output command else named_output command.values) ≡ Some name → length name ≤ 1016) [
+      | true ↦ λ e. package_short command name (information command) (named_output command.values) refl refl is e
+      | false ↦ λ e. named_short command name is e
+    ] h
+
+-- ---- it is there
+
+found_output : (vs : List OptionValue) → is_given OUTPUT vs ≡ true → is_some (named_output vs) ≡ true
+found_output [] h = cc
+found_output (v ∷ vs) h =
+    elim (is_output_option v) as (λ b. (b || is_given OUTPUT vs) ≡ true → is_some (option_map file_name_in (cond b (Some v) (find is_output_option vs))) ≡ true) [
+      | true ↦ λ e. refl
+      | false ↦ λ e. found_output vs e
+    ] h
+
+not_lacking_one : (b : Bool) → not (not b) ≡ true → b ≡ true
+not_lacking_one true h = refl
+not_lacking_one false h = cc
+
+pub index_output_there : (command : CommandLine) → IsCommand command → command.applet ≡ Mkndx → is_some (output_name command) ≡ true
+index_output_there command h is =
+    let others : Bool = may_have command.applet command.flags && are_operands (operand_rule command.applet command.flags) command.operands && are_values (value_rules command.applet) command.values in
+    let needed : not (lacks_value (needed_option command.applet) command.values) ≡ true = (and_parts others (not (lacks_value (needed_option command.applet) command.values)) h).1 in
+    let given : is_given OUTPUT command.values ≡ true = not_lacking_one (is_given OUTPUT command.values) (subst (λ (a : Applet). not (lacks_value (needed_option a) command.values) ≡ true) is needed) in
+    ap (λ a. is_some (if is_mkpkg a then package_output command else named_output command.values)) is ∙ found_output command.values given
+
+-- a field of which every good value passes a test
+abbrev IsStrict : Field → (List ℕ → Bool) → Type 0
+IsStrict f is_good = (value : List ℕ) → is_some (values_by_kind (kind_of_field f) value) ≡ true → is_good value ≡ true
+
+strict_by : (b : Bool) (value : List ℕ) → is_some (text_if b value) ≡ true → b ≡ true
+strict_by true value h = refl
+strict_by false value h = cc
+
+some_of_map : {A B : Type 0} (f : A → B) (o : Option A) → is_some (option_map f o) ≡ true → is_some o ≡ true
+some_of_map f None h = cc
+some_of_map f (Some x) h = refl
+
+no_offence : (a b : Bool) → (not a || b) ≡ false → a ≡ true
+no_offence true b h = refl
+no_offence false b h = cc
+
+first_or : (is_good : List ℕ → Bool) (x later : Option (List ℕ)) → is_some (option_and_then (if_passes is_good) x) ≡ true → is_some (option_and_then (if_passes is_good) (option_or x later)) ≡ true
+first_or is_good None later h = cc
+first_or is_good (Some x) later h = h
+
+later_or : (is_good : List ℕ → Bool) (x later : Option (List ℕ)) → x ≡ None → is_some (option_and_then (if_passes is_good) later) ≡ true → is_some (option_and_then (if_passes is_good) (option_or x later)) ≡ true
+later_or is_good x later is h = ap (λ o. is_some (option_and_then (if_passes is_good) (option_or o later))) is ∙ h
+
+module _ (f : Field) (is_good : List ℕ → Bool) (strict : IsStrict f is_good) where
+  good_here : (o : Option FieldText) → is_some (option_and_then items_of_text o) ≡ true → is_text_for f o ≡ true → is_some (option_and_then (if_passes is_good) (text_when_for f o)) ≡ true
+  good_here None allowed same = cc
+  good_here (Some g) allowed same =
+      let field : g.field ≡ f = same_field g.field f same in
+      let said : is_some (values_by_kind (kind_of_field g.field) g.value) ≡ true = some_of_map (λ said. [] ++ map (info_item g.field) said) (values_by_kind (kind_of_field g.field) g.value) allowed in
+      let good : is_good g.value ≡ true = strict g.value (subst (λ (h : Field). is_some (values_by_kind (kind_of_field h) g.value) ≡ true) field said) in
+      ap (λ b. is_some (option_and_then (if_passes is_good) (if b then Some g.value else None))) same
+      ∙ ap (λ b. is_some (if b then Some g.value else None)) good
+
+  module _ (too_long : Bool) where
+    abbrev Later : List OptionValue → Option (List ℕ) → Type 0
+    Later rest later = (before : List OptionValue) → first_offence too_long before rest ≡ None → list_any (is_for f) rest ≡ true → is_some (option_and_then (if_passes is_good) later) ≡ true
+
+    by_field : (v : OptionValue) (before rest : List OptionValue) (later : Option (List ℕ)) (b : Bool) → is_for f v ≡ b → offends too_long before v ≡ false → first_offence too_long (before ++ v ∷ []) rest ≡ None
+        → (b || list_any (is_for f) rest) ≡ true → Later rest later → is_some (option_and_then (if_passes is_good) (option_or (text_when_for f (field_text_in v.text)) later)) ≡ true
+    by_field v before rest later true here fine none any more =
+        first_or is_good (text_when_for f (field_text_in v.text)) later (good_here (field_text_in v.text) (no_offence (is_some (items_of_option v)) (is_second before v || (too_long && is_for Fields.Version v)) fine) here)
+    by_field v before rest later false here fine none any more =
+        later_or is_good (text_when_for f (field_text_in v.text)) later (no_value f (field_text_in v.text) here) (more (before ++ v ∷ []) none any)
+
+    by_info : (v : OptionValue) (before rest : List OptionValue) (later : Option (List ℕ)) (b : Bool) → first_offence too_long before (cond b (v ∷ rest) rest) ≡ None → list_any (is_for f) (cond b (v ∷ rest) rest) ≡ true
+        → Later rest later → is_some (option_and_then (if_passes is_good) (option_or (cond b (text_when_for f (field_text_in v.text)) None) later)) ≡ true
+    by_info v before rest later true none any more =
+        let parts = by_offending (offends too_long before v) v.place (first_offence too_long (before ++ v ∷ []) rest) none in
+        by_field v before rest later (is_for f v) refl parts.0 parts.1 any more
+    by_info v before rest later false none any more = more before none any
+
+    good_first : (before vs : List OptionValue) → first_offence too_long before (info_options vs) ≡ None → list_any (is_for f) (info_options vs) ≡ true → is_some (option_and_then (if_passes is_good) (first_text_for f vs)) ≡ true
+    good_first before [] none any = cc
+    good_first before (v ∷ vs) none any = by_info v before (info_options vs) (first_text_for f vs) (is_info_option v) none any (λ earlier n a. good_first earlier vs n a)
+
+both_there : (name version : Option (List ℕ)) → is_some name ≡ true → is_some version ≡ true → is_some (package_file_name_of name version) ≡ true
+both_there None version n v = cc
+both_there (Some name) None n v = cc
+both_there (Some name) (Some version) n v = refl
+
+any_or : (named own : Option (List ℕ)) → is_some own ≡ true → is_some (option_or named own) ≡ true
+any_or None own h = h
+any_or (Some name) own h = refl
+
+not_lacking : (a b : Bool) (behind : ℕ) (all : List InfoItem) → is_ok (if not a || not b then Err behind else Ok all) ≡ true → (a ≡ true) × (b ≡ true)
+not_lacking true true behind all h = (refl, refl)
+not_lacking true false behind all h = cc
+not_lacking false b behind all h = cc
+
+told_all : (o : Option ℕ) (otherwise : Result (List InfoItem) ℕ) → is_ok (unless_offence o otherwise) ≡ true → is_ok otherwise ≡ true
+told_all None otherwise h = h
+told_all (Some place) otherwise h = cc
+
+own_there : (values : List OptionValue) (behind : ℕ) → is_ok (information_of values behind) ≡ true → is_some (default_output values) ≡ true
+unfolding information_of
+own_there values behind h =
+    let told = info_options values in
+    let none = unoffended values behind h in
+    let given = not_lacking (list_any (is_for Fields.Name) told) (list_any (is_for Fields.Version) told) behind (all_items told) (told_all (first_offence (is_too_long values) [] told) (if lacks_name_or_version told then Err behind else Ok (all_items told)) h) in
+    both_there (package_name values) (package_version values)
+    (good_first Fields.Name is_package_name (λ value said. strict_by (is_package_name value) value said) (is_too_long values) [] values none given.0)
+    (good_first Fields.Version is_version (λ value said. strict_by (is_version value) value said) (is_too_long values) [] values none given.1)
+
+pub package_output_there : (command : CommandLine) → command.applet ≡ Mkpkg → is_ok (information command) ≡ true → is_some (output_name command) ≡ true
+package_output_there command is good =
+    let own = own_there command.values command.behind good in
+    ap (λ a. is_some (if is_mkpkg a then package_output command else named_output command.values)) is
+    ∙ ap is_some (allowed (information command) (option_or (named_output command.values) (default_output command.values)) good)
+    ∙ any_or (named_output command.values) (default_output command.values) own

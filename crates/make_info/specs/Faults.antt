@@ -1,0 +1,39 @@
+-- Of which faults a fault of making speaks.
+use Rattle.std.specs.Prelude.{◌≡◌, ℕ, List, Result, Ok, Err}
+use Rattle.base_core.specs.declared.tree.TreeFault.{TreeFault}
+use Rattle.base_core.specs.declared.tree.TreeFault.TheVariants as Trees
+use Rattle.adb_write.specs.Canonical.{PayloadCounts}
+use Rattle.adb_write.specs.declared.fault.WriteFault.{WriteFault}
+use Rattle.adb_write.specs.declared.fault.WriteFault.TheVariants as Writes
+use Rattle.make_info.specs.declared.fault.MakeFault.{MakeFault}
+use Rattle.make_info.specs.declared.fault.MakeFault.TheVariants.{FileMissing, FileBad, InfoBad, TooLarge, Disk, Memory}
+
+-- the fault of making that a fault of the tree is
+abbrev pub IsMakeFaultOf : TreeFault → MakeFault → Type 0
+IsMakeFaultOf Trees.Disk fault = fault ≡ Disk
+IsMakeFaultOf Trees.Memory fault = fault ≡ Memory
+
+-- and that a fault of the writer is
+abbrev pub IsMakeFaultBy : WriteFault → MakeFault → Type 0
+IsMakeFaultBy (Writes.TooLarge bytes values) fault = fault ≡ TooLarge bytes values
+IsMakeFaultBy Writes.Memory fault = fault ≡ Memory
+
+-- a refusal is at the first place that offends; want of memory says nothing of the values
+abbrev pub IsInfoFault : {A : Type 0} → MakeFault → Result A ℕ → Type 0
+IsInfoFault (FileMissing place) answer = ⊥
+IsInfoFault (FileBad place cause) answer = ⊥
+IsInfoFault (InfoBad place) answer = answer ≡ Err place
+IsInfoFault (TooLarge bytes values) answer = ⊥
+IsInfoFault Disk answer = ⊥
+IsInfoFault Memory answer = Unit {0}
+
+-- the counts with which the writer stops; want of memory says nothing of them
+abbrev pub IsOverflow : MakeFault → Result (List ℕ) PayloadCounts → Type 0
+IsOverflow (TooLarge bytes values) written = written ≡ Err (bytes, values)
+IsOverflow Memory written = Unit {0}
+IsOverflow fault written = ⊥
+
+-- whatever the answer, unless the tree failed
+abbrev pub UnlessDisk : {A : Type 0} → Result A MakeFault → Type 0 → Type 0
+UnlessDisk (Err Disk) P = Unit {0}
+UnlessDisk result P = P

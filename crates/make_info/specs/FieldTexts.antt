@@ -1,0 +1,96 @@
+-- The values of `-I` of a command: which field each is for, and the package's name and version among them.
+use Rattle.command_core.specs.declared.values.TheConstants.{INFO, OUTPUT}
+use Rattle.std.specs.Prelude.{ℕ, ◌+◌, ◌==◌, nat_lt, Bool, false, List, [], ◌∷◌, ◌++◌, length, take, drop, position, codes, Option, Some, None, option_map, option_and_then, is_some, not, ◌&&◌, if◌then◌else◌}
+use Rattle.std.specs.List.{filter, find}
+use Rattle.std.specs.Option.{option_or}
+use Rattle.std.specs.Str.{bytes_eq}
+use Rattle.version_core.specs.Order.{is_version}
+use Rattle.dep_core.specs.Dependency.{is_package_name}
+use Rattle.command_core.specs.Files.{without_dot}
+use Rattle.command_core.specs.declared.values.OptionValue.{OptionValue}
+use Rattle.make_info.specs.declared.field.Field.{Field}
+use Rattle.make_info.specs.declared.field.Field.TheVariants as Fields
+use Rattle.make_info.specs.Fields.{field_of, field_word}
+
+-- a field, and the value that is given for it
+pub record FieldText : Type 0 where
+  pub field : Field
+  pub value : List ℕ
+
+abbrev pub field_text_from : List ℕ → Option ℕ → Option FieldText
+field_text_from text None = None
+field_text_from text (Some colon) = option_map (λ f. record { field = f; value = drop (colon + 1) text }) (field_of (take colon text))
+
+-- a text FIELD:VALUE, where FIELD ends before the first `:`; None where there is no `:`, or FIELD is no field
+abbrev pub field_text_in : List ℕ → Option FieldText
+field_text_in text = field_text_from text (position (λ b. b == 58) text)
+
+abbrev pub is_same : Field → Field → Bool
+is_same f g = bytes_eq (field_word f) (field_word g)
+
+abbrev pub is_text_for : Field → Option FieldText → Bool
+is_text_for f None = false
+is_text_for f (Some given) = is_same given.field f
+
+-- whether a value of `-I` is for a field
+abbrev pub is_for : Field → OptionValue → Bool
+is_for f v = is_text_for f (field_text_in v.text)
+
+abbrev pub is_info_option : OptionValue → Bool
+is_info_option v = v.letter == INFO
+
+-- the values of `-I`, in the order given
+abbrev pub info_options : List OptionValue → List OptionValue
+info_options values = filter is_info_option values
+
+abbrev pub text_when_for : Field → Option FieldText → Option (List ℕ)
+text_when_for f None = None
+text_when_for f (Some given) = if is_same given.field f then Some given.value else None
+
+-- what a value of an option gives for a field, if it is one of `-I` and for that field
+abbrev pub text_for : Field → OptionValue → Option (List ℕ)
+text_for f v = if is_info_option v then text_when_for f (field_text_in v.text) else None
+
+-- the first value that is given for a field, good or not
+abbrev pub first_text_for : Field → List OptionValue → Option (List ℕ)
+first_text_for f [] = None
+first_text_for f (v ∷ vs) = option_or (text_for f v) (first_text_for f vs)
+
+abbrev pub if_passes : (List ℕ → Bool) → List ℕ → Option (List ℕ)
+if_passes is_good value = if is_good value then Some value else None
+
+-- the package's name and its version, where they are given and good
+abbrev pub package_name : List OptionValue → Option (List ℕ)
+package_name values = option_and_then (if_passes is_package_name) (first_text_for Fields.Name values)
+
+abbrev pub package_version : List OptionValue → Option (List ℕ)
+package_version values = option_and_then (if_passes is_version) (first_text_for Fields.Version values)
+
+-- NAME-VERSION.apk
+abbrev pub package_file_name : List ℕ → List ℕ → List ℕ
+package_file_name name version = name ++ (45 ∷ version ++ codes ".apk")
+
+abbrev pub package_file_name_of : Option (List ℕ) → Option (List ℕ) → Option (List ℕ)
+package_file_name_of name version = option_and_then (λ name. option_map (package_file_name name) version) name
+
+-- the file that is made where no output is named
+abbrev pub default_output : List OptionValue → Option (List ℕ)
+default_output values = package_file_name_of (package_name values) (package_version values)
+
+abbrev pub is_output_option : OptionValue → Bool
+is_output_option v = v.letter == OUTPUT
+
+abbrev pub file_name_in : OptionValue → List ℕ
+file_name_in v = without_dot v.text
+
+-- the file that `-o` names
+abbrev pub named_output : List OptionValue → Option (List ℕ)
+named_output values = option_map file_name_in (find is_output_option values)
+
+abbrev pub is_long_name : Option (List ℕ) → Bool
+is_long_name None = false
+is_long_name (Some file) = nat_lt 1016 (length file)
+
+-- whether the output is NAME-VERSION.apk, and that is too long
+abbrev pub is_too_long : List OptionValue → Bool
+is_too_long values = not (is_some (named_output values)) && is_long_name (default_output values)

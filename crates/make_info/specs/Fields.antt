@@ -1,0 +1,144 @@
+-- The fields that `-I` of `mkpkg` may give, and what a value of each says (apk(8), `mkpkg`).
+use Rattle.std.specs.Prelude.{ℕ, ◌^◌, ◌==◌, nat_lt, Bool, true, false, ◌&&◌, not, if◌then◌else◌, List, [], ◌∷◌, length, map, codes, Option, Some, None, option_map, option_and_then, is_some, Result, Ok, Err}
+use Rattle.std.specs.Char.{is_ascii_digit}
+use Rattle.std.specs.List.{filter, find, list_all, slice_split}
+use Rattle.std.specs.Str.{bytes_eq}
+use Rattle.std.specs.Str.Parse.{digits_value}
+use Rattle.hex.specs.Hex.{decode_of}
+use Rattle.hex.specs.declared.error.FromHexError.{FromHexError}
+use Rattle.version_core.specs.Order.{is_version}
+use Rattle.dep_core.specs.Dependency.{Dependency, is_package_name}
+use Rattle.dep_core.specs.Reading.{dependency_of}
+use Rattle.make_info.specs.declared.field.Field.{Field}
+use Rattle.make_info.specs.declared.field.Field.TheVariants as Fields
+use Rattle.make_info.specs.declared.field.Kind.{Kind}
+use Rattle.make_info.specs.declared.field.Kind.TheVariants as Kinds
+
+-- the word that names a field
+abbrev pub field_word : Field → List ℕ
+field_word Fields.Name = codes "name"
+field_word Fields.Version = codes "version"
+field_word Fields.Description = codes "description"
+field_word Fields.Arch = codes "arch"
+field_word Fields.License = codes "license"
+field_word Fields.Origin = codes "origin"
+field_word Fields.Maintainer = codes "maintainer"
+field_word Fields.Url = codes "url"
+field_word Fields.RepoCommit = codes "repo-commit"
+field_word Fields.BuildTime = codes "build-time"
+field_word Fields.ProviderPriority = codes "provider-priority"
+field_word Fields.ReplacesPriority = codes "replaces-priority"
+field_word Fields.Depends = codes "depends"
+field_word Fields.Provides = codes "provides"
+field_word Fields.Replaces = codes "replaces"
+field_word Fields.InstallIf = codes "install-if"
+field_word Fields.Recommends = codes "recommends"
+field_word Fields.Tags = codes "tags"
+
+abbrev pub fields : List Field
+fields =
+    Fields.Name ∷ Fields.Version ∷ Fields.Description ∷ Fields.Arch ∷ Fields.License ∷ Fields.Origin ∷ Fields.Maintainer ∷ Fields.Url
+    ∷ Fields.RepoCommit ∷ Fields.BuildTime ∷ Fields.ProviderPriority ∷ Fields.ReplacesPriority ∷ Fields.Depends ∷ Fields.Provides
+    ∷ Fields.Replaces ∷ Fields.InstallIf ∷ Fields.Recommends ∷ Fields.Tags ∷ []
+
+-- the field that a word names, among some
+abbrev pub field_among : List Field → List ℕ → Option Field
+field_among fields word = find (λ f. bytes_eq (field_word f) word) fields
+
+unfoldable pub field_of : List ℕ → Option Field
+field_of word = field_among fields word
+
+-- what a value of a field has to be
+abbrev pub kind_of_field : Field → Kind
+kind_of_field Fields.Name = Kinds.PackageName
+kind_of_field Fields.Version = Kinds.PackageVersion
+kind_of_field Fields.Description = Kinds.AnyText
+kind_of_field Fields.Arch = Kinds.AnyText
+kind_of_field Fields.License = Kinds.AnyText
+kind_of_field Fields.Origin = Kinds.AnyText
+kind_of_field Fields.Maintainer = Kinds.AnyText
+kind_of_field Fields.Url = Kinds.AnyText
+kind_of_field Fields.RepoCommit = Kinds.HexDigits
+kind_of_field Fields.BuildTime = Kinds.Number
+kind_of_field Fields.ProviderPriority = Kinds.Number
+kind_of_field Fields.ReplacesPriority = Kinds.Number
+kind_of_field Fields.Depends = Kinds.Dependencies
+kind_of_field Fields.Provides = Kinds.Dependencies
+kind_of_field Fields.Replaces = Kinds.Dependencies
+kind_of_field Fields.InstallIf = Kinds.Dependencies
+kind_of_field Fields.Recommends = Kinds.Dependencies
+kind_of_field Fields.Tags = Kinds.Texts
+
+-- whether a field may stand several times, each value adding to it
+abbrev pub is_list : Kind → Bool
+is_list Kinds.PackageName = false
+is_list Kinds.PackageVersion = false
+is_list Kinds.AnyText = false
+is_list Kinds.HexDigits = false
+is_list Kinds.Number = false
+is_list Kinds.Dependencies = true
+is_list Kinds.Texts = true
+
+-- one thing that is said of a field; digits in pairs say their bytes
+pub data FieldValue : Type 0 where
+  text : List ℕ → FieldValue
+  number : ℕ → FieldValue
+  need : Dependency → FieldValue
+
+-- ---- what a value says under a kind; None where it is outside of the kind's grammar
+
+abbrev pub text_if : Bool → List ℕ → Option (List FieldValue)
+text_if true value = Some (text value ∷ [])
+text_if false value = None
+
+abbrev pub value_of_digits : Result (List ℕ) FromHexError → Option (List FieldValue)
+value_of_digits (Ok bytes) = Some (text bytes ∷ [])
+value_of_digits (Err e) = None
+
+-- a zero that stands before other bytes
+abbrev pub has_zero_in_front : List ℕ → Bool
+has_zero_in_front [] = false
+has_zero_in_front (d ∷ ds) = (d == 48) && nat_lt 0 (length ds)
+
+abbrev pub is_decimal : List ℕ → Bool
+is_decimal value = nat_lt 0 (length value) && (not (has_zero_in_front value) && list_all is_ascii_digit value)
+
+abbrev pub decimal_number : List ℕ → Option ℕ
+decimal_number value =
+    if is_decimal value && nat_lt (digits_value 10 value) (2 ^ 64) then Some (digits_value 10 value) else None
+
+-- the parts between spaces; empty ones are passed over
+abbrev pub is_nonempty : List ℕ → Bool
+is_nonempty part = nat_lt 0 (length part)
+
+abbrev pub nonempty_part : List ℕ → List (List ℕ)
+nonempty_part part = if is_nonempty part then part ∷ [] else []
+
+abbrev pub nonempty_parts : List ℕ → List (List ℕ)
+nonempty_parts value = filter is_nonempty (slice_split (λ b. b == 32) value)
+
+abbrev pub text_values : List (List ℕ) → List FieldValue
+text_values parts = map text parts
+
+abbrev pub if_untagged : Dependency → Option Dependency
+if_untagged d = if is_some d.tag then None else Some d
+
+-- a dependency without tag
+abbrev pub need_in : List ℕ → Option Dependency
+need_in part = option_and_then if_untagged (dependency_of part)
+
+abbrev pub and_needs : Option Dependency → Option (List FieldValue) → Option (List FieldValue)
+and_needs d others = option_and_then (λ d. option_map (λ others. need d ∷ others) others) d
+
+abbrev pub needs_in : List (List ℕ) → Option (List FieldValue)
+needs_in [] = Some []
+needs_in (part ∷ parts) = and_needs (need_in part) (needs_in parts)
+
+abbrev pub values_by_kind : Kind → List ℕ → Option (List FieldValue)
+values_by_kind Kinds.PackageName value = text_if (is_package_name value) value
+values_by_kind Kinds.PackageVersion value = text_if (is_version value) value
+values_by_kind Kinds.AnyText value = text_if true value
+values_by_kind Kinds.HexDigits value = value_of_digits (decode_of value)
+values_by_kind Kinds.Number value = option_map (λ n. number n ∷ []) (decimal_number value)
+values_by_kind Kinds.Dependencies value = needs_in (nonempty_parts value)
+values_by_kind Kinds.Texts value = Some (text_values (nonempty_parts value))

@@ -1,0 +1,21 @@
+-- What the program's values stand for.
+use Rattle.dep_core.specs.Meets.{dependency}
+use Rattle.make_info.specs.declared.information.FieldText.{FieldText as FieldSlices}
+use Rattle.make_info.specs.declared.information.Value.{Value}
+use Rattle.make_info.specs.declared.information.Value.TheVariants.{Text, Bytes, Number, Need}
+use Rattle.make_info.specs.declared.information.Item.{Item}
+use Rattle.make_info.specs.Fields.{FieldValue, text, number, need}
+use Rattle.make_info.specs.FieldTexts.{FieldText}
+use Rattle.make_info.specs.Information.{InfoItem}
+
+abbrev pub field_text_view : FieldSlices → FieldText
+field_text_view slice = record { field = slice.field; value = slice.value.now }
+
+abbrev pub value_view : Value → FieldValue
+value_view (Text bytes) = text bytes.now
+value_view (Bytes bytes) = text bytes.items
+value_view (Number n) = number n
+value_view (Need dep) = need (dependency dep)
+
+abbrev pub item_view : Item → InfoItem
+item_view e = record { field = e.field; said = value_view e.value }

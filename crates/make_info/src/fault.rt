@@ -1,0 +1,68 @@
+//! Why nothing was made.
+use adb_write::WriteFault;
+use base_core::{Cause, Disk, TreeFault};
+use std::alloc::AllocError;
+
+/// Why nothing was made. Places count the arguments of the command line from 1.
+#[derive(Clone, Copy, Debug, PartialEq, Eq, Drop)]
+pub enum MakeFault {
+    /// There is no file under the name that this argument gives.
+    FileMissing { place: u32 },
+    /// The file under the name that this argument gives is no sound package.
+    FileBad { place: u32, cause: Cause },
+    /// This argument says something of the package that is not allowed; or, behind the last argument,
+    /// something is lacking.
+    InfoBad { place: u32 },
+    /// The payload to be made passes a limit of the writer. The counts are those just behind the
+    /// value that does.
+    TooLarge { bytes: u64, values: u64 },
+    /// The tree failed.
+    Disk,
+    /// There was no memory.
+    Memory,
+}
+
+impl From<AllocError> for MakeFault {
+    ghost use Rattle.std.specs.Prelude.{◌≡◌};
+    ghost use Rattle.make_info.specs.declared.fault.MakeFault.TheVariants.{Memory, Disk as DiskFault};
+
+    ghost from_gives = { λ _ fault. fault ≡ Memory };
+
+    fn from(_: AllocError) -> MakeFault {
+        MakeFault::Memory
+    }
+}
+
+impl From<Disk> for MakeFault {
+    ghost use Rattle.std.specs.Prelude.{◌≡◌};
+
+    ghost from_gives = { λ _ fault. fault ≡ DiskFault };
+
+    fn from(_: Disk) -> MakeFault {
+        MakeFault::Disk
+    }
+}
+
+impl From<TreeFault> for MakeFault {
+    ghost use Rattle.make_info.specs.Faults.{IsMakeFaultOf, IsMakeFaultBy};
+
+    ghost from_gives = { λ tree fault. IsMakeFaultOf tree fault };
+
+    fn from(fault: TreeFault) -> MakeFault {
+        match fault {
+            TreeFault::Disk => MakeFault::Disk,
+            TreeFault::Memory => MakeFault::Memory,
+        }
+    }
+}
+
+impl From<WriteFault> for MakeFault {
+    ghost from_gives = { λ write fault. IsMakeFaultBy write fault };
+
+    fn from(fault: WriteFault) -> MakeFault {
+        match fault {
+            WriteFault::TooLarge { bytes, values } => MakeFault::TooLarge { bytes, values },
+            WriteFault::Memory => MakeFault::Memory,
+        }
+    }
+}

@@ -1,0 +1,185 @@
+//! The fields of `-I` of `mkpkg` (apk(8)), and what a value of each has to be.
+ghost use Rattle.make_info.specs.Fields.{field_of, field_word, is_list, kind_of_field, field_among, has_zero_in_front, is_decimal, decimal_number};
+ghost use Rattle.std.specs.Char.{is_ascii_digit};
+ghost use Rattle.std.specs.List.{list_all};
+ghost use Rattle.std.specs.Prelude.{◌≡◌};
+
+use std::str;
+
+/// A field of a package's information that `-I` of `mkpkg` may give (apk(8), `mkpkg`).
+#[derive(Clone, Copy, Debug, PartialEq, Eq)]
+pub(crate) enum Field {
+    Name,
+    Version,
+    Description,
+    Arch,
+    License,
+    Origin,
+    Maintainer,
+    Url,
+    RepoCommit,
+    BuildTime,
+    ProviderPriority,
+    ReplacesPriority,
+    Depends,
+    Provides,
+    Replaces,
+    InstallIf,
+    Recommends,
+    Tags,
+}
+
+/// What a value has to be.
+#[derive(Clone, Copy)]
+pub(crate) enum Kind {
+    /// A package's name.
+    PackageName,
+    /// A version.
+    PackageVersion,
+    /// Any text.
+    AnyText,
+    /// Pairs of hexadecimal digits, of either case.
+    HexDigits,
+    /// A decimal number below 2^64 without leading zeros.
+    Number,
+    /// Dependencies without tag, with spaces between them.
+    Dependencies,
+    /// Texts with spaces between them.
+    Texts,
+}
+
+// All fields.
+static FIELDS: [Field; 18] = [
+    Field::Name,
+    Field::Version,
+    Field::Description,
+    Field::Arch,
+    Field::License,
+    Field::Origin,
+    Field::Maintainer,
+    Field::Url,
+    Field::RepoCommit,
+    Field::BuildTime,
+    Field::ProviderPriority,
+    Field::ReplacesPriority,
+    Field::Depends,
+    Field::Provides,
+    Field::Replaces,
+    Field::InstallIf,
+    Field::Recommends,
+    Field::Tags,
+];
+
+impl Field {
+    /// The field that a word names.
+    #[tactic(auto, unfolding(crate::specs::Fields::field_of))]
+    pub(crate) fn of(word: &[u8]) -> Option<Field>
+        ensures { result ≡ field_of word.now }
+    {
+        find_named(&FIELDS, word)
+    }
+
+    // The word that names it.
+    fn word(self) -> &'static [u8]
+        ensures { result.now ≡ field_word self }
+    {
+        match self {
+            Field::Name => b"name",
+            Field::Version => b"version",
+            Field::Description => b"description",
+            Field::Arch => b"arch",
+            Field::License => b"license",
+            Field::Origin => b"origin",
+            Field::Maintainer => b"maintainer",
+            Field::Url => b"url",
+            Field::RepoCommit => b"repo-commit",
+            Field::BuildTime => b"build-time",
+            Field::ProviderPriority => b"provider-priority",
+            Field::ReplacesPriority => b"replaces-priority",
+            Field::Depends => b"depends",
+            Field::Provides => b"provides",
+            Field::Replaces => b"replaces",
+            Field::InstallIf => b"install-if",
+            Field::Recommends => b"recommends",
+            Field::Tags => b"tags",
+        }
+    }
+
+    /// What a value of it has to be.
+    pub(crate) fn kind(self) -> Kind
+        ensures { result ≡ kind_of_field self }
+    {
+        match self {
+            Field::Name => Kind::PackageName,
+            Field::Version => Kind::PackageVersion,
+            Field::Description
+            | Field::Arch
+            | Field::License
+            | Field::Origin
+            | Field::Maintainer
+            | Field::Url => Kind::AnyText,
+            Field::RepoCommit => Kind::HexDigits,
+            Field::BuildTime | Field::ProviderPriority | Field::ReplacesPriority => Kind::Number,
+            Field::Depends
+            | Field::Provides
+            | Field::Replaces
+            | Field::InstallIf
+            | Field::Recommends => Kind::Dependencies,
+            Field::Tags => Kind::Texts,
+        }
+    }
+}
+
+impl Kind {
+    /// Whether a field of this kind may be given several times, each value adding to it.
+    pub(crate) fn is_list(self) -> bool
+        ensures { result ≡ is_list self }
+    {
+        matches!(self, Kind::Dependencies | Kind::Texts)
+    }
+}
+
+// The first of some fields that a word names.
+fn find_named(fields: &[Field], word: &[u8]) -> Option<Field>
+    ensures { result ≡ field_among fields.now word.now }
+{
+    fields.iter().copied().find(|field| field.word() == word)
+}
+
+/// The number that the digits are. None: they are none, or above 2^64 - 1, or have a zero in front.
+pub(crate) fn read_number(digits: &[u8]) -> Option<u64>
+    ensures { result ≡ decimal_number digits.now }
+{
+    if !is_decimal(digits) {
+        return None;
+    }
+    match str::from_utf8(digits) {
+        Ok(text) => text.parse::<u64>().ok(),
+        Err(_) => None,
+    }
+}
+
+// Whether a text is a decimal number without leading zeros.
+fn is_decimal(digits: &[u8]) -> bool
+    ensures { result ≡ is_decimal digits.now }
+{
+    if digits.is_empty() || has_zero_in_front(digits) {
+        return false;
+    }
+    are_digits(digits)
+}
+
+fn has_zero_in_front(digits: &[u8]) -> bool
+    ensures { result ≡ has_zero_in_front digits.now }
+{
+    match digits.split_first() {
+        Some((b'0', rest)) => !rest.is_empty(),
+        _ => false,
+    }
+}
+
+fn are_digits(digits: &[u8]) -> bool
+    ensures { result ≡ list_all is_ascii_digit digits.now }
+{
+    digits.iter().all(|digit| digit.is_ascii_digit())
+}

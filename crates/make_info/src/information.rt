@@ -1,0 +1,292 @@
+//! The information of a package, read from the values of `-I` of `mkpkg` (apk(8)).
+ghost use Rattle.dep_core.specs.Meets.{dependency};
+ghost use Rattle.hex.specs.Hex.{decode_of};
+ghost use Rattle.make_info.specs.Faults.{IsInfoFault};
+ghost use Rattle.make_info.specs.FieldTexts.{field_text_in};
+ghost use Rattle.make_info.specs.Fields.{value_of_digits, kind_of_field, need_in, needs_in, number, decimal_number, nonempty_part, nonempty_parts, values_by_kind, text_if, text_values};
+ghost use Rattle.make_info.specs.Information.{information, information_of, is_item_for, info_item, with_values};
+ghost use Rattle.make_info.specs.Reading.{has_no_name_or_version, items_with};
+ghost use Rattle.make_info.specs.Views.{field_text_view, item_view, value_view};
+ghost use Rattle.std.specs.List.{find};
+ghost use Rattle.std.specs.Option.{option_map};
+ghost use Rattle.std.specs.Prelude.{◌≡◌, ◌==◌, ◌<◌, length, position, IfSome, Ok, Some, None, IfOk, IfErr, if◌then◌else◌, ◌++◌, ◌∷◌, [], OnOk, map};
+
+use crate::fault::MakeFault;
+use crate::field::{Field, Kind, read_number};
+use crate::output::is_too_long;
+use command_core::{Command, Values};
+use dep_core::{Dep, is_package_name, read_dep};
+use hex::FromHexError;
+use std::alloc::{AllocError, Global};
+use std::marker::Model;
+use version_core::Version;
+
+/// A field, and the value that is given for it.
+#[derive(Clone, Copy)]
+pub(crate) struct FieldText<'a> {
+    pub field: Field,
+    pub value: &'a [u8],
+}
+
+impl<'a> FieldText<'a> {
+    /// Reads FIELD:VALUE, where FIELD ends before the first `:`. None: there is no `:`, or FIELD is no field.
+    pub(crate) fn of(text: &'a [u8]) -> Option<FieldText<'a>>
+        ensures { option_map field_text_view result ≡ field_text_in text.entry.now }
+    {
+        let colon = colon_in(text)?;
+        let field = Field::of(&text[..colon])?;
+        let value = &text[colon + 1..];
+        Some(FieldText { field, value })
+    }
+}
+
+// Where the first `:` stands.
+fn colon_in(text: &[u8]) -> Option<usize>
+    ensures at { result ≡ position (λ b. b == 58) text.now }
+    ensures within { IfSome result (λ at. at < length text.now) }
+{
+    text.iter().position(|byte| *byte == b':')
+}
+
+/// What the values of `-I` of `mkpkg` say of a package (apk(8)). It borrows their texts from the command.
+#[derive(Drop)]
+pub struct Information<'a> {
+    pub(crate) entries: Items<'a>,
+}
+
+impl<'a> Model for Information<'a> {
+    ghost use Rattle.std.specs.Prelude.{List};
+    ghost use Rattle.make_info.specs.Information.{InfoItem};
+
+    ghost Value = { List InfoItem };
+
+    ghost view = { λ info. info.entries };
+}
+
+/// Reads the information of the package that a command is to make. `InfoBad` is at the first place that offends: that of
+/// a value that is not allowed, of a second value of a single field, or of the version where the output has no name of its
+/// own and NAME-VERSION.apk has more than 1,016 bytes; and behind the last word where the name or the version is lacking.
+pub fn read_information<'a>(
+    alloc: Global,
+    command: &'a Command,
+) -> Result<Information<'a>, MakeFault>
+    ensures ok { IfOk result (λ info. information command.entry.now ≡ Ok info) }
+    ensures err { IfErr result (λ fault. IsInfoFault fault (information command.entry.now)) }
+{
+    read_values(alloc, command.values(), command.behind())
+}
+
+#[tactic(auto, unfolding(crate::specs::Information::information_of))]
+fn read_values<'a>(
+    alloc: Global,
+    values: &'a Values,
+    behind: u32,
+) -> Result<Information<'a>, MakeFault>
+    ensures ok { IfOk result (λ info. information_of values.entry.now behind ≡ Ok info) }
+    ensures err { IfErr result (λ fault. IsInfoFault fault (information_of values.entry.now behind)) }
+{
+    let too_long = is_too_long(values);
+    let mut entries = Items::new(alloc);
+    for i in 0..values.len() {
+        let value = values.get(i);
+        if value.letter != b'I' {
+            continue;
+        }
+        if !add_value(&mut entries, value.text.as_bytes(), too_long)? {
+            return Err(MakeFault::InfoBad { place: value.place });
+        }
+    }
+    if is_lacking(&entries) {
+        return Err(MakeFault::InfoBad { place: behind });
+    }
+    Ok(Information { entries })
+}
+
+// Adds what a value says. False: it offends.
+#[tactic(auto, unfolding(crate::specs::Reading::items_with))]
+fn add_value<'a>(
+    entries: &mut Items<'a>,
+    text: &'a [u8],
+    too_long: bool,
+) -> Result<bool, AllocError>
+    ensures { IfOk result (λ good. (if good then Some entries.new else None) ≡ items_with too_long entries.old text.entry.now) }
+{
+    let Some(given) = FieldText::of(text) else {
+        return Ok(false);
+    };
+    if too_long && given.field == Field::Version {
+        return Ok(false);
+    }
+    if !given.field.kind().is_list() && entries.find(given.field).is_some() {
+        return Ok(false);
+    }
+    entries.add(given)
+}
+
+// Whether nothing is said of the name or of the version.
+fn is_lacking(entries: &Items<'_>) -> bool
+    ensures { result ≡ has_no_name_or_version entries.now }
+{
+    entries.find(Field::Name).is_none() || entries.find(Field::Version).is_none()
+}
+
+/// What is said of a field.
+#[derive(Drop)]
+pub(crate) enum Value<'a> {
+    Text(&'a [u8]),
+    Bytes(Vec<u8>),
+    Number(u64),
+    Need(Dep<'a>),
+}
+
+/// A field, and something that is said of it.
+#[derive(Drop)]
+pub(crate) struct Item<'a> {
+    pub field: Field,
+    pub value: Value<'a>,
+}
+
+/// What is said, in the order given.
+#[derive(Drop)]
+pub(crate) struct Items<'a> {
+    pub(crate) alloc: Global,
+    pub(crate) entries: Vec<Item<'a>>,
+}
+
+impl<'a> Model for Items<'a> {
+    ghost use Rattle.std.specs.Prelude.{List, map};
+    ghost use Rattle.make_info.specs.Views.{item_view};
+
+    ghost Value = { List InfoItem };
+
+    ghost view = { λ entries. map item_view entries.entries.items };
+}
+
+impl<'a> Items<'a> {
+    /// Nothing said.
+    pub(crate) fn new(alloc: Global) -> Items<'a>
+        ensures { result ≡ [] }
+    {
+        Items {
+            alloc,
+            entries: Vec::new(alloc),
+        }
+    }
+
+    /// What is said first of a field.
+    pub(crate) fn find(&self, field: Field) -> Option<&Item<'a>>
+        ensures { option_map (λ entry. item_view entry.now) result ≡ find (is_item_for field) self.now }
+    {
+        self.entries.iter().find(|entry| entry.field == field)
+    }
+
+    fn push(&mut self, field: Field, value: Value<'a>) -> Result<(), AllocError>
+        ensures { OnOk result (self.new ≡ self.old ++ info_item field (value_view value.entry) ∷ []) }
+    {
+        self.entries.push(Item { field, value })?;
+        Ok(())
+    }
+
+    /// Adds what a value says. False: it is outside of the grammar of its field.
+    pub(crate) fn add(&mut self, given: FieldText<'a>) -> Result<bool, AllocError>
+        ensures { IfOk result (λ good. (if good then Some self.new else None) ≡ with_values self.old given.entry.field (values_by_kind (kind_of_field given.entry.field) given.entry.value.now)) }
+    {
+        let FieldText { field, value } = given;
+        match field.kind() {
+            Kind::PackageName => self.add_text(field, value, is_package_name(value)),
+            Kind::PackageVersion => self.add_text(field, value, Version::read(value).is_some()),
+            Kind::AnyText => self.add_text(field, value, true),
+            Kind::HexDigits => self.add_bytes(field, value),
+            Kind::Number => self.add_number(field, value),
+            Kind::Dependencies => self.add_needs(field, value),
+            Kind::Texts => self.add_texts(field, value),
+        }
+    }
+
+    // Adds a text that is good or not.
+    fn add_text(&mut self, field: Field, text: &'a [u8], is_good: bool) -> Result<bool, AllocError>
+        ensures { IfOk result (λ good. (if good then Some self.new else None) ≡ with_values self.old field (text_if is_good text.entry.now)) }
+    {
+        if !is_good {
+            return Ok(false);
+        }
+        self.push(field, Value::Text(text))?;
+        Ok(true)
+    }
+
+    // Adds the bytes of a text of digits.
+    fn add_bytes(&mut self, field: Field, digits: &'a [u8]) -> Result<bool, AllocError>
+        ensures { IfOk result (λ good. (if good then Some self.new else None) ≡ with_values self.old field (value_of_digits (decode_of digits.entry.now))) }
+    {
+        match hex::decode(self.alloc, digits) {
+            Ok(bytes) => {
+                self.push(field, Value::Bytes(bytes))?;
+                Ok(true)
+            }
+            Err(FromHexError::OutOfMemory) => Err(AllocError),
+            Err(_) => Ok(false),
+        }
+    }
+
+    // Adds a number.
+    fn add_number(&mut self, field: Field, digits: &[u8]) -> Result<bool, AllocError>
+        ensures { IfOk result (λ good. (if good then Some self.new else None) ≡ with_values self.old field (option_map (λ n. number n ∷ []) (decimal_number digits.now))) }
+    {
+        let Some(n) = read_number(digits) else {
+            return Ok(false);
+        };
+        self.push(field, Value::Number(n))?;
+        Ok(true)
+    }
+
+    // Adds dependencies.
+    fn add_needs(&mut self, field: Field, texts: &'a [u8]) -> Result<bool, AllocError>
+        ensures { IfOk result (λ good. (if good then Some self.new else None) ≡ with_values self.old field (needs_in (nonempty_parts texts.entry.now))) }
+    {
+        for part in texts.split(|byte| *byte == b' ') {
+            if !self.add_need(field, part)? {
+                return Ok(false);
+            }
+        }
+        Ok(true)
+    }
+
+    // Adds a dependency, or nothing for an empty part.
+    fn add_need(&mut self, field: Field, part: &'a [u8]) -> Result<bool, AllocError>
+        ensures { IfOk result (λ good. (if good then Some self.new else None) ≡ with_values self.old field (needs_in (nonempty_part part.entry.now))) }
+    {
+        if part.is_empty() {
+            return Ok(true);
+        }
+        match read_need(part) {
+            Some(dep) => {
+                self.push(field, Value::Need(dep))?;
+                Ok(true)
+            }
+            None => Ok(false),
+        }
+    }
+
+    // Adds texts.
+    fn add_texts(&mut self, field: Field, texts: &'a [u8]) -> Result<bool, AllocError>
+        ensures { IfOk result (λ good. (if good then Some self.new else None) ≡ with_values self.old field (Some (text_values (nonempty_parts texts.entry.now)))) }
+    {
+        for part in texts.split(|byte| *byte == b' ') {
+            if !part.is_empty() {
+                self.push(field, Value::Text(part))?;
+            }
+        }
+        Ok(true)
+    }
+}
+
+// The dependency without tag that a text is.
+fn read_need(text: &[u8]) -> Option<Dep<'_>>
+    ensures { option_map dependency result ≡ need_in text.entry.now }
+{
+    let dep = read_dep(text)?;
+    if dep.tag.is_some() {
+        return None;
+    }
+    Some(dep)
+}

@@ -1,0 +1,18 @@
+//! The information of a package that `mkpkg` is given (apk(8)), and under which name its container
+//! is written: a command comes in, an information, its value and a name go out.
+//!
+//! The contracts cite `Fields`, `FieldTexts`, `Information` and `Output` of `specs/`.
+#![tactic(auto)]
+
+mod fault;
+mod field;
+mod information;
+mod output;
+mod writing;
+
+pub use fault::MakeFault;
+pub use information::{Information, read_information};
+pub use output::{
+    a_package_with_information_has_an_output, an_index_has_an_output, an_output_is_short,
+    output_name,
+};

@@ -1,0 +1,175 @@
+//! Under which name a container is written (apk(8)): the file that `-o` names, or NAME-VERSION.apk.
+ghost use Rattle.make_info.specs.FieldTexts.{first_text_for, is_too_long, package_name, named_output, default_output, text_for, package_version};
+ghost use Rattle.make_info.specs.Information.{information};
+ghost use Rattle.make_info.specs.Output.{is_mkpkg, output_name, package_output};
+ghost use Rattle.std.specs.Option.{option_map};
+ghost use Rattle.std.specs.Prelude.{◌≡◌, ◌||◌, IfOk, is_ok, ◌≤◌, List, ℕ, Some, IsSome, IsTrue, length};
+ghost use Rattle.command_core.specs.Command.{CommandLine, IsCommand};
+ghost use Rattle.command_core.specs.declared.command.Applet.TheVariants.{Mkndx, Mkpkg};
+
+use crate::fault::MakeFault;
+use crate::field::Field;
+use crate::information::{FieldText, read_information};
+use base_core::Name;
+use command_core::{Applet, Command, OptionValue, Values};
+use dep_core::is_package_name;
+use std::alloc::{AllocError, Global};
+use version_core::{Version, versions_have_version_bytes};
+
+/// How long a file's name may be, so that a scratch name beside it is a name too.
+const LONGEST_OUTPUT: usize = 1016;
+
+/// The file that `-o` names.
+pub(crate) fn named_output(values: &Values) -> Option<&[u8]>
+    ensures { option_map (λ file. file.now) result ≡ named_output values.entry.now }
+{
+    match values.first(b'o') {
+        Some(value) => Some(value.file()),
+        None => None,
+    }
+}
+
+/// NAME-VERSION.apk, where a good name and a good version are given.
+pub(crate) fn default_output(alloc: Global, values: &Values) -> Result<Option<Vec<u8>>, AllocError>
+    ensures { IfOk result (λ file. option_map (λ file. file.items) file ≡ default_output values.now) }
+{
+    let Some(name) = package_name(values) else {
+        return Ok(None);
+    };
+    let Some(version) = package_version(values) else {
+        return Ok(None);
+    };
+    let mut file = Vec::from_slice(alloc, name)?;
+    file.push(b'-')?;
+    file.extend_from_slice(version)?;
+    file.extend_from_slice(b".apk")?;
+    Ok(Some(file))
+}
+
+/// Whether the output is NAME-VERSION.apk, and that is too long.
+pub(crate) fn is_too_long(values: &Values) -> bool
+    ensures { result ≡ is_too_long values.now }
+{
+    if named_output(values).is_some() {
+        return false;
+    }
+    let Some(name) = package_name(values) else {
+        return false;
+    };
+    let Some(version) = package_version(values) else {
+        return false;
+    };
+    name.len() + version.len() + b"-.apk".len() > LONGEST_OUTPUT
+}
+
+// The package's name, where a good one is given.
+fn package_name(values: &Values) -> Option<&[u8]>
+    ensures { option_map (λ name. name.now) result ≡ package_name values.entry.now }
+{
+    let name = first_text_for(values, Field::Name)?;
+    if !is_package_name(name) {
+        return None;
+    }
+    Some(name)
+}
+
+// The package's version, where a good one is given.
+fn package_version(values: &Values) -> Option<&[u8]>
+    ensures { option_map (λ version. version.now) result ≡ package_version values.entry.now }
+{
+    let version = first_text_for(values, Field::Version)?;
+    if Version::read(version).is_none() {
+        return None;
+    }
+    Some(version)
+}
+
+// The first value that is given for a field.
+fn first_text_for(values: &Values, field: Field) -> Option<&[u8]>
+    ensures { option_map (λ text. text.now) result ≡ first_text_for field values.entry.now }
+{
+    for i in 0..values.len() {
+        let found = text_for(values.get(i), field);
+        if found.is_some() {
+            return found;
+        }
+    }
+    None
+}
+
+// What a value of an option gives for a field.
+fn text_for(value: &OptionValue, field: Field) -> Option<&[u8]>
+    ensures { option_map (λ text. text.now) result ≡ text_for field value.entry.now }
+{
+    if value.letter != b'I' {
+        return None;
+    }
+    let given = FieldText::of(value.text.as_bytes())?;
+    if given.field != field {
+        return None;
+    }
+    Some(given.value)
+}
+
+/// The name under which the container of `mkpkg` or `mkndx` is written (apk(8)): the file that `-o` names, or of `mkpkg`
+/// else NAME-VERSION.apk. None comes exactly where the package information of `mkpkg` is not allowed.
+pub fn output_name(alloc: Global, command: &Command) -> Result<Option<Name>, AllocError>
+    ensures { IfOk result (λ name. name ≡ output_name command.now) }
+{
+    if is_mkpkg(command.applet()) {
+        return package_output(alloc, command);
+    }
+    match named_output(command.values()) {
+        Some(file) => Name::read(alloc, file),
+        None => Ok(None),
+    }
+}
+
+fn is_mkpkg(applet: Applet) -> bool
+    ensures { result ≡ is_mkpkg applet }
+{
+    applet == Applet::Mkpkg
+}
+
+// The name of a package's file, where its information is allowed.
+fn package_output(alloc: Global, command: &Command) -> Result<Option<Name>, AllocError>
+    ensures { IfOk result (λ name. name ≡ package_output command.now) }
+{
+    if !is_allowed(alloc, command)? {
+        return Ok(None);
+    }
+    if let Some(file) = named_output(command.values()) {
+        return Name::read(alloc, file);
+    }
+    versions_have_version_bytes();
+    match default_output(alloc, command.values())? {
+        Some(file) => Name::read(alloc, &file),
+        None => Ok(None),
+    }
+}
+
+// Whether the information of a package is allowed.
+fn is_allowed(alloc: Global, command: &Command) -> Result<bool, AllocError>
+    ensures { IfOk result (λ allowed. allowed ≡ is_ok (information command.now)) }
+{
+    match read_information(alloc, command) {
+        Ok(_) => Ok(true),
+        Err(MakeFault::Memory) => Err(AllocError),
+        Err(_) => Ok(false),
+    }
+}
+
+/// An output's name has room for eight bytes more in a name.
+pub fn an_output_is_short()
+    ensures { (command : CommandLine) (name : List ℕ) → IsCommand command → output_name command ≡ Some name → length name ≤ 1016 }
+{}
+
+/// Where the information of a package is allowed, there is an output.
+pub fn a_package_with_information_has_an_output()
+    ensures { (command : CommandLine) → command.applet ≡ Mkpkg → IsTrue (is_ok (information command)) → IsSome (output_name command) }
+{}
+
+/// The output of an index is given.
+pub fn an_index_has_an_output()
+    ensures { (command : CommandLine) → IsCommand command → command.applet ≡ Mkndx → IsSome (output_name command) }
+{}

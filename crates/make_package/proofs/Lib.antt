@@ -1,0 +1,10 @@
+pub mod ContentSizes
+pub mod FolderLemmas
+pub mod MadeParts
+pub mod MadeRuns
+pub mod PackLemmas
+pub mod PackedWorked
+pub mod PlaceLemmas
+pub mod ReadLemmas
+pub mod ScriptLemmas
+pub mod WriteLemmas

@@ -1,0 +1,294 @@
+-- The parts of a package that a command asks for.
+use Rattle.command_core.specs.declared.values.TheConstants.{FILES, SCRIPT, TRIGGER}
+use Rattle.std.proofs.Common.{◌≡◌, ℕ, zero, suc, ◌+◌, ◌≤◌, Bool, true, false, cond, eqb, ◌&&◌, List, [], ◌∷◌, ◌++◌, length, drop, map, codes, sum_by, Option, Some, None, Result, Ok, Err, Vec, Bor, refl, sym, ap, ◌∙◌, subst, arith, append_assoc, append-nil, not}
+use Rattle.std.specs.Int.{w32, to_le_bytes}
+use Rattle.std.specs.List.{flat_map, list_all, list_any, slice_get}
+use Rattle.std.specs.Option.{option_map}
+use Rattle.std.specs.Prelude.{IfSome}
+use Rattle.std.specs.Result.{IsErrAnd}
+use Rattle.std.specs.Str.{bytes_eq}
+use Rattle.std.specs.declared.alloc.Global.{Global}
+use Rattle.std.proofs.Math.ListN.{drop_of_length-le}
+use Rattle.std.proofs.lemmas.Bool.{and_parts, eq-eqb, eqb-true, ne_eqb}
+use Rattle.std.proofs.lemmas.List.Concat.{flat_map-cons}
+use Rattle.std.proofs.lemmas.List.Sums.{sum_by-cons}
+use Rattle.adb_block.specs.Piece.{Piece}
+use Rattle.adb_block.specs.Written.{block_bytes}
+use Rattle.adb_view.specs.Plain.{Plain}
+use Rattle.adb_schema.specs.declared.read.TheConstants.{PACKAGE_WORD}
+use Rattle.adb_write.specs.Canonical.{PayloadCounts, canonical, or_overflow, overflow_of, written_of}
+use Rattle.adb_write.specs.File.{adb_piece, file_of}
+use Rattle.pkg_core.specs.Contents.{Contents}
+use Rattle.command_core.specs.Applets.{may_have, needed_option, operand_rule, value_rules}
+use Rattle.command_core.specs.Operands.{are_operands}
+use Rattle.command_core.specs.declared.values.ValueRule.{ValueRule}
+use Rattle.command_core.specs.Command.{CommandLine, IsCommand}
+use Rattle.command_core.specs.Values.{first_value, are_apart, lacks_value, is_value_by, are_values, script_file, script_type, script_types}
+use Rattle.command_core.specs.Files.{is_file, without_dot}
+use Rattle.command_core.specs.declared.command.Applet.{Applet}
+use Rattle.command_core.specs.declared.command.Applet.TheVariants.{Mkpkg}
+use Rattle.command_core.specs.declared.values.OptionValue.{OptionValue}
+use Rattle.make_package.specs.Blocks.{contents_block, contents_blocks}
+use Rattle.make_info.specs.Faults.{IsOverflow}
+use Rattle.make_info.specs.Information.{InfoItem, information_value, replaces_priority}
+use Rattle.adb_sound.specs.Contents.{contents_size}
+use Rattle.adb_sound.specs.Container.{contents_piece, container_of}
+use Rattle.make_package.specs.Answers.{IsBytes, IsFirstValue, IsNotDisk}
+use Rattle.make_package.specs.Making.{container_unless, package_container}
+use Rattle.make_package.specs.Package.{Script, Source, SourceFolder, contents_of_folders, value_of_file, value_of_folder, folder_with, installed_size, kind_of_file, value_of_kind, value_of_package, package_with, size_of_folder, size_of_kind}
+use Rattle.make_package.specs.Packed.{AreFilesFrom, AreFoldersFrom, ArePackedFolders, packed_file, packed_folder, files_size, packed_size}
+use Rattle.make_package.specs.Runs.{IsAnswer}
+use Rattle.make_package.specs.Sources.{values_of, texts_of}
+use Rattle.make_info.specs.declared.fault.MakeFault.{MakeFault}
+use Rattle.make_info.specs.declared.fault.MakeFault.TheVariants.{FileMissing, FileBad, InfoBad, TooLarge, Disk, Memory}
+use Rattle.make_package.specs.declared.file.File.{File}
+use Rattle.make_package.specs.declared.file.Folder.{Folder}
+use Rattle.make_package.proofs.ContentSizes.{installed_total}
+
+-- what is left of a list where an element stands
+left_at : {X : Type 0} (xs : List X) (i : ℕ) (x : X) → slice_get xs i ≡ Some x → drop i xs ≡ x ∷ drop (i + 1) xs
+left_at [] i x e = cc
+left_at (y ∷ xs) zero x e = cc
+left_at (y ∷ xs) (suc i) x e =
+    let next : suc (i + 1) ≡ suc i + 1 = omega arith in left_at xs i x e ∙ ap (λ n. x ∷ drop n (y ∷ xs)) next
+
+-- ---- the values of a command
+
+-- the values of a command are ones of its applet
+pub values_are : (command : CommandLine) → IsCommand command → are_values (value_rules command.applet) command.values ≡ true
+values_are command h =
+    let operands : Bool = may_have command.applet command.flags && are_operands (operand_rule command.applet command.flags) command.operands in
+    let values : Bool = are_values (value_rules command.applet) command.values in
+    (and_parts operands values (and_parts (operands && values) (not (lacks_value (needed_option command.applet) command.values)) h).0).1
+
+pub values_allowed : (command : CommandLine) (values : List OptionValue) → IsCommand command → command.applet ≡ Mkpkg → values ≡ command.values → are_values (value_rules Mkpkg) values ≡ true
+values_allowed command values h e is =
+    let own : are_values (value_rules Mkpkg) command.values ≡ true = subst (λ (a : Applet). are_values (value_rules a) command.values ≡ true) e (values_are command h) in
+    ap (are_values (value_rules Mkpkg)) is ∙ own
+
+first_two : (options : List ValueRule) (v : OptionValue) (vs : List OptionValue) → are_values options (v ∷ vs) ≡ true → (is_value_by (rule_for options v.letter) v.text ≡ true) × (are_values options vs ≡ true)
+first_two options v vs h =
+    let parts = and_parts (is_value_by (rule_for options v.letter) v.text && list_all (are_apart options v) vs) (are_values options vs) h in
+    ((and_parts (is_value_by (rule_for options v.letter) v.text) (list_all (are_apart options v) vs) parts.0).0, parts.1)
+
+value_allowed : (options : List ValueRule) (vs : List OptionValue) (i : ℕ) (v : OptionValue) → are_values options vs ≡ true → slice_get vs i ≡ Some v → is_value_by (rule_for options v.letter) v.text ≡ true
+value_allowed options [] i v h e = cc
+value_allowed options (u ∷ us) zero v h e =
+    let same : u ≡ v = cc in subst (λ (w : OptionValue). is_value_by (rule_for options w.letter) w.text ≡ true) same (first_two options u us h).0
+value_allowed options (u ∷ us) (suc i) v h e = value_allowed options us i v (first_two options u us h).1 e
+
+-- the value of the option for scripts gives a file
+pub script_allowed : (vs : List OptionValue) (i : ℕ) (v : OptionValue) → are_values (value_rules Mkpkg) vs ≡ true → slice_get vs i ≡ Some v → v.letter ≡ SCRIPT → is_file (script_file v.text) ≡ true
+script_allowed vs i v h at e =
+    let good : is_value_by (rule_for (value_rules Mkpkg) SCRIPT) v.text ≡ true =
+    subst (λ (l : ℕ). is_value_by (rule_for (value_rules Mkpkg) l) v.text ≡ true) e (value_allowed (value_rules Mkpkg) vs i v h at) in
+    (and_parts (list_any (λ t. bytes_eq t (script_type v.text)) script_types) (is_file (script_file v.text)) good).1
+
+pub script_there : (vs : List OptionValue) (i : ℕ) (v : OptionValue) → are_values (value_rules Mkpkg) vs ≡ true → slice_get vs i ≡ Some v → v.letter ≡ SCRIPT
+    → IfSome (slice_get vs i) (λ w. (w.letter ≡ SCRIPT) × (is_file (script_file w.text) ≡ true))
+script_there vs i v h at e =
+    let P : Option OptionValue → Type 0 = λ o. IfSome o (λ w. (w.letter ≡ SCRIPT) × (is_file (script_file w.text) ≡ true)) in
+    subst P (sym at) (e, script_allowed vs i v h at e)
+
+pub script_name : (vs : List OptionValue) (i : ℕ) (v : OptionValue) (name : List ℕ) → slice_get vs i ≡ Some v
+    → option_map (λ (w : OptionValue). without_dot (script_file w.text)) (slice_get vs i) ≡ Some name → name ≡ without_dot (script_file v.text)
+script_name vs i v name at e =
+    let both : Some name ≡ Some (without_dot (script_file v.text)) = sym e ∙ ap (option_map (λ (w : OptionValue). without_dot (script_file w.text))) at in
+    cc (both)
+
+-- and that of the option for a folder names one
+pub folder_file : (vs : List OptionValue) → are_values (value_rules Mkpkg) vs ≡ true → IfSome (first_value FILES vs) (λ v. is_file v.text ≡ true)
+folder_file [] h = tt
+folder_file (u ∷ us) h = by_letter (eqb u.letter FILES) refl
+  where
+    by_letter : (b : Bool) → eqb u.letter FILES ≡ b → IfSome (cond b (Some u) (first_value FILES us)) (λ v. is_file v.text ≡ true)
+    by_letter true t =
+        subst (λ (l : ℕ). is_value_by (rule_for (value_rules Mkpkg) l) u.text ≡ true) (eqb-true u.letter FILES t) (first_two (value_rules Mkpkg) u us h).0
+    by_letter false t = folder_file us (first_two (value_rules Mkpkg) u us h).1
+
+-- ---- the first value of an option
+
+abbrev IsFirstIn : Option OptionValue → List OptionValue → Type 0
+IsFirstIn None values = values ≡ []
+IsFirstIn (Some v) values = (others : List OptionValue) × (values ≡ v ∷ others)
+
+first_in : (letter : ℕ) (vs : List OptionValue) → IsFirstIn (first_value letter vs) (values_of letter vs)
+first_in letter [] = refl
+first_in letter (v ∷ vs) = by_letter (eqb v.letter letter) (first_in letter vs)
+  where
+    by_letter : (b : Bool) → IsFirstIn (first_value letter vs) (values_of letter vs) → IsFirstIn (cond b (Some v) (first_value letter vs)) (cond b (v ∷ values_of letter vs) (values_of letter vs))
+    by_letter true h = (values_of letter vs, refl)
+    by_letter false h = h
+
+first_as : (first : Option (Bor OptionValue)) (found : Option OptionValue) (values : List OptionValue) → option_map (λ (v : Bor OptionValue). v.now) first ≡ found → IsFirstIn found values → IsFirstValue first values
+first_as None found values e h = let P : Option OptionValue → Type 0 = λ o. IsFirstIn o values in subst P (sym e) h
+first_as (Some v) found values e h = let P : Option OptionValue → Type 0 = λ o. IsFirstIn o values in subst P (sym e) h
+
+pub first_value_is : (letter : ℕ) (vs : List OptionValue) (first : Option (Bor OptionValue)) → option_map (λ (v : Bor OptionValue). v.now) first ≡ first_value letter vs → IsFirstValue first (values_of letter vs)
+first_value_is letter vs first e = first_as first (first_value letter vs) (values_of letter vs) e (first_in letter vs)
+
+-- the folder that is given
+abbrev folder_in : OptionValue → List ℕ
+folder_in v = without_dot v.text
+
+pub record IsFolder (vs : List OptionValue) (folder : List ℕ) : Type 0 where
+  pub value : OptionValue
+  pub others : List OptionValue
+  pub first : values_of FILES vs ≡ value ∷ others
+  pub name : folder_in value ≡ folder
+
+folder_by : (vs : List OptionValue) (folder : List ℕ) (found : Option OptionValue) → IsFirstIn found (values_of FILES vs) → Some folder ≡ option_map folder_in found → IsFolder vs folder
+folder_by vs folder None h e = absurd (cc (e))
+folder_by vs folder (Some v) h e = record { value = v; others = h.0; first = h.1; name = cc (e) }
+
+pub folder_is : (vs : List OptionValue) (folder : List ℕ) → Some folder ≡ option_map folder_in (first_value FILES vs) → IsFolder vs folder
+folder_is vs folder e = folder_by vs folder (first_value FILES vs) (first_in FILES vs) e
+
+no_folder_by : (vs : List OptionValue) (found : Option OptionValue) → IsFirstIn found (values_of FILES vs) → None ≡ option_map folder_in found → values_of FILES vs ≡ []
+no_folder_by vs None h e = h
+no_folder_by vs (Some v) h e = absurd (cc (e))
+
+pub no_folder : (vs : List OptionValue) → None ≡ option_map folder_in (first_value FILES vs) → values_of FILES vs ≡ []
+no_folder vs e = no_folder_by vs (first_value FILES vs) (first_in FILES vs) e
+
+-- ---- the values of an option, from a place on
+
+pub given_here : (letter : ℕ) (vs : List OptionValue) (i : ℕ) (v : OptionValue) → slice_get vs i ≡ Some v → v.letter ≡ letter → values_of letter (drop i vs) ≡ v ∷ values_of letter (drop (i + 1) vs)
+given_here letter vs i v at e =
+    ap (values_of letter) (left_at vs i v at) ∙ ap (λ b. cond b (v ∷ values_of letter (drop (i + 1) vs)) (values_of letter (drop (i + 1) vs))) (eq-eqb v.letter letter e)
+
+pub given_not_here : (letter : ℕ) (vs : List OptionValue) (i : ℕ) (v : OptionValue) → slice_get vs i ≡ Some v → (v.letter ≡ letter → ⊥) → values_of letter (drop i vs) ≡ values_of letter (drop (i + 1) vs)
+given_not_here letter vs i v at e =
+    ap (values_of letter) (left_at vs i v at) ∙ ap (λ b. cond b (v ∷ values_of letter (drop (i + 1) vs)) (values_of letter (drop (i + 1) vs))) (ne_eqb v.letter letter e)
+
+pub given_past : (letter : ℕ) (vs : List OptionValue) (i : ℕ) → length vs ≤ i → values_of letter (drop i vs) ≡ []
+given_past letter vs i past = ap (values_of letter) (drop_of_length-le vs past)
+
+pub first_is : (values : List OptionValue) (first : Option (Bor OptionValue)) (v : Bor OptionValue) → IsFirstValue first values → first ≡ Some v → IsFirstValue (Some v) values
+first_is values first v h e = let P : Option (Bor OptionValue) → Type 0 = λ o. IsFirstValue o values in subst P e h
+
+pub first_none : (values : List OptionValue) (first : Option (Bor OptionValue)) → IsFirstValue first values → first ≡ None → values ≡ []
+first_none values first h e = let P : Option (Bor OptionValue) → Type 0 = λ o. IsFirstValue o values in subst P e h
+
+-- ---- folders that are packed have the sizes and the values of their sources
+
+abbrev pub file_size : File → ℕ
+file_size file = size_of_kind file.kind
+
+abbrev source_size : Source → ℕ
+source_size source = size_of_kind (kind_of_file source.bytes)
+
+files_sized : (files : List File) (sources : List Source) → AreFilesFrom files sources → sum_by file_size files ≡ sum_by source_size sources
+files_sized [] [] h = refl
+files_sized [] (s ∷ ss) h = absurd h
+files_sized (f ∷ fs) [] h = absurd h
+files_sized (f ∷ fs) (s ∷ ss) h =
+    let one : file_size f ≡ source_size s = ap size_of_kind h.0.kind in
+    omega (arith, sum_by-cons file_size f fs, sum_by-cons source_size s ss, files_sized fs ss h.1, one)
+
+abbrev pub folder_size : Folder → ℕ
+folder_size folder = files_size folder.files.items
+
+pub folders_sized : (folders : List Folder) (sources : List SourceFolder) → AreFoldersFrom folders sources → packed_size folders ≡ installed_size sources
+folders_sized [] [] h = refl
+folders_sized [] (s ∷ ss) h = absurd h
+folders_sized (f ∷ fs) [] h = absurd h
+folders_sized (f ∷ fs) (s ∷ ss) h =
+    let one : folder_size f ≡ size_of_folder s = files_sized f.files.items s.files h.0.files in
+    omega (arith, sum_by-cons folder_size f fs, sum_by-cons size_of_folder s ss, folders_sized fs ss h.1, one)
+
+files_valued : (files : List File) (sources : List Source) → AreFilesFrom files sources → map packed_file files ≡ map value_of_file sources
+files_valued [] [] h = refl
+files_valued [] (s ∷ ss) h = absurd h
+files_valued (f ∷ fs) [] h = absurd h
+files_valued (f ∷ fs) (s ∷ ss) h = λ j. value_of_kind (h.0.name j) (h.0.kind j) ∷ files_valued fs ss h.1 j
+
+pub folders_valued : (folders : List Folder) (sources : List SourceFolder) → AreFoldersFrom folders sources → map packed_folder folders ≡ map value_of_folder sources
+folders_valued [] [] h = refl
+folders_valued [] (s ∷ ss) h = absurd h
+folders_valued (f ∷ fs) [] h = absurd h
+folders_valued (f ∷ fs) (s ∷ ss) h = λ j. folder_with (h.0.name j) (files_valued f.files.items s.files h.0.files j) ∷ folders_valued fs ss h.1 j
+
+-- ---- each size stands in the blocks
+
+blocks_laid : (cs : List Contents) → contents_blocks cs ≡ flat_map block_bytes (map contents_piece cs)
+blocks_laid [] = refl
+blocks_laid (c ∷ cs) =
+    flat_map-cons contents_block c cs ∙ ap (λ (l : List ℕ). contents_block c ++ l) (blocks_laid cs) ∙ sym (flat_map-cons block_bytes (contents_piece c) (map contents_piece cs))
+
+-- contents stand in their blocks
+abbrev pub Held : Type 0
+Held = (contents : List Contents) → contents_size contents ≤ length (flat_map block_bytes (map contents_piece contents))
+
+pub sizes_held : Held → (blocks : List ℕ) (folders : Vec Folder Global) (sources : List SourceFolder) → ArePackedFolders blocks folders sources → packed_size folders.items ≤ length blocks
+sizes_held held blocks folders sources h =
+    let sum : packed_size folders.items ≡ installed_size sources = folders_sized folders.items sources h.are in
+    let same : length blocks ≡ length (flat_map block_bytes (map contents_piece (contents_of_folders 1 sources))) = ap length (h.blocks ∙ blocks_laid (contents_of_folders 1 sources)) in
+    omega (arith, sum, same, installed_total 1 sources, held (contents_of_folders 1 sources))
+
+-- ---- the file
+
+pub laid_is : (v : Plain) (contents : List Contents) → file_of PACKAGE_WORD (canonical v) ++ contents_blocks contents ≡ container_of PACKAGE_WORD v contents
+laid_is v contents =
+    let piece : Piece = adb_piece (canonical v) in
+    let mark : List ℕ = codes "ADB." in
+    let schema : List ℕ = to_le_bytes w32 PACKAGE_WORD in
+    let payload : List ℕ = flat_map block_bytes (piece ∷ []) in
+    let rest : List ℕ = contents_blocks contents in
+    let tail : payload ++ rest ≡ flat_map block_bytes (piece ∷ map contents_piece contents) =
+    ap (λ (l : List ℕ). l ++ rest) (flat_map-cons block_bytes piece [] ∙ append-nil (block_bytes piece))
+    ∙ ap (λ (l : List ℕ). block_bytes piece ++ l) (blocks_laid contents) ∙ sym (flat_map-cons block_bytes piece (map contents_piece contents)) in
+    append_assoc mark (schema ++ payload) rest ∙ ap (λ (l : List ℕ). mark ++ l) (append_assoc schema payload rest ∙ ap (λ (l : List ℕ). schema ++ l) tail)
+
+file_ok : (v : Plain) (contents : List Contents) (payload file blocks : List ℕ) (o : Option PayloadCounts) → or_overflow (canonical v) o ≡ Ok payload → blocks ≡ contents_blocks contents
+    → file ≡ file_of PACKAGE_WORD payload ++ blocks → container_unless o v contents ≡ Ok file
+file_ok v contents payload file blocks None w b e =
+    let same : canonical v ≡ payload = cc in
+    ap Ok (sym (e ∙ ap (λ (p : List ℕ). file_of PACKAGE_WORD p ++ blocks) (sym same) ∙ ap (λ (l : List ℕ). file_of PACKAGE_WORD (canonical v) ++ l) b ∙ laid_is v contents))
+file_ok v contents payload file blocks (Some counts) w b e = absurd (cc)
+
+pub package_ok : (v : Plain) (contents : List Contents) (payload file blocks : List ℕ) → written_of v ≡ Ok payload → blocks ≡ contents_blocks contents → file ≡ file_of PACKAGE_WORD payload ++ blocks
+    → package_container v contents ≡ Ok file
+unfolding written_of package_container
+package_ok v contents payload file blocks w b e = file_ok v contents payload file blocks (overflow_of v) w b e
+
+file_large : (v : Plain) (contents : List Contents) (bytes values : ℕ) (o : Option PayloadCounts) → or_overflow (canonical v) o ≡ Err (bytes, values) → container_unless o v contents ≡ Err (TooLarge bytes values)
+file_large v contents bytes values None w = absurd (cc)
+file_large v contents bytes values (Some counts) w =
+    let same : counts ≡ (bytes, values) = cc in
+    ap (λ (c : PayloadCounts). Err (TooLarge c.0 c.1)) same
+
+pub package_err : (v : Plain) (contents : List Contents) (fault : MakeFault) → IsOverflow fault (written_of v) → IsAnswer IsBytes (Err fault) (package_container v contents)
+unfolding written_of package_container
+package_err v contents (TooLarge bytes values) h = file_large v contents bytes values (overflow_of v) h
+package_err v contents Disk h = tt
+package_err v contents Memory h = tt
+package_err v contents (FileMissing p) h = absurd h
+package_err v contents (FileBad p c) h = absurd h
+package_err v contents (InfoBad p) h = absurd h
+
+large_not_disk : (A : Type 0) (fault : MakeFault) (told : Result (List ℕ) PayloadCounts) → IsOverflow fault told → IsNotDisk {A = A} (Err fault)
+large_not_disk A (TooLarge bytes values) told h = tt
+large_not_disk A Memory told h = tt
+large_not_disk A Disk told h = absurd h
+large_not_disk A (FileMissing p) told h = absurd h
+large_not_disk A (FileBad p c) told h = absurd h
+large_not_disk A (InfoBad p) told h = absurd h
+
+pub large_answer : {A : Type 0} (r : Result A MakeFault) (fault : MakeFault) (told : Result (List ℕ) PayloadCounts) → IsErrAnd r (λ e. e ≡ fault) → IsOverflow fault told → IsNotDisk r
+large_answer (Ok x) fault told h o = absurd h
+large_answer {A} (Err e) fault told h o = let P : MakeFault → Type 0 = λ f. IsNotDisk {A = A} (Err f) in subst P (sym h) (large_not_disk A fault told o)
+
+pub memory_answer : {A : Type 0} (r : Result A MakeFault) → IsErrAnd r (λ e. e ≡ Memory) → IsNotDisk r
+memory_answer (Ok x) h = absurd h
+memory_answer {A} (Err e) h = let P : MakeFault → Type 0 = λ f. IsNotDisk {A = A} (Err f) in subst P (sym h) tt
+
+-- the value that is written is that of the package
+pub value_is : (about : List InfoItem) (size : ℕ) (written folders : List Folder) (sources : List SourceFolder) (scripts : List Script) (values wanted : List OptionValue)
+    → size ≡ packed_size folders → written ≡ folders → AreFoldersFrom folders sources → values ≡ wanted
+    → package_with (information_value about size) (map packed_folder written) scripts (texts_of (values_of TRIGGER values)) (replaces_priority about)
+    ≡ value_of_package (information_value about (installed_size sources)) sources scripts (texts_of (values_of TRIGGER wanted)) (replaces_priority about)
+value_is about size written folders sources scripts values wanted s w h v =
+    let sized : size ≡ installed_size sources = s ∙ folders_sized folders sources h in
+    let valued : map packed_folder written ≡ map value_of_folder sources = ap (map packed_folder) w ∙ folders_valued folders sources h in
+    λ j. package_with (information_value about (sized j)) (valued j) scripts (texts_of (values_of TRIGGER (v j))) (replaces_priority about)

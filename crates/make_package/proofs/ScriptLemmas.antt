@@ -1,0 +1,34 @@
+-- One script of what was read.
+use Rattle.std.proofs.Common.{◌≡◌, ◌∙◌, ℕ, List, Option, Result, Ok, Err, sym, ap, subst}
+use Rattle.command_core.specs.Values.{script_type, script_file}
+use Rattle.command_core.specs.Files.{without_dot}
+use Rattle.command_core.specs.declared.values.OptionValue.{OptionValue}
+use Rattle.make_package.specs.Package as packages
+use Rattle.make_package.specs.Runs.{IsAnswer}
+use Rattle.make_package.specs.Scripts.{IsScript}
+use Rattle.make_package.specs.Sources.{unless_refused, found_at, script_at}
+use Rattle.make_info.specs.Reads.{Reads}
+use Rattle.make_info.specs.declared.fault.MakeFault.{MakeFault}
+use Rattle.make_package.specs.declared.writing.Script.{Script}
+use Rattle.make_package.proofs.ReadLemmas.{fault_of_part}
+use Rattle.make_package.proofs.PackLemmas.{IsFound}
+
+abbrev pub file_of : OptionValue → List ℕ
+file_of v = without_dot (script_file v.text)
+
+abbrev pub next_of : OptionValue → List ℕ → Result packages.Script MakeFault
+next_of v bytes = Ok (record { field = script_type v.text; bytes = bytes })
+
+pub script_fault : (read : Reads) (n : ℕ) (v : OptionValue) (file : List ℕ) (fault : MakeFault) → file ≡ file_of v
+    → IsAnswer IsFound (Err fault) (found_at v.place (read n file)) → IsAnswer IsScript (Err fault) (script_at read n v)
+script_fault read n v file fault e h =
+    let P : List ℕ → Type 0 = λ name. IsAnswer IsFound (Err fault) (found_at v.place (read n name)) in
+    fault_of_part IsFound IsScript fault (found_at v.place (read n (file_of v))) (next_of v) (subst P e h)
+
+pub script_is : (read : Reads) (n : ℕ) (v : OptionValue) (file : List ℕ) (script : Script) → file ≡ file_of v → script.kind.now ≡ script_type v.text
+    → IsAnswer IsFound (Ok script.bytes) (found_at v.place (read n file)) → IsAnswer IsScript (Ok script) (script_at read n v)
+script_is read n v file script e k h = (
+  record { field = script_type v.text; bytes = h.0 },
+  ap (λ (r : Result (List ℕ) MakeFault). unless_refused r (next_of v)) (sym (ap (λ (name : List ℕ). found_at v.place (read n name)) e) ∙ h.1),
+  λ j. let s : packages.Script = record { field = k j; bytes = sym h.2 j } in s,
+)

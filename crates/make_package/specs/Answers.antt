@@ -1,0 +1,80 @@
+-- What the calls that make a package say of their answers.
+use Rattle.command_core.specs.declared.values.TheConstants.{FILES}
+use Rattle.std.specs.Prelude.{◌≡◌, ℕ, List, [], ◌∷◌, Option, Some, None, Result, Ok, Err, Vec}
+use Rattle.std.specs.Borrow.{Bor}
+use Rattle.std.specs.declared.alloc.Global.{Global}
+use Rattle.base_core.specs.Calls.{IfObservable}
+use Rattle.base_core.specs.Listed.{IsListOf}
+use Rattle.base_core.specs.Tree.{TreeState, files_of}
+use Rattle.command_core.specs.Command.{CommandLine}
+use Rattle.command_core.specs.Files.{without_dot}
+use Rattle.command_core.specs.declared.values.OptionValue.{OptionValue}
+use Rattle.make_info.specs.Reads.{Reads}
+use Rattle.make_info.specs.declared.fault.MakeFault.{MakeFault}
+use Rattle.make_info.specs.declared.fault.MakeFault.TheVariants.{Disk, Memory}
+use Rattle.make_package.specs.Making.{made_package}
+use Rattle.make_package.specs.Runs.{Explains}
+use Rattle.make_package.specs.Sources.{AreNamesFor, values_of}
+
+-- ---- parts of a run
+
+-- the first of some values, if there is one
+abbrev pub IsFirstValue : Option (Bor OptionValue) → List OptionValue → Type 0
+IsFirstValue None values = values ≡ []
+IsFirstValue (Some v) values = (others : List OptionValue) × (values ≡ v.now ∷ others)
+
+-- a file that was made has these bytes
+abbrev pub IsBytes : Vec ℕ Global → List ℕ → Type 0
+IsBytes file bytes = bytes ≡ file.items
+
+-- an error is one of the tree, or want of memory
+abbrev pub IsCutOff : {A : Type 0} → Result A MakeFault → Type 0
+IsCutOff (Ok x) = Unit {0}
+IsCutOff (Err Disk) = Unit {0}
+IsCutOff (Err Memory) = Unit {0}
+IsCutOff (Err fault) = ⊥
+
+-- the tree did not fail
+abbrev pub IsNotDisk : {A : Type 0} → Result A MakeFault → Type 0
+IsNotDisk (Err Disk) = ⊥
+IsNotDisk result = Unit {0}
+
+-- the names are those below the folder that an option gives, if it is given
+abbrev pub AreBelow : List OptionValue → TreeState → List (List ℕ) → Type 0
+AreBelow [] v names = Unit {0}
+AreBelow (dir ∷ dirs) v names = IsListOf (without_dot dir.text) v names
+
+-- a refusal has this meaning; a fault of the tree and want of memory have none
+abbrev pub OnRefusal : MakeFault → (Result (List ℕ) MakeFault → Type 0) → Type 0
+OnRefusal Disk P = Unit {0}
+OnRefusal Memory P = Unit {0}
+OnRefusal fault P = P (Err fault)
+
+-- ---- what a run answers
+
+-- what is made of the names below the folder, and of reads which are as the tree's history has it
+pub record IsMadeOf (history : List TreeState) (command : CommandLine)
+    (made : Result (List ℕ) MakeFault) : Type 0 where
+  pub names : List (List ℕ)
+  pub named : AreNamesFor (values_of FILES command.values) names
+  pub below : IfObservable history (λ v. AreBelow (values_of FILES command.values) v names)
+  pub reads : Explains history (λ read. made_package command names read ≡ made)
+
+-- the answer is what is made; a fault of the tree and want of memory stand for anything
+abbrev pub IsMadeRun : List TreeState → CommandLine → Result (Vec ℕ Global) MakeFault → Type 0
+IsMadeRun history command (Ok file) = IsMadeOf history command (Ok file.items)
+IsMadeRun history command (Err fault) = OnRefusal fault (IsMadeOf history command)
+
+-- what is made of a command and of the files of a tree
+pub record IsMadeIn (command : CommandLine) (v : TreeState) (made : Result (List ℕ) MakeFault) :
+    Type 0 where
+  pub names : List (List ℕ)
+  pub below : AreBelow (values_of FILES command.values) v names
+  pub is : made_package command names (λ n name. files_of v name) ≡ made
+
+-- what is made of a command by some names below its folder and some reads
+pub record IsMadeBySome (command : CommandLine) (made : Result (List ℕ) MakeFault) : Type 0 where
+  pub names : List (List ℕ)
+  pub named : AreNamesFor (values_of FILES command.values) names
+  pub read : Reads
+  pub is : made_package command names read ≡ made

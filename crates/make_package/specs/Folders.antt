@@ -1,0 +1,79 @@
+-- The folders of a package, and which of the files below a folder of the tree stands in which.
+use Rattle.std.specs.Prelude.{ℕ, ◌+◌, ◌==◌, Bool, if◌then◌else◌, List, [], ◌∷◌, length, drop, map, filter, bytes_eq}
+use Rattle.std.specs.List.{flat_map, before_last, after_last}
+use Rattle.std.specs.Ordering.{nat_cmp}
+use Rattle.std.specs.Cmp.Lexicographic.{slice_cmp}
+use Rattle.std.specs.declared.cmp.Ordering.{Ordering}
+use Rattle.std.specs.declared.cmp.Ordering.TheVariants.{Less, Equal, Greater}
+
+abbrev pub is_slash : ℕ → Bool
+is_slash b = b == 47
+
+-- the folder in which a path stands, which is empty for the root, and the path's last part
+abbrev pub folder_of : List ℕ → List ℕ
+folder_of path = before_last is_slash path
+
+abbrev pub last_part_of : List ℕ → List ℕ
+last_part_of path = after_last is_slash path
+
+-- the first of them, where a slash comes, is empty; each further one begins with this byte
+abbrev pub with_byte : ℕ → List (List ℕ) → List (List ℕ)
+with_byte b folders =
+    if is_slash b then [] ∷ map (λ folder. b ∷ folder) folders
+    else map (λ folder. b ∷ folder) folders
+
+-- what stands before each slash
+abbrev pub before_slashes : List ℕ → List (List ℕ)
+before_slashes [] = []
+before_slashes (b ∷ bs) = with_byte b (before_slashes bs)
+
+-- the folders that hold a path, at any depth: the root, and what stands before each slash
+abbrev pub folders_over : List ℕ → List (List ℕ)
+folders_over path = [] ∷ before_slashes path
+
+-- ---- names in byte order, each once
+
+abbrev pub with_name_by :
+    Ordering → List ℕ → List ℕ → List (List ℕ) → List (List ℕ) → List (List ℕ)
+with_name_by Less name x xs further = name ∷ x ∷ xs
+with_name_by Equal name x xs further = x ∷ xs
+with_name_by Greater name x xs further = x ∷ further
+
+abbrev pub with_name : List ℕ → List (List ℕ) → List (List ℕ)
+with_name name [] = name ∷ []
+with_name name (x ∷ xs) = with_name_by (slice_cmp nat_cmp name x) name x xs (with_name name xs)
+
+abbrev pub with_names : List (List ℕ) → List (List ℕ) → List (List ℕ)
+with_names so_far [] = so_far
+with_names so_far (name ∷ names) = with_names (with_name name so_far) names
+
+abbrev pub sorted_names : List (List ℕ) → List (List ℕ)
+sorted_names names = with_names [] names
+
+-- ---- the folders of a package
+
+-- a folder by its name in the package, and the names in the tree of the files that stand in it
+pub record FolderListing : Type 0 where
+  pub name : List ℕ
+  pub files : List (List ℕ)
+
+-- a name in the tree without the folder that it is below, and without the slash
+abbrev pub path_below : List ℕ → List ℕ → List ℕ
+path_below folder name = drop (length folder + 1) name
+
+-- the root and each folder that holds a path at any depth, in byte order; no folder where there
+-- is no path
+abbrev pub folder_names : List (List ℕ) → List (List ℕ)
+folder_names paths = sorted_names (flat_map folders_over paths)
+
+-- the names whose paths stand in a folder of the package, in the order listed
+abbrev pub names_in_folder : List ℕ → List (List ℕ) → List ℕ → List (List ℕ)
+names_in_folder dir names folder =
+    filter (λ name. bytes_eq (folder_of (path_below dir name)) folder) names
+
+abbrev pub listing_of : List ℕ → List (List ℕ) → List ℕ → FolderListing
+listing_of dir names folder = record { name = folder; files = names_in_folder dir names folder }
+
+-- of the names that are listed below a folder of the tree
+unfoldable pub folders_of : List ℕ → List (List ℕ) → List FolderListing
+folders_of dir names = map (listing_of dir names) (folder_names (map (path_below dir) names))

@@ -1,0 +1,12 @@
+-- what the contract of `apk` says
+pub mod Folders
+pub mod Package
+pub mod Sources
+pub mod Making
+-- what only inner contracts and proofs use
+pub mod Answers
+pub mod Blocks
+pub mod BorrowedNames
+pub mod Packed
+pub mod Runs
+pub mod Scripts

@@ -1,0 +1,49 @@
+-- What `mkpkg` makes (apk(8)): a package of its command, of the names below its folder, and of what
+-- reads find.
+use Rattle.command_core.specs.declared.values.TheConstants.{FILES, SCRIPT, TRIGGER}
+use Rattle.std.specs.Prelude.{ℕ, List, length, Option, Some, None, Result, Ok, Err}
+use Rattle.adb_view.specs.Plain.{Plain}
+use Rattle.adb_schema.specs.declared.read.TheConstants.{PACKAGE_WORD}
+use Rattle.adb_write.specs.Canonical.{PayloadCounts, overflow_of}
+use Rattle.pkg_core.specs.Contents.{Contents}
+use Rattle.command_core.specs.Command.{CommandLine}
+use Rattle.adb_sound.specs.Container.{container_of}
+use Rattle.make_info.specs.Information.{InfoItem, information, information_value, replaces_priority}
+use Rattle.make_info.specs.Reads.{Reads}
+use Rattle.make_info.specs.declared.fault.MakeFault.{MakeFault}
+use Rattle.make_info.specs.declared.fault.MakeFault.TheVariants.{InfoBad, TooLarge}
+use Rattle.make_package.specs.Package.{SourceFolder, Script, value_of_package, installed_size, contents_of_folders}
+use Rattle.make_package.specs.Sources.{unless_refused, values_of, texts_of, scripts_from, folders_below}
+
+-- ---- the file
+
+abbrev pub container_unless : Option PayloadCounts → Plain → List Contents → Result (List ℕ) MakeFault
+container_unless None v contents = Ok (container_of PACKAGE_WORD v contents)
+container_unless (Some counts) v contents = Err (TooLarge counts.0 counts.1)
+
+-- the container of a value and of contents, unless the value passes a limit
+unfoldable pub package_container : Plain → List Contents → Result (List ℕ) MakeFault
+package_container v contents = container_unless (overflow_of v) v contents
+
+-- ---- the package
+
+abbrev pub or_info_bad : Result (List InfoItem) ℕ → Result (List InfoItem) MakeFault
+or_info_bad (Ok information) = Ok information
+or_info_bad (Err place) = Err (InfoBad place)
+
+-- the package of what was read
+abbrev pub package_of_parts :
+    CommandLine → List Script → List InfoItem → List SourceFolder → Result (List ℕ) MakeFault
+package_of_parts command scripts about folders =
+    package_container
+    (value_of_package (information_value about (installed_size folders)) folders scripts
+    (texts_of (values_of TRIGGER command.values)) (replaces_priority about))
+    (contents_of_folders 1 folders)
+
+-- scripts first, then the information, then the files below the folder
+unfoldable pub made_package : CommandLine → List (List ℕ) → Reads → Result (List ℕ) MakeFault
+made_package command names read =
+    unless_refused (scripts_from read 0 (values_of SCRIPT command.values)) (λ scripts.
+    unless_refused (or_info_bad (information command)) (λ about.
+    unless_refused (folders_below read (length scripts) (values_of FILES command.values) names)
+    (package_of_parts command scripts about)))

@@ -1,0 +1,27 @@
+-- What a call that reads a tree says of what it found.
+use Rattle.std.specs.Prelude.{◌≡◌, ℕ, List, Result, Ok, Err}
+use Rattle.base_core.specs.Calls.{IfObservable}
+use Rattle.base_core.specs.Tree.{TreeState, files_of}
+use Rattle.make_info.specs.Reads.{Reads}
+use Rattle.make_info.specs.declared.fault.MakeFault.{MakeFault}
+use Rattle.make_info.specs.declared.fault.MakeFault.TheVariants.{Disk, Memory}
+
+-- where the history is observable, each read finds what stands in the tree
+abbrev pub AreObserved : List TreeState → Reads → Type 0
+AreObserved history read =
+    IfObservable history (λ v. (n : ℕ) (name : List ℕ) → read n name ≡ files_of v name)
+
+-- some reads, which are as observed, explain what was found
+pub record Explains (history : List TreeState) (P : Reads → Type 0) : Type 0 where
+  pub read : Reads
+  pub observed : AreObserved history read
+  pub is : P read
+
+-- an answer stands for what is wanted, or is the wanted fault; a fault of the tree and want of
+-- memory stand for anything
+abbrev pub IsAnswer :
+    {A B : Type 0} → (A → B → Type 0) → Result A MakeFault → Result B MakeFault → Type 0
+IsAnswer {A} {B} StandsFor (Ok x) wanted = (y : B) × (wanted ≡ Ok y) × StandsFor x y
+IsAnswer StandsFor (Err Disk) wanted = Unit {0}
+IsAnswer StandsFor (Err Memory) wanted = Unit {0}
+IsAnswer StandsFor (Err fault) wanted = wanted ≡ Err fault

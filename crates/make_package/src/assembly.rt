@@ -1,0 +1,143 @@
+//! The container of a package: its payload, and the contents blocks behind it.
+ghost use Rattle.command_core.specs.declared.values.TheConstants.{TRIGGER};
+ghost use Rattle.std.specs.Prelude.{ℕ, ◌≡◌, ◌≤◌, ◌<◌, ◌^◌, ◌++◌, Ok, List, length, map, IfOk, IfErr};
+ghost use Rattle.adb_schema.specs.declared.read.TheConstants.{PACKAGE_WORD};
+ghost use Rattle.adb_write.specs.Canonical.{MOST_BYTES, written_of};
+ghost use Rattle.adb_write.specs.DepthFirst.{WritesValue};
+ghost use Rattle.adb_write.specs.File.{file_of};
+ghost use Rattle.make_info.specs.Faults.{IsOverflow};
+ghost use Rattle.make_info.specs.Information.{information_value, replaces_priority};
+ghost use Rattle.make_package.specs.Answers.{IsBytes, IsNotDisk};
+ghost use Rattle.make_package.specs.Making.{package_of_parts};
+ghost use Rattle.adb_sound.specs.Contents.{contents_size};
+ghost use Rattle.make_package.specs.Package.{SourceFolder, contents_of_folders, installed_size, package_with};
+ghost use Rattle.make_package.specs.Packed.{IsPacking, files_size, packed_folder, packed_size};
+ghost use Rattle.make_package.specs.Runs.{IsAnswer};
+ghost use Rattle.make_package.specs.Scripts.{scripts_view};
+ghost use Rattle.make_package.specs.Sources.{values_of, texts_of};
+
+use crate::file::{File, Folder, Packing};
+use crate::packing::put_in_front;
+use crate::writing::{Script, write_package};
+use adb_schema::PACKAGE_WORD;
+use adb_view::Val;
+use adb_write::{Writer, a_value_written_depth_first_is_canonical, file_of};
+use command_core::{Command, Values};
+use make_info::{Information, Information, MakeFault, MakeFault};
+use std::alloc::{AllocError, Global};
+
+/// The package of a command, with this information, these files and these scripts.
+pub(crate) fn package(
+    alloc: Global,
+    command: &Command,
+    about: &Information<'_>,
+    packing: Packing<'_>,
+    scripts: &[Script<'_>],
+) -> Result<Vec<u8>, MakeFault>
+    requires { packed_size packing.folders.items ≤ length packing.blocks.items }
+    ensures made { (sources : List SourceFolder) → IsPacking packing.entry sources
+        → IsAnswer IsBytes result (package_of_parts command.now
+        (scripts_view scripts.now) about.now sources) }
+    ensures disk { IsNotDisk result }
+{
+    // Each size stands in the blocks, so that the sum has 64 bits.
+    let size = installed_size(&packing.folders);
+    let payload = payload(
+        alloc,
+        command.values(),
+        about,
+        &packing.folders,
+        scripts,
+        size,
+    )?;
+    let file = package_file(alloc, &payload, packing.blocks)?;
+    Ok(file)
+}
+
+/// The sum of the sizes of the files of folders.
+fn installed_size(folders: &[Folder<'_>]) -> u64
+    requires { packed_size folders.now < 2 ^ 64 }
+    ensures { result ≡ packed_size folders.now }
+{
+    let mut size = 0;
+    for folder in folders {
+        size += size_in(&folder.files);
+    }
+    size
+}
+
+/// The sum of the sizes of files.
+fn size_in(files: &[File<'_>]) -> u64
+    requires { files_size files.now < 2 ^ 64 }
+    ensures { result ≡ files_size files.now }
+{
+    let mut size = 0;
+    for file in files {
+        size += file.kind.size();
+    }
+    size
+}
+
+/// The payload of a package with this information, these folders and scripts, and with what the
+/// values of options say.
+fn payload(
+    alloc: Global,
+    values: &Values,
+    about: &Information<'_>,
+    folders: &[Folder<'_>],
+    scripts: &[Script<'_>],
+    size: u64,
+) -> Result<Vec<u8>, MakeFault>
+    ensures made { IfOk result (λ payload. written_of
+        (package_with (information_value about.now size) (map packed_folder folders.now)
+        (scripts_view scripts.now) (texts_of (values_of TRIGGER values.now))
+        (replaces_priority about.now)) ≡ Ok payload.items) }
+    ensures small { IfOk result (λ payload. length payload.items ≤ MOST_BYTES) }
+    ensures err { IfErr result (λ fault. IsOverflow fault
+        (written_of (package_with (information_value about.now size)
+        (map packed_folder folders.now) (scripts_view scripts.now)
+        (texts_of (values_of TRIGGER values.now)) (replaces_priority about.now)))) }
+{
+    a_value_written_depth_first_is_canonical();
+    let mut writer = Writer::new(alloc);
+    let root = write_root(alloc, &mut writer, values, about, folders, scripts, size)?;
+    Ok(writer.finish(root)?)
+}
+
+/// Writes the package.
+fn write_root(
+    alloc: Global,
+    writer: &mut Writer,
+    values: &Values,
+    about: &Information<'_>,
+    folders: &[Folder<'_>],
+    scripts: &[Script<'_>],
+    size: u64,
+) -> Result<Val, AllocError>
+    ensures { IfOk result (λ root. WritesValue writer.old
+        (package_with (information_value about.now size) (map packed_folder folders.now)
+        (scripts_view scripts.now) (texts_of (values_of TRIGGER values.now))
+        (replaces_priority about.now)) root writer.new) }
+{
+    let info = about.write(writer, size)?;
+    let priority = about.replaces_priority();
+    let root = write_package(alloc, writer, info, folders, scripts, values, priority)?;
+    Ok(root)
+}
+
+/// The package with this payload and these blocks behind it, which are not held twice.
+fn package_file(alloc: Global, payload: &[u8], mut blocks: Vec<u8>) -> Result<Vec<u8>, AllocError>
+    requires { length payload.now ≤ MOST_BYTES }
+    ensures { IfOk result (λ bytes. bytes.items
+        ≡ file_of PACKAGE_WORD payload.now ++ blocks.items) }
+{
+    let front = file_of(alloc, PACKAGE_WORD, payload)?;
+    put_in_front(&mut blocks, &front)?;
+    Ok(blocks)
+}
+
+/// The size that a package is told to have installed is that of the contents behind it.
+pub fn the_installed_size_is_that_of_the_contents()
+    ensures { (first : ℕ) (folders : List SourceFolder)
+        → installed_size folders ≡ contents_size (contents_of_folders first folders) }
+{}

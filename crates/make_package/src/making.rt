@@ -1,0 +1,58 @@
+//! Makes the package that a command asks for, of what it reads in a tree.
+ghost use Rattle.base_core.specs.Read.{OnlyReads};
+ghost use Rattle.make_package.specs.Answers.{IsBytes, IsMadeRun};
+ghost use Rattle.make_package.specs.Making.{made_package};
+ghost use Rattle.make_package.specs.Runs.{Explains, IsAnswer};
+ghost use Rattle.std.specs.Prelude.{◌≡◌};
+
+use crate::assembly::package;
+use crate::file::Packing;
+use crate::reading::{list_names, pack_below, read_scripts};
+use crate::writing::Script;
+use adb_sound::contents_stand_in_their_container;
+use base_core::{Names, Tree, readings_in_a_row_join};
+use command_core::{Applet, Command};
+use make_info::{MakeFault, read_information};
+use std::alloc::Global;
+
+/// Makes the package that a command asks for: lists the names below its folder, reads the scripts
+/// and the files, each once, and writes the container's bytes. The tree stays as it is, whatever
+/// the answer.
+///
+/// # Errors
+///
+/// `FileMissing` at the place of the first script whose file is absent; then `InfoBad` as
+/// `read_information` says; then `FileMissing` at the folder's place where a file that was listed
+/// is not found; then `TooLarge` where the package's values pass a limit of the writer. `Disk`
+/// where the tree failed, and `Memory`.
+pub fn make<T: Tree>(alloc: Global, command: &Command, tree: &mut T) -> Result<Vec<u8>, MakeFault>
+    requires { command.now.applet ≡ Applet.Mkpkg }
+    ensures tree { OnlyReads MakeFault.Disk (T.history tree.old) (T.history tree.new)
+        (T.counts tree.old) (T.counts tree.new) result }
+    ensures made { IsMadeRun (T.history tree.old) command.now result }
+{
+    let names = list_names(alloc, tree, command.values())?;
+    pack(alloc, command, tree, &names)
+}
+
+/// Makes the package of the names below the folder.
+fn pack<T: Tree>(
+    alloc: Global,
+    command: &Command,
+    tree: &mut T,
+    names: &Names,
+) -> Result<Vec<u8>, MakeFault>
+    requires { command.now.applet ≡ Applet.Mkpkg }
+    ensures tree { OnlyReads MakeFault.Disk (T.history tree.old) (T.history tree.new)
+        (T.counts tree.old) (T.counts tree.new) result }
+    ensures read { Explains (T.history tree.old) (λ read.
+        IsAnswer IsBytes result (made_package command.now names.now read)) }
+{
+    contents_stand_in_their_container();
+    readings_in_a_row_join::<Vec<Script<'_>>, Packing<'_>, MakeFault>();
+    let values = command.values();
+    let scripts = read_scripts(alloc, tree, values)?;
+    let about = read_information(alloc, command)?;
+    let packing = pack_below(alloc, tree, values, names)?;
+    package(alloc, command, &about, packing, &scripts)
+}

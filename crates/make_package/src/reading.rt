@@ -1,0 +1,126 @@
+//! Reads what options name in the tree (apk(8), `mkpkg`): the folder whose files a package holds,
+//! and the files of its scripts.
+ghost use Rattle.base_core.specs.Calls.{IfObservable};
+ghost use Rattle.base_core.specs.Read.{OnlyReads};
+ghost use Rattle.command_core.specs.Applets.{value_rules};
+ghost use Rattle.command_core.specs.Files.{without_dot};
+ghost use Rattle.command_core.specs.Values.{are_values, script_file};
+ghost use Rattle.command_core.specs.declared.command.Applet.TheVariants.{Mkpkg};
+ghost use Rattle.command_core.specs.declared.values.TheConstants.{FILES, SCRIPT};
+ghost use Rattle.make_package.specs.Answers.{IsCutOff, IsFirstValue, AreBelow};
+ghost use Rattle.make_package.specs.Packed.{IsPacking};
+ghost use Rattle.make_package.specs.Runs.{Explains, IsAnswer};
+ghost use Rattle.make_package.specs.Scripts.{AreScripts, IsScript};
+ghost use Rattle.make_package.specs.Sources.{AreNamesFor, folders_below, values_of, script_at, scripts_from};
+ghost use Rattle.std.specs.Prelude.{◌≡◌, ◌++◌, ◌∷◌, [], ℕ, IfOk, IsTrue, OnOk};
+
+use crate::file::Packing;
+use crate::packing::{pack_names, read_file};
+use crate::writing::Script;
+use base_core::{Name, Names, Tree};
+use command_core::{FILES, OptionValue, SCRIPT, Values, without_dot};
+use make_info::MakeFault;
+use std::alloc::{AllocError, Global};
+
+/// The names below the folder that an option gives, in byte order and each once, whatever the tree
+/// answers; none where no folder is given.
+pub(crate) fn list_names<T: Tree>(
+    alloc: Global,
+    tree: &mut T,
+    values: &Values,
+) -> Result<Names, MakeFault>
+    requires { IsTrue (are_values (value_rules Mkpkg) values.now) }
+    ensures tree { OnlyReads MakeFault.Disk (T.history tree.old) (T.history tree.new)
+        (T.counts tree.old) (T.counts tree.new) result }
+    ensures cut { IsCutOff result }
+    ensures names { IfOk result (λ names. IfObservable (T.history tree.old) (λ v.
+        AreBelow (values_of FILES values.now) v names)) }
+    ensures order { IfOk result (λ names. AreNamesFor (values_of FILES values.now) names) }
+{
+    match values.first_file(FILES) {
+        Some(folder) => Ok(tree.list(alloc, folder)?),
+        None => Ok(Names::new(alloc)),
+    }
+}
+
+/// Packs the files of these names, which are listed below the folder that an option gives; nothing
+/// where no folder is given.
+pub(crate) fn pack_below<'a, T: Tree>(
+    alloc: Global,
+    tree: &mut T,
+    values: &Values,
+    names: &'a Names,
+) -> Result<Packing<'a>, MakeFault>
+    ensures tree { OnlyReads MakeFault.Disk (T.history tree.old) (T.history tree.new)
+        (T.counts tree.old) (T.counts tree.new) result }
+    ensures read { (n : ℕ) → Explains (T.history tree.old) (λ read.
+        IsAnswer IsPacking result (folders_below read n (values_of FILES values.now) names.now)) }
+{
+    match first_folder(values) {
+        Some(value) => {
+            let folder = without_dot(value.text.as_bytes());
+            pack_names(alloc, tree, value.place, folder, names)
+        }
+        None => Ok(Packing {
+            folders: Vec::new(alloc),
+            blocks: Vec::new(alloc),
+        }),
+    }
+}
+
+/// The value of the option that gives a folder, if it is given.
+fn first_folder(values: &Values) -> Option<&OptionValue>
+    ensures { IsFirstValue result (values_of FILES values.entry.now) }
+{
+    values.first(FILES)
+}
+
+/// Reads the scripts that values give, in the order given.
+pub(crate) fn read_scripts<'a, T: Tree>(
+    alloc: Global,
+    tree: &mut T,
+    values: &'a Values,
+) -> Result<Vec<Script<'a>>, MakeFault>
+    requires { IsTrue (are_values (value_rules Mkpkg) values.now) }
+    ensures tree { OnlyReads MakeFault.Disk (T.history tree.old) (T.history tree.new)
+        (T.counts tree.old) (T.counts tree.new) result }
+    ensures read { (n : ℕ) → Explains (T.history tree.old) (λ read.
+        IsAnswer AreScripts result (scripts_from read n (values_of SCRIPT values.entry.now))) }
+{
+    let mut scripts = Vec::new(alloc);
+    for i in 0..values.len() {
+        let value = values.get(i);
+        if value.letter != SCRIPT {
+            continue;
+        }
+        let script = read_script(alloc, tree, value, values.script_file(i))?;
+        push_script(&mut scripts, script)?;
+    }
+    Ok(scripts)
+}
+
+/// Adds a script at the end.
+fn push_script<'a>(scripts: &mut Vec<Script<'a>>, script: Script<'a>) -> Result<(), AllocError>
+    ensures { OnOk result (scripts.new.items ≡ scripts.old.items ++ script.entry ∷ []) }
+{
+    scripts.push(script)?;
+    Ok(())
+}
+
+/// Reads the script that a value gives, in the file of this name.
+fn read_script<'a, T: Tree>(
+    alloc: Global,
+    tree: &mut T,
+    value: &'a OptionValue,
+    file: &Name,
+) -> Result<Script<'a>, MakeFault>
+    requires { file.now ≡ without_dot (script_file value.now.text) }
+    ensures tree { OnlyReads MakeFault.Disk (T.history tree.old) (T.history tree.new)
+        (T.counts tree.old) (T.counts tree.new) result }
+    ensures read { (n : ℕ) → Explains (T.history tree.old) (λ read.
+        IsAnswer IsScript result (script_at read n value.entry.now)) }
+{
+    let bytes = read_file(alloc, tree, value.place, file)?;
+    let kind = value.script_type();
+    Ok(Script { kind, bytes })
+}

@@ -1,0 +1,49 @@
+-- Which versions an operator of a dependency takes (apk-package(5), "depend").
+use Rattle.std.specs.Prelude.{ℕ, ◌==◌, Bool, true, false, ◌&&◌, ◌||◌, not, if◌then◌else◌, List, [], ◌∷◌, length, take, Option, Some, None, bit_and}
+use Rattle.std.specs.Str.{bytes_eq}
+use Rattle.std.specs.Ordering.{is_lt, is_eq, is_gt}
+use Rattle.version_core.specs.declared.token.Class.{Class}
+use Rattle.version_core.specs.declared.token.Class.TheVariants.{ZeroComponent}
+use Rattle.version_core.specs.Op.{EQUAL, LESS, GREATER, FUZZY, is_op}
+use Rattle.version_core.specs.Order.{is_last, token_cmp, tokens, version_cmp}
+use Rattle.version_core.specs.Token.{Token}
+
+abbrev pub op_of : ℕ → Option ℕ
+op_of bits = if is_op bits then Some bits else None
+
+abbrev pub has_bit : ℕ → ℕ → Bool
+has_bit bits bit = not (bit_and bits bit == 0)
+
+-- whether a component that is a text begins with the wanted one
+abbrev pub begins_with : List ℕ → List ℕ → Bool
+begins_with wanted found = bytes_eq wanted (take (length wanted) found)
+
+abbrev pub is_zero_component : Class → Bool
+is_zero_component ZeroComponent = true
+is_zero_component _ = false
+
+-- whether a token may stand where a fuzzy match wants another: they are equal, where a component
+-- that is a text is first cut to the length of the wanted one
+unfoldable pub fits : Token → Token → Bool
+fits wanted found =
+    if is_zero_component wanted.class && is_zero_component found.class
+    then begins_with wanted.text found.text else
+    is_eq (token_cmp found wanted)
+
+-- whether each token in front of the wanted end fits
+abbrev pub all_fit : List Token → List Token → Bool
+all_fit [] found = true
+all_fit (w ∷ ws) [] = is_last w.class
+all_fit (w ∷ ws) (f ∷ fs) = is_last w.class || (fits w f && all_fit ws fs)
+
+-- the fuzzy match: whether a version begins with the tokens of the wanted one
+unfoldable pub is_fuzzy_match : List ℕ → List ℕ → Bool
+is_fuzzy_match found wanted = all_fit (tokens wanted) (tokens found)
+
+-- whether one of the set match bits holds for a version against the wanted one
+unfoldable pub matches : ℕ → List ℕ → List ℕ → Bool
+matches bits found wanted =
+    (has_bit bits EQUAL && is_eq (version_cmp found wanted))
+    || (has_bit bits LESS && is_lt (version_cmp found wanted))
+    || (has_bit bits GREATER && is_gt (version_cmp found wanted))
+    || (has_bit bits FUZZY && is_fuzzy_match found wanted)
