@@ -10,7 +10,9 @@ use Rattle.adb_view.specs.Plain.{Plain}
 use Rattle.adb_write.specs.Canonical.{PayloadCounts, overflow_of, written_of}
 use Rattle.base_core.specs.Files.{AreNamedFiles, Files, IsFolderOf, drop_name}
 use Rattle.base_core.specs.Listed.{AreNamesBelow, IsNameBelow, IsNamesOf}
+use Rattle.base_core.specs.Tree.{IsWhole, TreeState, files_of}
 use Rattle.base_core.specs.declared.cause.Cause.{Cause}
+use Rattle.command_core.specs.declared.values.TheConstants.{FILES, SCRIPT, TRIGGER}
 use Rattle.journal_core.specs.Replacing.{replaced_files, scratch_of}
 use Rattle.make_package.specs.Folders.{FolderListing, folders_of, last_part_of}
 use Rattle.make_index.specs.Index.{and_entries, found_entries, found_entry, index_container, index_of, index_of_found, value_of_index, entry_unless, description_in, made_index}
@@ -86,7 +88,7 @@ names_for (folder ∷ values) files names good are = names_below (without_dot fo
 
 files_found : (files : Files) → AreNamedFiles files → (n : ℕ) (operands : List Operand) → AreFiles (reads_in files) n operands
 files_found files good n [] = tt
-files_found files good n (o ∷ operands) = (good.each (without_dot o.text), files_found files good (n + 1) operands)
+files_found files good n (o ∷ operands) = (λ file is. ((good.each (without_dot o.text) file is).each, (good.each (without_dot o.text) file is).few), files_found files good (n + 1) operands)
 
 -- ---- the definitions of what is made give no fault of the tree, and no want of memory
 
@@ -269,6 +271,7 @@ sound_by packages indexes (Ok command) files o name good (names, are, is) none n
     subst (λ (p : Outcome). IsSoundAt name p.files) (sym is)
     (applet_sound packages indexes command.applet command names files name good are named (ap (λ (p : Outcome). p.refusal) (sym is) ∙ none))
 
-pub made_sound : SoundPackage → SoundIndex → (words : List (List ℕ)) (files : Files) (o : Outcome) (name : List ℕ) → AreNamedFiles files → IsOutcome words files o → o.refusal ≡ None → output words ≡ Some name
+pub made_sound : ((v : TreeState) → IsWhole v → AreNamedFiles (files_of v)) → SoundPackage → SoundIndex
+    → (words : List (List ℕ)) (v : TreeState) (o : Outcome) (name : List ℕ) → IsWhole v → IsOutcome words (files_of v) o → o.refusal ≡ None → output words ≡ Some name
     → IsSoundAt name o.files
-made_sound packages indexes words files o name good is none named = sound_by packages indexes (command_of words) files o name good is none named
+made_sound named packages indexes words v o name whole is none under = sound_by packages indexes (command_of words) (files_of v) o name (named v whole) is none under

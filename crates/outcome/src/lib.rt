@@ -3,19 +3,21 @@
 //!
 //! It is a crate of definitions. `Outcome` of `specs/` says what a command comes to, `Commands`
 //! what a command line comes to, `Effect` what it looks at and changes, and `Version`, `Verify`,
-//! `Dump` and `Make` what each command comes to. The functions are laws: they do nothing, and their
-//! contracts say what follows from the definitions, for all words and files.
+//! `Dump` and `Make` what each command comes to; `Sound` says when a file is a sound container. The
+//! functions are laws: they do nothing, and their contracts say what follows from the definitions,
+//! for all words and files.
 #![tactic(auto)]
 
 ghost use Rattle.std.specs.Prelude.{◌≡◌, ℕ, List, None, Some, IsTrue};
 ghost use Rattle.base_core.specs.Files.{Files, IsWithin};
+ghost use Rattle.base_core.specs.Tree.{IsWhole, TreeState, files_of};
 ghost use Rattle.outcome.specs.Commands.{IsOutcome};
 ghost use Rattle.outcome.specs.Effect.{output, reads_only, rests_on_words};
 ghost use Rattle.outcome.specs.Outcome.{Outcome, outcome_of};
-ghost use Rattle.outcome.specs.Sound.{AreNamedFiles, IsSoundAt};
+ghost use Rattle.outcome.specs.Sound.{IsSoundAt};
 ghost use Rattle.words_core.specs.Grammar.{command_of};
 
-use base_core::files_have_one_list_of_names;
+use base_core::{files_have_one_list_of_names, the_files_of_a_whole_state_are_named_files};
 use make_core::{a_made_index_is_sound, a_made_package_is_sound};
 
 /// A command line has an outcome over any files under finitely many names.
@@ -47,14 +49,14 @@ pub fn an_outcome_of_words_is_the_same_everywhere()
         → IsOutcome words files o → IsOutcome words others (outcome_of o.refusal o.out others) }
 {}
 
-/// What `mkpkg` or `mkndx` leaves under its output's name passes all tests of a container: where
-/// each file that is there before stands under a name and has fewer than 2^64 bytes, and the
-/// container has fewer than 2^64 bytes.
+/// What `mkpkg` or `mkndx` leaves under its output's name passes all tests of a container, where it
+/// has fewer than 2^64 bytes. Each state of a tree is whole.
 pub fn what_is_made_is_sound()
-    ensures { (words : List (List ℕ)) (files : Files) (o : Outcome) (name : List ℕ)
-        → AreNamedFiles files → IsOutcome words files o → o.refusal ≡ None
+    ensures { (words : List (List ℕ)) (v : TreeState) (o : Outcome) (name : List ℕ)
+        → IsWhole v → IsOutcome words (files_of v) o → o.refusal ≡ None
         → output words ≡ Some name → IsSoundAt name o.files }
 {
+    the_files_of_a_whole_state_are_named_files();
     a_made_package_is_sound();
     a_made_index_is_sound();
 }
