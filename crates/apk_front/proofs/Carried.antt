@@ -14,16 +14,17 @@ use Rattle.journal_core.specs.Replacing.{IsReplacing}
 use Rattle.make_info.specs.Output.{output_name}
 use Rattle.make_package.specs.Sources.{AreNamesFor, values_of}
 use Rattle.make_info.specs.Reads.{Reads}
-use Rattle.outcome.specs.Dump.{adbdump_by, dump_found, dump_told, dumped}
-use Rattle.outcome.specs.Make.{mkndx_by, mkpkg_by}
-use Rattle.outcome.specs.Outcome.{IsFoundOutcomeOf, IsGivenBySome, IsGivenTo, IsOutcome, IsOutcomeOf, run_applet, run_by, run_of}
-use Rattle.outcome.specs.Reach.{does_read_only, output, output_by, output_of, reads_only}
-use Rattle.outcome.specs.Told.{Outcome, refused, told, unless}
-use Rattle.outcome.specs.Verify.{verify_refusal, verified_lines}
-use Rattle.outcome.specs.Version.{compared, invalid_lines, version_refusal}
+use Rattle.outcome.specs.Dump.{adbdump, dump_outcome, text_outcome, dump_of}
+use Rattle.outcome.specs.Make.{mkndx, mkpkg}
+use Rattle.outcome.specs.Commands.{IsFoundOutcomeOf, MayBeListedFor, IsListingFor, IsOutcome, IsOutcomeOf, run_applet, run}
+use Rattle.outcome.specs.Effect.{does_only_read, output, output_by, output_if, reads_only}
+use Rattle.outcome.specs.Outcome.{Outcome, just_refusal, outcome_of, report_unless}
+use Rattle.outcome.specs.Verify.{verify_refusal, sound_lines}
+use Rattle.outcome.specs.Version.{order_report, invalid_lines, version_refusal}
 use Rattle.report_core.specs.declared.refusal.Refusal.{Refusal}
 use Rattle.report_core.specs.declared.refusal.Refusal.TheVariants.{Usage}
-use Rattle.command_core.specs.Command.{CommandLine, without_dot}
+use Rattle.command_core.specs.Command.{CommandLine}
+use Rattle.command_core.specs.Files.{without_dot}
 use Rattle.words_core.specs.Faults.{IsWordsFault}
 use Rattle.words_core.specs.Grammar.{command_of}
 use Rattle.words_core.specs.declared.read.WordsFault.{WordsFault}
@@ -32,11 +33,13 @@ use Rattle.command_core.specs.declared.command.Applet.{Applet}
 use Rattle.command_core.specs.declared.command.Applet.TheVariants.{Adbdump, Mkndx, Mkpkg, Verify, Version}
 use Rattle.command_core.specs.declared.operands.Operand.{Operand}
 use Rattle.apk_front.specs.Answers.{answer_by}
-use Rattle.apk_front.specs.Moments.{HasRoomFor, HidesScratchOf, IsCarriedOut, IsLeftUndone, IsRun}
-use Rattle.apk_front.specs.Shown.{IsIndexOutcome, IsPackageOutcome, IsShown, Tells, TellsOne, shown}
+use Rattle.apk_front.specs.Moments.{HasRoomFor, HidesScratchOf, IsCarriedOut, IsLeftUndone}
+use Rattle.apk_front.specs.Runs.{IsRun}
+use Rattle.apk_front.specs.Containers.{IsIndexOutcome, IsPackageOutcome}
+use Rattle.apk_front.specs.Verdicts.{IsShown, Reports, ReportsOne, as_outcome}
 use Rattle.apk_front.specs.declared.answer.Answer.{Answer}
 use Rattle.apk_front.specs.declared.answer.Answer.TheVariants.{Ok as Done, Refused, TreeFault as TreeFailed, OutFault, Memory}
-use Rattle.apk_front.specs.declared.verdict.Verdict.{Verdict}
+use Rattle.apk_front.specs.declared.answer.Verdict.{Verdict}
 use Rattle.apk_front.proofs.Judged.{Runs, given_none, given_none_by_some}
 use Rattle.apk_front.proofs.Runs.{History, Judged, run_among, told_failed, told_idle, told_refused}
 

@@ -23,18 +23,21 @@ use Rattle.adb_schema.specs.declared.read.TheConstants.{PACKAGE_WORD, INDEX_WORD
 use Rattle.adb_schema.specs.declared.schema.Which.{Which}
 use Rattle.adb_schema.specs.declared.schema.Which.TheVariants.{Package, Index, Idb, Intent}
 use Rattle.adb_view.specs.Adb.{payload_of}
-use Rattle.outcome.specs.Dump.{adbdump, adbdump_by, dump_found, dump_told, dumped, dumped_as, dumped_blocks, dumped_by, form_fault, framing_fault, or_text}
-use Rattle.outcome.specs.Told.{refused, reported}
+use Rattle.outcome.specs.Dump.{adbdump, dump_outcome, text_outcome, dump_of, dump_with_root, dump_of_blocks, dump_with_schema, form_fault, framing_fault, or_text}
+use Rattle.outcome.specs.Outcome.{just_refusal, just_report}
 use Rattle.pkg_core.specs.Whole.{root_of_schema}
 use Rattle.report_core.specs.declared.refusal.Refusal.TheVariants.{FileMissing, FileBad}
 use Rattle.words_core.specs.Applets.{row_of}
-use Rattle.command_core.specs.Command.{CommandLine, IsCommand, are_files, are_values, is_plain, is_sound, is_sound_line, is_version, without_dot}
+use Rattle.command_core.specs.Command.{CommandLine, IsCommand, are_values, is_plain, is_sound, is_sound_line, is_version}
+use Rattle.command_core.specs.Operands.{are_files}
+use Rattle.command_core.specs.Files.{without_dot}
 use Rattle.command_core.specs.declared.command.Applet.{Applet}
 use Rattle.command_core.specs.declared.command.Applet.TheVariants.{Adbdump, Verify, Version}
 use Rattle.command_core.specs.declared.command.Flags.{Flags}
 use Rattle.command_core.specs.declared.operands.Operand.{Operand}
-use Rattle.apk_front.specs.Shown.{IsDumpFault, IsShapedFirst, first_refused, shown}
-use Rattle.apk_front.specs.declared.verdict.Verdict.{Verdict}
+use Rattle.apk_front.specs.Containers.{IsDumpFault, IsShapedFirst, first_block_fault}
+use Rattle.apk_front.specs.Verdicts.{as_outcome}
+use Rattle.apk_front.specs.declared.answer.Verdict.{Verdict}
 
 -- ---- blocks
 

@@ -17,17 +17,17 @@ use Rattle.command_core.specs.declared.command.Applet.{Applet}
 use Rattle.command_core.specs.declared.command.Applet.TheVariants.{Adbdump, Mkndx, Mkpkg, Verify, Version}
 use Rattle.command_core.specs.declared.command.Flags.{Flags}
 use Rattle.command_core.specs.declared.operands.Operand.{Operand}
-use Rattle.outcome.specs.Told.{Outcome, refused}
+use Rattle.outcome.specs.Outcome.{Outcome, just_refusal}
 use Rattle.outcome.specs.Version.{version}
-use Rattle.outcome.specs.Outcome.{IsFoundOutcome, IsFoundOutcomeOf, IsGivenBySome, IsOutcome, IsOutcomeOf, IsGivenTo, run_by, run_of}
-use Rattle.outcome.specs.Reach.{does_read_only, does_rest_on_words, output, reads_only, rests_on_words}
-use Rattle.apk_front.specs.Answers.{IsAnswer, IsAnswerOf, LeavesFiles, LeavesAny, HasCauses, IsFaultless, IsComplete, DidNotFail, FailedAt}
-use Rattle.apk_front.specs.Moments.{IsRun}
-use Rattle.apk_front.specs.Shown.{shown, IsTold, IsShown, TellsOne}
+use Rattle.outcome.specs.Commands.{IsFoundOutcome, IsFoundOutcomeOf, MayBeListedFor, IsOutcome, IsOutcomeOf, IsListingFor, run_applet, run}
+use Rattle.outcome.specs.Effect.{does_only_read, does_rest_on_words, output, reads_only, rests_on_words}
+use Rattle.apk_front.specs.Answers.{IsAnswerTo, IsAnswerOf, LeavesFiles, LeavesAny, HasCauses, IsFaultless, IsComplete, DidNotFail, FailedAt}
+use Rattle.apk_front.specs.Runs.{IsRun}
+use Rattle.apk_front.specs.Verdicts.{as_outcome, IsPrinted, IsShown, ReportsOne}
 use Rattle.apk_front.proofs.Telling.{either_failed}
 use Rattle.apk_front.specs.declared.answer.Answer.{Answer}
 use Rattle.apk_front.specs.declared.answer.Answer.TheVariants.{Ok as Good, Refused, TreeFault as TreeFailed, OutFault, Memory}
-use Rattle.apk_front.specs.declared.verdict.Verdict.{Verdict}
+use Rattle.apk_front.specs.declared.answer.Verdict.{Verdict}
 
 -- ---- the words and the outcome
 

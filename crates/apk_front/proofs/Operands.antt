@@ -8,14 +8,15 @@ use Rattle.base_core.specs.Tree.{TreeState, files_of}
 use Rattle.report_core.specs.declared.refusal.Refusal.{Refusal}
 use Rattle.report_core.specs.declared.refusal.Refusal.TheVariants.{VersionBad}
 use Rattle.version_core.specs.Order.{is_version, version_cmp}
-use Rattle.command_core.specs.Command.{are_files, is_file, without_dot}
+use Rattle.command_core.specs.Operands.{are_files}
+use Rattle.command_core.specs.Files.{is_file, without_dot}
 use Rattle.command_core.specs.declared.operands.Operand.{Operand}
 use Rattle.make_info.specs.Reads.{Reads}
-use Rattle.outcome.specs.Verify.{file_refusal, or_later, refusal_by, verified_lines, verify, verify_by, verify_refusal}
-use Rattle.outcome.specs.Version.{compared, invalid_line, invalid_lines, order_line, version_refusal}
-use Rattle.outcome.specs.Told.{refused, reported, unless}
-use Rattle.apk_front.specs.Shown.{shown}
-use Rattle.apk_front.specs.declared.verdict.Verdict.{Verdict}
+use Rattle.outcome.specs.Verify.{file_refusal, or_later, verify_refusal, sound_lines, verify}
+use Rattle.outcome.specs.Version.{order_report, invalid_line, invalid_lines, order_line, version_refusal}
+use Rattle.outcome.specs.Outcome.{just_refusal, just_report, report_unless}
+use Rattle.apk_front.specs.Verdicts.{as_outcome}
+use Rattle.apk_front.specs.declared.answer.Verdict.{Verdict}
 
 -- what is left of a list where an element stands
 pub left_at : {X : Type 0} (xs : List X) (i : ℕ) (x : X) → slice_get xs i ≡ Some x → drop i xs ≡ x ∷ drop (i + 1) xs

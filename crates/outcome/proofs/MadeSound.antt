@@ -38,6 +38,7 @@ use Rattle.command_core.specs.declared.command.Applet.{Applet}
 use Rattle.command_core.specs.declared.command.Applet.TheVariants.{Mkndx, Mkpkg}
 use Rattle.command_core.specs.declared.operands.Operand.{Operand}
 use Rattle.command_core.specs.declared.values.OptionValue.{OptionValue}
+use Rattle.outcome.proofs.Listings.{if_some, is_below}
 use Rattle.outcome.specs.Commands.{IsListingFor, IsOutcome, IsOutcomeOf, reads_in, run_applet}
 use Rattle.outcome.specs.Effect.{effect_of, output, output_by, output_if}
 use Rattle.outcome.specs.Make.{IsListing, files_below, index_line, make_outcome, mkndx, mkpkg}
@@ -52,22 +53,6 @@ abbrev pub SoundIndex : Type 0
 SoundIndex = (command : CommandLine) (read : Reads) (bytes : List ℕ) → AreFiles read 0 command.operands → made_index command read ≡ Ok bytes → container_fault bytes ≡ None
 
 -- ---- the names below a folder are names below it
-
-is_below : (folder q : List ℕ) → starts_with nat_eq q (folder ++ codes "/") ≡ true → IsFolderOf folder q
-is_below [] [] h = cc
-is_below [] (x ∷ q) h =
-    let same : x ≡ 47 = sym (eqb-true 47 x (and_parts (nat_eq 47 x) true h).0) in
-    (q, ap (λ y. y ∷ q) same)
-is_below (b ∷ folder) [] h = cc
-is_below (b ∷ folder) (x ∷ q) h =
-    let parts = and_parts (nat_eq b x) (starts_with nat_eq q (folder ++ codes "/")) h in
-    let same : x ≡ b = sym (eqb-true b x parts.0) in
-    let more = is_below folder q parts.1 in
-    (more.0, ap (λ y. y ∷ q) same ∙ ap (λ p. b ∷ p) more.1)
-
-if_some : (b : Bool) (o : Option (List ℕ)) → IsSome (if b then o else None) → (b ≡ true) × IsSome o
-if_some true o h = (refl, h)
-if_some false o h = cc
 
 name_below : (folder : List ℕ) (files : Files) → AreNamedFiles files → (q : List ℕ) → IsSome (files_below folder files q) → IsNameBelow folder q
 name_below folder files good q some =

@@ -10,9 +10,11 @@
 
 ghost use Rattle.std.specs.Prelude.{◌≡◌, ℕ, List, None, Some, IsTrue};
 ghost use Rattle.base_core.specs.Files.{Files, IsWithin};
+ghost use Rattle.base_core.specs.Listed.{IsListOf, IsNamesOf};
 ghost use Rattle.base_core.specs.Tree.{IsWhole, TreeState, files_of};
 ghost use Rattle.outcome.specs.Commands.{IsOutcome};
 ghost use Rattle.outcome.specs.Effect.{output, reads_only, rests_on_words};
+ghost use Rattle.outcome.specs.Make.{files_below};
 ghost use Rattle.outcome.specs.Outcome.{Outcome, outcome_of};
 ghost use Rattle.outcome.specs.Sound.{IsSoundAt};
 ghost use Rattle.words_core.specs.Grammar.{command_of};
@@ -47,6 +49,12 @@ pub fn an_outcome_of_words_is_the_same_everywhere()
     ensures { (words : List (List ℕ)) (files others : Files) (o : Outcome)
         → IsTrue (rests_on_words (command_of words))
         → IsOutcome words files o → IsOutcome words others (outcome_of o.refusal o.out others) }
+{}
+
+/// The names below a folder, as a tree lists them, are those of its files.
+pub fn a_listing_of_a_tree_is_that_of_its_files()
+    ensures { (folder : List ℕ) (v : TreeState) (names : List (List ℕ))
+        → IsListOf folder v names → IsNamesOf (files_below folder (files_of v)) names }
 {}
 
 /// What `mkpkg` or `mkndx` leaves under its output's name passes all tests of a container, where it
