@@ -3,15 +3,15 @@ use Rattle.std.proofs.Common.{◌≡◌, ℕ, Bool, true, false, cond, eqb, List
 use Rattle.std.specs.Prelude.{◌==◌, ◌&&◌, if◌then◌else◌, is_some, codes}
 use Rattle.std.specs.Fmt.{decimal}
 use Rattle.hex.specs.Hex.{encode_lower}
-use Rattle.adb_view.specs.Plain.{Plain, null, int, blob, arr, obj, Plains, none, more, Shape, number, text, hash, array, object, Fields, no_fields, field, keep, trimmed, blob_value, arr_value, obj_of, obj_value, unless_null, found, then_more, each_plain, plain_of, plains_of}
+use Rattle.adb_view.specs.Plain.{Plain, null, int, blob, arr, obj, Plains, none, more, Shape, number, text, hash, array, object, Fields, no_fields, field, keep, without_last_nulls, blob_value, arr_value, obj_of, obj_value, unless_null, from_answer, then_more, each_plain, plain_of, plains_of}
 use Rattle.adb_view.specs.Readers.{run_of, ARRAY, OBJECT}
 use Rattle.base_core.specs.declared.cause.Cause.{Cause}
-use Rattle.adb_schema.specs.Fields.{values_at}
-use Rattle.adb_schema.specs.Schema.{table, shape_of, shapes_of}
-use Rattle.adb_schema.specs.Views.{entries_in, is_sound, value_at}
-use Rattle.adb_schema.specs.declared.schema.Which.{Which}
-use Rattle.adb_schema.specs.declared.schema.Kind.{Kind}
-use Rattle.adb_schema.specs.declared.schema.Kind.TheVariants.{Int, Text, Hash, Obj, TextArr, ObjArr}
+use Rattle.adb_fields.specs.Fields.{values_at}
+use Rattle.adb_tables.specs.Schema.{table, shape_of, shapes_of}
+use Rattle.adb_tables.specs.Values.{entries_in, is_sound, value_at}
+use Rattle.adb_tables.specs.declared.tables.Which.{Which}
+use Rattle.adb_tables.specs.declared.tables.Kind.{Kind}
+use Rattle.adb_tables.specs.declared.tables.Kind.TheVariants.{Int, Text, Hash, Obj, TextArr, ObjArr}
 use Rattle.adb_dump.specs.Dump.{Line, block_lines, dashed, entries, fields_lines, indent, named_lines, or_null, text_form, unless_absent}
 use Rattle.adb_dump.specs.Words.{is_null, are_null, fields_at}
 use Rattle.adb_dump.proofs.Nulls.{obj_null}
@@ -63,18 +63,18 @@ kept_lines name s fs (blob b) vs = refl
 kept_lines name s fs (arr us) vs = refl
 kept_lines name s fs (obj us) vs = refl
 
-trimmed_lines : (fs : Fields) (vs : Plains) → fields_lines fs (trimmed vs) ≡ fields_lines fs vs
+trimmed_lines : (fs : Fields) (vs : Plains) → fields_lines fs (without_last_nulls vs) ≡ fields_lines fs vs
 unfolding fields_lines
 trimmed_lines no_fields vs = refl
 trimmed_lines (field name s fs) none = refl
-trimmed_lines (field name s fs) (more v vs) = kept_lines name s fs v (trimmed vs) ∙ ap (λ (ls : List Line). unless_absent v (named_lines s name v) ++ ls) (trimmed_lines fs vs)
+trimmed_lines (field name s fs) (more v vs) = kept_lines name s fs v (without_last_nulls vs) ∙ ap (λ (ls : List Line). unless_absent v (named_lines s name v) ++ ls) (trimmed_lines fs vs)
 
 entries_in-obj_of : (vs : Plains) → entries_in (obj_of vs) ≡ vs
 entries_in-obj_of none = refl
 entries_in-obj_of (more v vs) = refl
 
 object_value_lines : (fs : Fields) (vs : Plains) → fields_lines fs (entries_in (obj_value vs)) ≡ fields_lines fs vs
-object_value_lines fs vs = ap (fields_lines fs) (entries_in-obj_of (trimmed vs)) ∙ trimmed_lines fs vs
+object_value_lines fs vs = ap (fields_lines fs) (entries_in-obj_of (without_last_nulls vs)) ∙ trimmed_lines fs vs
 
 pub object_block : (n : ℕ) (fs : Fields) (v : Plain) → block_lines (object n fs) v ≡ fields_lines fs (entries_in v)
 unfolding block_lines
@@ -134,10 +134,10 @@ fields_line p (field name s fs) (w ∷ ws) vs e some =
     rw is (first_or_later u (named_lines s name u) (fields_lines fs us) (are_null us) (sym (ap are_null is) ∙ some) (named_line s name u) (fields_line p fs ws us others))
 
 -- a value that is not Null was found
-found_some : {A : Type 0} (w : ℕ) (f : A → Option Plain) (r : Result A Cause) (v : Plain) → unless_null w (found f r) ≡ Some v → is_null v ≡ false → (x : A) × (f x ≡ Some v)
+found_some : {A : Type 0} (w : ℕ) (f : A → Option Plain) (r : Result A Cause) (v : Plain) → unless_null w (from_answer f r) ≡ Some v → is_null v ≡ false → (x : A) × (f x ≡ Some v)
 found_some {A = A} w f r v e some = go (eqb w 0) r e
   where
-    go : (b : Bool) (r : Result A Cause) → cond b (Some null) (found f r) ≡ Some v → (x : A) × (f x ≡ Some v)
+    go : (b : Bool) (r : Result A Cause) → cond b (Some null) (from_answer f r) ≡ Some v → (x : A) × (f x ≡ Some v)
     go true r e = let same : null ≡ v = cc in absurd (let no : is_null null ≡ false = ap is_null same ∙ some in cc)
     go false (Ok x) e = (x, e)
     go false (Err c) e = absurd cc

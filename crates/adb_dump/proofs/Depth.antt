@@ -1,11 +1,11 @@
 -- How deep values nest.
 use Rattle.std.proofs.Common.{ℕ, zero, suc, ◌+◌, ◌<◌, ◌≤◌, List, [], ◌∷◌, length, get_or, arith, lit<}
-use Rattle.adb_schema.specs.Rank.{rank, rank_of_all}
-use Rattle.adb_schema.specs.Schema.{table}
-use Rattle.adb_schema.specs.declared.schema.Which.{Which}
-use Rattle.adb_schema.specs.declared.schema.Which.TheVariants.{Dep, Acl, PkgInfo, File, Dir, Scripts, Package, Index, Idb, Intent}
-use Rattle.adb_schema.specs.declared.schema.Kind.TheVariants.{Obj}
-use Rattle.adb_schema.specs.declared.schema.Field.{Field}
+use Rattle.adb_tables.specs.Rank.{rank, rank_of_all}
+use Rattle.adb_tables.specs.Schema.{table}
+use Rattle.adb_tables.specs.declared.tables.Which.{Which}
+use Rattle.adb_tables.specs.declared.tables.Which.TheVariants.{Dep, Acl, PkgInfo, File, Dir, Scripts, Package, Index, Idb, Intent}
+use Rattle.adb_tables.specs.declared.tables.Kind.TheVariants.{Obj}
+use Rattle.adb_tables.specs.declared.tables.Field.{Field}
 
 pub field_rank : (fs : List Field) (i : ℕ) (d : Field) → i < length fs → rank (get_or fs i d).kind ≤ rank_of_all fs
 field_rank [] i d lt = absurd (omega arith)

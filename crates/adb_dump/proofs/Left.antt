@@ -3,11 +3,11 @@ use Rattle.std.proofs.Common.{◌≡◌, ℕ, ◌+◌, ◌<◌, ◌≤◌, true,
 use Rattle.std.specs.Prelude.{is_some, unwrap_or}
 use Rattle.std.proofs.lemmas.List.{drop_more, drop_all}
 use Rattle.adb_view.specs.Plain.{Plain, null, int, blob, arr, obj, Plains, none, more, then_more, each_plain, plain_of, plains_of}
-use Rattle.adb_schema.specs.Fields.{are_sound, values_at}
-use Rattle.adb_schema.specs.Schema.{label_text, shape_of, shapes_of}
-use Rattle.adb_schema.specs.Views.{is_sound, value_at}
-use Rattle.adb_schema.specs.declared.schema.Kind.{Kind}
-use Rattle.adb_schema.specs.declared.schema.Field.{Field}
+use Rattle.adb_fields.specs.Fields.{are_all_sound, values_at}
+use Rattle.adb_tables.specs.Schema.{field_name_text, shape_of, shapes_of}
+use Rattle.adb_tables.specs.Values.{is_sound, value_at}
+use Rattle.adb_tables.specs.declared.tables.Kind.{Kind}
+use Rattle.adb_tables.specs.declared.tables.Field.{Field}
 use Rattle.adb_dump.specs.Dump.{Line, block_lines, dashed, entries, fields_lines, named_lines, or_null, unless_absent}
 use Rattle.adb_dump.specs.Words.{is_null, are_null, fields_sound, fields_at}
 
@@ -32,19 +32,19 @@ found None vs e = absurd cc
 
 pub record EntryStep (p : List ℕ) (k : Kind) (word : ℕ) (words : List ℕ) (rest : List ℕ) : Type 0 where
   pub here : is_sound p k word ≡ true
-  pub later : are_sound p k rest ≡ true
+  pub later : are_all_sound p k rest ≡ true
   pub value : values_at p k words ≡ more (value_at p k word) (values_at p k rest)
 
-first_entry : (p : List ℕ) (k : Kind) (word : ℕ) (rest : List ℕ) → are_sound p k (word ∷ rest) ≡ true → EntryStep p k word (word ∷ rest) rest
-unfolding are_sound values_at is_sound value_at
+first_entry : (p : List ℕ) (k : Kind) (word : ℕ) (rest : List ℕ) → are_all_sound p k (word ∷ rest) ≡ true → EntryStep p k word (word ∷ rest) rest
+unfolding are_all_sound values_at is_sound value_at
 first_entry p k word rest h = let f = found (plain_of p (shape_of k) word) (each_plain (plain_of p (shape_of k)) rest) h in record { here = f.first; later = f.others; value = f.value }
 
-pub entry_step : (p : List ℕ) (k : Kind) (words : List ℕ) (i : ℕ) → i < length words → are_sound p k (drop i words) ≡ true → EntryStep p k (get_or words i 0) (drop i words) (drop (i + 1) words)
+pub entry_step : (p : List ℕ) (k : Kind) (words : List ℕ) (i : ℕ) → i < length words → are_all_sound p k (drop i words) ≡ true → EntryStep p k (get_or words i 0) (drop i words) (drop (i + 1) words)
 entry_step p k words i lt h =
     let e = drop_more words i 0 lt in
     rw e (first_entry p k (get_or words i 0) (drop (i + 1) words) (rw e at h))
 
-pub entries_more : (p : List ℕ) (k : Kind) (words : List ℕ) (i : ℕ) → i < length words → are_sound p k (drop i words) ≡ true
+pub entries_more : (p : List ℕ) (k : Kind) (words : List ℕ) (i : ℕ) → i < length words → are_all_sound p k (drop i words) ≡ true
     → entries_left p k words i ≡ dashed (or_null (value_at p k (get_or words i 0)) (block_lines (shape_of k) (value_at p k (get_or words i 0)))) ++ entries_left p k words (i + 1)
 entries_more p k words i lt h = ap (entries (block_lines (shape_of k))) (entry_step p k words i lt h).value
 
@@ -95,12 +95,12 @@ pub fields_over : (p : List ℕ) (fields : List Field) (words : List ℕ) (i : �
 fields_over p fields words i le = ap (fields_lines (shapes_of (drop i fields))) (fields_past p fields words i le) ∙ lines_of_none (drop i fields)
 
 -- the lines of a field, where it is Null and where it is not
-fields_first : (f : Field) (others : List Field) (v : Plain) (vs : Plains) → fields_lines (shapes_of (f ∷ others)) (more v vs) ≡ unless_absent v (named_lines (shape_of f.kind) (label_text f.name) v) ++ fields_lines (shapes_of others) vs
+fields_first : (f : Field) (others : List Field) (v : Plain) (vs : Plains) → fields_lines (shapes_of (f ∷ others)) (more v vs) ≡ unless_absent v (named_lines (shape_of f.kind) (field_name_text f.name) v) ++ fields_lines (shapes_of others) vs
 unfolding fields_lines
 fields_first f others v vs = refl
 
 fields_more : (p : List ℕ) (fields : List Field) (words : List ℕ) (i : ℕ) (d : Field) → i < length fields → i < length words → fields_sound p (drop i fields) (drop i words) ≡ true
-    → fields_left p fields words i ≡ unless_absent (value_at p (get_or fields i d).kind (get_or words i 0)) (named_lines (shape_of (get_or fields i d).kind) (label_text (get_or fields i d).name) (value_at p (get_or fields i d).kind (get_or words i 0))) ++ fields_left p fields words (i + 1)
+    → fields_left p fields words i ≡ unless_absent (value_at p (get_or fields i d).kind (get_or words i 0)) (named_lines (shape_of (get_or fields i d).kind) (field_name_text (get_or fields i d).name) (value_at p (get_or fields i d).kind (get_or words i 0))) ++ fields_left p fields words (i + 1)
 fields_more p fields words i d lt lt' h =
     let s = field_step p fields words i d lt lt' h in
     ap (fields_lines (shapes_of (drop i fields))) s.value ∙ ap (λ (fs : List Field). fields_lines (shapes_of fs) (more (value_at p (get_or fields i d).kind (get_or words i 0)) (fields_at p (drop (i + 1) fields) (drop (i + 1) words)))) (drop_more fields i d lt)
@@ -126,7 +126,7 @@ fields_skip p fields words i d lt lt' h n =
     fields_more p fields words i d lt lt' h ∙ ap (λ (ls : List Line). ls ++ fields_left p fields words (i + 1)) (unless_absent-true (value_at p (get_or fields i d).kind (get_or words i 0)) _ n)
 
 pub fields_next : (p : List ℕ) (fields : List Field) (words : List ℕ) (i : ℕ) (d : Field) → i < length fields → i < length words → fields_sound p (drop i fields) (drop i words) ≡ true → is_null (value_at p (get_or fields i d).kind (get_or words i 0)) ≡ false
-    → fields_left p fields words i ≡ named_lines (shape_of (get_or fields i d).kind) (label_text (get_or fields i d).name) (value_at p (get_or fields i d).kind (get_or words i 0)) ++ fields_left p fields words (i + 1)
+    → fields_left p fields words i ≡ named_lines (shape_of (get_or fields i d).kind) (field_name_text (get_or fields i d).name) (value_at p (get_or fields i d).kind (get_or words i 0)) ++ fields_left p fields words (i + 1)
 fields_next p fields words i d lt lt' h n =
     fields_more p fields words i d lt lt' h ∙ ap (λ (ls : List Line). ls ++ fields_left p fields words (i + 1)) (unless_absent-false (value_at p (get_or fields i d).kind (get_or words i 0)) _ n)
 

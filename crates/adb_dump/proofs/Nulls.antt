@@ -1,14 +1,14 @@
 -- Which values are Null.
 use Rattle.std.proofs.Common.{◌≡◌, ◌≢◌, ℕ, Bool, true, false, cond, eqb, List, [], ◌∷◌, length, Option, Some, None, Result, Ok, Err, refl, sym, ap, arith, ◌∙◌}
 use Rattle.std.specs.Prelude.{◌==◌, ◌&&◌, is_some, unwrap_or, IsTrue, ◌↔◌}
-use Rattle.adb_view.specs.Plain.{Plain, null, int, blob, arr, obj, Plains, none, more, keep, trimmed, blob_value, arr_value, obj_of, obj_value, found, then_more, each_plain, plain_of}
-use Rattle.adb_schema.specs.Fields.{are_sound, values_at}
-use Rattle.adb_schema.specs.Schema.{shape_of}
+use Rattle.adb_view.specs.Plain.{Plain, null, int, blob, arr, obj, Plains, none, more, keep, without_last_nulls, blob_value, arr_value, obj_of, obj_value, from_answer, then_more, each_plain, plain_of}
+use Rattle.adb_fields.specs.Fields.{are_all_sound, values_at}
+use Rattle.adb_tables.specs.Schema.{shape_of}
 use Rattle.adb_view.specs.Readers.{int_of}
 use Rattle.base_core.specs.declared.cause.Cause.{Cause}
-use Rattle.adb_schema.specs.Views.{is_sound, value_at}
-use Rattle.adb_schema.specs.declared.schema.Kind.{Kind}
-use Rattle.adb_schema.specs.declared.schema.Kind.TheVariants.{Int}
+use Rattle.adb_tables.specs.Values.{is_sound, value_at}
+use Rattle.adb_tables.specs.declared.tables.Kind.{Kind}
+use Rattle.adb_tables.specs.declared.tables.Kind.TheVariants.{Int}
 use Rattle.adb_dump.specs.Words.{is_null, are_null}
 
 neq-eqb : (m n : ℕ) → m ≢ n → eqb m n ≡ false
@@ -27,7 +27,7 @@ pub int_is_null : (p : List ℕ) (w : ℕ) → is_sound p Int w ≡ true → is_
 unfolding is_sound value_at shape_of plain_of
 int_is_null p w h = go (eqb w 0) (int_of p w) h
   where
-    go : (b : Bool) (r : Result ℕ Cause) → is_some (cond b (Some null) (found (λ n. Some (int n)) r)) ≡ true → is_null (unwrap_or (cond b (Some null) (found (λ n. Some (int n)) r)) null) ≡ b
+    go : (b : Bool) (r : Result ℕ Cause) → is_some (cond b (Some null) (from_answer (λ n. Some (int n)) r)) ≡ true → is_null (unwrap_or (cond b (Some null) (from_answer (λ n. Some (int n)) r)) null) ≡ b
     go true r e = refl
     go false (Ok n) e = refl
     go false (Err c) e = absurd cc
@@ -46,11 +46,11 @@ obj_of_keep (obj us) vs = refl
 
 pub obj_null : (vs : Plains) → is_null (obj_value vs) ≡ are_null vs
 obj_null none = refl
-obj_null (more v vs) = obj_of_keep v (trimmed vs) ∙ ap (λ (b : Bool). is_null v && b) (obj_null vs)
+obj_null (more v vs) = obj_of_keep v (without_last_nulls vs) ∙ ap (λ (b : Bool). is_null v && b) (obj_null vs)
 
 -- an array of words that have values has as many of these
-pub arr_null : (p : List ℕ) (k : Kind) (words : List ℕ) → are_sound p k words ≡ true → is_null (arr_value (values_at p k words)) ≡ (length words == 0)
-unfolding are_sound values_at
+pub arr_null : (p : List ℕ) (k : Kind) (words : List ℕ) → are_all_sound p k words ≡ true → is_null (arr_value (values_at p k words)) ≡ (length words == 0)
+unfolding are_all_sound values_at
 arr_null p k [] h = refl
 arr_null p k (w ∷ ws) h = go (plain_of p (shape_of k) w) (each_plain (plain_of p (shape_of k)) ws) h ∙ sym (some_length w ws)
   where

@@ -4,7 +4,7 @@ use Rattle.std.specs.Prelude.{codes, bytes_eq}
 use Rattle.std.specs.Str.Parse.{digits_value}
 use Rattle.std.proofs.lemmas.Bool.{eqb-true, ltb-true}
 use Rattle.std.proofs.lemmas.List.{length-append}
-use Rattle.adb_view.specs.Plain.{Plain, null, int, blob, arr, obj, Plains, none, more, keep, trimmed, Shape, number, text, hash, array, object, Fields, no_fields, field, IsNormal, AreNormal}
+use Rattle.adb_view.specs.Plain.{Plain, null, int, blob, arr, obj, Plains, none, more, keep, without_last_nulls, Shape, number, text, hash, array, object, Fields, no_fields, field, IsNormal, AreNormal}
 use Rattle.adb_view.specs.Shaped.{Each, HasShape, HaveShapes}
 use Rattle.adb_dump.specs.Dump.{Line, begins_with, int_line, text_line, hash_line, indent, dashed, or_null, entries, on_line, below, unless_absent, block_lines, named_lines, fields_lines}
 use Rattle.adb_dump.specs.ReadBack.{Read, behind, bind, strip_prefix, stop_or_add, split_block, unquoted, unhex, made_blob, int_read, text_read, hash_read, if_form, only_line, entry_read, after_dash, entries_read, arr_read, obj_read, field_on_line, field_below, if_named, block_read, named_read, fields_read}
@@ -197,7 +197,7 @@ array_only s h ls v e =
 -- what reading fields says
 pub record FieldsOnly (fs : Fields) (ls : List Line) (vs : Plains) : Type 0 where
   pub lines : fields_lines fs vs ≡ ls
-  pub trim : trimmed vs ≡ vs
+  pub trim : without_last_nulls vs ≡ vs
   pub normal : AreNormal vs
   pub shapes : HaveShapes fs vs
 

@@ -10,7 +10,7 @@ use Rattle.std.proofs.lemmas.Fmt.{decimal_is_IsNumeral}
 use Rattle.std.proofs.lemmas.Str.Parse.{digit_at}
 use Rattle.hex.specs.Hex.{encode_with, encode_lower}
 use Rattle.adb_view.specs.Plain.{Plain, null, int, blob, arr, obj, Plains, none, more, Shape, number, text, hash, array, object, Fields, no_fields, field, IsNormal, AreNormal}
-use Rattle.adb_schema.specs.Views.{entries_in}
+use Rattle.adb_tables.specs.Values.{entries_in}
 use Rattle.adb_dump.specs.Dump.{Line, is_printable, is_bare, escaped, text_form, int_line, text_line, hash_line, indent, dashed, or_null, entries, on_line, below, unless_absent, block_lines, named_lines, fields_lines, text_of}
 use Rattle.adb_dump.specs.ReadBack.{lines_of, add_char}
 use Rattle.adb_dump.proofs.LineBack.{digit_not_end}

@@ -2,12 +2,12 @@
 use Rattle.std.proofs.Common.{◌≡◌, ℕ, suc, ◌+◌, ◌<◌, ◌≤◌, Bool, true, false, List, ◌++◌, length, get_or, drop, refl, sym, ap, ◌∙◌, append_assoc, append-nil, arith}
 use Rattle.std.specs.Prelude.{codes}
 use Rattle.adb_view.specs.Plain.{Plain, null, int, blob, arr, obj}
-use Rattle.adb_schema.specs.Fields.{are_sound}
-use Rattle.adb_schema.specs.Schema.{label_text, shape_of}
-use Rattle.adb_schema.specs.Views.{is_sound, value_at}
-use Rattle.adb_schema.specs.declared.schema.Kind.{Kind}
-use Rattle.adb_schema.specs.declared.schema.Kind.TheVariants.{Int, Text, Hash, Obj, TextArr, ObjArr}
-use Rattle.adb_schema.specs.declared.schema.Field.{Field}
+use Rattle.adb_fields.specs.Fields.{are_all_sound}
+use Rattle.adb_tables.specs.Schema.{field_name_text, shape_of}
+use Rattle.adb_tables.specs.Values.{is_sound, value_at}
+use Rattle.adb_tables.specs.declared.tables.Kind.{Kind}
+use Rattle.adb_tables.specs.declared.tables.Kind.TheVariants.{Int, Text, Hash, Obj, TextArr, ObjArr}
+use Rattle.adb_tables.specs.declared.tables.Field.{Field}
 use Rattle.adb_dump.specs.Dump.{Line, block_lines, dashed, named_lines, or_null}
 use Rattle.adb_dump.specs.Laid.{lead, laid}
 use Rattle.adb_dump.specs.Words.{is_null, fields_sound, has_one_line}
@@ -17,10 +17,10 @@ use Rattle.adb_dump.proofs.Placed.{laid_behind, laid_dashed, laid_on_line, laid_
 
 -- ---- entries
 
-pub entry_here : (p : List ℕ) (k : Kind) (words : List ℕ) (i : ℕ) → i < length words → are_sound p k (drop i words) ≡ true → is_sound p k (get_or words i 0) ≡ true
+pub entry_here : (p : List ℕ) (k : Kind) (words : List ℕ) (i : ℕ) → i < length words → are_all_sound p k (drop i words) ≡ true → is_sound p k (get_or words i 0) ≡ true
 entry_here p k words i lt h = (entry_step p k words i lt h).here
 
-pub entries_later : (p : List ℕ) (k : Kind) (words : List ℕ) (i : ℕ) → i < length words → are_sound p k (drop i words) ≡ true → are_sound p k (drop (i + 1) words) ≡ true
+pub entries_later : (p : List ℕ) (k : Kind) (words : List ℕ) (i : ℕ) → i < length words → are_all_sound p k (drop i words) ≡ true → are_all_sound p k (drop (i + 1) words) ≡ true
 entries_later p k words i lt h = (entry_step p k words i lt h).later
 
 dashed_laid : (d : ℕ) (b : Bool) (ls rest : List Line) → HasLine ls → laid d b (dashed ls ++ rest) ≡ (lead d b ++ codes "- ") ++ (laid (d + 1) true ls ++ laid d false rest)
@@ -28,7 +28,7 @@ dashed_laid d b ls rest h =
     let e : d + 1 ≡ suc d = omega arith in
     rw (e, h.is) (laid_dashed d b h.first h.others rest)
 
-pub entry_turn : (out all : List ℕ) (d : ℕ) (b : Bool) (p : List ℕ) (k : Kind) (words : List ℕ) (i : ℕ) → i < length words → are_sound p k (drop i words) ≡ true → out ++ laid d b (entries_left p k words i) ≡ all
+pub entry_turn : (out all : List ℕ) (d : ℕ) (b : Bool) (p : List ℕ) (k : Kind) (words : List ℕ) (i : ℕ) → i < length words → are_all_sound p k (drop i words) ≡ true → out ++ laid d b (entries_left p k words i) ≡ all
     → (((out ++ lead d b) ++ codes "- ") ++ laid (d + 1) true (or_null (value_at p k (get_or words i 0)) (block_lines (shape_of k) (value_at p k (get_or words i 0))))) ++ laid d false (entries_left p k words (i + 1)) ≡ all
 entry_turn out all d b p k words i lt h e =
     let v = value_at p k (get_or words i 0) in
@@ -95,11 +95,11 @@ behind_named d b xs ys h = rw h.is (laid_behind d b h.first h.others ys)
 
 pub field_turn : (out all : List ℕ) (d : ℕ) (b : Bool) (p : List ℕ) (fields : List Field) (words : List ℕ) (i : ℕ) (f : Field) → i < length fields → i < length words → fields_sound p (drop i fields) (drop i words) ≡ true → is_null (value_at p (get_or fields i f).kind (get_or words i 0)) ≡ false
     → out ++ laid d b (fields_left p fields words i) ≡ all
-    → (out ++ laid d b (named_lines (shape_of (get_or fields i f).kind) (label_text (get_or fields i f).name) (value_at p (get_or fields i f).kind (get_or words i 0)))) ++ laid d false (fields_left p fields words (i + 1)) ≡ all
+    → (out ++ laid d b (named_lines (shape_of (get_or fields i f).kind) (field_name_text (get_or fields i f).name) (value_at p (get_or fields i f).kind (get_or words i 0)))) ++ laid d false (fields_left p fields words (i + 1)) ≡ all
 field_turn out all d b p fields words i f lt lt' h n e =
-    let named = named_lines (shape_of (get_or fields i f).kind) (label_text (get_or fields i f).name) (value_at p (get_or fields i f).kind (get_or words i 0)) in
+    let named = named_lines (shape_of (get_or fields i f).kind) (field_name_text (get_or fields i f).name) (value_at p (get_or fields i f).kind (get_or words i 0)) in
     append_assoc out (laid d b named) (laid d false (fields_left p fields words (i + 1)))
-    ∙ ap (λ (t : List ℕ). out ++ t) (sym (behind_named d b named (fields_left p fields words (i + 1)) (named_line (shape_of (get_or fields i f).kind) (label_text (get_or fields i f).name) (value_at p (get_or fields i f).kind (get_or words i 0)))))
+    ∙ ap (λ (t : List ℕ). out ++ t) (sym (behind_named d b named (fields_left p fields words (i + 1)) (named_line (shape_of (get_or fields i f).kind) (field_name_text (get_or fields i f).name) (value_at p (get_or fields i f).kind (get_or words i 0)))))
     ∙ ap (λ (x : List Line). out ++ laid d b x) (sym (fields_next p fields words i f lt lt' h n)) ∙ e
 
 pub null_turn : (out all : List ℕ) (d : ℕ) (b : Bool) (p : List ℕ) (fields : List Field) (words : List ℕ) (i : ℕ) (f : Field) → i < length fields → i < length words → fields_sound p (drop i fields) (drop i words) ≡ true → is_null (value_at p (get_or fields i f).kind (get_or words i 0)) ≡ true

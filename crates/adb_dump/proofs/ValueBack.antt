@@ -4,7 +4,7 @@ use Rattle.std.specs.Prelude.{not, ◌||◌, codes, decimal, bytes_eq}
 use Rattle.std.specs.List.{list_all}
 use Rattle.std.proofs.lemmas.Bool.{eqb-true}
 use Rattle.std.proofs.lemmas.List.{length-append}
-use Rattle.adb_view.specs.Plain.{Plain, null, int, blob, arr, obj, Plains, none, more, keep, trimmed, Shape, number, text, hash, array, object, Fields, no_fields, field, IsNormal, AreNormal}
+use Rattle.adb_view.specs.Plain.{Plain, null, int, blob, arr, obj, Plains, none, more, keep, without_last_nulls, Shape, number, text, hash, array, object, Fields, no_fields, field, IsNormal, AreNormal}
 use Rattle.adb_view.specs.Shaped.{Each, HasShape, HaveShapes}
 use Rattle.adb_dump.specs.Dump.{Line, int_line, text_line, hash_line, text_form, indent, dashed, or_null, entries, block_lines, named_lines, fields_lines}
 use Rattle.adb_dump.specs.ReadBack.{Read, behind, bind, strip_prefix, split_block, entry_read, entries_read, arr_read, obj_read, field_below, block_read, named_read, fields_read}
@@ -35,11 +35,11 @@ unfoldable mutual
   are_named no_fields = true
   are_named (field name s fs) = is_name name && (is_new name fs && (is_named s && are_named fs))
 
--- a list that stays as it is when trimmed: its rest does, and its last value is not Null
-trimmed-more : (v : Plain) (vs : Plains) → trimmed (more v vs) ≡ more v vs → (trimmed vs ≡ vs) × ((vs ≡ none) → v ≢ null)
-trimmed-more v vs e = go v (trimmed vs) refl e
+-- a list that stays as it is without the Nulls that stand last: its rest does, and its last value is not Null
+trimmed-more : (v : Plain) (vs : Plains) → without_last_nulls (more v vs) ≡ more v vs → (without_last_nulls vs ≡ vs) × ((vs ≡ none) → v ≢ null)
+trimmed-more v vs e = go v (without_last_nulls vs) refl e
   where
-    go : (v : Plain) (us : Plains) → trimmed vs ≡ us → keep v us ≡ more v vs → (trimmed vs ≡ vs) × ((vs ≡ none) → v ≢ null)
+    go : (v : Plain) (us : Plains) → without_last_nulls vs ≡ us → keep v us ≡ more v vs → (without_last_nulls vs ≡ vs) × ((vs ≡ none) → v ≢ null)
     go null none i e = absurd cc
     go null (more u us) i e = let same : more u us ≡ vs = cc in (i ∙ same, λ n. absurd (let no : more u us ≡ none = same ∙ n in cc))
     go (int k) us i e = let same : us ≡ vs = cc in (i ∙ same, λ n x. absurd cc)
@@ -331,7 +331,7 @@ array_back s (more v vs) ne h =
     }
 
 -- an object has a line
-has_line : (fs : Fields) (vs : Plains) → trimmed vs ≡ vs → vs ≢ none → HaveShapes fs vs → fields_lines fs vs ≢ []
+has_line : (fs : Fields) (vs : Plains) → without_last_nulls vs ≡ vs → vs ≢ none → HaveShapes fs vs → fields_lines fs vs ≢ []
 unfolding fields_lines named_lines HasShape
 has_line no_fields none t ne h e = ne refl
 has_line no_fields (more v vs) t ne h e = h
@@ -373,7 +373,7 @@ object_back which fs vs ne some h = go (fields_lines fs vs) refl (fields_first f
     go (l ∷ ls) e f = record { first = l; others = ls; lines = e; not_null = rw f.is (colon_not_null f.name f.rest); back = ap (λ (r : Read Plains). bind r obj_read) h ∙ obj_read-is vs ne }
 
 -- a field, whether it is Null or not
-one_more : (name : List ℕ) (s : Shape) (fs : Fields) (v : Plain) (vs : Plains) → Names name s fs → (trimmed vs ≡ vs) × ((vs ≡ none) → v ≢ null) → (vs ≢ none → HaveShapes fs vs → fields_lines fs vs ≢ []) → HaveShapes fs vs
+one_more : (name : List ℕ) (s : Shape) (fs : Fields) (v : Plain) (vs : Plains) → Names name s fs → (without_last_nulls vs ≡ vs) × ((vs ≡ none) → v ≢ null) → (vs ≢ none → HaveShapes fs vs → fields_lines fs vs ≢ []) → HaveShapes fs vs
     → (v ≢ null → IsNormal v → HasShape s v → IsOfBytes v → BlockBack s v) → IsNormal v → HasShape s v → IsOfBytes v → fields_read fs (fields_lines fs vs) ≡ Ok vs → fields_read (field name s fs) (fields_lines (field name s fs) (more v vs)) ≡ Ok (more v vs)
 unfolding fields_lines
 one_more name s fs null vs n m line h f a sh b others = go (fields_lines fs vs) refl (fields_first fs vs)
@@ -425,7 +425,7 @@ mutual
   block_back (object which fs) n (arr us) ne a h b = absurd h
   block_back (object which fs) n (obj us) ne a h b = object_back which fs us a.0 (has_line fs us a.1 a.0 h) (fields_back fs n us a.1 a.2 h b)
 
-  pub fields_back : (fs : Fields) → are_named fs ≡ true → (vs : Plains) → trimmed vs ≡ vs → AreNormal vs → HaveShapes fs vs → AreOfBytes vs → fields_read fs (fields_lines fs vs) ≡ Ok vs
+  pub fields_back : (fs : Fields) → are_named fs ≡ true → (vs : Plains) → without_last_nulls vs ≡ vs → AreNormal vs → HaveShapes fs vs → AreOfBytes vs → fields_read fs (fields_lines fs vs) ≡ Ok vs
   fields_back no_fields n none t a h b = refl
   fields_back no_fields n (more v vs) t a h b = absurd h
   fields_back (field name s fs) n none t a h b = refl

@@ -3,11 +3,11 @@ use Rattle.std.proofs.Common.{◌≡◌, ◌≢◌, true, List, [], ◌∷◌, S
 use Rattle.std.specs.Prelude.{option_map}
 use Rattle.hex.specs.Hex.{encode_with}
 use Rattle.adb_view.specs.Plain.{Plain, null, int, blob, arr, obj, Shape, IsNormal}
-use Rattle.adb_schema.specs.Schema.{shape_of, shapes_of, table}
+use Rattle.adb_tables.specs.Schema.{shape_of, shapes_of, table}
 use Rattle.adb_schema.specs.Soundness.{schema_word}
-use Rattle.adb_schema.specs.declared.schema.Which.{Which}
-use Rattle.adb_schema.specs.declared.schema.Which.TheVariants.{Dep, Acl, PkgInfo, File, Dir, Scripts, Package, Index, Idb, Intent}
-use Rattle.adb_schema.specs.declared.schema.Kind.TheVariants.{Obj}
+use Rattle.adb_tables.specs.declared.tables.Which.{Which}
+use Rattle.adb_tables.specs.declared.tables.Which.TheVariants.{Dep, Acl, PkgInfo, File, Dir, Scripts, Package, Index, Idb, Intent}
+use Rattle.adb_tables.specs.declared.tables.Kind.TheVariants.{Obj}
 use Rattle.adb_dump.specs.Dump.{Line, block_lines, dump_lines, dump_text, schema_line, value_lines}
 use Rattle.adb_dump.specs.ReadBack.{bind, block_read, lines_of, value_read}
 use Rattle.adb_dump.specs.Values.{IsOfBytes, IsValueOf}

@@ -5,7 +5,7 @@ use Rattle.std.specs.Int.{Width, w8, w16, w32, byte_len}
 use Rattle.std.specs.List.{AllByRecursion}
 use Rattle.std.proofs.lemmas.List.Elements.{All-head, All-tail, All-take, All-drop}
 use Rattle.adb_view.specs.Bytes.{number_at, range_at}
-use Rattle.adb_view.specs.Plain.{Plain, null, int, blob, arr, obj, Plains, none, more, Shape, number, text, hash, array, object, Fields, no_fields, field, blob_value, arr_value, obj_of, keep, trimmed, obj_value, unless_null, found, then_more, each_plain, plain_of, plains_of}
+use Rattle.adb_view.specs.Plain.{Plain, null, int, blob, arr, obj, Plains, none, more, Shape, number, text, hash, array, object, Fields, no_fields, field, blob_value, arr_value, obj_of, keep, without_last_nulls, obj_value, unless_null, from_answer, then_more, each_plain, plain_of, plains_of}
 use Rattle.adb_view.specs.Readers.{counted_at, inside, int_of, blob_of, run_of, kind_of, low_of, ARRAY, OBJECT}
 use Rattle.adb_view.specs.Shaped.{Each, HasShape, HaveShapes}
 use Rattle.base_core.specs.declared.cause.Cause.{Cause}
@@ -23,7 +23,7 @@ mapped : (P : Plain → Type 0) (Q : Plains → Type 0) (f : Plains → Plain) �
 mapped P Q f h None k = tt
 mapped P Q f h (Some vs) k = h vs k
 
-run_found : (P : Plain → Type 0) (g : List ℕ → Option Plain) → ((ws : List ℕ) → IfSome (g ws) P) → (r : Result (List ℕ) Cause) → IfSome (found g r) P
+run_found : (P : Plain → Type 0) (g : List ℕ → Option Plain) → ((ws : List ℕ) → IfSome (g ws) P) → (r : Result (List ℕ) Cause) → IfSome (from_answer g r) P
 run_found P g h (Ok ws) = h ws
 run_found P g h (Err c) = tt
 
@@ -37,18 +37,18 @@ null_shape hash = tt
 null_shape (array s) = tt
 null_shape (object n fs) = tt
 
-int_shape : (r : Result ℕ Cause) → IfSome (found (λ n. Some (int n)) r) (HasShape number)
+int_shape : (r : Result ℕ Cause) → IfSome (from_answer (λ n. Some (int n)) r) (HasShape number)
 unfolding HasShape
 int_shape (Ok n) = tt
 int_shape (Err c) = tt
 
-text_shape : (r : Result (List ℕ) Cause) → IfSome (found (λ b. Some (blob_value b)) r) (HasShape text)
+text_shape : (r : Result (List ℕ) Cause) → IfSome (from_answer (λ b. Some (blob_value b)) r) (HasShape text)
 unfolding HasShape
 text_shape (Ok []) = tt
 text_shape (Ok (c ∷ cs)) = tt
 text_shape (Err c) = tt
 
-hash_shape : (r : Result (List ℕ) Cause) → IfSome (found (λ b. Some (blob_value b)) r) (HasShape hash)
+hash_shape : (r : Result (List ℕ) Cause) → IfSome (from_answer (λ b. Some (blob_value b)) r) (HasShape hash)
 unfolding HasShape
 hash_shape (Ok []) = tt
 hash_shape (Ok (c ∷ cs)) = tt
@@ -73,12 +73,12 @@ keep_shape name s fs (blob b) vs h hs = (h, hs)
 keep_shape name s fs (arr us) vs h hs = (h, hs)
 keep_shape name s fs (obj us) vs h hs = (h, hs)
 
-trimmed_shape : (fs : Fields) (vs : Plains) → HaveShapes fs vs → HaveShapes fs (trimmed vs)
+trimmed_shape : (fs : Fields) (vs : Plains) → HaveShapes fs vs → HaveShapes fs (without_last_nulls vs)
 unfolding HasShape
 trimmed_shape no_fields none h = h
 trimmed_shape no_fields (more v vs) h = absurd h
 trimmed_shape (field name s fs) none h = tt
-trimmed_shape (field name s fs) (more v vs) h = keep_shape name s fs v (trimmed vs) h.0 (trimmed_shape fs vs h.1)
+trimmed_shape (field name s fs) (more v vs) h = keep_shape name s fs v (without_last_nulls vs) h.0 (trimmed_shape fs vs h.1)
 
 obj_of_shape : (n : ℕ) (fs : Fields) (vs : Plains) → HaveShapes fs vs → HasShape (object n fs) (obj_of vs)
 unfolding HasShape
@@ -86,7 +86,7 @@ obj_of_shape n fs none h = tt
 obj_of_shape n fs (more v vs) h = h
 
 obj_shape : (n : ℕ) (fs : Fields) (vs : Plains) → HaveShapes fs vs → HasShape (object n fs) (obj_value vs)
-obj_shape n fs vs h = obj_of_shape n fs (trimmed vs) (trimmed_shape fs vs h)
+obj_shape n fs vs h = obj_of_shape n fs (without_last_nulls vs) (trimmed_shape fs vs h)
 
 each_more : (P : Plain → Type 0) (v : Option Plain) (vs : Option Plains) → IfSome v P → IfSome vs (Each P) → IfSome (then_more v vs) (Each P)
 each_more P (Some v) (Some vs) h hs = (h, hs)
@@ -164,12 +164,12 @@ blob_bytes p w h =
     (chosen_bytes (eqb (kind_of w) 9) _ _ (inside_bytes w _ (counted_bytes w16 p (low_of w) h))
     (chosen_bytes (eqb (kind_of w) 10) _ _ (inside_bytes w _ (counted_bytes w32 p (low_of w) h)) tt)))
 
-int_is_bytes : (r : Result ℕ Cause) → IfSome (found (λ n. Some (int n)) r) IsOfBytes
+int_is_bytes : (r : Result ℕ Cause) → IfSome (from_answer (λ n. Some (int n)) r) IsOfBytes
 unfolding IsOfBytes
 int_is_bytes (Ok n) = tt
 int_is_bytes (Err c) = tt
 
-blob_is_bytes : (r : Result (List ℕ) Cause) → OkBytes r → IfSome (found (λ b. Some (blob_value b)) r) IsOfBytes
+blob_is_bytes : (r : Result (List ℕ) Cause) → OkBytes r → IfSome (from_answer (λ b. Some (blob_value b)) r) IsOfBytes
 unfolding IsOfBytes
 blob_is_bytes (Ok []) h = tt
 blob_is_bytes (Ok (c ∷ cs)) h = h
@@ -193,10 +193,10 @@ keep_bytes (blob b) vs h hs = (h, hs)
 keep_bytes (arr us) vs h hs = (h, hs)
 keep_bytes (obj us) vs h hs = (h, hs)
 
-trimmed_bytes : (vs : Plains) → AreOfBytes vs → AreOfBytes (trimmed vs)
+trimmed_bytes : (vs : Plains) → AreOfBytes vs → AreOfBytes (without_last_nulls vs)
 unfolding IsOfBytes
 trimmed_bytes none h = tt
-trimmed_bytes (more v vs) h = keep_bytes v (trimmed vs) h.0 (trimmed_bytes vs h.1)
+trimmed_bytes (more v vs) h = keep_bytes v (without_last_nulls vs) h.0 (trimmed_bytes vs h.1)
 
 obj_of_bytes : (vs : Plains) → AreOfBytes vs → IsOfBytes (obj_of vs)
 unfolding IsOfBytes
@@ -204,7 +204,7 @@ obj_of_bytes none h = tt
 obj_of_bytes (more v vs) h = h
 
 obj_bytes : (vs : Plains) → AreOfBytes vs → IsOfBytes (obj_value vs)
-obj_bytes vs h = obj_of_bytes (trimmed vs) (trimmed_bytes vs h)
+obj_bytes vs h = obj_of_bytes (without_last_nulls vs) (trimmed_bytes vs h)
 
 more_bytes : (v : Option Plain) (vs : Option Plains) → IfSome v IsOfBytes → IfSome vs AreOfBytes → IfSome (then_more v vs) AreOfBytes
 unfolding IsOfBytes

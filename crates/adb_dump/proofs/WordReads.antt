@@ -2,15 +2,15 @@
 use Rattle.std.proofs.Common.{◌≡◌, ℕ, Bool, true, false, cond, eqb, List, [], Option, Some, None, option_map, Result, Ok, Err, refl, sym, ap, ◌∙◌, inl, inr, ◌⊎◌}
 use Rattle.std.specs.Prelude.{is_some, unwrap_or, ◌==◌, if◌then◌else◌}
 use Rattle.std.proofs.lemmas.Bool.{eqb-true}
-use Rattle.adb_view.specs.Plain.{Plain, null, int, Plains, none, Shape, array, object, Fields, no_fields, field, blob_value, arr_value, obj_value, unless_null, found, each_plain, plain_of, plains_of}
+use Rattle.adb_view.specs.Plain.{Plain, null, int, Plains, none, Shape, array, object, Fields, no_fields, field, blob_value, arr_value, obj_value, unless_null, from_answer, each_plain, plain_of, plains_of}
 use Rattle.adb_view.specs.Readers.{int_of, blob_of, run_of, ARRAY, OBJECT}
-use Rattle.adb_schema.specs.Schema.{table, schema_number, shape_of, shapes_of}
-use Rattle.adb_schema.specs.Fields.{are_sound, values_at}
-use Rattle.adb_schema.specs.Views.{is_sound, value_at}
+use Rattle.adb_tables.specs.Schema.{table, schema_number, shape_of, shapes_of}
+use Rattle.adb_fields.specs.Fields.{are_all_sound, values_at}
+use Rattle.adb_tables.specs.Values.{is_sound, value_at}
 use Rattle.base_core.specs.declared.cause.Cause.{Cause}
-use Rattle.adb_schema.specs.declared.schema.Which.{Which}
-use Rattle.adb_schema.specs.declared.schema.Which.TheVariants.{Dep, Acl, PkgInfo, File, Dir, Scripts, Package, Index, Idb, Intent}
-use Rattle.adb_schema.specs.declared.schema.Kind.TheVariants.{Int, Text, Hash, Obj, TextArr, ObjArr}
+use Rattle.adb_tables.specs.declared.tables.Which.{Which}
+use Rattle.adb_tables.specs.declared.tables.Which.TheVariants.{Dep, Acl, PkgInfo, File, Dir, Scripts, Package, Index, Idb, Intent}
+use Rattle.adb_tables.specs.declared.tables.Kind.TheVariants.{Int, Text, Hash, Obj, TextArr, ObjArr}
 use Rattle.adb_dump.specs.Words.{fields_sound, fields_at}
 
 pub object_shape : (w : Which) → shape_of (Obj w) ≡ object (schema_number w) (shapes_of (table w))
@@ -35,7 +35,7 @@ null_or_not w = go (eqb w 0) refl
     go false e = inr e
 
 -- a reader that reads NULL as what means Null
-found_is : {A : Type 0} (w : ℕ) (f : A → Option Plain) (r : ℕ → Result A Cause) (x y : A) → r 0 ≡ Ok y → f y ≡ Some null → r w ≡ Ok x → unless_null w (found f (r w)) ≡ f x
+found_is : {A : Type 0} (w : ℕ) (f : A → Option Plain) (r : ℕ → Result A Cause) (x y : A) → r 0 ≡ Ok y → f y ≡ Some null → r w ≡ Ok x → unless_null w (from_answer f (r w)) ≡ f x
 found_is w f r x y at_null is_null e =
     elim (null_or_not w) [
       | inl z ↦ let zero_is : r 0 ≡ Ok x = ap r (sym z) ∙ e in let same : y ≡ x = cc in rw (z, sym same, is_null) refl
@@ -43,7 +43,7 @@ found_is w f r x y at_null is_null e =
     ]
 
 -- it does not fail where there is a value
-found_fails : {A : Type 0} (w : ℕ) (f : A → Option Plain) (r : ℕ → Result A Cause) (c : Cause) (y : A) → r 0 ≡ Ok y → is_some (unless_null w (found f (r w))) ≡ true → r w ≡ Err c → ⊥
+found_fails : {A : Type 0} (w : ℕ) (f : A → Option Plain) (r : ℕ → Result A Cause) (c : Cause) (y : A) → r 0 ≡ Ok y → is_some (unless_null w (from_answer f (r w))) ≡ true → r w ≡ Err c → ⊥
 found_fails w f r c y at_null some e =
     elim (null_or_not w) [
       | inl z ↦ let zero_is : r 0 ≡ Err c = ap r (sym z) ∙ e in absurd (let no : Ok y ≡ Err c = sym at_null ∙ zero_is in cc)
@@ -108,8 +108,8 @@ pub texts_value_is : (p : List ℕ) (w : ℕ) (ws : List ℕ) → run_of ARRAY p
 unfolding value_at values_at shape_of
 texts_value_is p w ws e = ap (λ o. unwrap_or o null) (array_plain p (shape_of Text) w ws e) ∙ unwrap-arr (each_plain (plain_of p (shape_of Text)) ws)
 
-pub texts_sound : (p : List ℕ) (w : ℕ) (ws : List ℕ) → run_of ARRAY p w ≡ Ok ws → is_sound p TextArr w ≡ true → are_sound p Text ws ≡ true
-unfolding is_sound are_sound shape_of
+pub texts_sound : (p : List ℕ) (w : ℕ) (ws : List ℕ) → run_of ARRAY p w ≡ Ok ws → is_sound p TextArr w ≡ true → are_all_sound p Text ws ≡ true
+unfolding is_sound are_all_sound shape_of
 texts_sound p w ws e h = sym (some-map arr_value (each_plain (plain_of p (shape_of Text)) ws)) ∙ ap is_some (sym (array_plain p (shape_of Text) w ws e)) ∙ h
 
 pub texts_fail : (p : List ℕ) (w : ℕ) (c : Cause) → is_sound p TextArr w ≡ true → run_of ARRAY p w ≡ Err c → ⊥
@@ -120,8 +120,8 @@ pub objects_value_is : (p : List ℕ) (which : Which) (w : ℕ) (ws : List ℕ) 
 unfolding value_at values_at shape_of
 objects_value_is p which w ws e = ap (λ o. unwrap_or o null) (array_plain p (shape_of (Obj which)) w ws e) ∙ unwrap-arr (each_plain (plain_of p (shape_of (Obj which))) ws)
 
-pub objects_sound : (p : List ℕ) (which : Which) (w : ℕ) (ws : List ℕ) → run_of ARRAY p w ≡ Ok ws → is_sound p (ObjArr which) w ≡ true → are_sound p (Obj which) ws ≡ true
-unfolding is_sound are_sound shape_of
+pub objects_sound : (p : List ℕ) (which : Which) (w : ℕ) (ws : List ℕ) → run_of ARRAY p w ≡ Ok ws → is_sound p (ObjArr which) w ≡ true → are_all_sound p (Obj which) ws ≡ true
+unfolding is_sound are_all_sound shape_of
 objects_sound p which w ws e h = sym (some-map arr_value (each_plain (plain_of p (shape_of (Obj which))) ws)) ∙ ap is_some (sym (array_plain p (shape_of (Obj which)) w ws e)) ∙ h
 
 pub objects_fail : (p : List ℕ) (which : Which) (w : ℕ) (c : Cause) → is_sound p (ObjArr which) w ≡ true → run_of ARRAY p w ≡ Err c → ⊥

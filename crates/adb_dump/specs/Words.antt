@@ -1,10 +1,10 @@
 -- What the code asks of words: whether they have plain values, and whether these are Null.
 use Rattle.std.specs.Prelude.{ℕ, Bool, true, false, ◌&&◌, List, is_some, unwrap_or}
 use Rattle.adb_view.specs.Plain.{Plain, null, Plains, none, more, plains_of}
-use Rattle.adb_schema.specs.Schema.{shapes_of}
-use Rattle.adb_schema.specs.declared.schema.Kind.{Kind}
-use Rattle.adb_schema.specs.declared.schema.Kind.TheVariants.{Int, Text, Hash, Obj, TextArr, ObjArr}
-use Rattle.adb_schema.specs.declared.schema.Field.{Field}
+use Rattle.adb_tables.specs.Schema.{shapes_of}
+use Rattle.adb_tables.specs.declared.tables.Kind.{Kind}
+use Rattle.adb_tables.specs.declared.tables.Kind.TheVariants.{Int, Text, Hash, Obj, TextArr, ObjArr}
+use Rattle.adb_tables.specs.declared.tables.Field.{Field}
 
 abbrev pub is_null : Plain → Bool
 is_null null = true

@@ -2,10 +2,10 @@
 ghost use Rattle.std.specs.Prelude.{◌≡◌, ◌<◌, ◌≤◌, ◌+◌, ◌++◌, true, false, OnOk};
 ghost use Rattle.adb_view.specs.Adb.{payload_of};
 ghost use Rattle.adb_view.specs.Entries.{array_entries};
-ghost use Rattle.adb_schema.specs.Fields.{are_sound, values_at};
-ghost use Rattle.adb_schema.specs.Rank.{rank, rank_of_all};
-ghost use Rattle.adb_schema.specs.Schema.{label_text, shape_of, shapes_of};
-ghost use Rattle.adb_schema.specs.Views.{is_sound, value_at};
+ghost use Rattle.adb_fields.specs.Fields.{are_all_sound, values_at};
+ghost use Rattle.adb_tables.specs.Rank.{rank, rank_of_all};
+ghost use Rattle.adb_tables.specs.Schema.{field_name_text, shape_of, shapes_of};
+ghost use Rattle.adb_tables.specs.Values.{is_sound, value_at};
 ghost use Rattle.adb_dump.specs.Dump.{block_lines, entries, fields_lines, named_lines, or_null};
 ghost use Rattle.adb_dump.specs.Laid.{laid, DEEP};
 ghost use Rattle.adb_dump.specs.Words.{is_null, fields_sound, fields_at, has_one_line};
@@ -61,7 +61,7 @@ fn write_entries(
     words: Arr<'_>,
     place: Place,
 ) -> Result<(), AllocError>
-    requires sound { are_sound (payload_of adb) kind (array_entries words) ≡ true }
+    requires sound { are_all_sound (payload_of adb) kind (array_entries words) ≡ true }
     requires deep { place.depth + rank kind < DEEP }
     ensures { OnOk result (out.new.items ≡ out.old.items ++ laid place.depth place.begun (entries (block_lines (shape_of kind)) (values_at (payload_of adb.entry) kind (array_entries words.entry)))) }
 {
@@ -137,7 +137,7 @@ fn write_field(
     requires sound { is_sound (payload_of adb) field.kind word ≡ true }
     requires some { is_null (value_at (payload_of adb) field.kind word) ≡ false }
     requires deep { place.depth + rank field.kind < DEEP }
-    ensures { OnOk result (out.new.items ≡ out.old.items ++ laid place.depth place.begun (named_lines (shape_of field.kind) (label_text field.name) (value_at (payload_of adb.entry) field.kind word))) }
+    ensures { OnOk result (out.new.items ≡ out.old.items ++ laid place.depth place.begun (named_lines (shape_of field.kind) (field_name_text field.name) (value_at (payload_of adb.entry) field.kind word))) }
 {
     let Place { depth, .. } = place;
     write_name(out, place, field.name)?;

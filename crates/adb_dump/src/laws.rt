@@ -1,9 +1,9 @@
 //! What follows from the definitions, for every value.
 ghost use Rattle.std.specs.Prelude.{◌≡◌, ◌<◌, ℕ, All, List, IfSome, Ok, Some};
 ghost use Rattle.adb_view.specs.Plain.{Plain, IsNormal, plain_of};
-ghost use Rattle.adb_schema.specs.Schema.{shape_of};
-ghost use Rattle.adb_schema.specs.declared.schema.Which.{Which};
-ghost use Rattle.adb_schema.specs.declared.schema.Kind.TheVariants as Kinds;
+ghost use Rattle.adb_tables.specs.Schema.{shape_of};
+ghost use Rattle.adb_tables.specs.declared.tables.Which.{Which};
+ghost use Rattle.adb_tables.specs.declared.tables.Kind.TheVariants as Kinds;
 ghost use Rattle.adb_dump.specs.Dump.{Line, dump_lines, dump_text, text_of, value_lines};
 ghost use Rattle.adb_dump.specs.ReadBack.{lines_of, value_read};
 ghost use Rattle.adb_dump.specs.Values.{IsOfBytes, IsValueOf};

@@ -24,6 +24,3 @@ pub use laws::{
     values_found_in_bytes_are_of_their_table, values_of_one_text_are_equal,
 };
 pub use whole::dump;
-
-#[cfg(test)]
-mod tests;

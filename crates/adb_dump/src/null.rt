@@ -2,8 +2,8 @@
 ghost use Rattle.std.specs.Prelude.{◌≡◌, true};
 ghost use Rattle.adb_view.specs.Adb.{payload_of};
 ghost use Rattle.adb_view.specs.Entries.{array_entries};
-ghost use Rattle.adb_schema.specs.Views.{is_sound, value_at};
-ghost use Rattle.adb_schema.specs.declared.schema.Kind.TheVariants as Kinds;
+ghost use Rattle.adb_tables.specs.Values.{is_sound, value_at};
+ghost use Rattle.adb_tables.specs.declared.tables.Kind.TheVariants as Kinds;
 ghost use Rattle.adb_dump.specs.Words.{is_null, are_null, fields_sound, fields_at};
 
 use crate::words::{entry_word, hash_word, object_word, objects_word, text_word, texts_word};

@@ -1,9 +1,9 @@
 //! Where the next line of a text stands.
 ghost use Rattle.std.specs.Prelude.{◌≡◌, ◌++◌, codes, false, OnOk};
-ghost use Rattle.adb_schema.specs.Schema.{label_text};
+ghost use Rattle.adb_tables.specs.Schema.{field_name_text};
 ghost use Rattle.adb_dump.specs.Laid.{lead};
 
-use adb_schema::Label;
+use adb_schema::FieldName;
 use std::alloc::AllocError;
 
 /// Where the next line stands.
@@ -45,8 +45,8 @@ pub(crate) fn write_dash(out: &mut Vec<u8>, depth: u32, begun: bool) -> Result<(
 }
 
 /// Writes the name of a field.
-pub(crate) fn write_name(out: &mut Vec<u8>, place: Place, name: Label) -> Result<(), AllocError>
-    ensures { OnOk result (out.new.items ≡ out.old.items ++ lead place.depth place.begun ++ label_text name ++ codes ":") }
+pub(crate) fn write_name(out: &mut Vec<u8>, place: Place, name: FieldName) -> Result<(), AllocError>
+    ensures { OnOk result (out.new.items ≡ out.old.items ++ lead place.depth place.begun ++ field_name_text name ++ codes ":") }
 {
     write_lead(out, place)?;
     out.extend_from_slice(name.text().as_bytes())?;

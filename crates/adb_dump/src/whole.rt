@@ -1,6 +1,6 @@
 //! The text of a whole payload.
 ghost use Rattle.std.specs.Prelude.{◌≡◌, ◌++◌, true, codes, is_some, IfOk, OnOk};
-ghost use Rattle.adb_schema.specs.Checked.{shaped_value, table_of};
+ghost use Rattle.adb_tables.specs.Shaped.{shaped_value, table_of};
 ghost use Rattle.adb_schema.specs.Soundness.{schema_word};
 ghost use Rattle.adb_dump.specs.Dump.{dump_text, schema_line};
 

@@ -3,10 +3,10 @@ ghost use Rattle.std.specs.Prelude.{◌≡◌, ◌<◌, ◌^◌, true, length, s
 ghost use Rattle.adb_view.specs.Adb.{payload_of};
 ghost use Rattle.adb_view.specs.Entries.{array_entries};
 ghost use Rattle.adb_view.specs.Plain.{null, int, blob_value, arr_value, obj_value};
-ghost use Rattle.adb_schema.specs.Fields.{are_sound, values_at};
-ghost use Rattle.adb_schema.specs.Schema.{table};
-ghost use Rattle.adb_schema.specs.Views.{is_sound, value_at};
-ghost use Rattle.adb_schema.specs.declared.schema.Kind.TheVariants as Kinds;
+ghost use Rattle.adb_fields.specs.Fields.{are_all_sound, values_at};
+ghost use Rattle.adb_tables.specs.Schema.{table};
+ghost use Rattle.adb_tables.specs.Values.{is_sound, value_at};
+ghost use Rattle.adb_tables.specs.declared.tables.Kind.TheVariants as Kinds;
 ghost use Rattle.adb_dump.specs.Words.{fields_sound, fields_at};
 
 use adb_schema::Which;
@@ -61,7 +61,7 @@ pub(crate) fn hash_word<'a>(adb: Adb<'a>, word: Val) -> &'a [u8]
 #[tactic(auto, using(crate::proofs::WordReads::texts_value_is, crate::proofs::WordReads::texts_sound, crate::proofs::WordReads::texts_fail))]
 pub(crate) fn texts_word<'a>(adb: Adb<'a>, word: Val) -> Arr<'a>
     requires { is_sound (payload_of adb) Kinds.TextArr word ≡ true }
-    ensures sound { are_sound (payload_of adb.entry) Kinds.Text (array_entries result) ≡ true }
+    ensures sound { are_all_sound (payload_of adb.entry) Kinds.Text (array_entries result) ≡ true }
     ensures value { value_at (payload_of adb.entry) Kinds.TextArr word ≡ arr_value (values_at (payload_of adb.entry) Kinds.Text (array_entries result)) }
 {
     match adb.arr(word) {
@@ -74,7 +74,7 @@ pub(crate) fn texts_word<'a>(adb: Adb<'a>, word: Val) -> Arr<'a>
 #[tactic(auto, using(crate::proofs::WordReads::objects_value_is, crate::proofs::WordReads::objects_sound, crate::proofs::WordReads::objects_fail))]
 pub(crate) fn objects_word<'a>(adb: Adb<'a>, which: Which, word: Val) -> Arr<'a>
     requires { is_sound (payload_of adb) (Kinds.ObjArr which) word ≡ true }
-    ensures sound { are_sound (payload_of adb.entry) (Kinds.Obj which) (array_entries result) ≡ true }
+    ensures sound { are_all_sound (payload_of adb.entry) (Kinds.Obj which) (array_entries result) ≡ true }
     ensures value { value_at (payload_of adb.entry) (Kinds.ObjArr which) word ≡ arr_value (values_at (payload_of adb.entry) (Kinds.Obj which) (array_entries result)) }
 {
     match adb.arr(word) {

@@ -1,16 +1,5 @@
-pub mod Schema
-pub mod Listed
-pub mod Rank
-pub mod Walk
-pub mod Views
-pub mod Fields
-pub mod Checked
-pub mod Pairs
-pub mod Repeated
-pub mod NamedTexts
-pub mod Shown
-pub mod Reserved
-pub mod Rules
-pub mod Texts
-pub mod Around
+-- what the contract of `apk` says
 pub mod Soundness
+pub mod Checked
+-- what only inner contracts and proofs use
+pub mod Views

@@ -10,14 +10,14 @@ use Rattle.adb_block.specs.declared.block.BlockKind.{BlockKind}
 use Rattle.adb_block.specs.declared.block.BlockKind.TheVariants.{Contents}
 use Rattle.adb_view.specs.Head.{head_fault, root_of}
 use Rattle.adb_view.specs.Plain.{Plain}
-use Rattle.adb_schema.specs.Schema.{shape_of}
-use Rattle.adb_schema.specs.Walk.{or_else, shape_fault}
-use Rattle.adb_schema.specs.Views.{value_at}
-use Rattle.adb_schema.specs.Texts.{text_fault}
-use Rattle.adb_schema.specs.Repeated.{repeated_fault}
-use Rattle.adb_schema.specs.declared.schema.Which.{Which}
-use Rattle.adb_schema.specs.declared.schema.Which.TheVariants.{Package, Index, Idb, Intent}
-use Rattle.adb_schema.specs.declared.schema.Kind.TheVariants.{Obj}
+use Rattle.adb_tables.specs.Schema.{shape_of}
+use Rattle.adb_tables.specs.Walk.{or_else, shape_fault}
+use Rattle.adb_tables.specs.Values.{value_at}
+use Rattle.adb_rules.specs.Texts.{text_fault}
+use Rattle.adb_fields.specs.Repeated.{repeated_fault}
+use Rattle.adb_tables.specs.declared.tables.Which.{Which}
+use Rattle.adb_tables.specs.declared.tables.Which.TheVariants.{Package, Index, Idb, Intent}
+use Rattle.adb_tables.specs.declared.tables.Kind.TheVariants.{Obj}
 use Rattle.adb_schema.specs.declared.read.TheConstants.{PACKAGE_WORD, INDEX_WORD, IDB_WORD, INTENT_WORD}
 use Rattle.adb_schema.specs.declared.read.ReadFault.{ReadFault}
 use Rattle.adb_schema.specs.declared.read.ReadFault.TheVariants.{Bad, Memory}
@@ -50,11 +50,11 @@ abbrev pub file_pair : List ℕ → ℕ × ℕ
 file_pair payload = (from_le_bytes w32 (take 4 payload), from_le_bytes w32 (take 4 (drop 4 payload)))
 
 -- contents where none are due
-abbrev pub undue : List ℕ → ℕ → Cause
-undue payload at = if nat_lt (length payload) 8 then Truncated at else DataOrder (0, 0) (file_pair payload)
+abbrev pub undue_contents : List ℕ → ℕ → Cause
+undue_contents payload at = if nat_lt (length payload) 8 then Truncated at else DataOrder (0, 0) (file_pair payload)
 
 abbrev pub block_fault : BlockKind → List ℕ → ℕ → Option Cause
-block_fault Contents payload at = Some (undue payload at)
+block_fault Contents payload at = Some (undue_contents payload at)
 block_fault kind payload at = None
 
 -- the framing of each further block, and that it holds no contents
@@ -70,12 +70,12 @@ rest_fault which r = further_fault r
 
 -- ---- all tests in order
 
-abbrev pub is_wanted : Option ℕ → ℕ → Bool
-is_wanted (Some word) schema = word == schema
-is_wanted None schema = false
+abbrev pub is_schema_wanted : Option ℕ → ℕ → Bool
+is_schema_wanted (Some word) schema = word == schema
+is_schema_wanted None schema = false
 
 abbrev pub schema_fault : Which → ℕ → Option Cause
-schema_fault which schema = if is_wanted (schema_word which) schema then None else Some (WrongSchema schema)
+schema_fault which schema = if is_schema_wanted (schema_word which) schema then None else Some (WrongSchema schema)
 
 -- the first block, and by its value what stands behind it
 abbrev pub blocks_fault : (Plain → Reading → Option Cause) → Which → Reading → Option Cause
@@ -125,7 +125,7 @@ IsBehindFirst which payload (fault c) later = ⊥
 IsBehindFirst which payload (more b at r) later = (payload ≡ b.payload) × (payload_fault which b.payload ≡ None) × (r ≡ later)
 
 -- why the first block is refused
-abbrev pub block_refused : Which → Reading → Option Cause
-block_refused which done = None
-block_refused which (fault c) = Some c
-block_refused which (more b at r) = payload_fault which b.payload
+abbrev pub first_block_fault : Which → Reading → Option Cause
+first_block_fault which done = None
+first_block_fault which (fault c) = Some c
+first_block_fault which (more b at r) = payload_fault which b.payload

@@ -1,54 +1,46 @@
--- What views answer: the plain value of a word that is known to have one, and its fields.
-use Rattle.std.specs.Prelude.{ℕ, zero, suc, Bool, List, [], is_some, Option, unwrap_or, option_map, slice_get}
-use Rattle.adb_view.specs.Plain.{Plain, null, int, blob, arr, obj, Plains, none, more, plain_of}
-use Rattle.adb_schema.specs.Schema.{table, shape_of}
-use Rattle.adb_schema.specs.declared.schema.Which.{Which}
-use Rattle.adb_schema.specs.declared.schema.Kind.{Kind}
+-- The plain value that each view shows.
+use Rattle.adb_view.specs.Plain.{Plain}
+use Rattle.adb_view.specs.Adb.{payload_of}
+use Rattle.adb_tables.specs.Values.{value_at}
+use Rattle.adb_tables.specs.declared.tables.Which.TheVariants as Which
+use Rattle.adb_tables.specs.declared.tables.Kind.TheVariants.{Obj}
+use Rattle.adb_schema.specs.declared.package_info.DepView.{DepView}
+use Rattle.adb_schema.specs.declared.package.AclView.{AclView}
+use Rattle.adb_schema.specs.declared.package_info.PkgInfo.{PkgInfo}
+use Rattle.adb_schema.specs.declared.package.FileInfo.{FileInfo}
+use Rattle.adb_schema.specs.declared.package.DirInfo.{DirInfo}
+use Rattle.adb_schema.specs.declared.package.ScriptsView.{ScriptsView}
+use Rattle.adb_schema.specs.declared.package.PackageView.{PackageView}
+use Rattle.adb_schema.specs.declared.checked.IndexView.{IndexView}
+use Rattle.adb_schema.specs.declared.checked.IdbView.{IdbView}
+use Rattle.adb_schema.specs.declared.checked.IntentView.{IntentView}
 
--- whether the word has a plain value under the kind
-unfoldable pub is_sound : List ℕ → Kind → ℕ → Bool
-is_sound p k w = is_some (plain_of p (shape_of k) w)
+abbrev pub dependency_value : DepView → Plain
+dependency_value view = value_at (payload_of view.adb) (Obj Which.Dep) view.word
 
--- that value
-unfoldable pub value_at : List ℕ → Kind → ℕ → Plain
-value_at p k w = unwrap_or (plain_of p (shape_of k) w) null
+abbrev pub acl_value : AclView → Plain
+acl_value view = value_at (payload_of view.adb) (Obj Which.Acl) view.word
 
--- the entry with this number, counted from 0; Null past the last
-abbrev pub nth : Plains → ℕ → Plain
-nth none i = null
-nth (more v vs) zero = v
-nth (more v vs) (suc i) = nth vs i
+abbrev pub info_value : PkgInfo → Plain
+info_value view = value_at (payload_of view.adb) (Obj Which.PkgInfo) view.word
 
-abbrev pub count_of : Plains → ℕ
-count_of none = 0
-count_of (more v vs) = suc (count_of vs)
+abbrev pub file_value : FileInfo → Plain
+file_value view = value_at (payload_of view.adb) (Obj Which.File) view.word
 
--- the entries of an array or of an object; Null has none, so that each field of it is Null
-abbrev pub entries_in : Plain → Plains
-entries_in null = none
-entries_in (int n) = none
-entries_in (blob b) = none
-entries_in (arr vs) = vs
-entries_in (obj vs) = vs
+abbrev pub dir_value : DirInfo → Plain
+dir_value view = value_at (payload_of view.adb) (Obj Which.Dir) view.word
 
--- a field of an object, or an entry of an array
-abbrev pub entry_in : Plain → ℕ → Plain
-entry_in v i = nth (entries_in v) i
+abbrev pub scripts_value : ScriptsView → Plain
+scripts_value view = value_at (payload_of view.adb) (Obj Which.Scripts) view.word
 
-abbrev pub int_in : Plain → ℕ
-int_in null = 0
-int_in (int n) = n
-int_in (blob b) = 0
-int_in (arr vs) = 0
-int_in (obj vs) = 0
+abbrev pub package_value : PackageView → Plain
+package_value view = value_at (payload_of view.adb) (Obj Which.Package) view.word
 
-abbrev pub text_in : Plain → List ℕ
-text_in null = []
-text_in (int n) = []
-text_in (blob b) = b
-text_in (arr vs) = []
-text_in (obj vs) = []
+abbrev pub index_value : IndexView → Plain
+index_value view = value_at (payload_of view.adb) (Obj Which.Index) view.word
 
--- the kind of a table's field, counted from 0
-abbrev pub kind_at : Which → ℕ → Option Kind
-kind_at which i = option_map (λ f. f.kind) (slice_get (table which) i)
+abbrev pub idb_value : IdbView → Plain
+idb_value view = value_at (payload_of view.adb) (Obj Which.Idb) view.word
+
+abbrev pub intent_value : IntentView → Plain
+intent_value view = value_at (payload_of view.adb) (Obj Which.Intent) view.word

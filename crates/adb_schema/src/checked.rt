@@ -1,55 +1,214 @@
-ghost use Rattle.std.specs.Prelude.{◌≡◌, true, is_none};
+//! A checked payload, the four views of its root.
+
+ghost use Rattle.std.specs.Prelude.{◌≡◌, true, is_none, IfOk};
 ghost use Rattle.adb_view.specs.Adb.{payload_of};
-ghost use Rattle.adb_view.specs.Head.{root_of};
-ghost use Rattle.adb_schema.specs.Views.{is_sound, value_at};
-ghost use Rattle.adb_schema.specs.Schema.{shape_of};
-ghost use Rattle.adb_schema.specs.Walk.{shape_fault};
-ghost use Rattle.adb_schema.specs.Texts.{text_fault};
-ghost use Rattle.adb_schema.specs.declared.schema.Kind.TheVariants as Kinds;
+ghost use Rattle.adb_view.specs.Gives.{cause_of};
+ghost use Rattle.adb_tables.specs.Values.{is_sound, value_at};
+ghost use Rattle.adb_tables.specs.Shaped.{shaped_value, table_of};
+ghost use Rattle.adb_tables.specs.declared.tables.Kind.TheVariants as Kinds;
+ghost use Rattle.adb_tables.specs.declared.tables.Which.TheVariants as Tables;
+ghost use Rattle.adb_rules.specs.Texts.{text_fault};
 
-use crate::schema::Which;
-use adb_view::Adb;
+use crate::package::PackageView;
+use crate::package_info::PkgInfo;
+use adb_fields::{Kinded, List, View, objects_field, text_field, texts_field};
+use adb_rules::check_texts;
+use adb_tables::{Shaped, Which};
+use adb_view::{Adb, Val};
+use base_core::Cause;
 
-/// A payload whose values have the shape of a table: each word that a walk from its root visits can be read.
-#[derive(Clone, Copy)]
-pub struct Shaped<'a> {
-    adb: Adb<'a>,
-    which: Which,
-    ghost sound: { is_sound (payload_of adb) (Kinds.Obj which) (root_of (payload_of adb)) ≡ true },
-    ghost few: { is_none (shape_fault (payload_of adb) (shape_of (Kinds.Obj which)) (root_of (payload_of adb))) ≡ true },
-}
-
-impl<'a> Shaped<'a> {
-    ghost use Rattle.adb_schema.specs.Checked.{adb_of, table_of};
-
-    /// A payload that was walked as this table.
-    pub(crate) fn of(adb: Adb<'a>, which: Which) -> Shaped<'a>
-        requires sound { is_sound (payload_of adb) (Kinds.Obj which) (root_of (payload_of adb)) ≡ true }
-        requires few { is_none (shape_fault (payload_of adb) (shape_of (Kinds.Obj which)) (root_of (payload_of adb))) ≡ true }
-        ensures walked { adb_of result ≡ adb.entry }
-        ensures table { table_of result ≡ which }
-    {
-        Shaped { adb, which }
-    }
-
-    /// The payload that was walked.
-    pub fn adb(&self) -> Adb<'a>
-        ensures { result ≡ adb_of self.now }
-    {
-        self.adb
-    }
-
-    /// The table that its root was walked as.
-    pub fn which(&self) -> Which
-        ensures { result ≡ table_of self.now }
-    {
-        self.which
-    }
-}
-
-/// A payload of the shape of a table, each of whose texts keeps the rule of its place.
+/// A payload of the shape of a table, each of whose texts keeps the rule of its field.
 #[derive(Clone, Copy)]
 pub struct Checked<'a> {
-    pub(crate) shaped: Shaped<'a>,
-    ghost texts: { is_none (text_fault shaped.which (value_at (payload_of shaped.adb) (Kinds.Obj shaped.which) (root_of (payload_of shaped.adb)))) ≡ true },
+    shaped: Shaped<'a>,
+    ghost texts: { is_none (text_fault (table_of shaped) (shaped_value shaped)) ≡ true },
+}
+
+impl<'a> Checked<'a> {
+    ghost use Rattle.adb_tables.specs.Shaped.{adb_of};
+    ghost use Rattle.adb_schema.specs.Checked.{which_of, checked_value};
+    ghost use Rattle.adb_schema.specs.Views.{package_value, index_value, idb_value, intent_value};
+
+    /// Tests each text and number of a walked payload against the rule of its field. It takes no memory.
+    ///
+    /// # Errors
+    ///
+    /// `BadText` with the number of the first field that breaks its rule, depth first and field by field; a missing
+    /// field counts as Null.
+    pub fn new(shaped: Shaped<'a>) -> Result<Checked<'a>, Cause>
+        ensures exact { cause_of result ≡ text_fault (table_of shaped.entry) (shaped_value shaped.entry) }
+        ensures which { IfOk result (λ checked. which_of checked ≡ table_of shaped.entry) }
+        ensures value { IfOk result (λ checked. checked_value checked ≡ shaped_value shaped.entry) }
+        ensures payload { IfOk result (λ checked. adb_of checked.shaped ≡ adb_of shaped.entry) }
+    {
+        check_texts(shaped)?;
+        Ok(Checked { shaped })
+    }
+
+    /// The payload as it was walked.
+    pub(crate) fn shaped(&self) -> Shaped<'a>
+        ensures { result ≡ self.now.shaped }
+    {
+        self.shaped
+    }
+
+    /// The package that the payload holds.
+    pub fn package(&self) -> PackageView<'a>
+        requires { which_of self.now ≡ Tables.Package }
+        ensures { package_value result ≡ checked_value self.now }
+    {
+        let adb = self.shaped.adb();
+        PackageView::of(adb, adb.root())
+    }
+
+    /// The index that the payload holds.
+    pub fn index(&self) -> IndexView<'a>
+        requires { which_of self.now ≡ Tables.Index }
+        ensures { index_value result ≡ checked_value self.now }
+    {
+        let adb = self.shaped.adb();
+        IndexView::of(adb, adb.root())
+    }
+
+    /// The installed database that the payload holds.
+    pub fn idb(&self) -> IdbView<'a>
+        requires { which_of self.now ≡ Tables.Idb }
+        ensures { idb_value result ≡ checked_value self.now }
+    {
+        let adb = self.shaped.adb();
+        IdbView::of(adb, adb.root())
+    }
+
+    /// The intent that the payload holds.
+    pub fn intent(&self) -> IntentView<'a>
+        requires { which_of self.now ≡ Tables.Intent }
+        ensures { intent_value result ≡ checked_value self.now }
+    {
+        let adb = self.shaped.adb();
+        IntentView::of(adb, adb.root())
+    }
+}
+
+/// An index of packages.
+#[derive(Clone, Copy)]
+pub struct IndexView<'a> {
+    adb: Adb<'a>,
+    word: Val,
+    ghost sound: { is_sound (payload_of adb) (Kinds.Obj Tables.Index) word ≡ true },
+}
+
+impl<'a> Kinded for IndexView<'a> {
+    ghost kind = { Kinds.Obj Tables.Index };
+}
+
+impl<'a> View<'a> for IndexView<'a> {
+    ghost shows = { λ view. value_at (payload_of view.adb) (Kinds.Obj Tables.Index) view.word };
+
+    fn of(adb: Adb<'a>, word: Val) -> IndexView<'a> {
+        IndexView { adb, word }
+    }
+}
+
+impl<'a> IndexView<'a> {
+    ghost use Rattle.adb_tables.specs.Values.{entry_in, text_in};
+    ghost use Rattle.adb_schema.specs.Views.{index_value};
+    ghost use Rattle.adb_fields.specs.ListValue.{list_value};
+
+    /// What the index is.
+    pub fn description(&self) -> &'a [u8]
+        ensures { result.now ≡ text_in (entry_in (index_value self.now) 0) }
+    {
+        text_field(self.adb, Which::Index, self.word, 0)
+    }
+
+    /// Its packages.
+    pub fn packages(&self) -> List<'a, PkgInfo<'a>>
+        ensures { list_value result ≡ entry_in (index_value self.now) 1 }
+    {
+        let entries =
+            objects_field(self.adb, Which::Index, self.word, 1, Which::PkgInfo);
+        List::of(self.adb, entries)
+    }
+
+    /// How a package's file is named.
+    pub fn pkgname_spec(&self) -> &'a [u8]
+        ensures { result.now ≡ text_in (entry_in (index_value self.now) 2) }
+    {
+        text_field(self.adb, Which::Index, self.word, 2)
+    }
+}
+
+/// An installed database.
+#[derive(Clone, Copy)]
+pub struct IdbView<'a> {
+    adb: Adb<'a>,
+    word: Val,
+    ghost sound: { is_sound (payload_of adb) (Kinds.Obj Tables.Idb) word ≡ true },
+}
+
+impl<'a> Kinded for IdbView<'a> {
+    ghost kind = { Kinds.Obj Tables.Idb };
+}
+
+impl<'a> View<'a> for IdbView<'a> {
+    ghost shows = { λ view. value_at (payload_of view.adb) (Kinds.Obj Tables.Idb) view.word };
+
+    fn of(adb: Adb<'a>, word: Val) -> IdbView<'a> {
+        IdbView { adb, word }
+    }
+}
+
+impl<'a> IdbView<'a> {
+    ghost use Rattle.adb_tables.specs.Values.{entry_in};
+    ghost use Rattle.adb_schema.specs.Views.{idb_value};
+    ghost use Rattle.adb_fields.specs.ListValue.{list_value};
+
+    /// The packages that are installed.
+    pub fn packages(&self) -> List<'a, PackageView<'a>>
+        ensures { list_value result ≡ entry_in (idb_value self.now) 0 }
+    {
+        let entries =
+            objects_field(self.adb, Which::Idb, self.word, 0, Which::Package);
+        List::of(self.adb, entries)
+    }
+}
+
+/// What a change is about to remove and to write.
+#[derive(Clone, Copy)]
+pub struct IntentView<'a> {
+    adb: Adb<'a>,
+    word: Val,
+    ghost sound: { is_sound (payload_of adb) (Kinds.Obj Tables.Intent) word ≡ true },
+}
+
+impl<'a> Kinded for IntentView<'a> {
+    ghost kind = { Kinds.Obj Tables.Intent };
+}
+
+impl<'a> View<'a> for IntentView<'a> {
+    ghost shows = { λ view. value_at (payload_of view.adb) (Kinds.Obj Tables.Intent) view.word };
+
+    fn of(adb: Adb<'a>, word: Val) -> IntentView<'a> {
+        IntentView { adb, word }
+    }
+}
+
+impl<'a> IntentView<'a> {
+    ghost use Rattle.adb_tables.specs.Values.{entry_in};
+    ghost use Rattle.adb_schema.specs.Views.{intent_value};
+    ghost use Rattle.adb_fields.specs.ListValue.{list_value};
+
+    /// The paths to be removed.
+    pub fn removals(&self) -> List<'a, &'a [u8]>
+        ensures { list_value result ≡ entry_in (intent_value self.now) 0 }
+    {
+        List::of(self.adb, texts_field(self.adb, Which::Intent, self.word, 0))
+    }
+
+    /// The paths to be written.
+    pub fn writes(&self) -> List<'a, &'a [u8]>
+        ensures { list_value result ≡ entry_in (intent_value self.now) 1 }
+    {
+        List::of(self.adb, texts_field(self.adb, Which::Intent, self.word, 1))
+    }
 }

@@ -1,17 +1,19 @@
-//! The reading of a whole container.
+//! The reading of a whole container, and names that stand twice in it.
 
-ghost use Rattle.std.specs.Prelude.{◌≡◌, ◌≤◌, None, Some, length, IfOk, IfErr};
+ghost use Rattle.std.specs.Prelude.{◌≡◌, ◌≤◌, None, Some, length, codes, IfOk, IfErr};
+ghost use Rattle.std.specs.Int.{w32, to_le_bytes};
+ghost use Rattle.adb_fields.specs.Repeated.{repeated_fault};
 ghost use Rattle.adb_block.specs.Reading.{reading_of};
 ghost use Rattle.adb_view.specs.Adb.{payload_of};
 ghost use Rattle.adb_view.specs.Gives.{cause_of};
-ghost use Rattle.adb_schema.specs.Checked.{adb_of, value_of, which_of};
-ghost use Rattle.adb_schema.specs.Soundness.{block_fault, block_refused, file_pair, first_fault, further_fault, payload_fault, is_wanted, payload_in, rest_fault, root_value, schema_word, undue, IsBehindFirst, IsReadFault};
+ghost use Rattle.adb_tables.specs.Shaped.{adb_of};
+ghost use Rattle.adb_schema.specs.Checked.{checked_value, which_of};
+ghost use Rattle.adb_schema.specs.Soundness.{block_fault, first_block_fault, file_pair, first_fault, further_fault, payload_fault, is_schema_wanted, payload_in, rest_fault, root_value, schema_word, undue_contents, IsBehindFirst, IsReadFault};
 
 use crate::checked::Checked;
-use crate::repeated_kinds::repeated;
-use crate::schema::Which;
-use crate::walk::shape;
 use adb_block::{Block, BlockKind, Blocks};
+use adb_fields::repeated_names;
+use adb_tables::{Which, shape};
 use adb_view::Adb;
 use base_core::Cause;
 use std::alloc::{AllocError, Global};
@@ -75,6 +77,17 @@ pub fn schema_word(which: Which) -> Option<u32>
     }
 }
 
+/// Looks for a name that stands twice in a checked container, and answers the cause `Repeated`, or None exactly where
+/// there is none. The kinds are looked at in this order: in a package and in a database two folders of a package, over
+/// all packages, and two files of a folder; in a database also two packages, and one path in two packages, at the
+/// positions of the packages; in an intent two names, of the removals followed by the writes. Of the first kind that
+/// stands, the pair with the smallest second position is reported, and of those the one with the smallest first.
+pub fn repeated(alloc: Global, checked: &Checked<'_>) -> Result<Option<Cause>, AllocError>
+    ensures { IfOk result (λ cause. cause ≡ repeated_fault (which_of checked.now) (checked_value checked.now)) }
+{
+    repeated_names(alloc, &checked.shaped())
+}
+
 /// Reads a container (apk-v3(5)) with this table at its root, and tests it in this order: the file's header, its schema,
 /// the first block's framing, its head, its shape, its texts, and names that stand twice; then, but for a package, the
 /// framing of the further blocks, and that none of them holds contents.
@@ -88,11 +101,11 @@ pub fn read_adb<'a>(alloc: Global, bytes: &'a [u8], which: Which) -> Result<Chec
     ensures sound { IfOk result (λ _. first_fault which bytes.entry.now ≡ None) }
     ensures table { IfOk result (λ checked. which_of checked ≡ which) }
     ensures payload { IfOk result (λ checked. payload_of (adb_of checked.shaped) ≡ payload_in bytes.entry.now) }
-    ensures value { IfOk result (λ checked. value_of checked ≡ root_value which (payload_in bytes.entry.now)) }
+    ensures value { IfOk result (λ checked. checked_value checked ≡ root_value which (payload_in bytes.entry.now)) }
 {
     let mut blocks = Blocks::new(bytes)?;
     let found = blocks.schema();
-    if !is_wanted(which, found) {
+    if !is_schema_wanted(which, found) {
         return Err(ReadFault::Bad(Cause::WrongSchema { found }));
     }
     let checked = read_first(alloc, &mut blocks, which)?;
@@ -101,8 +114,8 @@ pub fn read_adb<'a>(alloc: Global, bytes: &'a [u8], which: Which) -> Result<Chec
 }
 
 /// Whether a container with this table at its root has this schema in its header.
-fn is_wanted(which: Which, schema: u32) -> bool
-    ensures { result ≡ is_wanted (schema_word which) schema }
+fn is_schema_wanted(which: Which, schema: u32) -> bool
+    ensures { result ≡ is_schema_wanted (schema_word which) schema }
 {
     match schema_word(which) {
         Some(word) => word == schema,
@@ -117,7 +130,7 @@ fn read_first<'a>(
     which: Which,
 ) -> Result<Checked<'a>, ReadFault>
     requires { blocks.old.last ≡ None }
-    ensures bad { IfErr result (λ fault. IsReadFault fault (block_refused which (reading_of blocks.old))) }
+    ensures bad { IfErr result (λ fault. IsReadFault fault (first_block_fault which (reading_of blocks.old))) }
     ensures table { IfOk result (λ checked. which_of checked ≡ which) }
     ensures behind { IfOk result (λ checked. IsBehindFirst which (payload_of (adb_of checked.shaped)) (reading_of blocks.old) (reading_of blocks.new)) }
 {
@@ -177,14 +190,14 @@ fn block_fault(block: &Block<'_>) -> Option<Cause>
     ensures { result ≡ block_fault block.now.kind block.now.payload.now block.now.at }
 {
     match block.kind {
-        BlockKind::Contents => Some(undue(block.payload, block.at)),
+        BlockKind::Contents => Some(undue_contents(block.payload, block.at)),
         BlockKind::Adb | BlockKind::Signature => None,
     }
 }
 
 /// Why contents stand where none are due.
-fn undue(payload: &[u8], at: u64) -> Cause
-    ensures { result ≡ undue payload.now at }
+fn undue_contents(payload: &[u8], at: u64) -> Cause
+    ensures { result ≡ undue_contents payload.now at }
 {
     if payload.len() < 8 {
         return Cause::Truncated { at };
@@ -206,3 +219,11 @@ pub fn file_pair(payload: &[u8]) -> (u32, u32)
         u32::from_le_bytes([payload[4], payload[5], payload[6], payload[7]]),
     )
 }
+
+/// The words of the four schemas are spelled so in a file's header.
+pub fn schema_words_are_as_listed()
+    ensures package { to_le_bytes w32 PACKAGE_WORD ≡ codes "pckg" }
+    ensures index { to_le_bytes w32 INDEX_WORD ≡ codes "indx" }
+    ensures database { to_le_bytes w32 IDB_WORD ≡ codes "idb\0" }
+    ensures intent { to_le_bytes w32 INTENT_WORD ≡ codes "intt" }
+{}

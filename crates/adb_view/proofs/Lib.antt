@@ -2,3 +2,4 @@ pub mod Words
 pub mod Found
 pub mod Normal
 pub mod Worked
+pub mod FoundShapes

@@ -4,7 +4,7 @@ use Rattle.std.specs.Prelude.{All, IfSome, if◌then◌else◌}
 use Rattle.std.proofs.lemmas.List.Elements.{All-head, All-tail, All-take, All-drop}
 use Rattle.std.specs.Int.{Width, w32, w64, byte_len, from_le_bytes}
 use Rattle.adb_view.specs.Bytes.{number_at}
-use Rattle.adb_view.specs.Plain.{Plain, null, int, blob, arr, obj, Plains, none, more, Shape, number, text, hash, array, object, Fields, no_fields, field, blob_value, arr_value, obj_of, keep, trimmed, obj_value, unless_null, found, then_more, each_plain, plain_of, plains_of, IsNormal, AreNormal}
+use Rattle.adb_view.specs.Plain.{Plain, null, int, blob, arr, obj, Plains, none, more, Shape, number, text, hash, array, object, Fields, no_fields, field, blob_value, arr_value, obj_of, keep, without_last_nulls, obj_value, unless_null, from_answer, then_more, each_plain, plain_of, plains_of, IsNormal, AreNormal}
 use Rattle.adb_view.specs.Readers.{kind_of, low_of, inside, int_of, blob_of, run_of, ARRAY, OBJECT}
 use Rattle.base_core.specs.declared.cause.Cause.{Cause}
 
@@ -77,12 +77,12 @@ keep_normal (blob b) vs h hs = (h, hs)
 keep_normal (arr us) vs h hs = (h, hs)
 keep_normal (obj us) vs h hs = (h, hs)
 
-trimmed_normal : (vs : Plains) → AreNormal vs → AreNormal (trimmed vs)
+trimmed_normal : (vs : Plains) → AreNormal vs → AreNormal (without_last_nulls vs)
 unfolding IsNormal
 trimmed_normal none hs = tt
-trimmed_normal (more v vs) hs = keep_normal v (trimmed vs) hs.0 (trimmed_normal vs hs.1)
+trimmed_normal (more v vs) hs = keep_normal v (without_last_nulls vs) hs.0 (trimmed_normal vs hs.1)
 
-keep_trimmed : (v : Plain) (vs : Plains) → trimmed vs ≡ vs → trimmed (keep v vs) ≡ keep v vs
+keep_trimmed : (v : Plain) (vs : Plains) → without_last_nulls vs ≡ vs → without_last_nulls (keep v vs) ≡ keep v vs
 keep_trimmed null none e = refl
 keep_trimmed null (more v vs) e = ap (keep null) e
 keep_trimmed (int n) vs e = ap (more (int n)) e
@@ -90,13 +90,13 @@ keep_trimmed (blob b) vs e = ap (more (blob b)) e
 keep_trimmed (arr us) vs e = ap (more (arr us)) e
 keep_trimmed (obj us) vs e = ap (more (obj us)) e
 
-trimmed-trimmed : (vs : Plains) → trimmed (trimmed vs) ≡ trimmed vs
+trimmed-trimmed : (vs : Plains) → without_last_nulls (without_last_nulls vs) ≡ without_last_nulls vs
 trimmed-trimmed none = refl
-trimmed-trimmed (more v vs) = keep_trimmed v (trimmed vs) (trimmed-trimmed vs)
+trimmed-trimmed (more v vs) = keep_trimmed v (without_last_nulls vs) (trimmed-trimmed vs)
 
 -- ---- what each reader's answer becomes
 
-int_normal : (r : Result ℕ Cause) → ((n : ℕ) → r ≡ Ok n → n < 2 ^ 64) → IfSome (found (λ n. Some (int n)) r) IsNormal
+int_normal : (r : Result ℕ Cause) → ((n : ℕ) → r ≡ Ok n → n < 2 ^ 64) → IfSome (from_answer (λ n. Some (int n)) r) IsNormal
 unfolding IsNormal
 int_normal (Ok n) h = h n refl
 int_normal (Err c) h = tt
@@ -106,7 +106,7 @@ unfolding IsNormal
 blob_value_normal [] = tt
 blob_value_normal (c ∷ cs) = λ e. absurd cc
 
-blob_normal : (r : Result (List ℕ) Cause) → IfSome (found (λ b. Some (blob_value b)) r) IsNormal
+blob_normal : (r : Result (List ℕ) Cause) → IfSome (from_answer (λ b. Some (blob_value b)) r) IsNormal
 blob_normal (Ok b) = blob_value_normal b
 blob_normal (Err c) = tt
 
@@ -115,15 +115,15 @@ unfolding IsNormal
 arr_normal none hs = tt
 arr_normal (more v vs) hs = (λ e. absurd cc, hs)
 
-obj_of_normal : (vs : Plains) → trimmed vs ≡ vs → AreNormal vs → IsNormal (obj_of vs)
+obj_of_normal : (vs : Plains) → without_last_nulls vs ≡ vs → AreNormal vs → IsNormal (obj_of vs)
 unfolding IsNormal
 obj_of_normal none e hs = tt
 obj_of_normal (more v vs) e hs = (λ x. absurd cc, e, hs)
 
 obj_normal : (vs : Plains) → AreNormal vs → IsNormal (obj_value vs)
-obj_normal vs hs = obj_of_normal (trimmed vs) (trimmed-trimmed vs) (trimmed_normal vs hs)
+obj_normal vs hs = obj_of_normal (without_last_nulls vs) (trimmed-trimmed vs) (trimmed_normal vs hs)
 
-entries_normal : (f : Plains → Plain) (g : List ℕ → Option Plains) → ((vs : Plains) → AreNormal vs → IsNormal (f vs)) → ((ws : List ℕ) → IfSome (g ws) AreNormal) → (r : Result (List ℕ) Cause) → IfSome (found (λ ws. option_map f (g ws)) r) IsNormal
+entries_normal : (f : Plains → Plain) (g : List ℕ → Option Plains) → ((vs : Plains) → AreNormal vs → IsNormal (f vs)) → ((ws : List ℕ) → IfSome (g ws) AreNormal) → (r : Result (List ℕ) Cause) → IfSome (from_answer (λ ws. option_map f (g ws)) r) IsNormal
 entries_normal f g hf hg (Err c) = tt
 entries_normal f g hf hg (Ok ws) = mapped (g ws) (hg ws)
   where

@@ -53,12 +53,12 @@ keep (arr us) vs = more (arr us) vs
 keep (obj us) vs = more (obj us) vs
 
 -- without the Nulls that stand last
-abbrev pub trimmed : Plains → Plains
-trimmed none = none
-trimmed (more v vs) = keep v (trimmed vs)
+abbrev pub without_last_nulls : Plains → Plains
+without_last_nulls none = none
+without_last_nulls (more v vs) = keep v (without_last_nulls vs)
 
 abbrev pub obj_value : Plains → Plain
-obj_value vs = obj_of (trimmed vs)
+obj_value vs = obj_of (without_last_nulls vs)
 
 -- ---- the plain value of a word under a shape
 
@@ -66,9 +66,9 @@ obj_value vs = obj_of (trimmed vs)
 abbrev pub unless_null : ℕ → Option Plain → Option Plain
 unless_null word v = if word == 0 then Some null else v
 
-abbrev pub found : {A B : Type 0} → (A → Option B) → Result A Cause → Option B
-found f (Ok x) = f x
-found f (Err c) = None
+abbrev pub from_answer : {A B : Type 0} → (A → Option B) → Result A Cause → Option B
+from_answer f (Ok x) = f x
+from_answer f (Err c) = None
 
 abbrev pub then_more : Option Plain → Option Plains → Option Plains
 then_more v vs = option_and_then (λ v. option_map (more v) vs) v
@@ -79,11 +79,11 @@ each_plain f (w ∷ ws) = then_more (f w) (each_plain f ws)
 
 unfoldable mutual
   pub plain_of : List ℕ → Shape → ℕ → Option Plain
-  plain_of p number w = unless_null w (found (λ n. Some (int n)) (int_of p w))
-  plain_of p text w = unless_null w (found (λ b. Some (blob_value b)) (blob_of p w))
-  plain_of p hash w = unless_null w (found (λ b. Some (blob_value b)) (blob_of p w))
-  plain_of p (array s) w = unless_null w (found (λ ws. option_map arr_value (each_plain (plain_of p s) ws)) (run_of ARRAY p w))
-  plain_of p (object schema fs) w = unless_null w (found (λ ws. option_map obj_value (plains_of p fs ws)) (run_of OBJECT p w))
+  plain_of p number w = unless_null w (from_answer (λ n. Some (int n)) (int_of p w))
+  plain_of p text w = unless_null w (from_answer (λ b. Some (blob_value b)) (blob_of p w))
+  plain_of p hash w = unless_null w (from_answer (λ b. Some (blob_value b)) (blob_of p w))
+  plain_of p (array s) w = unless_null w (from_answer (λ ws. option_map arr_value (each_plain (plain_of p s) ws)) (run_of ARRAY p w))
+  plain_of p (object schema fs) w = unless_null w (from_answer (λ ws. option_map obj_value (plains_of p fs ws)) (run_of OBJECT p w))
 
   -- entries past the fields are not looked at
   pub plains_of : List ℕ → Fields → List ℕ → Option Plains
@@ -104,7 +104,7 @@ unfoldable mutual
   IsNormal (int n) = n < 2 ^ 64
   IsNormal (blob b) = b ≢ []
   IsNormal (arr vs) = (vs ≢ none) × AreNormal vs
-  IsNormal (obj vs) = (vs ≢ none) × (trimmed vs ≡ vs) × AreNormal vs
+  IsNormal (obj vs) = (vs ≢ none) × (without_last_nulls vs ≡ vs) × AreNormal vs
 
   pub AreNormal : Plains → Type 0
   AreNormal none = Unit {0}

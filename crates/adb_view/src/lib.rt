@@ -13,9 +13,8 @@ mod run;
 mod val;
 
 pub use adb::Adb;
-pub use laws::{value_is_found_where_visits_are_sound, values_are_normal};
+pub use laws::{
+    value_is_found_where_visits_are_sound, values_are_normal, values_have_their_shape,
+};
 pub use run::{Arr, Obj};
 pub use val::Val;
-
-#[cfg(test)]
-mod tests;

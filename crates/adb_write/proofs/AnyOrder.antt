@@ -3,7 +3,7 @@ use Rattle.std.proofs.Common.{◌≡◌, ℕ, ◌^◌, ◌<◌, ◌≤◌, Bool,
 use Rattle.std.specs.Prelude.{◌||◌, Some, Ok, Result, Err}
 use Rattle.std.specs.List.{AllByRecursion}
 use Rattle.std.proofs.lemmas.Bool.{ltb-false}
-use Rattle.adb_view.specs.Plain.{Plain, null, int, blob, arr, obj, Plains, none, more, trimmed, keep, blob_value, arr_value, obj_of, obj_value, Shape, IsNormal, plain_of, value_of}
+use Rattle.adb_view.specs.Plain.{Plain, null, int, blob, arr, obj, Plains, none, more, without_last_nulls, keep, blob_value, arr_value, obj_of, obj_value, Shape, IsNormal, plain_of, value_of}
 use Rattle.adb_view.specs.Readers.{ARRAY, OBJECT}
 use Rattle.adb_write.specs.Canonical.{Cell, in_place, apart, int_cell, blob_cell, run_cell, keep_word, trimmed_words, Layout, end_offset, put_item, put_cell, put_run, PayloadCounts, layout_counts, passes, payload_with_root, MOST_BYTES, MOST_VALUES}
 use Rattle.adb_view.specs.Shaped.{HasShape}
@@ -133,16 +133,16 @@ kept_pair w e (arr vs) (more u us) x (y ∷ ys) h a = (h, a)
 kept_pair w e (obj us) none x [] h a = let t : eqb x 0 ≡ false = neq-eqb x 0 (not_null_word (payload_with_root 0 (layout_of w)) (obj us) x (λ n. absurd cc) ((h e).holds 0)) in rw t (h, tt)
 kept_pair w e (obj vs) (more u us) x (y ∷ ys) h a = (h, a)
 
-trimmed_stand : (w : Writing) → is_over w ≡ false → (vs : Plains) (xs : List ℕ) → AllStandFor w vs xs → AllStandFor w (trimmed vs) (trimmed_words xs)
+trimmed_stand : (w : Writing) → is_over w ≡ false → (vs : Plains) (xs : List ℕ) → AllStandFor w vs xs → AllStandFor w (without_last_nulls vs) (trimmed_words xs)
 trimmed_stand w e none [] h = tt
 trimmed_stand w e none (x ∷ xs) h = absurd h
 trimmed_stand w e (more v vs) [] h = absurd h
-trimmed_stand w e (more v vs) (x ∷ xs) h = kept_pair w e v (trimmed vs) x (trimmed_words xs) h.0 (trimmed_stand w e vs xs h.1)
+trimmed_stand w e (more v vs) (x ∷ xs) h = kept_pair w e v (without_last_nulls vs) x (trimmed_words xs) h.0 (trimmed_stand w e vs xs h.1)
 
 pub obj_stands : (vs : Plains) (xs : List ℕ) (w : Writing) → AllStandFor w vs xs → StandsFor (obj_call xs w).1 (obj_value vs) (obj_call xs w).0
 obj_stands vs xs w h e =
     let s = call_stored (run_cell OBJECT (trimmed_words xs)) w e in
-    obj_of_stands (trimmed vs) (trimmed_words xs) w (trimmed_stand w s.before vs xs h) e
+    obj_of_stands (without_last_nulls vs) (trimmed_words xs) w (trimmed_stand w s.before vs xs h) e
 
 -- ---- the payload at the end
 

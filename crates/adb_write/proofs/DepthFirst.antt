@@ -1,6 +1,6 @@
 -- What calls are made depth first, value by value.
 use Rattle.std.proofs.Common.{◌≡◌, ℕ, ◌+◌, ◌^◌, ◌<◌, true, ltb, List, [], ◌∷◌, ◌++◌, length, arith, refl, sym, ap, subst, ◌∙◌}
-use Rattle.adb_view.specs.Plain.{Plain, null, int, blob, arr, obj, Plains, none, more, trimmed, keep, blob_value, arr_value, obj_of, obj_value}
+use Rattle.adb_view.specs.Plain.{Plain, null, int, blob, arr, obj, Plains, none, more, without_last_nulls, keep, blob_value, arr_value, obj_of, obj_value}
 use Rattle.adb_view.specs.Readers.{OBJECT}
 use Rattle.adb_write.specs.Canonical.{Cell, in_place, int_cell, run_cell, keep_word, trimmed_words, written_of}
 use Rattle.adb_write.specs.Writing.{Writing, empty_writing, call, int_call, blob_call, arr_call, obj_call, finish_result, calls, calls_all}
@@ -50,13 +50,13 @@ keep_same (blob b) us vs w s = record { words = ap (keep_word (calls (blob b) w)
 keep_same (arr xs) us vs w s = record { words = ap (keep_word (calls (arr xs) w).0) s.words; state = s.state }
 keep_same (obj xs) us vs w s = record { words = ap (keep_word (calls (obj xs) w).0) s.words; state = s.state }
 
-trimmed_same : (vs : Plains) (w : Writing) → Same (trimmed vs) vs w
+trimmed_same : (vs : Plains) (w : Writing) → Same (without_last_nulls vs) vs w
 trimmed_same none w = record { words = refl; state = refl }
-trimmed_same (more v vs) w = keep_same v (trimmed vs) vs w (trimmed_same vs (calls v w).1)
+trimmed_same (more v vs) w = keep_same v (without_last_nulls vs) vs w (trimmed_same vs (calls v w).1)
 
 pub calls_obj : (vs : Plains) (w : Writing) → calls (obj_value vs) w ≡ obj_call (calls_all vs w).0 (calls_all vs w).1
 unfolding calls
-calls_obj vs w = go (trimmed vs) (trimmed_same vs w)
+calls_obj vs w = go (without_last_nulls vs) (trimmed_same vs w)
   where
     go : (us : Plains) → Same us vs w → calls (obj_of us) w ≡ call (run_cell OBJECT (trimmed_words (calls_all vs w).0)) (calls_all vs w).1
     go none s = rw (sym s.words, sym s.state) (sym (call_null w))

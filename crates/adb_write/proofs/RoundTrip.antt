@@ -5,7 +5,7 @@ use Rattle.std.specs.Int.{Width, w8, w16, w32, w64, byte_len, from_le_bytes, to_
 use Rattle.std.proofs.lemmas.Bool.{cases_lt, leb-true, le-leb, lt-ltb, le-ltb}
 use Rattle.std.proofs.lemmas.List.{append-nil, take_at, drop_at, length-append, length-drop, length-replicate, take-append-le, drop-append-le}
 use Rattle.adb_view.specs.Bytes.{range_at, number_at, words}
-use Rattle.adb_view.specs.Plain.{IsNormal, AreNormal, Plain, null, int, blob, arr, obj, Plains, none, more, trimmed, keep, blob_value, arr_value, obj_of, obj_value, Shape, number, text, hash, array, object, Fields, no_fields, field, unless_null, found, each_plain, plain_of, plains_of, value_of}
+use Rattle.adb_view.specs.Plain.{IsNormal, AreNormal, Plain, null, int, blob, arr, obj, Plains, none, more, without_last_nulls, keep, blob_value, arr_value, obj_of, obj_value, Shape, number, text, hash, array, object, Fields, no_fields, field, unless_null, from_answer, each_plain, plain_of, plains_of, value_of}
 use Rattle.adb_view.specs.Head.{root_of}
 use Rattle.adb_view.specs.Readers.{kind_of, low_of, inside, counted_at, counted_words, run_at, int_of, blob_of, run_of, ARRAY, OBJECT}
 use Rattle.adb_write.specs.Canonical.{gap, Item, Cell, in_place, apart, int_cell, blob_cell, run_cell, run_bytes, keep_word, trimmed_words, Layout, empty_layout, end_offset, put_item, put_cell, put_run, write, write_all, payload_with_root, canonical, MOST_BYTES}
@@ -158,7 +158,7 @@ mutual
   plain_of-Holds p (array t) (int k) w n s h = absurd s
   plain_of-Holds p (array t) (blob b) w n s h = absurd s
   plain_of-Holds p (array t) (arr vs) w n s (ne, ws, is, all) =
-      unless_not_null w _ ne ∙ ap (found (λ us. option_map arr_value (each_plain (plain_of p t) us))) is
+      unless_not_null w _ ne ∙ ap (from_answer (λ us. option_map arr_value (each_plain (plain_of p t) us))) is
       ∙ ap (option_map arr_value) (each_is p (plain_of p t) (HasShape t) (plain_of-Holds p t) vs ws n.1 s all) ∙ ap Some (arr_value-is vs n.0)
   plain_of-Holds p (array t) (obj vs) w n s h = absurd s
   plain_of-Holds p (object which fs) null w n s h = rw h refl
@@ -166,7 +166,7 @@ mutual
   plain_of-Holds p (object which fs) (blob b) w n s h = absurd s
   plain_of-Holds p (object which fs) (arr vs) w n s h = absurd s
   plain_of-Holds p (object which fs) (obj vs) w n s (ne, ws, is, all) =
-      unless_not_null w _ ne ∙ ap (found (λ us. option_map obj_value (plains_of p fs us))) is
+      unless_not_null w _ ne ∙ ap (from_answer (λ us. option_map obj_value (plains_of p fs us))) is
       ∙ ap (option_map obj_value) (plains_of-Holds p fs vs ws n.2 s all) ∙ ap (λ us. Some (obj_of us)) n.1 ∙ ap Some (obj_of-is vs n.0)
 
   pub plains_of-Holds : (p : List ℕ) (fs : Fields) (vs : Plains) (ws : List ℕ) → AreNormal vs → HaveShapes fs vs → HoldAll p vs ws → plains_of p fs ws ≡ Some vs
@@ -397,11 +397,11 @@ not_null_word p (blob b) w ne h = h.0
 not_null_word p (arr vs) w ne h = h.0
 not_null_word p (obj vs) w ne h = h.0
 
--- a list that stays as it is when trimmed: its rest does, and its last value is not Null
-pub trimmed-more : (v : Plain) (vs : Plains) → trimmed (more v vs) ≡ more v vs → (trimmed vs ≡ vs) × ((vs ≡ none) → v ≢ null)
-trimmed-more v vs e = go v (trimmed vs) refl e
+-- a list that stays as it is without the Nulls that stand last: its rest does, and its last value is not Null
+pub trimmed-more : (v : Plain) (vs : Plains) → without_last_nulls (more v vs) ≡ more v vs → (without_last_nulls vs ≡ vs) × ((vs ≡ none) → v ≢ null)
+trimmed-more v vs e = go v (without_last_nulls vs) refl e
   where
-    go : (v : Plain) (us : Plains) → trimmed vs ≡ us → keep v us ≡ more v vs → (trimmed vs ≡ vs) × ((vs ≡ none) → v ≢ null)
+    go : (v : Plain) (us : Plains) → without_last_nulls vs ≡ us → keep v us ≡ more v vs → (without_last_nulls vs ≡ vs) × ((vs ≡ none) → v ≢ null)
     go null none i e = absurd cc
     go null (more u us) i e = let same : more u us ≡ vs = cc in (i ∙ same, λ n. absurd (let no : more u us ≡ none = same ∙ n in cc))
     go (int k) us i e = let same : us ≡ vs = cc in (i ∙ same, λ n x. absurd cc)
@@ -413,7 +413,7 @@ keep_word-is : (w : ℕ) (ws : List ℕ) → (ws ≡ [] → w ≢ 0) → keep_wo
 keep_word-is w (v ∷ vs) h = refl
 keep_word-is w [] h = let t : eqb w 0 ≡ false = neq-eqb w 0 (h refl) in rw t refl
 
-pub words_stay : (p : List ℕ) (vs : Plains) (ws : List ℕ) → trimmed vs ≡ vs → HoldAll p vs ws → trimmed_words ws ≡ ws
+pub words_stay : (p : List ℕ) (vs : Plains) (ws : List ℕ) → without_last_nulls vs ≡ vs → HoldAll p vs ws → trimmed_words ws ≡ ws
 unfolding Holds
 words_stay p none [] e h = refl
 words_stay p none (w ∷ ws) e h = absurd h

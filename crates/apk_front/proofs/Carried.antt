@@ -12,7 +12,7 @@ use Rattle.base_core.specs.declared.tree.TreeFault.TheVariants.{Disk, Memory as 
 use Rattle.journal_core.specs.Recovery.{IsSettled, RestsOn}
 use Rattle.journal_core.specs.Replacing.{IsReplacing}
 use Rattle.make_info.specs.Output.{output_name}
-use Rattle.make_package.specs.Sources.{AreNamesFor, values_of}
+use Rattle.make_package.specs.Sources.{AreNamesFor, values_with}
 use Rattle.make_info.specs.Reads.{Reads}
 use Rattle.outcome.specs.Dump.{adbdump, dump_outcome, text_outcome, dump_of}
 use Rattle.outcome.specs.Make.{mkndx, mkpkg}
@@ -126,7 +126,7 @@ pub index_found_one : (command : CommandLine) (old : History) (judged : Judged) 
     → IfOk judged (λ verdict. IfObservable old (λ v. TellsOne (Ones command v) verdict))
 index_found_one command old judged same found = tells_among (λ v. IsIndexOutcome command (files_of v)) (Ones command) old judged (λ v o one. index_one command (files_of v) o same one) found
 
-pub package_read_one : (command : CommandLine) (judged : Judged) → Mkpkg ≡ command.applet → IfOk judged (λ verdict. (names : List (List ℕ)) × AreNamesFor (values_of 70 command.values) names × (read : Reads) × Tells verdict (mkpkg_by no_names read command names))
+pub package_read_one : (command : CommandLine) (judged : Judged) → Mkpkg ≡ command.applet → IfOk judged (λ verdict. (names : List (List ℕ)) × AreNamesFor (values_with 70 command.values) names × (read : Reads) × Tells verdict (mkpkg_by no_names read command names))
     → IfOk judged (TellsOne (IsFoundOutcomeOf (Ok command)))
 package_read_one command (Err e) same found = tt
 package_read_one command (Ok verdict) same (names, named, read, tells) =

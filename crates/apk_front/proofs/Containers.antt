@@ -15,7 +15,7 @@ use Rattle.make_package.specs.Answers.{IsMadeBySome, IsMadeIn, OnRefusal}
 use Rattle.make_package.specs.Making.{made_package}
 use Rattle.make_info.specs.Output.{output_name}
 use Rattle.make_index.specs.Files.{AreFiles}
-use Rattle.make_package.specs.Sources.{AreNamesFor, values_of}
+use Rattle.make_package.specs.Sources.{AreNamesFor, values_with}
 use Rattle.make_info.specs.declared.fault.MakeFault.{MakeFault}
 use Rattle.command_core.specs.declared.values.TheConstants.{FILES}
 use Rattle.outcome.specs.Commands.{reads_in}
@@ -205,13 +205,13 @@ package_outcomes one command report none = record {
   only = λ v answer m o (names, listed, is).
       is
       ∙ ap (λ r. make_outcome (files_of v) (output_name command) r (made_package command names (reads_in (files_of v)))) (sym none)
-      ∙ ap (λ ns. make_outcome (files_of v) (output_name command) report (made_package command ns (reads_in (files_of v)))) (one_below one (values_of FILES command.values) (files_of v) names m.names listed m.listing)
+      ∙ ap (λ ns. make_outcome (files_of v) (output_name command) report (made_package command ns (reads_in (files_of v)))) (one_below one (values_with FILES command.values) (files_of v) names m.names listed m.listing)
       ∙ ap (make_outcome (files_of v) (output_name command) report) m.is;
 }
 
 pub package_read : (command : CommandLine) (report : List ℕ) (container : Container) (judged : Judged) → report ≡ [] → OnMade container (IsPackageFound command) → IfOk judged (λ verdict. is_cut_off container ≡ false)
     → IfOk judged (λ verdict. (files : Files) → Reports verdict (make_outcome files (output_name command) report (made_in container)))
-    → IfOk judged (λ verdict. (names : List (List ℕ)) × AreNamesFor (values_of FILES command.values) names × (read : Reads) × Reports verdict (mkpkg read no_names command names))
+    → IfOk judged (λ verdict. (names : List (List ℕ)) × AreNamesFor (values_with FILES command.values) names × (read : Reads) × Reports verdict (mkpkg read no_names command names))
 package_read command report container (Err e) none found whole reports = tt
 package_read command report container (Ok verdict) none found whole reports =
     let m = meant container (IsPackageFound command) whole found in

@@ -13,15 +13,15 @@ use Rattle.adb_block.specs.Header.{header_of}
 use Rattle.adb_block.specs.Reading.{Reading, done, fault, more, reading_of}
 use Rattle.adb_block.specs.Standing.{Standing, start_of}
 use Rattle.adb_dump.specs.Dump.{dump_text}
-use Rattle.adb_schema.specs.Checked.{adb_of, shaped_value, table_of}
+use Rattle.adb_tables.specs.Shaped.{adb_of, shaped_value, table_of}
 use Rattle.adb_schema.specs.Soundness.{root_value, schema_word}
-use Rattle.adb_schema.specs.Walk.{or_else}
-use Rattle.adb_schema.specs.declared.checked.Shaped.{Shaped}
+use Rattle.adb_tables.specs.Walk.{or_else}
+use Rattle.adb_tables.specs.declared.shaped.Shaped.{Shaped}
 use Rattle.adb_schema.specs.declared.read.ReadFault.{ReadFault}
 use Rattle.adb_schema.specs.declared.read.ReadFault.TheVariants.{Bad}
 use Rattle.adb_schema.specs.declared.read.TheConstants.{PACKAGE_WORD, INDEX_WORD, IDB_WORD, INTENT_WORD}
-use Rattle.adb_schema.specs.declared.schema.Which.{Which}
-use Rattle.adb_schema.specs.declared.schema.Which.TheVariants.{Package, Index, Idb, Intent}
+use Rattle.adb_tables.specs.declared.tables.Which.{Which}
+use Rattle.adb_tables.specs.declared.tables.Which.TheVariants.{Package, Index, Idb, Intent}
 use Rattle.adb_view.specs.Adb.{payload_of}
 use Rattle.outcome.specs.Dump.{adbdump, dump_outcome, text_outcome, dump_of, dump_with_root, dump_of_blocks, dump_with_schema, form_fault, framing_fault, or_text}
 use Rattle.outcome.specs.Outcome.{just_refusal, just_report}

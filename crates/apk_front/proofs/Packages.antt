@@ -12,7 +12,7 @@ use Rattle.make_info.specs.Reads.{Reads}
 use Rattle.make_info.specs.declared.fault.MakeFault.{MakeFault}
 use Rattle.make_package.specs.Answers.{AreBelow, IsMadeIn}
 use Rattle.make_package.specs.Making.{made_package, or_info_bad, package_of_parts}
-use Rattle.make_package.specs.Sources.{unless_refused, folders_below, values_of, scripts_from}
+use Rattle.make_package.specs.Sources.{on_success, folders_below, values_with, scripts_from}
 use Rattle.outcome.specs.Commands.{reads_in}
 use Rattle.outcome.specs.Make.{IsListing, files_below}
 use Rattle.apk_front.specs.Containers.{IsPackage}
@@ -23,17 +23,17 @@ HaveListing = (folder : List ℕ) (v : TreeState) (names : List (List ℕ)) → 
 
 -- ---- what is made of them
 
-no_folder : (command : CommandLine) (read : Reads) (names others : List (List ℕ)) → values_of FILES command.values ≡ [] → made_package command names read ≡ made_package command others read
+no_folder : (command : CommandLine) (read : Reads) (names others : List (List ℕ)) → values_with FILES command.values ≡ [] → made_package command names read ≡ made_package command others read
 unfolding made_package
 no_folder command read names others none =
     let by : List OptionValue → List (List ℕ) → Result (List ℕ) MakeFault = λ values ns.
-    unless_refused (scripts_from read 0 (values_of SCRIPT command.values)) (λ scripts. unless_refused (or_info_bad (information command)) (λ about. unless_refused (folders_below read (length scripts) values ns) (package_of_parts command scripts about))) in
+    on_success (scripts_from read 0 (values_with SCRIPT command.values)) (λ scripts. on_success (or_info_bad (information command)) (λ about. on_success (folders_below read (length scripts) values ns) (package_of_parts command scripts about))) in
     ap (λ values. by values names) none ∙ sym (ap (λ values. by values others) none)
 
 pub package_here : HaveListing → (command : CommandLine) (v : TreeState) (made : Result (List ℕ) MakeFault) → IsMadeIn command v made → IsPackage command (files_of v) made
-package_here law command v made m = by_values (values_of FILES command.values) refl m.below
+package_here law command v made m = by_values (values_with FILES command.values) refl m.below
   where
-    by_values : (values : List OptionValue) → values_of FILES command.values ≡ values → AreBelow values v m.names → IsPackage command (files_of v) made
+    by_values : (values : List OptionValue) → values_with FILES command.values ≡ values → AreBelow values v m.names → IsPackage command (files_of v) made
     by_values [] is listed = record {
       names = [];
       listing = subst (λ (vs : List OptionValue). IsListing vs (files_of v) []) (sym is) refl;
@@ -47,7 +47,7 @@ package_here law command v made m = by_values (values_of FILES command.values) r
 
 -- ---- what was made says that the information is allowed
 
-after_ok : {A B : Type 0} (r : Result A MakeFault) (next : A → Result B MakeFault) (y : B) → unless_refused r next ≡ Ok y → (x : A) × (r ≡ Ok x) × (next x ≡ Ok y)
+after_ok : {A B : Type 0} (r : Result A MakeFault) (next : A → Result B MakeFault) (y : B) → on_success r next ≡ Ok y → (x : A) × (r ≡ Ok x) × (next x ≡ Ok y)
 after_ok (Ok x) next y h = (x, refl, h)
 after_ok (Err why) next y h = cc
 
@@ -58,6 +58,6 @@ info_ok (Err place) about h = cc
 pub made_allowed : (command : CommandLine) (names : List (List ℕ)) (read : Reads) (file : List ℕ) → made_package command names read ≡ Ok file → is_ok (information command) ≡ true
 unfolding made_package
 made_allowed command names read file h =
-    let (scripts, one, more) = after_ok (scripts_from read 0 (values_of SCRIPT command.values)) (λ scripts. unless_refused (or_info_bad (information command)) (λ about. unless_refused (folders_below read (length scripts) (values_of FILES command.values) names) (package_of_parts command scripts about))) file h in
-    let (about, two, last) = after_ok (or_info_bad (information command)) (λ about. unless_refused (folders_below read (length scripts) (values_of FILES command.values) names) (package_of_parts command scripts about)) file more in
+    let (scripts, one, more) = after_ok (scripts_from read 0 (values_with SCRIPT command.values)) (λ scripts. on_success (or_info_bad (information command)) (λ about. on_success (folders_below read (length scripts) (values_with FILES command.values) names) (package_of_parts command scripts about))) file h in
+    let (about, two, last) = after_ok (or_info_bad (information command)) (λ about. on_success (folders_below read (length scripts) (values_with FILES command.values) names) (package_of_parts command scripts about)) file more in
     info_ok (information command) about two

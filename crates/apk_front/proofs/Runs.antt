@@ -8,7 +8,7 @@ use Rattle.base_core.specs.Crash.{IsOrderly, Since}
 use Rattle.base_core.specs.Files.{Files}
 use Rattle.base_core.specs.Tree.{TreeState, files_of}
 use Rattle.base_core.specs.declared.tree.TreeFault.{TreeFault}
-use Rattle.adb_schema.specs.Reserved.{is_reserved}
+use Rattle.adb_rules.specs.Reserved.{is_reserved}
 use Rattle.journal_core.specs.Recovery.{IsSettled, RestsOn, intent_name}
 use Rattle.journal_core.specs.Replacing.{HasRoom, HidesScratch, IsReadAs, IsReplacing, replaced_files}
 use Rattle.outcome.specs.Make.{make_outcome}

@@ -4,7 +4,7 @@ use Rattle.std.specs.declared.alloc.Global.{Global}
 use Rattle.adb_block.specs.Reading.{Reading, done, fault, more}
 use Rattle.adb_schema.specs.declared.read.ReadFault.{ReadFault}
 use Rattle.adb_schema.specs.declared.read.ReadFault.TheVariants as ReadFaults
-use Rattle.adb_schema.specs.declared.schema.Which.{Which}
+use Rattle.adb_tables.specs.declared.tables.Which.{Which}
 use Rattle.base_core.specs.Files.{Files}
 use Rattle.base_core.specs.declared.cause.Cause.{Cause}
 use Rattle.command_core.specs.Command.{CommandLine}
@@ -15,7 +15,7 @@ use Rattle.make_info.specs.Reads.{Reads}
 use Rattle.make_info.specs.declared.fault.MakeFault.{MakeFault}
 use Rattle.make_info.specs.declared.fault.MakeFault.TheVariants.{Disk, Memory}
 use Rattle.make_package.specs.Making.{made_package}
-use Rattle.make_package.specs.Sources.{AreNamesFor, values_of}
+use Rattle.make_package.specs.Sources.{AreNamesFor, values_with}
 use Rattle.outcome.specs.Commands.{reads_in}
 use Rattle.outcome.specs.Dump.{form_fault}
 use Rattle.outcome.specs.Make.{IsListing, mkndx, mkpkg}
@@ -70,7 +70,7 @@ OnMade (Err why) Means = is_cut why ≡ false → Means (Err why)
 pub record IsPackage (command : CommandLine) (files : Files) (made : Result (List ℕ) MakeFault) :
     Type 0 where
   pub names : List (List ℕ)
-  pub listing : IsListing (values_of FILES command.values) files names
+  pub listing : IsListing (values_with FILES command.values) files names
   pub is : made_package command names (reads_in files) ≡ made
 
 -- what `mkndx` makes
@@ -81,7 +81,7 @@ IsIndex command files made = made_index command (reads_in files) ≡ made
 abbrev pub IsPackageOutcome : CommandLine → Files → Outcome → Type 0
 IsPackageOutcome command files outcome =
     (names : List (List ℕ))
-    × IsListing (values_of FILES command.values) files names
+    × IsListing (values_with FILES command.values) files names
     × (outcome ≡ mkpkg (reads_in files) files command names)
 
 -- the outcome of `mkndx`
@@ -92,7 +92,7 @@ IsIndexOutcome command files outcome = outcome ≡ mkndx (reads_in files) files 
 
 pub record IsPackageFound (command : CommandLine) (made : Result (List ℕ) MakeFault) : Type 0 where
   pub names : List (List ℕ)
-  pub named : AreNamesFor (values_of FILES command.values) names
+  pub named : AreNamesFor (values_with FILES command.values) names
   pub read : Reads
   pub is : made_package command names read ≡ made
 

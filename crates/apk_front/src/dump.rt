@@ -1,7 +1,7 @@
 //! `adbdump`: a container is printed as text.
 ghost use Rattle.std.specs.Prelude.{◌≡◌, None, Ok, IsTrue, IfOk, IfErr, is_some, length};
 ghost use Rattle.adb_block.specs.Reading.{reading_of};
-ghost use Rattle.adb_schema.specs.Checked.{adb_of, table_of};
+ghost use Rattle.adb_tables.specs.Shaped.{adb_of, table_of};
 ghost use Rattle.adb_schema.specs.Soundness.{schema_word};
 ghost use Rattle.adb_view.specs.Adb.{payload_of};
 ghost use Rattle.adb_view.specs.Gives.{cause_of};

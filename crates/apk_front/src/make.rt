@@ -15,7 +15,7 @@ ghost use Rattle.command_core.specs.declared.values.TheConstants.{FILES};
 ghost use Rattle.make_index.specs.Files.{AreFiles};
 ghost use Rattle.make_info.specs.Output.{output_name};
 ghost use Rattle.make_info.specs.Reads.{Reads};
-ghost use Rattle.make_package.specs.Sources.{AreNamesFor, values_of};
+ghost use Rattle.make_package.specs.Sources.{AreNamesFor, values_with};
 ghost use Rattle.outcome.specs.Make.{index_line, make_outcome, mkndx, mkpkg, unless_reserved};
 ghost use Rattle.outcome.specs.Outcome.{Outcome, just_refusal};
 ghost use Rattle.report_core.specs.declared.refusal.Refusal.TheVariants.{ResultTooLarge};
@@ -45,7 +45,7 @@ pub(crate) fn mkpkg<T: Tree>(
     ensures found { IfOk result (λ verdict. IfObservable (T.history tree.old) (λ v.
         ReportsOne (IsPackageOutcome command.now (files_of v)) verdict)) }
     ensures by_reads { IfOk result (λ verdict. (names : List (List ℕ))
-        × AreNamesFor (values_of FILES command.now.values) names
+        × AreNamesFor (values_with FILES command.now.values) names
         × (read : Reads) × Reports verdict (mkpkg read no_names command.now names)) }
     ensures run { IfObservable (T.history tree.old) (λ v. IsRun
         (IsPackageOutcome command.now (files_of v)) false (output_name command.now)

@@ -1,3 +1,4 @@
 pub mod Entries
 pub mod Named
 pub mod Numbers
+pub mod Parts

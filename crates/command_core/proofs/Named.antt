@@ -39,7 +39,7 @@ pub record IsOperandFile (operands : List Operand) (i : ℕ) (e : OperandEntry) 
 pub operand_named : (entries : List OperandEntry) (operands : List Operand) (i : ℕ) (e : OperandEntry) → map (λ (x : OperandEntry). x.operand) entries ≡ operands → map (λ (x : OperandEntry). x.file) entries ≡ map (λ (x : OperandEntry). file_name x.operand.text) entries → slice_get entries i ≡ Some e → are_files operands ≡ true → IsOperandFile operands i e
 operand_named entries operands i e v a s h =
     let at : slice_get operands i ≡ Some e.operand =
-        ap (λ os. slice_get os i) (sym v) ∙ (slice_get-map (λ (x : OperandEntry). x.operand) entries i ∙ ap (option_map (λ (x : OperandEntry). x.operand)) s) in
+    ap (λ os. slice_get os i) (sym v) ∙ (slice_get-map (λ (x : OperandEntry). x.operand) entries i ∙ ap (option_map (λ (x : OperandEntry). x.operand)) s) in
     record {
       at = at;
       file = agree_at (λ (x : OperandEntry). x.file) (λ (x : OperandEntry). file_name x.operand.text) entries i e a s
@@ -55,9 +55,9 @@ pub record IsScriptFile (values : List OptionValue) (i : ℕ) (e : ValueEntry) :
 pub script_named : (entries : List ValueEntry) (values : List OptionValue) (i : ℕ) (e : ValueEntry) → map (λ (x : ValueEntry). x.value) entries ≡ values → map (λ (x : ValueEntry). x.file) entries ≡ map (λ (x : ValueEntry). file_in x.value) entries → slice_get entries i ≡ Some e → IfSome (slice_get values i) (λ v. v.letter ≡ SCRIPT × IsTrue (is_file (script_file v.text))) → IsScriptFile values i e
 script_named entries values i e v a s h =
     let at : slice_get values i ≡ Some e.value =
-        ap (λ vs. slice_get vs i) (sym v) ∙ (slice_get-map (λ (x : ValueEntry). x.value) entries i ∙ ap (option_map (λ (x : ValueEntry). x.value)) s) in
+    ap (λ vs. slice_get vs i) (sym v) ∙ (slice_get-map (λ (x : ValueEntry). x.value) entries i ∙ ap (option_map (λ (x : ValueEntry). x.value)) s) in
     let is : (e.value.letter ≡ SCRIPT) × (IsTrue (is_file (script_file e.value.text))) =
-        subst (λ o. IfSome o (λ (w : OptionValue). w.letter ≡ SCRIPT × IsTrue (is_file (script_file w.text)))) at h in
+    subst (λ o. IfSome o (λ (w : OptionValue). w.letter ≡ SCRIPT × IsTrue (is_file (script_file w.text)))) at h in
     record {
       at = at;
       file = agree_at (λ (x : ValueEntry). x.file) (λ (x : ValueEntry). file_in x.value) entries i e a s

@@ -2,6 +2,7 @@
 use Rattle.std.specs.Prelude.{ℕ, nat_le, Bool, ◌&&◌, if◌then◌else◌, List, length, take, drop, codes, Option, Some, None}
 use Rattle.std.specs.Str.{bytes_eq}
 use Rattle.base_core.specs.Name.{is_name}
+use Rattle.dep_core.specs.Repositories.{without_slash}
 
 -- a text without one leading `./`
 abbrev pub without_dot : List ℕ → List ℕ
@@ -19,10 +20,6 @@ file_name text = if is_file text then Some (without_dot text) else None
 abbrev pub is_output : List ℕ → Bool
 is_output text = is_file text && nat_le (length (without_dot text)) 1016
 
--- a text without one leading `/`
-abbrev pub without_leading_slash : List ℕ → List ℕ
-without_leading_slash text = if bytes_eq (take 1 text) (codes "/") then drop 1 text else text
-
--- whether a text is a path, as `info --who-owns` takes it
+-- whether a text is a path, as `info --who-owns` takes it: one leading `/` is dropped
 abbrev pub is_path : List ℕ → Bool
-is_path text = is_name (without_leading_slash text)
+is_path text = is_name (without_slash text)

@@ -3,7 +3,8 @@ ghost use Rattle.std.specs.Prelude.{◌≡◌, ◌==◌, IfOk, drop};
 ghost use Rattle.std.specs.Char.{is_ascii_digit};
 ghost use Rattle.std.specs.List.{list_all, list_any, position};
 ghost use Rattle.std.specs.Str.{bytes_eq};
-ghost use Rattle.command_core.specs.Files.{file_name, is_file, is_output, is_path, without_dot, without_leading_slash};
+ghost use Rattle.dep_core.specs.Repositories.{without_slash};
+ghost use Rattle.command_core.specs.Files.{file_name, is_file, is_output, is_path, without_dot};
 ghost use Rattle.command_core.specs.Operands.{has_zero_in_front, is_decimal, is_demo_number};
 ghost use Rattle.command_core.specs.Values.{is_script, script_file, script_type, script_types};
 
@@ -67,17 +68,16 @@ pub(crate) fn is_output(text: &[u8]) -> bool
 pub(crate) fn is_path(text: &[u8]) -> bool
     ensures { result ≡ is_path text.now }
 {
-    is_name(without_leading_slash(text))
+    is_name(without_slash(text))
 }
 
 // A text without one leading `/`.
-fn without_leading_slash(text: &[u8]) -> &[u8]
-    ensures { result.now ≡ without_leading_slash text.now }
+fn without_slash(text: &[u8]) -> &[u8]
+    ensures { result.now ≡ without_slash text.now }
 {
-    if text.starts_with(b"/".as_slice()) {
-        &text[1..]
-    } else {
-        text
+    match text.split_first() {
+        Some((b'/', rest)) => rest,
+        _ => text,
     }
 }
 

@@ -7,10 +7,10 @@ use Rattle.base_core.specs.Tree.{TreeState}
 use Rattle.base_core.specs.Crash.{IsImage, IsOrderly}
 use Rattle.base_core.specs.declared.cause.Cause.{Cause}
 use Rattle.adb_view.specs.Plain.{Plain}
-use Rattle.adb_schema.specs.Repeated.{entries_at}
+use Rattle.adb_fields.specs.Repeated.{entries_at}
 use Rattle.adb_schema.specs.Soundness.{first_fault, payload_in, root_value}
-use Rattle.adb_schema.specs.Views.{text_in}
-use Rattle.adb_schema.specs.declared.schema.Which.TheVariants.{Intent as IntentTable}
+use Rattle.adb_tables.specs.Values.{text_in}
+use Rattle.adb_tables.specs.declared.tables.Which.TheVariants.{Intent as IntentTable}
 
 -- ---- names
 

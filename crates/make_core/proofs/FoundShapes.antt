@@ -1,7 +1,7 @@
 -- A value that is found in a payload has the shape that it was looked for under.
 use Rattle.std.proofs.Common.{◌≡◌, ℕ, Bool, true, false, if◌then◌else◌, eqb, List, [], ◌∷◌, Option, Some, None, option_map, Result, Ok, Err, refl, subst}
 use Rattle.base_core.specs.declared.cause.Cause.{Cause}
-use Rattle.adb_view.specs.Plain.{Plain, null, int, Plains, none, more, Shape, number, text, hash, array, object, Fields, no_fields, field, blob_value, arr_value, obj_value, found, then_more, each_plain, plain_of, plains_of}
+use Rattle.adb_view.specs.Plain.{Plain, null, int, Plains, none, more, Shape, number, text, hash, array, object, Fields, no_fields, field, blob_value, arr_value, obj_value, from_answer, then_more, each_plain, plain_of, plains_of}
 use Rattle.adb_view.specs.Readers.{int_of, blob_of, run_of, ARRAY, OBJECT}
 use Rattle.adb_view.specs.Shaped.{Each, HasShape, HaveShapes}
 use Rattle.make_core.proofs.GoodValues.{arr_value-shaped, blob_value-hash, blob_value-text, obj_value-shaped}
@@ -22,7 +22,7 @@ pub record IsFoundBy {A B : Type 0} (f : A → Option B) (r : Result A Cause) (y
   pub x : A
   pub gives : f x ≡ Some y
 
-found_by : {A B : Type 0} (f : A → Option B) (r : Result A Cause) (y : B) → found f r ≡ Some y → IsFoundBy f r y
+found_by : {A B : Type 0} (f : A → Option B) (r : Result A Cause) (y : B) → from_answer f r ≡ Some y → IsFoundBy f r y
 found_by f (Ok x) y e = record { x = x; gives = e }
 found_by f (Err c) y e = absurd cc
 

@@ -4,13 +4,13 @@ use Rattle.std.specs.Prelude.{All}
 use Rattle.sha2.proofs.Facts256.{length-sha256}
 use Rattle.adb_view.specs.Plain.{Plain, int, blob, obj, Plains, Shape, number, hash, object, Fields}
 use Rattle.adb_view.specs.Shaped.{HasShape, HaveShapes}
-use Rattle.adb_schema.specs.Schema.{shape_of, shapes_of, table}
-use Rattle.adb_schema.specs.Texts.{Around, number_leaf, text_leaf, at_root, inside_of, leaves, field_leaves, first_bad, is_package_hash, text_rule}
-use Rattle.adb_schema.specs.Views.{nth, entries_in, entry_in}
+use Rattle.adb_tables.specs.Schema.{shape_of, shapes_of, table}
+use Rattle.adb_rules.specs.Texts.{Surroundings, number_leaf, text_leaf, at_root, inside_of, leaves, field_leaves, first_bad, is_package_hash, text_rule}
+use Rattle.adb_tables.specs.Values.{nth, entries_in, entry_in}
 use Rattle.adb_schema.specs.Soundness.{payload_in}
-use Rattle.adb_schema.specs.declared.schema.Which.{Which}
-use Rattle.adb_schema.specs.declared.schema.Which.TheVariants.{Dep, Package, PkgInfo, Index}
-use Rattle.adb_schema.specs.declared.schema.Kind.TheVariants.{Obj}
+use Rattle.adb_tables.specs.declared.tables.Which.{Which}
+use Rattle.adb_tables.specs.declared.tables.Which.TheVariants.{Dep, Package, PkgInfo, Index}
+use Rattle.adb_tables.specs.declared.tables.Kind.TheVariants.{Obj}
 use Rattle.pkg_core.specs.Whole.{package_fault, package_id, package_of}
 use Rattle.make_index.specs.Entries.{entry_of_package, entry_value, with_at}
 use Rattle.make_core.proofs.Blind.{AreBlind, AreBlindBut, IsBlind, turned_but}
@@ -43,7 +43,7 @@ info_shaped v o =
     let shapes = entries_shaped 7 (shapes_of (table Package)) v o.shaped in
     entries_shaped 3 infos (entry_in v 0) (part_shaped (shapes_of (table Package)) 0 (shape_of (Obj PkgInfo)) (entries_in v) refl shapes)
 
-abbrev around_info : Plain → Around
+abbrev around_info : Plain → Surroundings
 around_info v = inside_of 3 (inside_of 7 (at_root Package) v) (entry_in v 0)
 
 info_kept : (v : Plain) → IsOpened v → first_bad (field_leaves infos 301 (around_info v) (entries_in (entry_in v 0))) ≡ None
@@ -52,15 +52,15 @@ info_kept v o = part_kept (shapes_of (table Package)) 0 (shape_of (Obj PkgInfo))
 
 -- ---- its hash and its length
 
-id_here : (a : Around) (id : List ℕ) → length id ≡ 32 → a.root ≡ Package → first_bad (leaves hash 303 a (blob id)) ≡ None
+id_here : (a : Surroundings) (id : List ℕ) → length id ≡ 32 → a.root ≡ Package → first_bad (leaves hash 303 a (blob id)) ≡ None
 unfolding leaves text_rule
 id_here a id len root = good_leaf (text_leaf 303 a id) (ap (λ (w : Which). is_package_hash w (length id)) root ∙ ap (is_package_hash Package) len)
 
-id_there : (a : Around) (id : List ℕ) → length id ≡ 32 → a.root ≡ Index → first_bad (leaves hash 303 a (blob id)) ≡ None
+id_there : (a : Surroundings) (id : List ℕ) → length id ≡ 32 → a.root ≡ Index → first_bad (leaves hash 303 a (blob id)) ≡ None
 unfolding leaves text_rule
 id_there a id len root = good_leaf (text_leaf 303 a id) (ap (λ (w : Which). is_package_hash w (length id)) root ∙ ap (is_package_hash Index) len)
 
-len_here : (a : Around) (n : ℕ) → first_bad (leaves number 313 a (int n)) ≡ None
+len_here : (a : Surroundings) (n : ℕ) → first_bad (leaves number 313 a (int n)) ≡ None
 unfolding leaves
 len_here a n = good_leaf (number_leaf 313 n) refl
 
@@ -102,7 +102,7 @@ both_ints vs id len small h = placed_ints 12 (int len) (with_at 2 (blob id) vs) 
 id_stands : (vs : Plains) (id : List ℕ) (len : ℕ) → nth (with_both vs id len) 2 ≡ blob id
 id_stands vs id len = placed_later 2 12 (int len) (with_at 2 (blob id) vs) (lit< tt) ∙ placed_there 2 (blob id) vs
 
-both_kept : (a b : Around) (vs : Plains) (id : List ℕ) (len : ℕ) → length id ≡ 32 → a.root ≡ Package → b.root ≡ Index
+both_kept : (a b : Surroundings) (vs : Plains) (id : List ℕ) (len : ℕ) → length id ≡ 32 → a.root ≡ Package → b.root ≡ Index
     → first_bad (field_leaves infos 301 a vs) ≡ None → first_bad (field_leaves infos 301 b (with_both vs id len)) ≡ None
 unfolding shape_of
 both_kept a b vs id len long here there h =
@@ -113,7 +113,7 @@ both_kept a b vs id len long here there h =
 
 -- ---- the entry
 
-entry_by : (v : Plain) (id : List ℕ) (len place : ℕ) (around : Around) → IsOpened v → length id ≡ 32 → len < 2 ^ 64 → around.root ≡ Index
+entry_by : (v : Plain) (id : List ℕ) (len place : ℕ) (around : Surroundings) → IsOpened v → length id ≡ 32 → len < 2 ^ 64 → around.root ≡ Index
     → IsGood (shape_of (Obj PkgInfo)) place around (entry_value (entry_in v 0) id len)
 unfolding shape_of leaves entry_value
 entry_by v id len place around o long small root =
@@ -128,7 +128,7 @@ entry_by v id len place around o long small root =
       kept = ap first_bad (zeros_leaves (object 3 infos) place around (obj us) shaped) ∙ kept;
     }
 
-pub entry_good : Values → (file : List ℕ) (place : ℕ) (around : Around) → All (λ b. b < 256) file → length file < 2 ^ 64 → around.root ≡ Index → package_fault file ≡ None
+pub entry_good : Values → (file : List ℕ) (place : ℕ) (around : Surroundings) → All (λ b. b < 256) file → length file < 2 ^ 64 → around.root ≡ Index → package_fault file ≡ None
     → IsGood (shape_of (Obj PkgInfo)) place around (entry_of_package file)
 entry_good laws file place around bytes small root e =
     entry_by (package_of file).value (package_id file) (length file) place around (opened laws file bytes e) (length-sha256 (payload_in file)) small root

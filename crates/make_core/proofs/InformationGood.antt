@@ -15,10 +15,10 @@ use Rattle.dep_core.specs.ValueReading.{dependency_of_value}
 use Rattle.command_core.specs.declared.values.OptionValue.{OptionValue}
 use Rattle.adb_view.specs.Plain.{Plain, null, Plains, none, more, text as text_shape, hash, number as number_shape, array, blob_value, obj_value}
 use Rattle.adb_view.specs.Shaped.{Each}
-use Rattle.adb_schema.specs.Schema.{shape_of, shapes_of, table}
-use Rattle.adb_schema.specs.Texts.{Around, inside_of, number_rule, text_rule}
-use Rattle.adb_schema.specs.declared.schema.Which.TheVariants.{Dep, PkgInfo}
-use Rattle.adb_schema.specs.declared.schema.Kind.TheVariants.{Obj}
+use Rattle.adb_tables.specs.Schema.{shape_of, shapes_of, table}
+use Rattle.adb_rules.specs.Texts.{Surroundings, inside_of, number_rule, text_rule}
+use Rattle.adb_tables.specs.declared.tables.Which.TheVariants.{Dep, PkgInfo}
+use Rattle.adb_tables.specs.declared.tables.Kind.TheVariants.{Obj}
 use Rattle.make_info.specs.declared.field.Field.{Field}
 use Rattle.make_info.specs.declared.field.Field.TheVariants as Fields
 use Rattle.make_info.specs.declared.field.Kind.{Kind}
@@ -40,7 +40,7 @@ pub record Needs : Type 0 where
 
 abbrev pub AreItems : List InfoItem → Type 0
 AreItems [] = Unit {0}
-AreItems (item ∷ items) = IsSaidAs (kind_of_field item.field) item.said × AreItems items
+AreItems (item ∷ items) = IsSaidAs (kind_of_field item.field) item.value × AreItems items
 
 items_append : (xs ys : List InfoItem) → AreItems xs → AreItems ys → AreItems (xs ++ ys)
 items_append [] ys a b = b
@@ -171,14 +171,14 @@ information_good values behind items e =
 
 abbrev IsFound : Field → Option InfoItem → Type 0
 IsFound f None = Unit {0}
-IsFound f (Some item) = IsSaidAs (kind_of_field f) item.said
+IsFound f (Some item) = IsSaidAs (kind_of_field f) item.value
 
 found : (f : Field) (items : List InfoItem) → AreItems items → IsFound f (find (is_item_for f) items)
 found f [] h = tt
 found f (item ∷ items) h = by_field (is_item_for f item) refl (found f items h.1)
   where
     by_field : (b : Bool) → is_item_for f item ≡ b → IsFound f (find (is_item_for f) items) → IsFound f (cond b (Some item) (find (is_item_for f) items))
-    by_field true is further = subst (λ (k : Kind). IsSaidAs k item.said) (same_kind item.field f is) h.0
+    by_field true is further = subst (λ (k : Kind). IsSaidAs k item.value) (same_kind item.field f is) h.0
     by_field false is further = further
 
 there : (f : Field) (items : List InfoItem) → list_any (is_item_for f) items ≡ true → is_some (find (is_item_for f) items) ≡ true
@@ -191,14 +191,14 @@ there f (item ∷ items) e = by_field (is_item_for f item) (there f items) e
 
 single_by : (P : Plain → Type 0) (f : Field) (o : Option InfoItem) → IsFound f o → P null → ((s : FieldValue) → IsSaidAs (kind_of_field f) s → P (plain_value s)) → P (item_value o)
 single_by P f None h lacking good = lacking
-single_by P f (Some item) h lacking good = good item.said h
+single_by P f (Some item) h lacking good = good item.value h
 
 single_good : (P : Plain → Type 0) (f : Field) (items : List InfoItem) → AreItems items → P null → ((s : FieldValue) → IsSaidAs (kind_of_field f) s → P (plain_value s)) → P (value_of_single f items)
 single_good P f items h lacking good = single_by P f (find (is_item_for f) items) (found f items h) lacking good
 
 given_by_some : (P : Plain → Type 0) (f : Field) (o : Option InfoItem) → IsFound f o → is_some o ≡ true → ((s : FieldValue) → IsSaidAs (kind_of_field f) s → P (plain_value s)) → P (item_value o)
 given_by_some P f None h some good = absurd (cc (some))
-given_by_some P f (Some item) h some good = good item.said h
+given_by_some P f (Some item) h some good = good item.value h
 
 given_single : (P : Plain → Type 0) (f : Field) (items : List InfoItem) → AreItems items → list_any (is_item_for f) items ≡ true → ((s : FieldValue) → IsSaidAs (kind_of_field f) s → P (plain_value s)) → P (value_of_single f items)
 given_single P f items h any good = given_by_some P f (find (is_item_for f) items) (found f items h) (there f items any) good
@@ -207,43 +207,43 @@ values_good : (P : Plain → Type 0) (f : Field) (items : List InfoItem) → Are
 values_good P f [] h good = tt
 values_good P f (item ∷ items) h good = by_field (is_item_for f item) refl (values_good P f items h.1 good)
   where
-    by_field : (b : Bool) → is_item_for f item ≡ b → Each P (plains_for f items) → Each P (if b then more (plain_value item.said) (plains_for f items) else plains_for f items)
-    by_field true is further = (good item.said (subst (λ (k : Kind). IsSaidAs k item.said) (same_kind item.field f is) h.0), further)
+    by_field : (b : Bool) → is_item_for f item ≡ b → Each P (plains_for f items) → Each P (if b then more (plain_value item.value) (plains_for f items) else plains_for f items)
+    by_field true is further = (good item.value (subst (λ (k : Kind). IsSaidAs k item.value) (same_kind item.field f is) h.0), further)
     by_field false is further = further
 
 -- ---- the values of what is said
 
-name_good : (a : Around) (s : FieldValue) → IsSaidAs Kinds.PackageName s → IsGood text_shape 301 a (plain_value s)
+name_good : (a : Surroundings) (s : FieldValue) → IsSaidAs Kinds.PackageName s → IsGood text_shape 301 a (plain_value s)
 unfolding text_rule
 name_good a (text b) h = text_good 301 a b h
 name_good a (number n) h = absurd h
 name_good a (need d) h = absurd h
 
-version_good : (a : Around) (s : FieldValue) → IsSaidAs Kinds.PackageVersion s → IsGood text_shape 302 a (plain_value s)
+version_good : (a : Surroundings) (s : FieldValue) → IsSaidAs Kinds.PackageVersion s → IsGood text_shape 302 a (plain_value s)
 unfolding text_rule
 version_good a (text b) h = text_good 302 a b h
 version_good a (number n) h = absurd h
 version_good a (need d) h = absurd h
 
 abbrev IsFree : ℕ → Type 0
-IsFree place = (a : Around) (b : List ℕ) → text_rule place a b ≡ true
+IsFree place = (a : Surroundings) (b : List ℕ) → text_rule place a b ≡ true
 
-any_text : (place : ℕ) (a : Around) → IsFree place → (s : FieldValue) → IsSaidAs Kinds.AnyText s → IsGood text_shape place a (plain_value s)
+any_text : (place : ℕ) (a : Surroundings) → IsFree place → (s : FieldValue) → IsSaidAs Kinds.AnyText s → IsGood text_shape place a (plain_value s)
 any_text place a free (text b) h = text_good place a b (free a b)
 any_text place a free (number n) h = absurd h
 any_text place a free (need d) h = absurd h
 
-tag_text : (place : ℕ) (a : Around) → IsFree place → (s : FieldValue) → IsSaidAs Kinds.Texts s → IsGood text_shape place a (plain_value s)
+tag_text : (place : ℕ) (a : Surroundings) → IsFree place → (s : FieldValue) → IsSaidAs Kinds.Texts s → IsGood text_shape place a (plain_value s)
 tag_text place a free (text b) h = text_good place a b (free a b)
 tag_text place a free (number n) h = absurd h
 tag_text place a free (need d) h = absurd h
 
-hex_bytes : (place : ℕ) (a : Around) → IsFree place → (s : FieldValue) → IsSaidAs Kinds.HexDigits s → IsGood hash place a (plain_value s)
+hex_bytes : (place : ℕ) (a : Surroundings) → IsFree place → (s : FieldValue) → IsSaidAs Kinds.HexDigits s → IsGood hash place a (plain_value s)
 hex_bytes place a free (text b) h = hash_good place a b (free a b)
 hex_bytes place a free (number n) h = absurd h
 hex_bytes place a free (need d) h = absurd h
 
-any_number : (place : ℕ) (a : Around) → ((n : ℕ) → number_rule place n ≡ true) → (s : FieldValue) → IsSaidAs Kinds.Number s → IsGood number_shape place a (plain_value s)
+any_number : (place : ℕ) (a : Surroundings) → ((n : ℕ) → number_rule place n ≡ true) → (s : FieldValue) → IsSaidAs Kinds.Number s → IsGood number_shape place a (plain_value s)
 any_number place a free (text b) h = absurd h
 any_number place a free (number n) h = number_good place a n h (free n)
 any_number place a free (need d) h = absurd h
@@ -251,7 +251,7 @@ any_number place a free (need d) h = absurd h
 small_matching : (n : ℕ) → is_matching n ≡ true → n < 2 ^ 64
 small_matching n e = let lt = ltb-true n 32 (and_parts (nat_lt n 32) _ e).0 in omega arith
 
-matching_good : (a : Around) (o : Option ℕ) → is_matching (unwrap_or o 0) ≡ true → IsGood number_shape 103 a (number_value o)
+matching_good : (a : Surroundings) (o : Option ℕ) → is_matching (unwrap_or o 0) ≡ true → IsGood number_shape 103 a (number_value o)
 matching_good a None e = null_number 103 a e
 matching_good a (Some n) e = number_good 103 a n (small_matching n e) e
 
@@ -263,17 +263,17 @@ need_parts : (name version : List ℕ) (m : ℕ) (d : Dependency) → dependency
 unfolding dependency_of_value
 need_parts name version m d e = if_some _ _ d e
 
-need_good : Needs → (place : ℕ) (a : Around) (d : Dependency) → IsNeed d → IsGood (shape_of (Obj Dep)) place a (need_value (dep_value d))
+need_good : Needs → (place : ℕ) (a : Surroundings) (d : Dependency) → IsNeed d → IsGood (shape_of (Obj Dep)) place a (need_value (dep_value d))
 unfolding shape_of text_rule
 need_good needs place a d (part, is, if_untagged) =
     let v : DepValue = dep_value d in
     let all = and_parts (is_dep_name v.name) (is_version_or_empty v.version && is_matching (unwrap_or v.matching 0)) (need_parts v.name v.version (unwrap_or v.matching 0) d (needs.back d (needs.spelled part d is).0 if_untagged)) in
     let both = and_parts (is_version_or_empty v.version) (is_matching (unwrap_or v.matching 0)) all.1 in
     let vs : Plains = more (blob_value v.name) (more (blob_value v.version) (more (number_value v.matching) none)) in
-    let inside : Around = inside_of 1 a (obj_value vs) in
+    let inside : Surroundings = inside_of 1 a (obj_value vs) in
     obj_good 1 (shapes_of (table Dep)) place a inside vs refl (text_good 101 inside v.name all.0, (text_good 102 inside v.version both.0, (matching_good inside v.matching both.1, tt)))
 
-a_need : Needs → (place : ℕ) (a : Around) (s : FieldValue) → IsSaidAs Kinds.Dependencies s → IsGood (shape_of (Obj Dep)) place a (plain_value s)
+a_need : Needs → (place : ℕ) (a : Surroundings) (s : FieldValue) → IsSaidAs Kinds.Dependencies s → IsGood (shape_of (Obj Dep)) place a (plain_value s)
 a_need needs place a (text b) h = absurd h
 a_need needs place a (number n) h = absurd h
 a_need needs place a (need d) h = need_good needs place a d h
@@ -281,15 +281,15 @@ a_need needs place a (need d) h = need_good needs place a d h
 -- ---- all of them
 
 module _ (needs : Needs) (items : List InfoItem) (is : IsInformation items) where
-  text_at : (place : ℕ) (a : Around) (f : Field) → kind_of_field f ≡ Kinds.AnyText → IsFree place → IsGood text_shape place a (value_of_single f items)
+  text_at : (place : ℕ) (a : Surroundings) (f : Field) → kind_of_field f ≡ Kinds.AnyText → IsFree place → IsGood text_shape place a (value_of_single f items)
   text_at place a f k free =
       single_good (IsGood text_shape place a) f items is.good (text_good place a [] (free a [])) (λ s h. any_text place a free s (subst (λ (kind : Kind). IsSaidAs kind s) k h))
 
-  number_at : (place : ℕ) (a : Around) (f : Field) → kind_of_field f ≡ Kinds.Number → ((n : ℕ) → number_rule place n ≡ true) → IsGood number_shape place a (value_of_single f items)
+  number_at : (place : ℕ) (a : Surroundings) (f : Field) → kind_of_field f ≡ Kinds.Number → ((n : ℕ) → number_rule place n ≡ true) → IsGood number_shape place a (value_of_single f items)
   number_at place a f k free =
       single_good (IsGood number_shape place a) f items is.good (null_number place a (free 0)) (λ s h. any_number place a free s (subst (λ (kind : Kind). IsSaidAs kind s) k h))
 
-  needs_at : (place : ℕ) (a : Around) (f : Field) → kind_of_field f ≡ Kinds.Dependencies → IsGood (array (shape_of (Obj Dep))) place a (value_of_list f items)
+  needs_at : (place : ℕ) (a : Surroundings) (f : Field) → kind_of_field f ≡ Kinds.Dependencies → IsGood (array (shape_of (Obj Dep))) place a (value_of_list f items)
   needs_at place a f k =
       arr_good (shape_of (Obj Dep)) place a (plains_for f items)
       (values_good (IsGood (shape_of (Obj Dep)) place a) f items is.good (λ s h. a_need needs place a s (subst (λ (kind : Kind). IsSaidAs kind s) k h)))
@@ -297,7 +297,7 @@ module _ (needs : Needs) (items : List InfoItem) (is : IsInformation items) wher
   pub info_good : (size : ℕ) → size < 2 ^ 64 → IsGood (shape_of (Obj PkgInfo)) 701 around_folder (information_value items size)
   unfolding shape_of text_rule information_value
   info_good size small =
-      let a : Around = inside_of 3 around_folder (obj_value (information_fields items size)) in
+      let a : Surroundings = inside_of 3 around_folder (obj_value (information_fields items size)) in
       obj_good 3 (shapes_of (table PkgInfo)) 701 around_folder a (information_fields items size) refl (
         given_single (IsGood text_shape 301 a) Fields.Name items is.good is.name (name_good a),
         (
@@ -363,9 +363,9 @@ module _ (needs : Needs) (items : List InfoItem) (is : IsInformation items) wher
         ),
       )
 
-  priority_by : (o : Option InfoItem) → IsFound Fields.ReplacesPriority o → IsGood number_shape 705 around_folder (number_value (option_and_then (λ (item : InfoItem). number_in item.said) o))
+  priority_by : (o : Option InfoItem) → IsFound Fields.ReplacesPriority o → IsGood number_shape 705 around_folder (number_value (option_and_then (λ (item : InfoItem). number_in item.value) o))
   priority_by None h = null_number 705 around_folder refl
-  priority_by (Some item) h = by_said item.said h
+  priority_by (Some item) h = by_said item.value h
     where
       by_said : (s : FieldValue) → IsSaidAs Kinds.Number s → IsGood number_shape 705 around_folder (number_value (number_in s))
       by_said (text b) h = absurd h

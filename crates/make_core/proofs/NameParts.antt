@@ -8,8 +8,8 @@ use Rattle.std.proofs.lemmas.List.Folds.{list_all-append, list_any-append}
 use Rattle.std.proofs.lemmas.List.Sums.{suffix_len_is}
 use Rattle.std.proofs.lemmas.Str.{IsCharBoundary-after_ascii, IsCharBoundary-before_ascii, IsUtf8-drop, IsUtf8-from_is_utf8, IsUtf8-take, is_utf8-from_IsUtf8}
 use Rattle.base_core.specs.Name.{is_name, is_part, parts_of}
-use Rattle.adb_schema.specs.Reserved.{path_of}
-use Rattle.adb_schema.specs.Rules.{is_file_name, is_folder_name, is_one_part}
+use Rattle.adb_fields.specs.Paths.{path_of}
+use Rattle.adb_rules.specs.Rules.{is_file_name, is_folder_name, is_one_part}
 use Rattle.make_package.specs.Folders.{folder_of, is_slash, last_part_of}
 
 -- ---- the parts on both sides

@@ -7,8 +7,8 @@ use Rattle.std.proofs.lemmas.Slice.Eq.{bytes_eq-Decides}
 use Rattle.sha2.specs.Sha256.{sha256}
 use Rattle.sha2.proofs.Facts256.{length-sha256}
 use Rattle.adb_view.specs.Plain.{Plain}
-use Rattle.adb_schema.specs.Texts.{is_with_contents}
-use Rattle.adb_schema.specs.Views.{entry_in, int_in, text_in}
+use Rattle.adb_rules.specs.Texts.{is_with_contents}
+use Rattle.adb_tables.specs.Values.{entry_in, int_in, text_in}
 use Rattle.pkg_core.specs.Contents.{AreContentsOf, Contents, Expected, expected_at, expected_contents, files_from, folders_from, hash_fault}
 use Rattle.make_package.specs.Package.{Script, Source, SourceFolder, contents_of_file, contents_of_files, contents_of_folders, kind_of_file, value_of_kind, value_of_file, value_of_folder, has_contents, installed_size, is_link_file, link_text, value_of_package, size_of_folder, size_of_kind}
 use Rattle.make_package.specs.declared.file.FileKind.{FileKind}

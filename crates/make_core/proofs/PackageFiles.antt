@@ -8,13 +8,13 @@ use Rattle.sha2.specs.Sha256.{sha256}
 use Rattle.sha2.proofs.Facts256.{length-sha256}
 use Rattle.adb_view.specs.Plain.{Plain, null, int, Plains, none, more, number, text, blob_value, arr_value, obj_value}
 use Rattle.adb_view.specs.Shaped.{Each}
-use Rattle.adb_schema.specs.Repeated.{files_in, folders_in, list_of}
-use Rattle.adb_schema.specs.Rules.{is_digest_length, is_digest_length_or_none, is_file_name, is_folder_name, is_target}
-use Rattle.adb_schema.specs.Schema.{shape_of, shapes_of, table}
-use Rattle.adb_schema.specs.Texts.{Around, at_root, inside_of, is_file_hash, number_rule, text_rule}
-use Rattle.adb_schema.specs.Views.{entries_in, entry_in, int_in, text_in}
-use Rattle.adb_schema.specs.declared.schema.Which.TheVariants.{Acl, File, Dir, Scripts, PkgInfo, Package}
-use Rattle.adb_schema.specs.declared.schema.Kind.TheVariants.{Obj}
+use Rattle.adb_fields.specs.Repeated.{files_in, folders_in, list_of}
+use Rattle.adb_rules.specs.Rules.{is_digest_length, is_digest_length_or_none, is_file_name, is_folder_name, is_target}
+use Rattle.adb_tables.specs.Schema.{shape_of, shapes_of, table}
+use Rattle.adb_rules.specs.Texts.{Surroundings, at_root, inside_of, is_file_hash, number_rule, text_rule}
+use Rattle.adb_tables.specs.Values.{entries_in, entry_in, int_in, text_in}
+use Rattle.adb_tables.specs.declared.tables.Which.TheVariants.{Acl, File, Dir, Scripts, PkgInfo, Package}
+use Rattle.adb_tables.specs.declared.tables.Kind.TheVariants.{Obj}
 use Rattle.command_core.specs.Values.{script_types}
 use Rattle.make_package.specs.Package.{Source, SourceFolder, Script, access_value, kind_of_file, value_of_kind, value_of_file, value_of_folder, hash_of_kind, is_link_file, link_text, value_of_package, script_in, value_of_scripts, size_of_kind, target_of_kind}
 use Rattle.make_info.specs.Values.{number_value, plains_of, size_value}
@@ -79,29 +79,29 @@ pub int-size_value : (n : ℕ) → int_in (size_value n) ≡ n
 int-size_value zero = refl
 int-size_value (suc n) = ap int_in (size-suc n)
 
-pub size_good : (place : ℕ) (around : Around) (n : ℕ) → n < 2 ^ 64 → ((k : ℕ) → number_rule place k ≡ true) → IsGood number place around (size_value n)
+pub size_good : (place : ℕ) (around : Surroundings) (n : ℕ) → n < 2 ^ 64 → ((k : ℕ) → number_rule place k ≡ true) → IsGood number place around (size_value n)
 size_good place around zero small free = null_number place around (free 0)
 size_good place around (suc n) small free = subst (IsGood number place around) (sym (size-suc n)) (number_good place around (suc n) small (free (suc n)))
 
-acl_good : (mode place : ℕ) (around : Around) → mode < 2 ^ 64 → IsGood (shape_of (Obj Acl)) place around (access_value mode)
+acl_good : (mode place : ℕ) (around : Surroundings) → mode < 2 ^ 64 → IsGood (shape_of (Obj Acl)) place around (access_value mode)
 unfolding shape_of text_rule
 acl_good mode place around small =
     let root : List ℕ = codes "root" in
     let vs : Plains = more (int mode) (more (blob_value root) (more (blob_value root) none)) in
-    let inside : Around = inside_of 2 around (obj_value vs) in
+    let inside : Surroundings = inside_of 2 around (obj_value vs) in
     obj_good 2 (shapes_of (table Acl)) place around inside vs refl
     (number_good 201 inside mode small refl, (text_good 202 inside root refl, (text_good 203 inside root refl, (null_array text 204 inside, tt))))
 
 -- ---- a file
 
 -- around the files of a folder
-abbrev pub in_folder : List ℕ → Around
+abbrev pub in_folder : List ℕ → Surroundings
 in_folder name = record { root = Package; folder = name; has_contents = false }
 
 abbrev pub with_contents : FileKind → Bool
 with_contents kind = (length (target_of_kind kind) == 0) && nat_lt 0 (size_of_kind kind)
 
-abbrev around_file : List ℕ → FileKind → Around
+abbrev around_file : List ℕ → FileKind → Surroundings
 around_file folder kind = record { root = Package; folder = folder; has_contents = with_contents kind }
 
 abbrev file_fields : List ℕ → FileKind → Plains
@@ -150,7 +150,7 @@ size_small (Regular size digest) good = good.0
 pub file_good : (folder name : List ℕ) (kind : FileKind) → is_file_name folder name ≡ true → IsGoodKind kind → IsGood (shape_of (Obj File)) 503 (in_folder folder) (value_of_kind name kind)
 unfolding shape_of text_rule
 file_good folder name kind named good =
-    let inside : Around = around_file folder kind in
+    let inside : Surroundings = around_file folder kind in
     obj_good 4 (shapes_of (table File)) 503 (in_folder folder) inside (file_fields name kind) (file_inside folder name kind) (
       text_good 401 inside name (both_true (is_file_name folder name) true named refl),
       (
@@ -182,7 +182,7 @@ files_good : (folder : List ℕ) (files : List Source) → AreGoodFiles folder f
 files_good folder [] good = tt
 files_good folder (file ∷ files) good = (file_good folder file.name (kind_of_file file.bytes) good.0 (good_kind file.bytes good.1), files_good folder files good.2)
 
-abbrev pub around_folder : Around
+abbrev pub around_folder : Surroundings
 around_folder = record { root = Package; folder = []; has_contents = false }
 
 abbrev folder_fields : SourceFolder → Plains
@@ -198,7 +198,7 @@ folder_inside folder =
 pub folder_good : (folder : SourceFolder) → is_folder_name folder.name ≡ true → AreGoodFiles folder.name folder.files → IsGood (shape_of (Obj Dir)) 702 around_folder (value_of_folder folder)
 unfolding shape_of text_rule
 folder_good folder named files =
-    let inside : Around = in_folder folder.name in
+    let inside : Surroundings = in_folder folder.name in
     obj_good 5 (shapes_of (table Dir)) 702 around_folder inside (folder_fields folder) (folder_inside folder) (
       text_good 501 inside folder.name named,
       (
@@ -221,7 +221,7 @@ scripts_good : (scripts : List Script) → IsGood (shape_of (Obj Scripts)) 703 a
 unfolding shape_of text_rule
 scripts_good scripts =
     let vs : Plains = plains_of (map (λ field. blob_value (script_in scripts field)) script_types) in
-    let inside : Around = inside_of 6 around_folder (obj_value vs) in
+    let inside : Surroundings = inside_of 6 around_folder (obj_value vs) in
     let of : List ℕ → List ℕ = script_in scripts in
     obj_good 6 (shapes_of (table Scripts)) 703 around_folder inside vs refl (
       text_good 601 inside (of (codes "trigger")) refl,

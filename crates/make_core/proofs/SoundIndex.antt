@@ -1,18 +1,18 @@
 -- An index that is made is sound.
 use Rattle.std.proofs.Common.{◌≡◌, ◌≢◌, ℕ, ◌+◌, ◌^◌, ◌<◌, Bool, true, false, if◌then◌else◌, List, [], ◌∷◌, length, Option, Some, None, Result, Ok, Err, refl, ap, sym, ◌∙◌, subst}
-use Rattle.adb_schema.specs.declared.schema.Which.{Which}
+use Rattle.adb_tables.specs.declared.tables.Which.{Which}
 use Rattle.std.specs.Prelude.{All}
 use Rattle.std.specs.Ordering.{is_gt}
 use Rattle.std.specs.declared.cmp.Ordering.{Ordering}
 use Rattle.base_core.specs.declared.cause.Cause.{Cause}
 use Rattle.adb_view.specs.Plain.{Plain, Plains, none, more, arr_value, blob_value, obj_value}
 use Rattle.adb_view.specs.Shaped.{Each}
-use Rattle.adb_schema.specs.Schema.{shape_of, shapes_of, table}
-use Rattle.adb_schema.specs.Texts.{Around, at_root, inside_of, text_rule}
-use Rattle.adb_schema.specs.Repeated.{repeated_fault}
+use Rattle.adb_tables.specs.Schema.{shape_of, shapes_of, table}
+use Rattle.adb_rules.specs.Texts.{Surroundings, at_root, inside_of, text_rule}
+use Rattle.adb_fields.specs.Repeated.{repeated_fault}
 use Rattle.adb_schema.specs.Soundness.{schema_word}
-use Rattle.adb_schema.specs.declared.schema.Which.TheVariants.{Package, PkgInfo, Index}
-use Rattle.adb_schema.specs.declared.schema.Kind.TheVariants.{Obj}
+use Rattle.adb_tables.specs.declared.tables.Which.TheVariants.{Package, PkgInfo, Index}
+use Rattle.adb_tables.specs.declared.tables.Kind.TheVariants.{Obj}
 use Rattle.adb_schema.specs.declared.read.TheConstants.{INDEX_WORD}
 use Rattle.adb_write.specs.Canonical.{PayloadCounts, written_of, canonical}
 use Rattle.adb_write.specs.File.{file_of}
@@ -24,7 +24,8 @@ use Rattle.make_info.specs.Values.{plains_of}
 use Rattle.command_core.specs.Command.{CommandLine}
 use Rattle.make_index.specs.Entries.{entry_of_package}
 use Rattle.make_index.specs.EntryOrder.{entry_cmp, sorted_by, with_element}
-use Rattle.make_index.specs.Files.{AreFiles, IsFile}
+use Rattle.base_core.specs.Files.{IsFile}
+use Rattle.make_index.specs.Files.{AreFiles}
 use Rattle.adb_sound.specs.Root.{IsRootOf}
 use Rattle.make_info.specs.declared.fault.MakeFault.{MakeFault}
 use Rattle.make_core.proofs.IndexEntry.{entry_good}
@@ -49,24 +50,24 @@ each_in_order P cmp (x ∷ xs) h = each_placed P cmp x (sorted_by cmp xs) h.0 (e
 
 -- ---- the entries
 
-abbrev IsEntry : Around → Plain → Type 0
+abbrev IsEntry : Surroundings → Plain → Type 0
 IsEntry around v = IsGood (shape_of (Obj PkgInfo)) 802 around v
 
-tested_good : Values → (place : ℕ) (around : Around) (file : List ℕ) (v : Plain) (o : Option Cause) → All (λ b. b < 256) file → length file < 2 ^ 64 → around.root ≡ Index
+tested_good : Values → (place : ℕ) (around : Surroundings) (file : List ℕ) (v : Plain) (o : Option Cause) → All (λ b. b < 256) file → length file < 2 ^ 64 → around.root ≡ Index
     → package_fault file ≡ o → entry_unless place file o ≡ Ok v → IsEntry around v
 tested_good laws place around file v None bytes small root is e =
     let same : entry_of_package file ≡ v = cc (e) in
     subst (IsEntry around) same (entry_good laws file 802 around bytes small root is)
 tested_good laws place around file v (Some c) bytes small root is e = absurd (cc (e))
 
-found_good : Values → (place n : ℕ) (name : List ℕ) (around : Around) (read : ℕ → List ℕ → Option (List ℕ)) (v : Plain) (o : Option (List ℕ)) → ((file : List ℕ) → read n name ≡ Some file → IsFile file) → around.root ≡ Index
+found_good : Values → (place n : ℕ) (name : List ℕ) (around : Surroundings) (read : ℕ → List ℕ → Option (List ℕ)) (v : Plain) (o : Option (List ℕ)) → ((file : List ℕ) → read n name ≡ Some file → IsFile file) → around.root ≡ Index
     → read n name ≡ o → found_entry place o ≡ Ok v → IsEntry around v
 found_good laws place n name around read v None files root is e = absurd (cc (e))
 found_good laws place n name around read v (Some file) files root is e =
     let good = files file is in
-    tested_good laws place around file v (package_fault file) good.0 good.1 root refl e
+    tested_good laws place around file v (package_fault file) good.each good.few root refl e
 
-entries_by : (around : Around) (r : Result Plain MakeFault) (rs : Result (List Plain) MakeFault) (entries : List Plain) → and_entries r rs ≡ Ok entries
+entries_by : (around : Surroundings) (r : Result Plain MakeFault) (rs : Result (List Plain) MakeFault) (entries : List Plain) → and_entries r rs ≡ Ok entries
     → ((v : Plain) → r ≡ Ok v → IsEntry around v) → ((vs : List Plain) → rs ≡ Ok vs → Each (IsEntry around) (plains_of vs)) → Each (IsEntry around) (plains_of entries)
 entries_by around (Err f) rs entries e a b = absurd (cc (e))
 entries_by around (Ok v) (Err f) entries e a b = absurd (cc (e))
@@ -74,7 +75,7 @@ entries_by around (Ok v) (Ok vs) entries e a b =
     let same : v ∷ vs ≡ entries = cc (e) in
     subst (λ us. Each (IsEntry around) (plains_of us)) same (a v refl, b vs refl)
 
-entries_good : Values → (around : Around) (read : ℕ → List ℕ → Option (List ℕ)) (n : ℕ) (operands : List Operand) (entries : List Plain) → AreFiles read n operands → around.root ≡ Index
+entries_good : Values → (around : Surroundings) (read : ℕ → List ℕ → Option (List ℕ)) (n : ℕ) (operands : List Operand) (entries : List Plain) → AreFiles read n operands → around.root ≡ Index
     → found_entries read n operands ≡ Ok entries → Each (IsEntry around) (plains_of entries)
 entries_good laws around read n [] entries files root e =
     let same : [] ≡ entries = cc (e) in
@@ -88,14 +89,14 @@ entries_good laws around read n (o ∷ operands) entries files root e =
 abbrev index_fields : List ℕ → List Plain → Plains
 index_fields description entries = more (blob_value description) (more (arr_value (plains_of entries)) none)
 
-abbrev around_entries : List ℕ → List Plain → Around
+abbrev around_entries : List ℕ → List Plain → Surroundings
 around_entries description entries = inside_of 8 (at_root Index) (obj_value (index_fields description entries))
 
-index_good : (description : List ℕ) (entries : List Plain) → ((around : Around) → around.root ≡ Index → Each (IsEntry around) (plains_of entries))
+index_good : (description : List ℕ) (entries : List Plain) → ((around : Surroundings) → around.root ≡ Index → Each (IsEntry around) (plains_of entries))
     → IsGood (shape_of (Obj Index)) 0 (at_root Index) (value_of_index description entries)
 unfolding shape_of value_of_index text_rule
 index_good description entries each =
-    let around : Around = around_entries description entries in
+    let around : Surroundings = around_entries description entries in
     obj_good 8 (shapes_of (table Index)) 0 (at_root Index) around (index_fields description entries) refl
     (text_good 801 around description refl, (arr_good (shape_of (Obj PkgInfo)) 802 around (plains_of entries) (each around refl), (text_good 803 around [] refl, tt)))
 
@@ -118,7 +119,7 @@ file_sound sound exact v (Ok payload) bytes g w e =
     let good = sound Index INDEX_WORD v refl not_package (root_good exact Index v payload g (none_repeated v) is) in
     ap container_fault (sym same) ∙ (ap (λ (p : List ℕ). container_fault (file_of INDEX_WORD p)) (sym is.is) ∙ good)
 
-found_sound : Sound → Exact → (description : List ℕ) (r : Result (List Plain) MakeFault) (bytes : List ℕ) → ((entries : List Plain) (around : Around) → r ≡ Ok entries → around.root ≡ Index → Each (IsEntry around) (plains_of entries))
+found_sound : Sound → Exact → (description : List ℕ) (r : Result (List Plain) MakeFault) (bytes : List ℕ) → ((entries : List Plain) (around : Surroundings) → r ≡ Ok entries → around.root ≡ Index → Each (IsEntry around) (plains_of entries))
     → index_of_found description r ≡ Ok bytes → container_fault bytes ≡ None
 unfolding index_of
 found_sound sound exact description (Err f) bytes each e = absurd (cc (e))

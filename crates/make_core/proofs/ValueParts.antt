@@ -2,8 +2,8 @@
 use Rattle.std.proofs.Common.{◌≡◌, ℕ, zero, suc, ◌+◌, ◌<◌, Option, Some, None, refl, sym, subst, arith, add-zero}
 use Rattle.adb_view.specs.Plain.{Plain, null, int, blob, arr, obj, Plains, none, more, Shape, object, Fields, no_fields, field}
 use Rattle.adb_view.specs.Shaped.{HasShape, HaveShapes}
-use Rattle.adb_schema.specs.Texts.{Around, leaves, field_leaves, first_bad}
-use Rattle.adb_schema.specs.Views.{nth, entries_in}
+use Rattle.adb_rules.specs.Texts.{Surroundings, leaves, field_leaves, first_bad}
+use Rattle.adb_tables.specs.Values.{nth, entries_in}
 use Rattle.make_index.specs.Entries.{with_at}
 use Rattle.make_core.proofs.FoundShapes.{null_shaped}
 use Rattle.make_core.proofs.GoodValues.{good_append, good_back, good_front}
@@ -20,7 +20,7 @@ part_shaped (field name t fs) i s none e h = null_shaped s
 part_shaped (field name t fs) zero s (more v vs) e h = let same : t ≡ s = cc in subst (λ (u : Shape). HasShape u v) same h.0
 part_shaped (field name t fs) (suc i) s (more v vs) e h = part_shaped fs i s vs e h.1
 
-pub part_kept : (fs : Fields) (i : ℕ) (s : Shape) (place : ℕ) (around : Around) (vs : Plains) → shape_at fs i ≡ Some s → first_bad (field_leaves fs place around vs) ≡ None → first_bad (leaves s (place + i) around (nth vs i)) ≡ None
+pub part_kept : (fs : Fields) (i : ℕ) (s : Shape) (place : ℕ) (around : Surroundings) (vs : Plains) → shape_at fs i ≡ Some s → first_bad (field_leaves fs place around vs) ≡ None → first_bad (leaves s (place + i) around (nth vs i)) ≡ None
 unfolding field_leaves
 part_kept no_fields i s place around vs e h = absurd cc
 part_kept (field name t fs) zero s place around none e h =
@@ -64,7 +64,7 @@ placed_shaped (field name t fs) (suc i) s v none e a h = (null_shaped t, placed_
     none_shaped (field n r gs) = tt
 placed_shaped (field name t fs) (suc i) s v (more u us) e a h = (h.0, placed_shaped fs i s v us e a h.1)
 
-pub placed_kept : (fs : Fields) (i : ℕ) (s : Shape) (place : ℕ) (around : Around) (v : Plain) (vs : Plains) → shape_at fs i ≡ Some s
+pub placed_kept : (fs : Fields) (i : ℕ) (s : Shape) (place : ℕ) (around : Surroundings) (v : Plain) (vs : Plains) → shape_at fs i ≡ Some s
     → first_bad (leaves s (place + i) around v) ≡ None → first_bad (field_leaves fs place around vs) ≡ None → first_bad (field_leaves fs place around (with_at i v vs)) ≡ None
 unfolding field_leaves
 placed_kept no_fields i s place around v vs e a h = absurd cc

@@ -1,11 +1,11 @@
 -- Values without zeros are normal, and keep their shape and their texts.
 use Rattle.std.proofs.Common.{◌≡◌, ℕ, zero, suc, ◌+◌, ◌*◌, ◌^◌, ◌<◌, ◌&&◌, ◌==◌, nat_lt, if◌then◌else◌, List, [], ◌∷◌, ◌++◌, length, refl, ap, ◌∙◌}
-use Rattle.adb_view.specs.Plain.{Plain, null, int, blob, arr, obj, Plains, none, more, Shape, number, text, hash, array, object, Fields, no_fields, field, blob_value, arr_value, obj_of, obj_value, trimmed, IsNormal, AreNormal}
+use Rattle.adb_view.specs.Plain.{Plain, null, int, blob, arr, obj, Plains, none, more, Shape, number, text, hash, array, object, Fields, no_fields, field, blob_value, arr_value, obj_of, obj_value, without_last_nulls, IsNormal, AreNormal}
 use Rattle.adb_view.specs.Shaped.{Each, HasShape, HaveShapes}
-use Rattle.adb_schema.specs.Schema.{schema_number}
-use Rattle.adb_schema.specs.Texts.{Around, number_leaf, text_leaf, leaves, field_leaves, each_leaf, inside_of}
-use Rattle.adb_schema.specs.Views.{nth, entries_in, entry_in, int_in, text_in}
-use Rattle.adb_schema.specs.declared.schema.Which.TheVariants.{File, Dir}
+use Rattle.adb_tables.specs.Schema.{schema_number}
+use Rattle.adb_rules.specs.Texts.{Surroundings, number_leaf, text_leaf, leaves, field_leaves, each_leaf, inside_of}
+use Rattle.adb_tables.specs.Values.{nth, entries_in, entry_in, int_in, text_in}
+use Rattle.adb_tables.specs.declared.tables.Which.TheVariants.{File, Dir}
 use Rattle.make_index.specs.Entries.{int_value, with_at, without_zeros, all_without_zeros}
 use Rattle.make_core.proofs.GoodValues.{arr_value-normal, arr_value-shaped, blob_value-hash, blob_value-normal, blob_value-text, entries-arr_value, entry-obj_value, obj_value-leaves, obj_value-normal, obj_value-shaped, text-blob_value}
 
@@ -149,7 +149,7 @@ zeros_int null = refl
 zeros_int (int n) = int_in-int_value n
 zeros_int (blob b) = int_in-blob b
 zeros_int (arr vs) = int_in-arr (all_without_zeros vs)
-zeros_int (obj vs) = int_in-obj (trimmed (all_without_zeros vs))
+zeros_int (obj vs) = int_in-obj (without_last_nulls (all_without_zeros vs))
 
 text_in-int : (n : ℕ) → text_in (int_value n) ≡ []
 text_in-int zero = refl
@@ -169,7 +169,7 @@ zeros_text null = refl
 zeros_text (int n) = text_in-int n
 zeros_text (blob b) = text-blob_value b
 zeros_text (arr vs) = text_in-arr (all_without_zeros vs)
-zeros_text (obj vs) = text_in-obj (trimmed (all_without_zeros vs))
+zeros_text (obj vs) = text_in-obj (without_last_nulls (all_without_zeros vs))
 
 nth-zeros : (vs : Plains) (i : ℕ) → nth (all_without_zeros vs) i ≡ without_zeros (nth vs i)
 unfolding without_zeros all_without_zeros
@@ -178,18 +178,18 @@ nth-zeros (more v vs) zero = refl
 nth-zeros (more v vs) (suc i) = nth-zeros vs i
 
 -- what stands around an object's fields, by three of them
-abbrev pub inside_by : ℕ → Around → List ℕ → List ℕ → ℕ → Around
+abbrev pub inside_by : ℕ → Surroundings → List ℕ → List ℕ → ℕ → Surroundings
 inside_by schema around name target size = record {
   root = around.root;
   folder = if schema == schema_number Dir then name else around.folder;
   has_contents = if schema == schema_number File then (length target == 0) && nat_lt 0 size else around.has_contents;
 }
 
-pub inside_same : (schema : ℕ) (around : Around) (v : Plain) (name target : List ℕ) (size : ℕ) → text_in (entry_in v 0) ≡ name → text_in (entry_in v 5) ≡ target → int_in (entry_in v 2) ≡ size
+pub inside_same : (schema : ℕ) (around : Surroundings) (v : Plain) (name target : List ℕ) (size : ℕ) → text_in (entry_in v 0) ≡ name → text_in (entry_in v 5) ≡ target → int_in (entry_in v 2) ≡ size
     → inside_of schema around v ≡ inside_by schema around name target size
 inside_same schema around v name target size a b c = λ k. inside_by schema around (a k) (b k) (c k)
 
-zeros_inside : (schema : ℕ) (around : Around) (vs : Plains) → inside_of schema around (obj_value (all_without_zeros vs)) ≡ inside_of schema around (obj vs)
+zeros_inside : (schema : ℕ) (around : Surroundings) (vs : Plains) → inside_of schema around (obj_value (all_without_zeros vs)) ≡ inside_of schema around (obj vs)
 zeros_inside schema around vs =
     let us : Plains = all_without_zeros vs in
     inside_same schema around (obj_value us) (text_in (nth vs 0)) (text_in (nth vs 5)) (int_in (nth vs 2))
@@ -200,7 +200,7 @@ zeros_inside schema around vs =
 mutual
   unfolding without_zeros all_without_zeros HasShape HaveShapes leaves field_leaves
 
-  pub zeros_leaves : (s : Shape) (place : ℕ) (around : Around) (v : Plain) → HasShape s v → leaves s place around (without_zeros v) ≡ leaves s place around v
+  pub zeros_leaves : (s : Shape) (place : ℕ) (around : Surroundings) (v : Plain) → HasShape s v → leaves s place around (without_zeros v) ≡ leaves s place around v
   zeros_leaves number place around v h = ap (λ n. number_leaf place n ∷ []) (zeros_int v)
   zeros_leaves text place around v h = ap (λ (x : List ℕ). text_leaf place around x ∷ []) (zeros_text v)
   zeros_leaves hash place around v h = ap (λ (x : List ℕ). text_leaf place around x ∷ []) (zeros_text v)
@@ -215,14 +215,14 @@ mutual
   zeros_leaves (object schema fs) place around (arr vs) h = absurd h
   zeros_leaves (object schema fs) place around (obj vs) h =
       obj_value-leaves schema fs place around (all_without_zeros vs)
-      ∙ (ap (λ (a : Around). field_leaves fs (100 * schema + 1) a (all_without_zeros vs)) (zeros_inside schema around vs) ∙ all_zeros_leaves fs (100 * schema + 1) (inside_of schema around (obj vs)) vs h)
+      ∙ (ap (λ (a : Surroundings). field_leaves fs (100 * schema + 1) a (all_without_zeros vs)) (zeros_inside schema around vs) ∙ all_zeros_leaves fs (100 * schema + 1) (inside_of schema around (obj vs)) vs h)
 
-  pub each_zeros_leaves : (s : Shape) (place : ℕ) (around : Around) (vs : Plains) → Each (HasShape s) vs → each_leaf (leaves s place around) (all_without_zeros vs) ≡ each_leaf (leaves s place around) vs
+  pub each_zeros_leaves : (s : Shape) (place : ℕ) (around : Surroundings) (vs : Plains) → Each (HasShape s) vs → each_leaf (leaves s place around) (all_without_zeros vs) ≡ each_leaf (leaves s place around) vs
   each_zeros_leaves s place around none h = refl
   each_zeros_leaves s place around (more v vs) h =
       ap (λ l. l ++ each_leaf (leaves s place around) (all_without_zeros vs)) (zeros_leaves s place around v h.0) ∙ ap (λ l. leaves s place around v ++ l) (each_zeros_leaves s place around vs h.1)
 
-  pub all_zeros_leaves : (fs : Fields) (place : ℕ) (around : Around) (vs : Plains) → HaveShapes fs vs → field_leaves fs place around (all_without_zeros vs) ≡ field_leaves fs place around vs
+  pub all_zeros_leaves : (fs : Fields) (place : ℕ) (around : Surroundings) (vs : Plains) → HaveShapes fs vs → field_leaves fs place around (all_without_zeros vs) ≡ field_leaves fs place around vs
   all_zeros_leaves no_fields place around none h = refl
   all_zeros_leaves no_fields place around (more v vs) h = absurd h
   all_zeros_leaves (field name s fs) place around none h = refl

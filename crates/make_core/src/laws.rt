@@ -4,14 +4,13 @@ ghost use Rattle.make_index.specs.Files.{AreFiles};
 ghost use Rattle.make_index.specs.Index.{made_index};
 ghost use Rattle.make_info.specs.Reads.{Reads};
 ghost use Rattle.make_package.specs.Making.{made_package};
-ghost use Rattle.make_package.specs.Sources.{AreNamesFor, values_of};
+ghost use Rattle.make_package.specs.Sources.{AreNamesFor, values_with};
 ghost use Rattle.pkg_core.specs.Whole.{container_fault};
 ghost use Rattle.std.specs.Prelude.{◌≡◌, ◌<◌, ◌^◌, ℕ, List, length, None, Ok};
 ghost use Rattle.command_core.specs.Command.{CommandLine};
 
-use adb_schema::{
-    the_first_pair_in_one_of_several_lists_is_told, values_of_few_visits_have_no_fault,
-};
+use adb_fields::the_first_pair_in_one_of_several_lists_is_reported;
+use adb_tables::values_of_few_visits_have_no_fault;
 use adb_sound::{
     a_container_of_a_good_value_is_sound, a_package_of_a_good_value_and_its_contents_is_sound,
     contents_stand_in_their_container,
@@ -38,7 +37,7 @@ pub fn a_made_index_is_sound()
 /// than 2^64 bytes: of names below its folder, in byte order and each once.
 pub fn a_made_package_is_sound()
     ensures { (command : CommandLine) (names : List (List ℕ)) (read : Reads) (bytes : List ℕ)
-        → AreNamesFor (values_of FILES command.values) names
+        → AreNamesFor (values_with FILES command.values) names
         → made_package command names read ≡ Ok bytes → length bytes < 2 ^ 64
         → container_fault bytes ≡ None }
 {
@@ -48,5 +47,5 @@ pub fn a_made_package_is_sound()
     a_value_overflows_exactly_past_a_limit();
     read_texts_are_spelled();
     values_are_read_back();
-    the_first_pair_in_one_of_several_lists_is_told();
+    the_first_pair_in_one_of_several_lists_is_reported();
 }

@@ -1,11 +1,11 @@
 -- Entries: they are normal, have the shape of an info, and are entries of themselves.
 use Rattle.std.proofs.Common.{◌≡◌, ◌≢◌, ℕ, suc, zero, ◌<◌, ◌^◌, List, [], ◌∷◌, refl, ap, sym, subst, ◌∙◌, arith}
-use Rattle.adb_view.specs.Plain.{Plain, null, int, blob, arr, obj, Plains, none, more, Shape, number, text, hash, array, object, Fields, no_fields, field, blob_value, arr_value, obj_of, obj_value, keep, trimmed, IsNormal, AreNormal}
+use Rattle.adb_view.specs.Plain.{Plain, null, int, blob, arr, obj, Plains, none, more, Shape, number, text, hash, array, object, Fields, no_fields, field, blob_value, arr_value, obj_of, obj_value, keep, without_last_nulls, IsNormal, AreNormal}
 use Rattle.adb_view.specs.Shaped.{Each, IsNumber, IsBlob, HasShape, HaveShapes}
-use Rattle.adb_schema.specs.Schema.{shape_of}
-use Rattle.adb_schema.specs.Views.{nth, entries_in, entry_in, int_in, text_in}
-use Rattle.adb_schema.specs.declared.schema.Which.TheVariants as Tables
-use Rattle.adb_schema.specs.declared.schema.Kind.TheVariants as Kinds
+use Rattle.adb_tables.specs.Schema.{shape_of}
+use Rattle.adb_tables.specs.Values.{nth, entries_in, entry_in, int_in, text_in}
+use Rattle.adb_tables.specs.declared.tables.Which.TheVariants as Tables
+use Rattle.adb_tables.specs.declared.tables.Kind.TheVariants as Kinds
 use Rattle.make_index.specs.Entries.{int_value, without_zeros, all_without_zeros, with_at, entry_value}
 use Rattle.make_index.specs.Kept.{copy_of_entry}
 use Rattle.make_index.proofs.IndexShapes.{shape_at, shape_null, shapes_none, entries_shape, obj_value_shape, arr_value_shape}
@@ -79,21 +79,21 @@ keep_normal (blob b) vs h g = (h, g)
 keep_normal (arr us) vs h g = (h, g)
 keep_normal (obj us) vs h g = (h, g)
 
-trimmed_normal : (vs : Plains) → AreNormal vs → AreNormal (trimmed vs)
+trimmed_normal : (vs : Plains) → AreNormal vs → AreNormal (without_last_nulls vs)
 unfolding IsNormal
 trimmed_normal none h = tt
-trimmed_normal (more v vs) h = keep_normal v (trimmed vs) h.0 (trimmed_normal vs h.1)
+trimmed_normal (more v vs) h = keep_normal v (without_last_nulls vs) h.0 (trimmed_normal vs h.1)
 
-trimmed_twice : (vs : Plains) → trimmed (trimmed vs) ≡ trimmed vs
-trimmed_twice vs = trimmed_same (trimmed vs) vs (nth_trimmed vs)
+trimmed_twice : (vs : Plains) → without_last_nulls (without_last_nulls vs) ≡ without_last_nulls vs
+trimmed_twice vs = trimmed_same (without_last_nulls vs) vs (nth_trimmed vs)
 
-obj_of_normal : (vs : Plains) → trimmed vs ≡ vs → AreNormal vs → IsNormal (obj_of vs)
+obj_of_normal : (vs : Plains) → without_last_nulls vs ≡ vs → AreNormal vs → IsNormal (obj_of vs)
 unfolding IsNormal
 obj_of_normal none e h = tt
 obj_of_normal (more v vs) e h = (no_values v vs, e, h)
 
 pub obj_normal : (vs : Plains) → AreNormal vs → IsNormal (obj_value vs)
-obj_normal vs h = obj_of_normal (trimmed vs) (trimmed_twice vs) (trimmed_normal vs h)
+obj_normal vs h = obj_of_normal (without_last_nulls vs) (trimmed_twice vs) (trimmed_normal vs h)
 
 mutual
   unfolding IsNormal IsSmall without_zeros
@@ -206,7 +206,7 @@ text_zeros (blob []) = refl
 text_zeros (blob (x ∷ xs)) = refl
 text_zeros (arr none) = refl
 text_zeros (arr (more v vs)) = refl
-text_zeros (obj vs) = go (trimmed (all_without_zeros vs))
+text_zeros (obj vs) = go (without_last_nulls (all_without_zeros vs))
   where
     go : (us : Plains) → text_in (obj_of us) ≡ []
     go none = refl
@@ -221,7 +221,7 @@ int_zeros (blob []) = refl
 int_zeros (blob (x ∷ xs)) = refl
 int_zeros (arr none) = refl
 int_zeros (arr (more v vs)) = refl
-int_zeros (obj vs) = go (trimmed (all_without_zeros vs))
+int_zeros (obj vs) = go (without_last_nulls (all_without_zeros vs))
   where
     go : (us : Plains) → int_in (obj_of us) ≡ 0
     go none = refl

@@ -9,12 +9,12 @@ use Rattle.adb_view.specs.Plain.{Plain, null, int, blob, arr, obj, Plains, none,
 use Rattle.adb_view.specs.Shaped.{HasShape}
 use Rattle.adb_write.specs.Canonical.{Layout, write, empty_layout, payload_with_root, canonical, passes, overflow_of, or_overflow, written_of, PayloadCounts, MOST_BYTES}
 use Rattle.adb_write.specs.Size.{size_of, value_count}
-use Rattle.adb_schema.specs.Schema.{shape_of}
-use Rattle.adb_schema.specs.Views.{is_sound, value_at, nth, entry_in, text_in}
+use Rattle.adb_tables.specs.Schema.{shape_of}
+use Rattle.adb_tables.specs.Values.{is_sound, value_at, nth, entry_in, text_in}
 use Rattle.adb_schema.specs.Soundness.{root_value, payload_in, first_fault}
-use Rattle.adb_schema.specs.declared.schema.Which.TheVariants as Tables
-use Rattle.adb_schema.specs.declared.schema.Kind.{Kind}
-use Rattle.adb_schema.specs.declared.schema.Kind.TheVariants as Kinds
+use Rattle.adb_tables.specs.declared.tables.Which.TheVariants as Tables
+use Rattle.adb_tables.specs.declared.tables.Kind.{Kind}
+use Rattle.adb_tables.specs.declared.tables.Kind.TheVariants as Kinds
 use Rattle.pkg_core.specs.Whole.{package_id}
 use Rattle.make_index.specs.Entries.{entry_of_package, entry_value}
 use Rattle.make_index.specs.Kept.{HoldsEntry, IsKeyed, copy_of_entry}

@@ -3,7 +3,7 @@ use Rattle.std.proofs.Common.{◌≡◌, ℕ, suc, zero, ◌+◌, ◌<◌, List,
 use Rattle.adb_view.specs.Plain.{Plain, Plains, none, more, blob_value, arr_value}
 use Rattle.std.specs.Prelude.{Result, Ok, Err, IfOk}
 use Rattle.adb_view.specs.Shaped.{IsArrayOf}
-use Rattle.adb_schema.specs.Views.{nth, count_of, entries_in}
+use Rattle.adb_tables.specs.Values.{nth, count_of, entries_in}
 use Rattle.adb_write.specs.Writing.{Writing}
 use Rattle.adb_write.specs.DepthFirst.{push, WritesValue, WritesValues}
 use Rattle.make_index.specs.Entries.{int_value, without_zeros, all_without_zeros}

@@ -12,16 +12,16 @@ use Rattle.adb_block.specs.Standing.{start_of}
 use Rattle.adb_block.specs.Reading.{Reading, done, fault, more as further, reading_by_step, reading_from, reading_of}
 use Rattle.adb_view.specs.Head.{head_fault, root_of}
 use Rattle.adb_view.specs.Plain.{Plain, Plains, none, more, Shape, text, Fields, no_fields, field}
-use Rattle.adb_schema.specs.Schema.{shape_of, shapes_of, table}
-use Rattle.adb_schema.specs.Walk.{or_else, shape_fault}
-use Rattle.adb_schema.specs.Views.{nth, entries_in, entry_in, text_in}
-use Rattle.adb_schema.specs.Texts.{Around, Leaf, text_leaf, keeps_rule, place_of, leaves, field_leaves, first_bad, text_fault, text_rule, at_root, inside_of}
-use Rattle.adb_schema.specs.Repeated.{repeated_fault}
+use Rattle.adb_tables.specs.Schema.{shape_of, shapes_of, table}
+use Rattle.adb_tables.specs.Walk.{or_else, shape_fault}
+use Rattle.adb_tables.specs.Values.{nth, entries_in, entry_in, text_in}
+use Rattle.adb_rules.specs.Texts.{Surroundings, Leaf, text_leaf, keeps_rule, number_of_leaf, leaves, field_leaves, first_bad, text_fault, text_rule, at_root, inside_of}
+use Rattle.adb_fields.specs.Repeated.{repeated_fault}
 use Rattle.adb_schema.specs.Soundness.{blocks_fault, file_fault, first_fault, first_payload, payload_behind, payload_fault, payload_in, rest_fault, root_value, schema_fault}
 use Rattle.make_index.proofs.IndexFields.{INFO}
-use Rattle.adb_schema.specs.declared.schema.Which.{Which}
-use Rattle.adb_schema.specs.declared.schema.Which.TheVariants as Tables
-use Rattle.adb_schema.specs.declared.schema.Kind.TheVariants as Kinds
+use Rattle.adb_tables.specs.declared.tables.Which.{Which}
+use Rattle.adb_tables.specs.declared.tables.Which.TheVariants as Tables
+use Rattle.adb_tables.specs.declared.tables.Kind.TheVariants as Kinds
 
 -- ---- the first of two tests
 
@@ -102,7 +102,7 @@ bad_first : (xs ys : List Leaf) → first_bad (xs ++ ys) ≡ None → first_bad 
 bad_first [] ys h = refl
 bad_first (x ∷ xs) ys h = go (bad_first xs ys) (keeps_rule x) h
   where
-    go : (first_bad (xs ++ ys) ≡ None → first_bad xs ≡ None) → (b : Bool) → (if b then first_bad (xs ++ ys) else Some (BadText (place_of x))) ≡ None → (if b then first_bad xs else Some (BadText (place_of x))) ≡ None
+    go : (first_bad (xs ++ ys) ≡ None → first_bad xs ≡ None) → (b : Bool) → (if b then first_bad (xs ++ ys) else Some (BadText (number_of_leaf x))) ≡ None → (if b then first_bad xs else Some (BadText (number_of_leaf x))) ≡ None
     go f true e = f e
     go f false e = e
 
@@ -110,14 +110,14 @@ bad_later : (xs ys : List Leaf) → first_bad (xs ++ ys) ≡ None → first_bad 
 bad_later [] ys h = h
 bad_later (x ∷ xs) ys h = go (bad_later xs ys) (keeps_rule x) h
   where
-    go : (first_bad (xs ++ ys) ≡ None → first_bad ys ≡ None) → (b : Bool) → (if b then first_bad (xs ++ ys) else Some (BadText (place_of x))) ≡ None → first_bad ys ≡ None
+    go : (first_bad (xs ++ ys) ≡ None → first_bad ys ≡ None) → (b : Bool) → (if b then first_bad (xs ++ ys) else Some (BadText (number_of_leaf x))) ≡ None → first_bad ys ≡ None
     go f true e = f e
     go f false e = absurd (some_none _ e)
 
 one_good : (leaf : Leaf) → first_bad (leaf ∷ []) ≡ None → keeps_rule leaf ≡ true
 one_good leaf h = go (keeps_rule leaf) h
   where
-    go : (b : Bool) → (if b then None else Some (BadText (place_of leaf))) ≡ None → b ≡ true
+    go : (b : Bool) → (if b then None else Some (BadText (number_of_leaf leaf))) ≡ None → b ≡ true
     go true e = refl
     go false e = absurd (some_none _ e)
 
@@ -129,15 +129,15 @@ nth_behind_first : (vs : Plains) (i : ℕ) → nth (behind_first vs) i ≡ nth v
 nth_behind_first none i = refl
 nth_behind_first (more v vs) i = refl
 
-field_first : (n : List ℕ) (s : Shape) (fs : Fields) (place : ℕ) (around : Around) (vs : Plains) → field_leaves (field n s fs) place around vs ≡ leaves s place around (nth vs 0) ++ field_leaves fs (place + 1) around (behind_first vs)
+field_first : (n : List ℕ) (s : Shape) (fs : Fields) (place : ℕ) (around : Surroundings) (vs : Plains) → field_leaves (field n s fs) place around vs ≡ leaves s place around (nth vs 0) ++ field_leaves fs (place + 1) around (behind_first vs)
 unfolding leaves
 field_first n s fs place around none = refl
 field_first n s fs place around (more v vs) = refl
 
-first_field : (n : List ℕ) (s : Shape) (fs : Fields) (place : ℕ) (around : Around) (vs : Plains) → first_bad (field_leaves (field n s fs) place around vs) ≡ None → first_bad (leaves s place around (nth vs 0)) ≡ None
+first_field : (n : List ℕ) (s : Shape) (fs : Fields) (place : ℕ) (around : Surroundings) (vs : Plains) → first_bad (field_leaves (field n s fs) place around vs) ≡ None → first_bad (leaves s place around (nth vs 0)) ≡ None
 first_field n s fs place around vs h = bad_first (leaves s place around (nth vs 0)) _ (ap first_bad (sym (field_first n s fs place around vs)) ∙ h)
 
-later_fields : (n : List ℕ) (s : Shape) (fs : Fields) (place : ℕ) (around : Around) (vs : Plains) → first_bad (field_leaves (field n s fs) place around vs) ≡ None → first_bad (field_leaves fs (place + 1) around (behind_first vs)) ≡ None
+later_fields : (n : List ℕ) (s : Shape) (fs : Fields) (place : ℕ) (around : Surroundings) (vs : Plains) → first_bad (field_leaves (field n s fs) place around vs) ≡ None → first_bad (field_leaves fs (place + 1) around (behind_first vs)) ≡ None
 later_fields n s fs place around vs h = bad_later (leaves s place around (nth vs 0)) _ (ap first_bad (sym (field_first n s fs place around vs)) ∙ h)
 
 abbrev pub label_of : Fields → List ℕ
@@ -156,11 +156,11 @@ pub info_texts : (v : Plain) → text_fault Tables.Package v ≡ None → first_
 unfolding leaves shape_of
 info_texts v h = first_field (label_of PACKAGE) (shape_of (Kinds.Obj Tables.PkgInfo)) (rest_fields PACKAGE) 701 (inside_of 7 (at_root Tables.Package) v) (entries_in v) h
 
-pub version_good : (place : ℕ) (around : Around) (info : Plain) → first_bad (leaves (shape_of (Kinds.Obj Tables.PkgInfo)) place around info) ≡ None → is_version (text_in (entry_in info 1)) ≡ true
+pub version_good : (place : ℕ) (around : Surroundings) (info : Plain) → first_bad (leaves (shape_of (Kinds.Obj Tables.PkgInfo)) place around info) ≡ None → is_version (text_in (entry_in info 1)) ≡ true
 unfolding leaves shape_of text_rule
 version_good place around info h =
     let vs : Plains = entries_in info in
-    let inner : Around = inside_of 3 around info in
+    let inner : Surroundings = inside_of 3 around info in
     let second = later_fields (label_of INFO) text (rest_fields INFO) 301 inner vs h in
     let first = first_field (label_of (rest_fields INFO)) text (rest_fields (rest_fields INFO)) 302 inner (behind_first vs) second in
     sym (ap (λ v. is_version (text_in v)) (nth_behind_first vs 0)) ∙ one_good (text_leaf 302 inner (text_in (nth (behind_first vs) 0))) first

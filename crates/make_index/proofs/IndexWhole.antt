@@ -13,8 +13,7 @@ use Rattle.command_core.specs.declared.command.Applet.{Applet}
 use Rattle.command_core.specs.declared.command.Applet.TheVariants.{Mkndx}
 use Rattle.make_index.specs.Index.{found_entries, index_of, index_of_found, description_in, made_index}
 use Rattle.make_index.specs.Kept.{IsMade, IsMadeBy}
-use Rattle.make_info.specs.Reads.{reads_of}
-use Rattle.make_index.specs.Files.{AreFiles}
+use Rattle.make_index.specs.Files.{reads_of, AreFiles}
 use Rattle.make_info.specs.declared.fault.MakeFault.{MakeFault}
 use Rattle.make_info.specs.declared.fault.MakeFault.TheVariants.{FileMissing, FileBad, InfoBad, TooLarge, Disk, Memory}
 use Rattle.make_index.proofs.IndexReads.{both_true, by_made}

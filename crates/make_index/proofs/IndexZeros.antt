@@ -1,8 +1,8 @@
 -- Values without zeros, field by field.
 use Rattle.std.proofs.Common.{◌≡◌, ℕ, suc, zero, List, [], ◌∷◌, refl, ap, sym, ◌∙◌}
-use Rattle.adb_view.specs.Plain.{Plain, null, int, blob, arr, obj, Plains, none, more, blob_value, arr_value, obj_of, obj_value, keep, trimmed}
+use Rattle.adb_view.specs.Plain.{Plain, null, int, blob, arr, obj, Plains, none, more, blob_value, arr_value, obj_of, obj_value, keep, without_last_nulls}
 use Rattle.adb_view.specs.Shaped.{IsNumber, IsBlob, IsArrayOf, IsObjectOf}
-use Rattle.adb_schema.specs.Views.{nth, entries_in, entry_in, int_in, text_in}
+use Rattle.adb_tables.specs.Values.{nth, entries_in, entry_in, int_in, text_in}
 use Rattle.make_index.specs.Entries.{int_value, without_zeros, all_without_zeros, with_at}
 
 -- ---- by shape
@@ -56,23 +56,23 @@ nth_keep (blob b) vs i = refl
 nth_keep (arr us) vs i = refl
 nth_keep (obj us) vs i = refl
 
-pub nth_trimmed : (vs : Plains) (i : ℕ) → nth (trimmed vs) i ≡ nth vs i
+pub nth_trimmed : (vs : Plains) (i : ℕ) → nth (without_last_nulls vs) i ≡ nth vs i
 nth_trimmed none i = refl
-nth_trimmed (more v vs) zero = nth_keep v (trimmed vs) zero
-nth_trimmed (more v vs) (suc i) = nth_keep v (trimmed vs) (suc i) ∙ nth_trimmed vs i
+nth_trimmed (more v vs) zero = nth_keep v (without_last_nulls vs) zero
+nth_trimmed (more v vs) (suc i) = nth_keep v (without_last_nulls vs) (suc i) ∙ nth_trimmed vs i
 
-null_trimmed : (vs : Plains) → ((i : ℕ) → nth vs i ≡ null) → trimmed vs ≡ none
+null_trimmed : (vs : Plains) → ((i : ℕ) → nth vs i ≡ null) → without_last_nulls vs ≡ none
 null_trimmed none h = refl
 null_trimmed (more v vs) h = (λ j. keep (h zero j) (null_trimmed vs (λ i. h (suc i)) j))
 
 -- two lists with the same entries, Nulls behind them, are one without the Nulls that stand last
-pub trimmed_same : (us vs : Plains) → ((i : ℕ) → nth us i ≡ nth vs i) → trimmed us ≡ trimmed vs
+pub trimmed_same : (us vs : Plains) → ((i : ℕ) → nth us i ≡ nth vs i) → without_last_nulls us ≡ without_last_nulls vs
 trimmed_same none vs h = sym (null_trimmed vs (λ i. sym (h i)))
 trimmed_same (more u us) none h = null_trimmed (more u us) h
 trimmed_same (more u us) (more v vs) h = (λ j. keep (h zero j) (trimmed_same us vs (λ i. h (suc i)) j))
 
 pub nth_obj : (vs : Plains) (i : ℕ) → entry_in (obj_value vs) i ≡ nth vs i
-nth_obj vs i = go (trimmed vs) ∙ nth_trimmed vs i
+nth_obj vs i = go (without_last_nulls vs) ∙ nth_trimmed vs i
   where
     go : (us : Plains) → entry_in (obj_of us) i ≡ nth us i
     go none = refl
@@ -114,7 +114,7 @@ zeros_arr (more v vs) = refl
 
 pub zeros_obj : (vs : Plains) → without_zeros (obj_value vs) ≡ obj_value (all_without_zeros vs)
 unfolding without_zeros
-zeros_obj vs = go (trimmed vs) ∙ ap obj_of (trimmed_same (all_without_zeros (trimmed vs)) (all_without_zeros vs) (λ i. nth_zeros (trimmed vs) i ∙ (ap without_zeros (nth_trimmed vs i) ∙ sym (nth_zeros vs i))))
+zeros_obj vs = go (without_last_nulls vs) ∙ ap obj_of (trimmed_same (all_without_zeros (without_last_nulls vs)) (all_without_zeros vs) (λ i. nth_zeros (without_last_nulls vs) i ∙ (ap without_zeros (nth_trimmed vs i) ∙ sym (nth_zeros vs i))))
   where
     go : (us : Plains) → without_zeros (obj_of us) ≡ obj_value (all_without_zeros us)
     go none = refl

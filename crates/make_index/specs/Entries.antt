@@ -2,7 +2,7 @@
 -- its file.
 use Rattle.std.specs.Prelude.{ℕ, zero, suc, List, length}
 use Rattle.adb_view.specs.Plain.{Plain, null, int, blob, arr, obj, Plains, none, more, blob_value, arr_value, obj_value}
-use Rattle.adb_schema.specs.Views.{entries_in, entry_in}
+use Rattle.adb_tables.specs.Values.{entries_in, entry_in}
 use Rattle.pkg_core.specs.Whole.{package_id, package_of}
 
 -- ---- values in which no integer is 0

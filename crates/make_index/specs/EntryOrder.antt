@@ -5,7 +5,7 @@ use Rattle.std.specs.declared.cmp.Ordering.{Ordering}
 use Rattle.std.specs.Cmp.Lexicographic.{slice_cmp}
 use Rattle.version_core.specs.Order.{version_cmp}
 use Rattle.adb_view.specs.Plain.{Plain}
-use Rattle.adb_schema.specs.Views.{entry_in, text_in}
+use Rattle.adb_tables.specs.Values.{entry_in, text_in}
 
 abbrev pub name_in : Plain → List ℕ
 name_in entry = text_in (entry_in entry 0)

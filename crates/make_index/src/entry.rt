@@ -12,7 +12,7 @@ ghost use Rattle.pkg_core.specs.Opened.{opened_files, opened_payload, opened_val
 ghost use Rattle.pkg_core.specs.Whole.{package_fault, IsRefused};
 ghost use Rattle.std.specs.Prelude.{◌≡◌, Some, None, IfOk, IfErr, IfSome, IsTrue, Option};
 ghost use Rattle.version_core.specs.Order.{is_version, version_cmp};
-ghost use Rattle.adb_schema.specs.declared.schema.Which.TheVariants as Tables;
+ghost use Rattle.adb_tables.specs.declared.tables.Which.TheVariants as Tables;
 
 use crate::source::{EntryPayload, EntrySource, PackageFile, entry_payload};
 use adb_view::{Val, values_are_normal};
@@ -36,7 +36,7 @@ pub(crate) struct Entry {
 
 impl Entry {
     ghost use Rattle.make_index.specs.Views.{entry_view};
-    ghost use Rattle.make_index.specs.Files.{IsFile};
+    ghost use Rattle.base_core.specs.Files.{IsFile};
 
     /// The entry of the package in this file, which an operand at this place names. The file is
     /// dropped, but where its entry alone passes a limit of the writer.

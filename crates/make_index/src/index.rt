@@ -1,9 +1,9 @@
 //! Makes an index of packages (apk(8), `mkndx`): reads the packages that operands name, puts their
 //! entries in order, and writes the container.
-ghost use Rattle.adb_schema.specs.Schema.{shape_of};
+ghost use Rattle.adb_tables.specs.Schema.{shape_of};
 ghost use Rattle.adb_schema.specs.Soundness.{first_fault};
-ghost use Rattle.adb_schema.specs.declared.schema.Kind.TheVariants as Kinds;
-ghost use Rattle.adb_schema.specs.declared.schema.Which.TheVariants as Tables;
+ghost use Rattle.adb_tables.specs.declared.tables.Kind.TheVariants as Kinds;
+ghost use Rattle.adb_tables.specs.declared.tables.Which.TheVariants as Tables;
 ghost use Rattle.adb_view.specs.Plain.{arr_value, IsNormal};
 ghost use Rattle.adb_view.specs.Shaped.{HasShape};
 ghost use Rattle.adb_write.specs.Canonical.{written_of, MOST_BYTES};
@@ -13,12 +13,13 @@ ghost use Rattle.base_core.specs.Read.{OnlyReads, bytes_in};
 ghost use Rattle.base_core.specs.Tree.{files_of};
 ghost use Rattle.make_index.specs.Entries.{entry_of_package};
 ghost use Rattle.make_index.specs.EntryOrder.{entry_cmp, sorted_by, version_in};
-ghost use Rattle.make_index.specs.Files.{AreFiles, IsFile};
+ghost use Rattle.base_core.specs.Files.{IsFile};
+ghost use Rattle.make_index.specs.Files.{AreFiles, reads_of};
 ghost use Rattle.make_index.specs.Index.{description_in, index_of, value_of_index, found_entries, found_entry, made_index};
 ghost use Rattle.make_index.specs.Kept.{IsMade, IsMadeBy};
 ghost use Rattle.make_index.specs.Views.{entries_view, entry_view};
 ghost use Rattle.make_info.specs.Faults.{IsOverflow};
-ghost use Rattle.make_info.specs.Reads.{Reads, reads_of};
+ghost use Rattle.make_info.specs.Reads.{Reads};
 ghost use Rattle.make_info.specs.Values.{plains_of};
 ghost use Rattle.std.specs.Prelude.{◌≡◌, ◌≤◌, Ok, IfOk, IfErr, length, map, ◌<◌, ◌^◌, ℕ, List, All, true, None, ◌++◌, ◌∷◌, [], Option, IfSome, IsTrue};
 ghost use Rattle.version_core.specs.Order.{is_version};

@@ -1,6 +1,6 @@
 //! What is kept of a package until the index is written.
 ghost use Rattle.adb_schema.specs.Soundness.{first_fault, root_value};
-ghost use Rattle.adb_schema.specs.Views.{is_sound, entry_in};
+ghost use Rattle.adb_tables.specs.Values.{is_sound, entry_in};
 ghost use Rattle.adb_view.specs.Head.{head_fault, root_of};
 ghost use Rattle.adb_write.specs.Canonical.{written_of};
 ghost use Rattle.adb_write.specs.DepthFirst.{WritesValue};
@@ -8,8 +8,8 @@ ghost use Rattle.make_index.specs.Entries.{entry_of_package, entry_value};
 ghost use Rattle.pkg_core.specs.Opened.{opened_payload, opened_value};
 ghost use Rattle.sha2.specs.Sha256.{sha256};
 ghost use Rattle.std.specs.Prelude.{◌≡◌, true, is_none, ◌<◌, ◌^◌, Ok, IfOk, IfSome};
-ghost use Rattle.adb_schema.specs.declared.schema.Kind.TheVariants as Kinds;
-ghost use Rattle.adb_schema.specs.declared.schema.Which.TheVariants as Tables;
+ghost use Rattle.adb_tables.specs.declared.tables.Kind.TheVariants as Kinds;
+ghost use Rattle.adb_tables.specs.declared.tables.Which.TheVariants as Tables;
 
 use crate::writing::write_info;
 use adb_schema::{PkgInfo, View};
@@ -45,7 +45,7 @@ pub(crate) enum EntrySource {
 }
 
 impl EntrySource {
-    ghost use Rattle.make_index.specs.Kept.{kept_value, copy_of_entry};
+    ghost use Rattle.make_index.specs.Kept.{kept_value};
 
     /// Writes the entry.
     pub(crate) fn write(&self, alloc: Global, writer: &mut Writer) -> Result<Val, AllocError>
@@ -59,6 +59,8 @@ impl EntrySource {
 }
 
 impl EntryPayload {
+    ghost use Rattle.make_index.specs.Kept.{copy_of_entry};
+
     /// Writes the entry.
     fn write(&self, alloc: Global, writer: &mut Writer) -> Result<Val, AllocError>
         ensures { IfOk result (λ word. WritesValue writer.old

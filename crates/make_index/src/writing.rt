@@ -1,7 +1,8 @@
 //! A package's info, as an index has it, written value by value.
 ghost use Rattle.std.specs.Prelude.{◌≡◌, map, IfOk};
 ghost use Rattle.adb_view.specs.Plain.{none, more};
-ghost use Rattle.adb_schema.specs.Shown.{dep_value, info_value, list_value};
+ghost use Rattle.adb_schema.specs.Views.{dependency_value, info_value};
+ghost use Rattle.adb_fields.specs.ListValue.{list_value};
 ghost use Rattle.adb_write.specs.DepthFirst.{WritesValue};
 ghost use Rattle.make_index.specs.Entries.{int_value, without_zeros, entry_value};
 ghost use Rattle.make_index.specs.Appending.{IsAppended, text_plains, int_plains};
@@ -173,7 +174,7 @@ fn write_deps<'a>(
 /// Writes a dependency.
 fn write_dep(writer: &mut Writer, dep: &DepView<'_>) -> Result<Val, AllocError>
     ensures { IfOk result (λ word. WritesValue writer.old
-        (without_zeros (dep_value dep.now)) word writer.new) }
+        (without_zeros (dependency_value dep.now)) word writer.new) }
 {
     values_are_written_depth_first();
     let name = writer.blob(dep.name())?;

@@ -19,7 +19,7 @@ use Rattle.command_core.specs.declared.values.OptionValue.{OptionValue}
 use Rattle.make_info.specs.declared.field.Field.{Field}
 use Rattle.make_info.specs.declared.field.Field.TheVariants as Fields
 use Rattle.make_info.specs.Fields.{kind_of_field, values_by_kind, text_if}
-use Rattle.make_info.specs.FieldTexts.{FieldText, file_name_in, first_text_for, field_text_in, if_passes, info_options, is_for, is_text_for, is_info_option, is_output_option, is_too_long, package_name, named_output, default_output, package_file_name_of, text_when_for, package_version}
+use Rattle.make_info.specs.FieldTexts.{FieldText, file_name_in, first_text_for, field_text_in, if_passes, info_options, is_for, is_text_for, is_info_option, is_output_option, is_too_long, package_name_in, named_output, default_output, package_file_name_of, text_when_for, package_version_in}
 use Rattle.make_info.specs.Information.{InfoItem, all_items, first_offence, information, information_of, is_second, info_item, items_of_text, items_of_option, lacks_name_or_version, offends, unless_offence}
 use Rattle.make_info.specs.Output.{if_allowed, is_mkpkg, output_name, package_output}
 use Rattle.make_info.proofs.Outputs.{IsAllowedOutput, allowed, allowed_output, by_offending, no_value, own_fits, unoffended, values_are}
@@ -156,7 +156,7 @@ own_there values behind h =
     let told = info_options values in
     let none = unoffended values behind h in
     let given = not_lacking (list_any (is_for Fields.Name) told) (list_any (is_for Fields.Version) told) behind (all_items told) (told_all (first_offence (is_too_long values) [] told) (if lacks_name_or_version told then Err behind else Ok (all_items told)) h) in
-    both_there (package_name values) (package_version values)
+    both_there (package_name_in values) (package_version_in values)
     (good_first Fields.Name is_package_name (λ value said. strict_by (is_package_name value) value said) (is_too_long values) [] values none given.0)
     (good_first Fields.Version is_version (λ value said. strict_by (is_version value) value said) (is_too_long values) [] values none given.1)
 

@@ -19,7 +19,7 @@ use Rattle.command_core.specs.declared.command.Applet.TheVariants.{Add, Adbdump,
 use Rattle.command_core.specs.declared.values.OptionValue.{OptionValue}
 use Rattle.make_info.specs.declared.field.Field.{Field}
 use Rattle.make_info.specs.declared.field.Field.TheVariants as Fields
-use Rattle.make_info.specs.FieldTexts.{FieldText, file_name_in, first_text_for, field_text_in, if_passes, info_options, is_for, is_text_for, is_info_option, is_long_name, is_output_option, is_too_long, package_name, named_output, default_output, package_file_name_of, text_for, text_when_for}
+use Rattle.make_info.specs.FieldTexts.{FieldText, file_name_in, first_text_for, field_text_in, if_passes, info_options, is_for, is_text_for, is_info_option, is_long_name, is_output_option, is_too_long, package_name_in, named_output, default_output, package_file_name_of, text_for, text_when_for}
 use Rattle.make_info.specs.Information.{InfoItem, all_items, first_offence, information, information_of, is_second, items_of_option, lacks_name_or_version, offends, unless_offence}
 use Rattle.make_info.specs.Output.{if_allowed, is_mkpkg, output_name, package_output}
 use Rattle.make_info.proofs.FileNames.{HaveVersionBytes, own_file_name}
@@ -138,7 +138,7 @@ some_none (Some x) file h k = cc
 
 no_own_file : (values : List OptionValue) → first_text_for Fields.Version values ≡ None → default_output values ≡ None
 no_own_file values h =
-    ap (λ o. package_file_name_of (package_name values) (option_and_then (if_passes is_version) o)) h ∙ no_file (package_name values)
+    ap (λ o. package_file_name_of (package_name_in values) (option_and_then (if_passes is_version) o)) h ∙ no_file (package_name_in values)
 
 fits_by : (values : List OptionValue) (behind : ℕ) (file : List ℕ) (b : Bool) → is_too_long values ≡ b → is_ok (information_of values behind) ≡ true → named_output values ≡ None → default_output values ≡ Some file → length file ≤ 1016
 fits_by values behind file true t h n o =

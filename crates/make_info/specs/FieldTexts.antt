@@ -1,4 +1,5 @@
--- The values of `-I` of a command: which field each is for, and the package's name and version among them.
+-- The values of `-I` of a command: which field each is for, and the package's name and version
+-- among them.
 use Rattle.command_core.specs.declared.values.TheConstants.{INFO, OUTPUT}
 use Rattle.std.specs.Prelude.{ℕ, ◌+◌, ◌==◌, nat_lt, Bool, false, List, [], ◌∷◌, ◌++◌, length, take, drop, position, codes, Option, Some, None, option_map, option_and_then, is_some, not, ◌&&◌, if◌then◌else◌}
 use Rattle.std.specs.List.{filter, find}
@@ -19,9 +20,12 @@ pub record FieldText : Type 0 where
 
 abbrev pub field_text_from : List ℕ → Option ℕ → Option FieldText
 field_text_from text None = None
-field_text_from text (Some colon) = option_map (λ f. record { field = f; value = drop (colon + 1) text }) (field_of (take colon text))
+field_text_from text (Some colon) =
+    option_map (λ f. record { field = f; value = drop (colon + 1) text })
+    (field_of (take colon text))
 
--- a text FIELD:VALUE, where FIELD ends before the first `:`; None where there is no `:`, or FIELD is no field
+-- a text FIELD:VALUE, where FIELD ends before the first `:`; None where there is no `:`, or FIELD
+-- is no field
 abbrev pub field_text_in : List ℕ → Option FieldText
 field_text_in text = field_text_from text (position (λ b. b == 58) text)
 
@@ -60,22 +64,25 @@ abbrev pub if_passes : (List ℕ → Bool) → List ℕ → Option (List ℕ)
 if_passes is_good value = if is_good value then Some value else None
 
 -- the package's name and its version, where they are given and good
-abbrev pub package_name : List OptionValue → Option (List ℕ)
-package_name values = option_and_then (if_passes is_package_name) (first_text_for Fields.Name values)
+abbrev pub package_name_in : List OptionValue → Option (List ℕ)
+package_name_in values =
+    option_and_then (if_passes is_package_name) (first_text_for Fields.Name values)
 
-abbrev pub package_version : List OptionValue → Option (List ℕ)
-package_version values = option_and_then (if_passes is_version) (first_text_for Fields.Version values)
+abbrev pub package_version_in : List OptionValue → Option (List ℕ)
+package_version_in values =
+    option_and_then (if_passes is_version) (first_text_for Fields.Version values)
 
 -- NAME-VERSION.apk
 abbrev pub package_file_name : List ℕ → List ℕ → List ℕ
 package_file_name name version = name ++ (45 ∷ version ++ codes ".apk")
 
 abbrev pub package_file_name_of : Option (List ℕ) → Option (List ℕ) → Option (List ℕ)
-package_file_name_of name version = option_and_then (λ name. option_map (package_file_name name) version) name
+package_file_name_of name version =
+    option_and_then (λ name. option_map (package_file_name name) version) name
 
 -- the file that is made where no output is named
 abbrev pub default_output : List OptionValue → Option (List ℕ)
-default_output values = package_file_name_of (package_name values) (package_version values)
+default_output values = package_file_name_of (package_name_in values) (package_version_in values)
 
 abbrev pub is_output_option : OptionValue → Bool
 is_output_option v = v.letter == OUTPUT

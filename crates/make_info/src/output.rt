@@ -1,5 +1,5 @@
 //! Under which name a container is written (apk(8)): the file that `-o` names, or NAME-VERSION.apk.
-ghost use Rattle.make_info.specs.FieldTexts.{first_text_for, is_too_long, package_name, named_output, default_output, text_for, package_version};
+ghost use Rattle.make_info.specs.FieldTexts.{first_text_for, is_too_long, package_name_in, named_output, default_output, text_for, package_version_in};
 ghost use Rattle.make_info.specs.Information.{information};
 ghost use Rattle.make_info.specs.Output.{is_mkpkg, output_name, package_output};
 ghost use Rattle.std.specs.Option.{option_map};
@@ -31,12 +31,13 @@ pub(crate) fn named_output(values: &Values) -> Option<&[u8]>
 
 /// NAME-VERSION.apk, where a good name and a good version are given.
 pub(crate) fn default_output(alloc: Global, values: &Values) -> Result<Option<Vec<u8>>, AllocError>
-    ensures { IfOk result (λ file. option_map (λ file. file.items) file ≡ default_output values.now) }
+    ensures { IfOk result (λ file. option_map (λ file. file.items) file
+        ≡ default_output values.now) }
 {
-    let Some(name) = package_name(values) else {
+    let Some(name) = package_name_in(values) else {
         return Ok(None);
     };
-    let Some(version) = package_version(values) else {
+    let Some(version) = package_version_in(values) else {
         return Ok(None);
     };
     let mut file = Vec::from_slice(alloc, name)?;
@@ -53,18 +54,18 @@ pub(crate) fn is_too_long(values: &Values) -> bool
     if named_output(values).is_some() {
         return false;
     }
-    let Some(name) = package_name(values) else {
+    let Some(name) = package_name_in(values) else {
         return false;
     };
-    let Some(version) = package_version(values) else {
+    let Some(version) = package_version_in(values) else {
         return false;
     };
     name.len() + version.len() + b"-.apk".len() > LONGEST_OUTPUT
 }
 
 // The package's name, where a good one is given.
-fn package_name(values: &Values) -> Option<&[u8]>
-    ensures { option_map (λ name. name.now) result ≡ package_name values.entry.now }
+fn package_name_in(values: &Values) -> Option<&[u8]>
+    ensures { option_map (λ name. name.now) result ≡ package_name_in values.entry.now }
 {
     let name = first_text_for(values, Field::Name)?;
     if !is_package_name(name) {
@@ -74,8 +75,8 @@ fn package_name(values: &Values) -> Option<&[u8]>
 }
 
 // The package's version, where a good one is given.
-fn package_version(values: &Values) -> Option<&[u8]>
-    ensures { option_map (λ version. version.now) result ≡ package_version values.entry.now }
+fn package_version_in(values: &Values) -> Option<&[u8]>
+    ensures { option_map (λ version. version.now) result ≡ package_version_in values.entry.now }
 {
     let version = first_text_for(values, Field::Version)?;
     if Version::read(version).is_none() {
@@ -111,8 +112,9 @@ fn text_for(value: &OptionValue, field: Field) -> Option<&[u8]>
     Some(given.value)
 }
 
-/// The name under which the container of `mkpkg` or `mkndx` is written (apk(8)): the file that `-o` names, or of `mkpkg`
-/// else NAME-VERSION.apk. None comes exactly where the package information of `mkpkg` is not allowed.
+/// The name under which the container of `mkpkg` or `mkndx` is written (apk(8)): the file that `-o`
+/// names, or of `mkpkg` else NAME-VERSION.apk. None comes exactly where the package information of
+/// `mkpkg` is not allowed.
 pub fn output_name(alloc: Global, command: &Command) -> Result<Option<Name>, AllocError>
     ensures { IfOk result (λ name. name ≡ output_name command.now) }
 {
@@ -161,15 +163,18 @@ fn is_allowed(alloc: Global, command: &Command) -> Result<bool, AllocError>
 
 /// An output's name has room for eight bytes more in a name.
 pub fn an_output_is_short()
-    ensures { (command : CommandLine) (name : List ℕ) → IsCommand command → output_name command ≡ Some name → length name ≤ 1016 }
+    ensures { (command : CommandLine) (name : List ℕ) → IsCommand command
+        → output_name command ≡ Some name → length name ≤ 1016 }
 {}
 
 /// Where the information of a package is allowed, there is an output.
 pub fn a_package_with_information_has_an_output()
-    ensures { (command : CommandLine) → command.applet ≡ Mkpkg → IsTrue (is_ok (information command)) → IsSome (output_name command) }
+    ensures { (command : CommandLine) → command.applet ≡ Mkpkg
+        → IsTrue (is_ok (information command)) → IsSome (output_name command) }
 {}
 
 /// The output of an index is given.
 pub fn an_index_has_an_output()
-    ensures { (command : CommandLine) → IsCommand command → command.applet ≡ Mkndx → IsSome (output_name command) }
+    ensures { (command : CommandLine) → IsCommand command → command.applet ≡ Mkndx
+        → IsSome (output_name command) }
 {}

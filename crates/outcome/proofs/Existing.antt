@@ -15,7 +15,7 @@ use Rattle.words_core.specs.Grammar.{command_of}
 use Rattle.command_core.specs.declared.command.Applet.{Applet}
 use Rattle.command_core.specs.declared.command.Applet.TheVariants.{Mkpkg}
 use Rattle.command_core.specs.declared.values.OptionValue.{OptionValue}
-use Rattle.make_package.specs.Sources.{values_of}
+use Rattle.make_package.specs.Sources.{values_with}
 use Rattle.outcome.specs.Commands.{IsListingFor, IsOutcome, IsOutcomeOf, reads_in, run}
 use Rattle.outcome.specs.Make.{IsListing, files_below}
 use Rattle.outcome.specs.Outcome.{Outcome, just_refusal}
@@ -40,7 +40,7 @@ listing_exists have [] files within h = ([], refl)
 listing_exists have (v ∷ values) files within h = have (files_below (without_dot v.text) files) within (within_below (without_dot v.text) files within h)
 
 names_exist : HaveList → (applet : Applet) (command : CommandLine) (files : Files) (within : List (List ℕ)) → IsWithin within files → (names : List (List ℕ)) × IsListingFor applet command files names
-names_exist have Mkpkg command files within h = listing_exists have (values_of FILES command.values) files within h
+names_exist have Mkpkg command files within h = listing_exists have (values_with FILES command.values) files within h
 names_exist have other command files within h = ([], refl)
 
 outcome_by : HaveList → (read : Result CommandLine ℕ) (files : Files) (within : List (List ℕ)) → IsWithin within files → (o : Outcome) × IsOutcomeOf read files o
@@ -57,7 +57,7 @@ listing_one one [] files a b x y = x ∙ sym y
 listing_one one (v ∷ values) files a b x y = one (files_below (without_dot v.text) files) a b x y
 
 names_one : HaveOneList → (applet : Applet) (command : CommandLine) (files : Files) (a b : List (List ℕ)) → IsListingFor applet command files a → IsListingFor applet command files b → a ≡ b
-names_one one Mkpkg command files a b x y = listing_one one (values_of FILES command.values) files a b x y
+names_one one Mkpkg command files a b x y = listing_one one (values_with FILES command.values) files a b x y
 names_one one other command files a b x y = x ∙ sym y
 
 outcome_one : HaveOneList → (read : Result CommandLine ℕ) (files : Files) (a b : Outcome) → IsOutcomeOf read files a → IsOutcomeOf read files b → a ≡ b

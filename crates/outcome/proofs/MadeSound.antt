@@ -5,7 +5,7 @@ use Rattle.std.specs.List.{starts_with}
 use Rattle.std.proofs.lemmas.Bool.{and_parts, eqb-true}
 use Rattle.std.proofs.lemmas.List.Elements.{All-contains_itself, All-weaker}
 use Rattle.std.proofs.lemmas.Slice.Eq.{bytes_eq-Decides}
-use Rattle.adb_schema.specs.Reserved.{is_reserved}
+use Rattle.adb_rules.specs.Reserved.{is_reserved}
 use Rattle.adb_view.specs.Plain.{Plain}
 use Rattle.adb_write.specs.Canonical.{PayloadCounts, overflow_of, written_of}
 use Rattle.base_core.specs.Files.{AreNamedFiles, Files, IsFolderOf, drop_name}
@@ -22,7 +22,7 @@ use Rattle.make_package.specs.Making.{container_unless, made_package, or_info_ba
 use Rattle.make_info.specs.Output.{output_name}
 use Rattle.make_package.specs.Package.{Script, Source, SourceFolder, contents_of_folders, installed_size, value_of_package}
 use Rattle.make_index.specs.Files.{AreFiles}
-use Rattle.make_package.specs.Sources.{AreNamesFor, unless_refused, each_from, file_at, sources_from, folder_at, folders_below, found_at, values_of, script_at, scripts_from, texts_of}
+use Rattle.make_package.specs.Sources.{AreNamesFor, on_success, each_from, file_at, sources_from, folder_at, folders_below, found_at, values_with, script_at, scripts_from, texts_of}
 use Rattle.make_info.specs.Reads.{Reads}
 use Rattle.make_info.specs.declared.fault.MakeFault.{MakeFault}
 use Rattle.make_info.specs.declared.fault.MakeFault.TheVariants.{FileMissing, FileBad, InfoBad, TooLarge, Disk, Memory}
@@ -47,7 +47,7 @@ use Rattle.outcome.specs.Sound.{IsSoundAt}
 
 -- a package that is made of names below its folder is sound, and so is an index of files
 abbrev pub SoundPackage : Type 0
-SoundPackage = (command : CommandLine) (names : List (List ℕ)) (read : Reads) (bytes : List ℕ) → AreNamesFor (values_of FILES command.values) names → made_package command names read ≡ Ok bytes → length bytes < 2 ^ 64 → container_fault bytes ≡ None
+SoundPackage = (command : CommandLine) (names : List (List ℕ)) (read : Reads) (bytes : List ℕ) → AreNamesFor (values_with FILES command.values) names → made_package command names read ≡ Ok bytes → length bytes < 2 ^ 64 → container_fault bytes ≡ None
 
 abbrev pub SoundIndex : Type 0
 SoundIndex = (command : CommandLine) (read : Reads) (bytes : List ℕ) → AreFiles read 0 command.operands → made_index command read ≡ Ok bytes → container_fault bytes ≡ None
@@ -94,14 +94,14 @@ fine_err A B (TooLarge bytes values) h = tt
 fine_err A B Disk h = absurd h
 fine_err A B Memory h = absurd h
 
-after_fine : {A B : Type 0} (r : Result A MakeFault) (next : A → Result B MakeFault) → IsRefusalOrMade r → ((x : A) → IsRefusalOrMade (next x)) → IsRefusalOrMade (unless_refused r next)
+after_fine : {A B : Type 0} (r : Result A MakeFault) (next : A → Result B MakeFault) → IsRefusalOrMade r → ((x : A) → IsRefusalOrMade (next x)) → IsRefusalOrMade (on_success r next)
 after_fine (Ok x) next h further = further x
 after_fine {A} {B} (Err why) next h further = fine_err A B why h
 
 each_fine : {X Y : Type 0} (count : X → ℕ) (of : ℕ → X → Result Y MakeFault) → ((n : ℕ) (x : X) → IsRefusalOrMade (of n x)) → (n : ℕ) (xs : List X) → IsRefusalOrMade (each_from count of n xs)
 each_fine count of h n [] = tt
 each_fine count of h n (x ∷ xs) =
-    after_fine (of n x) (λ y. unless_refused (each_from count of (n + count x) xs) (λ ys. Ok (y ∷ ys))) (h n x)
+    after_fine (of n x) (λ y. on_success (each_from count of (n + count x) xs) (λ ys. Ok (y ∷ ys))) (h n x)
     (λ y. after_fine (each_from count of (n + count x) xs) (λ ys. Ok (y ∷ ys)) (each_fine count of h (n + count x) xs) (λ ys. tt))
 
 found_fine : (place : ℕ) (found : Option (List ℕ)) → IsRefusalOrMade (found_at place found)
@@ -150,18 +150,18 @@ file_of_fine v contents = unless_fine (overflow_of v) v contents
 package_fine : (command : CommandLine) (names : List (List ℕ)) (read : Reads) → IsRefusalOrMade (made_package command names read)
 unfolding made_package
 package_fine command names read =
-    after_fine (scripts_from read 0 (values_of SCRIPT command.values))
-    (λ scripts. unless_refused (or_info_bad (information command)) (λ about. unless_refused (folders_below read (length scripts) (values_of FILES command.values) names) (package_of_parts command scripts about)))
-    (each_fine (λ v. 1) (script_at read) (script_fine read) 0 (values_of SCRIPT command.values))
+    after_fine (scripts_from read 0 (values_with SCRIPT command.values))
+    (λ scripts. on_success (or_info_bad (information command)) (λ about. on_success (folders_below read (length scripts) (values_with FILES command.values) names) (package_of_parts command scripts about)))
+    (each_fine (λ v. 1) (script_at read) (script_fine read) 0 (values_with SCRIPT command.values))
     (λ scripts.
-    after_fine (or_info_bad (information command)) (λ about. unless_refused (folders_below read (length scripts) (values_of FILES command.values) names) (package_of_parts command scripts about))
+    after_fine (or_info_bad (information command)) (λ about. on_success (folders_below read (length scripts) (values_with FILES command.values) names) (package_of_parts command scripts about))
     (info_fine (information command))
     (λ about.
-    after_fine (folders_below read (length scripts) (values_of FILES command.values) names) (package_of_parts command scripts about)
-    (folders_fine read (length scripts) (values_of FILES command.values) names)
+    after_fine (folders_below read (length scripts) (values_with FILES command.values) names) (package_of_parts command scripts about)
+    (folders_fine read (length scripts) (values_with FILES command.values) names)
     (λ folders.
     file_of_fine
-    (value_of_package (information_value about (installed_size folders)) folders scripts (texts_of (values_of TRIGGER command.values)) (replaces_priority about))
+    (value_of_package (information_value about (installed_size folders)) folders scripts (texts_of (values_with TRIGGER command.values)) (replaces_priority about))
     (contents_of_folders 1 folders))))
 
 tested_fine : (place : ℕ) (file : List ℕ) (cause : Option Cause) → IsRefusalOrMade (entry_unless place file cause)
@@ -229,12 +229,12 @@ stands_at files output name report result fine is =
 
 -- ---- the outcome of a command
 
-package_sound : SoundPackage → (command : CommandLine) (names : List (List ℕ)) (files : Files) (name : List ℕ) → AreNamedFiles files → IsListing (values_of FILES command.values) files names → output_name command ≡ Some name
+package_sound : SoundPackage → (command : CommandLine) (names : List (List ℕ)) (files : Files) (name : List ℕ) → AreNamedFiles files → IsListing (values_with FILES command.values) files names → output_name command ≡ Some name
     → (mkpkg (reads_in files) files command names).refusal ≡ None → IsSoundAt name (mkpkg (reads_in files) files command names).files
 package_sound law command names files name good are is none =
     let read : Reads = reads_in files in
     let (bytes, ok, here) = stands_at files (output_name command) name [] (made_package command names read) (package_fine command names read) is none in
-    (bytes, here, law command names read bytes (names_for (values_of FILES command.values) files names good are) ok)
+    (bytes, here, law command names read bytes (names_for (values_with FILES command.values) files names good are) ok)
 
 index_sound : SoundIndex → (command : CommandLine) (files : Files) (name : List ℕ) → AreNamedFiles files → output_name command ≡ Some name
     → (mkndx (reads_in files) files command).refusal ≡ None → IsSoundAt name (mkndx (reads_in files) files command).files

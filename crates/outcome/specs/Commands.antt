@@ -3,7 +3,7 @@ use Rattle.std.specs.Prelude.{◌≡◌, ℕ, List, [], Result, Ok, Err}
 use Rattle.base_core.specs.Files.{Files, no_names}
 use Rattle.command_core.specs.declared.values.TheConstants.{FILES}
 use Rattle.make_info.specs.Reads.{Reads}
-use Rattle.make_package.specs.Sources.{AreNamesFor, values_of}
+use Rattle.make_package.specs.Sources.{AreNamesFor, values_with}
 use Rattle.report_core.specs.declared.refusal.Refusal.TheVariants.{Usage}
 use Rattle.command_core.specs.Command.{CommandLine}
 use Rattle.words_core.specs.Grammar.{command_of}
@@ -34,7 +34,7 @@ run command names read files = run_applet command.applet command names read file
 
 -- the names that an applet lists: `mkpkg` those below its folder, the others none
 abbrev pub IsListingFor : Applet → CommandLine → Files → List (List ℕ) → Type 0
-IsListingFor Mkpkg command files names = IsListing (values_of FILES command.values) files names
+IsListingFor Mkpkg command files names = IsListing (values_with FILES command.values) files names
 IsListingFor other command files names = names ≡ []
 
 -- each read finds the file under its name
@@ -57,7 +57,7 @@ IsOutcome words files outcome = IsOutcomeOf (command_of words) files outcome
 -- names that an applet may list: `mkpkg` some below its folder, in byte order and each once, the
 -- others none
 abbrev pub MayBeListedFor : Applet → CommandLine → List (List ℕ) → Type 0
-MayBeListedFor Mkpkg command names = AreNamesFor (values_of FILES command.values) names
+MayBeListedFor Mkpkg command names = AreNamesFor (values_with FILES command.values) names
 MayBeListedFor other command names = names ≡ []
 
 abbrev pub IsFoundOutcomeOf : Result CommandLine ℕ → Outcome → Type 0

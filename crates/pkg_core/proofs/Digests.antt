@@ -13,26 +13,26 @@ use Rattle.base_core.specs.declared.cause.Cause.TheVariants.{HashDiffers}
 use Rattle.base_core.specs.declared.cause.Digest.{Digest}
 use Rattle.base_core.specs.declared.cause.Digest.TheVariants.{Sha1, Sha256, Sha512}
 use Rattle.adb_view.specs.Plain.{Plain, null, Plains, none, more, Shape, hash, array, Fields, no_fields, field}
-use Rattle.adb_schema.specs.Repeated.{list_of, files_in}
-use Rattle.adb_schema.specs.Rules.{is_digest_length, is_digest_length_or_none}
-use Rattle.adb_schema.specs.Schema.{shape_of, shapes_of, table}
-use Rattle.adb_schema.specs.Texts.{Around, Leaf, text_leaf, keeps_rule, leaves, field_leaves, each_leaf, inside_of, at_root, leaves_of, text_fault, text_rule, TellsFirstBad, is_with_contents, needs_hash}
-use Rattle.adb_schema.specs.Views.{nth, entries_in, entry_in, int_in, text_in}
-use Rattle.adb_schema.specs.declared.schema.Which.{Which}
-use Rattle.adb_schema.specs.declared.schema.Kind.TheVariants.{Obj}
-use Rattle.adb_schema.specs.declared.schema.Which.TheVariants as Tables
+use Rattle.adb_fields.specs.Repeated.{list_of, files_in}
+use Rattle.adb_rules.specs.Rules.{is_digest_length, is_digest_length_or_none}
+use Rattle.adb_tables.specs.Schema.{shape_of, shapes_of, table}
+use Rattle.adb_rules.specs.Texts.{Surroundings, Leaf, text_leaf, keeps_rule, leaves, field_leaves, each_leaf, inside_of, at_root, leaves_of, text_fault, text_rule, IsFirstBadOf, is_with_contents, needs_hash}
+use Rattle.adb_tables.specs.Values.{nth, entries_in, entry_in, int_in, text_in}
+use Rattle.adb_tables.specs.declared.tables.Which.{Which}
+use Rattle.adb_tables.specs.declared.tables.Kind.TheVariants.{Obj}
+use Rattle.adb_tables.specs.declared.tables.Which.TheVariants as Tables
 use Rattle.pkg_core.specs.Contents.{Contents, Expected, AreContentsOf, AreTrueTo, HaveDigests, IsDigestOf, digest_fault, expected_at, expected_contents, files_from, folders_from, hash_fault}
 
 -- ---- where nothing is told, each text and number keeps its rule
 
 -- what is told of texts, as adb_schema's law says
 abbrev pub TellsFirst : Type 0
-TellsFirst = (which : Which) (v : Plain) → TellsFirstBad (leaves_of which v) (text_fault which v)
+TellsFirst = (which : Which) (v : Plain) → IsFirstBadOf (leaves_of which v) (text_fault which v)
 
 abbrev Keep : List Leaf → Type 0
 Keep all = list_all keeps_rule all ≡ true
 
-none_told : (all : List Leaf) (o : Option Cause) → TellsFirstBad all o → o ≡ None → Keep all
+none_told : (all : List Leaf) (o : Option Cause) → IsFirstBadOf all o → o ≡ None → Keep all
 none_told all None t e = t
 none_told all (Some c) t e = (cc)
 
@@ -44,7 +44,7 @@ shape_at no_fields i = None
 shape_at (field name s fs) zero = Some s
 shape_at (field name s fs) (suc i) = shape_at fs i
 
-field_keeps : (fs : Fields) (i place : ℕ) (around : Around) (vs : Plains) (s : Shape) → shape_at fs i ≡ Some s → Keep (field_leaves fs place around vs) → Keep (leaves s (place + i) around (nth vs i))
+field_keeps : (fs : Fields) (i place : ℕ) (around : Surroundings) (vs : Plains) (s : Shape) → shape_at fs i ≡ Some s → Keep (field_leaves fs place around vs) → Keep (leaves s (place + i) around (nth vs i))
 unfolding leaves field_leaves
 field_keeps no_fields i place around vs s e h = (cc)
 field_keeps (field name t fs) zero place around none s e h =
@@ -70,7 +70,7 @@ is_needed root has_contents n e c h =
     let needed : needs_hash root has_contents ≡ true = ap (λ r. needs_hash r has_contents) e ∙ c in
     subst (λ b. (if b then is_digest_length n else is_digest_length_or_none n) ≡ true) needed h
 
-file_has : (place : ℕ) (around : Around) (f : Plain) → around.root ≡ Tables.Package → is_with_contents f ≡ true → Keep (leaves (shape_of (Obj Tables.File)) place around f) → is_digest_length (length (text_in (entry_in f 4))) ≡ true
+file_has : (place : ℕ) (around : Surroundings) (f : Plain) → around.root ≡ Tables.Package → is_with_contents f ≡ true → Keep (leaves (shape_of (Obj Tables.File)) place around f) → is_digest_length (length (text_in (entry_in f 4))) ≡ true
 unfolding shape_of leaves text_rule
 file_has place around f root c h =
     let leaf = field_keeps (shapes_of (table Tables.File)) 4 401 (inside_of 4 around f) (entries_in f) hash refl h in
@@ -82,26 +82,26 @@ more_digests : (es fs : List Expected) → HaveDigests es → HaveDigests fs →
 more_digests [] fs a b = b
 more_digests (e ∷ es) fs a b = (a.0, more_digests es fs a.1 b)
 
-file_digests : (d i place : ℕ) (around : Around) (f : Plain) → around.root ≡ Tables.Package → Keep (leaves (shape_of (Obj Tables.File)) place around f) → HaveDigests (expected_at d i f)
+file_digests : (d i place : ℕ) (around : Surroundings) (f : Plain) → around.root ≡ Tables.Package → Keep (leaves (shape_of (Obj Tables.File)) place around f) → HaveDigests (expected_at d i f)
 file_digests d i place around f root h = by_contents (is_with_contents f) refl
   where
     by_contents : (b : Bool) → is_with_contents f ≡ b → HaveDigests (if b then record { folder = d; file = i; size = int_in (entry_in f 2); hash = text_in (entry_in f 4) } ∷ [] else [])
     by_contents true c = (file_has place around f root c h, tt)
     by_contents false c = tt
 
-files_digests : (d i place : ℕ) (around : Around) (vs : Plains) → around.root ≡ Tables.Package → Keep (each_leaf (leaves (shape_of (Obj Tables.File)) place around) vs) → HaveDigests (files_from d i (list_of vs))
+files_digests : (d i place : ℕ) (around : Surroundings) (vs : Plains) → around.root ≡ Tables.Package → Keep (each_leaf (leaves (shape_of (Obj Tables.File)) place around) vs) → HaveDigests (files_from d i (list_of vs))
 files_digests d i place around none root h = tt
 files_digests d i place around (more f vs) root h =
     let parts = parts_keep (leaves (shape_of (Obj Tables.File)) place around f) (each_leaf (leaves (shape_of (Obj Tables.File)) place around) vs) h in
     more_digests (expected_at d i f) (files_from d (i + 1) (list_of vs)) (file_digests d i place around f root parts.0) (files_digests d (i + 1) place around vs root parts.1)
 
-folder_digests : (d place : ℕ) (around : Around) (folder : Plain) → around.root ≡ Tables.Package → Keep (leaves (shape_of (Obj Tables.Dir)) place around folder) → HaveDigests (files_from d 1 (files_in folder))
+folder_digests : (d place : ℕ) (around : Surroundings) (folder : Plain) → around.root ≡ Tables.Package → Keep (leaves (shape_of (Obj Tables.Dir)) place around folder) → HaveDigests (files_from d 1 (files_in folder))
 unfolding shape_of leaves
 folder_digests d place around folder root h =
     let files = field_keeps (shapes_of (table Tables.Dir)) 2 501 (inside_of 5 around folder) (entries_in folder) (array (shape_of (Obj Tables.File))) refl h in
     files_digests d 1 503 (inside_of 5 around folder) (entries_in (entry_in folder 2)) root files
 
-folders_digests : (i place : ℕ) (around : Around) (vs : Plains) → around.root ≡ Tables.Package → Keep (each_leaf (leaves (shape_of (Obj Tables.Dir)) place around) vs) → HaveDigests (folders_from i (list_of vs))
+folders_digests : (i place : ℕ) (around : Surroundings) (vs : Plains) → around.root ≡ Tables.Package → Keep (each_leaf (leaves (shape_of (Obj Tables.Dir)) place around) vs) → HaveDigests (folders_from i (list_of vs))
 folders_digests i place around none root h = tt
 folders_digests i place around (more d vs) root h =
     let parts = parts_keep (leaves (shape_of (Obj Tables.Dir)) place around d) (each_leaf (leaves (shape_of (Obj Tables.Dir)) place around) vs) h in

@@ -10,13 +10,13 @@ use Rattle.adb_block.specs.declared.block.BlockKind.{BlockKind}
 use Rattle.adb_block.specs.declared.block.BlockKind.TheVariants as Kinds
 use Rattle.adb_view.specs.Head.{head_fault, root_of}
 use Rattle.adb_view.specs.Plain.{Plain, plain_of}
-use Rattle.adb_schema.specs.Schema.{shape_of}
-use Rattle.adb_schema.specs.Views.{value_at}
-use Rattle.adb_schema.specs.Walk.{or_else, shape_fault}
-use Rattle.adb_schema.specs.Texts.{text_fault}
-use Rattle.adb_schema.specs.declared.schema.Kind.TheVariants.{Obj}
+use Rattle.adb_tables.specs.Schema.{shape_of}
+use Rattle.adb_tables.specs.Values.{value_at}
+use Rattle.adb_tables.specs.Walk.{or_else, shape_fault}
+use Rattle.adb_rules.specs.Texts.{text_fault}
+use Rattle.adb_tables.specs.declared.tables.Kind.TheVariants.{Obj}
 use Rattle.adb_schema.specs.Soundness.{blocks_fault, file_fault, file_pair, first_payload, payload_behind, payload_fault, payload_in, root_value, schema_fault}
-use Rattle.adb_schema.specs.declared.schema.Which.TheVariants.{Package}
+use Rattle.adb_tables.specs.declared.tables.Which.TheVariants.{Package}
 use Rattle.pkg_core.specs.Contents as C
 use Rattle.pkg_core.specs.Contents.{Expected, Files, AreContentsOf, AreTrueTo, IsContentsOf, bytes_in, contents_at, contents_fault, contents_in, expected_contents, fault_in, files_of, hash_fault}
 use Rattle.pkg_core.proofs.Digests.{texts_give_digests, true_contents, TellsFirst}

@@ -3,10 +3,10 @@ use Rattle.std.specs.Prelude.{◌≡◌, ℕ, ◌+◌, List, [], ◌∷◌, ◌+
 use Rattle.base_core.specs.declared.cause.Cause.{Cause}
 use Rattle.adb_block.specs.Reading.{reading_of}
 use Rattle.adb_view.specs.Plain.{Plain}
-use Rattle.adb_schema.specs.Views.{entries_in}
-use Rattle.adb_schema.specs.Checked.{value_of}
-use Rattle.adb_schema.specs.Shown.{list_value}
-use Rattle.adb_schema.specs.Repeated.{list_of, files_in}
+use Rattle.adb_tables.specs.Values.{entries_in}
+use Rattle.adb_schema.specs.Checked.{checked_value}
+use Rattle.adb_fields.specs.ListValue.{list_value}
+use Rattle.adb_fields.specs.Repeated.{list_of, files_in}
 use Rattle.pkg_core.specs.Contents.{Expected, Contents, Files, no_more, refused, given, files_from, folders_from, files_of, contents_at, contents_block_fault}
 use Rattle.pkg_core.specs.declared.pack.Package.{Package}
 use Rattle.pkg_core.specs.declared.walk.Walk.{Walk}
@@ -71,7 +71,7 @@ IsGiven payload at before (Err c) after = contents_block_fault payload at before
 
 -- its plain value
 abbrev pub opened_value : Package → Plain
-opened_value pkg = value_of pkg.checked
+opened_value pkg = checked_value pkg.checked
 
 -- the bytes that hold it
 abbrev pub opened_payload : Package → List ℕ

@@ -2,7 +2,7 @@
 
 ghost use Rattle.std.specs.Prelude.{◌≡◌, ◌≢◌, None, IfOk, IfErr};
 ghost use Rattle.adb_view.specs.Gives.{cause_of};
-ghost use Rattle.adb_schema.specs.declared.schema.Which.TheVariants as Tables;
+ghost use Rattle.adb_tables.specs.declared.tables.Which.TheVariants as Tables;
 ghost use Rattle.pkg_core.specs.Contents.{fault_in};
 ghost use Rattle.pkg_core.specs.Opened.{opened_files};
 ghost use Rattle.pkg_core.specs.Whole.{container_fault, package_fault, root_of_schema, whole_fault, IsRefused};

@@ -2,12 +2,12 @@
 ghost use Rattle.std.specs.Prelude.{◌≡◌, ℕ, List, None};
 ghost use Rattle.adb_block.specs.Reading.{Reading};
 ghost use Rattle.adb_schema.specs.Soundness.{first_fault};
-ghost use Rattle.adb_schema.specs.Walk.{or_else};
-ghost use Rattle.adb_schema.specs.declared.schema.Which.TheVariants as Tables;
+ghost use Rattle.adb_tables.specs.Walk.{or_else};
+ghost use Rattle.adb_tables.specs.declared.tables.Which.TheVariants as Tables;
 ghost use Rattle.pkg_core.specs.Contents.{contents_fault, contents_in, expected_contents, fault_in, files_of, AreContentsOf, AreTrueTo, Expected};
 ghost use Rattle.pkg_core.specs.Whole.{files_in_file, package_fault, package_of};
 
-use adb_schema::first_bad_text_is_told;
+use adb_rules::the_first_bad_text_is_reported;
 
 /// Where no test of the blocks fails, they give the contents of each file that is expected, in order, and no others:
 /// each with the positions, the size and the digest of its file.
@@ -25,5 +25,5 @@ pub fn a_package_is_tested_by_its_values_and_then_its_files()
 pub fn a_package_has_the_contents_of_its_files()
     ensures { (file : List ℕ) → package_fault file ≡ None → AreTrueTo (expected_contents (package_of file).value) (package_of file).contents }
 {
-    first_bad_text_is_told();
+    the_first_bad_text_is_reported();
 }

@@ -20,6 +20,3 @@ pub use laws::{
 };
 pub use pack::{Package, PackageFault};
 pub use rest::FileContents;
-
-#[cfg(test)]
-mod tests;

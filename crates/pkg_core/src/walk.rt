@@ -1,10 +1,11 @@
 //! The walk over the files of a package that have contents.
 
 ghost use Rattle.std.specs.Prelude.{◌≡◌, ◌&&◌, ◌+◌, ◌-◌, ◌<◌, ◌≤◌, ◌^◌, drop, length};
-ghost use Rattle.adb_schema.specs.Views.{entries_in, count_of};
-ghost use Rattle.adb_schema.specs.Shown.{file_value, list_value};
-ghost use Rattle.adb_schema.specs.Repeated.{list_of};
-ghost use Rattle.adb_schema.specs.Texts.{is_with_contents};
+ghost use Rattle.adb_tables.specs.Values.{entries_in, count_of};
+ghost use Rattle.adb_schema.specs.Views.{file_value};
+ghost use Rattle.adb_fields.specs.ListValue.{list_value};
+ghost use Rattle.adb_fields.specs.Repeated.{list_of};
+ghost use Rattle.adb_rules.specs.Texts.{is_with_contents};
 ghost use Rattle.pkg_core.specs.Contents.{files_from};
 
 use adb_schema::{DirInfo, FileInfo, List};
@@ -28,7 +29,7 @@ pub(crate) struct Wanted<'a> {
 }
 
 impl<'a> Walk<'a> {
-    ghost use Rattle.adb_schema.specs.Repeated.{files_in};
+    ghost use Rattle.adb_fields.specs.Repeated.{files_in};
     ghost use Rattle.pkg_core.specs.Contents.{folders_from};
     ghost use Rattle.pkg_core.specs.Opened.{left_in, IsTaken};
 

@@ -1,9 +1,10 @@
 use Rattle.std.proofs.Common.{sym, subst, List, ℕ}
 use Rattle.adb_view.specs.Plain.{none}
 use Rattle.adb_view.specs.Adb.{payload_of}
-use Rattle.adb_schema.specs.Shown.{info_value, list_value}
-use Rattle.adb_schema.specs.declared.schema.Which.TheVariants as Tables
-use Rattle.adb_schema.specs.declared.schema.Kind.TheVariants as Kinds
+use Rattle.adb_schema.specs.Views.{info_value}
+use Rattle.adb_fields.specs.ListValue.{list_value}
+use Rattle.adb_tables.specs.declared.tables.Which.TheVariants as Tables
+use Rattle.adb_tables.specs.declared.tables.Kind.TheVariants as Kinds
 use Rattle.adb_write.specs.DepthFirst.{WritesValues}
 use Rattle.make_index.specs.Entries.{entry_value}
 use Rattle.make_index.proofs.IndexLists.{if_ok, zeros_entry, words_are}

@@ -2,9 +2,9 @@ use Rattle.std.proofs.Common.{◌≡◌, ◌-◌, ◌+◌, arith, ap, ◌∙◌}
 use Rattle.adb_view.specs.Plain.{blob_value}
 use Rattle.adb_view.specs.Entries.{array_entries}
 use Rattle.adb_view.specs.Adb.{payload_of}
-use Rattle.adb_schema.specs.Views.{entries_in, entry_in}
-use Rattle.adb_schema.specs.Shown.{list_value}
-use Rattle.adb_schema.specs.declared.schema.Kind.TheVariants as Kinds
+use Rattle.adb_tables.specs.Values.{entries_in, entry_in}
+use Rattle.adb_fields.specs.ListValue.{list_value}
+use Rattle.adb_tables.specs.declared.tables.Kind.TheVariants as Kinds
 use Rattle.make_index.proofs.IndexLists.{zeros_more, zeros_start, zeros_entry, blob_zeros, if_ok, list_written}
 use Rattle.make_index.proofs.IndexShapes.{array_shape}
 use Rattle.make_index.proofs.writing.write_tags.Goals as goal

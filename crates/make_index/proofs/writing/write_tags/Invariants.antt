@@ -1,5 +1,5 @@
-use Rattle.adb_schema.specs.Views.{entries_in}
-use Rattle.adb_schema.specs.Shown.{list_value}
+use Rattle.adb_tables.specs.Values.{entries_in}
+use Rattle.adb_fields.specs.ListValue.{list_value}
 use Rattle.adb_write.specs.DepthFirst.{WritesValues}
 use Rattle.make_index.specs.Entries.{all_without_zeros}
 use Rattle.make_index.proofs.IndexLists.{front}

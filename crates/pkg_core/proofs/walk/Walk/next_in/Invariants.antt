@@ -1,8 +1,8 @@
 -- Of the folder's files that are left, those that have contents are the same.
 use Rattle.std.proofs.Common.{◌≡◌, ◌+◌, ◌-◌, drop}
-use Rattle.adb_schema.specs.Views.{entries_in, count_of}
-use Rattle.adb_schema.specs.Shown.{list_value}
-use Rattle.adb_schema.specs.Repeated.{list_of}
+use Rattle.adb_tables.specs.Values.{entries_in, count_of}
+use Rattle.adb_fields.specs.ListValue.{list_value}
+use Rattle.adb_fields.specs.Repeated.{list_of}
 use Rattle.pkg_core.specs.Contents.{files_from}
 use Rattle.pkg_core.proofs.walk.Walk.next_in.Given as goal
 

@@ -1,0 +1,102 @@
+-- Going over lists for the first of their pairs.
+use Rattle.std.proofs.Common.{◌≡◌, ℕ, suc, zero, ◌+◌, ◌<◌, ◌≤◌, true, List, [], ◌∷◌, ◌++◌, map, length, get_or, drop, Option, None, refl, ap, sym, ◌∙◌, subst, arith, append-nil, inl, inr}
+use Rattle.std.specs.List.{flat_map}
+use Rattle.adb_view.specs.Plain.{Plain, null}
+use Rattle.adb_tables.specs.Values.{value_at}
+use Rattle.adb_fields.specs.Fields.{are_all_sound}
+use Rattle.adb_fields.specs.declared.pairs.Pair.{Pair}
+use Rattle.adb_fields.specs.Pairs.{Named, IsIn, IsPair, IsFirstOf, earlier, earliest}
+use Rattle.adb_fields.specs.Repeated.{IsPairInOne, numbered_from, twice, twice_in_one, repeated_at, name_of, folders_in, files_in, inside_fault}
+use Rattle.adb_tables.specs.Walk.{or_else}
+use Rattle.adb_fields.specs.NamedTexts.{plains_at}
+use Rattle.adb_tables.specs.declared.tables.Kind.{Kind}
+use Rattle.adb_fields.proofs.NameLists.{plain_count, plain_is}
+use Rattle.adb_fields.proofs.FirstPair.{Either, alike, earlier-first, first_pair-first, earlier-assoc, earlier-none}
+
+more_firsts : (g : Plain → Option Pair) (values : List Plain) (i : ℕ) → i < length values → earliest (map g (drop i values)) ≡ earlier (g (get_or values i null)) (earliest (map g (drop (i + 1) values)))
+more_firsts g [] i h = absurd (omega arith)
+more_firsts g (v ∷ vs) zero h = refl
+more_firsts g (v ∷ vs) (suc i) h =
+    let e : suc i + 1 ≡ suc (i + 1) = omega arith in
+    let P : ℕ → Type 0 = λ n. earliest (map g (drop i vs)) ≡ earlier (g (get_or vs i null)) (earliest (map g (drop n (v ∷ vs)))) in
+    subst P (sym e) (more_firsts g vs i (omega arith))
+
+no_firsts : (g : Plain → Option Pair) (values : List Plain) (i : ℕ) → length values ≤ i → earliest (map g (drop i values)) ≡ None
+no_firsts g [] zero h = refl
+no_firsts g [] (suc i) h = refl
+no_firsts g (v ∷ vs) zero h = absurd (omega arith)
+no_firsts g (v ∷ vs) (suc i) h = no_firsts g vs i (omega arith)
+
+-- a step of a loop that keeps the first pair
+pub one_first : (p : List ℕ) (kind : Kind) (g : Plain → Option Pair) (ws : List ℕ) (i w : ℕ) (first pair next all : Option Pair) → are_all_sound p kind ws ≡ true → i < length ws → w ≡ get_or ws i 0 → pair ≡ g (value_at p kind w) → next ≡ earlier first pair → earlier first (earliest (map g (drop i (plains_at p kind ws)))) ≡ all → earlier next (earliest (map g (drop (i + 1) (plains_at p kind ws)))) ≡ all
+one_first p kind g ws i w first pair next all sound lt word e n so =
+    let c : length (plains_at p kind ws) ≡ length ws = plain_count p kind ws sound in
+    let here : value_at p kind w ≡ get_or (plains_at p kind ws) i null = ap (value_at p kind) word ∙ plain_is p kind ws i sound lt in
+    let left : Option Pair = earliest (map g (drop (i + 1) (plains_at p kind ws))) in
+    ap (λ o. earlier o left) (n ∙ ap (earlier first) (e ∙ ap g here))
+    ∙ (earlier-assoc first (g (get_or (plains_at p kind ws) i null)) left
+    ∙ (ap (earlier first) (sym (more_firsts g (plains_at p kind ws) i (omega arith))) ∙ so))
+
+pub no_first : (p : List ℕ) (kind : Kind) (g : Plain → Option Pair) (ws : List ℕ) (i : ℕ) (first all : Option Pair) → are_all_sound p kind ws ≡ true → length ws ≤ i → earlier first (earliest (map g (drop i (plains_at p kind ws)))) ≡ all → first ≡ all
+no_first p kind g ws i first all sound past so =
+    let c : length (plains_at p kind ws) ≡ length ws = plain_count p kind ws sound in
+    sym (earlier-none first) ∙ (ap (earlier first) (sym (no_firsts g (plains_at p kind ws) i (omega arith))) ∙ so)
+
+-- ---- one list for each value, and several
+
+pub one_each : (f : Plain → List (List ℕ)) (values : List Plain) → earliest (map (λ v. twice (f v)) values) ≡ twice_in_one (map f values)
+one_each f [] = refl
+one_each f (v ∷ vs) = ap (earlier (twice (f v))) (one_each f vs)
+
+earliest-append : (xs ys : List (Option Pair)) → earliest (xs ++ ys) ≡ earlier (earliest xs) (earliest ys)
+earliest-append [] ys = refl
+earliest-append (x ∷ xs) ys = ap (earlier x) (earliest-append xs ys) ∙ sym (earlier-assoc x (earliest xs) (earliest ys))
+
+twice_in_one-append : (xs ys : List (List (List ℕ))) → twice_in_one (xs ++ ys) ≡ earlier (twice_in_one xs) (twice_in_one ys)
+twice_in_one-append [] ys = refl
+twice_in_one-append (x ∷ xs) ys = ap (earlier (twice x)) (twice_in_one-append xs ys) ∙ sym (earlier-assoc (twice x) (twice_in_one xs) (twice_in_one ys))
+
+pub several_each : (f : Plain → List (List (List ℕ))) (values : List Plain) → earliest (map (λ v. twice_in_one (f v)) values) ≡ twice_in_one (flat_map f values)
+several_each f [] = refl
+several_each f (v ∷ vs) = ap (earlier (twice_in_one (f v))) (several_each f vs) ∙ sym (twice_in_one-append (f v) (flat_map f vs))
+
+-- of one list alone
+pub alone : (names : List (List ℕ)) → twice names ≡ twice_in_one (names ∷ [])
+alone names = sym (earlier-none (twice names))
+
+pub alone_several : (lists : List (List (List ℕ))) → twice_in_one lists ≡ twice_in_one (lists ++ [])
+alone_several lists = ap twice_in_one (sym (append-nil lists))
+
+-- ---- names behind names
+
+pub numbered-append : (n : ℕ) (xs ys : List (List ℕ)) → numbered_from n (xs ++ ys) ≡ numbered_from n xs ++ numbered_from (n + length xs) ys
+numbered-append n [] ys = (let e : n ≡ n + 0 = omega arith in ap (λ k. numbered_from k ys) e)
+numbered-append n (x ∷ xs) ys =
+    let e : n + 1 + length xs ≡ n + suc (length xs) = omega arith in
+    ap (λ rest. record { name = x; position = n } ∷ rest) (numbered-append (n + 1) xs ys ∙ ap (λ k. numbered_from (n + 1) xs ++ numbered_from k ys) e)
+
+pub texts_behind : (a b : List (List ℕ)) (one two : List Named) (m : ℕ) → one ≡ numbered_from 1 a → m ≡ length a → two ≡ one ++ numbered_from (m + 1) b → two ≡ numbered_from 1 (a ++ b)
+texts_behind a b one two m e l h =
+    let f : m + 1 ≡ 1 + length a = omega arith in
+    h ∙ ((λ i. e i ++ numbered_from (f i) b) ∙ sym (numbered-append 1 a b))
+
+-- ---- kind behind kind
+
+pub one_package : (pkg : Plain) → or_else (repeated_at 501 (twice (map name_of (folders_in pkg)))) (repeated_at 401 (twice_in_one (map (λ folder. map name_of (files_in folder)) (folders_in pkg)))) ≡ inside_fault (pkg ∷ [])
+one_package pkg = λ i. or_else (repeated_at 501 (alone (map name_of (folders_in pkg)) i)) (repeated_at 401 (alone_several (map (λ folder. map name_of (files_in folder)) (folders_in pkg)) i))
+
+-- ---- what is told of several lists is the first pair of all
+
+from-here : (names : List (List ℕ)) (others : List (List (List ℕ))) (p : Pair) → Either (IsPair (numbered_from 1 names)) (IsPairInOne others) p → IsPairInOne (names ∷ others) p
+from-here names others p (inl k) = record { names = names; names_in = inl refl; is_pair = k }
+from-here names others p (inr k) = record { names = k.names; names_in = inr k.names_in; is_pair = k.is_pair }
+
+here-by : (names : List (List ℕ)) (others : List (List (List ℕ))) (p : Pair) (found : List (List ℕ)) → IsIn found (names ∷ others) → IsPair (numbered_from 1 found) p → Either (IsPair (numbered_from 1 names)) (IsPairInOne others) p
+here-by names others p found (inl e) k = let P : List (List ℕ) → Type 0 = λ l. IsPair (numbered_from 1 l) p in inl (subst P e k)
+here-by names others p found (inr h) k = inr (record { names = found; names_in = h; is_pair = k })
+
+pub twice_in_one-first : (lists : List (List (List ℕ))) → IsFirstOf (IsPairInOne lists) (twice_in_one lists)
+twice_in_one-first [] = λ p k. k.names_in
+twice_in_one-first (names ∷ others) =
+    alike (Either (IsPair (numbered_from 1 names)) (IsPairInOne others)) (IsPairInOne (names ∷ others)) (twice_in_one (names ∷ others)) (from-here names others) (λ p k. here-by names others p k.names k.names_in k.is_pair)
+    (earlier-first (IsPair (numbered_from 1 names)) (IsPairInOne others) (twice names) (twice_in_one others) (first_pair-first (numbered_from 1 names)) (twice_in_one-first others))

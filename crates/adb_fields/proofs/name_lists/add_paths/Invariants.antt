@@ -1,0 +1,15 @@
+-- The paths that are added, and those to come, are all.
+use Rattle.std.proofs.Common.{◌≡◌, ◌++◌, map, drop}
+use Rattle.std.specs.List.{flat_map}
+use Rattle.adb_view.specs.Adb.{payload_of}
+use Rattle.adb_view.specs.Entries.{array_entries}
+use Rattle.adb_fields.specs.Repeated.{paths_under, all_at}
+use Rattle.adb_fields.specs.NamedTexts.{named_by, plains_at}
+use Rattle.adb_tables.specs.declared.tables.Kind.TheVariants as Kinds
+use Rattle.adb_tables.specs.declared.tables.Which.TheVariants as Tables
+use Rattle.adb_fields.proofs.name_lists.add_paths.Given as goal
+
+abbrev pub invariant-loop-i : goal.invariant-loop-i
+invariant-loop-i l =
+    map named_by l.paths.items ++ flat_map (λ folder. all_at l.position (paths_under folder)) (drop l.i (plains_at (payload_of l.adb) (Kinds.Obj Tables.Dir) (array_entries l.folders)))
+    ≡ map named_by l.initial.paths.items ++ flat_map (λ folder. all_at l.position (paths_under folder)) (plains_at (payload_of l.adb) (Kinds.Obj Tables.Dir) (array_entries l.folders))

@@ -1,0 +1,23 @@
+-- One list more, and none behind the last.
+use Rattle.std.proofs.Common.{Option, map, arith, ◌∙◌}
+use Rattle.adb_view.specs.Adb.{payload_of}
+use Rattle.adb_view.specs.Entries.{array_entries}
+use Rattle.adb_view.specs.Plain.{Plain}
+use Rattle.adb_fields.specs.Repeated.{twice, name_of, folders_in}
+use Rattle.adb_fields.specs.NamedTexts.{plains_at}
+use Rattle.adb_fields.specs.declared.pairs.Pair.{Pair}
+use Rattle.adb_tables.specs.declared.tables.Kind.TheVariants as Kinds
+use Rattle.adb_tables.specs.declared.tables.Which.TheVariants as Tables
+use Rattle.adb_fields.proofs.FirstKinds.{one_first, no_first, one_each}
+use Rattle.adb_fields.proofs.repeated.folders_twice.Goals as goal
+
+pub loop-i-preserved : goal.loop-i-preserved
+loop-i-preserved c =
+    let g : Plain → Option Pair = λ pkg. twice (map name_of (folders_in pkg)) in
+    one_first (payload_of c.args.adb) (Kinds.Obj Tables.Package) g (array_entries c.args.packages) c.loop-i.i c.entry_word.result c.loop-i.first c.in_ok-folder_twice.field-0 _ _ c.requires (grind arith) c.entry_word.ensures c.in_ok-folder_twice.ensures c.earlier-first.ensures c.loop-i.invariant
+
+pub returns : goal.returns
+returns c =
+    let g : Plain → Option Pair = λ pkg. twice (map name_of (folders_in pkg)) in
+    no_first (payload_of c.args.adb) (Kinds.Obj Tables.Package) g (array_entries c.args.packages) c.loop-i.i c.loop-i.first _ c.requires (grind arith) c.loop-i.invariant
+    ∙ one_each (λ pkg. map name_of (folders_in pkg)) (plains_at (payload_of c.args.adb) (Kinds.Obj Tables.Package) (array_entries c.args.packages))

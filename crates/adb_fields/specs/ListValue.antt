@@ -1,0 +1,10 @@
+-- The plain value that a list of views shows.
+use Rattle.adb_view.specs.Plain.{Plain}
+use Rattle.adb_view.specs.Adb.{payload_of}
+use Rattle.adb_view.specs.Entries.{array_entries}
+use Rattle.adb_fields.specs.Fields.{array_at}
+use Rattle.adb_fields.specs.declared.list.List.{List}
+
+-- an array, whatever its entries are shown by
+abbrev pub list_value : {V : Type 0} {g : _} → List V g → Plain
+list_value {g = g} list = array_at (payload_of list.adb) g.kind (array_entries list.entries)

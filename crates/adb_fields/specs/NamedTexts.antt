@@ -1,0 +1,38 @@
+-- The names that the program compares, and their order.
+use Rattle.std.specs.Prelude.{ℕ, List, [], ◌∷◌, Option}
+use Rattle.adb_fields.specs.Repeated.{list_of}
+use Rattle.adb_fields.specs.Paths.{path_of}
+use Rattle.std.specs.Ordering.{nat_cmp, ordering_then}
+use Rattle.std.specs.declared.cmp.Ordering.{Ordering}
+use Rattle.std.specs.Cmp.Lexicographic.{slice_cmp}
+use Rattle.adb_fields.specs.Pairs.{Named, pair_of}
+use Rattle.adb_fields.specs.declared.pairs.Pair.{Pair}
+use Rattle.adb_view.specs.Plain.{Plain}
+use Rattle.adb_tables.specs.Values.{entries_in}
+use Rattle.adb_fields.specs.Fields.{array_at}
+use Rattle.adb_tables.specs.declared.tables.Kind.{Kind}
+use Rattle.adb_fields.specs.declared.pairs.Entry.{Entry}
+
+-- the name that an entry stands for: where there is a folder, a path
+abbrev pub named_by : Entry → Named
+named_by e = record { name = path_of e.folder.now e.name.now; position = e.position }
+
+-- by name, and equal names by position
+abbrev pub named_cmp : Named → Named → Ordering
+named_cmp x y = ordering_then (slice_cmp nat_cmp x.name y.name) (nat_cmp x.position y.position)
+
+-- the pairs of names that stand next to each other
+abbrev pub neighbours_from : Named → List Named → List (Option Pair)
+neighbours_from x [] = []
+neighbours_from x (y ∷ ys) = pair_of x y ∷ neighbours_from y ys
+
+abbrev pub neighbours : List Named → List (Option Pair)
+neighbours [] = []
+neighbours (x ∷ xs) = neighbours_from x xs
+
+abbrev pub named_at : List ℕ → ℕ → Named
+named_at name position = record { name = name; position = position }
+
+-- the values of an array's words
+abbrev pub plains_at : List ℕ → Kind → List ℕ → List Plain
+plains_at p k words = list_of (entries_in (array_at p k words))

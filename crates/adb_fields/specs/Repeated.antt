@@ -1,0 +1,111 @@
+-- Names that stand twice in a container, kind by kind.
+use Rattle.std.specs.Prelude.{ℕ, ◌+◌, List, [], ◌∷◌, ◌++◌, map, Option, None, option_map}
+use Rattle.std.specs.List.{flat_map}
+use Rattle.base_core.specs.declared.cause.Cause.{Cause}
+use Rattle.base_core.specs.declared.cause.Cause.TheVariants.{Repeated}
+use Rattle.adb_view.specs.Plain.{Plain, Plains, none, more}
+use Rattle.adb_tables.specs.Values.{entries_in, entry_in, text_in}
+use Rattle.adb_tables.specs.Walk.{or_else}
+use Rattle.adb_fields.specs.Paths.{path_of}
+use Rattle.adb_fields.specs.Pairs.{Named, IsIn, IsPair, first_pair, earliest}
+use Rattle.adb_fields.specs.declared.pairs.Pair.{Pair}
+use Rattle.adb_tables.specs.declared.tables.Which.{Which}
+use Rattle.adb_tables.specs.declared.tables.Which.TheVariants.{Package, Idb, Intent}
+
+-- ---- lists of names
+
+abbrev pub numbered_from : ℕ → List (List ℕ) → List Named
+numbered_from n [] = []
+numbered_from n (name ∷ names) = record { name = name; position = n } ∷ numbered_from (n + 1) names
+
+-- a name that stands twice in a list
+abbrev pub twice : List (List ℕ) → Option Pair
+twice names = first_pair (numbered_from 1 names)
+
+-- a name that stands twice in one of several lists
+abbrev pub twice_in_one : List (List (List ℕ)) → Option Pair
+twice_in_one lists = earliest (map twice lists)
+
+-- one of the lists has the name at both positions
+pub record IsPairInOne (lists : List (List (List ℕ))) (p : Pair) : Type 0 where
+  pub names : List (List ℕ)
+  pub names_in : IsIn names lists
+  pub is_pair : IsPair (numbered_from 1 names) p
+
+abbrev pub all_at : ℕ → List (List ℕ) → List Named
+all_at n names = map (λ name. record { name = name; position = n }) names
+
+-- each list's names stand at the position of the list
+abbrev pub by_list_from : ℕ → List (List (List ℕ)) → List Named
+by_list_from n [] = []
+by_list_from n (names ∷ lists) = all_at n names ++ by_list_from (n + 1) lists
+
+-- a name that stands in two lists
+abbrev pub in_two : List (List (List ℕ)) → Option Pair
+in_two lists = first_pair (by_list_from 1 lists)
+
+-- ---- the names of a container
+
+abbrev pub list_of : Plains → List Plain
+list_of none = []
+list_of (more v vs) = v ∷ list_of vs
+
+-- the entries of an object's field that is an array; fields count from 0
+abbrev pub entries_at : ℕ → Plain → List Plain
+entries_at i v = list_of (entries_in (entry_in v i))
+
+-- the name of a folder, a file or a package's information
+abbrev pub name_of : Plain → List ℕ
+name_of v = text_in (entry_in v 0)
+
+abbrev pub package_name : Plain → List ℕ
+package_name pkg = name_of (entry_in pkg 0)
+
+abbrev pub folders_in : Plain → List Plain
+folders_in pkg = entries_at 1 pkg
+
+abbrev pub files_in : Plain → List Plain
+files_in folder = entries_at 2 folder
+
+abbrev pub paths_under : Plain → List (List ℕ)
+paths_under folder = map (λ file. path_of (name_of folder) (name_of file)) (files_in folder)
+
+abbrev pub paths_in : Plain → List (List ℕ)
+paths_in pkg = flat_map paths_under (folders_in pkg)
+
+-- ---- kind by kind
+
+abbrev pub folder_twice : List Plain → Option Pair
+folder_twice packages = twice_in_one (map (λ pkg. map name_of (folders_in pkg)) packages)
+
+abbrev pub file_twice : List Plain → Option Pair
+file_twice packages = twice_in_one (flat_map (λ pkg. map (λ folder. map name_of (files_in folder)) (folders_in pkg)) packages)
+
+abbrev pub package_twice : List Plain → Option Pair
+package_twice packages = twice (map package_name packages)
+
+abbrev pub path_in_two : List Plain → Option Pair
+path_in_two packages = in_two (map paths_in packages)
+
+-- the texts of the removals and behind them those of the writes
+abbrev pub name_twice : Plain → Option Pair
+name_twice intent = twice (map text_in (entries_at 0 intent) ++ map text_in (entries_at 1 intent))
+
+-- ---- the fault of a container
+
+-- a pair that stands is reported with the number of the field
+abbrev pub repeated_at : ℕ → Option Pair → Option Cause
+repeated_at field_number pair = option_map (λ p. Repeated field_number p.first p.second) pair
+
+abbrev pub inside_fault : List Plain → Option Cause
+inside_fault packages = or_else (repeated_at 501 (folder_twice packages)) (repeated_at 401 (file_twice packages))
+
+abbrev pub between_fault : List Plain → Option Cause
+between_fault packages = or_else (repeated_at 901 (package_twice packages)) (repeated_at 401 (path_in_two packages))
+
+-- the first kind that stands
+unfoldable pub repeated_fault : Which → Plain → Option Cause
+repeated_fault Package v = inside_fault (v ∷ [])
+repeated_fault Idb v = or_else (inside_fault (entries_at 0 v)) (between_fault (entries_at 0 v))
+repeated_fault Intent v = repeated_at 1002 (name_twice v)
+repeated_fault which v = None

@@ -1,0 +1,102 @@
+//! Arrays as lists of views, which cannot fail.
+
+ghost use Rattle.std.specs.Prelude.{◌≡◌, ◌<◌, ◌≤◌, ◌-◌, ◌^◌, ◌==◌, true};
+ghost use Rattle.adb_view.specs.Adb.{payload_of};
+ghost use Rattle.adb_view.specs.Entries.{array_entries};
+ghost use Rattle.adb_view.specs.Plain.{Plain, blob_value};
+ghost use Rattle.adb_tables.specs.Values.{is_sound, value_at, entry_in, entries_in, count_of};
+ghost use Rattle.adb_fields.specs.Fields.{are_all_sound, array_at};
+ghost use Rattle.adb_tables.specs.declared.tables.Kind.{Kind};
+ghost use Rattle.adb_tables.specs.declared.tables.Kind.TheVariants as Kinds;
+
+use crate::reads::text_word;
+use adb_tables::entry_word;
+use adb_view::{Adb, Arr, Val};
+use std::marker::PhantomData;
+
+/// What the words of one kind are shown by.
+pub trait Kinded {
+    ghost kind: { Kind };
+}
+
+/// A view of a sound word.
+pub trait View<'a>: Kinded {
+    /// The plain value that it shows.
+    ghost shows: { Self → Plain };
+
+    /// The view of a word.
+    fn of(adb: Adb<'a>, word: Val) -> Self
+        requires { is_sound (payload_of adb) Self.kind word ≡ true }
+        ensures { shows result ≡ value_at (payload_of adb.entry) Self.kind word };
+}
+
+/// The entries of an array, as views.
+pub struct List<'a, V: Kinded> {
+    adb: Adb<'a>,
+    entries: Arr<'a>,
+    of: PhantomData<V>,
+    ghost sound: { are_all_sound (payload_of adb) V.kind (array_entries entries) ≡ true },
+}
+
+impl<'a, V: View<'a>> List<'a, V> {
+    ghost use Rattle.adb_fields.specs.ListValue.{list_value};
+
+    /// The entries with these words.
+    pub fn of(adb: Adb<'a>, entries: Arr<'a>) -> List<'a, V>
+        requires { are_all_sound (payload_of adb) V.kind (array_entries entries) ≡ true }
+        ensures { list_value result ≡ array_at (payload_of adb.entry) V.kind (array_entries entries.entry) }
+    {
+        List {
+            adb,
+            entries,
+            of: PhantomData,
+        }
+    }
+
+    /// How many entries there are.
+    #[tactic(auto, using(crate::proofs::FieldReads::entry_count))]
+    pub fn len(&self) -> usize
+        ensures value { result ≡ count_of (entries_in (list_value self.now)) }
+        ensures small { result < 2 ^ 32 }
+    {
+        self.entries.len()
+    }
+
+    /// The entry at a place, counted from 1.
+    #[tactic(auto, using(crate::proofs::FieldReads::entry_count, crate::proofs::FieldReads::entry_sound, crate::proofs::FieldReads::entry_value))]
+    pub fn get(&self, i: usize) -> V
+        requires from { 1 ≤ i }
+        requires to { i ≤ count_of (entries_in (list_value self.now)) }
+        ensures { V.shows result ≡ entry_in (list_value self.now) (i - 1) }
+    {
+        let list = self;
+        V::of(list.adb, entry_word(list.entries, i - 1))
+    }
+}
+
+impl<'a, V: Kinded> Copy for List<'a, V> {}
+
+impl<'a, V: Kinded> Clone for List<'a, V> {
+    ghost use Rattle.std.specs.Prelude.{◌≡◌};
+
+    ghost is_clone = { λ list copy. copy ≡ list };
+
+    ghost is_infallible = { λ _. Unit {0} };
+
+    fn clone(&self) -> Result<Self, std::alloc::AllocError> {
+        Ok(*self)
+    }
+}
+
+impl<'a> Kinded for &'a [u8] {
+    ghost kind = { Kinds.Text };
+}
+
+impl<'a> View<'a> for &'a [u8] {
+    ghost shows = { λ text. blob_value text.now };
+
+    #[tactic(auto, using(crate::proofs::FieldReads::text_shown))]
+    fn of(adb: Adb<'a>, word: Val) -> &'a [u8] {
+        text_word(adb, word)
+    }
+}

@@ -1,0 +1,172 @@
+//! The names of a container's lists, with their positions.
+
+ghost use Rattle.std.specs.Prelude.{◌≡◌, ◌+◌, ◌<◌, ◌^◌, ◌++◌, ◌∷◌, [], true, Some, map, length, IfOk};
+ghost use Rattle.std.specs.Vec.{vec_len};
+ghost use Rattle.adb_view.specs.Adb.{payload_of};
+ghost use Rattle.adb_view.specs.Entries.{array_entries};
+ghost use Rattle.adb_tables.specs.Values.{is_sound, value_at, kind_at, text_in};
+ghost use Rattle.adb_fields.specs.Fields.{are_all_sound};
+ghost use Rattle.adb_fields.specs.Repeated.{numbered_from, all_at, name_of, package_name, paths_in, paths_under, by_list_from};
+ghost use Rattle.adb_fields.specs.Paths.{path_of};
+ghost use Rattle.adb_fields.specs.NamedTexts.{named_by, plains_at, named_at};
+ghost use Rattle.adb_tables.specs.declared.tables.Kind.TheVariants as Kinds;
+ghost use Rattle.adb_tables.specs.declared.tables.Which.TheVariants as Tables;
+
+use crate::pairs::Entry;
+use crate::reads::{field_word, objects_field, text_field, text_word};
+use adb_tables::{Which, entry_word};
+use adb_view::{Adb, Arr, Val};
+use std::alloc::{AllocError, Global};
+
+/// Adds a name at the next position.
+fn add<'a>(names: &mut Vec<Entry<'a>>, name: &'a [u8]) -> Result<(), AllocError>
+    requires { vec_len names.old + 1 < 2 ^ 32 }
+    ensures added { IfOk result (λ _. map named_by names.new.items ≡ map named_by names.old.items ++ (named_at name.now (vec_len names.old + 1) ∷ [])) }
+    ensures len { IfOk result (λ _. vec_len names.new ≡ vec_len names.old + 1) }
+{
+    let position = names.len() as u32 + 1;
+    names.push(Entry {
+        folder: &[],
+        name,
+        position,
+    })?;
+    Ok(())
+}
+
+/// The names of folders or files: of objects whose first field is a text.
+#[tactic(auto, using(crate::proofs::FieldReads::entry_sound))]
+pub(crate) fn object_names<'a>(
+    alloc: Global,
+    adb: Adb<'a>,
+    which: Which,
+    objects: Arr<'a>,
+) -> Result<Vec<Entry<'a>>, AllocError>
+    requires sound { are_all_sound (payload_of adb) (Kinds.Obj which) (array_entries objects) ≡ true }
+    requires kind { kind_at which 0 ≡ Some Kinds.Text }
+    ensures { IfOk result (λ names. map named_by names.items ≡ numbered_from 1 (map name_of (plains_at (payload_of adb.entry) (Kinds.Obj which) (array_entries objects.entry)))) }
+{
+    let mut names = Vec::new(alloc);
+    for i in 0..objects.len() {
+        add(
+            &mut names,
+            text_field(adb, which, entry_word(objects, i), 0),
+        )?;
+    }
+    Ok(names)
+}
+
+/// The names of packages.
+#[tactic(auto, using(crate::proofs::FieldReads::entry_sound))]
+pub(crate) fn package_names<'a>(
+    alloc: Global,
+    adb: Adb<'a>,
+    packages: Arr<'a>,
+) -> Result<Vec<Entry<'a>>, AllocError>
+    requires { are_all_sound (payload_of adb) (Kinds.Obj Tables.Package) (array_entries packages) ≡ true }
+    ensures { IfOk result (λ names. map named_by names.items ≡ numbered_from 1 (map package_name (plains_at (payload_of adb.entry) (Kinds.Obj Tables.Package) (array_entries packages.entry)))) }
+{
+    let mut names = Vec::new(alloc);
+    for i in 0..packages.len() {
+        add(&mut names, package_name(adb, entry_word(packages, i)))?;
+    }
+    Ok(names)
+}
+
+/// The name in a package's information.
+fn package_name<'a>(adb: Adb<'a>, pkg: Val) -> &'a [u8]
+    requires { is_sound (payload_of adb) (Kinds.Obj Tables.Package) pkg ≡ true }
+    ensures { result.now ≡ package_name (value_at (payload_of adb.entry) (Kinds.Obj Tables.Package) pkg) }
+{
+    let info = field_word(adb, Which::Package, pkg, 0);
+    text_field(adb, Which::PkgInfo, info, 0)
+}
+
+/// Adds texts behind the names.
+#[tactic(auto, using(crate::proofs::FieldReads::entry_sound))]
+pub(crate) fn add_texts<'a>(
+    names: &mut Vec<Entry<'a>>,
+    adb: Adb<'a>,
+    texts: Arr<'a>,
+) -> Result<(), AllocError>
+    requires sound { are_all_sound (payload_of adb) Kinds.Text (array_entries texts) ≡ true }
+    requires few { vec_len names.old + length (array_entries texts) < 2 ^ 32 }
+    ensures added { IfOk result (λ _. map named_by names.new.items ≡ map named_by names.old.items ++ numbered_from (vec_len names.old + 1) (map text_in (plains_at (payload_of adb.entry) Kinds.Text (array_entries texts.entry)))) }
+    ensures len { IfOk result (λ _. vec_len names.new ≡ vec_len names.old + length (array_entries texts.entry)) }
+{
+    for i in 0..texts.len() {
+        add(names, text_word(adb, entry_word(texts, i)))?;
+    }
+    Ok(())
+}
+
+/// Adds the path of a file in a folder.
+fn add_path<'a>(
+    paths: &mut Vec<Entry<'a>>,
+    folder: &'a [u8],
+    name: &'a [u8],
+    position: u32,
+) -> Result<(), AllocError>
+    ensures { IfOk result (λ _. map named_by paths.new.items ≡ map named_by paths.old.items ++ (named_at (path_of folder.now name.now) position ∷ [])) }
+{
+    paths.push(Entry {
+        folder,
+        name,
+        position,
+    })?;
+    Ok(())
+}
+
+/// Adds the paths of a folder's files, all at one position.
+#[tactic(auto, using(crate::proofs::FieldReads::entry_sound))]
+fn add_paths_under<'a>(
+    paths: &mut Vec<Entry<'a>>,
+    adb: Adb<'a>,
+    folder: Val,
+    position: u32,
+) -> Result<(), AllocError>
+    requires { is_sound (payload_of adb) (Kinds.Obj Tables.Dir) folder ≡ true }
+    ensures { IfOk result (λ _. map named_by paths.new.items ≡ map named_by paths.old.items ++ all_at position (paths_under (value_at (payload_of adb.entry) (Kinds.Obj Tables.Dir) folder))) }
+{
+    let name = text_field(adb, Which::Dir, folder, 0);
+    let files = objects_field(adb, Which::Dir, folder, 2, Which::File);
+    for i in 0..files.len() {
+        let file = text_field(adb, Which::File, entry_word(files, i), 0);
+        add_path(paths, name, file, position)?;
+    }
+    Ok(())
+}
+
+/// Adds the paths of a package, all at one position.
+#[tactic(auto, using(crate::proofs::FieldReads::entry_sound))]
+fn add_paths<'a>(
+    paths: &mut Vec<Entry<'a>>,
+    adb: Adb<'a>,
+    pkg: Val,
+    position: u32,
+) -> Result<(), AllocError>
+    requires { is_sound (payload_of adb) (Kinds.Obj Tables.Package) pkg ≡ true }
+    ensures { IfOk result (λ _. map named_by paths.new.items ≡ map named_by paths.old.items ++ all_at position (paths_in (value_at (payload_of adb.entry) (Kinds.Obj Tables.Package) pkg))) }
+{
+    let folders = objects_field(adb, Which::Package, pkg, 1, Which::Dir);
+    for i in 0..folders.len() {
+        add_paths_under(paths, adb, entry_word(folders, i), position)?;
+    }
+    Ok(())
+}
+
+/// The paths of packages, each at the position of its package.
+#[tactic(auto, using(crate::proofs::FieldReads::entry_sound))]
+pub(crate) fn all_paths<'a>(
+    alloc: Global,
+    adb: Adb<'a>,
+    packages: Arr<'a>,
+) -> Result<Vec<Entry<'a>>, AllocError>
+    requires { are_all_sound (payload_of adb) (Kinds.Obj Tables.Package) (array_entries packages) ≡ true }
+    ensures { IfOk result (λ paths. map named_by paths.items ≡ by_list_from 1 (map paths_in (plains_at (payload_of adb.entry) (Kinds.Obj Tables.Package) (array_entries packages.entry)))) }
+{
+    let mut paths = Vec::new(alloc);
+    for i in 0..packages.len() {
+        add_paths(&mut paths, adb, entry_word(packages, i), i as u32 + 1)?;
+    }
+    Ok(paths)
+}

@@ -1,0 +1,185 @@
+//! Which two positions are reported of the names of a list that stand twice.
+
+ghost use Rattle.std.specs.Prelude.{◌≡◌, ◌<◌, ◌^◌, ◌+◌, ◌≤◌, length, map, take, drop, slice_get, IfSome, ℕ, List};
+ghost use Rattle.std.specs.Cmp.Lexicographic.{slice_cmp};
+ghost use Rattle.std.specs.Ordering.{nat_cmp};
+ghost use Rattle.adb_fields.specs.Pairs.{first_pair, pair_of, earlier, earliest, is_before, IsFirstOf, IsPair};
+ghost use Rattle.adb_fields.specs.NamedTexts.{named_by, named_cmp, neighbours};
+ghost use Rattle.adb_fields.specs.Repeated.{by_list_from, in_two, numbered_from, twice, twice_in_one, IsPairInOne};
+
+use std::cmp::Ordering;
+
+/// Two positions at which one name stands. They count from 1.
+#[derive(Clone, Copy)]
+pub(crate) struct Pair {
+    pub first: u32,
+    pub second: u32,
+}
+
+/// A name and its position, which counts from 1. Where there is a folder, the name is a path: the folder's, `/`, and the
+/// file's.
+#[derive(Clone, Copy)]
+pub(crate) struct Entry<'a> {
+    pub folder: &'a [u8],
+    pub name: &'a [u8],
+    pub position: u32,
+}
+
+impl Pair {
+    /// Whether it is told rather than another: it has the smaller second position, or the same and the smaller first one.
+    fn is_before(&self, other: &Pair) -> bool
+        ensures { result ≡ is_before self.now other.now }
+    {
+        if self.second != other.second {
+            return self.second < other.second;
+        }
+        self.first < other.first
+    }
+}
+
+/// The one of two pairs that is told.
+pub(crate) fn earlier(one: Option<Pair>, other: Option<Pair>) -> Option<Pair>
+    ensures { result ≡ earlier one other }
+{
+    match (one, other) {
+        (None, other) => other,
+        (one, None) => one,
+        (Some(one), Some(other)) => Some(if other.is_before(&one) { other } else { one }),
+    }
+}
+
+/// Of all pairs of positions at which one name stands, the first: the one with the smallest second position, and of
+/// several such the one with the smallest first position. It leaves the names sorted.
+pub(crate) fn first_pair(entries: &mut [Entry<'_>]) -> Option<Pair>
+    ensures { result ≡ first_pair (map named_by entries.old) }
+{
+    entries.sort_unstable_by(|one, other| compared(one, other));
+    first_of_neighbours(entries)
+}
+
+/// The first pair of neighbours.
+fn first_of_neighbours(entries: &[Entry<'_>]) -> Option<Pair>
+    ensures { result ≡ earliest (neighbours (map named_by entries.now)) }
+{
+    let mut first = None;
+    for i in 1..entries.len() {
+        first = earlier(first, pair_of(&entries[i - 1], &entries[i]));
+    }
+    first
+}
+
+/// The pair that an entry and a later one are, if they have one name.
+#[tactic(auto, using(crate::proofs::Compared::same_names))]
+fn pair_of(one: &Entry<'_>, other: &Entry<'_>) -> Option<Pair>
+    ensures { result ≡ pair_of (named_by one.now) (named_by other.now) }
+{
+    if !compared_names(one, other).is_eq() {
+        return None;
+    }
+    if one.position >= other.position {
+        return None;
+    }
+    Some(Pair {
+        first: one.position,
+        second: other.position,
+    })
+}
+
+/// By name, and equal names by position.
+fn compared(one: &Entry<'_>, other: &Entry<'_>) -> Ordering
+    ensures { result ≡ named_cmp (named_by one.now) (named_by other.now) }
+{
+    compared_names(one, other).then(one.position.cmp(&other.position))
+}
+
+/// The order of two names, byte by byte.
+#[tactic(auto, using(crate::proofs::Compared::apart_in_front, crate::proofs::Compared::same_in_front, crate::proofs::Compared::same_folder))]
+fn compared_names(one: &Entry<'_>, other: &Entry<'_>) -> Ordering
+    ensures { result ≡ slice_cmp nat_cmp (named_by one.now).name (named_by other.now).name }
+{
+    let len = one.folder.len().min(other.folder.len());
+    let front = compared_fronts(one.folder, other.folder, len);
+    if !front.is_eq() {
+        return front;
+    }
+    if one.folder.len() == other.folder.len() {
+        return one.name.cmp(&other.name);
+    }
+    compared_from(one, other, len)
+}
+
+/// The order of the first bytes of two texts.
+fn compared_fronts(one: &[u8], other: &[u8], len: usize) -> Ordering
+    requires one { len ≤ length one.now }
+    requires other { len ≤ length other.now }
+    ensures { result ≡ slice_cmp nat_cmp (take len one.now) (take len other.now) }
+{
+    let front = &one[..len];
+    front.cmp(&&other[..len])
+}
+
+/// The order of what is left of two names from a place on.
+fn compared_from(one: &Entry<'_>, other: &Entry<'_>, from: usize) -> Ordering
+    ensures { result ≡ slice_cmp nat_cmp (drop from (named_by one.now).name) (drop from (named_by other.now).name) }
+{
+    let mut i = from;
+    loop {
+        match (one.byte(i), other.byte(i)) {
+            (None, None) => return Ordering::Equal,
+            (None, Some(_)) => return Ordering::Less,
+            (Some(_), None) => return Ordering::Greater,
+            (Some(byte), Some(another)) => {
+                if byte != another {
+                    return byte.cmp(&another);
+                }
+            }
+        }
+        i += 1;
+    }
+}
+
+impl Entry<'_> {
+    /// A byte of the name.
+    fn byte(&self, i: usize) -> Option<u8>
+        ensures byte { result ≡ slice_get (named_by self.now).name i }
+        ensures small { IfSome result (λ _. i + 1 < 2 ^ 64) }
+    {
+        let len = self.folder.len();
+        if len == 0 {
+            return byte_at(self.name, i);
+        }
+        if i < len {
+            return Some(self.folder[i]);
+        }
+        if i == len {
+            return Some(b'/');
+        }
+        byte_at(self.name, i - len - 1)
+    }
+}
+
+fn byte_at(bytes: &[u8], i: usize) -> Option<u8>
+    ensures byte { result ≡ slice_get bytes.now i }
+    ensures small { IfSome result (λ _. i < 2 ^ 63) }
+{
+    if i < bytes.len() {
+        Some(bytes[i])
+    } else {
+        None
+    }
+}
+
+/// Of the names of one list.
+pub fn the_first_pair_of_a_list_is_reported()
+    ensures { (names : List (List ℕ)) → IsFirstOf (IsPair (numbered_from 1 names)) (twice names) }
+{}
+
+/// Of the names of several lists, each for itself.
+pub fn the_first_pair_in_one_of_several_lists_is_reported()
+    ensures { (lists : List (List (List ℕ))) → IsFirstOf (IsPairInOne lists) (twice_in_one lists) }
+{}
+
+/// Of the names that two of several lists have, at the positions of the lists.
+pub fn the_first_pair_of_two_lists_is_reported()
+    ensures { (lists : List (List (List ℕ))) → IsFirstOf (IsPair (by_list_from 1 lists)) (in_two lists) }
+{}

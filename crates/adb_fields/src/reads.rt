@@ -1,0 +1,147 @@
+//! Reads of sound words, and of the fields of sound objects: they cannot fail. Fields count from 0, and a field that is missing
+//! is Null.
+
+ghost use Rattle.std.specs.Prelude.{◌≡◌, ◌<◌, true, Some, length, slice_index};
+ghost use Rattle.adb_view.specs.Adb.{payload_of};
+ghost use Rattle.adb_view.specs.Entries.{array_entries};
+ghost use Rattle.adb_view.specs.Readers.{run_of, OBJECT};
+ghost use Rattle.adb_view.specs.Gives.{Gives};
+ghost use Rattle.adb_tables.specs.Values.{is_sound, value_at, int_in, text_in, kind_at, entry_in};
+ghost use Rattle.adb_fields.specs.Fields.{IsFieldOf, are_all_sound, array_at};
+ghost use Rattle.adb_tables.specs.declared.tables.Kind.TheVariants as Kinds;
+
+use adb_tables::{Which, entry_word, object_entries};
+use adb_view::{Adb, Arr, Val};
+
+/// The field of a sound object, counted from 0; NULL where the object ends before it.
+#[tactic(auto, using(crate::proofs::FieldReads::object_runs))]
+pub fn field_word(adb: Adb<'_>, which: Which, object: Val, i: usize) -> Val
+    requires { is_sound (payload_of adb) (Kinds.Obj which) object ≡ true }
+    ensures { IsFieldOf (payload_of adb.entry) which object i result }
+{
+    match object_entries(adb, object) {
+        Ok(entries) => {
+            if i < entries.len() {
+                entry_word(entries, i)
+            } else {
+                Val::of(0)
+            }
+        }
+        Err(_) => unreachable!(),
+    }
+}
+
+/// The integer that a sound word means.
+#[tactic(auto, using(crate::proofs::FieldReads::int_read_of, crate::proofs::FieldReads::int_reads))]
+pub fn int_word(adb: Adb<'_>, word: Val) -> u64
+    requires { is_sound (payload_of adb) Kinds.Int word ≡ true }
+    ensures { result ≡ int_in (value_at (payload_of adb.entry) Kinds.Int word) }
+{
+    match adb.int(word) {
+        Ok(n) => n,
+        Err(_) => unreachable!(),
+    }
+}
+
+/// The bytes that a sound word means as a text.
+#[tactic(auto, using(crate::proofs::FieldReads::text_read_of, crate::proofs::FieldReads::text_reads))]
+pub fn text_word<'a>(adb: Adb<'a>, word: Val) -> &'a [u8]
+    requires { is_sound (payload_of adb) Kinds.Text word ≡ true }
+    ensures { result.now ≡ text_in (value_at (payload_of adb.entry) Kinds.Text word) }
+{
+    match adb.blob(word) {
+        Ok(bytes) => bytes,
+        Err(_) => unreachable!(),
+    }
+}
+
+/// The bytes that a sound word means as a hash.
+#[tactic(auto, using(crate::proofs::FieldReads::hash_read_of, crate::proofs::FieldReads::hash_reads))]
+pub fn hash_word<'a>(adb: Adb<'a>, word: Val) -> &'a [u8]
+    requires { is_sound (payload_of adb) Kinds.Hash word ≡ true }
+    ensures { result.now ≡ text_in (value_at (payload_of adb.entry) Kinds.Hash word) }
+{
+    match adb.blob(word) {
+        Ok(bytes) => bytes,
+        Err(_) => unreachable!(),
+    }
+}
+
+/// The words of a sound array of texts.
+#[tactic(auto, using(crate::proofs::FieldReads::texts_sound, crate::proofs::FieldReads::texts_value, crate::proofs::FieldReads::texts_run))]
+pub fn texts_word<'a>(adb: Adb<'a>, word: Val) -> Arr<'a>
+    requires { is_sound (payload_of adb) Kinds.TextArr word ≡ true }
+    ensures sound { are_all_sound (payload_of adb.entry) Kinds.Text (array_entries result) ≡ true }
+    ensures value { array_at (payload_of adb.entry) Kinds.Text (array_entries result) ≡ value_at (payload_of adb.entry) Kinds.TextArr word }
+{
+    match adb.arr(word) {
+        Ok(entries) => entries,
+        Err(_) => unreachable!(),
+    }
+}
+
+/// The words of a sound array of objects.
+#[tactic(auto, using(crate::proofs::FieldReads::objects_sound, crate::proofs::FieldReads::objects_value, crate::proofs::FieldReads::objects_run))]
+pub fn objects_word<'a>(adb: Adb<'a>, which: Which, word: Val) -> Arr<'a>
+    requires { is_sound (payload_of adb) (Kinds.ObjArr which) word ≡ true }
+    ensures sound { are_all_sound (payload_of adb.entry) (Kinds.Obj which) (array_entries result) ≡ true }
+    ensures value { array_at (payload_of adb.entry) (Kinds.Obj which) (array_entries result) ≡ value_at (payload_of adb.entry) (Kinds.ObjArr which) word }
+{
+    match adb.arr(word) {
+        Ok(entries) => entries,
+        Err(_) => unreachable!(),
+    }
+}
+
+/// The integer that a field is; Null is 0.
+pub fn int_field(adb: Adb<'_>, which: Which, object: Val, i: usize) -> u64
+    requires sound { is_sound (payload_of adb) (Kinds.Obj which) object ≡ true }
+    requires kind { kind_at which i ≡ Some Kinds.Int }
+    ensures { result ≡ int_in (entry_in (value_at (payload_of adb.entry) (Kinds.Obj which) object) i) }
+{
+    int_word(adb, field_word(adb, which, object, i))
+}
+
+/// The bytes of a text; of Null none.
+pub fn text_field<'a>(adb: Adb<'a>, which: Which, object: Val, i: usize) -> &'a [u8]
+    requires sound { is_sound (payload_of adb) (Kinds.Obj which) object ≡ true }
+    requires kind { kind_at which i ≡ Some Kinds.Text }
+    ensures { result.now ≡ text_in (entry_in (value_at (payload_of adb.entry) (Kinds.Obj which) object) i) }
+{
+    text_word(adb, field_word(adb, which, object, i))
+}
+
+/// The bytes of a hash; of Null none.
+pub fn hash_field<'a>(adb: Adb<'a>, which: Which, object: Val, i: usize) -> &'a [u8]
+    requires sound { is_sound (payload_of adb) (Kinds.Obj which) object ≡ true }
+    requires kind { kind_at which i ≡ Some Kinds.Hash }
+    ensures { result.now ≡ text_in (entry_in (value_at (payload_of adb.entry) (Kinds.Obj which) object) i) }
+{
+    hash_word(adb, field_word(adb, which, object, i))
+}
+
+/// The words of an array of texts.
+pub fn texts_field<'a>(adb: Adb<'a>, which: Which, object: Val, i: usize) -> Arr<'a>
+    requires sound { is_sound (payload_of adb) (Kinds.Obj which) object ≡ true }
+    requires kind { kind_at which i ≡ Some Kinds.TextArr }
+    ensures sound { are_all_sound (payload_of adb.entry) Kinds.Text (array_entries result) ≡ true }
+    ensures value { array_at (payload_of adb.entry) Kinds.Text (array_entries result) ≡ entry_in (value_at (payload_of adb.entry) (Kinds.Obj which) object) i }
+{
+    texts_word(adb, field_word(adb, which, object, i))
+}
+
+/// The words of an array of objects of a table.
+pub fn objects_field<'a>(
+    adb: Adb<'a>,
+    which: Which,
+    object: Val,
+    i: usize,
+    inner: Which,
+) -> Arr<'a>
+    requires sound { is_sound (payload_of adb) (Kinds.Obj which) object ≡ true }
+    requires kind { kind_at which i ≡ Some (Kinds.ObjArr inner) }
+    ensures sound { are_all_sound (payload_of adb.entry) (Kinds.Obj inner) (array_entries result) ≡ true }
+    ensures value { array_at (payload_of adb.entry) (Kinds.Obj inner) (array_entries result) ≡ entry_in (value_at (payload_of adb.entry) (Kinds.Obj which) object) i }
+{
+    objects_word(adb, inner, field_word(adb, which, object, i))
+}

@@ -1,0 +1,200 @@
+//! Names that stand twice in a walked container.
+
+ghost use Rattle.std.specs.Prelude.{◌≡◌, ◌+◌, ◌<◌, ◌^◌, [], ◌∷◌, true, Some, map, IfOk};
+ghost use Rattle.adb_view.specs.Adb.{payload_of};
+ghost use Rattle.adb_view.specs.Entries.{array_entries};
+ghost use Rattle.adb_tables.specs.Values.{count_of, entries_in, entry_in, is_sound, kind_at, value_at};
+ghost use Rattle.adb_fields.specs.Fields.{are_all_sound};
+ghost use Rattle.adb_tables.specs.Shaped.{shaped_value, table_of};
+ghost use Rattle.adb_tables.specs.Walk.{or_else};
+ghost use Rattle.adb_fields.specs.Repeated.{between_fault, file_twice, files_in, folder_twice, folders_in, inside_fault, name_of, name_twice, package_twice, path_in_two, repeated_at, repeated_fault, twice, twice_in_one};
+ghost use Rattle.adb_fields.specs.NamedTexts.{plains_at};
+ghost use Rattle.adb_tables.specs.declared.tables.Kind.TheVariants as Kinds;
+ghost use Rattle.adb_tables.specs.declared.tables.Which.TheVariants as Tables;
+
+use crate::name_lists::{add_texts, all_paths, object_names, package_names};
+use crate::pairs::{Pair, earlier, first_pair};
+use crate::reads::{objects_field, texts_field};
+use adb_tables::{Shaped, Which, entry_word};
+use adb_view::{Adb, Arr, Val};
+use base_core::Cause;
+use std::alloc::{AllocError, Global};
+
+/// Looks for a name that stands twice in a walked container, and answers the cause `Repeated`, or None exactly where
+/// there is none. The kinds are looked at in this order: in a package and in a database two folders of a package, over all
+/// packages, and two files of a folder; in a database also two packages, and one path in two packages, at the positions
+/// of the packages; in an intent two names, of the removals followed by the writes. Of the first kind that stands, the
+/// pair with the smallest second position is reported, and of those the one with the smallest first.
+#[tactic(auto, unfolding(crate::specs::Repeated::repeated_fault))]
+pub fn repeated_names(alloc: Global, shaped: &Shaped<'_>) -> Result<Option<Cause>, AllocError>
+    ensures { IfOk result (λ cause. cause ≡ repeated_fault (table_of shaped.now) (shaped_value shaped.now)) }
+{
+    let adb = shaped.adb();
+    let root = adb.root();
+    match shaped.which() {
+        Which::Package => in_package(alloc, adb, root),
+        Which::Idb => {
+            let packages = objects_field(adb, Which::Idb, root, 0, Which::Package);
+            in_database(alloc, adb, packages)
+        }
+        Which::Intent => in_intent(alloc, adb, root),
+        _ => Ok(None),
+    }
+}
+
+/// The cause of a pair.
+fn repeated_at(field_number: u16, pair: Option<Pair>) -> Option<Cause>
+    ensures { result ≡ repeated_at field_number pair }
+{
+    match pair {
+        Some(Pair { first, second }) => Some(Cause::Repeated {
+            place: field_number,
+            first,
+            second,
+        }),
+        None => None,
+    }
+}
+
+/// Names that stand twice in a package.
+fn in_package(alloc: Global, adb: Adb<'_>, pkg: Val) -> Result<Option<Cause>, AllocError>
+    requires { is_sound (payload_of adb) (Kinds.Obj Tables.Package) pkg ≡ true }
+    ensures { IfOk result (λ cause. cause ≡ inside_fault (value_at (payload_of adb.entry) (Kinds.Obj Tables.Package) pkg ∷ [])) }
+{
+    match repeated_at(501, folder_twice(alloc, adb, pkg)?) {
+        Some(cause) => Ok(Some(cause)),
+        None => Ok(repeated_at(401, file_twice(alloc, adb, pkg)?)),
+    }
+}
+
+/// Names that stand twice in the packages of a database, or in two of them.
+fn in_database(alloc: Global, adb: Adb<'_>, packages: Arr<'_>) -> Result<Option<Cause>, AllocError>
+    requires { are_all_sound (payload_of adb) (Kinds.Obj Tables.Package) (array_entries packages) ≡ true }
+    ensures { IfOk result (λ cause. cause ≡ or_else (inside_fault (plains_at (payload_of adb.entry) (Kinds.Obj Tables.Package) (array_entries packages.entry))) (between_fault (plains_at (payload_of adb.entry) (Kinds.Obj Tables.Package) (array_entries packages.entry)))) }
+{
+    match inside_packages(alloc, adb, packages)? {
+        Some(cause) => Ok(Some(cause)),
+        None => between_packages(alloc, adb, packages),
+    }
+}
+
+/// Names that stand twice within packages.
+fn inside_packages(
+    alloc: Global,
+    adb: Adb<'_>,
+    packages: Arr<'_>,
+) -> Result<Option<Cause>, AllocError>
+    requires { are_all_sound (payload_of adb) (Kinds.Obj Tables.Package) (array_entries packages) ≡ true }
+    ensures { IfOk result (λ cause. cause ≡ inside_fault (plains_at (payload_of adb.entry) (Kinds.Obj Tables.Package) (array_entries packages.entry))) }
+{
+    match repeated_at(501, folders_twice(alloc, adb, packages)?) {
+        Some(cause) => Ok(Some(cause)),
+        None => Ok(repeated_at(401, files_twice(alloc, adb, packages)?)),
+    }
+}
+
+/// Two packages of one name, or one path in two packages.
+fn between_packages(
+    alloc: Global,
+    adb: Adb<'_>,
+    packages: Arr<'_>,
+) -> Result<Option<Cause>, AllocError>
+    requires { are_all_sound (payload_of adb) (Kinds.Obj Tables.Package) (array_entries packages) ≡ true }
+    ensures { IfOk result (λ cause. cause ≡ between_fault (plains_at (payload_of adb.entry) (Kinds.Obj Tables.Package) (array_entries packages.entry))) }
+{
+    let mut names = package_names(alloc, adb, packages)?;
+    match repeated_at(901, first_pair(&mut names)) {
+        Some(cause) => Ok(Some(cause)),
+        None => {
+            let mut paths = all_paths(alloc, adb, packages)?;
+            Ok(repeated_at(401, first_pair(&mut paths)))
+        }
+    }
+}
+
+/// Names that stand twice in an intent.
+fn in_intent(alloc: Global, adb: Adb<'_>, intent: Val) -> Result<Option<Cause>, AllocError>
+    requires sound { is_sound (payload_of adb) (Kinds.Obj Tables.Intent) intent ≡ true }
+    requires few { count_of (entries_in (entry_in (value_at (payload_of adb) (Kinds.Obj Tables.Intent) intent) 0)) + count_of (entries_in (entry_in (value_at (payload_of adb) (Kinds.Obj Tables.Intent) intent) 1)) < 2 ^ 32 }
+    ensures { IfOk result (λ cause. cause ≡ repeated_at 1002 (name_twice (value_at (payload_of adb.entry) (Kinds.Obj Tables.Intent) intent))) }
+{
+    let removals = texts_field(adb, Which::Intent, intent, 0);
+    let writes = texts_field(adb, Which::Intent, intent, 1);
+    let mut names = Vec::new(alloc);
+    add_texts(&mut names, adb, removals)?;
+    add_texts(&mut names, adb, writes)?;
+    Ok(repeated_at(1002, first_pair(&mut names)))
+}
+
+/// A name that two of the objects have, whose first field it is.
+fn name_twice(
+    alloc: Global,
+    adb: Adb<'_>,
+    which: Which,
+    objects: Arr<'_>,
+) -> Result<Option<Pair>, AllocError>
+    requires sound { are_all_sound (payload_of adb) (Kinds.Obj which) (array_entries objects) ≡ true }
+    requires kind { kind_at which 0 ≡ Some Kinds.Text }
+    ensures { IfOk result (λ pair. pair ≡ twice (map name_of (plains_at (payload_of adb.entry) (Kinds.Obj which) (array_entries objects.entry)))) }
+{
+    let mut names = object_names(alloc, adb, which, objects)?;
+    Ok(first_pair(&mut names))
+}
+
+/// A folder that stands twice in a package.
+fn folder_twice(alloc: Global, adb: Adb<'_>, pkg: Val) -> Result<Option<Pair>, AllocError>
+    requires { is_sound (payload_of adb) (Kinds.Obj Tables.Package) pkg ≡ true }
+    ensures { IfOk result (λ pair. pair ≡ twice (map name_of (folders_in (value_at (payload_of adb.entry) (Kinds.Obj Tables.Package) pkg)))) }
+{
+    let folders = objects_field(adb, Which::Package, pkg, 1, Which::Dir);
+    name_twice(alloc, adb, Which::Dir, folders)
+}
+
+/// A file that stands twice in one of a package's folders.
+#[tactic(auto, using(crate::proofs::FieldReads::entry_sound))]
+fn file_twice(alloc: Global, adb: Adb<'_>, pkg: Val) -> Result<Option<Pair>, AllocError>
+    requires { is_sound (payload_of adb) (Kinds.Obj Tables.Package) pkg ≡ true }
+    ensures { IfOk result (λ pair. pair ≡ twice_in_one (map (λ folder. map name_of (files_in folder)) (folders_in (value_at (payload_of adb.entry) (Kinds.Obj Tables.Package) pkg)))) }
+{
+    let folders = objects_field(adb, Which::Package, pkg, 1, Which::Dir);
+    let mut first = None;
+    for i in 0..folders.len() {
+        first = earlier(first, file_twice_in(alloc, adb, entry_word(folders, i))?);
+    }
+    Ok(first)
+}
+
+/// A file that stands twice in a folder.
+fn file_twice_in(alloc: Global, adb: Adb<'_>, folder: Val) -> Result<Option<Pair>, AllocError>
+    requires { is_sound (payload_of adb) (Kinds.Obj Tables.Dir) folder ≡ true }
+    ensures { IfOk result (λ pair. pair ≡ twice (map name_of (files_in (value_at (payload_of adb.entry) (Kinds.Obj Tables.Dir) folder)))) }
+{
+    let files = objects_field(adb, Which::Dir, folder, 2, Which::File);
+    name_twice(alloc, adb, Which::File, files)
+}
+
+/// A folder that stands twice in one of the packages.
+#[tactic(auto, using(crate::proofs::FieldReads::entry_sound))]
+fn folders_twice(alloc: Global, adb: Adb<'_>, packages: Arr<'_>) -> Result<Option<Pair>, AllocError>
+    requires { are_all_sound (payload_of adb) (Kinds.Obj Tables.Package) (array_entries packages) ≡ true }
+    ensures { IfOk result (λ pair. pair ≡ folder_twice (plains_at (payload_of adb.entry) (Kinds.Obj Tables.Package) (array_entries packages.entry))) }
+{
+    let mut first = None;
+    for i in 0..packages.len() {
+        first = earlier(first, folder_twice(alloc, adb, entry_word(packages, i))?);
+    }
+    Ok(first)
+}
+
+/// A file that stands twice in one of the packages' folders.
+#[tactic(auto, using(crate::proofs::FieldReads::entry_sound))]
+fn files_twice(alloc: Global, adb: Adb<'_>, packages: Arr<'_>) -> Result<Option<Pair>, AllocError>
+    requires { are_all_sound (payload_of adb) (Kinds.Obj Tables.Package) (array_entries packages) ≡ true }
+    ensures { IfOk result (λ pair. pair ≡ file_twice (plains_at (payload_of adb.entry) (Kinds.Obj Tables.Package) (array_entries packages.entry))) }
+{
+    let mut first = None;
+    for i in 0..packages.len() {
+        first = earlier(first, file_twice(alloc, adb, entry_word(packages, i))?);
+    }
+    Ok(first)
+}

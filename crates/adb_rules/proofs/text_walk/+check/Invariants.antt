@@ -1,0 +1,33 @@
+use Rattle.std.proofs.Common.{◌≡◌, ◌+◌, ◌*◌, true, drop}
+use Rattle.adb_view.specs.Adb.{payload_of}
+use Rattle.adb_view.specs.Entries.{array_entries}
+use Rattle.adb_tables.specs.Schema.{schema_number, table, shape_of, shapes_of}
+use Rattle.adb_fields.specs.Fields.{are_all_sound, values_at}
+use Rattle.adb_tables.specs.Rank.{rank, rank_of_all}
+use Rattle.adb_tables.specs.Values.{entries_in, value_at}
+use Rattle.adb_rules.specs.Surroundings.{surroundings_of}
+use Rattle.adb_rules.specs.Texts.{each_leaf, field_leaves, first_bad, leaves}
+use Rattle.adb_tables.specs.declared.tables.Kind.TheVariants.{Obj}
+use Rattle.adb_rules.proofs.TextSteps.{behind}
+use Rattle.adb_rules.proofs.text_walk.+check.Given as goal
+
+abbrev pub decreases-check_value : goal.decreases-check_value
+decreases-check_value l = rank l.kind
+
+abbrev pub decreases-check_entries : goal.decreases-check_entries
+decreases-check_entries l = rank l.kind + 1
+
+abbrev pub decreases-check_fields : goal.decreases-check_fields
+decreases-check_fields l = rank_of_all (table l.which) + 1
+
+abbrev pub invariant-check_entries-loop-i : goal.invariant-check_entries-loop-i
+invariant-check_entries-loop-i l = record {
+  sound : are_all_sound (payload_of l.adb) l.kind (drop l.i (array_entries l.entries)) ≡ true;
+  so_far : first_bad (each_leaf (leaves (shape_of l.kind) l.field_number (surroundings_of l.around)) (values_at (payload_of l.adb) l.kind (drop l.i (array_entries l.entries)))) ≡ first_bad (each_leaf (leaves (shape_of l.kind) l.field_number (surroundings_of l.around)) (values_at (payload_of l.adb) l.kind (array_entries l.entries)));
+}
+
+abbrev pub invariant-check_fields-loop-i : goal.invariant-check_fields-loop-i
+invariant-check_fields-loop-i l = record {
+  field_number : l.field_number ≡ 100 * schema_number l.which + l.i;
+  so_far : first_bad (field_leaves (shapes_of (drop l.i (table l.which))) (l.field_number + 1) (surroundings_of l.around) (behind l.i (entries_in (value_at (payload_of l.adb) (Obj l.which) l.object)))) ≡ first_bad (field_leaves (shapes_of (table l.which)) (100 * schema_number l.which + 1) (surroundings_of l.around) (entries_in (value_at (payload_of l.adb) (Obj l.which) l.object)));
+}

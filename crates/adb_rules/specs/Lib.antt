@@ -1,0 +1,6 @@
+-- what the contract of `apk` says
+pub mod Reserved
+pub mod Rules
+pub mod Texts
+-- what only inner contracts and proofs use
+pub mod Surroundings

@@ -1,0 +1,56 @@
+-- What single texts of a container have to be (apk-v3(5), apk-package(5)).
+use Rattle.std.specs.Prelude.{ℕ, ◌==◌, nat_lt, nat_le, Bool, true, false, not, ◌&&◌, ◌||◌, List, [], ◌∷◌, length, codes}
+use Rattle.std.specs.Str.{bytes_eq, is_utf8}
+use Rattle.std.specs.List.{list_any}
+use Rattle.base_core.specs.Name.{is_name}
+use Rattle.adb_rules.specs.Reserved.{is_stage_name}
+use Rattle.adb_fields.specs.Paths.{path_of}
+
+-- ---- lengths of digests in bytes: SHA-1 has 20, SHA-256 32, SHA-512 64
+
+abbrev pub is_digest_length : ℕ → Bool
+is_digest_length len = (len == 20) || (len == 32) || (len == 64)
+
+abbrev pub is_digest_length_or_none : ℕ → Bool
+is_digest_length_or_none len = (len == 0) || is_digest_length len
+
+-- what an index tells of a package: the SHA-256 of its payload, or the first 20 bytes of it
+abbrev pub is_id_length : ℕ → Bool
+is_id_length len = (len == 20) || (len == 32)
+
+-- ---- names
+
+-- empty for the root folder, or a path
+abbrev pub is_folder_name : List ℕ → Bool
+is_folder_name [] = true
+is_folder_name (b ∷ rest) = is_name (b ∷ rest)
+
+-- one part of a path
+abbrev pub is_one_part : List ℕ → Bool
+is_one_part name = is_name name && not (list_any (λ b. b == 47) name)
+
+-- one part, with which the file's path has at most 1,024 bytes
+abbrev pub is_file_name : List ℕ → List ℕ → Bool
+is_file_name folder name = is_one_part name && nat_le (length (path_of folder name)) 1024
+
+-- what a change removes or writes: a path outside of what the change itself is kept in
+abbrev pub is_change_name : List ℕ → Bool
+is_change_name path = is_name path && not (is_stage_name path)
+
+-- ---- other texts
+
+-- where a link leads: the two bytes of 0xa000, the low one first, and a text that is not empty
+abbrev pub is_link : List ℕ → Bool
+is_link [] = false
+is_link (low ∷ []) = false
+is_link (low ∷ high ∷ text) = (low == 0) && (high == 160) && nat_lt 0 (length text) && is_utf8 text
+
+-- empty for a file that is no link
+abbrev pub is_target : List ℕ → Bool
+is_target [] = true
+is_target (b ∷ rest) = is_link (b ∷ rest)
+
+-- how an index names its packages' files: empty, or the one pattern that is known
+abbrev pub is_name_pattern : List ℕ → Bool
+is_name_pattern [] = true
+is_name_pattern (b ∷ rest) = bytes_eq (b ∷ rest) (codes "${name}-${version}.apk")

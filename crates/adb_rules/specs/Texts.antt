@@ -1,0 +1,144 @@
+-- The rules of the texts and numbers of a container, each under the number of its
+-- field, and the first that is broken. The number of a field is 100 times that of its table plus its own in the table.
+use Rattle.std.specs.Prelude.{◌≡◌, ℕ, ◌+◌, ◌*◌, ◌<◌, ◌==◌, nat_lt, Bool, true, false, not, ◌&&◌, if◌then◌else◌, List, [], ◌∷◌, ◌++◌, length, slice_get, Option, Some, None}
+use Rattle.std.specs.List.{list_all}
+use Rattle.version_core.specs.Order.{is_version}
+use Rattle.dep_core.specs.Dependency.{is_dep_name, is_package_name}
+use Rattle.dep_core.specs.Value.{is_matching, is_version_or_empty}
+use Rattle.base_core.specs.declared.cause.Cause.{Cause}
+use Rattle.base_core.specs.declared.cause.Cause.TheVariants.{BadText}
+use Rattle.adb_view.specs.Plain.{Plain, null, Plains, none, more, Shape, number, text, hash, array, object, Fields, no_fields, field}
+use Rattle.adb_rules.specs.Reserved.{is_reserved}
+use Rattle.adb_fields.specs.Paths.{path_of}
+use Rattle.adb_rules.specs.Rules.{is_change_name, is_digest_length, is_digest_length_or_none, is_file_name, is_folder_name, is_id_length, is_name_pattern, is_target}
+use Rattle.adb_tables.specs.Schema.{schema_number, shape_of}
+use Rattle.adb_tables.specs.Values.{entries_in, entry_in, int_in, text_in}
+use Rattle.adb_tables.specs.declared.tables.Which.{Which}
+use Rattle.adb_tables.specs.declared.tables.Which.TheVariants.{File, Dir, Index, Idb}
+use Rattle.adb_tables.specs.declared.tables.Kind.TheVariants.{Obj}
+
+-- what stands around a value, as far as a rule looks at it: the table of the container's root, the name of the folder, and
+-- whether the file has contents
+pub record Surroundings : Type 0 where
+  pub root : Which
+  pub folder : List ℕ
+  pub has_contents : Bool
+
+-- ---- rules that look around
+
+-- in an index each package has its hash
+abbrev pub is_package_hash : Which → ℕ → Bool
+is_package_hash Index len = is_id_length len
+is_package_hash root len = is_digest_length_or_none len
+
+-- no database lists a file under a reserved name, since no change may remove one as a package's file
+abbrev pub may_list : Which → List ℕ → Bool
+may_list Idb path = not (is_reserved path)
+may_list root path = true
+
+abbrev pub is_listed_file : Surroundings → List ℕ → Bool
+is_listed_file around name = is_file_name around.folder name && may_list around.root (path_of around.folder name)
+
+-- a database may lack the hash of a file that has contents
+abbrev pub needs_hash : Which → Bool → Bool
+needs_hash Idb has_contents = false
+needs_hash root has_contents = has_contents
+
+abbrev pub is_file_hash : Surroundings → ℕ → Bool
+is_file_hash around len = if needs_hash around.root around.has_contents then is_digest_length len else is_digest_length_or_none len
+
+-- ---- the rule of each field
+
+abbrev pub number_rule : ℕ → ℕ → Bool
+number_rule field_number n = if field_number == 103 then is_matching n else true
+
+unfoldable pub text_rule : ℕ → Surroundings → List ℕ → Bool
+text_rule field_number around bytes =
+    if field_number == 101 then is_dep_name bytes
+    else if field_number == 102 then is_version_or_empty bytes
+    else if field_number == 301 then is_package_name bytes
+    else if field_number == 302 then is_version bytes
+    else if field_number == 303 then is_package_hash around.root (length bytes)
+    else if field_number == 401 then is_listed_file around bytes
+    else if field_number == 405 then is_file_hash around (length bytes)
+    else if field_number == 406 then is_target bytes
+    else if field_number == 501 then is_folder_name bytes
+    else if field_number == 803 then is_name_pattern bytes
+    else if field_number == 1001 then is_change_name bytes
+    else if field_number == 1002 then is_change_name bytes
+    else true
+
+-- ---- what the walk comes to, in order
+
+-- a number or a text, with the number of its field; Null is 0 or empty
+pub data Leaf : Type 0 where
+  number_leaf : ℕ → ℕ → Leaf
+  text_leaf : ℕ → Surroundings → List ℕ → Leaf
+
+abbrev pub keeps_rule : Leaf → Bool
+keeps_rule (number_leaf field_number n) = number_rule field_number n
+keeps_rule (text_leaf field_number around bytes) = text_rule field_number around bytes
+
+abbrev pub number_of_leaf : Leaf → ℕ
+number_of_leaf (number_leaf field_number n) = field_number
+number_of_leaf (text_leaf field_number around bytes) = field_number
+
+-- a file without target and with a size above 0
+abbrev pub is_with_contents : Plain → Bool
+is_with_contents file = (length (text_in (entry_in file 5)) == 0) && nat_lt 0 (int_in (entry_in file 2))
+
+-- what stands around the fields of an object, whose table has this number
+abbrev pub inside_of : ℕ → Surroundings → Plain → Surroundings
+inside_of schema around v = record {
+  root = around.root;
+  folder = if schema == schema_number Dir then text_in (entry_in v 0) else around.folder;
+  has_contents = if schema == schema_number File then is_with_contents v else around.has_contents;
+}
+
+abbrev pub each_leaf : (Plain → List Leaf) → Plains → List Leaf
+each_leaf f none = []
+each_leaf f (more v vs) = f v ++ each_leaf f vs
+
+-- depth first; of an object each field of its table, and one that is missing is Null
+unfoldable mutual
+  pub leaves : Shape → ℕ → Surroundings → Plain → List Leaf
+  leaves number field_number around v = number_leaf field_number (int_in v) ∷ []
+  leaves text field_number around v = text_leaf field_number around (text_in v) ∷ []
+  leaves hash field_number around v = text_leaf field_number around (text_in v) ∷ []
+  leaves (array s) field_number around v = each_leaf (leaves s field_number around) (entries_in v)
+  leaves (object schema fs) field_number around v = field_leaves fs (100 * schema + 1) (inside_of schema around v) (entries_in v)
+
+  pub field_leaves : Fields → ℕ → Surroundings → Plains → List Leaf
+  field_leaves no_fields field_number around vs = []
+  field_leaves (field name s fs) field_number around none = leaves s field_number around null ++ field_leaves fs (field_number + 1) around none
+  field_leaves (field name s fs) field_number around (more v vs) = leaves s field_number around v ++ field_leaves fs (field_number + 1) around vs
+
+abbrev pub at_root : Which → Surroundings
+at_root which = record { root = which; folder = []; has_contents = false }
+
+-- those of a container
+abbrev pub leaves_of : Which → Plain → List Leaf
+leaves_of which v = leaves (shape_of (Obj which)) 0 (at_root which) v
+
+-- ---- the first fault
+
+abbrev pub first_bad : List Leaf → Option Cause
+first_bad [] = None
+first_bad (leaf ∷ others) = if keeps_rule leaf then first_bad others else Some (BadText (number_of_leaf leaf))
+
+abbrev pub text_fault : Which → Plain → Option Cause
+text_fault which v = first_bad (leaves_of which v)
+
+-- a leaf breaks its rule, and none before it does
+pub record IsFirstBad (all : List Leaf) (c : Cause) : Type 0 where
+  pub i : ℕ
+  pub leaf : Leaf
+  pub at : slice_get all i ≡ Some leaf
+  pub broken : keeps_rule leaf ≡ false
+  pub cause : c ≡ BadText (number_of_leaf leaf)
+  pub before : (j : ℕ) → (other : Leaf) → j < i → slice_get all j ≡ Some other → keeps_rule other ≡ true
+
+-- the cause is that of the first leaf that breaks its rule; without one each keeps its own
+abbrev pub IsFirstBadOf : List Leaf → Option Cause → Type 0
+IsFirstBadOf all None = list_all keeps_rule all ≡ true
+IsFirstBadOf all (Some c) = IsFirstBad all c

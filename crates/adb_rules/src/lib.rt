@@ -1,0 +1,12 @@
+//! The rules that single texts and numbers of a container keep (apk-v3(5), apk-package(5)), and the walk that tests them.
+//!
+//! `check_texts` tests each text and number of a walked payload against the rule of its field. `is_reserved` and its like
+//! say which names below a root no package may hold. The contracts cite `Rules` and `Reserved` (what a text has to be) and
+//! `Texts` (the rule of each field, and the first that is broken).
+#![tactic(auto)]
+
+mod rules;
+mod text_walk;
+
+pub use rules::{is_reserved, is_reserved_file, is_stage_name};
+pub use text_walk::{check_texts, the_first_bad_text_is_reported};

@@ -1,0 +1,288 @@
+//! The text walk: each number and text of a walked payload, against the rule of its field.
+
+ghost use Rattle.std.specs.Prelude.{◌≡◌, ◌==◌, ◌*◌, true, length, ◌+◌, ◌<◌, ◌≤◌, ◌^◌, IfOk, [], ◌∷◌};
+ghost use Rattle.adb_view.specs.Adb.{payload_of};
+ghost use Rattle.adb_tables.specs.Schema.{schema_number, shape_of, shapes_of, table};
+ghost use Rattle.adb_tables.specs.Values.{is_sound, value_at, entries_in};
+ghost use Rattle.adb_fields.specs.Paths.{path_of};
+ghost use Rattle.adb_rules.specs.Surroundings.{surroundings_of};
+ghost use Rattle.adb_tables.specs.Shaped.{shaped_value, table_of};
+ghost use Rattle.adb_rules.specs.Texts.{at_root, inside_of, is_file_hash, is_listed_file, is_package_hash, is_with_contents, may_list, needs_hash, number_rule, text_rule, each_leaf, field_leaves, first_bad, leaves, number_leaf, text_leaf, leaves_of, text_fault, IsFirstBadOf};
+ghost use Rattle.adb_view.specs.Entries.{array_entries};
+ghost use Rattle.adb_view.specs.Gives.{cause_of};
+ghost use Rattle.adb_fields.specs.Fields.{are_all_sound, values_at};
+ghost use Rattle.adb_view.specs.Plain.{Plain};
+ghost use Rattle.adb_tables.specs.declared.tables.Which.{Which};
+ghost use Rattle.adb_tables.specs.declared.tables.Kind.TheVariants as Kinds;
+ghost use Rattle.adb_tables.specs.declared.tables.Which.TheVariants as Tables;
+
+use crate::rules::*;
+use adb_fields::{field_word, hash_word, int_field, int_word, objects_word, text_field, text_word, texts_word};
+use adb_tables::{Kind, Shaped, Which, entry_word, fields_of, number_of};
+use adb_view::{Adb, Arr, Val};
+use base_core::Cause;
+use dep_core::{is_dep_name, is_package_name};
+
+/// The numbers of the fields that have a rule: 100 times the number of the table plus that of the field.
+mod field_number {
+    pub(crate) const DEP_NAME: u16 = 101;
+
+    pub(crate) const DEP_VERSION: u16 = 102;
+
+    pub(crate) const DEP_MATCH: u16 = 103;
+
+    pub(crate) const PKGINFO_NAME: u16 = 301;
+
+    pub(crate) const PKGINFO_VERSION: u16 = 302;
+
+    pub(crate) const PKGINFO_HASHES: u16 = 303;
+
+    pub(crate) const FILE_NAME: u16 = 401;
+
+    pub(crate) const FILE_HASHES: u16 = 405;
+
+    pub(crate) const FILE_TARGET: u16 = 406;
+
+    pub(crate) const DIR_NAME: u16 = 501;
+
+    pub(crate) const INDEX_PKGNAME_SPEC: u16 = 803;
+
+    pub(crate) const INTENT_REMOVALS: u16 = 1001;
+
+    pub(crate) const INTENT_WRITES: u16 = 1002;
+}
+
+/// What stands around a value, as far as a rule looks at it.
+#[derive(Clone, Copy)]
+pub(crate) struct Surroundings<'a> {
+    /// The table of the container's root.
+    root: Which,
+    /// The name of the folder; empty outside of folders, and in the root folder.
+    folder: &'a [u8],
+    /// Whether the file has contents; false outside of files.
+    has_contents: bool,
+}
+
+impl<'a> Surroundings<'a> {
+    /// What stands around the root.
+    pub(crate) fn at_root(root: Which) -> Surroundings<'a>
+        ensures { surroundings_of result ≡ at_root root }
+    {
+        Surroundings {
+            root,
+            folder: &[],
+            has_contents: false,
+        }
+    }
+
+    /// What stands around the fields of an object.
+    pub(crate) fn inside(self, adb: Adb<'a>, which: Which, object: Val) -> Surroundings<'a>
+        requires { is_sound (payload_of adb) (Kinds.Obj which) object ≡ true }
+        ensures { surroundings_of result ≡ inside_of (schema_number which) (surroundings_of self.entry) (value_at (payload_of adb.entry) (Kinds.Obj which) object) }
+    {
+        match which {
+            Which::Dir => Surroundings {
+                root: self.root,
+                folder: text_field(adb, Which::Dir, object, 0),
+                has_contents: self.has_contents,
+            },
+            Which::File => Surroundings {
+                root: self.root,
+                folder: self.folder,
+                has_contents: has_contents(adb, object),
+            },
+            _ => self,
+        }
+    }
+
+    /// Whether a file of the folder may have this name.
+    fn takes_file_name(&self, name: &[u8]) -> bool
+        ensures { result ≡ is_listed_file (surroundings_of self.now) name.now }
+    {
+        is_file_name(self.folder, name) && self.may_list(name)
+    }
+
+    /// Whether the container may list a file of this name in the folder: a database none under a reserved name.
+    fn may_list(&self, name: &[u8]) -> bool
+        ensures { result ≡ may_list self.now.root (path_of self.now.folder.now name.now) }
+    {
+        match self.root {
+            Which::Idb => !is_reserved_file(self.folder, name),
+            _ => true,
+        }
+    }
+
+    /// Whether a package's hash may have so many bytes.
+    fn takes_package_hash(&self, len: usize) -> bool
+        ensures { result ≡ is_package_hash (surroundings_of self.now).root len }
+    {
+        match self.root {
+            Which::Index => is_id_length(len),
+            _ => is_digest_length_or_none(len),
+        }
+    }
+
+    /// Whether the file's hash may have so many bytes.
+    fn takes_file_hash(&self, len: usize) -> bool
+        ensures { result ≡ is_file_hash (surroundings_of self.now) len }
+    {
+        if self.has_contents && self.root != Which::Idb {
+            is_digest_length(len)
+        } else {
+            is_digest_length_or_none(len)
+        }
+    }
+}
+
+/// Whether a file has contents: no target, and a size above 0.
+fn has_contents(adb: Adb<'_>, file: Val) -> bool
+    requires { is_sound (payload_of adb) (Kinds.Obj Tables.File) file ≡ true }
+    ensures { result ≡ is_with_contents (value_at (payload_of adb.entry) (Kinds.Obj Tables.File) file) }
+{
+    let target = text_field(adb, Which::File, file, 5);
+    target.is_empty() && int_field(adb, Which::File, file, 2) > 0
+}
+
+/// Whether the number keeps the rule of its field.
+pub(crate) fn keeps_number_rule(field_number: u16, n: u64) -> bool
+    ensures { result ≡ number_rule field_number n }
+{
+    match field_number {
+        field_number::DEP_MATCH => is_matching(n),
+        _ => true,
+    }
+}
+
+/// Whether the bytes keep the rule of their field.
+#[tactic(auto, unfolding(crate::specs::Texts::text_rule))]
+pub(crate) fn keeps_text_rule(field_number: u16, around: &Surroundings<'_>, bytes: &[u8]) -> bool
+    ensures { result ≡ text_rule field_number (surroundings_of around.now) bytes.now }
+{
+    match field_number {
+        field_number::DEP_NAME => is_dep_name(bytes),
+        field_number::DEP_VERSION => is_version_or_empty(bytes),
+        field_number::PKGINFO_NAME => is_package_name(bytes),
+        field_number::PKGINFO_VERSION => is_version(bytes),
+        field_number::PKGINFO_HASHES => around.takes_package_hash(bytes.len()),
+        field_number::FILE_NAME => around.takes_file_name(bytes),
+        field_number::FILE_HASHES => around.takes_file_hash(bytes.len()),
+        field_number::FILE_TARGET => is_target(bytes),
+        field_number::DIR_NAME => is_folder_name(bytes),
+        field_number::INDEX_PKGNAME_SPEC => is_name_pattern(bytes),
+        field_number::INTENT_REMOVALS | field_number::INTENT_WRITES => is_change_name(bytes),
+        _ => true,
+    }
+}
+
+/// Tests each text and number of a walked payload against the rule of its field. It takes no memory.
+///
+/// # Errors
+///
+/// `BadText` with the number of the first field that breaks its rule, depth first and field by field; a missing field
+/// counts as Null.
+pub fn check_texts(shaped: Shaped<'_>) -> Result<(), Cause>
+    ensures { cause_of result ≡ text_fault (table_of shaped.entry) (shaped_value shaped.entry) }
+{
+    let adb = shaped.adb();
+    let which = shaped.which();
+    check_value(adb, Kind::Obj(which), 0, Surroundings::at_root(which), adb.root())
+}
+
+/// Checks a value, and what lies below it.
+#[cycle(check)]
+fn check_value<'a>(
+    adb: Adb<'a>,
+    kind: Kind,
+    field_number: u16,
+    around: Surroundings<'a>,
+    word: Val,
+) -> Result<(), Cause>
+    requires { is_sound (payload_of adb) kind word ≡ true }
+    ensures { cause_of result ≡ first_bad (leaves (shape_of kind) field_number (surroundings_of around.entry) (value_at (payload_of adb.entry) kind word)) }
+{
+    match kind {
+        Kind::Int => check_number(field_number, int_word(adb, word)),
+        Kind::Text => check_text(field_number, &around, text_word(adb, word)),
+        Kind::Hash => check_text(field_number, &around, hash_word(adb, word)),
+        Kind::TextArr => {
+            let texts = texts_word(adb, word);
+            check_entries(adb, Kind::Text, field_number, around, texts)
+        }
+        Kind::ObjArr(which) => {
+            let objects = objects_word(adb, which, word);
+            check_entries(adb, Kind::Obj(which), field_number, around, objects)
+        }
+        Kind::Obj(which) => {
+            let inside = around.inside(adb, which, word);
+            check_fields(adb, which, inside, word)
+        }
+    }
+}
+
+/// Checks the entries of an array.
+#[cycle(check)]
+fn check_entries<'a>(
+    adb: Adb<'a>,
+    kind: Kind,
+    field_number: u16,
+    around: Surroundings<'a>,
+    entries: Arr<'a>,
+) -> Result<(), Cause>
+    requires { are_all_sound (payload_of adb) kind (array_entries entries) ≡ true }
+    ensures { cause_of result ≡ first_bad (each_leaf (leaves (shape_of kind) field_number (surroundings_of around.entry)) (values_at (payload_of adb.entry) kind (array_entries entries.entry))) }
+{
+    for i in 0..entries.len() {
+        check_value(adb, kind, field_number, around, entry_word(entries, i))?;
+    }
+    Ok(())
+}
+
+/// Checks the fields of an object, each of those of its table.
+#[cycle(check)]
+fn check_fields<'a>(
+    adb: Adb<'a>,
+    which: Which,
+    around: Surroundings<'a>,
+    object: Val,
+) -> Result<(), Cause>
+    requires { is_sound (payload_of adb) (Kinds.Obj which) object ≡ true }
+    ensures { cause_of result ≡ first_bad (field_leaves (shapes_of (table which)) (100 * schema_number which + 1) (surroundings_of around.entry) (entries_in (value_at (payload_of adb.entry) (Kinds.Obj which) object))) }
+{
+    let mut field_number = 100 * number_of(which);
+    for (i, field) in fields_of(which).iter().enumerate() {
+        field_number += 1;
+        let word = field_word(adb, which, object, i);
+        check_value(adb, field.kind, field_number, around, word)?;
+    }
+    Ok(())
+}
+
+fn check_number(field_number: u16, n: u64) -> Result<(), Cause>
+    ensures { cause_of result ≡ first_bad (number_leaf field_number n ∷ []) }
+{
+    if keeps_number_rule(field_number, n) {
+        Ok(())
+    } else {
+        Err(Cause::BadText {
+            place: field_number,
+        })
+    }
+}
+
+fn check_text(field_number: u16, around: &Surroundings<'_>, bytes: &[u8]) -> Result<(), Cause>
+    ensures { cause_of result ≡ first_bad (text_leaf field_number (surroundings_of around.now) bytes.now ∷ []) }
+{
+    if keeps_text_rule(field_number, around, bytes) {
+        Ok(())
+    } else {
+        Err(Cause::BadText {
+            place: field_number,
+        })
+    }
+}
+
+/// The cause that the text walk reports is that of the first text or number that breaks the rule of its field, depth first
+/// and field by field; none is reported exactly where each keeps its rule.
+pub fn the_first_bad_text_is_reported()
+    ensures { (which : Which) (value : Plain) → IsFirstBadOf (leaves_of which value) (text_fault which value) }
+{}

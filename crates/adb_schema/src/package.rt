@@ -1,0 +1,326 @@
+//! Views of a package: its folders, its files, their rights, and its scripts.
+
+ghost use Rattle.std.specs.Prelude.{◌≡◌, true};
+ghost use Rattle.adb_view.specs.Adb.{payload_of};
+ghost use Rattle.adb_tables.specs.Values.{is_sound, value_at};
+ghost use Rattle.adb_tables.specs.declared.tables.Kind.TheVariants as Kinds;
+ghost use Rattle.adb_tables.specs.declared.tables.Which.TheVariants as Tables;
+
+use crate::package_info::PkgInfo;
+use adb_fields::{Kinded, List, View, field_word, hash_field, int_field, objects_field, text_field, texts_field};
+use adb_tables::Which;
+use adb_view::{Adb, Val};
+
+/// Who may do what with a file or a folder.
+#[derive(Clone, Copy)]
+pub struct AclView<'a> {
+    adb: Adb<'a>,
+    word: Val,
+    ghost sound: { is_sound (payload_of adb) (Kinds.Obj Tables.Acl) word ≡ true },
+}
+
+impl<'a> Kinded for AclView<'a> {
+    ghost kind = { Kinds.Obj Tables.Acl };
+}
+
+impl<'a> View<'a> for AclView<'a> {
+    ghost shows = { λ view. value_at (payload_of view.adb) (Kinds.Obj Tables.Acl) view.word };
+
+    fn of(adb: Adb<'a>, word: Val) -> AclView<'a> {
+        AclView { adb, word }
+    }
+}
+
+impl<'a> AclView<'a> {
+    ghost use Rattle.adb_tables.specs.Values.{entry_in, int_in, text_in};
+    ghost use Rattle.adb_schema.specs.Views.{acl_value};
+    ghost use Rattle.adb_fields.specs.ListValue.{list_value};
+
+    /// The mode bits.
+    pub fn mode(&self) -> u64
+        ensures { result ≡ int_in (entry_in (acl_value self.now) 0) }
+    {
+        int_field(self.adb, Which::Acl, self.word, 0)
+    }
+
+    /// The owner's name.
+    pub fn user(&self) -> &'a [u8]
+        ensures { result.now ≡ text_in (entry_in (acl_value self.now) 1) }
+    {
+        text_field(self.adb, Which::Acl, self.word, 1)
+    }
+
+    /// The group's name.
+    pub fn group(&self) -> &'a [u8]
+        ensures { result.now ≡ text_in (entry_in (acl_value self.now) 2) }
+    {
+        text_field(self.adb, Which::Acl, self.word, 2)
+    }
+
+    /// The extended attributes.
+    pub fn xattrs(&self) -> List<'a, &'a [u8]>
+        ensures { list_value result ≡ entry_in (acl_value self.now) 3 }
+    {
+        List::of(self.adb, texts_field(self.adb, Which::Acl, self.word, 3))
+    }
+}
+
+/// A file of a folder.
+#[derive(Clone, Copy)]
+pub struct FileInfo<'a> {
+    adb: Adb<'a>,
+    word: Val,
+    ghost sound: { is_sound (payload_of adb) (Kinds.Obj Tables.File) word ≡ true },
+}
+
+impl<'a> Kinded for FileInfo<'a> {
+    ghost kind = { Kinds.Obj Tables.File };
+}
+
+impl<'a> View<'a> for FileInfo<'a> {
+    ghost shows = { λ view. value_at (payload_of view.adb) (Kinds.Obj Tables.File) view.word };
+
+    fn of(adb: Adb<'a>, word: Val) -> FileInfo<'a> {
+        FileInfo { adb, word }
+    }
+}
+
+impl<'a> FileInfo<'a> {
+    ghost use Rattle.adb_tables.specs.Values.{entry_in, int_in, text_in};
+    ghost use Rattle.adb_schema.specs.Views.{acl_value, file_value};
+
+    /// The file's name in its folder.
+    pub fn name(&self) -> &'a [u8]
+        ensures { result.now ≡ text_in (entry_in (file_value self.now) 0) }
+    {
+        text_field(self.adb, Which::File, self.word, 0)
+    }
+
+    /// The file's owner and mode.
+    pub fn acl(&self) -> AclView<'a>
+        ensures { acl_value result ≡ entry_in (file_value self.now) 1 }
+    {
+        AclView::of(self.adb, field_word(self.adb, Which::File, self.word, 1))
+    }
+
+    /// Its size in bytes.
+    pub fn size(&self) -> u64
+        ensures { result ≡ int_in (entry_in (file_value self.now) 2) }
+    {
+        int_field(self.adb, Which::File, self.word, 2)
+    }
+
+    /// When it was changed, in seconds since 1970.
+    pub fn mtime(&self) -> u64
+        ensures { result ≡ int_in (entry_in (file_value self.now) 3) }
+    {
+        int_field(self.adb, Which::File, self.word, 3)
+    }
+
+    /// The digest of its bytes.
+    pub fn hashes(&self) -> &'a [u8]
+        ensures { result.now ≡ text_in (entry_in (file_value self.now) 4) }
+    {
+        hash_field(self.adb, Which::File, self.word, 4)
+    }
+
+    /// A link's target, behind a number of two bytes; empty for a regular file.
+    pub fn target(&self) -> &'a [u8]
+        ensures { result.now ≡ text_in (entry_in (file_value self.now) 5) }
+    {
+        text_field(self.adb, Which::File, self.word, 5)
+    }
+
+    /// A place that is held.
+    pub fn unused(&self) -> u64
+        ensures { result ≡ int_in (entry_in (file_value self.now) 6) }
+    {
+        int_field(self.adb, Which::File, self.word, 6)
+    }
+}
+
+/// A folder of a package.
+#[derive(Clone, Copy)]
+pub struct DirInfo<'a> {
+    adb: Adb<'a>,
+    word: Val,
+    ghost sound: { is_sound (payload_of adb) (Kinds.Obj Tables.Dir) word ≡ true },
+}
+
+impl<'a> Kinded for DirInfo<'a> {
+    ghost kind = { Kinds.Obj Tables.Dir };
+}
+
+impl<'a> View<'a> for DirInfo<'a> {
+    ghost shows = { λ view. value_at (payload_of view.adb) (Kinds.Obj Tables.Dir) view.word };
+
+    fn of(adb: Adb<'a>, word: Val) -> DirInfo<'a> {
+        DirInfo { adb, word }
+    }
+}
+
+impl<'a> DirInfo<'a> {
+    ghost use Rattle.adb_tables.specs.Values.{entry_in, text_in};
+    ghost use Rattle.adb_schema.specs.Views.{acl_value, dir_value};
+    ghost use Rattle.adb_fields.specs.ListValue.{list_value};
+
+    /// The folder's path; empty for the root.
+    pub fn name(&self) -> &'a [u8]
+        ensures { result.now ≡ text_in (entry_in (dir_value self.now) 0) }
+    {
+        text_field(self.adb, Which::Dir, self.word, 0)
+    }
+
+    /// The folder's owner and mode.
+    pub fn acl(&self) -> AclView<'a>
+        ensures { acl_value result ≡ entry_in (dir_value self.now) 1 }
+    {
+        AclView::of(self.adb, field_word(self.adb, Which::Dir, self.word, 1))
+    }
+
+    /// Its files.
+    pub fn files(&self) -> List<'a, FileInfo<'a>>
+        ensures { list_value result ≡ entry_in (dir_value self.now) 2 }
+    {
+        let entries =
+            objects_field(self.adb, Which::Dir, self.word, 2, Which::File);
+        List::of(self.adb, entries)
+    }
+}
+
+/// A package's scripts.
+#[derive(Clone, Copy)]
+pub struct ScriptsView<'a> {
+    adb: Adb<'a>,
+    word: Val,
+    ghost sound: { is_sound (payload_of adb) (Kinds.Obj Tables.Scripts) word ≡ true },
+}
+
+impl<'a> Kinded for ScriptsView<'a> {
+    ghost kind = { Kinds.Obj Tables.Scripts };
+}
+
+impl<'a> View<'a> for ScriptsView<'a> {
+    ghost shows = { λ view. value_at (payload_of view.adb) (Kinds.Obj Tables.Scripts) view.word };
+
+    fn of(adb: Adb<'a>, word: Val) -> ScriptsView<'a> {
+        ScriptsView { adb, word }
+    }
+}
+
+impl<'a> ScriptsView<'a> {
+    ghost use Rattle.adb_tables.specs.Values.{entry_in, text_in};
+    ghost use Rattle.adb_schema.specs.Views.{scripts_value};
+
+    /// Runs where a watched folder has changed.
+    pub fn trigger(&self) -> &'a [u8]
+        ensures { result.now ≡ text_in (entry_in (scripts_value self.now) 0) }
+    {
+        text_field(self.adb, Which::Scripts, self.word, 0)
+    }
+
+    /// Runs before an installation.
+    pub fn pre_install(&self) -> &'a [u8]
+        ensures { result.now ≡ text_in (entry_in (scripts_value self.now) 1) }
+    {
+        text_field(self.adb, Which::Scripts, self.word, 1)
+    }
+
+    /// Runs after an installation.
+    pub fn post_install(&self) -> &'a [u8]
+        ensures { result.now ≡ text_in (entry_in (scripts_value self.now) 2) }
+    {
+        text_field(self.adb, Which::Scripts, self.word, 2)
+    }
+
+    /// Runs before a removal.
+    pub fn pre_deinstall(&self) -> &'a [u8]
+        ensures { result.now ≡ text_in (entry_in (scripts_value self.now) 3) }
+    {
+        text_field(self.adb, Which::Scripts, self.word, 3)
+    }
+
+    /// Runs after a removal.
+    pub fn post_deinstall(&self) -> &'a [u8]
+        ensures { result.now ≡ text_in (entry_in (scripts_value self.now) 4) }
+    {
+        text_field(self.adb, Which::Scripts, self.word, 4)
+    }
+
+    /// Runs before an upgrade.
+    pub fn pre_upgrade(&self) -> &'a [u8]
+        ensures { result.now ≡ text_in (entry_in (scripts_value self.now) 5) }
+    {
+        text_field(self.adb, Which::Scripts, self.word, 5)
+    }
+
+    /// Runs after an upgrade.
+    pub fn post_upgrade(&self) -> &'a [u8]
+        ensures { result.now ≡ text_in (entry_in (scripts_value self.now) 6) }
+    {
+        text_field(self.adb, Which::Scripts, self.word, 6)
+    }
+}
+
+/// A package.
+#[derive(Clone, Copy)]
+pub struct PackageView<'a> {
+    adb: Adb<'a>,
+    word: Val,
+    ghost sound: { is_sound (payload_of adb) (Kinds.Obj Tables.Package) word ≡ true },
+}
+
+impl<'a> Kinded for PackageView<'a> {
+    ghost kind = { Kinds.Obj Tables.Package };
+}
+
+impl<'a> View<'a> for PackageView<'a> {
+    ghost shows = { λ view. value_at (payload_of view.adb) (Kinds.Obj Tables.Package) view.word };
+
+    fn of(adb: Adb<'a>, word: Val) -> PackageView<'a> {
+        PackageView { adb, word }
+    }
+}
+
+impl<'a> PackageView<'a> {
+    ghost use Rattle.adb_tables.specs.Values.{entry_in, int_in};
+    ghost use Rattle.adb_schema.specs.Views.{info_value, package_value, scripts_value};
+    ghost use Rattle.adb_fields.specs.ListValue.{list_value};
+
+    /// What is told of it.
+    pub fn info(&self) -> PkgInfo<'a>
+        ensures { info_value result ≡ entry_in (package_value self.now) 0 }
+    {
+        PkgInfo::of(self.adb, field_word(self.adb, Which::Package, self.word, 0))
+    }
+
+    /// Its folders, with their files.
+    pub fn paths(&self) -> List<'a, DirInfo<'a>>
+        ensures { list_value result ≡ entry_in (package_value self.now) 1 }
+    {
+        let entries =
+            objects_field(self.adb, Which::Package, self.word, 1, Which::Dir);
+        List::of(self.adb, entries)
+    }
+
+    /// Its scripts.
+    pub fn scripts(&self) -> ScriptsView<'a>
+        ensures { scripts_value result ≡ entry_in (package_value self.now) 2 }
+    {
+        ScriptsView::of(self.adb, field_word(self.adb, Which::Package, self.word, 2))
+    }
+
+    /// The folders that its trigger watches.
+    pub fn triggers(&self) -> List<'a, &'a [u8]>
+        ensures { list_value result ≡ entry_in (package_value self.now) 3 }
+    {
+        List::of(self.adb, texts_field(self.adb, Which::Package, self.word, 3))
+    }
+
+    /// How much it is preferred where packages own one file.
+    pub fn replaces_priority(&self) -> u64
+        ensures { result ≡ int_in (entry_in (package_value self.now) 4) }
+    {
+        int_field(self.adb, Which::Package, self.word, 4)
+    }
+}

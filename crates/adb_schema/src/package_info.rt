@@ -1,0 +1,247 @@
+//! Views of what is told of a package: its information and its dependencies.
+
+ghost use Rattle.std.specs.Prelude.{◌≡◌, true};
+ghost use Rattle.adb_view.specs.Adb.{payload_of};
+ghost use Rattle.adb_tables.specs.Values.{is_sound, value_at};
+ghost use Rattle.adb_tables.specs.declared.tables.Kind.TheVariants as Kinds;
+ghost use Rattle.adb_tables.specs.declared.tables.Which.TheVariants as Tables;
+
+use adb_fields::{Kinded, List, View, hash_field, int_field, objects_field, text_field, texts_field};
+use adb_tables::Which;
+use adb_view::{Adb, Val};
+
+/// A dependency.
+#[derive(Clone, Copy)]
+pub struct DepView<'a> {
+    adb: Adb<'a>,
+    word: Val,
+    ghost sound: { is_sound (payload_of adb) (Kinds.Obj Tables.Dep) word ≡ true },
+}
+
+impl<'a> Kinded for DepView<'a> {
+    ghost kind = { Kinds.Obj Tables.Dep };
+}
+
+impl<'a> View<'a> for DepView<'a> {
+    ghost shows = { λ view. value_at (payload_of view.adb) (Kinds.Obj Tables.Dep) view.word };
+
+    fn of(adb: Adb<'a>, word: Val) -> DepView<'a> {
+        DepView { adb, word }
+    }
+}
+
+impl<'a> DepView<'a> {
+    ghost use Rattle.adb_tables.specs.Values.{entry_in, int_in, text_in};
+    ghost use Rattle.adb_schema.specs.Views.{dependency_value};
+
+    /// The name that is asked for.
+    pub fn name(&self) -> &'a [u8]
+        ensures { result.now ≡ text_in (entry_in (dependency_value self.now) 0) }
+    {
+        text_field(self.adb, Which::Dep, self.word, 0)
+    }
+
+    /// The version that it is compared with; empty for none.
+    pub fn version(&self) -> &'a [u8]
+        ensures { result.now ≡ text_in (entry_in (dependency_value self.now) 1) }
+    {
+        text_field(self.adb, Which::Dep, self.word, 1)
+    }
+
+    /// How it is compared: the bits 1 equal, 2 less, 4 greater, 8 fuzzy, 16 conflict.
+    pub fn matching(&self) -> u64
+        ensures { result ≡ int_in (entry_in (dependency_value self.now) 2) }
+    {
+        int_field(self.adb, Which::Dep, self.word, 2)
+    }
+}
+
+/// What is told of a package.
+#[derive(Clone, Copy)]
+pub struct PkgInfo<'a> {
+    adb: Adb<'a>,
+    word: Val,
+    ghost sound: { is_sound (payload_of adb) (Kinds.Obj Tables.PkgInfo) word ≡ true },
+}
+
+impl<'a> Kinded for PkgInfo<'a> {
+    ghost kind = { Kinds.Obj Tables.PkgInfo };
+}
+
+impl<'a> View<'a> for PkgInfo<'a> {
+    ghost shows = { λ view. value_at (payload_of view.adb) (Kinds.Obj Tables.PkgInfo) view.word };
+
+    fn of(adb: Adb<'a>, word: Val) -> PkgInfo<'a> {
+        PkgInfo { adb, word }
+    }
+}
+
+impl<'a> PkgInfo<'a> {
+    ghost use Rattle.adb_tables.specs.Values.{entry_in, int_in, text_in};
+    ghost use Rattle.adb_schema.specs.Views.{info_value};
+    ghost use Rattle.adb_fields.specs.ListValue.{list_value};
+
+    /// The package's name.
+    pub fn name(&self) -> &'a [u8]
+        ensures { result.now ≡ text_in (entry_in (info_value self.now) 0) }
+    {
+        text_field(self.adb, Which::PkgInfo, self.word, 0)
+    }
+
+    /// The package's version.
+    pub fn version(&self) -> &'a [u8]
+        ensures { result.now ≡ text_in (entry_in (info_value self.now) 1) }
+    {
+        text_field(self.adb, Which::PkgInfo, self.word, 1)
+    }
+
+    /// A digest: in an index the package's id or the first 20 bytes of it; empty where none is known.
+    pub fn hashes(&self) -> &'a [u8]
+        ensures { result.now ≡ text_in (entry_in (info_value self.now) 2) }
+    {
+        hash_field(self.adb, Which::PkgInfo, self.word, 2)
+    }
+
+    /// What the package is, in a line.
+    pub fn description(&self) -> &'a [u8]
+        ensures { result.now ≡ text_in (entry_in (info_value self.now) 3) }
+    {
+        text_field(self.adb, Which::PkgInfo, self.word, 3)
+    }
+
+    /// The architecture.
+    pub fn arch(&self) -> &'a [u8]
+        ensures { result.now ≡ text_in (entry_in (info_value self.now) 4) }
+    {
+        text_field(self.adb, Which::PkgInfo, self.word, 4)
+    }
+
+    /// The license.
+    pub fn license(&self) -> &'a [u8]
+        ensures { result.now ≡ text_in (entry_in (info_value self.now) 5) }
+    {
+        text_field(self.adb, Which::PkgInfo, self.word, 5)
+    }
+
+    /// The package that it was built from.
+    pub fn origin(&self) -> &'a [u8]
+        ensures { result.now ≡ text_in (entry_in (info_value self.now) 6) }
+    {
+        text_field(self.adb, Which::PkgInfo, self.word, 6)
+    }
+
+    /// Who maintains it.
+    pub fn maintainer(&self) -> &'a [u8]
+        ensures { result.now ≡ text_in (entry_in (info_value self.now) 7) }
+    {
+        text_field(self.adb, Which::PkgInfo, self.word, 7)
+    }
+
+    /// Where to read of it.
+    pub fn url(&self) -> &'a [u8]
+        ensures { result.now ≡ text_in (entry_in (info_value self.now) 8) }
+    {
+        text_field(self.adb, Which::PkgInfo, self.word, 8)
+    }
+
+    /// The commit of the recipe, as bytes.
+    pub fn repo_commit(&self) -> &'a [u8]
+        ensures { result.now ≡ text_in (entry_in (info_value self.now) 9) }
+    {
+        hash_field(self.adb, Which::PkgInfo, self.word, 9)
+    }
+
+    /// When it was built, in seconds since 1970.
+    pub fn build_time(&self) -> u64
+        ensures { result ≡ int_in (entry_in (info_value self.now) 10) }
+    {
+        int_field(self.adb, Which::PkgInfo, self.word, 10)
+    }
+
+    /// The size of its installed files in bytes.
+    pub fn installed_size(&self) -> u64
+        ensures { result ≡ int_in (entry_in (info_value self.now) 11) }
+    {
+        int_field(self.adb, Which::PkgInfo, self.word, 11)
+    }
+
+    /// The size of the package's file in bytes.
+    pub fn file_size(&self) -> u64
+        ensures { result ≡ int_in (entry_in (info_value self.now) 12) }
+    {
+        int_field(self.adb, Which::PkgInfo, self.word, 12)
+    }
+
+    /// How much it is preferred among providers of one name.
+    pub fn provider_priority(&self) -> u64
+        ensures { result ≡ int_in (entry_in (info_value self.now) 13) }
+    {
+        int_field(self.adb, Which::PkgInfo, self.word, 13)
+    }
+
+    /// What it needs.
+    pub fn depends(&self) -> List<'a, DepView<'a>>
+        ensures { list_value result ≡ entry_in (info_value self.now) 14 }
+    {
+        let entries =
+            objects_field(self.adb, Which::PkgInfo, self.word, 14, Which::Dep);
+        List::of(self.adb, entries)
+    }
+
+    /// What it provides besides its own name.
+    pub fn provides(&self) -> List<'a, DepView<'a>>
+        ensures { list_value result ≡ entry_in (info_value self.now) 15 }
+    {
+        let entries =
+            objects_field(self.adb, Which::PkgInfo, self.word, 15, Which::Dep);
+        List::of(self.adb, entries)
+    }
+
+    /// The packages whose files it may take over.
+    pub fn replaces(&self) -> List<'a, DepView<'a>>
+        ensures { list_value result ≡ entry_in (info_value self.now) 16 }
+    {
+        let entries =
+            objects_field(self.adb, Which::PkgInfo, self.word, 16, Which::Dep);
+        List::of(self.adb, entries)
+    }
+
+    /// Where all of these are met, it is installed by itself.
+    pub fn install_if(&self) -> List<'a, DepView<'a>>
+        ensures { list_value result ≡ entry_in (info_value self.now) 17 }
+    {
+        let entries =
+            objects_field(self.adb, Which::PkgInfo, self.word, 17, Which::Dep);
+        List::of(self.adb, entries)
+    }
+
+    /// What it goes well with.
+    pub fn recommends(&self) -> List<'a, DepView<'a>>
+        ensures { list_value result ≡ entry_in (info_value self.now) 18 }
+    {
+        let entries =
+            objects_field(self.adb, Which::PkgInfo, self.word, 18, Which::Dep);
+        List::of(self.adb, entries)
+    }
+
+    /// The layer that it belongs to.
+    pub fn layer(&self) -> u64
+        ensures { result ≡ int_in (entry_in (info_value self.now) 19) }
+    {
+        int_field(self.adb, Which::PkgInfo, self.word, 19)
+    }
+
+    /// Its tags.
+    pub fn tags(&self) -> List<'a, &'a [u8]>
+        ensures { list_value result ≡ entry_in (info_value self.now) 20 }
+    {
+        List::of(self.adb, texts_field(self.adb, Which::PkgInfo, self.word, 20))
+    }
+
+    /// A place that is held.
+    pub fn unused(&self) -> u64
+        ensures { result ≡ int_in (entry_in (info_value self.now) 21) }
+    {
+        int_field(self.adb, Which::PkgInfo, self.word, 21)
+    }
+}

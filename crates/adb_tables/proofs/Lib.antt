@@ -1,0 +1,3 @@
+pub mod ShapeWalk
+pub mod WalkSteps
+pub mod Worked

@@ -1,0 +1,18 @@
+-- How deep values of a kind nest: a number that falls from a kind to those below it.
+use Rattle.std.specs.Prelude.{ℕ, ◌+◌, ◌*◌, max, List, [], ◌∷◌}
+use Rattle.adb_tables.specs.Schema.{schema_number}
+use Rattle.adb_tables.specs.declared.tables.Kind.{Kind}
+use Rattle.adb_tables.specs.declared.tables.Kind.TheVariants.{Int, Text, Hash, Obj, TextArr, ObjArr}
+use Rattle.adb_tables.specs.declared.tables.Field.{Field}
+
+abbrev pub rank : Kind → ℕ
+rank Int = 0
+rank Text = 0
+rank Hash = 0
+rank TextArr = 2
+rank (Obj w) = 4 * schema_number w
+rank (ObjArr w) = 4 * schema_number w + 2
+
+abbrev pub rank_of_all : List Field → ℕ
+rank_of_all [] = 0
+rank_of_all (f ∷ fs) = max (rank f.kind) (rank_of_all fs)

@@ -1,0 +1,20 @@
+-- What a walked payload shows.
+use Rattle.adb_view.specs.Plain.{Plain}
+use Rattle.adb_view.specs.Head.{root_of}
+use Rattle.adb_view.specs.Adb.{payload_of}
+use Rattle.adb_view.specs.declared.adb.Adb.{Adb}
+use Rattle.adb_tables.specs.Values.{value_at}
+use Rattle.adb_tables.specs.declared.tables.Which.{Which}
+use Rattle.adb_tables.specs.declared.tables.Kind.TheVariants.{Obj}
+use Rattle.adb_tables.specs.declared.shaped.Shaped.{Shaped}
+
+abbrev pub adb_of : Shaped → Adb
+adb_of shaped = shaped.adb
+
+-- the table that its root was walked as
+abbrev pub table_of : Shaped → Which
+table_of shaped = shaped.which
+
+-- the plain value of its root
+abbrev pub shaped_value : Shaped → Plain
+shaped_value shaped = value_at (payload_of shaped.adb) (Obj shaped.which) (root_of (payload_of shaped.adb))

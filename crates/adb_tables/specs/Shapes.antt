@@ -1,0 +1,40 @@
+-- Unrolling goes deep enough for each table.
+use Rattle.std.proofs.Common.{◌≡◌, refl}
+use Rattle.adb_view.specs.Plain.{number, text, hash, array, object}
+use Rattle.adb_tables.specs.Schema.{table, schema_number, shape_of, shapes_of}
+use Rattle.adb_tables.specs.declared.tables.Which.{Which}
+use Rattle.adb_tables.specs.declared.tables.Which.TheVariants.{Dep, Acl, PkgInfo, File, Dir, Scripts, Package, Index, Idb, Intent}
+use Rattle.adb_tables.specs.declared.tables.Kind.TheVariants.{Int, Text, Hash, Obj, TextArr, ObjArr}
+
+pub object_shape : (w : Which) → shape_of (Obj w) ≡ object (schema_number w) (shapes_of (table w))
+unfolding shape_of
+object_shape Dep = refl
+object_shape Acl = refl
+object_shape PkgInfo = refl
+object_shape File = refl
+object_shape Dir = refl
+object_shape Scripts = refl
+object_shape Package = refl
+object_shape Index = refl
+object_shape Idb = refl
+object_shape Intent = refl
+
+pub objects_shape : (w : Which) → shape_of (ObjArr w) ≡ array (shape_of (Obj w))
+unfolding shape_of
+objects_shape w = refl
+
+pub texts_shape : shape_of TextArr ≡ array (shape_of Text)
+unfolding shape_of
+texts_shape = refl
+
+pub int_shape : shape_of Int ≡ number
+unfolding shape_of
+int_shape = refl
+
+pub text_shape : shape_of Text ≡ text
+unfolding shape_of
+text_shape = refl
+
+pub hash_shape : shape_of Hash ≡ hash
+unfolding shape_of
+hash_shape = refl

@@ -1,0 +1,49 @@
+//! A payload whose shape was tested.
+
+ghost use Rattle.std.specs.Prelude.{◌≡◌, true, is_none};
+ghost use Rattle.adb_view.specs.Adb.{payload_of};
+ghost use Rattle.adb_view.specs.Head.{root_of};
+ghost use Rattle.adb_tables.specs.Schema.{shape_of};
+ghost use Rattle.adb_tables.specs.Walk.{shape_fault};
+ghost use Rattle.adb_tables.specs.Values.{is_sound};
+ghost use Rattle.adb_tables.specs.declared.tables.Kind.TheVariants as Kinds;
+
+use crate::tables::Which;
+use adb_view::Adb;
+
+/// A payload whose values have the shape of a table: each word that a walk from its root visits can be read.
+#[derive(Clone, Copy)]
+pub struct Shaped<'a> {
+    adb: Adb<'a>,
+    which: Which,
+    ghost sound: { is_sound (payload_of adb) (Kinds.Obj which) (root_of (payload_of adb)) ≡ true },
+    ghost few: { is_none (shape_fault (payload_of adb) (shape_of (Kinds.Obj which)) (root_of (payload_of adb))) ≡ true },
+}
+
+impl<'a> Shaped<'a> {
+    ghost use Rattle.adb_tables.specs.Shaped.{adb_of, table_of};
+
+    /// A payload that was walked as this table.
+    pub(crate) fn of(adb: Adb<'a>, which: Which) -> Shaped<'a>
+        requires sound { is_sound (payload_of adb) (Kinds.Obj which) (root_of (payload_of adb)) ≡ true }
+        requires few { is_none (shape_fault (payload_of adb) (shape_of (Kinds.Obj which)) (root_of (payload_of adb))) ≡ true }
+        ensures walked { adb_of result ≡ adb.entry }
+        ensures table { table_of result ≡ which }
+    {
+        Shaped { adb, which }
+    }
+
+    /// The payload that was walked.
+    pub fn adb(&self) -> Adb<'a>
+        ensures { result ≡ adb_of self.now }
+    {
+        self.adb
+    }
+
+    /// The table that its root was walked as.
+    pub fn which(&self) -> Which
+        ensures { result ≡ table_of self.now }
+    {
+        self.which
+    }
+}

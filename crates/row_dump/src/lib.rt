@@ -1,0 +1,10 @@
+//! Makes containers of dump texts, for rows: the other way round of what `adbdump` prints.
+//!
+//! A dump text comes in, and the container goes out that has one block with the values of the text in the writer's
+//! layout, and neither signatures nor contents; or the number of the first line that belongs to no dump text.
+#![tactic(auto)]
+
+mod text;
+mod values;
+
+pub use values::{DumpFault, container_of};

@@ -1,0 +1,147 @@
+//! What is seen of a run, beside what is wanted.
+use crate::program::Program;
+use crate::report::{RowFault, compare, compare_numbers, differs};
+use crate::run::Run;
+use crate::start::{are_alike, bytes_of};
+use base_core::Name;
+use row_text::{NamedFile, Step};
+use std::alloc::Global;
+use tree_memory::MemoryTree;
+
+/// All that is wanted of a run is seen.
+pub(crate) fn check_run<P: Program>(
+    alloc: Global,
+    program: &P,
+    step: &Step,
+    before: &MemoryTree,
+    run: &Run,
+) -> Result<(), RowFault> {
+    check_streams(alloc, step, run)?;
+    check_counts(alloc, step, run)?;
+    check_files(alloc, program, step, before, &run.tree)?;
+    check_names(alloc, step, &run.tree)
+}
+
+/// The streams and the status are those that are wanted.
+pub(crate) fn check_streams(alloc: Global, step: &Step, run: &Run) -> Result<(), RowFault> {
+    let line = step.line;
+    compare(alloc, line, b"standard output", run.out.bytes(), &step.out)?;
+    compare(alloc, line, b"standard error", run.err.bytes(), &step.err)?;
+    let status = step.status.unwrap_or(0);
+    compare_numbers(alloc, line, b"status", u64::from(run.status), status)
+}
+
+/// So are the counts that are said, and no memory was lacking.
+fn check_counts(alloc: Global, step: &Step, run: &Run) -> Result<(), RowFault> {
+    let line = step.line;
+    if let Some(calls) = step.calls {
+        compare_numbers(alloc, line, b"calls", run.tree.calls(), calls)?;
+    }
+    if let Some(writes) = step.writes {
+        compare_numbers(alloc, line, b"writing calls", run.tree.writes(), writes)?;
+    }
+    if run.tree.wants() != 0 || run.out.wants() != 0 || run.err.wants() != 0 {
+        return Err(RowFault::Memory);
+    }
+    Ok(())
+}
+
+/// Each file is as it is wanted, or as it was before where nothing is said of it.
+fn check_files<P: Program>(
+    alloc: Global,
+    program: &P,
+    step: &Step,
+    before: &MemoryTree,
+    after: &MemoryTree,
+) -> Result<(), RowFault> {
+    for tree in [before, after] {
+        let names = tree.names(alloc)?;
+        for i in 0..names.len() {
+            check_file(alloc, program, step, before, after, names.get(i))?;
+        }
+    }
+    for file in &step.files {
+        check_file(alloc, program, step, before, after, &file.name)?;
+    }
+    Ok(())
+}
+
+fn check_file<P: Program>(
+    alloc: Global,
+    program: &P,
+    step: &Step,
+    before: &MemoryTree,
+    after: &MemoryTree,
+    name: &Name,
+) -> Result<(), RowFault> {
+    let wanted = match wanted_file(step, name) {
+        Some(file) => bytes_of(alloc, program, &file.content)?,
+        None => match before.file(name) {
+            Some(bytes) => Some(Vec::from_slice(alloc, bytes)?),
+            None => None,
+        },
+    };
+    match (after.file(name), wanted) {
+        (None, None) => Ok(()),
+        (Some(found), Some(wanted)) => {
+            compare(alloc, step.line, name.as_bytes(), found, &wanted)
+        }
+        (Some(_), None) => tell(alloc, step.line, name, b" stands there"),
+        (None, Some(_)) => tell(alloc, step.line, name, b" is absent"),
+    }
+}
+
+fn tell(alloc: Global, line: u64, name: &Name, what: &[u8]) -> Result<(), RowFault> {
+    let pieces: [&[u8]; 2] = [name.as_bytes(), what];
+    Err(differs(alloc, line, &pieces))
+}
+
+/// What is wanted of a file, where something is said of it.
+fn wanted_file<'a>(step: &'a Step, name: &Name) -> Option<&'a NamedFile> {
+    for file in &step.files {
+        if file.name.as_bytes() == name.as_bytes() {
+            return Some(file);
+        }
+    }
+    None
+}
+
+/// The names are those that are said.
+fn check_names(alloc: Global, step: &Step, tree: &MemoryTree) -> Result<(), RowFault> {
+    let Some(wanted) = &step.names else {
+        return Ok(());
+    };
+    let names = tree.names(alloc)?;
+    for i in 0..names.len() {
+        let name = names.get(i);
+        if !wanted
+            .iter()
+            .any(|other| other.as_bytes() == name.as_bytes())
+        {
+            return tell(alloc, step.line, name, b" is a name");
+        }
+    }
+    for name in wanted {
+        if tree.file(name).is_none() {
+            return tell(alloc, step.line, name, b" is no name");
+        }
+    }
+    Ok(())
+}
+
+/// Each image that a crash may leave of a tree has the files of another.
+pub(crate) fn check_images(
+    alloc: Global,
+    step: &Step,
+    tree: &MemoryTree,
+    wanted: &MemoryTree,
+) -> Result<(), RowFault> {
+    for choice in 0..tree.maps().saturating_mul(3) {
+        let image = tree.pick_image(alloc, choice)?;
+        if !are_alike(alloc, &image, wanted)? {
+            let what: &[u8] = b"a crash behind the run leaves other files";
+            return Err(differs(alloc, step.line, &[what]));
+        }
+    }
+    Ok(())
+}

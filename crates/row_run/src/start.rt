@@ -1,0 +1,100 @@
+//! Trees in memory: what a row begins with, and copies.
+use crate::program::Program;
+use crate::report::{RowFault, differs};
+use base_core::Name;
+use row_text::{Content, NamedFile, Row};
+use std::alloc::{AllocError, Global};
+use tree_memory::MemoryTree;
+
+/// The tree that a row begins with: what an earlier row left, and its own files.
+pub(crate) fn tree_of<P: Program>(
+    alloc: Global,
+    program: &P,
+    row: &Row,
+    left: &[Option<MemoryTree>],
+) -> Result<MemoryTree, RowFault> {
+    let mut tree = first_tree(alloc, row, left)?;
+    for file in &row.files {
+        put(alloc, program, row.line, &mut tree, file)?;
+    }
+    Ok(tree)
+}
+
+fn first_tree(
+    alloc: Global,
+    row: &Row,
+    left: &[Option<MemoryTree>],
+) -> Result<MemoryTree, RowFault> {
+    let Some(number) = row.from else {
+        return Ok(MemoryTree::new(alloc));
+    };
+    match left.get(number) {
+        Some(Some(tree)) => Ok(copy_of(alloc, tree)?),
+        _ => Err(differs(alloc, row.line, &[b"the row that it begins with failed"])),
+    }
+}
+
+fn put<P: Program>(
+    alloc: Global,
+    program: &P,
+    line: u64,
+    tree: &mut MemoryTree,
+    file: &NamedFile,
+) -> Result<(), RowFault> {
+    let Some(bytes) = bytes_of(alloc, program, &file.content)? else {
+        return Ok(());
+    };
+    if !tree.can_put(&file.name) {
+        let pieces: [&[u8]; 2] = [b"no file can stand at ", file.name.as_bytes()];
+        return Err(differs(alloc, line, &pieces));
+    }
+    tree.put(&file.name, &bytes)?;
+    Ok(())
+}
+
+/// The bytes of what stands at a path, or None where nothing does.
+pub(crate) fn bytes_of<P: Program>(
+    alloc: Global,
+    program: &P,
+    content: &Content,
+) -> Result<Option<Vec<u8>>, RowFault> {
+    match content {
+        Content::Absent => Ok(None),
+        Content::Bytes(bytes) => Ok(Some(Vec::from_slice(alloc, bytes)?)),
+        Content::Dump { text, line } => match program.container_of(alloc, text)? {
+            Some(bytes) => Ok(Some(bytes)),
+            None => Err(differs(alloc, *line, &[b"no dump text"])),
+        },
+    }
+}
+
+/// A tree with the same files, whose counts are 0 and in which all is synced.
+pub(crate) fn copy_of(alloc: Global, tree: &MemoryTree) -> Result<MemoryTree, AllocError> {
+    tree.pick_image(alloc, tree.maps().saturating_sub(1))
+}
+
+/// Whether a name is one under which a file is made before it is moved to its place.
+fn is_scratch(name: &Name) -> bool {
+    name.as_bytes().ends_with(b".apk-tmp")
+}
+
+/// Whether two trees have the same files, apart from those that are being made.
+pub(crate) fn are_alike(
+    alloc: Global,
+    one: &MemoryTree,
+    other: &MemoryTree,
+) -> Result<bool, AllocError> {
+    Ok(has_all_of(alloc, one, other)? && has_all_of(alloc, other, one)?)
+}
+
+/// Whether a tree has all files of another, apart from those that are being made.
+fn has_all_of(alloc: Global, tree: &MemoryTree, other: &MemoryTree) -> Result<bool, AllocError> {
+    let names = other.names(alloc)?;
+    for i in 0..names.len() {
+        let name = names.get(i);
+        if !is_scratch(name) && tree.file(name) != other.file(name) {
+            return Ok(false);
+        }
+    }
+    Ok(true)
+}

@@ -1,0 +1,49 @@
+//! Runs the rows that stand on standard input through `apk`, and prints a line for each. `tests/rows.md` describes their
+//! form.
+//!
+//! Its stored run has all rows. It ends with 0 where no row failed, else with 1.
+#![tactic(auto)]
+
+use apk_front::{apk, status};
+use base_core::Words;
+use row_dump::{DumpFault, container_of};
+use row_run::{Program, run_text};
+use std::alloc::{AllocError, Global};
+use std::io;
+use std::io::{Read, Write};
+use std::process::ExitCode;
+use tree_memory::{MemorySink, MemoryTree};
+
+/// The package keeper.
+struct Apk;
+
+impl Program for Apk {
+    fn run(
+        &self,
+        alloc: Global,
+        words: &Words,
+        tree: &mut MemoryTree,
+        out: &mut MemorySink,
+        err: &mut MemorySink,
+    ) -> u8 {
+        status(&apk(alloc, words, tree, out, err))
+    }
+
+    fn container_of(&self, alloc: Global, text: &[u8]) -> Result<Option<Vec<u8>>, AllocError> {
+        match container_of(alloc, text) {
+            Ok(bytes) => Ok(Some(bytes)),
+            Err(DumpFault::NoDump) => Ok(None),
+            Err(DumpFault::Memory) => Err(AllocError),
+        }
+    }
+}
+
+fn main(rt: HostRuntime) -> io::Result<ExitCode> {
+    let alloc = rt.alloc();
+    let mut text = Vec::new(alloc);
+    rt.stdin().read_to_end(&mut text)?;
+    let mut report = Vec::new(alloc);
+    let passed = run_text(alloc, &Apk, &text, &mut report)?;
+    rt.stdout().write_all(&report)?;
+    Ok(ExitCode::from(if passed { 0 } else { 1 }))
+}
