@@ -10,11 +10,11 @@ use Rattle.base_core.specs.Tree.{TreeState, files_of}
 use Rattle.make_info.specs.Information.{information}
 use Rattle.make_index.specs.Index.{made_index}
 use Rattle.make_index.specs.Kept.{IsMadeBy}
-use Rattle.make_info.specs.Reads.{reads_of, Reads}
+use Rattle.make_info.specs.Reads.{Reads}
 use Rattle.make_package.specs.Answers.{IsMadeBySome, IsMadeIn, OnRefusal}
 use Rattle.make_package.specs.Making.{made_package}
 use Rattle.make_info.specs.Output.{output_name}
-use Rattle.make_index.specs.Files.{AreFiles}
+use Rattle.make_index.specs.Files.{AreFiles, reads_of}
 use Rattle.make_package.specs.Sources.{AreNamesFor, values_with}
 use Rattle.make_info.specs.declared.fault.MakeFault.{MakeFault}
 use Rattle.command_core.specs.declared.values.TheConstants.{FILES}

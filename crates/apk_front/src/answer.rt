@@ -51,6 +51,13 @@ pub(crate) struct Verdict {
 }
 
 impl Verdict {
+    /// An empty report.
+    pub(crate) fn empty(alloc: Global) -> Verdict
+        ensures { (files : Files) → as_outcome files result ≡ just_report files [] }
+    {
+        Verdict::reported(Text::from_vec(Vec::new(alloc)))
+    }
+
     /// Just a report.
     pub(crate) fn reported(report: Text) -> Verdict
         ensures { (files : Files) → as_outcome files result ≡ just_report files report }

@@ -20,7 +20,7 @@ use crate::dump::adbdump;
 use crate::make::{mkndx, mkpkg};
 use crate::verify::verify;
 use crate::version::version;
-use base_core::{Text, Tree, TreeFault, Words};
+use base_core::{Tree, TreeFault, Words};
 use command_core::{Applet, Command};
 use report_core::Refusal;
 use std::alloc::Global;
@@ -135,6 +135,6 @@ fn look<T: Tree>(alloc: Global, command: &Command, tree: &mut T) -> Result<Verdi
         }
         Applet::Adbdump => adbdump(alloc, command.operands(), tree),
         // No word names another applet yet.
-        _ => Ok(Verdict::reported(Text::from_vec(Vec::new(alloc)))),
+        _ => Ok(Verdict::empty(alloc)),
     }
 }

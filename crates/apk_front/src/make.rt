@@ -31,6 +31,7 @@ use make_core::{
     MakeFault, a_package_with_information_has_an_output, an_index_has_an_output,
     an_output_is_short, output_name,
 };
+use outcome::a_listing_of_a_tree_is_that_of_its_files;
 use report_core::Refusal;
 use std::alloc::{AllocError, Global};
 
@@ -118,6 +119,7 @@ fn package<T: Tree>(alloc: Global, command: &Command, tree: &mut T) -> Result<Ve
     ensures tree { OnlyReads MakeFault.Disk (T.history tree.old) (T.history tree.new)
         (T.counts tree.old) (T.counts tree.new) result }
 {
+    a_listing_of_a_tree_is_that_of_its_files();
     make_core::mkpkg(alloc, command, tree)
 }
 

@@ -73,7 +73,7 @@ names_for (folder ∷ values) files names good are = names_below (without_dot fo
 
 files_found : (files : Files) → AreNamedFiles files → (n : ℕ) (operands : List Operand) → AreFiles (reads_in files) n operands
 files_found files good n [] = tt
-files_found files good n (o ∷ operands) = (λ file is. ((good.each (without_dot o.text) file is).each, (good.each (without_dot o.text) file is).few), files_found files good (n + 1) operands)
+files_found files good n (o ∷ operands) = (good.each (without_dot o.text), files_found files good (n + 1) operands)
 
 -- ---- the definitions of what is made give no fault of the tree, and no want of memory
 
