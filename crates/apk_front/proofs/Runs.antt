@@ -10,7 +10,8 @@ use Rattle.base_core.specs.Tree.{TreeState, files_of}
 use Rattle.base_core.specs.declared.tree.TreeFault.{TreeFault}
 use Rattle.adb_rules.specs.Reserved.{is_reserved}
 use Rattle.journal_core.specs.Recovery.{IsSettled, RestsOn, intent_name}
-use Rattle.journal_core.specs.Replacing.{HasRoom, HidesScratch, IsReadAs, IsReplacing, replaced_files}
+use Rattle.journal_core.specs.Replacing.{HasRoom, HidesScratch, IsReplacing, replaced_files}
+use Rattle.journal_core.specs.Reading.{IsReadAs}
 use Rattle.outcome.specs.Make.{make_outcome}
 use Rattle.outcome.specs.Outcome.{Outcome, just_refusal, just_report}
 use Rattle.report_core.specs.declared.refusal.Refusal.TheVariants.{Reserved}

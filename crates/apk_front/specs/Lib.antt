@@ -1,7 +1,6 @@
 -- what the contract of `apk` says, in the order in which it is best read
 pub mod Answers
 pub mod Moments
-
 -- what only inner contracts and proofs use
 pub mod Status
 pub mod Verdicts

@@ -8,9 +8,7 @@ ghost use Rattle.base_core.specs.Sink.{sink_change, KeepsCount};
 ghost use Rattle.base_core.specs.Write.{Writes};
 ghost use Rattle.outcome.specs.Outcome.{just_refusal, just_report};
 
-use base_core::{
-    Sink, SinkFault, Text, TreeFault, counts_of_calls_in_a_row_join, write_all,
-};
+use base_core::{Sink, SinkFault, Text, TreeFault, counts_of_calls_in_a_row_join, write_all};
 use report_core::{Refusal, write_error};
 use std::alloc::Global;
 

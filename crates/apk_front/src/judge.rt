@@ -76,7 +76,7 @@ fn run<T: Tree>(alloc: Global, command: &Command, tree: &mut T) -> Result<Verdic
     ensures by_words { IsTrue (does_rest_on_words (effect_of command.now.applet))
         → MatchResult result
         (λ verdict. (files : Files)
-            → as_outcome files verdict ≡ run command.now [] (reads_in files) files)
+        → as_outcome files verdict ≡ run command.now [] (reads_in files) files)
         (λ fault. fault ≡ TreeFault.Memory) }
     ensures untouched { IsTrue (does_rest_on_words (effect_of command.now.applet))
         → tree.new ≡ tree.old }
@@ -97,8 +97,8 @@ fn run<T: Tree>(alloc: Global, command: &Command, tree: &mut T) -> Result<Verdic
         → IsNoFault (T.counts tree.old) (T.counts tree.new) }
     ensures proper { IfObservable (T.history tree.old) (λ v.
         ((outcome : Outcome) → IsOutcomeOf (Ok command.now) (files_of v) outcome
-            → outcome.refusal ≡ None
-            → HasRoomFor (output_if (effect_of command.now.applet) command.now) (files_of v))
+        → outcome.refusal ≡ None
+        → HasRoomFor (output_if (effect_of command.now.applet) command.now) (files_of v))
         → (T.counts tree.new).misuses ≡ (T.counts tree.old).misuses) }
 {
     match command.applet() {
@@ -120,7 +120,7 @@ fn look<T: Tree>(alloc: Global, command: &Command, tree: &mut T) -> Result<Verdi
     ensures by_words { IsTrue (does_rest_on_words (effect_of command.now.applet))
         → MatchResult result
         (λ verdict. (files : Files)
-            → as_outcome files verdict ≡ run command.now [] (reads_in files) files)
+        → as_outcome files verdict ≡ run command.now [] (reads_in files) files)
         (λ fault. fault ≡ TreeFault.Memory) }
     ensures untouched { IsTrue (does_rest_on_words (effect_of command.now.applet))
         → tree.new ≡ tree.old }

@@ -62,7 +62,7 @@ pub(crate) fn mkpkg<T: Tree>(
         → IsNoFault (T.counts tree.old) (T.counts tree.new) }
     ensures proper { IfObservable (T.history tree.old) (λ v.
         ((outcome : Outcome) → IsPackageOutcome command.now (files_of v) outcome
-            → outcome.refusal ≡ None → HasRoomFor (output_name command.now) (files_of v))
+        → outcome.refusal ≡ None → HasRoomFor (output_name command.now) (files_of v))
         → (T.counts tree.new).misuses ≡ (T.counts tree.old).misuses) }
 {
     counts_of_calls_in_a_row_join();
@@ -100,7 +100,7 @@ pub(crate) fn mkndx<T: Tree>(
         → IsNoFault (T.counts tree.old) (T.counts tree.new) }
     ensures proper { IfObservable (T.history tree.old) (λ v.
         ((outcome : Outcome) → IsIndexOutcome command.now (files_of v) outcome
-            → outcome.refusal ≡ None → HasRoomFor (output_name command.now) (files_of v))
+        → outcome.refusal ≡ None → HasRoomFor (output_name command.now) (files_of v))
         → (T.counts tree.new).misuses ≡ (T.counts tree.old).misuses) }
 {
     counts_of_calls_in_a_row_join();
@@ -157,7 +157,7 @@ fn finish<T: Tree>(
         (make_outcome files (output_name command.now) report (made_in container))) }
     ensures run { IfObservable (T.history tree.old) (λ v. IsRun
         (λ outcome. outcome
-            ≡ make_outcome (files_of v) (output_name command.now) report (made_in container))
+        ≡ make_outcome (files_of v) (output_name command.now) report (made_in container))
         false (output_name command.now) result v (T.history tree.old) (T.history tree.new)) }
     ensures done { IfOk result (λ verdict. is_cut_off container ≡ false) }
     ensures cut { is_cut_off container ≡ true → T.history tree.new ≡ T.history tree.old }
@@ -173,8 +173,8 @@ fn finish<T: Tree>(
     ensures lost { IsErrOf result TreeFault.Memory → container ≢ Err MakeFault.Disk }
     ensures proper { IfObservable (T.history tree.old) (λ v.
         IfOk container (λ file.
-            (make_outcome (files_of v) (output_name command.now) report (Ok file.items)).refusal
-            ≡ None → HasRoomFor (output_name command.now) (files_of v))
+        (make_outcome (files_of v) (output_name command.now) report (Ok file.items)).refusal
+        ≡ None → HasRoomFor (output_name command.now) (files_of v))
         → (T.counts tree.new).misuses ≡ (T.counts tree.old).misuses) }
 {
     match container {
@@ -197,7 +197,7 @@ fn write<T: Tree>(
         (make_outcome files (output_name command.now) report (Ok file.now))) }
     ensures run { IfObservable (T.history tree.old) (λ v. IsRun
         (λ outcome. outcome
-            ≡ make_outcome (files_of v) (output_name command.now) report (Ok file.now))
+        ≡ make_outcome (files_of v) (output_name command.now) report (Ok file.now))
         false (output_name command.now) result v (T.history tree.old) (T.history tree.new)) }
     ensures refused { IfOk result (λ verdict. IsSome verdict.refusal
         → T.history tree.new ≡ T.history tree.old) }
@@ -210,7 +210,7 @@ fn write<T: Tree>(
         → IsNoFault (T.counts tree.old) (T.counts tree.new) }
     ensures proper { IfObservable (T.history tree.old) (λ v.
         ((make_outcome (files_of v) (output_name command.now) report (Ok file.now)).refusal ≡ None
-            → HasRoomFor (output_name command.now) (files_of v))
+        → HasRoomFor (output_name command.now) (files_of v))
         → (T.counts tree.new).misuses ≡ (T.counts tree.old).misuses) }
 {
     an_output_is_short();

@@ -6,6 +6,5 @@ pub mod Version
 pub mod Verify
 pub mod Dump
 pub mod Make
-
 -- what only inner contracts and proofs use
 pub mod Sound
