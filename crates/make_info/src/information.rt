@@ -14,7 +14,7 @@ ghost use Rattle.std.specs.Prelude.{◌≡◌, ◌==◌, ◌<◌, length, positi
 use crate::fault::MakeFault;
 use crate::field::{Field, Kind, read_number};
 use crate::output::is_too_long;
-use command_core::{Command, Values};
+use command_core::{Command, INFO, Values};
 use dep_core::{Dep, is_package_name, read_dep};
 use hex::FromHexError;
 use std::alloc::{AllocError, Global};
@@ -93,7 +93,7 @@ fn read_values<'a>(
     let mut entries = Items::new(alloc);
     for i in 0..values.len() {
         let value = values.get(i);
-        if value.letter != b'I' {
+        if value.letter != INFO {
             continue;
         }
         if !add_value(&mut entries, value.text.as_bytes(), too_long)? {

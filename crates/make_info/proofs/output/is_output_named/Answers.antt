@@ -1,0 +1,7 @@
+use Rattle.command_core.specs.Values.{first_value}
+use Rattle.command_core.specs.declared.values.TheConstants.{OUTPUT}
+use Rattle.make_info.proofs.Outputs.{named_some}
+use Rattle.make_info.proofs.output.is_output_named.Goals as goal
+
+pub returns : goal.returns
+returns c = ?
