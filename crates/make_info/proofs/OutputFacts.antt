@@ -1,28 +1,26 @@
 -- An output is short, and it is there.
 use Rattle.command_core.specs.declared.values.TheConstants.{OUTPUT}
 use Rattle.std.proofs.Common.{◌≡◌, ℕ, ◌≤◌, Bool, true, false, not, cond, List, [], ◌∷◌, ◌++◌, length, map, Option, Some, None, Result, Ok, Err, refl, sym, ◌∙◌, ap, subst}
-use Rattle.std.specs.Prelude.{is_ok, is_some, nat_le, ◌&&◌, ◌||◌, if◌then◌else◌}
+use Rattle.std.specs.Prelude.{is_ok, is_some, ◌==◌, ◌&&◌, ◌||◌, if◌then◌else◌}
 use Rattle.std.specs.List.{find, list_any}
 use Rattle.std.specs.Option.{option_and_then, option_map, option_or}
-use Rattle.std.proofs.lemmas.Bool.{and_parts, leb-true}
+use Rattle.std.proofs.lemmas.Bool.{and_parts}
 use Rattle.std.proofs.lemmas.Option.{none-some}
 use Rattle.version_core.specs.Order.{is_version}
 use Rattle.dep_core.specs.Dependency.{is_package_name}
-use Rattle.command_core.specs.Applets.{may_have, needed_option, operand_rule, value_rules}
+use Rattle.command_core.specs.Applets.{needed_option}
 use Rattle.command_core.specs.Command.{CommandLine, IsCommand}
-use Rattle.command_core.specs.Values.{are_values, is_given, lacks_value}
-use Rattle.command_core.specs.Operands.{are_operands}
-use Rattle.command_core.specs.Files.{is_file, without_dot}
-use Rattle.command_core.specs.declared.command.Applet.{Applet}
-use Rattle.command_core.specs.declared.command.Applet.TheVariants.{Add, Adbdump, Del, Demo, Fix, Info, Mkndx, Mkpkg, Upgrade, Verify, Version}
+use Rattle.command_core.specs.Values.{first_value, is_given}
+use Rattle.command_core.specs.declared.command.Applet.TheVariants.{Mkndx, Mkpkg}
 use Rattle.command_core.specs.declared.values.OptionValue.{OptionValue}
 use Rattle.make_info.specs.declared.field.Field.{Field}
 use Rattle.make_info.specs.declared.field.Field.TheVariants as Fields
 use Rattle.make_info.specs.Fields.{kind_of_field, values_by_kind, text_if}
-use Rattle.make_info.specs.FieldTexts.{FieldText, file_name_in, first_text_for, field_text_in, if_passes, info_options, is_for, is_text_for, is_info_option, is_output_option, is_too_long, package_name_in, named_output, default_output, package_file_name_of, text_when_for, package_version_in}
+use Rattle.make_info.specs.declared.output.TheConstants.{LONGEST_OUTPUT}
+use Rattle.make_info.specs.FieldTexts.{FieldText, file_name_in, first_text_for, field_text_in, if_passes, info_options, is_for, is_text_for, is_info_option, is_too_long, package_name_in, named_output, default_output, package_file_name_of, text_when_for, package_version_in}
 use Rattle.make_info.specs.Information.{InfoItem, all_items, first_offence, information, information_of, is_second, info_item, items_of_text, items_of_option, lacks_name_or_version, offends, unless_offence}
 use Rattle.make_info.specs.Output.{if_allowed, is_mkpkg, output_name, package_output}
-use Rattle.make_info.proofs.Outputs.{IsAllowedOutput, allowed, allowed_output, by_offending, no_value, own_fits, unoffended, values_are}
+use Rattle.make_info.proofs.Outputs.{AreOutputs, allowed, by_offending, named_short, no_value, own_fits, unoffended}
 use Rattle.make_info.proofs.Reading.{same_field}
 
 -- ---- it is short

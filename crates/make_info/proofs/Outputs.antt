@@ -1,25 +1,19 @@
 -- What the output is called.
 use Rattle.command_core.specs.declared.values.TheConstants.{OUTPUT}
-use Rattle.std.proofs.Common.{◌≡◌, ℕ, ◌≤◌, Bool, true, false, not, cond, List, [], ◌∷◌, ◌++◌, length, Option, Some, None, Result, Ok, Err, refl, sym, ◌∙◌, ap, subst, arith}
+use Rattle.std.proofs.Common.{◌≡◌, ℕ, ◌≤◌, Bool, true, false, not, cond, List, [], ◌∷◌, ◌++◌, length, Option, Some, None, Result, Ok, Err, Bor, refl, sym, ◌∙◌, ap, subst, arith}
 use Rattle.std.specs.Prelude.{IfOk, IfSome, is_ok, is_some, nat_lt, nat_le, ◌&&◌, ◌||◌}
-use Rattle.std.specs.List.{find, list_all}
 use Rattle.std.specs.Option.{option_and_then, option_map, option_or}
-use Rattle.std.proofs.lemmas.Bool.{and_parts, ltb-false}
-use Rattle.std.proofs.lemmas.Bool.Decides.{nat_tests}
+use Rattle.std.proofs.lemmas.Bool.{and_parts, leb-true, ltb-false}
 use Rattle.base_core.specs.Name.{is_name}
 use Rattle.version_core.specs.Order.{is_version}
-use Rattle.command_core.specs.Applets.{may_have, needed_option, operand_rule, value_rules}
-use Rattle.command_core.specs.Operands.{are_operands}
-use Rattle.command_core.specs.declared.values.ValueRule.{ValueRule}
 use Rattle.command_core.specs.Command.{CommandLine, IsCommand}
-use Rattle.command_core.specs.Values.{are_apart, is_value_by, are_values, lacks_value}
-use Rattle.command_core.specs.Files.{is_file, without_dot}
-use Rattle.command_core.specs.declared.command.Applet.{Applet}
-use Rattle.command_core.specs.declared.command.Applet.TheVariants.{Add, Adbdump, Del, Demo, Fix, Info, Mkndx, Mkpkg, Upgrade, Verify, Version}
+use Rattle.command_core.specs.Values.{first_value}
+use Rattle.command_core.specs.Files.{is_file, is_output, without_dot}
 use Rattle.command_core.specs.declared.values.OptionValue.{OptionValue}
 use Rattle.make_info.specs.declared.field.Field.{Field}
 use Rattle.make_info.specs.declared.field.Field.TheVariants as Fields
-use Rattle.make_info.specs.FieldTexts.{FieldText, file_name_in, first_text_for, field_text_in, if_passes, info_options, is_for, is_text_for, is_info_option, is_long_name, is_output_option, is_too_long, package_name_in, named_output, default_output, package_file_name_of, text_for, text_when_for}
+use Rattle.make_info.specs.declared.output.TheConstants.{LONGEST_OUTPUT}
+use Rattle.make_info.specs.FieldTexts.{FieldText, file_name_in, first_text_for, field_text_in, if_passes, info_options, is_for, is_text_for, is_info_option, is_long_name, is_too_long, package_name_in, named_output, default_output, package_file_name_of, text_for, text_when_for}
 use Rattle.make_info.specs.Information.{InfoItem, all_items, first_offence, information, information_of, is_second, items_of_option, lacks_name_or_version, offends, unless_offence}
 use Rattle.make_info.specs.Output.{if_allowed, is_mkpkg, output_name, package_output}
 use Rattle.make_info.proofs.FileNames.{HaveVersionBytes, own_file_name}
