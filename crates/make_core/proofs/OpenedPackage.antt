@@ -20,7 +20,7 @@ use Rattle.adb_rules.specs.Texts.{text_fault}
 use Rattle.adb_schema.specs.Soundness.{blocks_fault, file_fault, first_payload, payload_behind, payload_fault, payload_in, root_value, schema_fault}
 use Rattle.adb_tables.specs.declared.tables.Which.TheVariants.{Package}
 use Rattle.adb_tables.specs.declared.tables.Kind.TheVariants.{Obj}
-use Rattle.pkg_core.specs.Whole.{behind_fault, package_fault, package_of, whole_fault}
+use Rattle.pkg_core.specs.Whole.{behind_fault, package_fault, package_with_contents, whole_fault}
 use Rattle.make_core.proofs.FoundShapes.{found_shaped}
 
 -- what the layers below say of values that are found
@@ -120,5 +120,5 @@ value_opened laws payload p =
       kept = front_none _ _ texts;
     }
 
-pub opened : Values → (file : List ℕ) → AreBytes file → package_fault file ≡ None → IsOpened (package_of file).value
+pub opened : Values → (file : List ℕ) → AreBytes file → package_fault file ≡ None → IsOpened (package_with_contents file).value
 opened laws file bytes e = value_opened laws (payload_in file) (passed file bytes e)

@@ -9,7 +9,8 @@ ghost use Rattle.make_index.specs.Index.{found_entry};
 ghost use Rattle.make_index.specs.Kept.{kept_value, HoldsEntry, IsKeyed, IsMade, IsRefusedAt};
 ghost use Rattle.pkg_core.specs.Contents.{fault_in};
 ghost use Rattle.pkg_core.specs.Opened.{opened_files, opened_payload, opened_value};
-ghost use Rattle.pkg_core.specs.Whole.{package_fault, IsRefused};
+ghost use Rattle.pkg_core.specs.Whole.{package_fault};
+ghost use Rattle.pkg_core.specs.Refusals.{IsFaultOf};
 ghost use Rattle.std.specs.Prelude.{◌≡◌, Some, None, IfOk, IfErr, IfSome, IsTrue, Option};
 ghost use Rattle.version_core.specs.Order.{is_version, version_cmp};
 ghost use Rattle.adb_tables.specs.declared.tables.Which.TheVariants as Tables;
@@ -175,7 +176,7 @@ fn test_files(pkg: &mut Package<'_>) -> Result<(), Cause>
 
 /// A package at this place is refused.
 fn refused(place: u32, fault: PackageFault) -> MakeFault
-    ensures { (failed : Option Cause) → IsRefused fault failed → IsRefusedAt place result failed }
+    ensures { (failed : Option Cause) → IsFaultOf fault failed → IsRefusedAt place result failed }
 {
     match fault {
         PackageFault::Bad(cause) => MakeFault::FileBad { place, cause },
