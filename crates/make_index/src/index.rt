@@ -27,7 +27,7 @@ ghost use Rattle.command_core.specs.Operands.{are_files};
 
 use crate::entry::Entry;
 use adb_schema::INDEX_WORD;
-use adb_view::{Val, values_are_normal};
+use adb_view::{Val, values_are_normal, values_have_their_shape};
 use adb_write::{
     Writer, a_value_written_depth_first_is_canonical, file_of, values_are_written_depth_first,
 };
@@ -214,4 +214,5 @@ pub fn an_entry_is_an_info()
         → is_version (version_in (entry_of_package file)) ≡ true }
 {
     values_are_normal();
+    values_have_their_shape();
 }
