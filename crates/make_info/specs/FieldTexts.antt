@@ -8,7 +8,8 @@ use Rattle.std.specs.Str.{bytes_eq}
 use Rattle.version_core.specs.Order.{is_version}
 use Rattle.dep_core.specs.Dependency.{is_package_name}
 use Rattle.command_core.specs.Values.{first_value}
-use Rattle.make_info.specs.declared.output.TheConstants.{LONGEST_OUTPUT}
+use Rattle.make_info.specs.declared.information.TheConstants.{COLON}
+use Rattle.make_info.specs.declared.output.TheConstants.{HYPHEN, LONGEST_OUTPUT}
 use Rattle.command_core.specs.Files.{without_dot}
 use Rattle.command_core.specs.declared.values.OptionValue.{OptionValue}
 use Rattle.make_info.specs.declared.field.Field.{Field}
@@ -29,7 +30,7 @@ field_text_from text (Some colon) =
 -- a text FIELD:VALUE, where FIELD ends before the first `:`; None where there is no `:`, or FIELD
 -- is no field
 abbrev pub field_text_in : List ℕ → Option FieldText
-field_text_in text = field_text_from text (position (λ b. b == 58) text)
+field_text_in text = field_text_from text (position (λ b. b == COLON) text)
 
 abbrev pub is_same : Field → Field → Bool
 is_same f g = bytes_eq (field_word f) (field_word g)
@@ -76,7 +77,7 @@ package_version_in values =
 
 -- NAME-VERSION.apk
 abbrev pub package_file_name : List ℕ → List ℕ → List ℕ
-package_file_name name version = name ++ (45 ∷ version ++ codes ".apk")
+package_file_name name version = name ++ (HYPHEN ∷ version ++ codes ".apk")
 
 abbrev pub package_file_name_of : Option (List ℕ) → Option (List ℕ) → Option (List ℕ)
 package_file_name_of name version =

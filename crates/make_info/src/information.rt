@@ -21,6 +21,9 @@ use std::alloc::{AllocError, Global};
 use std::marker::Model;
 use version_core::Version;
 
+/// What stands between FIELD and VALUE.
+const COLON: u8 = b':';
+
 /// A field, and the value that is given for it.
 #[derive(Clone, Copy)]
 pub(crate) struct FieldText<'a> {
@@ -43,10 +46,10 @@ impl<'a> FieldText<'a> {
 
 // Where the first `:` stands.
 fn colon_in(text: &[u8]) -> Option<usize>
-    ensures at { result ≡ position (λ b. b == 58) text.now }
+    ensures at { result ≡ position (λ b. b == COLON) text.now }
     ensures within { IfSome result (λ at. at < length text.now) }
 {
-    text.iter().position(|byte| *byte == b':')
+    text.iter().position(|byte| *byte == COLON)
 }
 
 /// What the values of `-I` of `mkpkg` say of a package (apk(8)). It borrows their texts from the

@@ -20,6 +20,9 @@ use dep_core::is_package_name;
 use std::alloc::{AllocError, Global};
 use version_core::{Version, versions_have_version_bytes};
 
+/// What stands between NAME and VERSION.
+const HYPHEN: u8 = b'-';
+
 /// How long a file's name may be, so that a scratch name beside it is a name too.
 const LONGEST_OUTPUT: usize = 1016;
 
@@ -35,7 +38,7 @@ pub(crate) fn default_output(alloc: Global, values: &Values) -> Result<Option<Ve
         return Ok(None);
     };
     let mut file = Vec::from_slice(alloc, name)?;
-    file.push(b'-')?;
+    file.push(HYPHEN)?;
     file.extend_from_slice(version)?;
     file.extend_from_slice(b".apk")?;
     Ok(Some(file))
@@ -191,4 +194,6 @@ pub fn a_package_with_information_has_an_output()
 pub fn an_index_has_an_output()
     ensures { (command : CommandLine) → IsCommand command → command.applet ≡ Mkndx
         → IsSome (output_name command) }
-{}
+{
+    a_command_has_what_its_applet_may_have();
+}
