@@ -1,5 +1,5 @@
 use Rattle.std.proofs.Common.{◌≡◌, ◌-◌, ◌++◌, map, take, drop}
-use Rattle.tree_memory.proofs.plan.pass.Given as goal
+use Rattle.tree_memory.proofs.calls.pass.Given as goal
 
 -- the numbers so far are one less
 abbrev pub invariant-loop-n : goal.invariant-loop-n
