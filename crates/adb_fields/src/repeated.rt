@@ -1,6 +1,6 @@
 //! Names that stand twice in a walked container.
 
-ghost use Rattle.std.specs.Prelude.{◌≡◌, ◌+◌, ◌<◌, ◌^◌, [], ◌∷◌, true, Some, map, IfOk};
+ghost use Rattle.std.specs.Prelude.{◌↔◌, None, ◌≡◌, ◌+◌, ◌<◌, ◌^◌, [], ◌∷◌, true, Some, map, IfOk};
 ghost use Rattle.adb_view.specs.Adb.{payload_of};
 ghost use Rattle.adb_view.specs.Entries.{array_entries};
 ghost use Rattle.adb_tables.specs.Values.{count_of, entries_in, entry_in, is_sound, kind_at, value_at};
@@ -8,6 +8,9 @@ ghost use Rattle.adb_fields.specs.Fields.{are_all_sound};
 ghost use Rattle.adb_tables.specs.Shaped.{shaped_value, table_of};
 ghost use Rattle.adb_tables.specs.Walk.{or_else};
 ghost use Rattle.adb_fields.specs.Repeated.{between_fault, file_twice, files_in, folder_twice, folders_in, inside_fault, name_of, name_twice, package_twice, path_in_two, repeated_at, repeated_fault, twice, twice_in_one};
+ghost use Rattle.adb_fields.specs.Once.{NamesStandOnce};
+ghost use Rattle.adb_view.specs.Plain.{Plain};
+ghost use Rattle.adb_tables.specs.declared.tables.Which.{Which};
 ghost use Rattle.adb_fields.specs.NamedTexts.{plains_at};
 ghost use Rattle.adb_tables.specs.declared.tables.Kind.TheVariants as Kinds;
 ghost use Rattle.adb_tables.specs.declared.tables.Which.TheVariants as Tables;
@@ -199,3 +202,8 @@ fn files_twice(alloc: Global, adb: Adb<'_>, packages: Arr<'_>) -> Result<Option<
     }
     Ok(first)
 }
+
+/// No repeated name is reported of a value exactly where each stands once.
+pub fn no_name_is_repeated_where_each_stands_once()
+    ensures { (which : Which) (value : Plain) → (repeated_fault which value ≡ None) ↔ NamesStandOnce which value }
+{}
