@@ -8,7 +8,8 @@ use Rattle.adb_view.specs.Plain.{Plain}
 use Rattle.adb_schema.specs.declared.read.TheConstants.{PACKAGE_WORD}
 use Rattle.adb_tables.specs.declared.tables.Which.TheVariants.{Package}
 use Rattle.adb_write.specs.Canonical.{PayloadCounts, canonical, overflow_of}
-use Rattle.pkg_core.specs.Contents.{AreContentsOf, Contents, expected_contents}
+use Rattle.pkg_core.specs.Contents.{Contents, expected_contents}
+use Rattle.pkg_core.specs.GoodContents.{AreContentsOf}
 use Rattle.pkg_core.specs.Whole.{container_fault}
 use Rattle.command_core.specs.Command.{CommandLine}
 use Rattle.command_core.specs.Files.{without_dot}
