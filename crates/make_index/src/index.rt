@@ -27,12 +27,12 @@ ghost use Rattle.command_core.specs.Operands.{are_files};
 
 use crate::entry::Entry;
 use adb_schema::INDEX_WORD;
-use adb_view::{Val, values_are_normal};
+use adb_view::{Val, values_are_normal, values_have_their_shape};
 use adb_write::{
     Writer, a_value_written_depth_first_is_canonical, file_of, values_are_written_depth_first,
 };
 use base_core::{Name, Tree, read_all};
-use command_core::{Applet, Command, DESCRIPTION, Operands, Values};
+use command_core::{Applet, Command, DESCRIPTION, Operands, Values, file_operands_are_files};
 use make_info::MakeFault;
 use std::alloc::{AllocError, Global};
 use version_core::order_is_total;
@@ -53,6 +53,7 @@ pub fn make<T: Tree>(alloc: Global, command: &Command, tree: &mut T) -> Result<V
     ensures tree { OnlyReads MakeFault.Disk (T.history tree.old) (T.history tree.new)
         (T.counts tree.old) (T.counts tree.new) result }
 {
+    file_operands_are_files();
     let entries = read_entries(alloc, command.operands(), tree)?;
     index_file(alloc, description(command.values()), entries)
 }
@@ -213,4 +214,5 @@ pub fn an_entry_is_an_info()
         → is_version (version_in (entry_of_package file)) ≡ true }
 {
     values_are_normal();
+    values_have_their_shape();
 }

@@ -5,9 +5,9 @@ use Rattle.base_core.specs.Sink.{Adds, AddsSome, SinkChange, Gets, GetsSome, Sin
 use Rattle.base_core.specs.Write.{Writes}
 use Rattle.report_core.specs.Texts.{refusal_line}
 use Rattle.report_core.specs.declared.refusal.Refusal.{Refusal}
-use Rattle.outcome.specs.Told.{told, line_of}
+use Rattle.outcome.specs.Outcome.{outcome_of, line_of}
 use Rattle.apk_front.specs.Answers.{DidNotFail, IsOutFault}
-use Rattle.apk_front.specs.Shown.{IsTold, IsRefused}
+use Rattle.apk_front.specs.Verdicts.{IsPrinted, IsRefusalPrinted}
 use Rattle.apk_front.specs.declared.answer.Answer.{Answer}
 use Rattle.apk_front.specs.declared.answer.Answer.TheVariants.{OutFault}
 
@@ -32,25 +32,25 @@ either_failed (inl w) = inl w.0
 either_failed (inr w) = inr w.0
 
 -- the report was written
-pub told_behind : (refusal : Option Refusal) (report : List ℕ) (files : Files) (answer : Answer) (out err : SinkChange) → Gets out report → DidNotFail out → IsRefused refusal answer err → IsTold (told refusal report files) answer out err
-told_behind None report files answer out err got kept (is, gets, calm) =
-    subst (λ (a : Answer). IsTold (told None report files) a out err) (sym is) (record { same = refl; out_gets = got; err_gets = gets; out_kept = kept; err_kept = calm })
-told_behind (Some refusal) report files answer out err got kept (inl (is, gets, calm)) =
-    subst (λ (a : Answer). IsTold (told (Some refusal) report files) a out err) (sym is) (record { same = refl; out_gets = got; err_gets = gets; out_kept = kept; err_kept = calm })
-told_behind (Some refusal) report files answer out err got kept (inr (is, gets, failed)) =
-    subst (λ (a : Answer). IsTold (told (Some refusal) report files) a out err) (sym is)
+pub printed_behind : (refusal : Option Refusal) (report : List ℕ) (files : Files) (answer : Answer) (out err : SinkChange) → Gets out report → DidNotFail out → IsRefusalPrinted refusal answer err → IsPrinted (outcome_of refusal report files) answer out err
+printed_behind None report files answer out err got kept (is, gets, calm) =
+    subst (λ (a : Answer). IsPrinted (outcome_of None report files) a out err) (sym is) (record { same = refl; out_gets = got; err_gets = gets; out_kept = kept; err_kept = calm })
+printed_behind (Some refusal) report files answer out err got kept (inl (is, gets, calm)) =
+    subst (λ (a : Answer). IsPrinted (outcome_of (Some refusal) report files) a out err) (sym is) (record { same = refl; out_gets = got; err_gets = gets; out_kept = kept; err_kept = calm })
+printed_behind (Some refusal) report files answer out err got kept (inr (is, gets, failed)) =
+    subst (λ (a : Answer). IsPrinted (outcome_of (Some refusal) report files) a out err) (sym is)
     (record { which = inr (record { some = line_some refusal; failed = failed }, got, kept); out_gets = all_some out.bytes_before out.bytes_after report got; err_gets = gets })
 
 -- the report was not written
-pub told_not : (refusal : Option Refusal) (report : List ℕ) (files : Files) (out err : SinkChange) → report ≢ [] → GetsSome out report → SinkFailed out → err.bytes_after ≡ err.bytes_before → DidNotFail err → IsTold (told refusal report files) OutFault out err
-told_not refusal report files out err some gets failed same kept = record {
+pub not_printed : (refusal : Option Refusal) (report : List ℕ) (files : Files) (out err : SinkChange) → report ≢ [] → GetsSome out report → SinkFailed out → err.bytes_after ≡ err.bytes_before → DidNotFail err → IsPrinted (outcome_of refusal report files) OutFault out err
+not_printed refusal report files out err some gets failed same kept = record {
   which = inl (record { some = some; failed = failed }, subst (λ (t : Option (List ℕ)). Adds err.bytes_before t []) (sym same) (adds_none err.bytes_before), kept);
   out_gets = gets;
   err_gets = subst (λ (t : Option (List ℕ)). AddsSome err.bytes_before t (line_of refusal)) (sym same) (none_some err.bytes_before (line_of refusal));
 }
 
-pub told_cut : {T E : Type 0} (refusal : Option Refusal) (report bytes : List ℕ) (files : Files) (out err : SinkChange) (e : E) → bytes ≡ report → Writes {T = T} bytes out (Err e) → bytes ≢ []
-    → err.bytes_after ≡ err.bytes_before → DidNotFail err → IsOutFault (told refusal report files) out err
-told_cut {T} refusal report bytes files out err e is w some same kept =
+pub printed_front : {T E : Type 0} (refusal : Option Refusal) (report bytes : List ℕ) (files : Files) (out err : SinkChange) (e : E) → bytes ≡ report → Writes {T = T} bytes out (Err e) → bytes ≢ []
+    → err.bytes_after ≡ err.bytes_before → DidNotFail err → IsOutFault (outcome_of refusal report files) out err
+printed_front {T} refusal report bytes files out err e is w some same kept =
     let got : Writes {T = T} report out (Err e) = subst (λ (b : List ℕ). Writes {T = T} b out (Err e)) is w in
-    told_not refusal report files out err (λ none. some (is ∙ none)) got.err got.cause.cause same kept
+    not_printed refusal report files out err (λ none. some (is ∙ none)) got.err got.cause.cause same kept
