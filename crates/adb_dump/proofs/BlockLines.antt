@@ -8,44 +8,48 @@ use Rattle.adb_view.specs.Readers.{run_of, ARRAY, OBJECT}
 use Rattle.base_core.specs.declared.cause.Cause.{Cause}
 use Rattle.adb_fields.specs.Fields.{values_at}
 use Rattle.adb_tables.specs.Schema.{table, shape_of, shapes_of}
-use Rattle.adb_tables.specs.Values.{entries_in, is_sound, value_at}
+use Rattle.adb_tables.specs.Values.{entries_in, int_in, is_sound, text_in, value_at}
 use Rattle.adb_tables.specs.declared.tables.Which.{Which}
 use Rattle.adb_tables.specs.declared.tables.Kind.{Kind}
 use Rattle.adb_tables.specs.declared.tables.Kind.TheVariants.{Int, Text, Hash, Obj, TextArr, ObjArr}
-use Rattle.adb_dump.specs.Dump.{Line, block_lines, dashed, entries, fields_lines, indent, named_lines, or_null, text_form, unless_absent}
+use Rattle.adb_dump.specs.Dump.{Line, block_lines, with_dash, array_lines, fields_lines, indent, named_lines, or_null, text_form, unless_absent}
 use Rattle.adb_dump.specs.Words.{is_null, are_null, fields_at}
 use Rattle.adb_dump.proofs.Nulls.{obj_null}
-use Rattle.adb_dump.proofs.WordReads.{object_shape}
+use Rattle.adb_dump.proofs.WordReads.{hash_plain, int_plain, object_shape, text_plain}
 
-pub int_lines : (p : List ℕ) (w n : ℕ) → value_at p Int w ≡ (if w == 0 then null else int n) → is_null (value_at p Int w) ≡ false → block_lines (shape_of Int) (value_at p Int w) ≡ decimal n ∷ []
+pub int_lines : (p : List ℕ) (w n : ℕ) → n ≡ int_in (value_at p Int w) → is_null (value_at p Int w) ≡ false → block_lines (shape_of Int) (value_at p Int w) ≡ decimal n ∷ []
 unfolding block_lines shape_of
-int_lines p w n e some = go (eqb w 0) e
-  where
-    go : (b : Bool) → value_at p Int w ≡ cond b null (int n) → block_lines number (value_at p Int w) ≡ decimal n ∷ []
-    go true is = let no : is_null null ≡ false = (rw is at some) in absurd cc
-    go false is = rw is refl
+int_lines p w n e some = ap (λ (v : Plain). block_lines number v) (int_plain p w some) ∙ ap (λ (k : ℕ). decimal k ∷ []) (sym e)
 
-pub text_lines : (p : List ℕ) (w : ℕ) (b : List ℕ) → value_at p Text w ≡ blob_value b → is_null (value_at p Text w) ≡ false → block_lines (shape_of Text) (value_at p Text w) ≡ text_form b ∷ []
-unfolding block_lines shape_of
-text_lines p w [] e some = let no : is_null null ≡ false = (rw e at some) in absurd cc
-text_lines p w (c ∷ cs) e some = rw e refl
+text_line_of : (v : Plain) (b : List ℕ) → v ≡ blob_value b → is_null v ≡ false → block_lines text v ≡ text_form b ∷ []
+unfolding block_lines
+text_line_of v [] e some = let no : is_null null ≡ false = (rw e at some) in absurd cc
+text_line_of v (c ∷ cs) e some = rw e refl
 
-pub hash_lines : (p : List ℕ) (w : ℕ) (b : List ℕ) → value_at p Hash w ≡ blob_value b → is_null (value_at p Hash w) ≡ false → block_lines (shape_of Hash) (value_at p Hash w) ≡ encode_lower b ∷ []
-unfolding block_lines shape_of
-hash_lines p w [] e some = let no : is_null null ≡ false = (rw e at some) in absurd cc
-hash_lines p w (c ∷ cs) e some = rw e refl
+hash_line_of : (v : Plain) (b : List ℕ) → v ≡ blob_value b → is_null v ≡ false → block_lines hash v ≡ encode_lower b ∷ []
+unfolding block_lines
+hash_line_of v [] e some = let no : is_null null ≡ false = (rw e at some) in absurd cc
+hash_line_of v (c ∷ cs) e some = rw e refl
+
+pub text_lines : (p : List ℕ) (w : ℕ) (b : List ℕ) → b ≡ text_in (value_at p Text w) → is_null (value_at p Text w) ≡ false → block_lines (shape_of Text) (value_at p Text w) ≡ text_form b ∷ []
+unfolding shape_of
+text_lines p w b e some = text_line_of (value_at p Text w) b (text_plain p w ∙ ap blob_value (sym e)) some
+
+pub hash_lines : (p : List ℕ) (w : ℕ) (b : List ℕ) → b ≡ text_in (value_at p Hash w) → is_null (value_at p Hash w) ≡ false → block_lines (shape_of Hash) (value_at p Hash w) ≡ encode_lower b ∷ []
+unfolding shape_of
+hash_lines p w b e some = hash_line_of (value_at p Hash w) b (hash_plain p w ∙ ap blob_value (sym e)) some
 
 entries_in-arr_value : (vs : Plains) → entries_in (arr_value vs) ≡ vs
 entries_in-arr_value none = refl
 entries_in-arr_value (more v vs) = refl
 
-pub texts_lines : (p : List ℕ) (w : ℕ) (ws : List ℕ) → value_at p TextArr w ≡ arr_value (values_at p Text ws) → block_lines (shape_of TextArr) (value_at p TextArr w) ≡ entries (block_lines (shape_of Text)) (values_at p Text ws)
+pub texts_lines : (p : List ℕ) (w : ℕ) (ws : List ℕ) → arr_value (values_at p Text ws) ≡ value_at p TextArr w → block_lines (shape_of TextArr) (value_at p TextArr w) ≡ array_lines (block_lines (shape_of Text)) (values_at p Text ws)
 unfolding block_lines shape_of
-texts_lines p w ws e = ap (λ (v : Plain). entries (block_lines text) (entries_in v)) e ∙ ap (entries (block_lines text)) (entries_in-arr_value (values_at p Text ws))
+texts_lines p w ws e = ap (λ (v : Plain). array_lines (block_lines text) (entries_in v)) (sym e) ∙ ap (array_lines (block_lines text)) (entries_in-arr_value (values_at p Text ws))
 
-pub objects_lines : (p : List ℕ) (which : Which) (w : ℕ) (ws : List ℕ) → value_at p (ObjArr which) w ≡ arr_value (values_at p (Obj which) ws) → block_lines (shape_of (ObjArr which)) (value_at p (ObjArr which) w) ≡ entries (block_lines (shape_of (Obj which))) (values_at p (Obj which) ws)
+pub objects_lines : (p : List ℕ) (which : Which) (w : ℕ) (ws : List ℕ) → arr_value (values_at p (Obj which) ws) ≡ value_at p (ObjArr which) w → block_lines (shape_of (ObjArr which)) (value_at p (ObjArr which) w) ≡ array_lines (block_lines (shape_of (Obj which))) (values_at p (Obj which) ws)
 unfolding block_lines shape_of
-objects_lines p which w ws e = ap (λ (v : Plain). entries (block_lines (shape_of (Obj which))) (entries_in v)) e ∙ ap (entries (block_lines (shape_of (Obj which)))) (entries_in-arr_value (values_at p (Obj which) ws))
+objects_lines p which w ws e = ap (λ (v : Plain). array_lines (block_lines (shape_of (Obj which))) (entries_in v)) (sym e) ∙ ap (array_lines (block_lines (shape_of (Obj which)))) (entries_in-arr_value (values_at p (Obj which) ws))
 
 -- the Nulls that stand last have no lines
 
@@ -92,8 +96,8 @@ pub record HasLine (ls : List Line) : Type 0 where
   pub others : List Line
   pub is : ls ≡ first ∷ others
 
-dashed_line : (ls : List Line) (rest : List Line) → HasLine ls → HasLine (dashed ls ++ rest)
-dashed_line ls rest h = record { first = codes "- " ++ h.first; others = indent h.others ++ rest; is = ap (λ (x : List Line). dashed x ++ rest) h.is }
+dashed_line : (ls : List Line) (rest : List Line) → HasLine ls → HasLine (with_dash ls ++ rest)
+dashed_line ls rest h = record { first = codes "- " ++ h.first; others = indent h.others ++ rest; is = ap (λ (x : List Line). with_dash x ++ rest) h.is }
 
 pub or_null_line : (v : Plain) (ls : List Line) → (is_null v ≡ false → HasLine ls) → HasLine (or_null v ls)
 or_null_line null ls h = record { first = codes "null"; others = []; is = refl }
@@ -147,12 +151,12 @@ some_map f (Some x) y e = (x, refl, cc)
 some_map f None y e = absurd cc
 
 -- entries are as many as their words
-entries_line : (f : Plain → List Line) (g : ℕ → Option Plain) → ((w : ℕ) (v : Plain) → g w ≡ Some v → is_null v ≡ false → HasLine (f v)) → (ws : List ℕ) (vs : Plains) (v : Plain) → each_plain g ws ≡ Some vs → arr_value vs ≡ v → is_null v ≡ false → HasLine (entries f (entries_in v))
+entries_line : (f : Plain → List Line) (g : ℕ → Option Plain) → ((w : ℕ) (v : Plain) → g w ≡ Some v → is_null v ≡ false → HasLine (f v)) → (ws : List ℕ) (vs : Plains) (v : Plain) → each_plain g ws ≡ Some vs → arr_value vs ≡ v → is_null v ≡ false → HasLine (array_lines f (entries_in v))
 entries_line f g h [] vs v e is some = let same : none ≡ vs = cc in absurd (let no : is_null (arr_value none) ≡ false = ap (λ (x : Plains). is_null (arr_value x)) same ∙ ap is_null is ∙ some in cc)
 entries_line f g h (w ∷ ws) vs v e is some =
     let (u, us, one, others, parts) = then_more_is (g w) (each_plain g ws) vs e in
-    let lines : entries f (entries_in v) ≡ entries f (more u us) = ap (λ (x : Plain). entries f (entries_in x)) (sym is) ∙ ap (λ (x : Plains). entries f (entries_in (arr_value x))) parts in
-    rw lines (dashed_line (or_null u (f u)) (entries f us) (or_null_line u (f u) (h w u one)))
+    let lines : array_lines f (entries_in v) ≡ array_lines f (more u us) = ap (λ (x : Plain). array_lines f (entries_in x)) (sym is) ∙ ap (λ (x : Plains). array_lines f (entries_in (arr_value x))) parts in
+    rw lines (dashed_line (or_null u (f u)) (array_lines f us) (or_null_line u (f u) (h w u one)))
 
 plain_line : (p : List ℕ) (s : Shape) (w : ℕ) (v : Plain) → plain_of p s w ≡ Some v → is_null v ≡ false → HasLine (block_lines s v)
 unfolding plain_of block_lines

@@ -8,11 +8,11 @@ use Rattle.adb_tables.specs.Schema.{field_name_text, shape_of, shapes_of}
 use Rattle.adb_tables.specs.Values.{is_sound, value_at}
 use Rattle.adb_tables.specs.declared.tables.Kind.{Kind}
 use Rattle.adb_tables.specs.declared.tables.Field.{Field}
-use Rattle.adb_dump.specs.Dump.{Line, block_lines, dashed, entries, fields_lines, named_lines, or_null, unless_absent}
+use Rattle.adb_dump.specs.Dump.{Line, block_lines, with_dash, array_lines, fields_lines, named_lines, or_null, unless_absent}
 use Rattle.adb_dump.specs.Words.{is_null, are_null, fields_sound, fields_at}
 
 abbrev pub entries_left : List ℕ → Kind → List ℕ → ℕ → List Line
-entries_left p k words i = entries (block_lines (shape_of k)) (values_at p k (drop i words))
+entries_left p k words i = array_lines (block_lines (shape_of k)) (values_at p k (drop i words))
 
 abbrev pub fields_left : List ℕ → List Field → List ℕ → ℕ → List Line
 fields_left p fields words i = fields_lines (shapes_of (drop i fields)) (fields_at p (drop i fields) (drop i words))
@@ -45,8 +45,8 @@ entry_step p k words i lt h =
     rw e (first_entry p k (get_or words i 0) (drop (i + 1) words) (rw e at h))
 
 pub entries_more : (p : List ℕ) (k : Kind) (words : List ℕ) (i : ℕ) → i < length words → are_all_sound p k (drop i words) ≡ true
-    → entries_left p k words i ≡ dashed (or_null (value_at p k (get_or words i 0)) (block_lines (shape_of k) (value_at p k (get_or words i 0)))) ++ entries_left p k words (i + 1)
-entries_more p k words i lt h = ap (entries (block_lines (shape_of k))) (entry_step p k words i lt h).value
+    → entries_left p k words i ≡ with_dash (or_null (value_at p k (get_or words i 0)) (block_lines (shape_of k) (value_at p k (get_or words i 0)))) ++ entries_left p k words (i + 1)
+entries_more p k words i lt h = ap (array_lines (block_lines (shape_of k))) (entry_step p k words i lt h).value
 
 pub entries_done : (p : List ℕ) (k : Kind) (words : List ℕ) (i : ℕ) → length words ≤ i → entries_left p k words i ≡ []
 unfolding values_at

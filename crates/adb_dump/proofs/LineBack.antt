@@ -10,8 +10,8 @@ use Rattle.std.proofs.lemmas.Fmt.{decimal_is_IsNumeral}
 use Rattle.std.proofs.lemmas.Str.Parse.{digit_at}
 use Rattle.hex.specs.Hex.{encode_with, encode_lower, lower_digits}
 use Rattle.adb_view.specs.Plain.{Plain, int, blob}
-use Rattle.adb_dump.specs.Dump.{is_printable, begins_with, is_bare, escaped, text_form, int_line, text_line, hash_line}
-use Rattle.adb_dump.specs.ReadBack.{hex_value, unquoted, unhex, made_blob, int_read, text_read, hash_read, if_form}
+use Rattle.adb_dump.specs.Dump.{is_printable, begins_with_byte, is_bare, escape_of, text_form, int_line, text_line, hash_line}
+use Rattle.adb_dump.specs.ReadBack.{hex_value, quoted_read, unhex, blob_read, int_read, text_read, hash_read, if_form}
 use Rattle.adb_dump.proofs.Booleans.{and_true, not_true, neq-eqb, bytes_eq-same}
 
 abbrev pub AreBytes : List ℕ → Type 0
@@ -70,17 +70,17 @@ unhex-pairs [] fits = refl
 unhex-pairs (c ∷ cs) fits =
     ap (λ (x : ℕ). x ∷ unhex (encode_lower cs)) (hex_byte_back c fits.0) ∙ ap (λ (x : List ℕ). c ∷ x) (unhex-pairs cs fits.1)
 
-made_blob-is : (b : List ℕ) → b ≢ [] → made_blob b ≡ Some (blob b)
+made_blob-is : (b : List ℕ) → b ≢ [] → blob_read b ≡ Some (blob b)
 made_blob-is [] ne = absurd (ne refl)
 made_blob-is (c ∷ cs) ne = refl
 
 pub hash_back : (b : List ℕ) → AreBytes b → b ≢ [] → if_form hash_line (encode_lower b) (hash_read (encode_lower b)) ≡ Ok (blob b)
-hash_back b fits ne = ap (λ (x : List ℕ). if_form hash_line (encode_lower b) (made_blob x)) (unhex-pairs b fits) ∙ ap (if_form hash_line (encode_lower b)) (made_blob-is b ne) ∙ if_form-same hash_line (blob b)
+hash_back b fits ne = ap (λ (x : List ℕ). if_form hash_line (encode_lower b) (blob_read x)) (unhex-pairs b fits) ∙ ap (if_form hash_line (encode_lower b)) (made_blob-is b ne) ∙ if_form-same hash_line (blob b)
 
 -- ---- texts
 
 -- one escape in front of what follows is read as its byte
-escaped-len : (c : ℕ) → 0 < length (escaped c)
+escaped-len : (c : ℕ) → 0 < length (escape_of c)
 unfolding encode_with
 escaped-len c = by_test (eqb c 10) (eqb c 92) (eqb c 34) (is_printable c)
   where
@@ -91,49 +91,49 @@ escaped-len c = by_test (eqb c 10) (eqb c 92) (eqb c 34) (is_printable c)
     by_test false false false true = lit< tt
     by_test false false false false = lit< tt
 
-unquoted-escaped : (n c : ℕ) (more : List ℕ) → c < 256 → unquoted (suc n) (escaped c ++ more) ≡ option_map (λ b. c ∷ b) (unquoted n more)
+unquoted-escaped : (n c : ℕ) (more : List ℕ) → c < 256 → quoted_read (suc n) (escape_of c ++ more) ≡ option_map (λ b. c ∷ b) (quoted_read n more)
 unfolding encode_with
 unquoted-escaped n c more lt = go (eqb c 10) refl
   where
-    plain : eqb c 92 ≡ false → eqb c 34 ≡ false → (b : Bool) → is_printable c ≡ b → unquoted (suc n) (cond b (c ∷ []) (codes "\\x" ++ encode_lower (c ∷ [])) ++ more) ≡ option_map (λ b. c ∷ b) (unquoted n more)
+    plain : eqb c 92 ≡ false → eqb c 34 ≡ false → (b : Bool) → is_printable c ≡ b → quoted_read (suc n) (cond b (c ∷ []) (codes "\\x" ++ encode_lower (c ∷ [])) ++ more) ≡ option_map (λ b. c ∷ b) (quoted_read n more)
     plain e f true p = rw (f, e) refl
-    plain e f false p = ap (λ (x : ℕ). option_map (λ b. x ∷ b) (unquoted n more)) (hex_byte_back c lt)
+    plain e f false p = ap (λ (x : ℕ). option_map (λ b. x ∷ b) (quoted_read n more)) (hex_byte_back c lt)
 
-    quote : eqb c 92 ≡ false → (b : Bool) → eqb c 34 ≡ b → unquoted (suc n) (cond b (92 ∷ 34 ∷ []) (cond (is_printable c) (c ∷ []) (codes "\\x" ++ encode_lower (c ∷ []))) ++ more) ≡ option_map (λ b. c ∷ b) (unquoted n more)
+    quote : eqb c 92 ≡ false → (b : Bool) → eqb c 34 ≡ b → quoted_read (suc n) (cond b (92 ∷ 34 ∷ []) (cond (is_printable c) (c ∷ []) (codes "\\x" ++ encode_lower (c ∷ []))) ++ more) ≡ option_map (λ b. c ∷ b) (quoted_read n more)
     quote e true f = let is : c ≡ 34 = eqb-true _ _ f in rw is refl
     quote e false f = plain e f (is_printable c) refl
 
-    back : (b : Bool) → eqb c 92 ≡ b → unquoted (suc n) (cond b (92 ∷ 92 ∷ []) (cond (eqb c 34) (92 ∷ 34 ∷ []) (cond (is_printable c) (c ∷ []) (codes "\\x" ++ encode_lower (c ∷ [])))) ++ more) ≡ option_map (λ b. c ∷ b) (unquoted n more)
+    back : (b : Bool) → eqb c 92 ≡ b → quoted_read (suc n) (cond b (92 ∷ 92 ∷ []) (cond (eqb c 34) (92 ∷ 34 ∷ []) (cond (is_printable c) (c ∷ []) (codes "\\x" ++ encode_lower (c ∷ [])))) ++ more) ≡ option_map (λ b. c ∷ b) (quoted_read n more)
     back true e = let is : c ≡ 92 = eqb-true _ _ e in rw is refl
     back false e = quote e (eqb c 34) refl
 
-    go : (b : Bool) → eqb c 10 ≡ b → unquoted (suc n) (cond b (92 ∷ 110 ∷ []) (cond (eqb c 92) (92 ∷ 92 ∷ []) (cond (eqb c 34) (92 ∷ 34 ∷ []) (cond (is_printable c) (c ∷ []) (codes "\\x" ++ encode_lower (c ∷ []))))) ++ more) ≡ option_map (λ b. c ∷ b) (unquoted n more)
+    go : (b : Bool) → eqb c 10 ≡ b → quoted_read (suc n) (cond b (92 ∷ 110 ∷ []) (cond (eqb c 92) (92 ∷ 92 ∷ []) (cond (eqb c 34) (92 ∷ 34 ∷ []) (cond (is_printable c) (c ∷ []) (codes "\\x" ++ encode_lower (c ∷ []))))) ++ more) ≡ option_map (λ b. c ∷ b) (quoted_read n more)
     go true e = let is : c ≡ 10 = eqb-true _ _ e in rw is refl
     go false e = back (eqb c 92) refl
 
-escapes-len : (b : List ℕ) → length b ≤ length (flat_map escaped b)
+escapes-len : (b : List ℕ) → length b ≤ length (flat_map escape_of b)
 escapes-len [] = lit≤ tt
-escapes-len (c ∷ cs) = omega (arith, ap length (flat_map-cons escaped c cs), length-append (escaped c) (flat_map escaped cs), escapes-len cs, escaped-len c)
+escapes-len (c ∷ cs) = omega (arith, ap length (flat_map-cons escape_of c cs), length-append (escape_of c) (flat_map escape_of cs), escapes-len cs, escaped-len c)
 
-unquoted-all : (b : List ℕ) (n : ℕ) → AreBytes b → length b < n → unquoted n (flat_map escaped b ++ 34 ∷ []) ≡ Some b
+unquoted-all : (b : List ℕ) (n : ℕ) → AreBytes b → length b < n → quoted_read n (flat_map escape_of b ++ 34 ∷ []) ≡ Some b
 unquoted-all b zero fits lt = absurd (omega arith)
 unquoted-all [] (suc n) fits lt = refl
 unquoted-all (c ∷ cs) (suc n) fits lt =
-    let regroup : flat_map escaped (c ∷ cs) ++ 34 ∷ [] ≡ escaped c ++ (flat_map escaped cs ++ 34 ∷ []) = ap (λ (x : List ℕ). x ++ 34 ∷ []) (flat_map-cons escaped c cs) ∙ append_assoc (escaped c) (flat_map escaped cs) (34 ∷ []) in
-    ap (unquoted (suc n)) regroup ∙ unquoted-escaped n c (flat_map escaped cs ++ 34 ∷ []) fits.0 ∙ ap (option_map (λ b. c ∷ b)) (unquoted-all cs n fits.1 (omega arith))
+    let regroup : flat_map escape_of (c ∷ cs) ++ 34 ∷ [] ≡ escape_of c ++ (flat_map escape_of cs ++ 34 ∷ []) = ap (λ (x : List ℕ). x ++ 34 ∷ []) (flat_map-cons escape_of c cs) ∙ append_assoc (escape_of c) (flat_map escape_of cs) (34 ∷ []) in
+    ap (quoted_read (suc n)) regroup ∙ unquoted-escaped n c (flat_map escape_of cs ++ 34 ∷ []) fits.0 ∙ ap (option_map (λ b. c ∷ b)) (unquoted-all cs n fits.1 (omega arith))
 
 pub text_back : (b : List ℕ) → AreBytes b → b ≢ [] → if_form text_line (text_form b) (text_read (text_form b)) ≡ Ok (blob b)
 text_back b fits ne = ap (if_form text_line (text_form b)) (go (is_bare b) refl) ∙ if_form-same text_line (blob b)
   where
-    go : (t : Bool) → is_bare b ≡ t → text_read (cond t b (34 ∷ (flat_map escaped b ++ 34 ∷ []))) ≡ Some (blob b)
+    go : (t : Bool) → is_bare b ≡ t → text_read (cond t b (34 ∷ (flat_map escape_of b ++ 34 ∷ []))) ≡ Some (blob b)
     go true e =
         let four = and_true _ _ e in
         let three = and_true _ _ four.0 in
-        let quote : begins_with 34 b ≡ false = not_true _ three.1 in
+        let quote : begins_with_byte 34 b ≡ false = not_true _ three.1 in
         rw quote (made_blob-is b ne)
     go false e =
-        let q : List ℕ = flat_map escaped b ++ 34 ∷ [] in
-        ap (option_and_then made_blob) (unquoted-all b (suc (length q)) fits (omega (arith, escapes-len b, length-append (flat_map escaped b) (34 ∷ [])))) ∙ made_blob-is b ne
+        let q : List ℕ = flat_map escape_of b ++ 34 ∷ [] in
+        ap (option_and_then blob_read) (unquoted-all b (suc (length q)) fits (omega (arith, escapes-len b, length-append (flat_map escape_of b) (34 ∷ [])))) ∙ made_blob-is b ne
 
 -- no value has the form `null`
 begins_otherwise : (c : ℕ) (cs : List ℕ) → c ≢ 110 → bytes_eq (c ∷ cs) (codes "null") ≡ false
@@ -142,7 +142,7 @@ begins_otherwise c cs ne = let t : eqb c 110 ≡ false = neq-eqb c 110 ne in rw 
 pub text_not_null : (b : List ℕ) → bytes_eq (text_form b) (codes "null") ≡ false
 text_not_null b = go (is_bare b) refl
   where
-    go : (t : Bool) → is_bare b ≡ t → bytes_eq (cond t b (34 ∷ (flat_map escaped b ++ 34 ∷ []))) (codes "null") ≡ false
+    go : (t : Bool) → is_bare b ≡ t → bytes_eq (cond t b (34 ∷ (flat_map escape_of b ++ 34 ∷ []))) (codes "null") ≡ false
     go true e = not_true _ (and_true _ _ e).1
     go false e = refl
 

@@ -6,10 +6,11 @@ use Rattle.adb_fields.specs.Fields.{are_all_sound, values_at}
 use Rattle.adb_tables.specs.Schema.{shape_of}
 use Rattle.adb_view.specs.Readers.{int_of}
 use Rattle.base_core.specs.declared.cause.Cause.{Cause}
-use Rattle.adb_tables.specs.Values.{is_sound, value_at}
+use Rattle.adb_tables.specs.Values.{is_sound, text_in, value_at}
 use Rattle.adb_tables.specs.declared.tables.Kind.{Kind}
-use Rattle.adb_tables.specs.declared.tables.Kind.TheVariants.{Int}
+use Rattle.adb_tables.specs.declared.tables.Kind.TheVariants.{Hash, Int, Text}
 use Rattle.adb_dump.specs.Words.{is_null, are_null}
+use Rattle.adb_dump.proofs.WordReads.{hash_plain, text_plain}
 
 neq-eqb : (m n : ℕ) → m ≢ n → eqb m n ≡ false
 neq-eqb m n ne = grind arith
@@ -35,6 +36,12 @@ int_is_null p w h = go (eqb w 0) (int_of p w) h
 pub blob_null : (b : List ℕ) → is_null (blob_value b) ≡ (length b == 0)
 blob_null [] = refl
 blob_null (c ∷ cs) = sym (some_length c cs)
+
+pub text_null : (p : List ℕ) (w : ℕ) (b : List ℕ) → b ≡ text_in (value_at p Text w) → is_null (value_at p Text w) ≡ (length b == 0)
+text_null p w b e = ap is_null (text_plain p w ∙ ap blob_value (sym e)) ∙ blob_null b
+
+pub hash_null : (p : List ℕ) (w : ℕ) (b : List ℕ) → b ≡ text_in (value_at p Hash w) → is_null (value_at p Hash w) ≡ (length b == 0)
+hash_null p w b e = ap is_null (hash_plain p w ∙ ap blob_value (sym e)) ∙ blob_null b
 
 obj_of_keep : (v : Plain) (vs : Plains) → is_null (obj_of (keep v vs)) ≡ (is_null v && is_null (obj_of vs))
 obj_of_keep null none = refl

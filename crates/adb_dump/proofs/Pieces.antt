@@ -5,8 +5,8 @@ use Rattle.std.specs.List.{flat_map, list_all}
 use Rattle.std.proofs.lemmas.List.{drop_more, drop_all}
 use Rattle.std.proofs.lemmas.List.Concat.{flat_map-cons}
 use Rattle.hex.specs.Hex.{encode_with, encode_lower}
-use Rattle.adb_dump.specs.Dump.{escaped, is_printable, begins_with, ends_with}
-use Rattle.adb_dump.specs.Laid.{margin}
+use Rattle.adb_dump.specs.Dump.{escape_of, is_printable, begins_with_byte, ends_with_byte}
+use Rattle.adb_dump.specs.Margin.{margin}
 
 -- a piece moves from what is left to what is written
 pub moved : (out piece left left' all : List ℕ) → left ≡ piece ++ left' → out ++ left ≡ all → (out ++ piece) ++ left' ≡ all
@@ -27,14 +27,14 @@ pub hex_done : (out all bytes : List ℕ) (i : ℕ) → length bytes ≤ i → o
 unfolding encode_with
 hex_done out all bytes i le h = all_moved out (encode_lower (drop i bytes)) all (rw (drop_all i bytes le) refl) h
 
-escapes_more : (text : List ℕ) (i : ℕ) → i < length text → flat_map escaped (drop i text) ≡ escaped (get_or text i 0) ++ flat_map escaped (drop (i + 1) text)
-escapes_more text i lt = ap (flat_map escaped) (drop_more text i 0 lt) ∙ flat_map-cons escaped (get_or text i 0) (drop (i + 1) text)
+escapes_more : (text : List ℕ) (i : ℕ) → i < length text → flat_map escape_of (drop i text) ≡ escape_of (get_or text i 0) ++ flat_map escape_of (drop (i + 1) text)
+escapes_more text i lt = ap (flat_map escape_of) (drop_more text i 0 lt) ∙ flat_map-cons escape_of (get_or text i 0) (drop (i + 1) text)
 
-pub escapes_step : (out all text : List ℕ) (i : ℕ) → i < length text → out ++ flat_map escaped (drop i text) ≡ all → (out ++ escaped (get_or text i 0)) ++ flat_map escaped (drop (i + 1) text) ≡ all
-escapes_step out all text i lt h = moved out (escaped (get_or text i 0)) (flat_map escaped (drop i text)) (flat_map escaped (drop (i + 1) text)) all (escapes_more text i lt) h
+pub escapes_step : (out all text : List ℕ) (i : ℕ) → i < length text → out ++ flat_map escape_of (drop i text) ≡ all → (out ++ escape_of (get_or text i 0)) ++ flat_map escape_of (drop (i + 1) text) ≡ all
+escapes_step out all text i lt h = moved out (escape_of (get_or text i 0)) (flat_map escape_of (drop i text)) (flat_map escape_of (drop (i + 1) text)) all (escapes_more text i lt) h
 
-pub escapes_done : (out all text : List ℕ) (i : ℕ) → length text ≤ i → out ++ flat_map escaped (drop i text) ≡ all → out ≡ all
-escapes_done out all text i le h = all_moved out (flat_map escaped (drop i text)) all (ap (flat_map escaped) (drop_all i text le)) h
+pub escapes_done : (out all text : List ℕ) (i : ℕ) → length text ≤ i → out ++ flat_map escape_of (drop i text) ≡ all → out ≡ all
+escapes_done out all text i le h = all_moved out (flat_map escape_of (drop i text)) all (ap (flat_map escape_of) (drop_all i text le)) h
 
 pub printable_more : (text : List ℕ) (i : ℕ) → i < length text → list_all is_printable (drop i text) ≡ (is_printable (get_or text i 0) && list_all is_printable (drop (i + 1) text))
 printable_more text i lt = ap (list_all is_printable) (drop_more text i 0 lt)
@@ -48,26 +48,26 @@ margin_step out all depth i lt h = moved out (codes "  ") (margin (depth - i)) (
 pub margin_done : (out all : List ℕ) (depth i : ℕ) → depth ≤ i → out ++ margin (depth - i) ≡ all → out ≡ all
 margin_done out all depth i le h = all_moved out (margin (depth - i)) all (let same : depth - i ≡ 0 = omega arith in rw same refl) h
 
-pub begins_some : (c x : ℕ) (text : List ℕ) → slice_get text 0 ≡ Some x → begins_with c text ≡ eqb c x
+pub begins_some : (c x : ℕ) (text : List ℕ) → slice_get text 0 ≡ Some x → begins_with_byte c text ≡ eqb c x
 begins_some c x [] e = absurd cc
 begins_some c x (d ∷ ds) e = let same : d ≡ x = cc in rw same refl
 
-pub begins_none : (c : ℕ) (text : List ℕ) → slice_get text 0 ≡ None → begins_with c text ≡ false
+pub begins_none : (c : ℕ) (text : List ℕ) → slice_get text 0 ≡ None → begins_with_byte c text ≡ false
 begins_none c [] e = refl
 begins_none c (d ∷ ds) e = absurd cc
 
-ends_at : (c x : ℕ) (text : List ℕ) (i : ℕ) → length text ≡ suc i → slice_get text i ≡ Some x → ends_with c text ≡ eqb c x
+ends_at : (c x : ℕ) (text : List ℕ) (i : ℕ) → length text ≡ suc i → slice_get text i ≡ Some x → ends_with_byte c text ≡ eqb c x
 ends_at c x [] i len e = absurd (omega arith)
 ends_at c x (d ∷ []) zero len e = let same : d ≡ x = cc in rw same refl
 ends_at c x (d ∷ []) (suc i) len e = absurd (omega arith)
 ends_at c x (d ∷ f ∷ ds) zero len e = absurd (omega arith)
 ends_at c x (d ∷ f ∷ ds) (suc i) len e = ends_at c x (f ∷ ds) i (omega arith) e
 
-pub ends_some : (c x : ℕ) (text : List ℕ) → slice_get text (length text - 1) ≡ Some x → ends_with c text ≡ eqb c x
+pub ends_some : (c x : ℕ) (text : List ℕ) → slice_get text (length text - 1) ≡ Some x → ends_with_byte c text ≡ eqb c x
 ends_some c x [] e = absurd cc
 ends_some c x (d ∷ ds) e = ends_at c x (d ∷ ds) (length (d ∷ ds) - 1) (omega arith) e
 
-pub ends_none : (c : ℕ) (text : List ℕ) → slice_get text (length text - 1) ≡ None → ends_with c text ≡ false
+pub ends_none : (c : ℕ) (text : List ℕ) → slice_get text (length text - 1) ≡ None → ends_with_byte c text ≡ false
 ends_none c [] e = refl
 ends_none c (d ∷ ds) e = absurd (no (d ∷ ds) (length (d ∷ ds) - 1) (omega arith) e)
   where

@@ -2,54 +2,54 @@
 use Rattle.std.proofs.Common.{◌≡◌, ℕ, zero, suc, Bool, true, false, List, [], ◌∷◌, ◌++◌, refl, sym, ap, ◌∙◌, append_assoc}
 use Rattle.std.specs.Prelude.{codes}
 use Rattle.std.proofs.lemmas.List.Concat.{flat_map-cons}
-use Rattle.adb_dump.specs.Dump.{Line, indent, dashed, below, on_line, text_of}
-use Rattle.adb_dump.specs.Laid.{margin, lead, laid}
+use Rattle.adb_dump.specs.Dump.{Line, indent, with_dash, named_block, named_line, text_of}
+use Rattle.adb_dump.specs.Margin.{margin, lead, lines_at}
 
 -- all lines but the first stand at the margin
-laid_first : (d : ℕ) (b : Bool) (x : Line) (xs ys : List Line) → laid d false (xs ++ ys) ≡ laid d false xs ++ laid d false ys → laid d b ((x ∷ xs) ++ ys) ≡ laid d b (x ∷ xs) ++ laid d false ys
+laid_first : (d : ℕ) (b : Bool) (x : Line) (xs ys : List Line) → lines_at d false (xs ++ ys) ≡ lines_at d false xs ++ lines_at d false ys → lines_at d b ((x ∷ xs) ++ ys) ≡ lines_at d b (x ∷ xs) ++ lines_at d false ys
 laid_first d b x xs ys h =
     ap (λ (t : List ℕ). lead d b ++ (x ++ (codes "\n" ++ t))) h
-    ∙ sym (append_assoc (lead d b) (x ++ (codes "\n" ++ laid d false xs)) (laid d false ys) ∙ ap (λ (t : List ℕ). lead d b ++ t) (append_assoc x (codes "\n" ++ laid d false xs) (laid d false ys)))
+    ∙ sym (append_assoc (lead d b) (x ++ (codes "\n" ++ lines_at d false xs)) (lines_at d false ys) ∙ ap (λ (t : List ℕ). lead d b ++ t) (append_assoc x (codes "\n" ++ lines_at d false xs) (lines_at d false ys)))
 
-laid-append : (d : ℕ) (xs ys : List Line) → laid d false (xs ++ ys) ≡ laid d false xs ++ laid d false ys
+laid-append : (d : ℕ) (xs ys : List Line) → lines_at d false (xs ++ ys) ≡ lines_at d false xs ++ lines_at d false ys
 laid-append d [] ys = refl
 laid-append d (x ∷ xs) ys = laid_first d false x xs ys (laid-append d xs ys)
 
-pub laid_behind : (d : ℕ) (b : Bool) (x : Line) (xs ys : List Line) → laid d b ((x ∷ xs) ++ ys) ≡ laid d b (x ∷ xs) ++ laid d false ys
+pub laid_behind : (d : ℕ) (b : Bool) (x : Line) (xs ys : List Line) → lines_at d b ((x ∷ xs) ++ ys) ≡ lines_at d b (x ∷ xs) ++ lines_at d false ys
 laid_behind d b x xs ys = laid_first d b x xs ys (laid-append d xs ys)
 
 margin-more : (d : ℕ) (l : Line) → margin d ++ (codes "  " ++ l) ≡ codes "  " ++ (margin d ++ l)
 margin-more zero l = refl
 margin-more (suc d) l = ap (λ (t : List ℕ). codes "  " ++ t) (margin-more d l)
 
-laid-indent : (d : ℕ) (ls : List Line) → laid d false (indent ls) ≡ laid (suc d) false ls
+laid-indent : (d : ℕ) (ls : List Line) → lines_at d false (indent ls) ≡ lines_at (suc d) false ls
 laid-indent d [] = refl
 laid-indent d (l ∷ ls) =
-    margin-more d (l ++ (codes "\n" ++ laid d false (indent ls))) ∙ ap (λ (t : List ℕ). codes "  " ++ (margin d ++ (l ++ (codes "\n" ++ t)))) (laid-indent d ls)
+    margin-more d (l ++ (codes "\n" ++ lines_at d false (indent ls))) ∙ ap (λ (t : List ℕ). codes "  " ++ (margin d ++ (l ++ (codes "\n" ++ t)))) (laid-indent d ls)
 
 -- what is behind a dash stands one deeper
-pub laid_dashed : (d : ℕ) (b : Bool) (l : Line) (ls rest : List Line) → laid d b (dashed (l ∷ ls) ++ rest) ≡ (lead d b ++ codes "- ") ++ (laid (suc d) true (l ∷ ls) ++ laid d false rest)
+pub laid_dashed : (d : ℕ) (b : Bool) (l : Line) (ls rest : List Line) → lines_at d b (with_dash (l ∷ ls) ++ rest) ≡ (lead d b ++ codes "- ") ++ (lines_at (suc d) true (l ∷ ls) ++ lines_at d false rest)
 laid_dashed d b l ls rest =
-    ap (λ (t : List ℕ). lead d b ++ (codes "- " ++ (l ++ (codes "\n" ++ t)))) (laid-append d (indent ls) rest ∙ ap (λ (t : List ℕ). t ++ laid d false rest) (laid-indent d ls))
-    ∙ sym (append_assoc (lead d b) (codes "- ") (laid (suc d) true (l ∷ ls) ++ laid d false rest) ∙ ap (λ (t : List ℕ). lead d b ++ (codes "- " ++ t)) (append_assoc l (codes "\n" ++ laid (suc d) false ls) (laid d false rest)))
+    ap (λ (t : List ℕ). lead d b ++ (codes "- " ++ (l ++ (codes "\n" ++ t)))) (laid-append d (indent ls) rest ∙ ap (λ (t : List ℕ). t ++ lines_at d false rest) (laid-indent d ls))
+    ∙ sym (append_assoc (lead d b) (codes "- ") (lines_at (suc d) true (l ∷ ls) ++ lines_at d false rest) ∙ ap (λ (t : List ℕ). lead d b ++ (codes "- " ++ t)) (append_assoc l (codes "\n" ++ lines_at (suc d) false ls) (lines_at d false rest)))
 
 regroup : (a name sep rest : List ℕ) → a ++ ((name ++ sep) ++ rest) ≡ ((a ++ name) ++ sep) ++ rest
 regroup a name sep rest = sym (ap (λ (t : List ℕ). t ++ rest) (append_assoc a name sep) ∙ append_assoc a (name ++ sep) rest)
 
 -- a value of one line stands behind the name
-pub laid_on_line : (d : ℕ) (b : Bool) (name l : Line) → laid d b (on_line name l) ≡ (((lead d b ++ name) ++ codes ":") ++ codes " ") ++ laid d true (l ∷ [])
+pub laid_on_line : (d : ℕ) (b : Bool) (name l : Line) → lines_at d b (named_line name l) ≡ (((lead d b ++ name) ++ codes ":") ++ codes " ") ++ lines_at d true (l ∷ [])
 laid_on_line d b name l =
     ap (λ (t : List ℕ). lead d b ++ t) (append_assoc name (codes ": " ++ l) (codes "\n")) ∙ sym (append_assoc (lead d b) name (codes ": " ++ (l ++ codes "\n")))
     ∙ sym (append_assoc ((lead d b ++ name) ++ codes ":") (codes " ") (l ++ codes "\n") ∙ append_assoc (lead d b ++ name) (codes ":") (codes " " ++ (l ++ codes "\n")))
 
 -- others stand below it
-pub laid_below : (d : ℕ) (b : Bool) (name : Line) (ls : List Line) → laid d b (below name ls) ≡ (((lead d b ++ name) ++ codes ":") ++ codes "\n") ++ laid (suc d) false ls
+pub laid_below : (d : ℕ) (b : Bool) (name : Line) (ls : List Line) → lines_at d b (named_block name ls) ≡ (((lead d b ++ name) ++ codes ":") ++ codes "\n") ++ lines_at (suc d) false ls
 laid_below d b name ls =
     ap (λ (t : List ℕ). lead d b ++ ((name ++ codes ":") ++ (codes "\n" ++ t))) (laid-indent d ls)
-    ∙ regroup (lead d b) name (codes ":") (codes "\n" ++ laid (suc d) false ls)
-    ∙ sym (append_assoc ((lead d b ++ name) ++ codes ":") (codes "\n") (laid (suc d) false ls))
+    ∙ regroup (lead d b) name (codes ":") (codes "\n" ++ lines_at (suc d) false ls)
+    ∙ sym (append_assoc ((lead d b ++ name) ++ codes ":") (codes "\n") (lines_at (suc d) false ls))
 
 -- at no depth lines are a text
-pub laid_text : (ls : List Line) → laid 0 false ls ≡ text_of ls
+pub laid_text : (ls : List Line) → lines_at 0 false ls ≡ text_of ls
 laid_text [] = refl
 laid_text (l ∷ ls) = ap (λ (t : List ℕ). l ++ (codes "\n" ++ t)) (laid_text ls) ∙ sym (append_assoc l (codes "\n") (text_of ls)) ∙ sym (flat_map-cons (λ (x : Line). x ++ codes "\n") l ls)

@@ -6,15 +6,15 @@ use Rattle.std.proofs.lemmas.Bool.{eqb-true, ltb-true}
 use Rattle.std.proofs.lemmas.List.{length-append}
 use Rattle.adb_view.specs.Plain.{Plain, null, int, blob, arr, obj, Plains, none, more, keep, without_last_nulls, Shape, number, text, hash, array, object, Fields, no_fields, field, IsNormal, AreNormal}
 use Rattle.adb_view.specs.Shaped.{Each, HasShape, HaveShapes}
-use Rattle.adb_dump.specs.Dump.{Line, begins_with, int_line, text_line, hash_line, indent, dashed, or_null, entries, on_line, below, unless_absent, block_lines, named_lines, fields_lines}
-use Rattle.adb_dump.specs.ReadBack.{Read, behind, bind, strip_prefix, stop_or_add, split_block, unquoted, unhex, made_blob, int_read, text_read, hash_read, if_form, only_line, entry_read, after_dash, entries_read, arr_read, obj_read, field_on_line, field_below, if_named, block_read, named_read, fields_read}
+use Rattle.adb_dump.specs.Dump.{Line, begins_with_byte, int_line, text_line, hash_line, indent, with_dash, or_null, array_lines, named_line, named_block, unless_absent, block_lines, named_lines, fields_lines}
+use Rattle.adb_dump.specs.ReadBack.{Read, after_lines, bind, strip_prefix, stop_or_add, split_block, quoted_read, unhex, blob_read, int_read, text_read, hash_read, if_form, only_line, entry_read, after_dash, entries_read, arr_read, obj_read, field_on_line, field_below, if_named, block_read, named_read, fields_read}
 use Rattle.adb_dump.proofs.Booleans.{chosen, bytes_eq-true}
 
 bind_ok : {A B : Type 0} (r : Read A) (f : A → Read B) (y : B) → bind r f ≡ Ok y → (x : A) × (r ≡ Ok x) × (f x ≡ Ok y)
 bind_ok (Ok x) f y e = (x, refl, e)
 bind_ok (Err k) f y e = absurd cc
 
-behind_ok : {A B : Type 0} (n : ℕ) (f : A → B) (r : Read A) (y : B) → behind n f r ≡ Ok y → (x : A) × (r ≡ Ok x) × (f x ≡ y)
+behind_ok : {A B : Type 0} (n : ℕ) (f : A → B) (r : Read A) (y : B) → after_lines n f r ≡ Ok y → (x : A) × (r ≡ Ok x) × (f x ≡ y)
 behind_ok n f (Ok x) y e = (x, refl, cc)
 behind_ok n f (Err k) y e = absurd cc
 
@@ -53,7 +53,7 @@ split_block_parts (l ∷ ls) = go (strip_prefix (32 ∷ 32 ∷ []) l) refl (spli
 abbrev pub Fits1 : Shape → Plain → Type 0
 Fits1 s v = (v ≢ null) × IsNormal v × HasShape s v
 
-made_blob_some : (b : List ℕ) (v : Plain) → made_blob b ≡ Some v → (v ≡ blob b) × (b ≢ [])
+made_blob_some : (b : List ℕ) (v : Plain) → blob_read b ≡ Some v → (v ≡ blob b) × (b ≢ [])
 made_blob_some [] v e = absurd cc
 made_blob_some (c ∷ cs) v e = (cc, λ f. cc)
 
@@ -72,8 +72,8 @@ int_fits l v e =
 text_fits : (l : Line) (v : Plain) → text_read l ≡ Some v → Fits1 text v
 unfolding HasShape
 text_fits l v e =
-    elim (chosen (begins_with 34 l) _ _ _ e) [
-      | inl x ↦ let (b, is, made) = some_then made_blob (unquoted (length l) (drop 1 l)) v x.1 in blob_fits text b v (λ y. tt) (made_blob_some b v made)
+    elim (chosen (begins_with_byte 34 l) _ _ _ e) [
+      | inl x ↦ let (b, is, made) = some_then blob_read (quoted_read (length l) (drop 1 l)) v x.1 in blob_fits text b v (λ y. tt) (made_blob_some b v made)
       | inr x ↦ blob_fits text l v (λ y. tt) (made_blob_some l v x.1)
     ]
   where
@@ -92,21 +92,21 @@ abbrev EntryOnly : (Plain → List Line) → (List Line → Read Plain) → (Pla
 EntryOnly f r Q = (l : Line) (ls : List Line) (v : Plain) → entry_read r l ls ≡ Ok v → (or_null v (f v) ≡ l ∷ ls) × Q v
 
 dash_only : (f : Plain → List Line) (r : List Line → Read Plain) (Q : Plain → Type 0) → EntryOnly f r Q → (n : ℕ) (l : Line) (ls : List Line) (o : Option Line) (vs : Plains) → strip_prefix (45 ∷ 32 ∷ []) l ≡ o
-    → ((us : Plains) → entries_read r n (split_block ls).1 ≡ Ok us → (entries f us ≡ (split_block ls).1) × Each Q us) → after_dash r (entries_read r n) (split_block ls) o ≡ Ok vs → (entries f vs ≡ l ∷ ls) × Each Q vs
+    → ((us : Plains) → entries_read r n (split_block ls).1 ≡ Ok us → (array_lines f us ≡ (split_block ls).1) × Each Q us) → after_dash r (entries_read r n) (split_block ls) o ≡ Ok vs → (array_lines f vs ≡ l ∷ ls) × Each Q vs
 dash_only f r Q h n l ls None vs i g e = absurd cc
 dash_only f r Q h n l ls (Some inner) vs i g e =
-    let (v, one, a) = bind_ok (entry_read r inner (split_block ls).0) (λ v. behind (1 + length (split_block ls).0) (more v) (entries_read r n (split_block ls).1)) vs e in
+    let (v, one, a) = bind_ok (entry_read r inner (split_block ls).0) (λ v. after_lines (1 + length (split_block ls).0) (more v) (entries_read r n (split_block ls).1)) vs e in
     let (us, others, is) = behind_ok (1 + length (split_block ls).0) (more v) (entries_read r n (split_block ls).1) vs a in
     let first = h inner (split_block ls).0 v one in
     let rest = g us others in
     let line = strip_prefix_some (45 ∷ 32 ∷ []) l inner i in
-    let lines : entries f (more v us) ≡ l ∷ ls = ap (λ (x : List Line). dashed x ++ entries f us) first.0 ∙ ap (λ (x : List Line). ((45 ∷ 32 ∷ inner) ∷ indent (split_block ls).0) ++ x) rest.0 ∙ cons_same (45 ∷ 32 ∷ inner) l (indent (split_block ls).0 ++ (split_block ls).1) ls (sym line) (sym (split_block_parts ls)) in
-    subst (λ (x : Plains). (entries f x ≡ l ∷ ls) × Each Q x) is (lines, (first.1, rest.1))
+    let lines : array_lines f (more v us) ≡ l ∷ ls = ap (λ (x : List Line). with_dash x ++ array_lines f us) first.0 ∙ ap (λ (x : List Line). ((45 ∷ 32 ∷ inner) ∷ indent (split_block ls).0) ++ x) rest.0 ∙ cons_same (45 ∷ 32 ∷ inner) l (indent (split_block ls).0 ++ (split_block ls).1) ls (sym line) (sym (split_block_parts ls)) in
+    subst (λ (x : Plains). (array_lines f x ≡ l ∷ ls) × Each Q x) is (lines, (first.1, rest.1))
   where
     cons_same : (x y : Line) (xs ys : List Line) → x ≡ y → xs ≡ ys → x ∷ xs ≡ y ∷ ys
     cons_same x y xs ys a b = cc
 
-entries_only : (f : Plain → List Line) (r : List Line → Read Plain) (Q : Plain → Type 0) → EntryOnly f r Q → (n : ℕ) (ls : List Line) (vs : Plains) → length ls ≤ n → entries_read r n ls ≡ Ok vs → (entries f vs ≡ ls) × Each Q vs
+entries_only : (f : Plain → List Line) (r : List Line → Read Plain) (Q : Plain → Type 0) → EntryOnly f r Q → (n : ℕ) (ls : List Line) (vs : Plains) → length ls ≤ n → entries_read r n ls ≡ Ok vs → (array_lines f vs ≡ ls) × Each Q vs
 entries_only f r Q h zero [] vs le e = let is : vs ≡ none = cc in (rw is refl, rw is tt)
 entries_only f r Q h zero (l ∷ ls) vs le e = absurd (omega arith)
 entries_only f r Q h (suc n) [] vs le e = let is : vs ≡ none = cc in (rw is refl, rw is tt)
@@ -219,11 +219,11 @@ record NamedOnly (s : Shape) (fs : Fields) (name : List ℕ) (rest : Line) (ls :
   read : fields_read fs others ≡ Ok us
   lines : named_lines s name v ++ others ≡ (name ++ 58 ∷ rest) ∷ ls
 
-line_only : (s : Shape) (fs : Fields) (name : List ℕ) (form : Plain → Line) (read : Line → Option Plain) → ((l : Line) (v : Plain) → read l ≡ Some v → Fits1 s v) → ((v : Plain) → named_lines s name v ≡ on_line name (form v)) → (rest : Line) (ls : List Line) (vs : Plains) (o : Option Line)
+line_only : (s : Shape) (fs : Fields) (name : List ℕ) (form : Plain → Line) (read : Line → Option Plain) → ((l : Line) (v : Plain) → read l ≡ Some v → Fits1 s v) → ((v : Plain) → named_lines s name v ≡ named_line name (form v)) → (rest : Line) (ls : List Line) (vs : Plains) (o : Option Line)
     → strip_prefix (32 ∷ []) rest ≡ o → field_on_line (λ l. if_form form l (read l)) (fields_read fs) ls o ≡ Ok vs → NamedOnly s fs name rest ls vs
 line_only s fs name form read h k rest ls vs None i e = absurd cc
 line_only s fs name form read h k rest ls vs (Some l) i e =
-    let (v, one, a) = bind_ok (if_form form l (read l)) (λ v. behind 1 (more v) (fields_read fs ls)) vs e in
+    let (v, one, a) = bind_ok (if_form form l (read l)) (λ v. after_lines 1 (more v) (fields_read fs ls)) vs e in
     let (us, others, is) = behind_ok 1 (more v) (fields_read fs ls) vs a in
     let (some, line) = if_form_ok form l (read l) v one in
     let word = strip_prefix_some (32 ∷ []) rest l i in
@@ -237,11 +237,11 @@ line_only s fs name form read h k rest ls vs (Some l) i e =
       lines = ap (λ (x : List Line). x ++ ls) (k v) ∙ ap (λ (x : Line). (name ++ (58 ∷ 32 ∷ x)) ∷ ls) line ∙ ap (λ (x : Line). (name ++ 58 ∷ x) ∷ ls) (sym word);
     }
 
-below_only : (s : Shape) (fs : Fields) (name : List ℕ) → BlockOnly s → ((v : Plain) → named_lines s name v ≡ below name (block_lines s v)) → (rest : Line) (ls : List Line) (vs : Plains)
+below_only : (s : Shape) (fs : Fields) (name : List ℕ) → BlockOnly s → ((v : Plain) → named_lines s name v ≡ named_block name (block_lines s v)) → (rest : Line) (ls : List Line) (vs : Plains)
     → field_below (block_read s) (fields_read fs) (split_block ls) rest ≡ Ok vs → NamedOnly s fs name rest ls vs
 below_only s fs name h k (c ∷ cs) ls vs e = absurd cc
 below_only s fs name h k [] ls vs e =
-    let (v, one, a) = bind_ok (behind 1 (λ v. v) (block_read s (split_block ls).0)) (λ v. behind (1 + length (split_block ls).0) (more v) (fields_read fs (split_block ls).1)) vs e in
+    let (v, one, a) = bind_ok (after_lines 1 (λ v. v) (block_read s (split_block ls).0)) (λ v. after_lines (1 + length (split_block ls).0) (more v) (fields_read fs (split_block ls).1)) vs e in
     let (u, ok, same) = behind_ok 1 (λ v. v) (block_read s (split_block ls).0) v one in
     let (us, others, is) = behind_ok (1 + length (split_block ls).0) (more v) (fields_read fs (split_block ls).1) vs a in
     let r = h (split_block ls).0 v (ok ∙ ap Ok same) in
@@ -269,7 +269,7 @@ some_line no_fields l ls e = cc
 some_line (field name s fs) l ls e = cc
 
 one_field : (s : Shape) (fs : Fields) (name : List ℕ) → BlockOnly s → ((ls : List Line) (vs : Plains) → fields_read fs ls ≡ Ok vs → FieldsOnly fs ls vs) → (l : Line) (ls : List Line) (vs : Plains) (o : Option Line)
-    → strip_prefix (name ++ 58 ∷ []) l ≡ o → if_named (behind 0 (more null) (fields_read fs (l ∷ ls))) (named_read s (fields_read fs) ls) o ≡ Ok vs → FieldsOnly (field name s fs) (l ∷ ls) vs
+    → strip_prefix (name ++ 58 ∷ []) l ≡ o → if_named (after_lines 0 (more null) (fields_read fs (l ∷ ls))) (named_read s (fields_read fs) ls) o ≡ Ok vs → FieldsOnly (field name s fs) (l ∷ ls) vs
 unfolding fields_lines IsNormal HasShape
 one_field s fs name h k l ls vs None i e =
     let (us, some, is) = behind_ok 0 (more null) (fields_read fs (l ∷ ls)) vs e in

@@ -11,8 +11,8 @@ use Rattle.std.proofs.lemmas.Str.Parse.{digit_at}
 use Rattle.hex.specs.Hex.{encode_with, encode_lower}
 use Rattle.adb_view.specs.Plain.{Plain, null, int, blob, arr, obj, Plains, none, more, Shape, number, text, hash, array, object, Fields, no_fields, field, IsNormal, AreNormal}
 use Rattle.adb_tables.specs.Values.{entries_in}
-use Rattle.adb_dump.specs.Dump.{Line, is_printable, is_bare, escaped, text_form, int_line, text_line, hash_line, indent, dashed, or_null, entries, on_line, below, unless_absent, block_lines, named_lines, fields_lines, text_of}
-use Rattle.adb_dump.specs.ReadBack.{lines_of, add_char}
+use Rattle.adb_dump.specs.Dump.{Line, is_printable, is_bare, escape_of, text_form, int_line, text_line, hash_line, indent, with_dash, or_null, array_lines, named_line, named_block, unless_absent, block_lines, named_lines, fields_lines, text_of}
+use Rattle.adb_dump.specs.ReadBack.{split_lines, add_char}
 use Rattle.adb_dump.proofs.LineBack.{digit_not_end}
 use Rattle.adb_dump.proofs.Booleans.{and_true, not_true, neq-eqb, both, chosen}
 use Rattle.adb_dump.proofs.ValueBack.{no_end, no_colon, names_of, is_name, is_named, are_named}
@@ -21,18 +21,18 @@ abbrev pub are_lines : List Line → Bool
 are_lines ls = list_all no_end ls
 
 -- a line without a line end, and its end
-lines_of-line : (l : Line) (rest : List ℕ) (ls : List Line) → no_end l ≡ true → lines_of rest ≡ Some ls → lines_of (l ++ 10 ∷ rest) ≡ Some (l ∷ ls)
+lines_of-line : (l : Line) (rest : List ℕ) (ls : List Line) → no_end l ≡ true → split_lines rest ≡ Some ls → split_lines (l ++ 10 ∷ rest) ≡ Some (l ∷ ls)
 lines_of-line [] rest ls h e = rw e refl
 lines_of-line (c ∷ cs) rest ls h e =
     let a = and_true (not (eqb c 10)) (no_end cs) h in
     let t : eqb c 10 ≡ false = not_true (eqb c 10) a.0 in
     rw (t, lines_of-line cs rest ls a.1 e) refl
 
-pub lines_of-text : (ls : List Line) → are_lines ls ≡ true → lines_of (text_of ls) ≡ Some ls
+pub lines_of-text : (ls : List Line) → are_lines ls ≡ true → split_lines (text_of ls) ≡ Some ls
 lines_of-text [] h = refl
 lines_of-text (l ∷ ls) h =
     let a = and_true (no_end l) (are_lines ls) h in
-    ap lines_of (flat_map-cons (λ (x : Line). x ++ 10 ∷ []) l ls ∙ append_assoc l (10 ∷ []) (text_of ls)) ∙ lines_of-line l (text_of ls) ls a.0 (lines_of-text ls a.1)
+    ap split_lines (flat_map-cons (λ (x : Line). x ++ 10 ∷ []) l ls ∙ append_assoc l (10 ∷ []) (text_of ls)) ∙ lines_of-line l (text_of ls) ls a.0 (lines_of-text ls a.1)
 
 -- ---- no line of a dump has a line end
 
@@ -49,7 +49,7 @@ indent_lines : (ls : List Line) → are_lines ls ≡ true → are_lines (indent 
 indent_lines [] h = refl
 indent_lines (l ∷ ls) h = let a = and_true (no_end l) (are_lines ls) h in both _ _ a.0 (indent_lines ls a.1)
 
-dashed_lines : (ls : List Line) → are_lines ls ≡ true → are_lines (dashed ls) ≡ true
+dashed_lines : (ls : List Line) → are_lines ls ≡ true → are_lines (with_dash ls) ≡ true
 dashed_lines [] h = refl
 dashed_lines (l ∷ ls) h = let a = and_true (no_end l) (are_lines ls) h in both _ _ a.0 (indent_lines ls a.1)
 
@@ -58,7 +58,7 @@ unfolding encode_with
 hash_end [] = refl
 hash_end (c ∷ cs) = both _ _ (digit_not_end (c / 16)) (both _ _ (digit_not_end (c % 16)) (hash_end cs))
 
-escaped_end : (c : ℕ) → no_end (escaped c) ≡ true
+escaped_end : (c : ℕ) → no_end (escape_of c) ≡ true
 escaped_end c = go (eqb c 10) (eqb c 92) (eqb c 34) (is_printable c) refl
   where
     go : (b1 b2 b3 b4 : Bool) → eqb c 10 ≡ b1 → no_end (cond b1 (92 ∷ 110 ∷ []) (cond b2 (92 ∷ 92 ∷ []) (cond b3 (92 ∷ 34 ∷ []) (cond b4 (c ∷ []) (codes "\\x" ++ encode_lower (c ∷ [])))))) ≡ true
@@ -68,9 +68,9 @@ escaped_end c = go (eqb c 10) (eqb c 92) (eqb c 34) (is_printable c) refl
     go false false false true e = rw e refl
     go false false false false e = append_chars (codes "\\x") (encode_lower (c ∷ [])) refl (hash_end (c ∷ []))
 
-escapes_end : (b : List ℕ) → no_end (flat_map escaped b) ≡ true
+escapes_end : (b : List ℕ) → no_end (flat_map escape_of b) ≡ true
 escapes_end [] = refl
-escapes_end (c ∷ cs) = ap no_end (flat_map-cons escaped c cs) ∙ append_chars (escaped c) (flat_map escaped cs) (escaped_end c) (escapes_end cs)
+escapes_end (c ∷ cs) = ap no_end (flat_map-cons escape_of c cs) ∙ append_chars (escape_of c) (flat_map escape_of cs) (escaped_end c) (escapes_end cs)
 
 printable_end : (b : List ℕ) → list_all is_printable b ≡ true → no_end b ≡ true
 printable_end [] h = refl
@@ -82,9 +82,9 @@ printable_end (c ∷ cs) h =
 text_end : (b : List ℕ) → no_end (text_form b) ≡ true
 text_end b = go (is_bare b) refl
   where
-    go : (t : Bool) → is_bare b ≡ t → no_end (cond t b (34 ∷ (flat_map escaped b ++ 34 ∷ []))) ≡ true
+    go : (t : Bool) → is_bare b ≡ t → no_end (cond t b (34 ∷ (flat_map escape_of b ++ 34 ∷ []))) ≡ true
     go true e = printable_end b (and_true _ _ (and_true _ _ (and_true _ _ (and_true _ _ e).0).0).0).0
-    go false e = append_chars (flat_map escaped b) (34 ∷ []) (escapes_end b) refl
+    go false e = append_chars (flat_map escape_of b) (34 ∷ []) (escapes_end b) refl
 
 digits_end : (ds : List ℕ) → AllDigits 10 ds → no_end ds ≡ true
 digits_end [] h = refl
@@ -129,10 +129,10 @@ absent_lines (blob b) ls h = h
 absent_lines (arr vs) ls h = h
 absent_lines (obj vs) ls h = h
 
-entries_lines : (f : Plain → List Line) → ((v : Plain) → IsNormal v → are_lines (f v) ≡ true) → (vs : Plains) → AreNormal vs → are_lines (entries f vs) ≡ true
+entries_lines : (f : Plain → List Line) → ((v : Plain) → IsNormal v → are_lines (f v) ≡ true) → (vs : Plains) → AreNormal vs → are_lines (array_lines f vs) ≡ true
 unfolding IsNormal
 entries_lines f h none n = refl
-entries_lines f h (more v vs) n = append_lines (dashed (or_null v (f v))) (entries f vs) (dashed_lines (or_null v (f v)) (or_null_lines v (f v) (h v n.0))) (entries_lines f h vs n.1)
+entries_lines f h (more v vs) n = append_lines (with_dash (or_null v (f v))) (array_lines f vs) (dashed_lines (or_null v (f v)) (or_null_lines v (f v) (h v n.0))) (entries_lines f h vs n.1)
 
 items_normal : (v : Plain) → IsNormal v → AreNormal (entries_in v)
 unfolding IsNormal
@@ -149,10 +149,10 @@ name_end : (name : List ℕ) → is_name name ≡ true → no_end name ≡ true
 name_end [] h = absurd cc
 name_end (c ∷ cs) h = (and_true (no_colon (c ∷ cs)) (no_end (c ∷ cs)) (and_true (not (eqb c 32)) (no_colon (c ∷ cs) && no_end (c ∷ cs)) h).1).1
 
-on_line_end : (name l : List ℕ) → is_name name ≡ true → no_end l ≡ true → are_lines (on_line name l) ≡ true
+on_line_end : (name l : List ℕ) → is_name name ≡ true → no_end l ≡ true → are_lines (named_line name l) ≡ true
 on_line_end name l n h = one_line (name ++ (58 ∷ 32 ∷ l)) (append_chars name (58 ∷ 32 ∷ l) (name_end name n) h)
 
-below_end : (name : List ℕ) (ls : List Line) → is_name name ≡ true → are_lines ls ≡ true → are_lines (below name ls) ≡ true
+below_end : (name : List ℕ) (ls : List Line) → is_name name ≡ true → are_lines ls ≡ true → are_lines (named_block name ls) ≡ true
 below_end name ls n h = both _ _ (append_chars name (58 ∷ []) (name_end name n) refl) (indent_lines ls h)
 
 named_end : (name : List ℕ) (s : Shape) (v : Plain) → is_name name ≡ true → IsNormal v → are_lines (block_lines s v) ≡ true → are_lines (named_lines s name v) ≡ true
@@ -160,7 +160,7 @@ unfolding named_lines
 named_end name number v n a h = on_line_end name (int_line v) n (int_end v a)
 named_end name text v n a h = on_line_end name (text_line v) n (text_line_end v)
 named_end name hash v n a h = on_line_end name (hash_line v) n (hash_line_end v)
-named_end name (array s) v n a h = below_end name (entries (block_lines s) (entries_in v)) n h
+named_end name (array s) v n a h = below_end name (array_lines (block_lines s) (entries_in v)) n h
 named_end name (object which fs) v n a h = below_end name (fields_lines fs (entries_in v)) n h
 
 field_end : (name : List ℕ) (s : Shape) (fs : Fields) (v : Plain) (vs : Plains) → is_name name ≡ true → AreNormal (more v vs) → ((u : Plain) → IsNormal u → are_lines (block_lines s u) ≡ true) → (AreNormal vs → are_lines (fields_lines fs vs) ≡ true) → are_lines (fields_lines (field name s fs) (more v vs)) ≡ true
@@ -198,15 +198,15 @@ mapped_some (Some rest) ls e = (rest, refl, cc)
 line_first : (l : Line) (ls : List Line) → text_of (l ∷ ls) ≡ l ++ 10 ∷ text_of ls
 line_first l ls = flat_map-cons (λ (x : Line). x ++ codes "\n") l ls ∙ append_assoc l (10 ∷ []) (text_of ls)
 
-pub text_of-lines : (t : List ℕ) (ls : List Line) → lines_of t ≡ Some ls → text_of ls ≡ t
+pub text_of-lines : (t : List ℕ) (ls : List Line) → split_lines t ≡ Some ls → text_of ls ≡ t
 text_of-lines [] ls e = let same : [] ≡ ls = cc in rw (sym same) refl
 text_of-lines (c ∷ cs) ls e =
     elim (chosen (eqb c 10) _ _ _ e) [
       | inl x ↦
-          let (rest, some, is) = mapped_some (lines_of cs) ls x.1 in
+          let (rest, some, is) = mapped_some (split_lines cs) ls x.1 in
           let end : c ≡ 10 = eqb-true _ _ x.0 in
           rw (is, end) (line_first [] rest ∙ ap (λ (t : List ℕ). 10 ∷ t) (text_of-lines cs rest some))
       | inr x ↦
-          let (l, rest, some, is) = add_some c (lines_of cs) ls x.1 in
+          let (l, rest, some, is) = add_some c (split_lines cs) ls x.1 in
           rw is (line_first (c ∷ l) rest ∙ ap (λ (t : List ℕ). c ∷ t) (sym (line_first l rest) ∙ text_of-lines cs (l ∷ rest) some))
     ]

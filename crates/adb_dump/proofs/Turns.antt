@@ -8,8 +8,8 @@ use Rattle.adb_tables.specs.Values.{is_sound, value_at}
 use Rattle.adb_tables.specs.declared.tables.Kind.{Kind}
 use Rattle.adb_tables.specs.declared.tables.Kind.TheVariants.{Int, Text, Hash, Obj, TextArr, ObjArr}
 use Rattle.adb_tables.specs.declared.tables.Field.{Field}
-use Rattle.adb_dump.specs.Dump.{Line, block_lines, dashed, named_lines, or_null}
-use Rattle.adb_dump.specs.Laid.{lead, laid}
+use Rattle.adb_dump.specs.Dump.{Line, block_lines, with_dash, named_lines, or_null}
+use Rattle.adb_dump.specs.Margin.{lead, lines_at}
 use Rattle.adb_dump.specs.Words.{is_null, fields_sound, has_one_line}
 use Rattle.adb_dump.proofs.BlockLines.{HasLine, block_line, or_null_line, named_line}
 use Rattle.adb_dump.proofs.Left.{entries_left, fields_left, entry_step, entries_more, entries_done, fields_next, fields_skip, fields_done, fields_over}
@@ -23,28 +23,28 @@ entry_here p k words i lt h = (entry_step p k words i lt h).here
 pub entries_later : (p : List ℕ) (k : Kind) (words : List ℕ) (i : ℕ) → i < length words → are_all_sound p k (drop i words) ≡ true → are_all_sound p k (drop (i + 1) words) ≡ true
 entries_later p k words i lt h = (entry_step p k words i lt h).later
 
-dashed_laid : (d : ℕ) (b : Bool) (ls rest : List Line) → HasLine ls → laid d b (dashed ls ++ rest) ≡ (lead d b ++ codes "- ") ++ (laid (d + 1) true ls ++ laid d false rest)
+dashed_laid : (d : ℕ) (b : Bool) (ls rest : List Line) → HasLine ls → lines_at d b (with_dash ls ++ rest) ≡ (lead d b ++ codes "- ") ++ (lines_at (d + 1) true ls ++ lines_at d false rest)
 dashed_laid d b ls rest h =
     let e : d + 1 ≡ suc d = omega arith in
     rw (e, h.is) (laid_dashed d b h.first h.others rest)
 
-pub entry_turn : (out all : List ℕ) (d : ℕ) (b : Bool) (p : List ℕ) (k : Kind) (words : List ℕ) (i : ℕ) → i < length words → are_all_sound p k (drop i words) ≡ true → out ++ laid d b (entries_left p k words i) ≡ all
-    → (((out ++ lead d b) ++ codes "- ") ++ laid (d + 1) true (or_null (value_at p k (get_or words i 0)) (block_lines (shape_of k) (value_at p k (get_or words i 0))))) ++ laid d false (entries_left p k words (i + 1)) ≡ all
+pub entry_turn : (out all : List ℕ) (d : ℕ) (b : Bool) (p : List ℕ) (k : Kind) (words : List ℕ) (i : ℕ) → i < length words → are_all_sound p k (drop i words) ≡ true → out ++ lines_at d b (entries_left p k words i) ≡ all
+    → (((out ++ lead d b) ++ codes "- ") ++ lines_at (d + 1) true (or_null (value_at p k (get_or words i 0)) (block_lines (shape_of k) (value_at p k (get_or words i 0))))) ++ lines_at d false (entries_left p k words (i + 1)) ≡ all
 entry_turn out all d b p k words i lt h e =
     let v = value_at p k (get_or words i 0) in
     let ls = or_null v (block_lines (shape_of k) v) in
-    let rest = laid d false (entries_left p k words (i + 1)) in
+    let rest = lines_at d false (entries_left p k words (i + 1)) in
     let some : HasLine ls = or_null_line v (block_lines (shape_of k) v) (block_line p k (get_or words i 0) (entry_here p k words i lt h)) in
-    append_assoc ((out ++ lead d b) ++ codes "- ") (laid (d + 1) true ls) rest
-    ∙ ap (λ (t : List ℕ). t ++ (laid (d + 1) true ls ++ rest)) (append_assoc out (lead d b) (codes "- "))
-    ∙ append_assoc out (lead d b ++ codes "- ") (laid (d + 1) true ls ++ rest)
+    append_assoc ((out ++ lead d b) ++ codes "- ") (lines_at (d + 1) true ls) rest
+    ∙ ap (λ (t : List ℕ). t ++ (lines_at (d + 1) true ls ++ rest)) (append_assoc out (lead d b) (codes "- "))
+    ∙ append_assoc out (lead d b ++ codes "- ") (lines_at (d + 1) true ls ++ rest)
     ∙ ap (λ (t : List ℕ). out ++ t) (sym (dashed_laid d b ls (entries_left p k words (i + 1)) some))
-    ∙ ap (λ (x : List Line). out ++ laid d b x) (sym (entries_more p k words i lt h)) ∙ e
+    ∙ ap (λ (x : List Line). out ++ lines_at d b x) (sym (entries_more p k words i lt h)) ∙ e
 
-pub entries_end : (out all : List ℕ) (d : ℕ) (b : Bool) (p : List ℕ) (k : Kind) (words : List ℕ) (i : ℕ) → length words ≤ i → out ++ laid d b (entries_left p k words i) ≡ all → out ≡ all
-entries_end out all d b p k words i le e = sym (append-nil out) ∙ ap (λ (x : List Line). out ++ laid d b x) (sym (entries_done p k words i le)) ∙ e
+pub entries_end : (out all : List ℕ) (d : ℕ) (b : Bool) (p : List ℕ) (k : Kind) (words : List ℕ) (i : ℕ) → length words ≤ i → out ++ lines_at d b (entries_left p k words i) ≡ all → out ≡ all
+entries_end out all d b p k words i le e = sym (append-nil out) ∙ ap (λ (x : List Line). out ++ lines_at d b x) (sym (entries_done p k words i le)) ∙ e
 
-pub null_entry : (d : ℕ) (v : Plain) (ls : List Line) → is_null v ≡ true → laid d true (or_null v ls) ≡ codes "null\n"
+pub null_entry : (d : ℕ) (v : Plain) (ls : List Line) → is_null v ≡ true → lines_at d true (or_null v ls) ≡ codes "null\n"
 null_entry d null ls e = refl
 null_entry d (int n) ls e = absurd cc
 null_entry d (blob b) ls e = absurd cc
@@ -60,7 +60,7 @@ some_entry (obj vs) ls e = refl
 
 -- ---- fields
 
-one_line : (k : Kind) (d : ℕ) (b : Bool) (name : Line) (v : Plain) → has_one_line k ≡ true → laid d b (named_lines (shape_of k) name v) ≡ (((lead d b ++ name) ++ codes ":") ++ codes " ") ++ laid d true (block_lines (shape_of k) v)
+one_line : (k : Kind) (d : ℕ) (b : Bool) (name : Line) (v : Plain) → has_one_line k ≡ true → lines_at d b (named_lines (shape_of k) name v) ≡ (((lead d b ++ name) ++ codes ":") ++ codes " ") ++ lines_at d true (block_lines (shape_of k) v)
 unfolding shape_of named_lines block_lines
 one_line Int d b name v h = laid_on_line d b name _
 one_line Text d b name v h = laid_on_line d b name _
@@ -69,7 +69,7 @@ one_line (Obj w) d b name v h = absurd cc
 one_line TextArr d b name v h = absurd cc
 one_line (ObjArr w) d b name v h = absurd cc
 
-several_lines : (k : Kind) (d : ℕ) (b : Bool) (name : Line) (v : Plain) → has_one_line k ≡ false → laid d b (named_lines (shape_of k) name v) ≡ (((lead d b ++ name) ++ codes ":") ++ codes "\n") ++ laid (suc d) false (block_lines (shape_of k) v)
+several_lines : (k : Kind) (d : ℕ) (b : Bool) (name : Line) (v : Plain) → has_one_line k ≡ false → lines_at d b (named_lines (shape_of k) name v) ≡ (((lead d b ++ name) ++ codes ":") ++ codes "\n") ++ lines_at (suc d) false (block_lines (shape_of k) v)
 unfolding shape_of named_lines block_lines
 several_lines Int d b name v h = absurd cc
 several_lines Text d b name v h = absurd cc
@@ -82,32 +82,32 @@ regrouped : (out a b c e rest : List ℕ) → ((((out ++ a) ++ b) ++ c) ++ e) ++
 regrouped out a b c e rest =
     ap (λ (t : List ℕ). t ++ rest) (ap (λ (t : List ℕ). t ++ e) (ap (λ (t : List ℕ). t ++ c) (append_assoc out a b) ∙ append_assoc out (a ++ b) c) ∙ append_assoc out ((a ++ b) ++ c) e) ∙ append_assoc out (((a ++ b) ++ c) ++ e) rest
 
-pub field_behind : (out : List ℕ) (k : Kind) (d : ℕ) (b : Bool) (name : Line) (v : Plain) → has_one_line k ≡ true → ((((out ++ lead d b) ++ name) ++ codes ":") ++ codes " ") ++ laid d true (block_lines (shape_of k) v) ≡ out ++ laid d b (named_lines (shape_of k) name v)
-field_behind out k d b name v h = regrouped out (lead d b) name (codes ":") (codes " ") (laid d true (block_lines (shape_of k) v)) ∙ ap (λ (t : List ℕ). out ++ t) (sym (one_line k d b name v h))
+pub field_behind : (out : List ℕ) (k : Kind) (d : ℕ) (b : Bool) (name : Line) (v : Plain) → has_one_line k ≡ true → ((((out ++ lead d b) ++ name) ++ codes ":") ++ codes " ") ++ lines_at d true (block_lines (shape_of k) v) ≡ out ++ lines_at d b (named_lines (shape_of k) name v)
+field_behind out k d b name v h = regrouped out (lead d b) name (codes ":") (codes " ") (lines_at d true (block_lines (shape_of k) v)) ∙ ap (λ (t : List ℕ). out ++ t) (sym (one_line k d b name v h))
 
-pub field_below : (out : List ℕ) (k : Kind) (d : ℕ) (b : Bool) (name : Line) (v : Plain) → has_one_line k ≡ false → ((((out ++ lead d b) ++ name) ++ codes ":") ++ codes "\n") ++ laid (d + 1) false (block_lines (shape_of k) v) ≡ out ++ laid d b (named_lines (shape_of k) name v)
+pub field_below : (out : List ℕ) (k : Kind) (d : ℕ) (b : Bool) (name : Line) (v : Plain) → has_one_line k ≡ false → ((((out ++ lead d b) ++ name) ++ codes ":") ++ codes "\n") ++ lines_at (d + 1) false (block_lines (shape_of k) v) ≡ out ++ lines_at d b (named_lines (shape_of k) name v)
 field_below out k d b name v h =
     let e : d + 1 ≡ suc d = omega arith in
-    rw e (regrouped out (lead d b) name (codes ":") (codes "\n") (laid (suc d) false (block_lines (shape_of k) v)) ∙ ap (λ (t : List ℕ). out ++ t) (sym (several_lines k d b name v h)))
+    rw e (regrouped out (lead d b) name (codes ":") (codes "\n") (lines_at (suc d) false (block_lines (shape_of k) v)) ∙ ap (λ (t : List ℕ). out ++ t) (sym (several_lines k d b name v h)))
 
-behind_named : (d : ℕ) (b : Bool) (xs ys : List Line) → HasLine xs → laid d b (xs ++ ys) ≡ laid d b xs ++ laid d false ys
+behind_named : (d : ℕ) (b : Bool) (xs ys : List Line) → HasLine xs → lines_at d b (xs ++ ys) ≡ lines_at d b xs ++ lines_at d false ys
 behind_named d b xs ys h = rw h.is (laid_behind d b h.first h.others ys)
 
 pub field_turn : (out all : List ℕ) (d : ℕ) (b : Bool) (p : List ℕ) (fields : List Field) (words : List ℕ) (i : ℕ) (f : Field) → i < length fields → i < length words → fields_sound p (drop i fields) (drop i words) ≡ true → is_null (value_at p (get_or fields i f).kind (get_or words i 0)) ≡ false
-    → out ++ laid d b (fields_left p fields words i) ≡ all
-    → (out ++ laid d b (named_lines (shape_of (get_or fields i f).kind) (field_name_text (get_or fields i f).name) (value_at p (get_or fields i f).kind (get_or words i 0)))) ++ laid d false (fields_left p fields words (i + 1)) ≡ all
+    → out ++ lines_at d b (fields_left p fields words i) ≡ all
+    → (out ++ lines_at d b (named_lines (shape_of (get_or fields i f).kind) (field_name_text (get_or fields i f).name) (value_at p (get_or fields i f).kind (get_or words i 0)))) ++ lines_at d false (fields_left p fields words (i + 1)) ≡ all
 field_turn out all d b p fields words i f lt lt' h n e =
     let named = named_lines (shape_of (get_or fields i f).kind) (field_name_text (get_or fields i f).name) (value_at p (get_or fields i f).kind (get_or words i 0)) in
-    append_assoc out (laid d b named) (laid d false (fields_left p fields words (i + 1)))
+    append_assoc out (lines_at d b named) (lines_at d false (fields_left p fields words (i + 1)))
     ∙ ap (λ (t : List ℕ). out ++ t) (sym (behind_named d b named (fields_left p fields words (i + 1)) (named_line (shape_of (get_or fields i f).kind) (field_name_text (get_or fields i f).name) (value_at p (get_or fields i f).kind (get_or words i 0)))))
-    ∙ ap (λ (x : List Line). out ++ laid d b x) (sym (fields_next p fields words i f lt lt' h n)) ∙ e
+    ∙ ap (λ (x : List Line). out ++ lines_at d b x) (sym (fields_next p fields words i f lt lt' h n)) ∙ e
 
 pub null_turn : (out all : List ℕ) (d : ℕ) (b : Bool) (p : List ℕ) (fields : List Field) (words : List ℕ) (i : ℕ) (f : Field) → i < length fields → i < length words → fields_sound p (drop i fields) (drop i words) ≡ true → is_null (value_at p (get_or fields i f).kind (get_or words i 0)) ≡ true
-    → out ++ laid d b (fields_left p fields words i) ≡ all → out ++ laid d b (fields_left p fields words (i + 1)) ≡ all
-null_turn out all d b p fields words i f lt lt' h n e = ap (λ (x : List Line). out ++ laid d b x) (sym (fields_skip p fields words i f lt lt' h n)) ∙ e
+    → out ++ lines_at d b (fields_left p fields words i) ≡ all → out ++ lines_at d b (fields_left p fields words (i + 1)) ≡ all
+null_turn out all d b p fields words i f lt lt' h n e = ap (λ (x : List Line). out ++ lines_at d b x) (sym (fields_skip p fields words i f lt lt' h n)) ∙ e
 
-pub words_end : (out all : List ℕ) (d : ℕ) (b : Bool) (p : List ℕ) (fields : List Field) (words : List ℕ) (i : ℕ) → length words ≤ i → out ++ laid d b (fields_left p fields words i) ≡ all → out ≡ all
-words_end out all d b p fields words i le e = sym (append-nil out) ∙ ap (λ (x : List Line). out ++ laid d b x) (sym (fields_done p fields words i le)) ∙ e
+pub words_end : (out all : List ℕ) (d : ℕ) (b : Bool) (p : List ℕ) (fields : List Field) (words : List ℕ) (i : ℕ) → length words ≤ i → out ++ lines_at d b (fields_left p fields words i) ≡ all → out ≡ all
+words_end out all d b p fields words i le e = sym (append-nil out) ∙ ap (λ (x : List Line). out ++ lines_at d b x) (sym (fields_done p fields words i le)) ∙ e
 
-pub fields_end : (out all : List ℕ) (d : ℕ) (b : Bool) (p : List ℕ) (fields : List Field) (words : List ℕ) (i : ℕ) → length fields ≤ i → out ++ laid d b (fields_left p fields words i) ≡ all → out ≡ all
-fields_end out all d b p fields words i le e = sym (append-nil out) ∙ ap (λ (x : List Line). out ++ laid d b x) (sym (fields_over p fields words i le)) ∙ e
+pub fields_end : (out all : List ℕ) (d : ℕ) (b : Bool) (p : List ℕ) (fields : List Field) (words : List ℕ) (i : ℕ) → length fields ≤ i → out ++ lines_at d b (fields_left p fields words i) ≡ all → out ≡ all
+fields_end out all d b p fields words i le e = sym (append-nil out) ∙ ap (λ (x : List Line). out ++ lines_at d b x) (sym (fields_over p fields words i le)) ∙ e

@@ -6,8 +6,8 @@ use Rattle.std.proofs.lemmas.Bool.{eqb-true}
 use Rattle.std.proofs.lemmas.List.{length-append}
 use Rattle.adb_view.specs.Plain.{Plain, null, int, blob, arr, obj, Plains, none, more, keep, without_last_nulls, Shape, number, text, hash, array, object, Fields, no_fields, field, IsNormal, AreNormal}
 use Rattle.adb_view.specs.Shaped.{Each, HasShape, HaveShapes}
-use Rattle.adb_dump.specs.Dump.{Line, int_line, text_line, hash_line, text_form, indent, dashed, or_null, entries, block_lines, named_lines, fields_lines}
-use Rattle.adb_dump.specs.ReadBack.{Read, behind, bind, strip_prefix, split_block, entry_read, entries_read, arr_read, obj_read, field_below, block_read, named_read, fields_read}
+use Rattle.adb_dump.specs.Dump.{Line, int_line, text_line, hash_line, text_form, indent, with_dash, or_null, array_lines, block_lines, named_lines, fields_lines}
+use Rattle.adb_dump.specs.ReadBack.{Read, after_lines, bind, strip_prefix, split_block, entry_read, entries_read, arr_read, obj_read, field_below, block_read, named_read, fields_read}
 use Rattle.adb_dump.specs.Values.{IsOfBytes, AreOfBytes}
 use Rattle.adb_dump.proofs.LineBack.{AreBytes, int_back, text_back, hash_back, int_not_null, text_not_null, hash_not_null}
 use Rattle.adb_dump.proofs.Booleans.{and_true, not_true, neq-eqb, bytes_eq-same, differs}
@@ -77,22 +77,22 @@ pub record EntryBack (f : Plain → List Line) (r : List Line → Read Plain) (v
   pub lines : or_null v (f v) ≡ first ∷ others
   pub back : entry_read r first others ≡ Ok v
 
-entries-fresh : (f : Plain → List Line) (r : List Line → Read Plain) (vs : Plains) → Each (EntryBack f r) vs → IsFresh (entries f vs)
+entries-fresh : (f : Plain → List Line) (r : List Line → Read Plain) (vs : Plains) → Each (EntryBack f r) vs → IsFresh (array_lines f vs)
 entries-fresh f r none h = tt
 entries-fresh f r (more v vs) h = rw h.0.lines refl
 
-entries_back : (f : Plain → List Line) (r : List Line → Read Plain) (n : ℕ) (vs : Plains) → Each (EntryBack f r) vs → length (entries f vs) ≤ n → entries_read r n (entries f vs) ≡ Ok vs
+entries_back : (f : Plain → List Line) (r : List Line → Read Plain) (n : ℕ) (vs : Plains) → Each (EntryBack f r) vs → length (array_lines f vs) ≤ n → entries_read r n (array_lines f vs) ≡ Ok vs
 entries_back f r zero none h le = refl
 entries_back f r (suc n) none h le = refl
 entries_back f r zero (more v vs) h le =
     let e = h.0 in
-    let lines : entries f (more v vs) ≡ (45 ∷ 32 ∷ e.first) ∷ (indent e.others ++ entries f vs) = ap (λ (ls : List Line). dashed ls ++ entries f vs) e.lines in
+    let lines : array_lines f (more v vs) ≡ (45 ∷ 32 ∷ e.first) ∷ (indent e.others ++ array_lines f vs) = ap (λ (ls : List Line). with_dash ls ++ array_lines f vs) e.lines in
     absurd (omega (arith, ap length lines))
 entries_back f r (suc n) (more v vs) h le =
     let e = h.0 in
-    let lines : entries f (more v vs) ≡ (45 ∷ 32 ∷ e.first) ∷ (indent e.others ++ entries f vs) = ap (λ (ls : List Line). dashed ls ++ entries f vs) e.lines in
-    let split : split_block (indent e.others ++ entries f vs) ≡ (e.others, entries f vs) = split_block-indent e.others (entries f vs) (entries-fresh f r vs h.1) in
-    let more_back : entries_read r n (entries f vs) ≡ Ok vs = entries_back f r n vs h.1 (omega (arith, ap length lines, length-append (indent e.others) (entries f vs))) in
+    let lines : array_lines f (more v vs) ≡ (45 ∷ 32 ∷ e.first) ∷ (indent e.others ++ array_lines f vs) = ap (λ (ls : List Line). with_dash ls ++ array_lines f vs) e.lines in
+    let split : split_block (indent e.others ++ array_lines f vs) ≡ (e.others, array_lines f vs) = split_block-indent e.others (array_lines f vs) (entries-fresh f r vs h.1) in
+    let more_back : entries_read r n (array_lines f vs) ≡ Ok vs = entries_back f r n vs h.1 (omega (arith, ap length lines, length-append (indent e.others) (array_lines f vs))) in
     ap (entries_read r (suc n)) lines ∙ rw (split, e.back, more_back) refl
 
 -- ---- names
@@ -247,7 +247,7 @@ named_back number name v g ls b fresh = record {
   rest = 32 ∷ int_line v;
   lines = refl;
   is = refl;
-  back = λ vs h. ap (λ (r : Read Plain). bind r (λ u. behind 1 (more u) (g ls))) b.back ∙ ap (behind 1 (more v)) h;
+  back = λ vs h. ap (λ (r : Read Plain). bind r (λ u. after_lines 1 (more u) (g ls))) b.back ∙ ap (after_lines 1 (more v)) h;
 }
 named_back text name v g ls b fresh = record {
   first = name ++ (58 ∷ 32 ∷ text_line v);
@@ -255,7 +255,7 @@ named_back text name v g ls b fresh = record {
   rest = 32 ∷ text_line v;
   lines = refl;
   is = refl;
-  back = λ vs h. ap (λ (r : Read Plain). bind r (λ u. behind 1 (more u) (g ls))) b.back ∙ ap (behind 1 (more v)) h;
+  back = λ vs h. ap (λ (r : Read Plain). bind r (λ u. after_lines 1 (more u) (g ls))) b.back ∙ ap (after_lines 1 (more v)) h;
 }
 named_back hash name v g ls b fresh = record {
   first = name ++ (58 ∷ 32 ∷ hash_line v);
@@ -263,7 +263,7 @@ named_back hash name v g ls b fresh = record {
   rest = 32 ∷ hash_line v;
   lines = refl;
   is = refl;
-  back = λ vs h. ap (λ (r : Read Plain). bind r (λ u. behind 1 (more u) (g ls))) b.back ∙ ap (behind 1 (more v)) h;
+  back = λ vs h. ap (λ (r : Read Plain). bind r (λ u. after_lines 1 (more u) (g ls))) b.back ∙ ap (after_lines 1 (more v)) h;
 }
 named_back (array s) name v g ls b fresh =
     let block = block_lines (array s) v in
@@ -274,7 +274,7 @@ named_back (array s) name v g ls b fresh =
       rest = [];
       lines = refl;
       is = refl;
-      back = λ vs h. ap (λ r. field_below (block_read (array s)) g r []) split ∙ ap (λ (r : Read Plain). bind (behind 1 (λ u. u) r) (λ u. behind (1 + length block) (more u) (g ls))) b.back ∙ ap (behind (1 + length block) (more v)) h;
+      back = λ vs h. ap (λ r. field_below (block_read (array s)) g r []) split ∙ ap (λ (r : Read Plain). bind (after_lines 1 (λ u. u) r) (λ u. after_lines (1 + length block) (more u) (g ls))) b.back ∙ ap (after_lines (1 + length block) (more v)) h;
     }
 named_back (object which fs) name v g ls b fresh =
     let block = block_lines (object which fs) v in
@@ -285,7 +285,7 @@ named_back (object which fs) name v g ls b fresh =
       rest = [];
       lines = refl;
       is = refl;
-      back = λ vs h. ap (λ r. field_below (block_read (object which fs)) g r []) split ∙ ap (λ (r : Read Plain). bind (behind 1 (λ u. u) r) (λ u. behind (1 + length block) (more u) (g ls))) b.back ∙ ap (behind (1 + length block) (more v)) h;
+      back = λ vs h. ap (λ r. field_below (block_read (object which fs)) g r []) split ∙ ap (λ (r : Read Plain). bind (after_lines 1 (λ u. u) r) (λ u. after_lines (1 + length block) (more u) (g ls))) b.back ∙ ap (after_lines (1 + length block) (more v)) h;
     }
 
 -- one field more
@@ -324,10 +324,10 @@ array_back s (more v vs) ne h =
     let e = h.0 in
     record {
       first = 45 ∷ 32 ∷ e.first;
-      others = indent e.others ++ entries (block_lines s) vs;
-      lines = ap (λ (ls : List Line). dashed ls ++ entries (block_lines s) vs) e.lines;
+      others = indent e.others ++ array_lines (block_lines s) vs;
+      lines = ap (λ (ls : List Line). with_dash ls ++ array_lines (block_lines s) vs) e.lines;
       not_null = refl;
-      back = ap (λ (r : Read Plains). bind r arr_read) (entries_back (block_lines s) (block_read s) (length (entries (block_lines s) (more v vs))) (more v vs) h (omega arith));
+      back = ap (λ (r : Read Plains). bind r arr_read) (entries_back (block_lines s) (block_read s) (length (array_lines (block_lines s) (more v vs))) (more v vs) h (omega arith));
     }
 
 -- an object has a line

@@ -9,7 +9,7 @@ use Rattle.adb_tables.specs.declared.tables.Which.{Which}
 use Rattle.adb_tables.specs.declared.tables.Which.TheVariants.{Dep, Acl, PkgInfo, File, Dir, Scripts, Package, Index, Idb, Intent}
 use Rattle.adb_tables.specs.declared.tables.Kind.TheVariants.{Obj}
 use Rattle.adb_dump.specs.Dump.{Line, block_lines, dump_lines, dump_text, schema_line, value_lines}
-use Rattle.adb_dump.specs.ReadBack.{bind, block_read, lines_of, value_read}
+use Rattle.adb_dump.specs.ReadBack.{bind, block_read, split_lines, value_read}
 use Rattle.adb_dump.specs.Values.{IsOfBytes, IsValueOf}
 use Rattle.adb_dump.proofs.BlockLines.{no_lines, object_block}
 use Rattle.adb_dump.proofs.WordReads.{object_shape}
@@ -69,7 +69,7 @@ schema_end Index = refl
 schema_end Idb = refl
 schema_end Intent = refl
 
-pub text_split : (which : Which) (v : Plain) → IsNormal v → lines_of (dump_text which v) ≡ Some (dump_lines which v)
+pub text_split : (which : Which) (v : Plain) → IsNormal v → split_lines (dump_text which v) ≡ Some (dump_lines which v)
 text_split which v a = lines_of-text (dump_lines which v) (both _ _ (schema_end which) (block_end (shape_of (Obj which)) (table_named which) v a))
 
 same_lines : (x y : Line) (xs ys : List Line) → option_map (λ (ls : List Line). ls) (Some (x ∷ xs)) ≡ option_map (λ (ls : List Line). ls) (Some (y ∷ ys)) → xs ≡ ys
@@ -80,7 +80,7 @@ same_value x y e = cc
 
 pub one_text_one_value : (which : Which) (v u : Plain) → IsValueOf which v → IsOfBytes v → IsValueOf which u → IsOfBytes u → dump_text which v ≡ dump_text which u → v ≡ u
 one_text_one_value which v u is b is' b' e =
-    let lines : lines_of (dump_text which v) ≡ lines_of (dump_text which u) = ap lines_of e in
+    let lines : split_lines (dump_text which v) ≡ split_lines (dump_text which u) = ap split_lines e in
     let whole = sym (text_split which v is.0) ∙ lines ∙ text_split which u is'.0 in
     let values : value_lines which v ≡ value_lines which u = same_lines _ _ (value_lines which v) (value_lines which u) whole in
     same_value v u (sym (read_back which v is b) ∙ ap (value_read which) values ∙ read_back which u is' b')

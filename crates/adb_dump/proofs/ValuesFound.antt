@@ -1,4 +1,4 @@
--- The plain values of a payload's words have the shape that they were read by, and are of bytes.
+-- The plain values of a payload of bytes are of bytes.
 use Rattle.std.proofs.Common.{ℕ, ◌+◌, ◌<◌, Bool, true, false, cond, eqb, leb, List, [], ◌∷◌, length, take, drop, Option, Some, None, option_map, option_and_then, Result, Ok, Err}
 use Rattle.std.specs.Prelude.{All, IfSome, if◌then◌else◌}
 use Rattle.std.specs.Int.{Width, w8, w16, w32, byte_len}
@@ -7,7 +7,6 @@ use Rattle.std.proofs.lemmas.List.Elements.{All-head, All-tail, All-take, All-dr
 use Rattle.adb_view.specs.Bytes.{number_at, range_at}
 use Rattle.adb_view.specs.Plain.{Plain, null, int, blob, arr, obj, Plains, none, more, Shape, number, text, hash, array, object, Fields, no_fields, field, blob_value, arr_value, obj_of, keep, without_last_nulls, obj_value, unless_null, from_answer, then_more, each_plain, plain_of, plains_of}
 use Rattle.adb_view.specs.Readers.{counted_at, inside, int_of, blob_of, run_of, kind_of, low_of, ARRAY, OBJECT}
-use Rattle.adb_view.specs.Shaped.{Each, HasShape, HaveShapes}
 use Rattle.base_core.specs.declared.cause.Cause.{Cause}
 use Rattle.adb_dump.specs.Values.{IsOfBytes, AreOfBytes}
 
@@ -26,99 +25,6 @@ mapped P Q f h (Some vs) k = h vs k
 run_found : (P : Plain → Type 0) (g : List ℕ → Option Plain) → ((ws : List ℕ) → IfSome (g ws) P) → (r : Result (List ℕ) Cause) → IfSome (from_answer g r) P
 run_found P g h (Ok ws) = h ws
 run_found P g h (Err c) = tt
-
--- ---- shapes
-
-null_shape : (s : Shape) → HasShape s null
-unfolding HasShape
-null_shape number = tt
-null_shape text = tt
-null_shape hash = tt
-null_shape (array s) = tt
-null_shape (object n fs) = tt
-
-int_shape : (r : Result ℕ Cause) → IfSome (from_answer (λ n. Some (int n)) r) (HasShape number)
-unfolding HasShape
-int_shape (Ok n) = tt
-int_shape (Err c) = tt
-
-text_shape : (r : Result (List ℕ) Cause) → IfSome (from_answer (λ b. Some (blob_value b)) r) (HasShape text)
-unfolding HasShape
-text_shape (Ok []) = tt
-text_shape (Ok (c ∷ cs)) = tt
-text_shape (Err c) = tt
-
-hash_shape : (r : Result (List ℕ) Cause) → IfSome (from_answer (λ b. Some (blob_value b)) r) (HasShape hash)
-unfolding HasShape
-hash_shape (Ok []) = tt
-hash_shape (Ok (c ∷ cs)) = tt
-hash_shape (Err c) = tt
-
-arr_shape : (s : Shape) (vs : Plains) → Each (HasShape s) vs → HasShape (array s) (arr_value vs)
-unfolding HasShape
-arr_shape s none h = tt
-arr_shape s (more v vs) h = h
-
-none_shape : (fs : Fields) → HaveShapes fs none
-unfolding HasShape
-none_shape no_fields = tt
-none_shape (field name s fs) = tt
-
-keep_shape : (name : List ℕ) (s : Shape) (fs : Fields) (v : Plain) (vs : Plains) → HasShape s v → HaveShapes fs vs → HaveShapes (field name s fs) (keep v vs)
-unfolding HasShape
-keep_shape name s fs null none h hs = tt
-keep_shape name s fs null (more v vs) h hs = (h, hs)
-keep_shape name s fs (int n) vs h hs = (h, hs)
-keep_shape name s fs (blob b) vs h hs = (h, hs)
-keep_shape name s fs (arr us) vs h hs = (h, hs)
-keep_shape name s fs (obj us) vs h hs = (h, hs)
-
-trimmed_shape : (fs : Fields) (vs : Plains) → HaveShapes fs vs → HaveShapes fs (without_last_nulls vs)
-unfolding HasShape
-trimmed_shape no_fields none h = h
-trimmed_shape no_fields (more v vs) h = absurd h
-trimmed_shape (field name s fs) none h = tt
-trimmed_shape (field name s fs) (more v vs) h = keep_shape name s fs v (without_last_nulls vs) h.0 (trimmed_shape fs vs h.1)
-
-obj_of_shape : (n : ℕ) (fs : Fields) (vs : Plains) → HaveShapes fs vs → HasShape (object n fs) (obj_of vs)
-unfolding HasShape
-obj_of_shape n fs none h = tt
-obj_of_shape n fs (more v vs) h = h
-
-obj_shape : (n : ℕ) (fs : Fields) (vs : Plains) → HaveShapes fs vs → HasShape (object n fs) (obj_value vs)
-obj_shape n fs vs h = obj_of_shape n fs (without_last_nulls vs) (trimmed_shape fs vs h)
-
-each_more : (P : Plain → Type 0) (v : Option Plain) (vs : Option Plains) → IfSome v P → IfSome vs (Each P) → IfSome (then_more v vs) (Each P)
-each_more P (Some v) (Some vs) h hs = (h, hs)
-each_more P (Some v) None h hs = tt
-each_more P None vs h hs = tt
-
-each_shape : (P : Plain → Type 0) (f : ℕ → Option Plain) → ((w : ℕ) → IfSome (f w) P) → (ws : List ℕ) → IfSome (each_plain f ws) (Each P)
-each_shape P f h [] = tt
-each_shape P f h (w ∷ ws) = each_more P (f w) (each_plain f ws) (h w) (each_shape P f h ws)
-
-fields_more : (name : List ℕ) (s : Shape) (fs : Fields) (v : Option Plain) (vs : Option Plains) → IfSome v (HasShape s) → IfSome vs (HaveShapes fs) → IfSome (then_more v vs) (HaveShapes (field name s fs))
-unfolding HasShape
-fields_more name s fs (Some v) (Some vs) h hs = (h, hs)
-fields_more name s fs (Some v) None h hs = tt
-fields_more name s fs None vs h hs = tt
-
-mutual
-  unfolding plain_of
-
-  pub plain_shape : (p : List ℕ) (s : Shape) (w : ℕ) → IfSome (plain_of p s w) (HasShape s)
-  plain_shape p number w = unless_null-all (HasShape number) w _ (null_shape number) (int_shape (int_of p w))
-  plain_shape p text w = unless_null-all (HasShape text) w _ (null_shape text) (text_shape (blob_of p w))
-  plain_shape p hash w = unless_null-all (HasShape hash) w _ (null_shape hash) (hash_shape (blob_of p w))
-  plain_shape p (array s) w =
-      unless_null-all (HasShape (array s)) w _ (null_shape (array s)) (run_found (HasShape (array s)) (λ ws. option_map arr_value (each_plain (plain_of p s) ws)) (λ ws. mapped (HasShape (array s)) (Each (HasShape s)) arr_value (arr_shape s) (each_plain (plain_of p s) ws) (each_shape (HasShape s) (plain_of p s) (plain_shape p s) ws)) (run_of ARRAY p w))
-  plain_shape p (object n fs) w =
-      unless_null-all (HasShape (object n fs)) w _ (null_shape (object n fs)) (run_found (HasShape (object n fs)) (λ ws. option_map obj_value (plains_of p fs ws)) (λ ws. mapped (HasShape (object n fs)) (HaveShapes fs) obj_value (obj_shape n fs) (plains_of p fs ws) (plains_shape p fs ws)) (run_of OBJECT p w))
-
-  pub plains_shape : (p : List ℕ) (fs : Fields) (ws : List ℕ) → IfSome (plains_of p fs ws) (HaveShapes fs)
-  plains_shape p no_fields ws = none_shape no_fields
-  plains_shape p (field name s fs) [] = none_shape (field name s fs)
-  plains_shape p (field name s fs) (w ∷ ws) = fields_more name s fs (plain_of p s w) (plains_of p fs ws) (plain_shape p s w) (plains_shape p fs ws)
 
 -- ---- bytes
 

@@ -15,7 +15,7 @@ use Rattle.adb_tables.specs.declared.tables.Which.{Which}
 use Rattle.adb_tables.specs.declared.tables.Kind.TheVariants.{Obj}
 use Rattle.adb_tables.specs.declared.tables.Field.{Field}
 use Rattle.adb_dump.specs.Dump.{Line, dump_text, fields_lines, schema_line, text_of, value_lines}
-use Rattle.adb_dump.specs.Laid.{laid}
+use Rattle.adb_dump.specs.Margin.{lines_at}
 use Rattle.adb_dump.specs.Words.{fields_at}
 use Rattle.adb_dump.proofs.BlockLines.{object_lines}
 use Rattle.adb_dump.proofs.Placed.{laid_text}
@@ -23,15 +23,15 @@ use Rattle.adb_dump.proofs.Placed.{laid_text}
 first_line : (line : Line) (ls : List Line) → text_of (line ∷ ls) ≡ (line ++ codes "\n") ++ text_of ls
 first_line line ls = flat_map-cons (λ (x : Line). x ++ codes "\n") line ls
 
-lines_written : (out0 out1 out2 : List ℕ) (line : Line) (ls : List Line) → out0 ≡ [] → out1 ≡ (out0 ++ line) ++ codes "\n" → out2 ≡ out1 ++ laid 0 false ls → out2 ≡ text_of (line ∷ ls)
+lines_written : (out0 out1 out2 : List ℕ) (line : Line) (ls : List Line) → out0 ≡ [] → out1 ≡ (out0 ++ line) ++ codes "\n" → out2 ≡ out1 ++ lines_at 0 false ls → out2 ≡ text_of (line ∷ ls)
 lines_written out0 out1 out2 line ls none schema fields =
-    fields ∙ ap (λ (t : List ℕ). t ++ laid 0 false ls) (schema ∙ ap (λ (t : List ℕ). (t ++ line) ++ codes "\n") none) ∙ ap (λ (t : List ℕ). (line ++ codes "\n") ++ t) (laid_text ls) ∙ sym (first_line line ls)
+    fields ∙ ap (λ (t : List ℕ). t ++ lines_at 0 false ls) (schema ∙ ap (λ (t : List ℕ). (t ++ line) ++ codes "\n") none) ∙ ap (λ (t : List ℕ). (line ++ codes "\n") ++ t) (laid_text ls) ∙ sym (first_line line ls)
 
 pub whole_text : (shaped : Shaped) (adb : Adb) (which : Which) (root : ℕ) (fields : List Field) (words out0 out1 out2 : List ℕ) → adb ≡ adb_of shaped → which ≡ table_of shaped → root ≡ root_of (payload_of adb) → fields ≡ table which
     → value_at (payload_of adb) (Obj which) root ≡ obj_value (fields_at (payload_of adb) (table which) words) → out0 ≡ [] → out1 ≡ (out0 ++ schema_line (schema_word which)) ++ codes "\n"
-    → out2 ≡ out1 ++ laid 0 false (fields_lines (shapes_of fields) (fields_at (payload_of adb) fields words)) → out2 ≡ dump_text (table_of shaped) (shaped_value shaped)
+    → out2 ≡ out1 ++ lines_at 0 false (fields_lines (shapes_of fields) (fields_at (payload_of adb) fields words)) → out2 ≡ dump_text (table_of shaped) (shaped_value shaped)
 whole_text shaped adb which root fields words out0 out1 out2 adb_is which_is root_is fields_is value none schema lines =
-    let table_lines = lines ∙ ap (λ (fs : List Field). out1 ++ laid 0 false (fields_lines (shapes_of fs) (fields_at (payload_of adb) fs words))) fields_is in
+    let table_lines = lines ∙ ap (λ (fs : List Field). out1 ++ lines_at 0 false (fields_lines (shapes_of fs) (fields_at (payload_of adb) fs words))) fields_is in
     let all_lines = lines_written out0 out1 out2 (schema_line (schema_word which)) (fields_lines (shapes_of (table which)) (fields_at (payload_of adb) (table which) words)) none schema table_lines in
     let value_is : value_lines which (value_at (payload_of adb) (Obj which) root) ≡ fields_lines (shapes_of (table which)) (fields_at (payload_of adb) (table which) words) = object_lines (payload_of adb) which root words value in
     all_lines ∙ ap (λ (ls : List Line). text_of (schema_line (schema_word which) ∷ ls)) (sym value_is) ∙ same

@@ -20,33 +20,36 @@ Line = List ℕ
 abbrev pub is_printable : ℕ → Bool
 is_printable c = nat_le 0x20 c && nat_le c 0x7e
 
-abbrev pub begins_with : ℕ → List ℕ → Bool
-begins_with c [] = false
-begins_with c (d ∷ ds) = c == d
+abbrev pub begins_with_byte : ℕ → List ℕ → Bool
+begins_with_byte c [] = false
+begins_with_byte c (d ∷ ds) = c == d
 
-abbrev pub ends_with : ℕ → List ℕ → Bool
-ends_with c [] = false
-ends_with c (d ∷ []) = c == d
-ends_with c (d ∷ e ∷ ds) = ends_with c (e ∷ ds)
+abbrev pub ends_with_byte : ℕ → List ℕ → Bool
+ends_with_byte c [] = false
+ends_with_byte c (d ∷ []) = c == d
+ends_with_byte c (d ∷ e ∷ ds) = ends_with_byte c (e ∷ ds)
 
--- a text stands as it is where each byte is printable, no space is first or last, no quote is first, and it is not `null`
+-- a text stands as it is where each byte is printable, no space is first or last, no quote is
+-- first, and it is not `null`
 abbrev pub is_bare : List ℕ → Bool
-is_bare b = list_all is_printable b && not (begins_with 0x20 b) && not (ends_with 0x20 b) && not (begins_with 0x22 b) && not (bytes_eq b (codes "null"))
+is_bare b =
+    list_all is_printable b && not (begins_with_byte 0x20 b) && not (ends_with_byte 0x20 b)
+    && not (begins_with_byte 0x22 b) && not (bytes_eq b (codes "null"))
 
 -- a line end, a backslash, a quote, and then any other byte that is not printable
-abbrev pub escaped : ℕ → List ℕ
-escaped c =
+abbrev pub escape_of : ℕ → List ℕ
+escape_of c =
     if c == 0x0a then codes "\\n"
     else if c == 0x5c then codes "\\\\"
     else if c == 0x22 then codes "\\\""
     else if is_printable c then c ∷ []
     else codes "\\x" ++ encode_lower (c ∷ [])
 
-abbrev pub quoted : List ℕ → Line
-quoted b = codes "\"" ++ flat_map escaped b ++ codes "\""
+abbrev pub quoted_text : List ℕ → Line
+quoted_text b = codes "\"" ++ flat_map escape_of b ++ codes "\""
 
 abbrev pub text_form : List ℕ → Line
-text_form b = if is_bare b then b else quoted b
+text_form b = if is_bare b then b else quoted_text b
 
 -- an integer, a text, a hash
 abbrev pub int_line : Plain → Line
@@ -67,25 +70,25 @@ abbrev pub indent : List Line → List Line
 indent ls = map (λ (l : Line). codes "  " ++ l) ls
 
 -- the first line behind a dash, the others below it
-abbrev pub dashed : List Line → List Line
-dashed [] = []
-dashed (l ∷ ls) = (codes "- " ++ l) ∷ indent ls
+abbrev pub with_dash : List Line → List Line
+with_dash [] = []
+with_dash (l ∷ ls) = (codes "- " ++ l) ∷ indent ls
 
 abbrev pub or_null : Plain → List Line → List Line
 or_null null ls = codes "null" ∷ []
 or_null v ls = ls
 
 -- each entry behind a dash
-abbrev pub entries : (Plain → List Line) → Plains → List Line
-entries f none = []
-entries f (more v vs) = dashed (or_null v (f v)) ++ entries f vs
+abbrev pub array_lines : (Plain → List Line) → Plains → List Line
+array_lines f none = []
+array_lines f (more v vs) = with_dash (or_null v (f v)) ++ array_lines f vs
 
 -- behind a field's name stands a value that has one line, below it one that may have several
-abbrev pub on_line : List ℕ → Line → List Line
-on_line name l = (name ++ (codes ": " ++ l)) ∷ []
+abbrev pub named_line : List ℕ → Line → List Line
+named_line name l = (name ++ (codes ": " ++ l)) ∷ []
 
-abbrev pub below : List ℕ → List Line → List Line
-below name ls = (name ++ codes ":") ∷ indent ls
+abbrev pub named_block : List ℕ → List Line → List Line
+named_block name ls = (name ++ codes ":") ∷ indent ls
 
 abbrev pub unless_absent : Plain → List Line → List Line
 unless_absent null ls = []
@@ -97,22 +100,23 @@ unfoldable mutual
   block_lines number v = int_line v ∷ []
   block_lines text v = text_line v ∷ []
   block_lines hash v = hash_line v ∷ []
-  block_lines (array s) v = entries (block_lines s) (entries_in v)
+  block_lines (array s) v = array_lines (block_lines s) (entries_in v)
   block_lines (object schema fs) v = fields_lines fs (entries_in v)
 
   -- the same with the name of its field
   pub named_lines : Shape → List ℕ → Plain → List Line
-  named_lines number name v = on_line name (int_line v)
-  named_lines text name v = on_line name (text_line v)
-  named_lines hash name v = on_line name (hash_line v)
-  named_lines (array s) name v = below name (entries (block_lines s) (entries_in v))
-  named_lines (object schema fs) name v = below name (fields_lines fs (entries_in v))
+  named_lines number name v = named_line name (int_line v)
+  named_lines text name v = named_line name (text_line v)
+  named_lines hash name v = named_line name (hash_line v)
+  named_lines (array s) name v = named_block name (array_lines (block_lines s) (entries_in v))
+  named_lines (object schema fs) name v = named_block name (fields_lines fs (entries_in v))
 
   -- the fields of an object that are not Null, in order
   pub fields_lines : Fields → Plains → List Line
   fields_lines no_fields vs = []
   fields_lines (field name s fs) none = []
-  fields_lines (field name s fs) (more v vs) = unless_absent v (named_lines s name v) ++ fields_lines fs vs
+  fields_lines (field name s fs) (more v vs) = unless_absent v (named_lines s name v)
+      ++ fields_lines fs vs
 
 -- ---- the whole text
 

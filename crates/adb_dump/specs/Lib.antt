@@ -1,5 +1,7 @@
+-- what the contract of `apk` says
 pub mod Dump
+-- what only inner contracts and proofs use
 pub mod Values
 pub mod ReadBack
 pub mod Words
-pub mod Laid
+pub mod Margin

@@ -1,19 +1,20 @@
--- The value of the lines of a dump, or the number of the first line that cannot stand there, counted from 0.
+-- The value of the lines of a dump, or the number of the first line that cannot stand there,
+-- counted from 0.
 use Rattle.std.specs.Prelude.{ℕ, zero, suc, ◌+◌, ◌-◌, ◌*◌, ◌^◌, List, [], ◌∷◌, ◌++◌, length, drop, codes, bytes_eq, Option, Some, None, option_map, option_and_then, Result, Ok, Err, nat_lt, ◌==◌, if◌then◌else◌}
 use Rattle.std.specs.Str.Parse.{digits_value}
 use Rattle.adb_view.specs.Plain.{Plain, null, int, blob, arr, obj, Plains, none, more, Shape, number, text, hash, array, object, Fields, no_fields, field}
 use Rattle.adb_tables.specs.Schema.{shape_of}
 use Rattle.adb_tables.specs.declared.tables.Which.{Which}
 use Rattle.adb_tables.specs.declared.tables.Kind.TheVariants.{Obj}
-use Rattle.adb_dump.specs.Dump.{Line, begins_with, int_line, text_line, hash_line}
+use Rattle.adb_dump.specs.Dump.{Line, begins_with_byte, int_line, text_line, hash_line}
 
 abbrev pub Read : Type 0 → Type 0
 Read A = Result A ℕ
 
 -- behind so many lines
-abbrev pub behind : {A B : Type 0} → ℕ → (A → B) → Read A → Read B
-behind n f (Ok x) = Ok (f x)
-behind n f (Err k) = Err (n + k)
+abbrev pub after_lines : {A B : Type 0} → ℕ → (A → B) → Read A → Read B
+after_lines n f (Ok x) = Ok (f x)
+after_lines n f (Err k) = Err (n + k)
 
 abbrev pub bind : {A B : Type 0} → Read A → (A → Read B) → Read B
 bind (Ok x) f = f x
@@ -28,7 +29,8 @@ strip_prefix (p ∷ ps) (c ∷ cs) = if p == c then strip_prefix ps cs else None
 abbrev pub with_line : Line → List Line × List Line → List Line × List Line
 with_line l r = (l ∷ r.0, r.1)
 
-abbrev pub stop_or_add : Line → List Line → Option Line → List Line × List Line → List Line × List Line
+abbrev pub stop_or_add : Line → List Line → Option Line → List Line × List Line
+    → List Line × List Line
 stop_or_add l ls None r = ([], l ∷ ls)
 stop_or_add l ls (Some inner) r = with_line inner r
 
@@ -48,42 +50,45 @@ unhex (h ∷ []) = []
 unhex (h ∷ l ∷ cs) = (hex_value h * 16 + hex_value l) ∷ unhex cs
 
 -- an escape behind its backslash, and what the rest of the text gives
-abbrev pub unhexed : (List ℕ → Option (List ℕ)) → List ℕ → Option (List ℕ)
-unhexed f [] = None
-unhexed f (h ∷ []) = None
-unhexed f (h ∷ l ∷ cs) = option_map (λ b. (hex_value h * 16 + hex_value l) ∷ b) (f cs)
+abbrev pub hex_escape_read : (List ℕ → Option (List ℕ)) → List ℕ → Option (List ℕ)
+hex_escape_read f [] = None
+hex_escape_read f (h ∷ []) = None
+hex_escape_read f (h ∷ l ∷ cs) = option_map (λ b. (hex_value h * 16 + hex_value l) ∷ b) (f cs)
 
-abbrev pub unescaped : (List ℕ → Option (List ℕ)) → List ℕ → Option (List ℕ)
-unescaped f [] = None
-unescaped f (d ∷ cs) =
+abbrev pub escape_read : (List ℕ → Option (List ℕ)) → List ℕ → Option (List ℕ)
+escape_read f [] = None
+escape_read f (d ∷ cs) =
     if d == 0x6e then option_map (λ b. 0x0a ∷ b) (f cs)
     else if d == 0x5c then option_map (λ b. 0x5c ∷ b) (f cs)
     else if d == 0x22 then option_map (λ b. 0x22 ∷ b) (f cs)
-    else if d == 0x78 then unhexed f cs
+    else if d == 0x78 then hex_escape_read f cs
     else None
 
--- What stands behind a quote, up to a quote that ends the line. The number bounds the turns; the length is enough.
-abbrev pub unquoted : ℕ → List ℕ → Option (List ℕ)
-unquoted zero cs = None
-unquoted (suc n) [] = None
-unquoted (suc n) (c ∷ cs) =
+-- What stands behind a quote, up to a quote that ends the line. The number bounds the turns; the
+-- length is enough.
+abbrev pub quoted_read : ℕ → List ℕ → Option (List ℕ)
+quoted_read zero cs = None
+quoted_read (suc n) [] = None
+quoted_read (suc n) (c ∷ cs) =
     if c == 0x22 then (if length cs == 0 then Some [] else None)
-    else if c == 0x5c then unescaped (unquoted n) cs
-    else option_map (λ b. c ∷ b) (unquoted n cs)
+    else if c == 0x5c then escape_read (quoted_read n) cs
+    else option_map (λ b. c ∷ b) (quoted_read n cs)
 
 -- an empty text is no value
-abbrev pub made_blob : List ℕ → Option Plain
-made_blob [] = None
-made_blob (c ∷ cs) = Some (blob (c ∷ cs))
+abbrev pub blob_read : List ℕ → Option Plain
+blob_read [] = None
+blob_read (c ∷ cs) = Some (blob (c ∷ cs))
 
 abbrev pub int_read : Line → Option Plain
 int_read l = if nat_lt (digits_value 10 l) (2 ^ 64) then Some (int (digits_value 10 l)) else None
 
 abbrev pub text_read : Line → Option Plain
-text_read l = if begins_with 0x22 l then option_and_then made_blob (unquoted (length l) (drop 1 l)) else made_blob l
+text_read l =
+    if begins_with_byte 0x22 l then option_and_then blob_read (quoted_read (length l) (drop 1 l))
+    else blob_read l
 
 abbrev pub hash_read : Line → Option Plain
-hash_read l = made_blob (unhex l)
+hash_read l = blob_read (unhex l)
 
 -- the line must be the one form of its value
 abbrev pub if_form : (Plain → Line) → Line → Option Plain → Read Plain
@@ -98,17 +103,21 @@ only_line f (l ∷ m ∷ ls) = bind (f l) (λ v. Err 1)
 -- ---- lists
 
 abbrev pub entry_read : (List Line → Read Plain) → Line → List Line → Read Plain
-entry_read f l ls = if bytes_eq l (codes "null") then only_line (λ x. Ok null) (l ∷ ls) else f (l ∷ ls)
+entry_read f l ls =
+    if bytes_eq l (codes "null") then only_line (λ x. Ok null) (l ∷ ls) else f (l ∷ ls)
 
-abbrev pub after_dash : (List Line → Read Plain) → (List Line → Read Plains) → List Line × List Line → Option Line → Read Plains
+abbrev pub after_dash : (List Line → Read Plain) → (List Line → Read Plains) → List Line × List Line
+    → Option Line → Read Plains
 after_dash f g r None = Err 0
-after_dash f g r (Some l) = bind (entry_read f l r.0) (λ v. behind (1 + length r.0) (more v) (g r.1))
+after_dash f g r (Some l) =
+    bind (entry_read f l r.0) (λ v. after_lines (1 + length r.0) (more v) (g r.1))
 
 -- The number bounds the turns; the length is enough.
 abbrev pub entries_read : (List Line → Read Plain) → ℕ → List Line → Read Plains
 entries_read f zero ls = Ok none
 entries_read f (suc n) [] = Ok none
-entries_read f (suc n) (l ∷ ls) = after_dash f (entries_read f n) (split_block ls) (strip_prefix (codes "- ") l)
+entries_read f (suc n) (l ∷ ls) =
+    after_dash f (entries_read f n) (split_block ls) (strip_prefix (codes "- ") l)
 
 -- a list without an entry has no lines
 abbrev pub arr_read : Plains → Read Plain
@@ -120,12 +129,15 @@ obj_read none = Err 0
 obj_read (more v vs) = Ok (obj (more v vs))
 
 -- what stands behind `name:`, on its line or below it, and then the other fields
-abbrev pub field_on_line : (Line → Read Plain) → (List Line → Read Plains) → List Line → Option Line → Read Plains
+abbrev pub field_on_line : (Line → Read Plain) → (List Line → Read Plains) → List Line → Option Line
+    → Read Plains
 field_on_line f g ls None = Err 0
-field_on_line f g ls (Some l) = bind (f l) (λ v. behind 1 (more v) (g ls))
+field_on_line f g ls (Some l) = bind (f l) (λ v. after_lines 1 (more v) (g ls))
 
-abbrev pub field_below : (List Line → Read Plain) → (List Line → Read Plains) → List Line × List Line → Line → Read Plains
-field_below f g r [] = bind (behind 1 (λ v. v) (f r.0)) (λ v. behind (1 + length r.0) (more v) (g r.1))
+abbrev pub field_below : (List Line → Read Plain) → (List Line → Read Plains)
+    → List Line × List Line → Line → Read Plains
+field_below f g r [] =
+    bind (after_lines 1 (λ v. v) (f r.0)) (λ v. after_lines (1 + length r.0) (more v) (g r.1))
 field_below f g r (c ∷ cs) = Err 0
 
 -- the line begins another field, or what is behind `name:`
@@ -142,17 +154,24 @@ unfoldable mutual
   block_read (object schema fs) ls = bind (fields_read fs ls) obj_read
 
   pub named_read : Shape → (List Line → Read Plains) → List Line → Line → Read Plains
-  named_read number g ls l = field_on_line (λ l. if_form int_line l (int_read l)) g ls (strip_prefix (codes " ") l)
-  named_read text g ls l = field_on_line (λ l. if_form text_line l (text_read l)) g ls (strip_prefix (codes " ") l)
-  named_read hash g ls l = field_on_line (λ l. if_form hash_line l (hash_read l)) g ls (strip_prefix (codes " ") l)
-  named_read (array s) g ls l = field_below (λ ls. bind (entries_read (block_read s) (length ls) ls) arr_read) g (split_block ls) l
-  named_read (object schema fs) g ls l = field_below (λ ls. bind (fields_read fs ls) obj_read) g (split_block ls) l
+  named_read number g ls l = field_on_line (λ l. if_form int_line l (int_read l)) g ls
+      (strip_prefix (codes " ") l)
+  named_read text g ls l = field_on_line (λ l. if_form text_line l (text_read l)) g ls
+      (strip_prefix (codes " ") l)
+  named_read hash g ls l = field_on_line (λ l. if_form hash_line l (hash_read l)) g ls
+      (strip_prefix (codes " ") l)
+  named_read (array s) g ls l = field_below
+      (λ ls. bind (entries_read (block_read s) (length ls) ls) arr_read) g (split_block ls) l
+  named_read (object schema fs) g ls l = field_below (λ ls. bind (fields_read fs ls) obj_read) g
+      (split_block ls) l
 
   pub fields_read : Fields → List Line → Read Plains
   fields_read no_fields [] = Ok none
   fields_read no_fields (l ∷ ls) = Err 0
   fields_read (field name s fs) [] = Ok none
-  fields_read (field name s fs) (l ∷ ls) = if_named (behind 0 (more null) (fields_read fs (l ∷ ls))) (named_read s (fields_read fs) ls) (strip_prefix (name ++ codes ":") l)
+  fields_read (field name s fs) (l ∷ ls) = if_named
+      (after_lines 0 (more null) (fields_read fs (l ∷ ls))) (named_read s (fields_read fs) ls)
+      (strip_prefix (name ++ codes ":") l)
 
 -- the value of the lines behind the first; Null has none
 abbrev pub value_read : Which → List Line → Read Plain
@@ -166,6 +185,7 @@ add_char c None = None
 add_char c (Some []) = None
 add_char c (Some (l ∷ ls)) = Some ((c ∷ l) ∷ ls)
 
-abbrev pub lines_of : List ℕ → Option (List Line)
-lines_of [] = Some []
-lines_of (c ∷ cs) = if c == 0x0a then option_map (λ ls. [] ∷ ls) (lines_of cs) else add_char c (lines_of cs)
+abbrev pub split_lines : List ℕ → Option (List Line)
+split_lines [] = Some []
+split_lines (c ∷ cs) =
+    if c == 0x0a then option_map (λ ls. [] ∷ ls) (split_lines cs) else add_char c (split_lines cs)

@@ -1,24 +1,65 @@
-//! The lines of a value, written from the words of its payload.
-ghost use Rattle.std.specs.Prelude.{◌≡◌, ◌<◌, ◌≤◌, ◌+◌, ◌++◌, true, false, OnOk};
+//! The text of a container: the lines of its values, written from the words of its payload.
+
+ghost use Rattle.std.specs.Prelude.{◌≡◌, ◌++◌, true, codes, is_some, IfOk, OnOk, ◌<◌, ◌≤◌, ◌+◌, false};
+ghost use Rattle.adb_tables.specs.Shaped.{shaped_value, table_of};
+ghost use Rattle.adb_schema.specs.Soundness.{schema_word};
+ghost use Rattle.adb_dump.specs.Dump.{dump_text, schema_line, block_lines, array_lines, fields_lines, named_lines, or_null};
 ghost use Rattle.adb_view.specs.Adb.{payload_of};
 ghost use Rattle.adb_view.specs.Entries.{array_entries};
 ghost use Rattle.adb_fields.specs.Fields.{are_all_sound, values_at};
 ghost use Rattle.adb_tables.specs.Rank.{rank, rank_of_all};
 ghost use Rattle.adb_tables.specs.Schema.{field_name_text, shape_of, shapes_of};
 ghost use Rattle.adb_tables.specs.Values.{is_sound, value_at};
-ghost use Rattle.adb_dump.specs.Dump.{block_lines, entries, fields_lines, named_lines, or_null};
-ghost use Rattle.adb_dump.specs.Laid.{laid, DEEP};
+ghost use Rattle.adb_dump.specs.Margin.{lines_at, DEPTH_LIMIT};
 ghost use Rattle.adb_dump.specs.Words.{is_null, fields_sound, fields_at, has_one_line};
 
-use crate::line::{write_hash_line, write_number_line, write_text_line};
-use crate::null::is_null;
-use crate::place::{Place, write_dash, write_name};
-use crate::words::{
-    entry_word, hash_word, int_word, object_word, objects_word, text_word, texts_word,
+use crate::line::{
+    LineStart, write_dash, write_hash_line, write_hex, write_name, write_number_line,
+    write_text_line,
 };
-use adb_schema::{Field, Kind, fields_of};
+use crate::words::{is_null, object_words};
+use adb_fields::{hash_word, int_word, objects_word, text_word, texts_word};
+use adb_schema::{Field, Kind, Shaped, Which, fields_of, schema_word};
+use adb_tables::entry_word;
 use adb_view::{Adb, Arr, Val};
-use std::alloc::AllocError;
+use base_core::Text;
+use std::alloc::{AllocError, Global};
+
+/// The text of a payload that was walked as a package, an index, an installed database or an
+/// intent: a line for its schema, and then the fields of its root that are not Null.
+pub fn dump(alloc: Global, shaped: &Shaped<'_>) -> Result<Text, AllocError>
+    requires { is_some (schema_word (table_of shaped.now)) ≡ true }
+    ensures { IfOk result
+        (λ text. text ≡ dump_text (table_of shaped.now) (shaped_value shaped.now)) }
+{
+    let adb = shaped.adb();
+    let which = shaped.which();
+    let root = object_words(adb, which, adb.root());
+    let start = LineStart {
+        depth: 0,
+        begun: false,
+    };
+    let mut out = Vec::new(alloc);
+    write_schema(&mut out, which)?;
+    write_fields(&mut out, adb, fields_of(which), root, start)?;
+    Ok(Text::from_vec(out))
+}
+
+/// Writes the line of a schema.
+fn write_schema(out: &mut Vec<u8>, which: Which) -> Result<(), AllocError>
+    requires { is_some (schema_word which) ≡ true }
+    ensures { OnOk result
+        (out.new.items ≡ out.old.items ++ schema_line (schema_word which) ++ codes "\n") }
+{
+    match schema_word(which) {
+        Some(word) => {
+            out.extend_from_slice(b"#%SCHEMA: ")?;
+            write_hex(out, &word.to_be_bytes())?;
+            out.extend_from_slice(b"\n")
+        }
+        None => unreachable!(),
+    }
+}
 
 /// Writes the lines of a word that does not mean Null.
 #[cycle(block)]
@@ -28,25 +69,29 @@ fn write_block(
     adb: Adb<'_>,
     kind: Kind,
     word: Val,
-    place: Place,
+    start: LineStart,
 ) -> Result<(), AllocError>
     requires sound { is_sound (payload_of adb) kind word ≡ true }
     requires some { is_null (value_at (payload_of adb) kind word) ≡ false }
-    requires deep { place.depth + rank kind ≤ DEEP }
-    ensures { OnOk result (out.new.items ≡ out.old.items ++ laid place.depth place.begun (block_lines (shape_of kind) (value_at (payload_of adb.entry) kind word))) }
+    requires deep { start.depth + rank kind ≤ DEPTH_LIMIT }
+    ensures { OnOk result
+        (out.new.items
+        ≡ out.old.items
+        ++ lines_at start.depth start.begun
+        (block_lines (shape_of kind) (value_at (payload_of adb.entry) kind word))) }
 {
     match kind {
-        Kind::Int => write_number_line(out, place, int_word(adb, word)),
-        Kind::Text => write_text_line(out, place, text_word(adb, word)),
-        Kind::Hash => write_hash_line(out, place, hash_word(adb, word)),
-        Kind::TextArr => write_entries(out, adb, Kind::Text, texts_word(adb, word), place),
+        Kind::Int => write_number_line(out, start, int_word(adb, word)),
+        Kind::Text => write_text_line(out, start, text_word(adb, word)),
+        Kind::Hash => write_hash_line(out, start, hash_word(adb, word)),
+        Kind::TextArr => write_entries(out, adb, Kind::Text, texts_word(adb, word), start),
         Kind::ObjArr(which) => {
             let words = objects_word(adb, which, word);
-            write_entries(out, adb, Kind::Obj(which), words, place)
+            write_entries(out, adb, Kind::Obj(which), words, start)
         }
         Kind::Obj(which) => {
-            let words = object_word(adb, which, word);
-            write_fields(out, adb, fields_of(which), words, place)
+            let words = object_words(adb, which, word);
+            write_fields(out, adb, fields_of(which), words, start)
         }
     }
 }
@@ -59,17 +104,22 @@ fn write_entries(
     adb: Adb<'_>,
     kind: Kind,
     words: Arr<'_>,
-    place: Place,
+    start: LineStart,
 ) -> Result<(), AllocError>
     requires sound { are_all_sound (payload_of adb) kind (array_entries words) ≡ true }
-    requires deep { place.depth + rank kind < DEEP }
-    ensures { OnOk result (out.new.items ≡ out.old.items ++ laid place.depth place.begun (entries (block_lines (shape_of kind)) (values_at (payload_of adb.entry) kind (array_entries words.entry)))) }
+    requires deep { start.depth + rank kind < DEPTH_LIMIT }
+    ensures { OnOk result
+        (out.new.items
+        ≡ out.old.items
+        ++ lines_at start.depth start.begun
+        (array_lines (block_lines (shape_of kind))
+        (values_at (payload_of adb.entry) kind (array_entries words.entry)))) }
 {
-    let mut begun = place.begun;
+    let mut begun = start.begun;
     for i in 0..words.len() {
-        write_dash(out, place.depth, begun)?;
+        write_dash(out, start.depth, begun)?;
         begun = false;
-        write_entry(out, adb, kind, entry_word(words, i), place.depth + 1)?;
+        write_entry(out, adb, kind, entry_word(words, i), start.depth + 1)?;
     }
     Ok(())
 }
@@ -85,13 +135,18 @@ fn write_entry(
     depth: u32,
 ) -> Result<(), AllocError>
     requires sound { is_sound (payload_of adb) kind word ≡ true }
-    requires deep { depth + rank kind ≤ DEEP }
-    ensures { OnOk result (out.new.items ≡ out.old.items ++ laid depth true (or_null (value_at (payload_of adb.entry) kind word) (block_lines (shape_of kind) (value_at (payload_of adb.entry) kind word)))) }
+    requires deep { depth + rank kind ≤ DEPTH_LIMIT }
+    ensures { OnOk result
+        (out.new.items
+        ≡ out.old.items
+        ++ lines_at depth true
+        (or_null (value_at (payload_of adb.entry) kind word)
+        (block_lines (shape_of kind) (value_at (payload_of adb.entry) kind word)))) }
 {
     if is_null(adb, kind, word) {
         return out.extend_from_slice(b"null\n");
     }
-    write_block(out, adb, kind, word, Place { depth, begun: true })
+    write_block(out, adb, kind, word, LineStart { depth, begun: true })
 }
 
 /// Writes the fields of an object that do not mean Null.
@@ -102,13 +157,18 @@ pub(crate) fn write_fields(
     adb: Adb<'_>,
     fields: &[Field],
     words: Arr<'_>,
-    place: Place,
+    start: LineStart,
 ) -> Result<(), AllocError>
     requires sound { fields_sound (payload_of adb) fields.now (array_entries words) ≡ true }
-    requires deep { place.depth + rank_of_all fields.now < DEEP }
-    ensures { OnOk result (out.new.items ≡ out.old.items ++ laid place.depth place.begun (fields_lines (shapes_of fields.now) (fields_at (payload_of adb.entry) fields.now (array_entries words.entry)))) }
+    requires deep { start.depth + rank_of_all fields.now < DEPTH_LIMIT }
+    ensures { OnOk result
+        (out.new.items
+        ≡ out.old.items
+        ++ lines_at start.depth start.begun
+        (fields_lines (shapes_of fields.now)
+        (fields_at (payload_of adb.entry) fields.now (array_entries words.entry)))) }
 {
-    let mut begun = place.begun;
+    let mut begun = start.begun;
     for (i, field) in fields.iter().enumerate() {
         if i >= words.len() {
             break;
@@ -117,8 +177,8 @@ pub(crate) fn write_fields(
         if is_null(adb, field.kind, word) {
             continue;
         }
-        let depth = place.depth;
-        write_field(out, adb, *field, word, Place { depth, begun })?;
+        let depth = start.depth;
+        write_field(out, adb, *field, word, LineStart { depth, begun })?;
         begun = false;
     }
     Ok(())
@@ -132,18 +192,23 @@ fn write_field(
     adb: Adb<'_>,
     field: Field,
     word: Val,
-    place: Place,
+    start: LineStart,
 ) -> Result<(), AllocError>
     requires sound { is_sound (payload_of adb) field.kind word ≡ true }
     requires some { is_null (value_at (payload_of adb) field.kind word) ≡ false }
-    requires deep { place.depth + rank field.kind < DEEP }
-    ensures { OnOk result (out.new.items ≡ out.old.items ++ laid place.depth place.begun (named_lines (shape_of field.kind) (field_name_text field.name) (value_at (payload_of adb.entry) field.kind word))) }
+    requires deep { start.depth + rank field.kind < DEPTH_LIMIT }
+    ensures { OnOk result
+        (out.new.items
+        ≡ out.old.items
+        ++ lines_at start.depth start.begun
+        (named_lines (shape_of field.kind) (field_name_text field.name)
+        (value_at (payload_of adb.entry) field.kind word))) }
 {
-    let Place { depth, .. } = place;
-    write_name(out, place, field.name)?;
+    let LineStart { depth, .. } = start;
+    write_name(out, start, field.name)?;
     if has_one_line(field.kind) {
         out.extend_from_slice(b" ")?;
-        write_block(out, adb, field.kind, word, Place { depth, begun: true })
+        write_block(out, adb, field.kind, word, LineStart { depth, begun: true })
     } else {
         out.extend_from_slice(b"\n")?;
         write_block(
@@ -151,7 +216,7 @@ fn write_field(
             adb,
             field.kind,
             word,
-            Place {
+            LineStart {
                 depth: depth + 1,
                 begun: false,
             },

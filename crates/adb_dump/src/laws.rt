@@ -5,38 +5,47 @@ ghost use Rattle.adb_tables.specs.Schema.{shape_of};
 ghost use Rattle.adb_tables.specs.declared.tables.Which.{Which};
 ghost use Rattle.adb_tables.specs.declared.tables.Kind.TheVariants as Kinds;
 ghost use Rattle.adb_dump.specs.Dump.{Line, dump_lines, dump_text, text_of, value_lines};
-ghost use Rattle.adb_dump.specs.ReadBack.{lines_of, value_read};
+ghost use Rattle.adb_dump.specs.ReadBack.{split_lines, value_read};
 ghost use Rattle.adb_dump.specs.Values.{IsOfBytes, IsValueOf};
 
-use adb_view::values_are_normal;
+use adb_view::{values_are_normal, values_have_their_shape};
 
 /// Two normal values of one table with the same text are equal.
 pub fn values_of_one_text_are_equal()
     ensures { (which : Which) (v u : Plain)
-        → IsValueOf which v → IsOfBytes v → IsValueOf which u → IsOfBytes u → dump_text which v ≡ dump_text which u → v ≡ u }
+        → IsValueOf which v → IsOfBytes v → IsValueOf which u → IsOfBytes u
+        → dump_text which v ≡ dump_text which u → v ≡ u }
 {}
 
 /// The lines of each normal value of a table are read back as the value.
 pub fn lines_of_values_are_read_back()
-    ensures { (which : Which) (v : Plain) → IsValueOf which v → IsOfBytes v → value_read which (value_lines which v) ≡ Ok v }
+    ensures { (which : Which) (v : Plain) → IsValueOf which v → IsOfBytes v
+        → value_read which (value_lines which v) ≡ Ok v }
 {}
 
 /// Only the lines of normal values of the table are read.
 pub fn only_lines_of_values_are_read()
-    ensures { (which : Which) (ls : List Line) (v : Plain) → value_read which ls ≡ Ok v → (value_lines which v ≡ ls) × IsValueOf which v }
+    ensures { (which : Which) (ls : List Line) (v : Plain) → value_read which ls ≡ Ok v
+        → (value_lines which v ≡ ls) × IsValueOf which v }
 {}
 
-/// The text of a normal value is split into just its lines, and the lines that a text is split into make up that text.
+/// The text of a normal value is split into just its lines, and the lines that a text is split into
+/// make up that text.
 pub fn texts_are_split_into_their_lines()
-    ensures split { (which : Which) (v : Plain) → IsNormal v → lines_of (dump_text which v) ≡ Some (dump_lines which v) }
-    ensures joined { (text : List ℕ) (ls : List Line) → lines_of text ≡ Some ls → text_of ls ≡ text }
+    ensures split { (which : Which) (v : Plain) → IsNormal v
+        → split_lines (dump_text which v) ≡ Some (dump_lines which v) }
+    ensures joined { (text : List ℕ) (ls : List Line) → split_lines text ≡ Some ls
+        → text_of ls ≡ text }
 {}
 
-/// Each plain value that is found in bytes, as an object of a table, is a normal value of that table and of bytes. So two
-/// payloads that are walked as one table and have the same text have the same value.
+/// Each plain value that is found in bytes, as an object of a table, is a normal value of that
+/// table and of bytes. So two payloads that are walked as one table and have the same text have the
+/// same value.
 pub fn values_found_in_bytes_are_of_their_table()
     ensures { (payload : List ℕ) → All (λ b. b < 256) payload → (which : Which) (word : ℕ)
-        → IfSome (plain_of payload (shape_of (Kinds.Obj which)) word) (λ v. IsValueOf which v × IsOfBytes v) }
+        → IfSome (plain_of payload (shape_of (Kinds.Obj which)) word)
+        (λ v. IsValueOf which v × IsOfBytes v) }
 {
     values_are_normal();
+    values_have_their_shape();
 }

@@ -1,26 +1,26 @@
 //! The text of a container's values, for a person to read and for a program to read back.
 //!
-//! A walked payload goes in and its text comes out: `#%SCHEMA: ` and the schema in eight hexadecimal digits, and then the
-//! fields of the root that are not Null, in the order of their table (apk-v3(5)). `name: ` stands before an integer in
-//! decimal digits, a hash in hexadecimal digits, or a text; an object and an array stand below `name:`, two spaces
-//! deeper, each entry of an array behind `- `, and a Null entry as `- null`. A text stands as it is where that is plain,
-//! and else between quotes with the escapes `\n`, `\\`, `\"` and `\x`. So the text tells the value, and no other.
+//! A walked payload goes in and its text comes out: `#%SCHEMA: ` and the schema in eight
+//! hexadecimal digits, and then the fields of the root that are not Null, in the order of their
+//! table (apk-v3(5)). `name: ` stands before an integer in decimal digits, a hash in hexadecimal
+//! digits, or a text; an object and an array stand below `name:`, two spaces deeper, each entry of
+//! an array behind `- `, and a Null entry as `- null`. A text stands as it is where that is plain,
+//! and else between quotes with the escapes `\n`, `\\`, `\"` and `\x`. So the text tells the value,
+//! and no other.
 //!
-//! The values are read where they stand, and the text is written once, from front to end. The contracts cite `Dump` (the
-//! lines of a value, and the text), `Values` (what a text can stand for) and `ReadBack` (the value of lines) of `specs/`;
-//! `Words` and `Laid` are what the code in between speaks of.
+//! The values are read where they stand, and the text is written once, from front to end. The
+//! contracts cite `Dump` (the lines of a value, and the text), `Values` (what a text can stand for)
+//! and `ReadBack` (the value of lines) of `specs/`; `Words` and `Margin` are what the code in
+//! between speaks of.
 #![tactic(auto)]
 
 mod block;
 mod laws;
 mod line;
-mod null;
-mod place;
-mod whole;
 mod words;
 
+pub use block::dump;
 pub use laws::{
     lines_of_values_are_read_back, only_lines_of_values_are_read, texts_are_split_into_their_lines,
     values_found_in_bytes_are_of_their_table, values_of_one_text_are_equal,
 };
-pub use whole::dump;

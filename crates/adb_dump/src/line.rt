@@ -1,24 +1,27 @@
-//! Values on one line.
-ghost use Rattle.std.specs.Prelude.{◌≡◌, [], ◌∷◌, ◌++◌, OnOk};
+//! Lines: what stands in front of them, names of fields, and values on one line.
+
+ghost use Rattle.std.specs.Prelude.{◌≡◌, [], ◌∷◌, ◌++◌, OnOk, codes, false};
 ghost use Rattle.std.specs.Fmt.{decimal};
 ghost use Rattle.std.specs.List.{flat_map, list_all};
 ghost use Rattle.hex.specs.Hex.{encode_lower};
-ghost use Rattle.adb_dump.specs.Dump.{begins_with, ends_with, escaped, is_bare, is_printable, quoted, text_form};
-ghost use Rattle.adb_dump.specs.Laid.{laid};
+ghost use Rattle.adb_dump.specs.Dump.{begins_with_byte, ends_with_byte, escape_of, is_bare, is_printable, quoted_text, text_form};
+ghost use Rattle.adb_dump.specs.Margin.{lines_at, lead};
+ghost use Rattle.adb_tables.specs.Schema.{field_name_text};
 
-use crate::place::{Place, write_lead};
+use adb_schema::FieldName;
 use itoa::Buffer;
 use std::alloc::AllocError;
 
 /// Writes a line of a number.
 pub(crate) fn write_number_line(
     out: &mut Vec<u8>,
-    place: Place,
+    start: LineStart,
     number: u64,
 ) -> Result<(), AllocError>
-    ensures { OnOk result (out.new.items ≡ out.old.items ++ laid place.depth place.begun (decimal number ∷ [])) }
+    ensures { OnOk result
+        (out.new.items ≡ out.old.items ++ lines_at start.depth start.begun (decimal number ∷ [])) }
 {
-    write_lead(out, place)?;
+    write_lead(out, start)?;
     write_number(out, number)?;
     out.extend_from_slice(b"\n")
 }
@@ -26,12 +29,14 @@ pub(crate) fn write_number_line(
 /// Writes a line of a text.
 pub(crate) fn write_text_line(
     out: &mut Vec<u8>,
-    place: Place,
+    start: LineStart,
     text: &[u8],
 ) -> Result<(), AllocError>
-    ensures { OnOk result (out.new.items ≡ out.old.items ++ laid place.depth place.begun (text_form text.now ∷ [])) }
+    ensures { OnOk result
+        (out.new.items
+        ≡ out.old.items ++ lines_at start.depth start.begun (text_form text.now ∷ [])) }
 {
-    write_lead(out, place)?;
+    write_lead(out, start)?;
     write_text(out, text)?;
     out.extend_from_slice(b"\n")
 }
@@ -39,12 +44,14 @@ pub(crate) fn write_text_line(
 /// Writes a line of a hash.
 pub(crate) fn write_hash_line(
     out: &mut Vec<u8>,
-    place: Place,
+    start: LineStart,
     hash: &[u8],
 ) -> Result<(), AllocError>
-    ensures { OnOk result (out.new.items ≡ out.old.items ++ laid place.depth place.begun (encode_lower hash.now ∷ [])) }
+    ensures { OnOk result
+        (out.new.items
+        ≡ out.old.items ++ lines_at start.depth start.begun (encode_lower hash.now ∷ [])) }
 {
-    write_lead(out, place)?;
+    write_lead(out, start)?;
     write_hex(out, hash)?;
     out.extend_from_slice(b"\n")
 }
@@ -89,7 +96,7 @@ fn write_text(out: &mut Vec<u8>, text: &[u8]) -> Result<(), AllocError>
 
 #[tactic(auto, using(crate::proofs::Pieces::escapes_step, crate::proofs::Pieces::escapes_done))]
 fn write_quoted(out: &mut Vec<u8>, text: &[u8]) -> Result<(), AllocError>
-    ensures { OnOk result (out.new.items ≡ out.old.items ++ quoted text.now) }
+    ensures { OnOk result (out.new.items ≡ out.old.items ++ quoted_text text.now) }
 {
     out.push(b'"')?;
     for byte in text {
@@ -101,7 +108,7 @@ fn write_quoted(out: &mut Vec<u8>, text: &[u8]) -> Result<(), AllocError>
 
 /// Writes a byte of a text that stands between quotes.
 fn write_escaped(out: &mut Vec<u8>, byte: u8) -> Result<(), AllocError>
-    ensures { OnOk result (out.new.items ≡ out.old.items ++ escaped byte) }
+    ensures { OnOk result (out.new.items ≡ out.old.items ++ escape_of byte) }
 {
     match byte {
         b'\n' => out.extend_from_slice(b"\\n"),
@@ -115,29 +122,29 @@ fn write_escaped(out: &mut Vec<u8>, byte: u8) -> Result<(), AllocError>
     }
 }
 
-/// Whether a text stands as it is: every byte is printable, no space is first or last, no quote is first, and it is not
-/// `null`.
+/// Whether a text stands as it is: every byte is printable, no space is first or last, no quote is
+/// first, and it is not `null`.
 fn is_bare(text: &[u8]) -> bool
     ensures { result ≡ is_bare text.now }
 {
     if !is_printable(text) {
         return false;
     }
-    if begins_with(b' ', text) {
+    if begins_with_byte(b' ', text) {
         return false;
     }
-    if ends_with(b' ', text) {
+    if ends_with_byte(b' ', text) {
         return false;
     }
-    if begins_with(b'"', text) {
+    if begins_with_byte(b'"', text) {
         return false;
     }
     text != b"null".as_slice()
 }
 
 #[tactic(auto, using(crate::proofs::Pieces::begins_some, crate::proofs::Pieces::begins_none))]
-fn begins_with(byte: u8, text: &[u8]) -> bool
-    ensures { result ≡ begins_with byte text.now }
+fn begins_with_byte(byte: u8, text: &[u8]) -> bool
+    ensures { result ≡ begins_with_byte byte text.now }
 {
     match text.first() {
         Some(first) => byte == *first,
@@ -146,8 +153,8 @@ fn begins_with(byte: u8, text: &[u8]) -> bool
 }
 
 #[tactic(auto, using(crate::proofs::Pieces::ends_some, crate::proofs::Pieces::ends_none))]
-fn ends_with(byte: u8, text: &[u8]) -> bool
-    ensures { result ≡ ends_with byte text.now }
+fn ends_with_byte(byte: u8, text: &[u8]) -> bool
+    ensures { result ≡ ends_with_byte byte text.now }
 {
     match text.last() {
         Some(last) => byte == *last,
@@ -165,4 +172,57 @@ fn is_printable(text: &[u8]) -> bool
         }
     }
     true
+}
+
+/// Where the next line stands.
+#[derive(Clone, Copy)]
+pub(crate) struct LineStart {
+    /// How deep, in levels of two spaces.
+    pub(crate) depth: u32,
+    /// Whether what stands in front of it is written already.
+    pub(crate) begun: bool,
+}
+
+/// Writes what is still to stand in front of the next line.
+pub(crate) fn write_lead(out: &mut Vec<u8>, start: LineStart) -> Result<(), AllocError>
+    ensures { OnOk result (out.new.items ≡ out.old.items ++ lead start.depth start.begun) }
+{
+    if start.begun {
+        return Ok(());
+    }
+    write_margin(out, start.depth)
+}
+
+/// Writes two spaces for each level.
+#[tactic(auto, using(crate::proofs::Pieces::margin_step, crate::proofs::Pieces::margin_done))]
+fn write_margin(out: &mut Vec<u8>, depth: u32) -> Result<(), AllocError>
+    ensures { OnOk result (out.new.items ≡ out.old.items ++ lead depth false) }
+{
+    for _level in 0..depth {
+        out.extend_from_slice(b"  ")?;
+    }
+    Ok(())
+}
+
+/// Writes the dash of an entry.
+pub(crate) fn write_dash(out: &mut Vec<u8>, depth: u32, begun: bool) -> Result<(), AllocError>
+    ensures { OnOk result (out.new.items ≡ out.old.items ++ lead depth begun ++ codes "- ") }
+{
+    write_lead(out, LineStart { depth, begun })?;
+    out.extend_from_slice(b"- ")
+}
+
+/// Writes the name of a field.
+pub(crate) fn write_name(
+    out: &mut Vec<u8>,
+    start: LineStart,
+    name: FieldName,
+) -> Result<(), AllocError>
+    ensures { OnOk result
+        (out.new.items
+        ≡ out.old.items ++ lead start.depth start.begun ++ field_name_text name ++ codes ":") }
+{
+    write_lead(out, start)?;
+    out.extend_from_slice(name.text().as_bytes())?;
+    out.extend_from_slice(b":")
 }

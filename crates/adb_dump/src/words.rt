@@ -1,4 +1,5 @@
-//! Reads of words that have a plain value, which cannot fail.
+//! Which words mean Null, and the words of an object.
+
 ghost use Rattle.std.specs.Prelude.{◌≡◌, ◌<◌, ◌^◌, true, length, slice_index, ◌==◌, if◌then◌else◌};
 ghost use Rattle.adb_view.specs.Adb.{payload_of};
 ghost use Rattle.adb_view.specs.Entries.{array_entries};
@@ -6,92 +7,70 @@ ghost use Rattle.adb_view.specs.Plain.{null, int, blob_value, arr_value, obj_val
 ghost use Rattle.adb_fields.specs.Fields.{are_all_sound, values_at};
 ghost use Rattle.adb_tables.specs.Schema.{table};
 ghost use Rattle.adb_tables.specs.Values.{is_sound, value_at};
+ghost use Rattle.adb_dump.specs.Words.{fields_sound, fields_at, is_null, are_null};
 ghost use Rattle.adb_tables.specs.declared.tables.Kind.TheVariants as Kinds;
-ghost use Rattle.adb_dump.specs.Words.{fields_sound, fields_at};
 
-use adb_schema::Which;
+use adb_fields::{hash_word, objects_word, text_word, texts_word};
+use adb_schema::{Field, Kind, Which, fields_of};
+use adb_tables::{entry_word, object_entries};
 use adb_view::{Adb, Arr, Val};
-
-/// The word at a place, counted from 0.
-pub(crate) fn entry_word(words: Arr<'_>, i: usize) -> Val
-    requires from { i < length (array_entries words) }
-    requires small { i < 2 ^ 32 }
-    ensures { result ≡ slice_index (array_entries words.entry) i }
-{
-    words.get(i + 1)
-}
-
-/// The integer that a word means.
-#[tactic(auto, using(crate::proofs::WordReads::int_value_is, crate::proofs::WordReads::int_fails))]
-pub(crate) fn int_word(adb: Adb<'_>, word: Val) -> u64
-    requires { is_sound (payload_of adb) Kinds.Int word ≡ true }
-    ensures { value_at (payload_of adb.entry) Kinds.Int word ≡ (if word == 0 then null else int result) }
-{
-    match adb.int(word) {
-        Ok(number) => number,
-        Err(_) => unreachable!(),
-    }
-}
-
-/// The bytes that a word means as a text.
-#[tactic(auto, using(crate::proofs::WordReads::text_value_is, crate::proofs::WordReads::text_fails))]
-pub(crate) fn text_word<'a>(adb: Adb<'a>, word: Val) -> &'a [u8]
-    requires { is_sound (payload_of adb) Kinds.Text word ≡ true }
-    ensures { value_at (payload_of adb.entry) Kinds.Text word ≡ blob_value result.now }
-{
-    match adb.blob(word) {
-        Ok(bytes) => bytes,
-        Err(_) => unreachable!(),
-    }
-}
-
-/// The bytes that a word means as a hash.
-#[tactic(auto, using(crate::proofs::WordReads::hash_value_is, crate::proofs::WordReads::hash_fails))]
-pub(crate) fn hash_word<'a>(adb: Adb<'a>, word: Val) -> &'a [u8]
-    requires { is_sound (payload_of adb) Kinds.Hash word ≡ true }
-    ensures { value_at (payload_of adb.entry) Kinds.Hash word ≡ blob_value result.now }
-{
-    match adb.blob(word) {
-        Ok(bytes) => bytes,
-        Err(_) => unreachable!(),
-    }
-}
-
-/// The words of an array of texts.
-#[tactic(auto, using(crate::proofs::WordReads::texts_value_is, crate::proofs::WordReads::texts_sound, crate::proofs::WordReads::texts_fail))]
-pub(crate) fn texts_word<'a>(adb: Adb<'a>, word: Val) -> Arr<'a>
-    requires { is_sound (payload_of adb) Kinds.TextArr word ≡ true }
-    ensures sound { are_all_sound (payload_of adb.entry) Kinds.Text (array_entries result) ≡ true }
-    ensures value { value_at (payload_of adb.entry) Kinds.TextArr word ≡ arr_value (values_at (payload_of adb.entry) Kinds.Text (array_entries result)) }
-{
-    match adb.arr(word) {
-        Ok(entries) => entries,
-        Err(_) => unreachable!(),
-    }
-}
-
-/// The words of an array of objects.
-#[tactic(auto, using(crate::proofs::WordReads::objects_value_is, crate::proofs::WordReads::objects_sound, crate::proofs::WordReads::objects_fail))]
-pub(crate) fn objects_word<'a>(adb: Adb<'a>, which: Which, word: Val) -> Arr<'a>
-    requires { is_sound (payload_of adb) (Kinds.ObjArr which) word ≡ true }
-    ensures sound { are_all_sound (payload_of adb.entry) (Kinds.Obj which) (array_entries result) ≡ true }
-    ensures value { value_at (payload_of adb.entry) (Kinds.ObjArr which) word ≡ arr_value (values_at (payload_of adb.entry) (Kinds.Obj which) (array_entries result)) }
-{
-    match adb.arr(word) {
-        Ok(entries) => entries,
-        Err(_) => unreachable!(),
-    }
-}
 
 /// The words of an object, those past its fields too.
 #[tactic(auto, using(crate::proofs::WordReads::object_value_is, crate::proofs::WordReads::object_sound, crate::proofs::WordReads::object_fails))]
-pub(crate) fn object_word<'a>(adb: Adb<'a>, which: Which, word: Val) -> Arr<'a>
+pub(crate) fn object_words<'a>(adb: Adb<'a>, which: Which, word: Val) -> Arr<'a>
     requires { is_sound (payload_of adb) (Kinds.Obj which) word ≡ true }
-    ensures sound { fields_sound (payload_of adb.entry) (table which) (array_entries result) ≡ true }
-    ensures value { value_at (payload_of adb.entry) (Kinds.Obj which) word ≡ obj_value (fields_at (payload_of adb.entry) (table which) (array_entries result)) }
+    ensures sound { fields_sound (payload_of adb.entry) (table which) (array_entries result)
+        ≡ true }
+    ensures value { value_at (payload_of adb.entry) (Kinds.Obj which) word
+        ≡ obj_value (fields_at (payload_of adb.entry) (table which) (array_entries result)) }
 {
-    match adb.obj::<0>(word) {
-        Ok(object) => object.entries(),
+    match object_entries(adb, word) {
+        Ok(entries) => entries,
         Err(_) => unreachable!(),
     }
+}
+
+/// Whether a word means Null: NULL itself, or something without a byte, an entry or a value.
+#[cycle(null)]
+#[tactic(auto, using(crate::proofs::Depth::table_rank, crate::proofs::Nulls::text_null, crate::proofs::Nulls::hash_null, crate::proofs::Nulls::arr_null, crate::proofs::Nulls::obj_null))]
+pub(crate) fn is_null(adb: Adb<'_>, kind: Kind, word: Val) -> bool
+    requires { is_sound (payload_of adb) kind word ≡ true }
+    ensures { result ≡ is_null (value_at (payload_of adb.entry) kind word) }
+{
+    match kind {
+        Kind::Int => is_null_int(adb, word),
+        Kind::Text => text_word(adb, word).is_empty(),
+        Kind::Hash => hash_word(adb, word).is_empty(),
+        Kind::TextArr => texts_word(adb, word).is_empty(),
+        Kind::ObjArr(which) => objects_word(adb, which, word).is_empty(),
+        Kind::Obj(which) => are_null(adb, fields_of(which), object_words(adb, which, word)),
+    }
+}
+
+/// Whether each of an object's words that has a field means Null.
+#[cycle(null)]
+#[tactic(auto, using(crate::proofs::Depth::field_rank, crate::proofs::Left::field_here, crate::proofs::Left::fields_later, crate::proofs::Left::null_next, crate::proofs::Left::null_stop, crate::proofs::Left::null_done, crate::proofs::Left::null_over))]
+fn are_null(adb: Adb<'_>, fields: &[Field], words: Arr<'_>) -> bool
+    requires { fields_sound (payload_of adb) fields.now (array_entries words) ≡ true }
+    ensures { result
+        ≡ are_null (fields_at (payload_of adb.entry) fields.now (array_entries words.entry)) }
+{
+    for (i, field) in fields.iter().enumerate() {
+        if i >= words.len() {
+            break;
+        }
+        if !is_null(adb, field.kind, entry_word(words, i)) {
+            return false;
+        }
+    }
+    true
+}
+
+/// Whether a word means no integer.
+#[tactic(auto, using(crate::proofs::Nulls::null_test, crate::proofs::Nulls::int_is_null))]
+fn is_null_int(adb: Adb<'_>, word: Val) -> bool
+    requires { is_sound (payload_of adb) Kinds.Int word ≡ true }
+    ensures { result ≡ is_null (value_at (payload_of adb.entry) Kinds.Int word) }
+{
+    word.is_null()
 }

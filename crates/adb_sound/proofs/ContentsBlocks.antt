@@ -10,7 +10,8 @@ use Rattle.adb_block.specs.AllBlocks.{with_block, pieces_of}
 use Rattle.adb_block.specs.Container.{MayStand}
 use Rattle.adb_block.specs.declared.block.BlockKind.TheVariants as Kinds
 use Rattle.adb_schema.specs.Soundness.{file_pair}
-use Rattle.pkg_core.specs.Contents.{Expected, Contents, IsContentsOf, AreContentsOf, bytes_in, contents_block_fault, contents_fault, fault_in, file_fault, files_of, is_of, unless, with_next}
+use Rattle.pkg_core.specs.Contents.{Expected, Contents, contents_bytes, contents_block_fault, contents_fault, fault_in, expected_fault, files_by_blocks, has_positions_of, unless_fault, with_next}
+use Rattle.pkg_core.specs.GoodContents.{IsContentsOf, AreContentsOf}
 use Rattle.adb_sound.specs.Container.{contents_payload, contents_piece}
 use Rattle.adb_sound.proofs.LaidSizes.{AreShort}
 use Rattle.adb_sound.proofs.Positions.{AreBelow}
@@ -48,20 +49,20 @@ none_of_blocks (more c at r) e = absurd (in_front_some c (pieces_of r) e)
 pair_again : (c : Contents) → c.folder < 2 ^ 32 → c.file < 2 ^ 32 → ((file_pair (contents_payload c)).0 ≡ c.folder) × ((file_pair (contents_payload c)).1 ≡ c.file)
 pair_again c a b = (from_le_bytes-to_le_bytes_4 c.folder a, from_le_bytes-to_le_bytes_4 c.file b)
 
-bytes_again : (c : Contents) → bytes_in (contents_payload c) ≡ c.bytes
+bytes_again : (c : Contents) → contents_bytes (contents_payload c) ≡ c.bytes
 bytes_again c = refl
 
 both_true : (a b : Bool) → a ≡ true → b ≡ true → (a && b) ≡ true
 both_true a b e f = rw (e, f) refl
 
-file_good : (c : Contents) (e : Expected) → e.folder < 2 ^ 32 → e.file < 2 ^ 32 → IsContentsOf e c → file_fault (contents_payload c) e ≡ None
+file_good : (c : Contents) (e : Expected) → e.folder < 2 ^ 32 → e.file < 2 ^ 32 → IsContentsOf e c → expected_fault (contents_payload c) e ≡ None
 file_good c e a b is =
     let folder = is.folder in
     let file = is.file in
     let size = is.size in
     let pair = pair_again c (omega arith) (omega arith) in
-    let one : is_of (contents_payload c) e ≡ true = both_true _ _ (eq-eqb _ _ (pair.0 ∙ folder)) (eq-eqb _ _ (pair.1 ∙ file)) in
-    let two : eqb (length (bytes_in (contents_payload c))) e.size ≡ true = eq-eqb _ _ size in
+    let one : has_positions_of (contents_payload c) e ≡ true = both_true _ _ (eq-eqb _ _ (pair.0 ∙ folder)) (eq-eqb _ _ (pair.1 ∙ file)) in
+    let two : eqb (length (contents_bytes (contents_payload c))) e.size ≡ true = eq-eqb _ _ size in
     rw (one, two) is.hash
 
 block_good : (c : Contents) (at : ℕ) (e : Expected) (es : List Expected) → e.folder < 2 ^ 32 → e.file < 2 ^ 32 → IsContentsOf e c → contents_block_fault (contents_payload c) at (e ∷ es) ≡ None
@@ -72,7 +73,7 @@ block_good c at e es a b is =
 -- ---- all of them
 
 pub blocks_good : (es : List Expected) (cs : List Contents) (r : Reading) → pieces_of r ≡ Ok (map contents_piece cs) → AreBelow (2 ^ 32) es → AreContentsOf es cs → contents_fault es r ≡ None
-unfolding files_of
+unfolding files_by_blocks
 blocks_good [] [] r p small all = subst (λ (q : Reading). contents_fault [] q ≡ None) (sym (none_of_blocks r p)) refl
 blocks_good [] (c ∷ cs) r p small all = absurd all
 blocks_good (e ∷ es) [] r p small all = absurd all
@@ -80,7 +81,7 @@ blocks_good (e ∷ es) (c ∷ cs) r p small all =
     let first = first_of r (contents_piece c) (map contents_piece cs) p in
     let good = block_good c first.at e es small.0 small.1 all.0 in
     subst (λ (q : Reading). contents_fault (e ∷ es) q ≡ None) (sym first.is)
-    (ap (λ (o : Option Cause). fault_in (unless o (with_next (contents_payload c) (λ left. files_of left first.later) (e ∷ es)))) good ∙ blocks_good es cs first.later first.others small.2 all.1)
+    (ap (λ (o : Option Cause). fault_in (unless_fault o (with_next (contents_payload c) (λ left. files_by_blocks left first.later) (e ∷ es)))) good ∙ blocks_good es cs first.later first.others small.2 all.1)
 
 -- and they may stand behind the value
 more_contents : (cs : List Contents) → AreShort cs → MayStand (Some Kinds.Contents) (map contents_piece cs)

@@ -5,7 +5,7 @@ use Rattle.adb_tables.specs.Values.{nth, entries_in, entry_in, int_in, text_in}
 use Rattle.adb_fields.specs.Repeated.{list_of, files_in}
 use Rattle.adb_rules.specs.Texts.{is_with_contents}
 use Rattle.adb_write.specs.Size.{entry_count, entries_of, entries_of_all}
-use Rattle.pkg_core.specs.Contents.{Expected, expected_at, files_from, folders_from, expected_contents}
+use Rattle.pkg_core.specs.Contents.{Expected, expected_at, expected_files, expected_folders, expected_contents}
 
 -- both positions of each are below n
 abbrev pub AreBelow : ℕ → List Expected → Type 0
@@ -44,18 +44,18 @@ at_below n d i f a b = by_contents (is_with_contents f)
     by_contents true = (a, b, tt)
     by_contents false = tt
 
-files_below : (n d i : ℕ) (vs : Plains) → d < n → i + entry_count vs ≤ n → AreBelow n (files_from d i (list_of vs))
+files_below : (n d i : ℕ) (vs : Plains) → d < n → i + entry_count vs ≤ n → AreBelow n (expected_files d i (list_of vs))
 files_below n d i none a b = tt
 files_below n d i (more f vs) a b =
-    below-append n (expected_at d i f) (files_from d (i + 1) (list_of vs)) (at_below n d i f a (omega arith)) (files_below n d (i + 1) vs a (omega arith))
+    below-append n (expected_at d i f) (expected_files d (i + 1) (list_of vs)) (at_below n d i f a (omega arith)) (files_below n d (i + 1) vs a (omega arith))
 
-folders_below : (n d : ℕ) (vs : Plains) → d + entry_count vs ≤ n → 1 + entries_of_all vs ≤ n → AreBelow n (folders_from d (list_of vs))
+folders_below : (n d : ℕ) (vs : Plains) → d + entry_count vs ≤ n → 1 + entries_of_all vs ≤ n → AreBelow n (expected_folders d (list_of vs))
 unfolding entries_of entries_of_all
 folders_below n d none a b = tt
 folders_below n d (more folder vs) a b =
     let files = held (entry_in folder 2) in
     let folder_held = entry_held folder 2 in
-    below-append n (files_from d 1 (files_in folder)) (folders_from (d + 1) (list_of vs)) (files_below n d 1 (entries_in (entry_in folder 2)) (omega arith) (omega arith)) (folders_below n (d + 1) vs (omega arith) (omega arith))
+    below-append n (expected_files d 1 (files_in folder)) (expected_folders (d + 1) (list_of vs)) (files_below n d 1 (entries_in (entry_in folder 2)) (omega arith) (omega arith)) (folders_below n (d + 1) vs (omega arith) (omega arith))
 
 pub expected_below : (n : ℕ) (v : Plain) → 1 + entries_of v ≤ n → AreBelow n (expected_contents v)
 expected_below n v few =

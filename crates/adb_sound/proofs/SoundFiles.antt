@@ -14,8 +14,9 @@ use Rattle.adb_tables.specs.declared.tables.Which.TheVariants.{Dep, Acl, PkgInfo
 use Rattle.adb_schema.specs.declared.read.TheConstants.{PACKAGE_WORD, INDEX_WORD, IDB_WORD, INTENT_WORD}
 use Rattle.adb_write.specs.Canonical.{canonical, write, empty_layout}
 use Rattle.adb_write.specs.File.{adb_piece, file_of}
-use Rattle.pkg_core.specs.Contents.{Contents, AreContentsOf, expected_contents}
-use Rattle.pkg_core.specs.Whole.{behind_fault, container_fault, fault_by_header, root_of_schema, schema_fault, whole_fault}
+use Rattle.pkg_core.specs.Contents.{Contents, expected_contents}
+use Rattle.pkg_core.specs.GoodContents.{AreContentsOf}
+use Rattle.pkg_core.specs.Whole.{behind_fault, container_fault, fault_by_header, root_of_schema, fault_by_schema, whole_fault}
 use Rattle.adb_sound.specs.Container.{contents_piece, container_of}
 use Rattle.adb_sound.specs.Root.{IsRootOf}
 use Rattle.adb_sound.proofs.LaidSizes.{AreShort, laid_short}
@@ -50,7 +51,7 @@ whole_good : (which : Which) (schema : ℕ) (file : List ℕ) → IsWord which s
 unfolding container_fault whole_fault
 whole_good which schema file word h blocks =
     ap (fault_by_header file) h
-    ∙ (ap (schema_fault file schema) word.root
+    ∙ (ap (fault_by_schema file schema) word.root
     ∙ (ap (file_fault (behind_fault which) which file) h
     ∙ none_of (S.schema_fault which schema) (blocks_fault (behind_fault which) which (reading_of (start_of schema file))) word.wanted blocks))
 

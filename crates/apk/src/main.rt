@@ -8,8 +8,9 @@ mod host;
 mod stream;
 mod words;
 
-use apk_front::{apk, status};
-use host::HostTree;
+use apk_front::{Answer, apk, status};
+use host::{Access, HostTree};
+use std::io;
 use std::io::Write;
 use std::process::ExitCode;
 use stream::HostSink;
@@ -33,9 +34,26 @@ fn main(rt: HostRuntime) -> ExitCode {
             return ExitCode::from(TOO_MANY_WORDS);
         }
     };
-    let mut tree = HostTree::new(&rt, rt.alloc());
+    let mut tree = HostTree::new(&rt, rt.alloc(), Access::Write);
     let mut out = HostSink::new(rt.stdout());
     let mut err = HostSink::new(rt.stderr());
     let answer = apk(rt.alloc(), &words, &mut tree, &mut out, &mut err);
+    if matches!(answer, Answer::TreeFault) {
+        let _ = tell_why(&rt, &tree);
+    }
     ExitCode::from(status(&answer))
+}
+
+/// Prints what failed first on the host, and whether the new file may stand already.
+fn tell_why(rt: &HostRuntime, tree: &HostTree<'_, HostRuntime>) -> io::Result<()> {
+    let mut to = rt.stderr();
+    if let Some(failure) = tree.failure() {
+        failure.print(rt.alloc(), &mut to)?;
+    }
+    if let Some(name) = tree.moved() {
+        to.write_all(b"apk: ")?;
+        to.write_all(name)?;
+        to.write_all(b" may have its new contents already\n")?;
+    }
+    Ok(())
 }

@@ -1,10 +1,10 @@
-// A standard stream, as a sink.
-ghost use Rattle.std.specs.Prelude.{◌≡◌, ◌≤◌, None};
+//! A standard stream, as a sink.
+ghost use Rattle.std.specs.Prelude.{◌≡◌, ◌≤◌, ◌<◌, None, IfSome, length};
 ghost use Rattle.base_core.specs.Faults.{next_count};
 ghost use Rattle.apk.specs.Host.{host_counts};
 
 use base_core::{Sink, SinkFault};
-use std::io::Write;
+use std::io::{ErrorKind, Write};
 
 /// A stream of the host. It tells nothing of its bytes; each write that answers a fault counts it.
 #[derive(Drop)]
@@ -38,9 +38,25 @@ impl<W: Write + Drop> Sink for HostSink<W> {
         if piece.is_empty() {
             return Ok(0);
         }
-        match self.inner.write(piece) {
-            Ok(n) if n > 0 => Ok(n),
-            _ => Err(self.fault()),
+        match write_some(&mut self.inner, piece) {
+            Some(n) => Ok(n),
+            None => Err(self.fault()),
         }
     }
+}
+
+/// How much of a piece the host took, at least one byte, or None where it failed. A write that a signal interrupts is
+/// tried again.
+fn write_some<W: Write>(inner: &mut W, piece: &[u8]) -> Option<usize>
+    ensures { IfSome result (λ n. (0 < n) × (n ≤ length piece.now)) }
+{
+    for _ in 0..u64::MAX {
+        match inner.write(piece) {
+            Ok(0) => return None,
+            Ok(n) => return Some(n),
+            Err(e) if e.kind() == ErrorKind::Interrupted => {}
+            Err(_) => return None,
+        }
+    }
+    None
 }

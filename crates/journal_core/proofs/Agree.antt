@@ -32,17 +32,17 @@ module _ (S : List ℕ → Type 0) where
       ap (cond (bytes_eq q intent_name) None)
       (agree-unstaged intent.writes 1 _ _ (λ j from below. at (stage_name j) (j, from, below, refl)) (agree-without intent.removals F G h) q s)
 
-same_shown : (X : List ℕ → Bool) (q : List ℕ) (a b : Option (List ℕ)) (hidden : Bool) → is_hidden X q ≡ hidden → (is_hidden X q ≡ false → a ≡ b) → cond (is_hidden X q) None a ≡ cond (is_hidden X q) None b
-same_shown X q a b true is same = ap (λ r. cond r None a) is ∙ sym (ap (λ r. cond r None b) is)
-same_shown X q a b false is same = ap (cond (is_hidden X q) None) (same is)
+same_shown : (ignored : List ℕ → Bool) (q : List ℕ) (a b : Option (List ℕ)) (hidden : Bool) → is_hidden ignored q ≡ hidden → (is_hidden ignored q ≡ false → a ≡ b) → cond (is_hidden ignored q) None a ≡ cond (is_hidden ignored q) None b
+same_shown ignored q a b true is same = ap (λ r. cond r None a) is ∙ sym (ap (λ r. cond r None b) is)
+same_shown ignored q a b false is same = ap (cond (is_hidden ignored q) None) (same is)
 
 or_right : (a b : Bool) → (a || b) ≡ false → b ≡ false
 or_right true b e = absurd (cc)
 or_right false b e = e
 
-pub state_agree : (X : List ℕ → Bool) (F G : Files) → Agree (RestsOn X F) F G → state_of X F ≡ state_of X G
-state_agree X F G h =
+pub state_agree : (ignored : List ℕ → Bool) (F G : Files) → Agree (RestsOn ignored F) F G → state_of ignored F ≡ state_of ignored G
+state_agree ignored F G h =
     let same_intent : intent_of F ≡ intent_of G = ap intent_at (h intent_name (inl refl)) in
-    let same_recovered : (q : List ℕ) → RestsOn X F q → recovered_files F q ≡ recovered_files G q = λ q s.
-    agree-recovered_by (RestsOn X F) (intent_of F) F G (λ r place. inr (inr place)) h q s ∙ ap (λ o. recovered_files_by o G q) same_intent in
-    λ i q. same_shown X q (recovered_files F q) (recovered_files G q) (is_hidden X q) refl (λ shown. same_recovered q (inr (inl (or_right (bytes_eq q intent_name) (is_staged q || X q) shown)))) i
+    let same_recovered : (q : List ℕ) → RestsOn ignored F q → recovered_files F q ≡ recovered_files G q = λ q s.
+    agree-recovered_by (RestsOn ignored F) (intent_of F) F G (λ r place. inr (inr place)) h q s ∙ ap (λ o. recovered_files_by o G q) same_intent in
+    λ i q. same_shown ignored q (recovered_files F q) (recovered_files G q) (is_hidden ignored q) refl (λ shown. same_recovered q (inr (inl (or_right (bytes_eq q intent_name) (is_staged q || ignored q) shown)))) i

@@ -6,6 +6,7 @@ pub mod FillRun
 pub mod History
 pub mod Images
 pub mod Joined
+pub mod More
 pub mod Proper
 pub mod Refuted
 pub mod Settle

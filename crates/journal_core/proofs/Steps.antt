@@ -3,34 +3,37 @@ use Rattle.std.proofs.Common.{◌≡◌, ◌≢◌, inl, inr, ⊎_elim, ℕ, ◌
 use Rattle.std.proofs.lemmas.Bool.{ne_eqb, eq-eqb}
 use Rattle.base_core.specs.Files.{NameMap}
 use Rattle.base_core.specs.Tree.{File, TreeState, bytes_at, files_by, files_of, set_file, change_at, after_create, remove_at, after_remove, IsMapOf, IsWhole}
-use Rattle.journal_core.specs.Recovery.{IsStill}
+use Rattle.journal_core.specs.Quiet.{IsStill}
+use Rattle.journal_core.specs.Recovery.{state_of}
 use Rattle.journal_core.specs.Filling.{IsPrivate, IsUntouched, IsFilling}
-use Rattle.journal_core.proofs.AtName.{name_cases, put-at, put-off, drop_name-off}
+use Rattle.journal_core.proofs.Agree.{state_agree}
+use Rattle.journal_core.proofs.AtName.{name_cases, put_name-at, put_name-off, drop_name-off}
 use Rattle.journal_core.proofs.Images.{quiet_on, quiet_same}
 use Rattle.journal_core.proofs.Simulate.{file_at, bytes_of_same, rests_off, Simulates, simulated_orderly, simulated_quiet}
 
 pub untouched_start : (name : List ℕ) (v : TreeState) → IsUntouched name v v
-untouched_start name v = record { still = λ X orderly private. record { orderly = orderly; quiet = quiet_same X v; made = omega arith }; others = λ q ne. refl }
+untouched_start name v = record { still = λ ignored orderly private. record { orderly = orderly; quiet = quiet_same ignored v; reads = refl; made = omega arith }; others = λ q ne. refl }
 
-still_on : (X : List ℕ → Bool) (start v w : TreeState) → IsStill X start v → Simulates X v w → v.made ≤ w.made → IsStill X start w
-still_on X start v w was simulates more =
-    let orderly = simulated_orderly X v w was.orderly simulates in
-    record { orderly = orderly; quiet = quiet_on X start v w was.quiet (simulated_quiet X v w orderly simulates); made = omega (arith, was.made, more) }
+still_on : (ignored : List ℕ → Bool) (start v w : TreeState) → IsStill ignored start v → Simulates ignored v w → v.made ≤ w.made → state_of ignored (files_of w) ≡ state_of ignored (files_of v) → IsStill ignored start w
+still_on ignored start v w was simulates more reads =
+    let orderly = simulated_orderly ignored v w was.orderly simulates in
+    record { orderly = orderly; quiet = quiet_on ignored start v w was.quiet (simulated_quiet ignored v w orderly simulates); reads = reads ∙ was.reads; made = omega (arith, was.made, more) }
 
 -- a step that simulates and leaves the other files as read
-untouched_on : (name : List ℕ) (start v w : TreeState) → IsUntouched name start v → ((X : List ℕ → Bool) → IsPrivate X name → Simulates X v w) → v.made ≤ w.made → ((q : List ℕ) → q ≢ name → files_of w q ≡ files_of v q) → IsUntouched name start w
+untouched_on : (name : List ℕ) (start v w : TreeState) → IsUntouched name start v → ((ignored : List ℕ → Bool) → IsPrivate ignored name → Simulates ignored v w) → v.made ≤ w.made → ((q : List ℕ) → q ≢ name → files_of w q ≡ files_of v q) → IsUntouched name start w
 untouched_on name start v w was simulates more others = record {
-  still = λ X orderly private. still_on X start v w (was.still X orderly private) (simulates X private) more;
+  still = λ ignored orderly private. still_on ignored start v w (was.still ignored orderly private) (simulates ignored private) more
+      (sym (state_agree ignored (files_of v) (files_of w) (λ q rests. sym (others q (rests_off ignored name private (files_of v) q rests)))));
   others = λ q ne. others q ne ∙ was.others q ne;
 }
 
 -- ---- remove
 
-remove_simulates : (X : List ℕ → Bool) (name : List ℕ) → IsPrivate X name → (v : TreeState) (n : Option ℕ) → Simulates X v (remove_at name v n)
-remove_simulates X name private v None m among = (m, among, λ q rests. refl)
-remove_simulates X name private v (Some n) m (inl new) =
-    (v.names, inl refl, λ q rests. ap (file_at v.files) (sym (ap (λ (f : NameMap). f q) new ∙ drop_name-off v.names name q (rests_off X name private (files_by v v.names) q rests))))
-remove_simulates X name private v (Some n) m (inr old) = (m, old, λ q rests. refl)
+remove_simulates : (ignored : List ℕ → Bool) (name : List ℕ) → IsPrivate ignored name → (v : TreeState) (n : Option ℕ) → Simulates ignored v (remove_at name v n)
+remove_simulates ignored name private v None m among = (m, among, λ q rests. refl)
+remove_simulates ignored name private v (Some n) m (inl new) =
+    (v.names, inl refl, λ q rests. ap (file_at v.files) (sym (ap (λ (f : NameMap). f q) new ∙ drop_name-off v.names name q (rests_off ignored name private (files_by v v.names) q rests))))
+remove_simulates ignored name private v (Some n) m (inr old) = (m, old, λ q rests. refl)
 
 remove_made : (name : List ℕ) (v : TreeState) (n : Option ℕ) → v.made ≤ (remove_at name v n).made
 remove_made name v None = omega arith
@@ -41,7 +44,7 @@ remove_others name v None q ne = refl
 remove_others name v (Some n) q ne = ap (bytes_at v.files) (drop_name-off v.names name q ne)
 
 pub untouched-removed : (name : List ℕ) (start v : TreeState) → IsUntouched name start v → IsUntouched name start (after_remove name v)
-untouched-removed name start v was = untouched_on name start v _ was (λ X private. remove_simulates X name private v (v.names name)) (remove_made name v (v.names name)) (remove_others name v (v.names name))
+untouched-removed name start v was = untouched_on name start v _ was (λ ignored private. remove_simulates ignored name private v (v.names name)) (remove_made name v (v.names name)) (remove_others name v (v.names name))
 
 -- ---- create
 
@@ -61,22 +64,22 @@ bytes_at-set_file files n f k ne = bytes_of_same _ _ k k (file_at-set_file files
 pub made_later : (v : TreeState) → IsWhole v → (m : NameMap) → IsMapOf v m → (q : List ℕ) → m q ≢ Some v.made
 made_later v whole m among q is = let below : v.made < v.made = whole.made m among q v.made is in absurd (omega arith)
 
-create_simulates : (X : List ℕ → Bool) (name : List ℕ) → IsPrivate X name → (v : TreeState) → IsWhole v → Simulates X v (after_create name v)
-create_simulates X name private v whole m (inl new) = (
+create_simulates : (ignored : List ℕ → Bool) (name : List ℕ) → IsPrivate ignored name → (v : TreeState) → IsWhole v → Simulates ignored v (after_create name v)
+create_simulates ignored name private v whole m (inl new) = (
   v.names,
   inl refl,
   λ q rests.
       sym (ap (λ (f : NameMap). file_at (after_create name v).files (f q)) new
-      ∙ ap (file_at (after_create name v).files) (put-off v.names name v.made q (rests_off X name private (files_by v v.names) q rests))
+      ∙ ap (file_at (after_create name v).files) (put_name-off v.names name v.made q (rests_off ignored name private (files_by v v.names) q rests))
       ∙ file_at-set_file v.files v.made _ (v.names q) (made_later v whole v.names (inl refl) q)),
 )
-create_simulates X name private v whole m (inr old) = (m, old, λ q rests. sym (file_at-set_file v.files v.made _ (m q) (made_later v whole m old q)))
+create_simulates ignored name private v whole m (inr old) = (m, old, λ q rests. sym (file_at-set_file v.files v.made _ (m q) (made_later v whole m old q)))
 
 pub create_others : (name : List ℕ) (v : TreeState) → IsWhole v → (q : List ℕ) → q ≢ name → files_of (after_create name v) q ≡ files_of v q
-create_others name v whole q ne = ap (bytes_at (after_create name v).files) (put-off v.names name v.made q ne) ∙ bytes_at-set_file v.files v.made _ (v.names q) (made_later v whole v.names (inl refl) q)
+create_others name v whole q ne = ap (bytes_at (after_create name v).files) (put_name-off v.names name v.made q ne) ∙ bytes_at-set_file v.files v.made _ (v.names q) (made_later v whole v.names (inl refl) q)
 
 pub untouched-created : (name : List ℕ) (start v : TreeState) → IsWhole v → IsUntouched name start v → IsUntouched name start (after_create name v)
-untouched-created name start v whole was = untouched_on name start v _ was (λ X private. create_simulates X name private v whole) (omega arith) (create_others name v whole)
+untouched-created name start v whole was = untouched_on name start v _ was (λ ignored private. create_simulates ignored name private v whole) (omega arith) (create_others name v whole)
 
 pub create_alone : (name : List ℕ) (v : TreeState) → IsWhole v → (m : NameMap) → IsMapOf (after_create name v) m → (q : List ℕ) → m q ≡ Some v.made → q ≡ name
 create_alone name v whole m (inl new) q is = ⊎_elim (λ same. same)
@@ -88,20 +91,20 @@ pub filling-created : (name : List ℕ) (start v : TreeState) → IsWhole v → 
 filling-created name start v whole was = record {
   untouched = untouched-created name start v whole was;
   number = v.made;
-  there = put-at v.names name v.made name refl;
+  there = put_name-at v.names name v.made name refl;
   holds = set_file-at v.files v.made _ v.made refl;
   alone = create_alone name v whole;
 }
 
 -- ---- append and sync
 
-change_simulates : (X : List ℕ → Bool) (name : List ℕ) → IsPrivate X name → (change : File → File) (v : TreeState) (n : ℕ) → ((m : NameMap) → IsMapOf v m → (q : List ℕ) → m q ≡ Some n → q ≡ name) → Simulates X v (change_at change v (Some n))
-change_simulates X name private change v n alone m among =
-    (m, among, λ q rests. sym (file_at-set_file v.files n _ (m q) (λ is. rests_off X name private (files_by v m) q rests (alone m among q is))))
+change_simulates : (ignored : List ℕ → Bool) (name : List ℕ) → IsPrivate ignored name → (change : File → File) (v : TreeState) (n : ℕ) → ((m : NameMap) → IsMapOf v m → (q : List ℕ) → m q ≡ Some n → q ≡ name) → Simulates ignored v (change_at change v (Some n))
+change_simulates ignored name private change v n alone m among =
+    (m, among, λ q rests. sym (file_at-set_file v.files n _ (m q) (λ is. rests_off ignored name private (files_by v m) q rests (alone m among q is))))
 
 filling_at : (name : List ℕ) (change : File → File) (file : File) (start v : TreeState) → (was : IsFilling name file start v) → IsFilling name (change file) start (change_at change v (Some was.number))
 filling_at name change file start v was = record {
-  untouched = untouched_on name start v _ was.untouched (λ X private. change_simulates X name private change v was.number was.alone) (omega arith)
+  untouched = untouched_on name start v _ was.untouched (λ ignored private. change_simulates ignored name private change v was.number was.alone) (omega arith)
       (λ q ne. bytes_at-set_file v.files was.number _ (v.names q) (λ is. ne (was.alone v.names (inl refl) q is)));
   number = was.number;
   there = was.there;

@@ -4,7 +4,7 @@ use Rattle.std.specs.Str.{bytes_eq}
 use Rattle.std.specs.List.{starts_with, list_any}
 use Rattle.base_core.specs.Files.{Files, drop_name, move_name}
 use Rattle.base_core.specs.Tree.{TreeState}
-use Rattle.base_core.specs.Crash.{IsImage, IsOrderly}
+use Rattle.base_core.specs.Crash.{IsImage}
 use Rattle.base_core.specs.declared.cause.Cause.{Cause}
 use Rattle.adb_view.specs.Plain.{Plain}
 use Rattle.adb_fields.specs.Repeated.{entries_at}
@@ -85,13 +85,13 @@ recovered_files_by (Some intent) files = drop_name (after_actions intent files) 
 abbrev pub recovered_files : Files → Files
 recovered_files files = recovered_files_by (intent_of files) files
 
--- the names that no state has: the intent, the waiting files, and further names X
+-- the names that no state has: the intent, the waiting files, and further names ignored
 abbrev pub is_hidden : (List ℕ → Bool) → List ℕ → Bool
-is_hidden X name = bytes_eq name intent_name || (is_staged name || X name)
+is_hidden ignored name = bytes_eq name intent_name || (is_staged name || ignored name)
 
--- the state that files stand for, apart from the names X
+-- the state that files stand for, apart from the names ignored
 abbrev pub state_of : (List ℕ → Bool) → Files → Files
-state_of X files q = if is_hidden X q then None else recovered_files files q
+state_of ignored files q = if is_hidden ignored q then None else recovered_files files q
 
 -- ---- order
 
@@ -102,25 +102,15 @@ IsPlaceOf (Some intent) q = (k : ℕ) × (1 ≤ k) × (k < 1 + length intent.wri
 
 -- the state of files rests on their intent, on each file that is not hidden, and on those that wait for the intent's actions
 abbrev pub RestsOn : (List ℕ → Bool) → Files → List ℕ → Type 0
-RestsOn X files q = (q ≡ intent_name) ⊎ (((is_staged q || X q) ≡ false) ⊎ IsPlaceOf (intent_of files) q)
+RestsOn ignored files q = (q ≡ intent_name) ⊎ (((is_staged q || ignored q) ≡ false) ⊎ IsPlaceOf (intent_of files) q)
 
 -- ---- what a crash leaves, as states
 
--- each crash leaves a state that one at an earlier moment might have left
-abbrev pub IsQuiet : (List ℕ → Bool) → TreeState → TreeState → Type 0
-IsQuiet X start v = (image : Files) → IsImage v image → (was : Files) × IsImage start was × (state_of X image ≡ state_of X was)
-
 -- each crash leaves the state of these files
 abbrev pub IsSettled : (List ℕ → Bool) → Files → TreeState → Type 0
-IsSettled X files v = (image : Files) → IsImage v image → state_of X image ≡ state_of X files
+IsSettled ignored files v = (image : Files) → IsImage v image → state_of ignored image ≡ state_of ignored files
 
 -- each crash leaves a state that one at an earlier moment might have left, or that of these files
 abbrev pub IsOldOrNew : (List ℕ → Bool) → TreeState → Files → TreeState → Type 0
-IsOldOrNew X start files v = (image : Files) → IsImage v image
-    → ((was : Files) × IsImage start was × (state_of X image ≡ state_of X was)) ⊎ (state_of X image ≡ state_of X files)
-
--- an orderly moment at which nothing has happened to the state; files may have been made
-pub record IsStill (X : List ℕ → Bool) (start v : TreeState) : Type 0 where
-  pub orderly : IsOrderly (RestsOn X) v
-  pub quiet : IsQuiet X start v
-  pub made : start.made ≤ v.made
+IsOldOrNew ignored start files v = (image : Files) → IsImage v image
+    → ((was : Files) × IsImage start was × (state_of ignored image ≡ state_of ignored was)) ⊎ (state_of ignored image ≡ state_of ignored files)

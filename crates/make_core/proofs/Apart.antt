@@ -12,7 +12,7 @@ use Rattle.adb_view.specs.Plain.{Plain}
 use Rattle.adb_fields.specs.Pairs.{IsFirstOf, IsIn, IsPair, Named}
 use Rattle.adb_fields.specs.Repeated.{IsPairInOne, file_twice, files_in, folder_twice, folders_in, name_of, numbered_from, repeated_fault, twice_in_one}
 use Rattle.adb_tables.specs.declared.tables.Which.TheVariants.{Package}
-use Rattle.make_package.specs.Folders.{with_names, sorted_names, with_name, with_name_by}
+use Rattle.make_package.specs.Folders.{with_folders, sorted_names, with_folder, with_folder_by}
 use Rattle.make_package.specs.Package.{Script, Source, SourceFolder, value_of_file, value_of_folder, value_of_package, kind_of_file}
 use Rattle.make_core.proofs.PackageFiles.{files_stand, folder_name_stands, folders_stand, name_stands}
 
@@ -56,11 +56,11 @@ rises_from_pairs (x ∷ xs) pairs = (
 
 -- ---- placed one by one
 
-placed_in : (q name : List ℕ) (xs : List (List ℕ)) → IsIn q (with_name name xs) → (q ≡ name) ⊎ IsIn q xs
+placed_in : (q name : List ℕ) (xs : List (List ℕ)) → IsIn q (with_folder name xs) → (q ≡ name) ⊎ IsIn q xs
 placed_in q name [] h = h
 placed_in q name (x ∷ xs) h = by_order (cmp name x) (placed_in q name xs) h
   where
-    by_order : (o : Ordering) → (IsIn q (with_name name xs) → (q ≡ name) ⊎ IsIn q xs) → IsIn q (with_name_by o name x xs (with_name name xs)) → (q ≡ name) ⊎ IsIn q (x ∷ xs)
+    by_order : (o : Ordering) → (IsIn q (with_folder name xs) → (q ≡ name) ⊎ IsIn q xs) → IsIn q (with_folder_by o name x xs (with_folder name xs)) → (q ≡ name) ⊎ IsIn q (x ∷ xs)
     by_order Less further h = h
     by_order Equal further h = inr h
     by_order Greater further (inl is) = inr (inl is)
@@ -78,23 +78,23 @@ all_behind : (name x : List ℕ) (xs : List (List ℕ)) → cmp name x ≡ Less 
 all_behind name x xs less all q (inl is) = subst (λ (z : List ℕ). cmp name z ≡ Less) (sym is) less
 all_behind name x xs less all q (inr here) = nat_list_cmp_total.trans name x q less (all q here)
 
-placed_rises : (name : List ℕ) (xs : List (List ℕ)) → Rises xs → Rises (with_name name xs)
+placed_rises : (name : List ℕ) (xs : List (List ℕ)) → Rises xs → Rises (with_folder name xs)
 placed_rises name [] r = (λ q h. absurd h, tt)
 placed_rises name (x ∷ xs) r = by_order (cmp name x) refl (placed_rises name xs r.1)
   where
-    by_order : (o : Ordering) → cmp name x ≡ o → Rises (with_name name xs) → Rises (with_name_by o name x xs (with_name name xs))
+    by_order : (o : Ordering) → cmp name x ≡ o → Rises (with_folder name xs) → Rises (with_folder_by o name x xs (with_folder name xs))
     by_order Less e further = (all_behind name x xs e r.0, r)
     by_order Equal e further = r
     by_order Greater e further = (λ q here. below_placed x name xs (turned name x Greater e) r.0 q (placed_in q name xs here), further)
 
-all_placed_rises : (so_far names : List (List ℕ)) → Rises so_far → Rises (with_names so_far names)
+all_placed_rises : (so_far names : List (List ℕ)) → Rises so_far → Rises (with_folders so_far names)
 all_placed_rises so_far [] r = r
-all_placed_rises so_far (name ∷ names) r = all_placed_rises (with_name name so_far) names (placed_rises name so_far r)
+all_placed_rises so_far (name ∷ names) r = all_placed_rises (with_folder name so_far) names (placed_rises name so_far r)
 
 pub in_order_rises : (names : List (List ℕ)) → Rises (sorted_names names)
 in_order_rises names = all_placed_rises [] names tt
 
-either_in : (q name : List ℕ) (so_far names : List (List ℕ)) → IsIn q (with_name name so_far) ⊎ IsIn q names → IsIn q so_far ⊎ IsIn q (name ∷ names)
+either_in : (q name : List ℕ) (so_far names : List (List ℕ)) → IsIn q (with_folder name so_far) ⊎ IsIn q names → IsIn q so_far ⊎ IsIn q (name ∷ names)
 either_in q name so_far names (inr here) = inr (inr here)
 either_in q name so_far names (inl here) = shift (placed_in q name so_far here)
   where
@@ -102,9 +102,9 @@ either_in q name so_far names (inl here) = shift (placed_in q name so_far here)
     shift (inl is) = inr (inl is)
     shift (inr more) = inl more
 
-all_placed_in : (q : List ℕ) (so_far names : List (List ℕ)) → IsIn q (with_names so_far names) → IsIn q so_far ⊎ IsIn q names
+all_placed_in : (q : List ℕ) (so_far names : List (List ℕ)) → IsIn q (with_folders so_far names) → IsIn q so_far ⊎ IsIn q names
 all_placed_in q so_far [] h = inl h
-all_placed_in q so_far (name ∷ names) h = either_in q name so_far names (all_placed_in q (with_name name so_far) names h)
+all_placed_in q so_far (name ∷ names) h = either_in q name so_far names (all_placed_in q (with_folder name so_far) names h)
 
 right_in : (q : List ℕ) (names : List (List ℕ)) → IsIn q [] ⊎ IsIn q names → IsIn q names
 right_in q names (inl h) = absurd h

@@ -11,7 +11,7 @@ use Rattle.adb_schema.specs.Soundness.{payload_in}
 use Rattle.adb_tables.specs.declared.tables.Which.{Which}
 use Rattle.adb_tables.specs.declared.tables.Which.TheVariants.{Dep, Package, PkgInfo, Index}
 use Rattle.adb_tables.specs.declared.tables.Kind.TheVariants.{Obj}
-use Rattle.pkg_core.specs.Whole.{package_fault, package_id, package_of}
+use Rattle.pkg_core.specs.Whole.{package_fault, package_id, package_with_contents}
 use Rattle.make_index.specs.Entries.{entry_of_package, entry_value, with_at}
 use Rattle.make_core.proofs.Blind.{AreBlind, AreBlindBut, IsBlind, turned_but}
 use Rattle.make_core.proofs.OpenedPackage.{IsOpened, Values, opened}
@@ -131,4 +131,4 @@ entry_by v id len place around o long small root =
 pub entry_good : Values → (file : List ℕ) (place : ℕ) (around : Surroundings) → All (λ b. b < 256) file → length file < 2 ^ 64 → around.root ≡ Index → package_fault file ≡ None
     → IsGood (shape_of (Obj PkgInfo)) place around (entry_of_package file)
 entry_good laws file place around bytes small root e =
-    entry_by (package_of file).value (package_id file) (length file) place around (opened laws file bytes e) (length-sha256 (payload_in file)) small root
+    entry_by (package_with_contents file).value (package_id file) (length file) place around (opened laws file bytes e) (length-sha256 (payload_in file)) small root

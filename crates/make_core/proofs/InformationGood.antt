@@ -40,7 +40,7 @@ pub record Needs : Type 0 where
 
 abbrev pub AreItems : List InfoItem → Type 0
 AreItems [] = Unit {0}
-AreItems (item ∷ items) = IsSaidAs (kind_of_field item.field) item.said × AreItems items
+AreItems (item ∷ items) = IsSaidAs (kind_of_field item.field) item.value × AreItems items
 
 items_append : (xs ys : List InfoItem) → AreItems xs → AreItems ys → AreItems (xs ++ ys)
 items_append [] ys a b = b
@@ -171,14 +171,14 @@ information_good values behind items e =
 
 abbrev IsFound : Field → Option InfoItem → Type 0
 IsFound f None = Unit {0}
-IsFound f (Some item) = IsSaidAs (kind_of_field f) item.said
+IsFound f (Some item) = IsSaidAs (kind_of_field f) item.value
 
 found : (f : Field) (items : List InfoItem) → AreItems items → IsFound f (find (is_item_for f) items)
 found f [] h = tt
 found f (item ∷ items) h = by_field (is_item_for f item) refl (found f items h.1)
   where
     by_field : (b : Bool) → is_item_for f item ≡ b → IsFound f (find (is_item_for f) items) → IsFound f (cond b (Some item) (find (is_item_for f) items))
-    by_field true is further = subst (λ (k : Kind). IsSaidAs k item.said) (same_kind item.field f is) h.0
+    by_field true is further = subst (λ (k : Kind). IsSaidAs k item.value) (same_kind item.field f is) h.0
     by_field false is further = further
 
 there : (f : Field) (items : List InfoItem) → list_any (is_item_for f) items ≡ true → is_some (find (is_item_for f) items) ≡ true
@@ -191,14 +191,14 @@ there f (item ∷ items) e = by_field (is_item_for f item) (there f items) e
 
 single_by : (P : Plain → Type 0) (f : Field) (o : Option InfoItem) → IsFound f o → P null → ((s : FieldValue) → IsSaidAs (kind_of_field f) s → P (plain_value s)) → P (item_value o)
 single_by P f None h lacking good = lacking
-single_by P f (Some item) h lacking good = good item.said h
+single_by P f (Some item) h lacking good = good item.value h
 
 single_good : (P : Plain → Type 0) (f : Field) (items : List InfoItem) → AreItems items → P null → ((s : FieldValue) → IsSaidAs (kind_of_field f) s → P (plain_value s)) → P (value_of_single f items)
 single_good P f items h lacking good = single_by P f (find (is_item_for f) items) (found f items h) lacking good
 
 given_by_some : (P : Plain → Type 0) (f : Field) (o : Option InfoItem) → IsFound f o → is_some o ≡ true → ((s : FieldValue) → IsSaidAs (kind_of_field f) s → P (plain_value s)) → P (item_value o)
 given_by_some P f None h some good = absurd (cc (some))
-given_by_some P f (Some item) h some good = good item.said h
+given_by_some P f (Some item) h some good = good item.value h
 
 given_single : (P : Plain → Type 0) (f : Field) (items : List InfoItem) → AreItems items → list_any (is_item_for f) items ≡ true → ((s : FieldValue) → IsSaidAs (kind_of_field f) s → P (plain_value s)) → P (value_of_single f items)
 given_single P f items h any good = given_by_some P f (find (is_item_for f) items) (found f items h) (there f items any) good
@@ -207,8 +207,8 @@ values_good : (P : Plain → Type 0) (f : Field) (items : List InfoItem) → Are
 values_good P f [] h good = tt
 values_good P f (item ∷ items) h good = by_field (is_item_for f item) refl (values_good P f items h.1 good)
   where
-    by_field : (b : Bool) → is_item_for f item ≡ b → Each P (plains_for f items) → Each P (if b then more (plain_value item.said) (plains_for f items) else plains_for f items)
-    by_field true is further = (good item.said (subst (λ (k : Kind). IsSaidAs k item.said) (same_kind item.field f is) h.0), further)
+    by_field : (b : Bool) → is_item_for f item ≡ b → Each P (plains_for f items) → Each P (if b then more (plain_value item.value) (plains_for f items) else plains_for f items)
+    by_field true is further = (good item.value (subst (λ (k : Kind). IsSaidAs k item.value) (same_kind item.field f is) h.0), further)
     by_field false is further = further
 
 -- ---- the values of what is said
@@ -363,9 +363,9 @@ module _ (needs : Needs) (items : List InfoItem) (is : IsInformation items) wher
         ),
       )
 
-  priority_by : (o : Option InfoItem) → IsFound Fields.ReplacesPriority o → IsGood number_shape 705 around_folder (number_value (option_and_then (λ (item : InfoItem). number_in item.said) o))
+  priority_by : (o : Option InfoItem) → IsFound Fields.ReplacesPriority o → IsGood number_shape 705 around_folder (number_value (option_and_then (λ (item : InfoItem). number_in item.value) o))
   priority_by None h = null_number 705 around_folder refl
-  priority_by (Some item) h = by_said item.said h
+  priority_by (Some item) h = by_said item.value h
     where
       by_said : (s : FieldValue) → IsSaidAs Kinds.Number s → IsGood number_shape 705 around_folder (number_value (number_in s))
       by_said (text b) h = absurd h

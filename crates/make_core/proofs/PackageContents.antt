@@ -9,7 +9,8 @@ use Rattle.sha2.proofs.Facts256.{length-sha256}
 use Rattle.adb_view.specs.Plain.{Plain}
 use Rattle.adb_rules.specs.Texts.{is_with_contents}
 use Rattle.adb_tables.specs.Values.{entry_in, int_in, text_in}
-use Rattle.pkg_core.specs.Contents.{AreContentsOf, Contents, Expected, expected_at, expected_contents, files_from, folders_from, hash_fault}
+use Rattle.pkg_core.specs.Contents.{Contents, Expected, expected_at, expected_contents, expected_files, expected_folders, hash_fault}
+use Rattle.pkg_core.specs.GoodContents.{AreContentsOf}
 use Rattle.make_package.specs.Package.{Script, Source, SourceFolder, contents_of_file, contents_of_files, contents_of_folders, kind_of_file, value_of_kind, value_of_file, value_of_folder, has_contents, installed_size, is_link_file, link_text, value_of_package, size_of_folder, size_of_kind}
 use Rattle.make_package.specs.declared.file.FileKind.{FileKind}
 use Rattle.make_package.specs.declared.file.FileKind.TheVariants.{Link, Regular}
@@ -81,19 +82,19 @@ both [] fs (c ∷ cs) ds a b = absurd a
 both (e ∷ es) fs [] ds a b = absurd a
 both (e ∷ es) fs (c ∷ cs) ds a b = (a.0, both es fs cs ds a.1 b)
 
-files_contents : (d i : ℕ) (files : List Source) → AreContentsOf (files_from d i (map value_of_file files)) (contents_of_files d i files)
+files_contents : (d i : ℕ) (files : List Source) → AreContentsOf (expected_files d i (map value_of_file files)) (contents_of_files d i files)
 files_contents d i [] = tt
 files_contents d i (file ∷ files) =
-    both (expected_at d i (value_of_file file)) (files_from d (i + 1) (map value_of_file files)) (contents_of_file d i file.bytes) (contents_of_files d (i + 1) files) (at_good d i file) (files_contents d (i + 1) files)
+    both (expected_at d i (value_of_file file)) (expected_files d (i + 1) (map value_of_file files)) (contents_of_file d i file.bytes) (contents_of_files d (i + 1) files) (at_good d i file) (files_contents d (i + 1) files)
 
-folders_contents : (i : ℕ) (folders : List SourceFolder) → AreContentsOf (folders_from i (map value_of_folder folders)) (contents_of_folders i folders)
+folders_contents : (i : ℕ) (folders : List SourceFolder) → AreContentsOf (expected_folders i (map value_of_folder folders)) (contents_of_folders i folders)
 folders_contents i [] = tt
 folders_contents i (folder ∷ folders) =
-    let others : List Expected = folders_from (i + 1) (map value_of_folder folders) in
-    subst (λ (files : List Plain). AreContentsOf (files_from i 1 files ++ others) (contents_of_folders i (folder ∷ folders))) (sym (files_stand folder))
-    (both (files_from i 1 (map value_of_file folder.files)) others (contents_of_files i 1 folder.files) (contents_of_folders (i + 1) folders) (files_contents i 1 folder.files) (folders_contents (i + 1) folders))
+    let others : List Expected = expected_folders (i + 1) (map value_of_folder folders) in
+    subst (λ (files : List Plain). AreContentsOf (expected_files i 1 files ++ others) (contents_of_folders i (folder ∷ folders))) (sym (files_stand folder))
+    (both (expected_files i 1 (map value_of_file folder.files)) others (contents_of_files i 1 folder.files) (contents_of_folders (i + 1) folders) (files_contents i 1 folder.files) (folders_contents (i + 1) folders))
 
 pub package_contents : (info : Plain) (folders : List SourceFolder) (scripts : List Script) (triggers : List (List ℕ)) (priority : Option ℕ)
     → AreContentsOf (expected_contents (value_of_package info folders scripts triggers priority)) (contents_of_folders 1 folders)
 package_contents info folders scripts triggers priority =
-    subst (λ (vs : List Plain). AreContentsOf (folders_from 1 vs) (contents_of_folders 1 folders)) (sym (folders_stand info folders scripts triggers priority)) (folders_contents 1 folders)
+    subst (λ (vs : List Plain). AreContentsOf (expected_folders 1 vs) (contents_of_folders 1 folders)) (sym (folders_stand info folders scripts triggers priority)) (folders_contents 1 folders)

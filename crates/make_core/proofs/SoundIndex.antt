@@ -24,7 +24,8 @@ use Rattle.make_info.specs.Values.{plains_of}
 use Rattle.command_core.specs.Command.{CommandLine}
 use Rattle.make_index.specs.Entries.{entry_of_package}
 use Rattle.make_index.specs.EntryOrder.{entry_cmp, sorted_by, with_element}
-use Rattle.make_index.specs.Files.{AreFiles, IsFile}
+use Rattle.base_core.specs.Files.{IsFile}
+use Rattle.make_index.specs.Files.{AreFiles}
 use Rattle.adb_sound.specs.Root.{IsRootOf}
 use Rattle.make_info.specs.declared.fault.MakeFault.{MakeFault}
 use Rattle.make_core.proofs.IndexEntry.{entry_good}
@@ -64,7 +65,7 @@ found_good : Values → (place n : ℕ) (name : List ℕ) (around : Surroundings
 found_good laws place n name around read v None files root is e = absurd (cc (e))
 found_good laws place n name around read v (Some file) files root is e =
     let good = files file is in
-    tested_good laws place around file v (package_fault file) good.0 good.1 root refl e
+    tested_good laws place around file v (package_fault file) good.each good.few root refl e
 
 entries_by : (around : Surroundings) (r : Result Plain MakeFault) (rs : Result (List Plain) MakeFault) (entries : List Plain) → and_entries r rs ≡ Ok entries
     → ((v : Plain) → r ≡ Ok v → IsEntry around v) → ((vs : List Plain) → rs ≡ Ok vs → Each (IsEntry around) (plains_of vs)) → Each (IsEntry around) (plains_of entries)

@@ -8,7 +8,8 @@ use Rattle.adb_view.specs.Plain.{Plain}
 use Rattle.adb_schema.specs.declared.read.TheConstants.{PACKAGE_WORD}
 use Rattle.adb_tables.specs.declared.tables.Which.TheVariants.{Package}
 use Rattle.adb_write.specs.Canonical.{PayloadCounts, canonical, overflow_of}
-use Rattle.pkg_core.specs.Contents.{AreContentsOf, Contents, expected_contents}
+use Rattle.pkg_core.specs.Contents.{Contents, expected_contents}
+use Rattle.pkg_core.specs.GoodContents.{AreContentsOf}
 use Rattle.pkg_core.specs.Whole.{container_fault}
 use Rattle.command_core.specs.Command.{CommandLine}
 use Rattle.command_core.specs.Files.{without_dot}
@@ -18,7 +19,7 @@ use Rattle.adb_sound.specs.Contents.{contents_size}
 use Rattle.adb_sound.specs.Container.{container_of}
 use Rattle.make_package.specs.Making.{container_unless, made_package, or_info_bad, package_container, package_of_parts}
 use Rattle.make_package.specs.Package.{Script, SourceFolder, contents_of_folders, installed_size, value_of_package}
-use Rattle.make_package.specs.Sources.{AreNamesFor, unless_refused, folders_below, values_of, scripts_from, texts_of}
+use Rattle.make_package.specs.Sources.{AreNamesFor, on_success, folders_below, values_with, scripts_from, texts_of}
 use Rattle.adb_sound.specs.Root.{IsRootOf}
 use Rattle.make_info.specs.Reads.{Reads}
 use Rattle.make_core.proofs.Apart.{Tells, package_once, rises_from_pairs}
@@ -67,7 +68,7 @@ package_sound : Sound → Sizes → Exact → Needs → Tells → (command : Com
     → length bytes < 2 ^ 64 → package_of_parts command scripts items sources ≡ Ok bytes → container_fault bytes ≡ None
 unfolding package_container
 package_sound sound sizes exact needs tells command scripts items sources bytes about are short e =
-    let triggers : List (List ℕ) = texts_of (values_of TRIGGER command.values) in
+    let triggers : List (List ℕ) = texts_of (values_with TRIGGER command.values) in
     let v : Plain = value_of_package (information_value items (installed_size sources)) sources scripts triggers (replaces_priority items) in
     file_sound v (contents_of_folders 1 sources) (overflow_of v) bytes refl short (value_sound sound sizes exact needs tells items sources scripts triggers about are v refl) e
 
@@ -90,16 +91,16 @@ info_ok : (r : Result (List InfoItem) ℕ) (items : List InfoItem) → or_info_b
 info_ok (Ok x) items e = let same : x ≡ items = cc (e) in ap Ok same
 info_ok (Err place) items e = absurd (cc (e))
 
-pub made_sound : Sound → Sizes → Exact → Needs → Tells → (command : CommandLine) (names : List (List ℕ)) (read : Reads) (bytes : List ℕ) → AreNamesFor (values_of FILES command.values) names
+pub made_sound : Sound → Sizes → Exact → Needs → Tells → (command : CommandLine) (names : List (List ℕ)) (read : Reads) (bytes : List ℕ) → AreNamesFor (values_with FILES command.values) names
     → made_package command names read ≡ Ok bytes → length bytes < 2 ^ 64 → container_fault bytes ≡ None
 unfolding made_package
 made_sound sound sizes exact needs tells command names read bytes below e short =
-    let one = after_ok (scripts_from read 0 (values_of SCRIPT command.values)) (λ scripts.
-    unless_refused (or_info_bad (information command)) (λ about.
-    unless_refused (folders_below read (length scripts) (values_of FILES command.values) names) (package_of_parts command scripts about))) bytes e in
+    let one = after_ok (scripts_from read 0 (values_with SCRIPT command.values)) (λ scripts.
+    on_success (or_info_bad (information command)) (λ about.
+    on_success (folders_below read (length scripts) (values_with FILES command.values) names) (package_of_parts command scripts about))) bytes e in
     let two = after_ok (or_info_bad (information command)) (λ about.
-    unless_refused (folders_below read (length one.x) (values_of FILES command.values) names) (package_of_parts command one.x about)) bytes one.gives in
-    let three = after_ok (folders_below read (length one.x) (values_of FILES command.values) names) (package_of_parts command one.x two.x) bytes two.gives in
+    on_success (folders_below read (length one.x) (values_with FILES command.values) names) (package_of_parts command one.x about)) bytes one.gives in
+    let three = after_ok (folders_below read (length one.x) (values_with FILES command.values) names) (package_of_parts command one.x two.x) bytes two.gives in
     package_sound sound sizes exact needs tells command one.x two.x three.x bytes
     (information_good command.values command.behind two.x (info_ok (information command) two.x two.is))
-    (sources_are read (length one.x) (values_of FILES command.values) names three.x below three.is) short three.gives
+    (sources_are read (length one.x) (values_with FILES command.values) names three.x below three.is) short three.gives

@@ -1,10 +1,10 @@
 //! `mkpkg` and `mkndx`: a package and an index are made, and they are sound.
 ghost use Rattle.base_core.specs.Calls.{IfObservable};
 ghost use Rattle.base_core.specs.Read.{OnlyReads};
-ghost use Rattle.make_index.specs.Files.{AreFiles};
+ghost use Rattle.make_index.specs.Files.{AreFiles, reads_of};
 ghost use Rattle.make_index.specs.Index.{made_index};
 ghost use Rattle.make_index.specs.Kept.{IsMadeBy};
-ghost use Rattle.make_info.specs.Reads.{Reads, reads_of};
+ghost use Rattle.make_info.specs.Reads.{Reads};
 ghost use Rattle.make_package.specs.Answers.{IsMadeBySome, IsMadeIn, OnRefusal};
 ghost use Rattle.pkg_core.specs.Whole.{container_fault};
 ghost use Rattle.std.specs.Prelude.{◌≡◌, Ok, None, IfOk, IfErr};

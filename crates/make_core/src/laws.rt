@@ -4,7 +4,7 @@ ghost use Rattle.make_index.specs.Files.{AreFiles};
 ghost use Rattle.make_index.specs.Index.{made_index};
 ghost use Rattle.make_info.specs.Reads.{Reads};
 ghost use Rattle.make_package.specs.Making.{made_package};
-ghost use Rattle.make_package.specs.Sources.{AreNamesFor, values_of};
+ghost use Rattle.make_package.specs.Sources.{AreNamesFor, values_with};
 ghost use Rattle.pkg_core.specs.Whole.{container_fault};
 ghost use Rattle.std.specs.Prelude.{◌≡◌, ◌<◌, ◌^◌, ℕ, List, length, None, Ok};
 ghost use Rattle.command_core.specs.Command.{CommandLine};
@@ -15,7 +15,7 @@ use adb_sound::{
     a_container_of_a_good_value_is_sound, a_package_of_a_good_value_and_its_contents_is_sound,
     contents_stand_in_their_container,
 };
-use adb_view::values_are_normal;
+use adb_view::{values_are_normal, values_have_their_shape};
 use adb_write::a_value_overflows_exactly_past_a_limit;
 use dep_core::{read_texts_are_spelled, values_are_read_back};
 use make_package::the_installed_size_is_that_of_the_contents;
@@ -30,6 +30,7 @@ pub fn a_made_index_is_sound()
     a_container_of_a_good_value_is_sound();
     a_value_overflows_exactly_past_a_limit();
     values_are_normal();
+    values_have_their_shape();
     values_of_few_visits_have_no_fault();
 }
 
@@ -37,7 +38,7 @@ pub fn a_made_index_is_sound()
 /// than 2^64 bytes: of names below its folder, in byte order and each once.
 pub fn a_made_package_is_sound()
     ensures { (command : CommandLine) (names : List (List ℕ)) (read : Reads) (bytes : List ℕ)
-        → AreNamesFor (values_of FILES command.values) names
+        → AreNamesFor (values_with FILES command.values) names
         → made_package command names read ≡ Ok bytes → length bytes < 2 ^ 64
         → container_fault bytes ≡ None }
 {

@@ -13,8 +13,8 @@ use Rattle.command_core.specs.Files.{is_file, without_dot}
 use Rattle.command_core.specs.declared.operands.Operand.{Operand}
 use Rattle.make_index.specs.Index.{and_entries, found_entries, found_entry}
 use Rattle.make_index.specs.Kept.{IsMade, IsMadeBy}
-use Rattle.make_info.specs.Reads.{reads_of}
-use Rattle.make_index.specs.Files.{AreFiles, IsFile}
+use Rattle.make_index.specs.Files.{reads_of, AreFiles}
+use Rattle.base_core.specs.Files.{IsFile}
 use Rattle.make_info.specs.declared.fault.MakeFault.{MakeFault}
 use Rattle.make_info.specs.declared.fault.MakeFault.TheVariants.{FileMissing, FileBad, InfoBad, TooLarge, Disk, Memory}
 

@@ -3,7 +3,7 @@
 use Rattle.std.specs.Prelude.{ℕ, zero, suc, List, length}
 use Rattle.adb_view.specs.Plain.{Plain, null, int, blob, arr, obj, Plains, none, more, blob_value, arr_value, obj_value}
 use Rattle.adb_tables.specs.Values.{entries_in, entry_in}
-use Rattle.pkg_core.specs.Whole.{package_id, package_of}
+use Rattle.pkg_core.specs.Whole.{package_id, package_with_contents}
 
 -- ---- values in which no integer is 0
 
@@ -42,4 +42,4 @@ entry_value info id len =
 -- what an index says of the package in a file
 abbrev pub entry_of_package : List ℕ → Plain
 entry_of_package file =
-    entry_value (entry_in (package_of file).value 0) (package_id file) (length file)
+    entry_value (entry_in (package_with_contents file).value 0) (package_id file) (length file)

@@ -9,13 +9,14 @@ ghost use Rattle.make_index.specs.Index.{found_entry};
 ghost use Rattle.make_index.specs.Kept.{kept_value, HoldsEntry, IsKeyed, IsMade, IsRefusedAt};
 ghost use Rattle.pkg_core.specs.Contents.{fault_in};
 ghost use Rattle.pkg_core.specs.Opened.{opened_files, opened_payload, opened_value};
-ghost use Rattle.pkg_core.specs.Whole.{package_fault, IsRefused};
+ghost use Rattle.pkg_core.specs.Whole.{package_fault};
+ghost use Rattle.pkg_core.specs.Refusals.{IsFaultOf};
 ghost use Rattle.std.specs.Prelude.{◌≡◌, Some, None, IfOk, IfErr, IfSome, IsTrue, Option};
 ghost use Rattle.version_core.specs.Order.{is_version, version_cmp};
 ghost use Rattle.adb_tables.specs.declared.tables.Which.TheVariants as Tables;
 
 use crate::source::{EntryPayload, EntrySource, PackageFile, entry_payload};
-use adb_view::{Val, values_are_normal};
+use adb_view::{Val, values_are_normal, values_have_their_shape};
 use adb_write::{Writer, a_canonical_payload_is_read_back, a_value_overflows_exactly_past_a_limit};
 use base_core::Cause;
 use make_info::MakeFault;
@@ -36,7 +37,7 @@ pub(crate) struct Entry {
 
 impl Entry {
     ghost use Rattle.make_index.specs.Views.{entry_view};
-    ghost use Rattle.make_index.specs.Files.{IsFile};
+    ghost use Rattle.base_core.specs.Files.{IsFile};
 
     /// The entry of the package in this file, which an operand at this place names. The file is
     /// dropped, but where its entry alone passes a limit of the writer.
@@ -121,6 +122,7 @@ fn read_parts(alloc: Global, place: u32, file: &[u8]) -> Result<Parts, MakeFault
     a_canonical_payload_is_read_back();
     a_value_overflows_exactly_past_a_limit();
     values_are_normal();
+    values_have_their_shape();
     let pkg = open_tested(alloc, place, file)?;
     let info = pkg.view().info();
     let mut name = Vec::new(alloc);
@@ -175,7 +177,7 @@ fn test_files(pkg: &mut Package<'_>) -> Result<(), Cause>
 
 /// A package at this place is refused.
 fn refused(place: u32, fault: PackageFault) -> MakeFault
-    ensures { (failed : Option Cause) → IsRefused fault failed → IsRefusedAt place result failed }
+    ensures { (failed : Option Cause) → IsFaultOf fault failed → IsRefusedAt place result failed }
 {
     match fault {
         PackageFault::Bad(cause) => MakeFault::FileBad { place, cause },

@@ -13,12 +13,13 @@ ghost use Rattle.base_core.specs.Read.{OnlyReads, bytes_in};
 ghost use Rattle.base_core.specs.Tree.{files_of};
 ghost use Rattle.make_index.specs.Entries.{entry_of_package};
 ghost use Rattle.make_index.specs.EntryOrder.{entry_cmp, sorted_by, version_in};
-ghost use Rattle.make_index.specs.Files.{AreFiles, IsFile};
+ghost use Rattle.base_core.specs.Files.{IsFile};
+ghost use Rattle.make_index.specs.Files.{AreFiles, reads_of};
 ghost use Rattle.make_index.specs.Index.{description_in, index_of, value_of_index, found_entries, found_entry, made_index};
 ghost use Rattle.make_index.specs.Kept.{IsMade, IsMadeBy};
 ghost use Rattle.make_index.specs.Views.{entries_view, entry_view};
 ghost use Rattle.make_info.specs.Faults.{IsOverflow};
-ghost use Rattle.make_info.specs.Reads.{Reads, reads_of};
+ghost use Rattle.make_info.specs.Reads.{Reads};
 ghost use Rattle.make_info.specs.Values.{plains_of};
 ghost use Rattle.std.specs.Prelude.{◌≡◌, ◌≤◌, Ok, IfOk, IfErr, length, map, ◌<◌, ◌^◌, ℕ, List, All, true, None, ◌++◌, ◌∷◌, [], Option, IfSome, IsTrue};
 ghost use Rattle.version_core.specs.Order.{is_version};
@@ -26,12 +27,12 @@ ghost use Rattle.command_core.specs.Operands.{are_files};
 
 use crate::entry::Entry;
 use adb_schema::INDEX_WORD;
-use adb_view::{Val, values_are_normal};
+use adb_view::{Val, values_are_normal, values_have_their_shape};
 use adb_write::{
     Writer, a_value_written_depth_first_is_canonical, file_of, values_are_written_depth_first,
 };
 use base_core::{Name, Tree, read_all};
-use command_core::{Applet, Command, DESCRIPTION, Operands, Values};
+use command_core::{Applet, Command, DESCRIPTION, Operands, Values, file_operands_are_files};
 use make_info::MakeFault;
 use std::alloc::{AllocError, Global};
 use version_core::order_is_total;
@@ -52,6 +53,7 @@ pub fn make<T: Tree>(alloc: Global, command: &Command, tree: &mut T) -> Result<V
     ensures tree { OnlyReads MakeFault.Disk (T.history tree.old) (T.history tree.new)
         (T.counts tree.old) (T.counts tree.new) result }
 {
+    file_operands_are_files();
     let entries = read_entries(alloc, command.operands(), tree)?;
     index_file(alloc, description(command.values()), entries)
 }
@@ -212,4 +214,5 @@ pub fn an_entry_is_an_info()
         → is_version (version_in (entry_of_package file)) ≡ true }
 {
     values_are_normal();
+    values_have_their_shape();
 }

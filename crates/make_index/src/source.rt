@@ -45,7 +45,7 @@ pub(crate) enum EntrySource {
 }
 
 impl EntrySource {
-    ghost use Rattle.make_index.specs.Kept.{kept_value, copy_of_entry};
+    ghost use Rattle.make_index.specs.Kept.{kept_value};
 
     /// Writes the entry.
     pub(crate) fn write(&self, alloc: Global, writer: &mut Writer) -> Result<Val, AllocError>
@@ -59,6 +59,8 @@ impl EntrySource {
 }
 
 impl EntryPayload {
+    ghost use Rattle.make_index.specs.Kept.{copy_of_entry};
+
     /// Writes the entry.
     fn write(&self, alloc: Global, writer: &mut Writer) -> Result<Val, AllocError>
         ensures { IfOk result (λ word. WritesValue writer.old

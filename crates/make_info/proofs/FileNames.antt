@@ -15,7 +15,7 @@ use Rattle.version_core.specs.Grammar.{is_version_byte}
 use Rattle.version_core.specs.Order.{is_version}
 use Rattle.command_core.specs.declared.values.OptionValue.{OptionValue}
 use Rattle.make_info.specs.declared.field.Field.TheVariants as Fields
-use Rattle.make_info.specs.FieldTexts.{first_text_for, if_passes, package_name, default_output, package_file_name, package_file_name_of, package_version}
+use Rattle.make_info.specs.FieldTexts.{first_text_for, if_passes, package_name_in, default_output, package_file_name, package_file_name_of, package_version_in}
 
 -- what the layer of versions says of them
 abbrev pub HaveVersionBytes : Type 0
@@ -148,4 +148,4 @@ both_given spelled (Some name) (Some version) file n v h short =
 
 pub own_file_name : HaveVersionBytes → (values : List OptionValue) (file : List ℕ) → default_output values ≡ Some file → length file ≤ 1016 → is_name file ≡ true
 own_file_name spelled values file h short =
-    both_given spelled (package_name values) (package_version values) file (λ x e. good is_package_name (first_text_for Fields.Name values) x e) (λ x e. good is_version (first_text_for Fields.Version values) x e) h short
+    both_given spelled (package_name_in values) (package_version_in values) file (λ x e. good is_package_name (first_text_for Fields.Name values) x e) (λ x e. good is_version (first_text_for Fields.Version values) x e) h short

@@ -8,18 +8,19 @@ use Rattle.std.specs.Str.Parse.{ParsesUnsigned, digits_value}
 use Rattle.std.proofs.lemmas.Bool.{and_parts, lt-ltb, ltb-true}
 use Rattle.std.proofs.lemmas.Bool.Decides.{nat_tests}
 use Rattle.std.proofs.lemmas.Str.Parse.{IsNumeralModel, numerals_by_value, parse_digits}
-use Rattle.make_info.specs.Fields.{has_zero_in_front, is_decimal, decimal_number}
+use Rattle.make_info.specs.Fields.{decimal_number}
+use Rattle.command_core.specs.Operands.{is_decimal, has_zero_in_front}
 
 pub digits_model : IsNumeralModel (λ ds. list_all is_ascii_digit ds ≡ true) (digits_value 10)
 digits_model = numerals_by_value _ (search rules)
 
 pub decimal_digits : (ds : List ℕ) → is_decimal ds ≡ true → list_all is_ascii_digit ds ≡ true
 decimal_digits ds h =
-    (and_parts (not (has_zero_in_front ds)) (list_all is_ascii_digit ds) (and_parts (nat_lt 0 (length ds)) (not (has_zero_in_front ds) && list_all is_ascii_digit ds) h).1).1
+    (and_parts (nat_lt 0 (length ds) && not (has_zero_in_front ds)) (list_all is_ascii_digit ds) h).1
 
 pub decimal_some : (ds : List ℕ) → is_decimal ds ≡ true → 0 < length ds
 decimal_some ds h =
-    ltb-true 0 (length ds) (and_parts (nat_lt 0 (length ds)) (not (has_zero_in_front ds) && list_all is_ascii_digit ds) h).0
+    ltb-true 0 (length ds) (and_parts (nat_lt 0 (length ds)) (not (has_zero_in_front ds)) (and_parts (nat_lt 0 (length ds) && not (has_zero_in_front ds)) (list_all is_ascii_digit ds) h).0).0
 
 fits : (b c : Bool) (v : ℕ) → b ≡ true → c ≡ true → Some v ≡ cond (b && c) (Some v) None
 fits true true v hb hc = refl

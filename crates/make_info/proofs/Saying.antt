@@ -5,7 +5,8 @@ use Rattle.std.proofs.lemmas.List.{at_drop_more, at_drop_all}
 use Rattle.std.proofs.lemmas.Bool.Decides.{nat_tests}
 use Rattle.dep_core.specs.Dependency.{Dependency}
 use Rattle.make_info.specs.declared.field.Field.{Field}
-use Rattle.make_info.specs.Fields.{FieldValue, text, need, is_nonempty, need_in, needs_in, nonempty_part, text_values, and_needs}
+use Rattle.make_info.specs.Fields.{FieldValue, text, need, is_nonempty, need_in, needs_in, text_values, and_needs}
+use Rattle.make_info.specs.Reading.{nonempty_part}
 use Rattle.make_info.specs.Information.{InfoItem, info_item, with_values}
 
 -- ---- dependencies

@@ -14,4 +14,5 @@ column_value info size Null = null
 
 abbrev pub column_values : List InfoItem → ℕ → List Column → Plains
 column_values info size [] = none
-column_values info size (column ∷ columns) = more (column_value info size column) (column_values info size columns)
+column_values info size (column ∷ columns) =
+    more (column_value info size column) (column_values info size columns)

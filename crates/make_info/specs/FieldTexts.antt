@@ -1,11 +1,15 @@
--- The values of `-I` of a command: which field each is for, and the package's name and version among them.
+-- The values of `-I` of a command: which field each is for, and the package's name and version
+-- among them.
 use Rattle.command_core.specs.declared.values.TheConstants.{INFO, OUTPUT}
 use Rattle.std.specs.Prelude.{ℕ, ◌+◌, ◌==◌, nat_lt, Bool, false, List, [], ◌∷◌, ◌++◌, length, take, drop, position, codes, Option, Some, None, option_map, option_and_then, is_some, not, ◌&&◌, if◌then◌else◌}
-use Rattle.std.specs.List.{filter, find}
+use Rattle.std.specs.List.{filter}
 use Rattle.std.specs.Option.{option_or}
 use Rattle.std.specs.Str.{bytes_eq}
 use Rattle.version_core.specs.Order.{is_version}
 use Rattle.dep_core.specs.Dependency.{is_package_name}
+use Rattle.command_core.specs.Values.{first_value}
+use Rattle.make_info.specs.declared.information.TheConstants.{COLON}
+use Rattle.make_info.specs.declared.output.TheConstants.{HYPHEN, LONGEST_OUTPUT}
 use Rattle.command_core.specs.Files.{without_dot}
 use Rattle.command_core.specs.declared.values.OptionValue.{OptionValue}
 use Rattle.make_info.specs.declared.field.Field.{Field}
@@ -19,11 +23,14 @@ pub record FieldText : Type 0 where
 
 abbrev pub field_text_from : List ℕ → Option ℕ → Option FieldText
 field_text_from text None = None
-field_text_from text (Some colon) = option_map (λ f. record { field = f; value = drop (colon + 1) text }) (field_of (take colon text))
+field_text_from text (Some colon) =
+    option_map (λ f. record { field = f; value = drop (colon + 1) text })
+    (field_of (take colon text))
 
--- a text FIELD:VALUE, where FIELD ends before the first `:`; None where there is no `:`, or FIELD is no field
+-- a text FIELD:VALUE, where FIELD ends before the first `:`; None where there is no `:`, or FIELD
+-- is no field
 abbrev pub field_text_in : List ℕ → Option FieldText
-field_text_in text = field_text_from text (position (λ b. b == 58) text)
+field_text_in text = field_text_from text (position (λ b. b == COLON) text)
 
 abbrev pub is_same : Field → Field → Bool
 is_same f g = bytes_eq (field_word f) (field_word g)
@@ -60,36 +67,36 @@ abbrev pub if_passes : (List ℕ → Bool) → List ℕ → Option (List ℕ)
 if_passes is_good value = if is_good value then Some value else None
 
 -- the package's name and its version, where they are given and good
-abbrev pub package_name : List OptionValue → Option (List ℕ)
-package_name values = option_and_then (if_passes is_package_name) (first_text_for Fields.Name values)
+abbrev pub package_name_in : List OptionValue → Option (List ℕ)
+package_name_in values =
+    option_and_then (if_passes is_package_name) (first_text_for Fields.Name values)
 
-abbrev pub package_version : List OptionValue → Option (List ℕ)
-package_version values = option_and_then (if_passes is_version) (first_text_for Fields.Version values)
+abbrev pub package_version_in : List OptionValue → Option (List ℕ)
+package_version_in values =
+    option_and_then (if_passes is_version) (first_text_for Fields.Version values)
 
 -- NAME-VERSION.apk
 abbrev pub package_file_name : List ℕ → List ℕ → List ℕ
-package_file_name name version = name ++ (45 ∷ version ++ codes ".apk")
+package_file_name name version = name ++ (HYPHEN ∷ version ++ codes ".apk")
 
 abbrev pub package_file_name_of : Option (List ℕ) → Option (List ℕ) → Option (List ℕ)
-package_file_name_of name version = option_and_then (λ name. option_map (package_file_name name) version) name
+package_file_name_of name version =
+    option_and_then (λ name. option_map (package_file_name name) version) name
 
 -- the file that is made where no output is named
 abbrev pub default_output : List OptionValue → Option (List ℕ)
-default_output values = package_file_name_of (package_name values) (package_version values)
-
-abbrev pub is_output_option : OptionValue → Bool
-is_output_option v = v.letter == OUTPUT
+default_output values = package_file_name_of (package_name_in values) (package_version_in values)
 
 abbrev pub file_name_in : OptionValue → List ℕ
 file_name_in v = without_dot v.text
 
 -- the file that `-o` names
 abbrev pub named_output : List OptionValue → Option (List ℕ)
-named_output values = option_map file_name_in (find is_output_option values)
+named_output values = option_map file_name_in (first_value OUTPUT values)
 
 abbrev pub is_long_name : Option (List ℕ) → Bool
 is_long_name None = false
-is_long_name (Some file) = nat_lt 1016 (length file)
+is_long_name (Some file) = nat_lt LONGEST_OUTPUT (length file)
 
 -- whether the output is NAME-VERSION.apk, and that is too long
 abbrev pub is_too_long : List OptionValue → Bool

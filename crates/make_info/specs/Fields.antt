@@ -1,9 +1,9 @@
 -- The fields that `-I` of `mkpkg` may give, and what a value of each says (apk(8), `mkpkg`).
-use Rattle.std.specs.Prelude.{ℕ, ◌^◌, ◌==◌, nat_lt, Bool, true, false, ◌&&◌, not, if◌then◌else◌, List, [], ◌∷◌, length, map, codes, Option, Some, None, option_map, option_and_then, is_some, Result, Ok, Err}
-use Rattle.std.specs.Char.{is_ascii_digit}
-use Rattle.std.specs.List.{filter, find, list_all, slice_split}
+use Rattle.std.specs.Prelude.{ℕ, ◌^◌, ◌==◌, nat_lt, Bool, true, false, ◌&&◌, if◌then◌else◌, List, [], ◌∷◌, length, map, codes, Option, Some, None, option_map, option_and_then, is_some, Result, Ok, Err}
+use Rattle.std.specs.List.{filter, find, slice_split}
 use Rattle.std.specs.Str.{bytes_eq}
 use Rattle.std.specs.Str.Parse.{digits_value}
+use Rattle.command_core.specs.Operands.{is_decimal}
 use Rattle.hex.specs.Hex.{decode_of}
 use Rattle.hex.specs.declared.error.FromHexError.{FromHexError}
 use Rattle.version_core.specs.Order.{is_version}
@@ -37,8 +37,9 @@ field_word Fields.Tags = codes "tags"
 
 abbrev pub fields : List Field
 fields =
-    Fields.Name ∷ Fields.Version ∷ Fields.Description ∷ Fields.Arch ∷ Fields.License ∷ Fields.Origin ∷ Fields.Maintainer ∷ Fields.Url
-    ∷ Fields.RepoCommit ∷ Fields.BuildTime ∷ Fields.ProviderPriority ∷ Fields.ReplacesPriority ∷ Fields.Depends ∷ Fields.Provides
+    Fields.Name ∷ Fields.Version ∷ Fields.Description ∷ Fields.Arch ∷ Fields.License
+    ∷ Fields.Origin ∷ Fields.Maintainer ∷ Fields.Url ∷ Fields.RepoCommit ∷ Fields.BuildTime
+    ∷ Fields.ProviderPriority ∷ Fields.ReplacesPriority ∷ Fields.Depends ∷ Fields.Provides
     ∷ Fields.Replaces ∷ Fields.InstallIf ∷ Fields.Recommends ∷ Fields.Tags ∷ []
 
 -- the field that a word names, among some
@@ -79,13 +80,13 @@ is_list Kinds.Number = false
 is_list Kinds.Dependencies = true
 is_list Kinds.Texts = true
 
--- one thing that is said of a field; digits in pairs say their bytes
+-- a value of a field; pairs of digits stand for their bytes
 pub data FieldValue : Type 0 where
   text : List ℕ → FieldValue
   number : ℕ → FieldValue
   need : Dependency → FieldValue
 
--- ---- what a value says under a kind; None where it is outside of the kind's grammar
+-- ---- the values that a text is under a kind; None where it is outside of the kind's grammar
 
 abbrev pub text_if : Bool → List ℕ → Option (List FieldValue)
 text_if true value = Some (text value ∷ [])
@@ -95,24 +96,15 @@ abbrev pub value_of_digits : Result (List ℕ) FromHexError → Option (List Fie
 value_of_digits (Ok bytes) = Some (text bytes ∷ [])
 value_of_digits (Err e) = None
 
--- a zero that stands before other bytes
-abbrev pub has_zero_in_front : List ℕ → Bool
-has_zero_in_front [] = false
-has_zero_in_front (d ∷ ds) = (d == 48) && nat_lt 0 (length ds)
-
-abbrev pub is_decimal : List ℕ → Bool
-is_decimal value = nat_lt 0 (length value) && (not (has_zero_in_front value) && list_all is_ascii_digit value)
-
+-- the number that a text is; None where it is none, has a zero in front or more than 64 bits
 abbrev pub decimal_number : List ℕ → Option ℕ
 decimal_number value =
-    if is_decimal value && nat_lt (digits_value 10 value) (2 ^ 64) then Some (digits_value 10 value) else None
+    if is_decimal value && nat_lt (digits_value 10 value) (2 ^ 64) then
+    Some (digits_value 10 value) else None
 
 -- the parts between spaces; empty ones are passed over
 abbrev pub is_nonempty : List ℕ → Bool
 is_nonempty part = nat_lt 0 (length part)
-
-abbrev pub nonempty_part : List ℕ → List (List ℕ)
-nonempty_part part = if is_nonempty part then part ∷ [] else []
 
 abbrev pub nonempty_parts : List ℕ → List (List ℕ)
 nonempty_parts value = filter is_nonempty (slice_split (λ b. b == 32) value)
@@ -128,7 +120,8 @@ abbrev pub need_in : List ℕ → Option Dependency
 need_in part = option_and_then if_untagged (dependency_of part)
 
 abbrev pub and_needs : Option Dependency → Option (List FieldValue) → Option (List FieldValue)
-and_needs d others = option_and_then (λ d. option_map (λ others. need d ∷ others) others) d
+and_needs d others =
+    option_and_then (λ d. option_map (λ others. need d ∷ others) others) d
 
 abbrev pub needs_in : List (List ℕ) → Option (List FieldValue)
 needs_in [] = Some []

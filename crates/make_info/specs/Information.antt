@@ -1,4 +1,5 @@
--- The information of a package, as the values of `-I` say it (apk(8), `mkpkg`), and its value (apk-v3(5)).
+-- The information of a package, as the values of `-I` say it (apk(8), `mkpkg`), and its value
+-- (apk-v3(5)).
 use Rattle.std.specs.Prelude.{ℕ, ◌==◌, Bool, false, ◌&&◌, ◌||◌, not, if◌then◌else◌, List, [], ◌∷◌, ◌++◌, map, Option, Some, None, option_map, option_and_then, is_some, unwrap_or, Result, Ok, Err}
 use Rattle.std.specs.List.{find, flat_map, list_any}
 use Rattle.command_core.specs.Command.{CommandLine}
@@ -11,22 +12,24 @@ use Rattle.make_info.specs.Fields.{FieldValue, text, number, need, is_list, kind
 use Rattle.make_info.specs.FieldTexts.{FieldText, field_text_in, info_options, is_for, is_same, is_too_long}
 use Rattle.make_info.specs.Values.{number_value, size_value}
 
--- Something that is said of a field. An information is the list of all that is said, in the order given: of a list field one item for
--- each part of each value, of another field one item.
+-- A field with a value. An information is the list of all of them, in the order given: of a list
+-- field one item for each part of each text, of another field one item.
 pub record InfoItem : Type 0 where
   pub field : Field
-  pub said : FieldValue
+  pub value : FieldValue
 
 abbrev pub info_item : Field → FieldValue → InfoItem
-info_item f said = record { field = f; said = said }
+info_item f value = record { field = f; value = value }
 
--- what was said, with what is said of a field
-abbrev pub with_values : List InfoItem → Field → Option (List FieldValue) → Option (List InfoItem)
-with_values before f said = option_map (λ said. before ++ map (info_item f) said) said
+-- the items so far, with values of a field
+abbrev pub with_values :
+    List InfoItem → Field → Option (List FieldValue) → Option (List InfoItem)
+with_values before f values = option_map (λ values. before ++ map (info_item f) values) values
 
--- what a given value says; None where it is not allowed
+-- the items of a field with a text; None where the text is not allowed
 abbrev pub items_of_text : FieldText → Option (List InfoItem)
-items_of_text given = with_values [] given.field (values_by_kind (kind_of_field given.field) given.value)
+items_of_text given =
+    with_values [] given.field (values_by_kind (kind_of_field given.field) given.value)
 
 abbrev pub items_of_option : OptionValue → Option (List InfoItem)
 items_of_option v = option_and_then items_of_text (field_text_in v.text)
@@ -34,39 +37,47 @@ items_of_option v = option_and_then items_of_text (field_text_in v.text)
 -- whether a value is for a single field for which one is given before
 abbrev pub repeats_field : List OptionValue → Option FieldText → Bool
 repeats_field before None = false
-repeats_field before (Some given) = not (is_list (kind_of_field given.field)) && list_any (is_for given.field) before
+repeats_field before (Some given) =
+    not (is_list (kind_of_field given.field)) && list_any (is_for given.field) before
 
 abbrev pub is_second : List OptionValue → OptionValue → Bool
 is_second before v = repeats_field before (field_text_in v.text)
 
--- whether a value offends: it is not allowed, it is a second one, or it is the version with which the output's name is too long
+-- whether a value offends: it is not allowed, it is a second one, or it is the version with which
+-- the output's name is too long
 abbrev pub offends : Bool → List OptionValue → OptionValue → Bool
-offends too_long before v = not (is_some (items_of_option v)) || (is_second before v || (too_long && is_for Fields.Version v))
+offends too_long before v =
+    not (is_some (items_of_option v))
+    || (is_second before v || (too_long && is_for Fields.Version v))
 
 -- the place of the first value that offends behind those before it
 abbrev pub first_offence : Bool → List OptionValue → List OptionValue → Option ℕ
 first_offence too_long before [] = None
 first_offence too_long before (v ∷ vs) =
-    if offends too_long before v then Some v.place else first_offence too_long (before ++ v ∷ []) vs
+    if offends too_long before v then Some v.place
+    else first_offence too_long (before ++ v ∷ []) vs
 
 -- whether a package's name or version is lacking
 abbrev pub lacks_name_or_version : List OptionValue → Bool
-lacks_name_or_version told = not (list_any (is_for Fields.Name) told) || not (list_any (is_for Fields.Version) told)
+lacks_name_or_version values =
+    not (list_any (is_for Fields.Name) values) || not (list_any (is_for Fields.Version) values)
 
--- what values say that do not offend
+-- the items of values that do not offend
 abbrev pub all_items : List OptionValue → List InfoItem
-all_items told = flat_map (λ v. unwrap_or (items_of_option v) []) told
+all_items values = flat_map (λ v. unwrap_or (items_of_option v) []) values
 
-abbrev pub unless_offence : Option ℕ → Result (List InfoItem) ℕ → Result (List InfoItem) ℕ
+abbrev pub unless_offence :
+    Option ℕ → Result (List InfoItem) ℕ → Result (List InfoItem) ℕ
 unless_offence None otherwise = otherwise
 unless_offence (Some place) otherwise = Err place
 
--- the information that the values of a command say, or the first place that offends: that of a value, or the one behind
--- the last word where the name or the version is lacking
+-- the information that the values of a command say, or the first place that offends: that of a
+-- value, or the one behind the last argument where the name or the version is lacking
 unfoldable pub information_of : List OptionValue → ℕ → Result (List InfoItem) ℕ
 information_of values behind =
-    let told = info_options values in
-    unless_offence (first_offence (is_too_long values) [] told) (if lacks_name_or_version told then Err behind else Ok (all_items told))
+    let own = info_options values in
+    unless_offence (first_offence (is_too_long values) [] own)
+    (if lacks_name_or_version own then Err behind else Ok (all_items own))
 
 abbrev pub information : CommandLine → Result (List InfoItem) ℕ
 information command = information_of command.values command.behind
@@ -75,7 +86,9 @@ information command = information_of command.values command.behind
 
 -- name, version, match
 abbrev pub need_value : DepValue → Plain
-need_value v = obj_value (more (blob_value v.name) (more (blob_value v.version) (more (number_value v.matching) none)))
+need_value v =
+    obj_value
+    (more (blob_value v.name) (more (blob_value v.version) (more (number_value v.matching) none)))
 
 abbrev pub plain_value : FieldValue → Plain
 plain_value (text bytes) = blob_value bytes
@@ -87,31 +100,36 @@ is_item_for f item = is_same item.field f
 
 abbrev pub item_value : Option InfoItem → Plain
 item_value None = null
-item_value (Some item) = plain_value item.said
+item_value (Some item) = plain_value item.value
 
 -- the value of a field that is given once
 abbrev pub value_of_single : Field → List InfoItem → Plain
 value_of_single f info = item_value (find (is_item_for f) info)
 
--- the values of all that is said of a field
+-- the values of all items of a field
 abbrev pub plains_for : Field → List InfoItem → Plains
 plains_for f [] = none
 plains_for f (item ∷ items) =
-    if is_item_for f item then more (plain_value item.said) (plains_for f items) else plains_for f items
+    if is_item_for f item then more (plain_value item.value) (plains_for f items)
+    else plains_for f items
 
 -- the value of a field to which each value adds
 abbrev pub value_of_list : Field → List InfoItem → Plain
 value_of_list f info = arr_value (plains_for f info)
 
--- the fields of schema 3 in order, with the size of the files; hashes, the file's size, layer and the last field are Null
+-- the fields of schema 3 in order, with the size of the files; hashes, the file's size, layer and
+-- the last field are Null
 abbrev pub information_fields : List InfoItem → ℕ → Plains
 information_fields info size =
-    more (value_of_single Fields.Name info) (more (value_of_single Fields.Version info) (more null (more (value_of_single Fields.Description info)
-    (more (value_of_single Fields.Arch info) (more (value_of_single Fields.License info) (more (value_of_single Fields.Origin info)
-    (more (value_of_single Fields.Maintainer info) (more (value_of_single Fields.Url info) (more (value_of_single Fields.RepoCommit info)
-    (more (value_of_single Fields.BuildTime info) (more (size_value size) (more null (more (value_of_single Fields.ProviderPriority info)
-    (more (value_of_list Fields.Depends info) (more (value_of_list Fields.Provides info) (more (value_of_list Fields.Replaces info)
-    (more (value_of_list Fields.InstallIf info) (more (value_of_list Fields.Recommends info) (more null
+    more (value_of_single Fields.Name info) (more (value_of_single Fields.Version info) (more null
+    (more (value_of_single Fields.Description info) (more (value_of_single Fields.Arch info)
+    (more (value_of_single Fields.License info) (more (value_of_single Fields.Origin info)
+    (more (value_of_single Fields.Maintainer info) (more (value_of_single Fields.Url info)
+    (more (value_of_single Fields.RepoCommit info) (more (value_of_single Fields.BuildTime info)
+    (more (size_value size) (more null (more (value_of_single Fields.ProviderPriority info)
+    (more (value_of_list Fields.Depends info) (more (value_of_list Fields.Provides info)
+    (more (value_of_list Fields.Replaces info) (more (value_of_list Fields.InstallIf info)
+    (more (value_of_list Fields.Recommends info) (more null
     (more (value_of_list Fields.Tags info) (more null none)))))))))))))))))))))
 
 unfoldable pub information_value : List InfoItem → ℕ → Plain
@@ -122,6 +140,9 @@ number_in (text bytes) = None
 number_in (number n) = Some n
 number_in (need d) = None
 
--- the priority of what a package replaces, which is a field of the package and not of its information
+-- the priority of what a package replaces, which is a field of the package and not of its
+-- information
 abbrev pub replaces_priority : List InfoItem → Option ℕ
-replaces_priority info = option_and_then (λ (item : InfoItem). number_in item.said) (find (is_item_for Fields.ReplacesPriority) info)
+replaces_priority info =
+    option_and_then (λ (item : InfoItem). number_in item.value)
+    (find (is_item_for Fields.ReplacesPriority) info)

@@ -3,16 +3,13 @@ use Rattle.std.specs.Prelude.{ℕ, Bool, true, false, if◌then◌else◌, List,
 use Rattle.std.specs.Option.{option_or}
 use Rattle.command_core.specs.Command.{CommandLine}
 use Rattle.command_core.specs.declared.command.Applet.{Applet}
-use Rattle.command_core.specs.declared.command.Applet.TheVariants.{Adbdump, Mkndx, Mkpkg, Verify, Version}
+use Rattle.command_core.specs.declared.command.Applet.TheVariants.{Mkpkg}
 use Rattle.make_info.specs.FieldTexts.{named_output, default_output}
 use Rattle.make_info.specs.Information.{InfoItem, information}
 
 abbrev pub is_mkpkg : Applet → Bool
-is_mkpkg Verify = false
-is_mkpkg Version = false
-is_mkpkg Adbdump = false
 is_mkpkg Mkpkg = true
-is_mkpkg Mkndx = false
+is_mkpkg applet = false
 
 abbrev pub if_allowed : Result (List InfoItem) ℕ → Option (List ℕ) → Option (List ℕ)
 if_allowed (Ok info) name = name
@@ -20,8 +17,11 @@ if_allowed (Err place) name = None
 
 -- of `mkpkg`, where its information is allowed, the file that `-o` names, or else NAME-VERSION.apk
 abbrev pub package_output : CommandLine → Option (List ℕ)
-package_output command = if_allowed (information command) (option_or (named_output command.values) (default_output command.values))
+package_output command =
+    if_allowed (information command)
+    (option_or (named_output command.values) (default_output command.values))
 
 -- of `mkndx` the file that `-o` names
 abbrev pub output_name : CommandLine → Option (List ℕ)
-output_name command = if is_mkpkg command.applet then package_output command else named_output command.values
+output_name command =
+    if is_mkpkg command.applet then package_output command else named_output command.values

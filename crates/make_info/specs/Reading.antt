@@ -1,12 +1,16 @@
 -- How the values of `-I` are read one after the other.
-use Rattle.std.specs.Prelude.{ℕ, Bool, not, ◌&&◌, ◌||◌, if◌then◌else◌, List, Option, Some, None, is_some}
+use Rattle.std.specs.Prelude.{ℕ, Bool, not, ◌&&◌, ◌||◌, if◌then◌else◌, List, [], ◌∷◌, Option, Some, None, is_some}
 use Rattle.std.specs.List.{find}
 use Rattle.make_info.specs.declared.field.Field.TheVariants as Fields
-use Rattle.make_info.specs.Fields.{is_list, kind_of_field, values_by_kind}
+use Rattle.make_info.specs.Fields.{is_list, is_nonempty, kind_of_field, values_by_kind}
 use Rattle.make_info.specs.FieldTexts.{FieldText, field_text_in, is_same}
 use Rattle.make_info.specs.Information.{InfoItem, is_item_for, with_values}
 
--- whether something is said of a field
+-- a part between spaces, unless it is empty
+abbrev pub nonempty_part : List ℕ → List (List ℕ)
+nonempty_part part = if is_nonempty part then part ∷ [] else []
+
+-- whether there is an item for a field
 abbrev pub has_item_for : FieldText → List InfoItem → Bool
 has_item_for given before = is_some (find (is_item_for given.field) before)
 
@@ -17,10 +21,12 @@ items_with_text too_long before (Some given) =
     if not (is_list (kind_of_field given.field)) && has_item_for given before then None else
     with_values before given.field (values_by_kind (kind_of_field given.field) given.value)
 
--- what was said, with what the text of a value says; None where the value offends
+-- the items so far, with those of the text of a value; None where the value offends
 unfoldable pub items_with : Bool → List InfoItem → List ℕ → Option (List InfoItem)
 items_with too_long before text = items_with_text too_long before (field_text_in text)
 
--- whether nothing is said of the name or of the version
+-- whether there is no item for the name or for the version
 abbrev pub has_no_name_or_version : List InfoItem → Bool
-has_no_name_or_version said = not (is_some (find (is_item_for Fields.Name) said)) || not (is_some (find (is_item_for Fields.Version) said))
+has_no_name_or_version items =
+    not (is_some (find (is_item_for Fields.Name) items))
+    || not (is_some (find (is_item_for Fields.Version) items))

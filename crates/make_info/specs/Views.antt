@@ -18,4 +18,4 @@ value_view (Number n) = number n
 value_view (Need dep) = need (dependency dep)
 
 abbrev pub item_view : Item → InfoItem
-item_view e = record { field = e.field; said = value_view e.value }
+item_view e = record { field = e.field; value = value_view e.value }

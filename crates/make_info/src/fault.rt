@@ -10,8 +10,8 @@ pub enum MakeFault {
     FileMissing { place: u32 },
     /// The file under the name that this argument gives is no sound package.
     FileBad { place: u32, cause: Cause },
-    /// This argument says something of the package that is not allowed; or, behind the last argument,
-    /// something is lacking.
+    /// This argument says something of the package that is not allowed; or, behind the last
+    /// argument, something is lacking.
     InfoBad { place: u32 },
     /// The payload to be made passes a limit of the writer. The counts are those just behind the
     /// value that does.
@@ -24,7 +24,7 @@ pub enum MakeFault {
 
 impl From<AllocError> for MakeFault {
     ghost use Rattle.std.specs.Prelude.{◌≡◌};
-    ghost use Rattle.make_info.specs.declared.fault.MakeFault.TheVariants.{Memory, Disk as DiskFault};
+    ghost use Rattle.make_info.specs.declared.fault.MakeFault.TheVariants.{Memory};
 
     ghost from_gives = { λ _ fault. fault ≡ Memory };
 
@@ -35,6 +35,7 @@ impl From<AllocError> for MakeFault {
 
 impl From<Disk> for MakeFault {
     ghost use Rattle.std.specs.Prelude.{◌≡◌};
+    ghost use Rattle.make_info.specs.declared.fault.MakeFault.TheVariants.{Disk as DiskFault};
 
     ghost from_gives = { λ _ fault. fault ≡ DiskFault };
 
@@ -44,7 +45,7 @@ impl From<Disk> for MakeFault {
 }
 
 impl From<TreeFault> for MakeFault {
-    ghost use Rattle.make_info.specs.Faults.{IsMakeFaultOf, IsMakeFaultBy};
+    ghost use Rattle.make_info.specs.Faults.{IsMakeFaultOf};
 
     ghost from_gives = { λ tree fault. IsMakeFaultOf tree fault };
 
@@ -57,6 +58,8 @@ impl From<TreeFault> for MakeFault {
 }
 
 impl From<WriteFault> for MakeFault {
+    ghost use Rattle.make_info.specs.Faults.{IsMakeFaultBy};
+
     ghost from_gives = { λ write fault. IsMakeFaultBy write fault };
 
     fn from(fault: WriteFault) -> MakeFault {

@@ -1,5 +1,6 @@
 //! The fields of `-I` of `mkpkg` (apk(8)), and what a value of each has to be.
-ghost use Rattle.make_info.specs.Fields.{field_of, field_word, is_list, kind_of_field, field_among, has_zero_in_front, is_decimal, decimal_number};
+ghost use Rattle.make_info.specs.Fields.{field_of, field_word, is_list, kind_of_field, field_among, decimal_number};
+ghost use Rattle.command_core.specs.Operands.{is_decimal, has_zero_in_front};
 ghost use Rattle.std.specs.Char.{is_ascii_digit};
 ghost use Rattle.std.specs.List.{list_all};
 ghost use Rattle.std.specs.Prelude.{◌≡◌};

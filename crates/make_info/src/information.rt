@@ -3,9 +3,9 @@ ghost use Rattle.dep_core.specs.Meets.{dependency};
 ghost use Rattle.hex.specs.Hex.{decode_of};
 ghost use Rattle.make_info.specs.Faults.{IsInfoFault};
 ghost use Rattle.make_info.specs.FieldTexts.{field_text_in};
-ghost use Rattle.make_info.specs.Fields.{value_of_digits, kind_of_field, need_in, needs_in, number, decimal_number, nonempty_part, nonempty_parts, values_by_kind, text_if, text_values};
+ghost use Rattle.make_info.specs.Fields.{value_of_digits, kind_of_field, need_in, needs_in, number, decimal_number, nonempty_parts, values_by_kind, text_if, text_values};
+ghost use Rattle.make_info.specs.Reading.{nonempty_part, has_no_name_or_version, items_with};
 ghost use Rattle.make_info.specs.Information.{information, information_of, is_item_for, info_item, with_values};
-ghost use Rattle.make_info.specs.Reading.{has_no_name_or_version, items_with};
 ghost use Rattle.make_info.specs.Views.{field_text_view, item_view, value_view};
 ghost use Rattle.std.specs.List.{find};
 ghost use Rattle.std.specs.Option.{option_map};
@@ -14,12 +14,15 @@ ghost use Rattle.std.specs.Prelude.{◌≡◌, ◌==◌, ◌<◌, length, positi
 use crate::fault::MakeFault;
 use crate::field::{Field, Kind, read_number};
 use crate::output::is_too_long;
-use command_core::{Command, Values};
+use command_core::{Command, INFO, Values};
 use dep_core::{Dep, is_package_name, read_dep};
 use hex::FromHexError;
 use std::alloc::{AllocError, Global};
 use std::marker::Model;
 use version_core::Version;
+
+/// What stands between FIELD and VALUE.
+const COLON: u8 = b':';
 
 /// A field, and the value that is given for it.
 #[derive(Clone, Copy)]
@@ -29,7 +32,8 @@ pub(crate) struct FieldText<'a> {
 }
 
 impl<'a> FieldText<'a> {
-    /// Reads FIELD:VALUE, where FIELD ends before the first `:`. None: there is no `:`, or FIELD is no field.
+    /// Reads FIELD:VALUE, where FIELD ends before the first `:`. None: there is no `:`, or FIELD is
+    /// no field.
     pub(crate) fn of(text: &'a [u8]) -> Option<FieldText<'a>>
         ensures { option_map field_text_view result ≡ field_text_in text.entry.now }
     {
@@ -42,13 +46,14 @@ impl<'a> FieldText<'a> {
 
 // Where the first `:` stands.
 fn colon_in(text: &[u8]) -> Option<usize>
-    ensures at { result ≡ position (λ b. b == 58) text.now }
+    ensures at { result ≡ position (λ b. b == COLON) text.now }
     ensures within { IfSome result (λ at. at < length text.now) }
 {
-    text.iter().position(|byte| *byte == b':')
+    text.iter().position(|byte| *byte == COLON)
 }
 
-/// What the values of `-I` of `mkpkg` say of a package (apk(8)). It borrows their texts from the command.
+/// What the values of `-I` of `mkpkg` say of a package (apk(8)). It borrows their texts from the
+/// command.
 #[derive(Drop)]
 pub struct Information<'a> {
     pub(crate) entries: Items<'a>,
@@ -63,9 +68,10 @@ impl<'a> Model for Information<'a> {
     ghost view = { λ info. info.entries };
 }
 
-/// Reads the information of the package that a command is to make. `InfoBad` is at the first place that offends: that of
-/// a value that is not allowed, of a second value of a single field, or of the version where the output has no name of its
-/// own and NAME-VERSION.apk has more than 1,016 bytes; and behind the last word where the name or the version is lacking.
+/// Reads the information of the package that a command is to make. `InfoBad` is at the first place
+/// that offends: that of a value that is not allowed, of a second value of a single field, or of
+/// the version where the output has no name of its own and NAME-VERSION.apk has more than 1,016
+/// bytes; and behind the last word where the name or the version is lacking.
 pub fn read_information<'a>(
     alloc: Global,
     command: &'a Command,
@@ -83,13 +89,14 @@ fn read_values<'a>(
     behind: u32,
 ) -> Result<Information<'a>, MakeFault>
     ensures ok { IfOk result (λ info. information_of values.entry.now behind ≡ Ok info) }
-    ensures err { IfErr result (λ fault. IsInfoFault fault (information_of values.entry.now behind)) }
+    ensures err { IfErr result (λ fault. IsInfoFault fault
+        (information_of values.entry.now behind)) }
 {
     let too_long = is_too_long(values);
     let mut entries = Items::new(alloc);
     for i in 0..values.len() {
         let value = values.get(i);
-        if value.letter != b'I' {
+        if value.letter != INFO {
             continue;
         }
         if !add_value(&mut entries, value.text.as_bytes(), too_long)? {
@@ -109,7 +116,8 @@ fn add_value<'a>(
     text: &'a [u8],
     too_long: bool,
 ) -> Result<bool, AllocError>
-    ensures { IfOk result (λ good. (if good then Some entries.new else None) ≡ items_with too_long entries.old text.entry.now) }
+    ensures { IfOk result (λ good. (if good then Some entries.new else None)
+        ≡ items_with too_long entries.old text.entry.now) }
 {
     let Some(given) = FieldText::of(text) else {
         return Ok(false);
@@ -155,6 +163,7 @@ pub(crate) struct Items<'a> {
 
 impl<'a> Model for Items<'a> {
     ghost use Rattle.std.specs.Prelude.{List, map};
+    ghost use Rattle.make_info.specs.Information.{InfoItem};
     ghost use Rattle.make_info.specs.Views.{item_view};
 
     ghost Value = { List InfoItem };
@@ -175,13 +184,15 @@ impl<'a> Items<'a> {
 
     /// What is said first of a field.
     pub(crate) fn find(&self, field: Field) -> Option<&Item<'a>>
-        ensures { option_map (λ entry. item_view entry.now) result ≡ find (is_item_for field) self.now }
+        ensures { option_map (λ entry. item_view entry.now) result ≡ find
+            (is_item_for field) self.now }
     {
         self.entries.iter().find(|entry| entry.field == field)
     }
 
     fn push(&mut self, field: Field, value: Value<'a>) -> Result<(), AllocError>
-        ensures { OnOk result (self.new ≡ self.old ++ info_item field (value_view value.entry) ∷ []) }
+        ensures { OnOk result (self.new ≡ self.old ++ info_item field
+            (value_view value.entry) ∷ []) }
     {
         self.entries.push(Item { field, value })?;
         Ok(())
@@ -189,7 +200,9 @@ impl<'a> Items<'a> {
 
     /// Adds what a value says. False: it is outside of the grammar of its field.
     pub(crate) fn add(&mut self, given: FieldText<'a>) -> Result<bool, AllocError>
-        ensures { IfOk result (λ good. (if good then Some self.new else None) ≡ with_values self.old given.entry.field (values_by_kind (kind_of_field given.entry.field) given.entry.value.now)) }
+        ensures { IfOk result (λ good. (if good then Some self.new else None)
+            ≡ with_values self.old given.entry.field
+            (values_by_kind (kind_of_field given.entry.field) given.entry.value.now)) }
     {
         let FieldText { field, value } = given;
         match field.kind() {
@@ -205,7 +218,8 @@ impl<'a> Items<'a> {
 
     // Adds a text that is good or not.
     fn add_text(&mut self, field: Field, text: &'a [u8], is_good: bool) -> Result<bool, AllocError>
-        ensures { IfOk result (λ good. (if good then Some self.new else None) ≡ with_values self.old field (text_if is_good text.entry.now)) }
+        ensures { IfOk result (λ good. (if good then Some self.new else None)
+            ≡ with_values self.old field (text_if is_good text.entry.now)) }
     {
         if !is_good {
             return Ok(false);
@@ -216,7 +230,8 @@ impl<'a> Items<'a> {
 
     // Adds the bytes of a text of digits.
     fn add_bytes(&mut self, field: Field, digits: &'a [u8]) -> Result<bool, AllocError>
-        ensures { IfOk result (λ good. (if good then Some self.new else None) ≡ with_values self.old field (value_of_digits (decode_of digits.entry.now))) }
+        ensures { IfOk result (λ good. (if good then Some self.new else None)
+            ≡ with_values self.old field (value_of_digits (decode_of digits.entry.now))) }
     {
         match hex::decode(self.alloc, digits) {
             Ok(bytes) => {
@@ -230,7 +245,9 @@ impl<'a> Items<'a> {
 
     // Adds a number.
     fn add_number(&mut self, field: Field, digits: &[u8]) -> Result<bool, AllocError>
-        ensures { IfOk result (λ good. (if good then Some self.new else None) ≡ with_values self.old field (option_map (λ n. number n ∷ []) (decimal_number digits.now))) }
+        ensures { IfOk result (λ good. (if good then Some self.new else None)
+            ≡ with_values self.old field (option_map (λ n. number n ∷ [])
+            (decimal_number digits.now))) }
     {
         let Some(n) = read_number(digits) else {
             return Ok(false);
@@ -241,7 +258,8 @@ impl<'a> Items<'a> {
 
     // Adds dependencies.
     fn add_needs(&mut self, field: Field, texts: &'a [u8]) -> Result<bool, AllocError>
-        ensures { IfOk result (λ good. (if good then Some self.new else None) ≡ with_values self.old field (needs_in (nonempty_parts texts.entry.now))) }
+        ensures { IfOk result (λ good. (if good then Some self.new else None)
+            ≡ with_values self.old field (needs_in (nonempty_parts texts.entry.now))) }
     {
         for part in texts.split(|byte| *byte == b' ') {
             if !self.add_need(field, part)? {
@@ -253,7 +271,8 @@ impl<'a> Items<'a> {
 
     // Adds a dependency, or nothing for an empty part.
     fn add_need(&mut self, field: Field, part: &'a [u8]) -> Result<bool, AllocError>
-        ensures { IfOk result (λ good. (if good then Some self.new else None) ≡ with_values self.old field (needs_in (nonempty_part part.entry.now))) }
+        ensures { IfOk result (λ good. (if good then Some self.new else None)
+            ≡ with_values self.old field (needs_in (nonempty_part part.entry.now))) }
     {
         if part.is_empty() {
             return Ok(true);
@@ -269,7 +288,8 @@ impl<'a> Items<'a> {
 
     // Adds texts.
     fn add_texts(&mut self, field: Field, texts: &'a [u8]) -> Result<bool, AllocError>
-        ensures { IfOk result (λ good. (if good then Some self.new else None) ≡ with_values self.old field (Some (text_values (nonempty_parts texts.entry.now)))) }
+        ensures { IfOk result (λ good. (if good then Some self.new else None)
+            ≡ with_values self.old field (Some (text_values (nonempty_parts texts.entry.now)))) }
     {
         for part in texts.split(|byte| *byte == b' ') {
             if !part.is_empty() {

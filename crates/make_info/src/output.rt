@@ -1,9 +1,10 @@
 //! Under which name a container is written (apk(8)): the file that `-o` names, or NAME-VERSION.apk.
-ghost use Rattle.make_info.specs.FieldTexts.{first_text_for, is_too_long, package_name, named_output, default_output, text_for, package_version};
+ghost use Rattle.make_info.specs.FieldTexts.{first_text_for, is_too_long, package_name_in, named_output, default_output, text_for, package_version_in};
 ghost use Rattle.make_info.specs.Information.{information};
 ghost use Rattle.make_info.specs.Output.{is_mkpkg, output_name, package_output};
 ghost use Rattle.std.specs.Option.{option_map};
-ghost use Rattle.std.specs.Prelude.{◌≡◌, ◌||◌, IfOk, is_ok, ◌≤◌, List, ℕ, Some, IsSome, IsTrue, length};
+ghost use Rattle.make_info.specs.declared.output.TheConstants.{LONGEST_OUTPUT};
+ghost use Rattle.std.specs.Prelude.{is_some, ◌≡◌, ◌||◌, IfOk, is_ok, ◌≤◌, List, ℕ, Some, IsSome, IsTrue, length};
 ghost use Rattle.command_core.specs.Command.{CommandLine, IsCommand};
 ghost use Rattle.command_core.specs.declared.command.Applet.TheVariants.{Mkndx, Mkpkg};
 
@@ -11,36 +12,33 @@ use crate::fault::MakeFault;
 use crate::field::Field;
 use crate::information::{FieldText, read_information};
 use base_core::Name;
-use command_core::{Applet, Command, OptionValue, Values};
+use command_core::{
+    Applet, Command, INFO, OUTPUT, OptionValue, Values, a_command_has_what_its_applet_may_have,
+    values_are_of_their_kind,
+};
 use dep_core::is_package_name;
 use std::alloc::{AllocError, Global};
 use version_core::{Version, versions_have_version_bytes};
 
+/// What stands between NAME and VERSION.
+const HYPHEN: u8 = b'-';
+
 /// How long a file's name may be, so that a scratch name beside it is a name too.
 const LONGEST_OUTPUT: usize = 1016;
 
-/// The file that `-o` names.
-pub(crate) fn named_output(values: &Values) -> Option<&[u8]>
-    ensures { option_map (λ file. file.now) result ≡ named_output values.entry.now }
-{
-    match values.first(b'o') {
-        Some(value) => Some(value.file()),
-        None => None,
-    }
-}
-
 /// NAME-VERSION.apk, where a good name and a good version are given.
 pub(crate) fn default_output(alloc: Global, values: &Values) -> Result<Option<Vec<u8>>, AllocError>
-    ensures { IfOk result (λ file. option_map (λ file. file.items) file ≡ default_output values.now) }
+    ensures { IfOk result (λ file. option_map (λ file. file.items) file
+        ≡ default_output values.now) }
 {
-    let Some(name) = package_name(values) else {
+    let Some(name) = package_name_in(values) else {
         return Ok(None);
     };
-    let Some(version) = package_version(values) else {
+    let Some(version) = package_version_in(values) else {
         return Ok(None);
     };
     let mut file = Vec::from_slice(alloc, name)?;
-    file.push(b'-')?;
+    file.push(HYPHEN)?;
     file.extend_from_slice(version)?;
     file.extend_from_slice(b".apk")?;
     Ok(Some(file))
@@ -50,21 +48,28 @@ pub(crate) fn default_output(alloc: Global, values: &Values) -> Result<Option<Ve
 pub(crate) fn is_too_long(values: &Values) -> bool
     ensures { result ≡ is_too_long values.now }
 {
-    if named_output(values).is_some() {
+    if is_output_named(values) {
         return false;
     }
-    let Some(name) = package_name(values) else {
+    let Some(name) = package_name_in(values) else {
         return false;
     };
-    let Some(version) = package_version(values) else {
+    let Some(version) = package_version_in(values) else {
         return false;
     };
     name.len() + version.len() + b"-.apk".len() > LONGEST_OUTPUT
 }
 
+// Whether an output is named.
+fn is_output_named(values: &Values) -> bool
+    ensures { result ≡ is_some (named_output values.now) }
+{
+    values.first(OUTPUT).is_some()
+}
+
 // The package's name, where a good one is given.
-fn package_name(values: &Values) -> Option<&[u8]>
-    ensures { option_map (λ name. name.now) result ≡ package_name values.entry.now }
+fn package_name_in(values: &Values) -> Option<&[u8]>
+    ensures { option_map (λ name. name.now) result ≡ package_name_in values.entry.now }
 {
     let name = first_text_for(values, Field::Name)?;
     if !is_package_name(name) {
@@ -74,8 +79,8 @@ fn package_name(values: &Values) -> Option<&[u8]>
 }
 
 // The package's version, where a good one is given.
-fn package_version(values: &Values) -> Option<&[u8]>
-    ensures { option_map (λ version. version.now) result ≡ package_version values.entry.now }
+fn package_version_in(values: &Values) -> Option<&[u8]>
+    ensures { option_map (λ version. version.now) result ≡ package_version_in values.entry.now }
 {
     let version = first_text_for(values, Field::Version)?;
     if Version::read(version).is_none() {
@@ -101,7 +106,7 @@ fn first_text_for(values: &Values, field: Field) -> Option<&[u8]>
 fn text_for(value: &OptionValue, field: Field) -> Option<&[u8]>
     ensures { option_map (λ text. text.now) result ≡ text_for field value.entry.now }
 {
-    if value.letter != b'I' {
+    if value.letter != INFO {
         return None;
     }
     let given = FieldText::of(value.text.as_bytes())?;
@@ -111,16 +116,28 @@ fn text_for(value: &OptionValue, field: Field) -> Option<&[u8]>
     Some(given.value)
 }
 
-/// The name under which the container of `mkpkg` or `mkndx` is written (apk(8)): the file that `-o` names, or of `mkpkg`
-/// else NAME-VERSION.apk. None comes exactly where the package information of `mkpkg` is not allowed.
+/// The name under which the container of `mkpkg` or `mkndx` is written (apk(8)): the file that `-o`
+/// names, or of `mkpkg` else NAME-VERSION.apk. None comes exactly where the package information of
+/// `mkpkg` is not allowed.
 pub fn output_name(alloc: Global, command: &Command) -> Result<Option<Name>, AllocError>
     ensures { IfOk result (λ name. name ≡ output_name command.now) }
 {
     if is_mkpkg(command.applet()) {
         return package_output(alloc, command);
     }
-    match named_output(command.values()) {
-        Some(file) => Name::read(alloc, file),
+    named_output(alloc, command)
+}
+
+// The name of the file that `-o` names.
+fn named_output(alloc: Global, command: &Command) -> Result<Option<Name>, AllocError>
+    ensures { IfOk result (λ name. name ≡ named_output command.now.values) }
+{
+    values_are_of_their_kind();
+    match command.values().first_file(OUTPUT) {
+        Some(file) => {
+            let name = file.copy(alloc)?;
+            Ok(Some(name))
+        }
         None => Ok(None),
     }
 }
@@ -138,8 +155,8 @@ fn package_output(alloc: Global, command: &Command) -> Result<Option<Name>, Allo
     if !is_allowed(alloc, command)? {
         return Ok(None);
     }
-    if let Some(file) = named_output(command.values()) {
-        return Name::read(alloc, file);
+    if let Some(name) = named_output(alloc, command)? {
+        return Ok(Some(name));
     }
     versions_have_version_bytes();
     match default_output(alloc, command.values())? {
@@ -161,15 +178,22 @@ fn is_allowed(alloc: Global, command: &Command) -> Result<bool, AllocError>
 
 /// An output's name has room for eight bytes more in a name.
 pub fn an_output_is_short()
-    ensures { (command : CommandLine) (name : List ℕ) → IsCommand command → output_name command ≡ Some name → length name ≤ 1016 }
-{}
+    ensures { (command : CommandLine) (name : List ℕ) → IsCommand command
+        → output_name command ≡ Some name → length name ≤ LONGEST_OUTPUT }
+{
+    values_are_of_their_kind();
+}
 
 /// Where the information of a package is allowed, there is an output.
 pub fn a_package_with_information_has_an_output()
-    ensures { (command : CommandLine) → command.applet ≡ Mkpkg → IsTrue (is_ok (information command)) → IsSome (output_name command) }
+    ensures { (command : CommandLine) → command.applet ≡ Mkpkg
+        → IsTrue (is_ok (information command)) → IsSome (output_name command) }
 {}
 
 /// The output of an index is given.
 pub fn an_index_has_an_output()
-    ensures { (command : CommandLine) → IsCommand command → command.applet ≡ Mkndx → IsSome (output_name command) }
-{}
+    ensures { (command : CommandLine) → IsCommand command → command.applet ≡ Mkndx
+        → IsSome (output_name command) }
+{
+    a_command_has_what_its_applet_may_have();
+}

@@ -59,7 +59,8 @@ impl Information<'_> {
     /// Writes the information, with the size of the package's files: 22 fields in order.
     #[tactic(auto, unfolding(crate::specs::Information::information_value))]
     pub fn write(&self, writer: &mut Writer, installed_size: u64) -> Result<Val, AllocError>
-        ensures { IfOk result (λ word. WritesValue writer.old (information_value self.now installed_size) word writer.new) }
+        ensures { IfOk result (λ word. WritesValue writer.old
+            (information_value self.now installed_size) word writer.new) }
     {
         let words = self
             .entries
@@ -83,7 +84,8 @@ impl Items<'_> {
         columns: &[Column],
         installed_size: u64,
     ) -> Result<Vec<Val>, AllocError>
-        ensures { IfOk result (λ words. WritesValues writer.old (column_values self.now installed_size columns.now) words.items writer.new) }
+        ensures { IfOk result (λ words. WritesValues writer.old
+            (column_values self.now installed_size columns.now) words.items writer.new) }
     {
         values_are_written_depth_first();
         let mut words = Vec::with_capacity(self.alloc, columns.len())?;
@@ -100,7 +102,8 @@ impl Items<'_> {
         column: Column,
         installed_size: u64,
     ) -> Result<Val, AllocError>
-        ensures { IfOk result (λ word. WritesValue writer.old (column_value self.now installed_size column) word writer.new) }
+        ensures { IfOk result (λ word. WritesValue writer.old
+            (column_value self.now installed_size column) word writer.new) }
     {
         match column {
             Column::Single(field) => self.write_single(writer, field),
@@ -112,7 +115,8 @@ impl Items<'_> {
 
     // Writes what is said of a field that is given once.
     fn write_single(&self, writer: &mut Writer, field: Field) -> Result<Val, AllocError>
-        ensures { IfOk result (λ word. WritesValue writer.old (value_of_single field self.now) word writer.new) }
+        ensures { IfOk result (λ word. WritesValue writer.old
+            (value_of_single field self.now) word writer.new) }
     {
         match self.find(field) {
             Some(entry) => entry.value.write(writer),
@@ -122,7 +126,8 @@ impl Items<'_> {
 
     // Writes all that is said of a field.
     fn write_list(&self, writer: &mut Writer, field: Field) -> Result<Val, AllocError>
-        ensures { IfOk result (λ word. WritesValue writer.old (value_of_list field self.now) word writer.new) }
+        ensures { IfOk result (λ word. WritesValue writer.old
+            (value_of_list field self.now) word writer.new) }
     {
         values_are_written_depth_first();
         let mut words = Vec::new(self.alloc);
@@ -148,7 +153,8 @@ impl Value<'_> {
     }
 
     fn write(&self, writer: &mut Writer) -> Result<Val, AllocError>
-        ensures { IfOk result (λ word. WritesValue writer.old (plain_value (value_view self.now)) word writer.new) }
+        ensures { IfOk result (λ word. WritesValue writer.old
+            (plain_value (value_view self.now)) word writer.new) }
     {
         match self {
             Value::Text(text) => writer.blob(text),
@@ -179,7 +185,8 @@ fn write_size(writer: &mut Writer, size: u64) -> Result<Val, AllocError>
 
 // Writes a dependency: its name, version and match number.
 fn write_need(writer: &mut Writer, dep: &Dep<'_>) -> Result<Val, AllocError>
-    ensures { IfOk result (λ word. WritesValue writer.old (need_value (dep_value (dependency dep.now))) word writer.new) }
+    ensures { IfOk result (λ word. WritesValue writer.old
+        (need_value (dep_value (dependency dep.now))) word writer.new) }
 {
     values_are_written_depth_first();
     let name = writer.blob(dep.name)?;
@@ -189,7 +196,8 @@ fn write_need(writer: &mut Writer, dep: &Dep<'_>) -> Result<Val, AllocError>
 }
 
 fn write_version(writer: &mut Writer, dep: &Dep<'_>) -> Result<Val, AllocError>
-    ensures { IfOk result (λ word. WritesValue writer.old (blob_value (dep_value (dependency dep.now)).version) word writer.new) }
+    ensures { IfOk result (λ word. WritesValue writer.old
+        (blob_value (dep_value (dependency dep.now)).version) word writer.new) }
 {
     match &dep.version {
         Some(version) => writer.blob(version.text()),
@@ -198,7 +206,8 @@ fn write_version(writer: &mut Writer, dep: &Dep<'_>) -> Result<Val, AllocError>
 }
 
 fn write_matching(writer: &mut Writer, dep: &Dep<'_>) -> Result<Val, AllocError>
-    ensures { IfOk result (λ word. WritesValue writer.old (number_value (dep_value (dependency dep.now)).matching) word writer.new) }
+    ensures { IfOk result (λ word. WritesValue writer.old
+        (number_value (dep_value (dependency dep.now)).matching) word writer.new) }
 {
     match matching_of(dep) {
         Some(matching) => writer.int(matching),
@@ -206,7 +215,8 @@ fn write_matching(writer: &mut Writer, dep: &Dep<'_>) -> Result<Val, AllocError>
     }
 }
 
-// The number of a dependency's operator, with 16 for a conflict. None: any version is taken, or the one that is named.
+// The number of a dependency's operator, with 16 for a conflict. None: any version is taken, or the
+// one that is named.
 fn matching_of(dep: &Dep<'_>) -> Option<u64>
     ensures { result ≡ (dep_value (dependency dep.now)).matching }
 {

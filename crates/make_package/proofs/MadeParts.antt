@@ -1,6 +1,6 @@
 -- The parts of a package that a command asks for.
 use Rattle.command_core.specs.declared.values.TheConstants.{FILES, SCRIPT, TRIGGER}
-use Rattle.std.proofs.Common.{◌≡◌, ℕ, zero, suc, ◌+◌, ◌≤◌, Bool, true, false, cond, eqb, ◌&&◌, List, [], ◌∷◌, ◌++◌, length, drop, map, codes, sum_by, Option, Some, None, Result, Ok, Err, Vec, Bor, refl, sym, ap, ◌∙◌, subst, arith, append_assoc, append-nil, not}
+use Rattle.std.proofs.Common.{◌≡◌, ℕ, zero, suc, ◌+◌, ◌≤◌, Bool, true, false, cond, eqb, ◌&&◌, List, [], ◌∷◌, ◌++◌, length, drop, map, codes, sum_by, Option, Some, None, Result, Ok, Err, Vec, Bor, refl, sym, ap, ◌∙◌, subst, arith, append_assoc, append-nil}
 use Rattle.std.specs.Int.{w32, to_le_bytes}
 use Rattle.std.specs.List.{flat_map, list_all, list_any, slice_get}
 use Rattle.std.specs.Option.{option_map}
@@ -19,11 +19,10 @@ use Rattle.adb_schema.specs.declared.read.TheConstants.{PACKAGE_WORD}
 use Rattle.adb_write.specs.Canonical.{PayloadCounts, canonical, or_overflow, overflow_of, written_of}
 use Rattle.adb_write.specs.File.{adb_piece, file_of}
 use Rattle.pkg_core.specs.Contents.{Contents}
-use Rattle.command_core.specs.Applets.{may_have, needed_option, operand_rule, value_rules}
-use Rattle.command_core.specs.Operands.{are_operands}
+use Rattle.command_core.specs.Applets.{value_rules}
 use Rattle.command_core.specs.declared.values.ValueRule.{ValueRule}
 use Rattle.command_core.specs.Command.{CommandLine, IsCommand}
-use Rattle.command_core.specs.Values.{first_value, are_apart, lacks_value, is_value_by, are_values, script_file, script_type, script_types}
+use Rattle.command_core.specs.Values.{first_value, are_apart, rule_for, is_value_by, are_values, script_file, script_type, script_types}
 use Rattle.command_core.specs.Files.{is_file, without_dot}
 use Rattle.command_core.specs.declared.command.Applet.{Applet}
 use Rattle.command_core.specs.declared.command.Applet.TheVariants.{Mkpkg}
@@ -38,7 +37,7 @@ use Rattle.make_package.specs.Making.{container_unless, package_container}
 use Rattle.make_package.specs.Package.{Script, Source, SourceFolder, contents_of_folders, value_of_file, value_of_folder, folder_with, installed_size, kind_of_file, value_of_kind, value_of_package, package_with, size_of_folder, size_of_kind}
 use Rattle.make_package.specs.Packed.{AreFilesFrom, AreFoldersFrom, ArePackedFolders, packed_file, packed_folder, files_size, packed_size}
 use Rattle.make_package.specs.Runs.{IsAnswer}
-use Rattle.make_package.specs.Sources.{values_of, texts_of}
+use Rattle.make_package.specs.Sources.{values_with, texts_of}
 use Rattle.make_info.specs.declared.fault.MakeFault.{MakeFault}
 use Rattle.make_info.specs.declared.fault.MakeFault.TheVariants.{FileMissing, FileBad, InfoBad, TooLarge, Disk, Memory}
 use Rattle.make_package.specs.declared.file.File.{File}
@@ -54,16 +53,13 @@ left_at (y ∷ xs) (suc i) x e =
 
 -- ---- the values of a command
 
--- the values of a command are ones of its applet
-pub values_are : (command : CommandLine) → IsCommand command → are_values (value_rules command.applet) command.values ≡ true
-values_are command h =
-    let operands : Bool = may_have command.applet command.flags && are_operands (operand_rule command.applet command.flags) command.operands in
-    let values : Bool = are_values (value_rules command.applet) command.values in
-    (and_parts operands values (and_parts (operands && values) (not (lacks_value (needed_option command.applet) command.values)) h).0).1
+-- what the layer of commands says of the values of a command
+abbrev pub AreAllowed : Type 0
+AreAllowed = (c : CommandLine) → IsCommand c → are_values (value_rules c.applet) c.values ≡ true
 
-pub values_allowed : (command : CommandLine) (values : List OptionValue) → IsCommand command → command.applet ≡ Mkpkg → values ≡ command.values → are_values (value_rules Mkpkg) values ≡ true
-values_allowed command values h e is =
-    let own : are_values (value_rules Mkpkg) command.values ≡ true = subst (λ (a : Applet). are_values (value_rules a) command.values ≡ true) e (values_are command h) in
+pub values_allowed : AreAllowed → (command : CommandLine) (values : List OptionValue) → IsCommand command → command.applet ≡ Mkpkg → values ≡ command.values → are_values (value_rules Mkpkg) values ≡ true
+values_allowed law command values h e is =
+    let own : are_values (value_rules Mkpkg) command.values ≡ true = subst (λ (a : Applet). are_values (value_rules a) command.values ≡ true) e (law command h) in
     ap (are_values (value_rules Mkpkg)) is ∙ own
 
 first_two : (options : List ValueRule) (v : OptionValue) (vs : List OptionValue) → are_values options (v ∷ vs) ≡ true → (is_value_by (rule_for options v.letter) v.text ≡ true) × (are_values options vs ≡ true)
@@ -112,20 +108,20 @@ abbrev IsFirstIn : Option OptionValue → List OptionValue → Type 0
 IsFirstIn None values = values ≡ []
 IsFirstIn (Some v) values = (others : List OptionValue) × (values ≡ v ∷ others)
 
-first_in : (letter : ℕ) (vs : List OptionValue) → IsFirstIn (first_value letter vs) (values_of letter vs)
+first_in : (letter : ℕ) (vs : List OptionValue) → IsFirstIn (first_value letter vs) (values_with letter vs)
 first_in letter [] = refl
 first_in letter (v ∷ vs) = by_letter (eqb v.letter letter) (first_in letter vs)
   where
-    by_letter : (b : Bool) → IsFirstIn (first_value letter vs) (values_of letter vs) → IsFirstIn (cond b (Some v) (first_value letter vs)) (cond b (v ∷ values_of letter vs) (values_of letter vs))
-    by_letter true h = (values_of letter vs, refl)
+    by_letter : (b : Bool) → IsFirstIn (first_value letter vs) (values_with letter vs) → IsFirstIn (cond b (Some v) (first_value letter vs)) (cond b (v ∷ values_with letter vs) (values_with letter vs))
+    by_letter true h = (values_with letter vs, refl)
     by_letter false h = h
 
 first_as : (first : Option (Bor OptionValue)) (found : Option OptionValue) (values : List OptionValue) → option_map (λ (v : Bor OptionValue). v.now) first ≡ found → IsFirstIn found values → IsFirstValue first values
 first_as None found values e h = let P : Option OptionValue → Type 0 = λ o. IsFirstIn o values in subst P (sym e) h
 first_as (Some v) found values e h = let P : Option OptionValue → Type 0 = λ o. IsFirstIn o values in subst P (sym e) h
 
-pub first_value_is : (letter : ℕ) (vs : List OptionValue) (first : Option (Bor OptionValue)) → option_map (λ (v : Bor OptionValue). v.now) first ≡ first_value letter vs → IsFirstValue first (values_of letter vs)
-first_value_is letter vs first e = first_as first (first_value letter vs) (values_of letter vs) e (first_in letter vs)
+pub first_value_is : (letter : ℕ) (vs : List OptionValue) (first : Option (Bor OptionValue)) → option_map (λ (v : Bor OptionValue). v.now) first ≡ first_value letter vs → IsFirstValue first (values_with letter vs)
+first_value_is letter vs first e = first_as first (first_value letter vs) (values_with letter vs) e (first_in letter vs)
 
 -- the folder that is given
 abbrev folder_in : OptionValue → List ℕ
@@ -134,35 +130,35 @@ folder_in v = without_dot v.text
 pub record IsFolder (vs : List OptionValue) (folder : List ℕ) : Type 0 where
   pub value : OptionValue
   pub others : List OptionValue
-  pub first : values_of FILES vs ≡ value ∷ others
+  pub first : values_with FILES vs ≡ value ∷ others
   pub name : folder_in value ≡ folder
 
-folder_by : (vs : List OptionValue) (folder : List ℕ) (found : Option OptionValue) → IsFirstIn found (values_of FILES vs) → Some folder ≡ option_map folder_in found → IsFolder vs folder
+folder_by : (vs : List OptionValue) (folder : List ℕ) (found : Option OptionValue) → IsFirstIn found (values_with FILES vs) → Some folder ≡ option_map folder_in found → IsFolder vs folder
 folder_by vs folder None h e = absurd (cc (e))
 folder_by vs folder (Some v) h e = record { value = v; others = h.0; first = h.1; name = cc (e) }
 
 pub folder_is : (vs : List OptionValue) (folder : List ℕ) → Some folder ≡ option_map folder_in (first_value FILES vs) → IsFolder vs folder
 folder_is vs folder e = folder_by vs folder (first_value FILES vs) (first_in FILES vs) e
 
-no_folder_by : (vs : List OptionValue) (found : Option OptionValue) → IsFirstIn found (values_of FILES vs) → None ≡ option_map folder_in found → values_of FILES vs ≡ []
+no_folder_by : (vs : List OptionValue) (found : Option OptionValue) → IsFirstIn found (values_with FILES vs) → None ≡ option_map folder_in found → values_with FILES vs ≡ []
 no_folder_by vs None h e = h
 no_folder_by vs (Some v) h e = absurd (cc (e))
 
-pub no_folder : (vs : List OptionValue) → None ≡ option_map folder_in (first_value FILES vs) → values_of FILES vs ≡ []
+pub no_folder : (vs : List OptionValue) → None ≡ option_map folder_in (first_value FILES vs) → values_with FILES vs ≡ []
 no_folder vs e = no_folder_by vs (first_value FILES vs) (first_in FILES vs) e
 
 -- ---- the values of an option, from a place on
 
-pub given_here : (letter : ℕ) (vs : List OptionValue) (i : ℕ) (v : OptionValue) → slice_get vs i ≡ Some v → v.letter ≡ letter → values_of letter (drop i vs) ≡ v ∷ values_of letter (drop (i + 1) vs)
+pub given_here : (letter : ℕ) (vs : List OptionValue) (i : ℕ) (v : OptionValue) → slice_get vs i ≡ Some v → v.letter ≡ letter → values_with letter (drop i vs) ≡ v ∷ values_with letter (drop (i + 1) vs)
 given_here letter vs i v at e =
-    ap (values_of letter) (left_at vs i v at) ∙ ap (λ b. cond b (v ∷ values_of letter (drop (i + 1) vs)) (values_of letter (drop (i + 1) vs))) (eq-eqb v.letter letter e)
+    ap (values_with letter) (left_at vs i v at) ∙ ap (λ b. cond b (v ∷ values_with letter (drop (i + 1) vs)) (values_with letter (drop (i + 1) vs))) (eq-eqb v.letter letter e)
 
-pub given_not_here : (letter : ℕ) (vs : List OptionValue) (i : ℕ) (v : OptionValue) → slice_get vs i ≡ Some v → (v.letter ≡ letter → ⊥) → values_of letter (drop i vs) ≡ values_of letter (drop (i + 1) vs)
+pub given_not_here : (letter : ℕ) (vs : List OptionValue) (i : ℕ) (v : OptionValue) → slice_get vs i ≡ Some v → (v.letter ≡ letter → ⊥) → values_with letter (drop i vs) ≡ values_with letter (drop (i + 1) vs)
 given_not_here letter vs i v at e =
-    ap (values_of letter) (left_at vs i v at) ∙ ap (λ b. cond b (v ∷ values_of letter (drop (i + 1) vs)) (values_of letter (drop (i + 1) vs))) (ne_eqb v.letter letter e)
+    ap (values_with letter) (left_at vs i v at) ∙ ap (λ b. cond b (v ∷ values_with letter (drop (i + 1) vs)) (values_with letter (drop (i + 1) vs))) (ne_eqb v.letter letter e)
 
-pub given_past : (letter : ℕ) (vs : List OptionValue) (i : ℕ) → length vs ≤ i → values_of letter (drop i vs) ≡ []
-given_past letter vs i past = ap (values_of letter) (drop_of_length-le vs past)
+pub given_past : (letter : ℕ) (vs : List OptionValue) (i : ℕ) → length vs ≤ i → values_with letter (drop i vs) ≡ []
+given_past letter vs i past = ap (values_with letter) (drop_of_length-le vs past)
 
 pub first_is : (values : List OptionValue) (first : Option (Bor OptionValue)) (v : Bor OptionValue) → IsFirstValue first values → first ≡ Some v → IsFirstValue (Some v) values
 first_is values first v h e = let P : Option (Bor OptionValue) → Type 0 = λ o. IsFirstValue o values in subst P e h
@@ -286,9 +282,9 @@ memory_answer {A} (Err e) h = let P : MakeFault → Type 0 = λ f. IsNotDisk {A 
 -- the value that is written is that of the package
 pub value_is : (about : List InfoItem) (size : ℕ) (written folders : List Folder) (sources : List SourceFolder) (scripts : List Script) (values wanted : List OptionValue)
     → size ≡ packed_size folders → written ≡ folders → AreFoldersFrom folders sources → values ≡ wanted
-    → package_with (information_value about size) (map packed_folder written) scripts (texts_of (values_of TRIGGER values)) (replaces_priority about)
-    ≡ value_of_package (information_value about (installed_size sources)) sources scripts (texts_of (values_of TRIGGER wanted)) (replaces_priority about)
+    → package_with (information_value about size) (map packed_folder written) scripts (texts_of (values_with TRIGGER values)) (replaces_priority about)
+    ≡ value_of_package (information_value about (installed_size sources)) sources scripts (texts_of (values_with TRIGGER wanted)) (replaces_priority about)
 value_is about size written folders sources scripts values wanted s w h v =
     let sized : size ≡ installed_size sources = s ∙ folders_sized folders sources h in
     let valued : map packed_folder written ≡ map value_of_folder sources = ap (map packed_folder) w ∙ folders_valued folders sources h in
-    λ j. package_with (information_value about (sized j)) (valued j) scripts (texts_of (values_of TRIGGER (v j))) (replaces_priority about)
+    λ j. package_with (information_value about (sized j)) (valued j) scripts (texts_of (values_with TRIGGER (v j))) (replaces_priority about)

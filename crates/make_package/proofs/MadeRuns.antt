@@ -23,7 +23,7 @@ use Rattle.make_package.specs.Package.{SourceFolder}
 use Rattle.make_package.specs.Packed.{IsPacking}
 use Rattle.make_package.specs.Runs.{Explains, IsAnswer}
 use Rattle.make_package.specs.Scripts.{AreScripts, IsScript, script_view, scripts_view}
-use Rattle.make_package.specs.Sources.{AreNamesFor, unless_refused, each_from, folder_at, folders_below, source_folders_from, found_at, values_of, script_at, scripts_from}
+use Rattle.make_package.specs.Sources.{AreNamesFor, on_success, each_from, folder_at, folders_below, source_folders_from, found_at, values_with, script_at, scripts_from}
 use Rattle.make_info.specs.Reads.{Reads}
 use Rattle.make_info.specs.declared.fault.MakeFault.{MakeFault}
 use Rattle.make_info.specs.declared.fault.MakeFault.TheVariants.{FileMissing, FileBad, InfoBad, TooLarge, Disk, Memory}
@@ -41,7 +41,7 @@ abbrev pub one_read : OptionValue → ℕ
 one_read v = 1
 
 pub script_own : RestsOnOwn one_read script_at
-script_own f g n v h = ap (λ (o : Option (List ℕ)). unless_refused (found_at v.place o) (next_of v)) (h n (without_dot (script_file v.text)) (omega arith) (omega arith))
+script_own f g n v h = ap (λ (o : Option (List ℕ)). on_success (found_at v.place o) (next_of v)) (h n (without_dot (script_file v.text)) (omega arith) (omega arith))
 
 pub scripts_none : (scripts : Vec Script Global) → scripts.items ≡ [] → AreScripts scripts []
 scripts_none scripts e = ap (map script_view) e
@@ -51,24 +51,24 @@ scripts_more : (scripts more : Vec Script Global) (script : Script) (ys : List p
 scripts_more scripts more script ys y e h i = ap (map script_view) e ∙ map-append script_view scripts.items (script ∷ []) ∙ λ j. h j ++ i j ∷ []
 
 module _ (told : List TreeState) (values : List OptionValue) (i : ℕ) (v : OptionValue) (here : slice_get values i ≡ Some v) (is : v.letter ≡ SCRIPT) where
-  pub scripts_go_on : (scripts more : Vec Script Global) (script : Script) → more.items ≡ scripts.items ++ script ∷ [] → IsSoFar told one_read script_at (values_of SCRIPT (take i values)) (AreScripts scripts)
-      → IsNext told script_at v IsScript (Ok script) → IsSoFar told one_read script_at (values_of SCRIPT (take (i + 1) values)) (AreScripts more)
+  pub scripts_go_on : (scripts more : Vec Script Global) (script : Script) → more.items ≡ scripts.items ++ script ∷ [] → IsSoFar told one_read script_at (values_with SCRIPT (take i values)) (AreScripts scripts)
+      → IsNext told script_at v IsScript (Ok script) → IsSoFar told one_read script_at (values_with SCRIPT (take (i + 1) values)) (AreScripts more)
   scripts_go_on scripts more script e so_far next =
       let P : List OptionValue → Type 0 = λ xs. IsSoFar told one_read script_at xs (AreScripts more) in
       subst P (sym (given_one SCRIPT values i v here is))
-      (so_far_more told one_read script_at script_own (values_of SCRIPT (take i values)) v (AreScripts scripts) (AreScripts more) IsScript script so_far next (λ ys y. scripts_more scripts more script ys y e))
+      (so_far_more told one_read script_at script_own (values_with SCRIPT (take i values)) v (AreScripts scripts) (AreScripts more) IsScript script so_far next (λ ys y. scripts_more scripts more script ys y e))
 
-  all_given : values_of SCRIPT (take i values) ++ v ∷ values_of SCRIPT (drop (i + 1) values) ≡ values_of SCRIPT values
+  all_given : values_with SCRIPT (take i values) ++ v ∷ values_with SCRIPT (drop (i + 1) values) ≡ values_with SCRIPT values
   all_given =
-      ap (λ (l : List OptionValue). values_of SCRIPT (take i values) ++ l) (sym (given_here SCRIPT values i v here is))
-      ∙ sym (given_append SCRIPT (take i values) (drop i values)) ∙ ap (values_of SCRIPT) (take-append-drop i values)
+      ap (λ (l : List OptionValue). values_with SCRIPT (take i values) ++ l) (sym (given_here SCRIPT values i v here is))
+      ∙ sym (given_append SCRIPT (take i values) (drop i values)) ∙ ap (values_with SCRIPT) (take-append-drop i values)
 
-  pub scripts_stop : (scripts : Vec Script Global) (fault : MakeFault) → IsSoFar told one_read script_at (values_of SCRIPT (take i values)) (AreScripts scripts) → IsNext told script_at v IsScript (Err fault)
-      → (n : ℕ) → Explains told (λ read. IsAnswer AreScripts (Err fault) (scripts_from read n (values_of SCRIPT values)))
+  pub scripts_stop : (scripts : Vec Script Global) (fault : MakeFault) → IsSoFar told one_read script_at (values_with SCRIPT (take i values)) (AreScripts scripts) → IsNext told script_at v IsScript (Err fault)
+      → (n : ℕ) → Explains told (λ read. IsAnswer AreScripts (Err fault) (scripts_from read n (values_with SCRIPT values)))
   scripts_stop scripts fault so_far next n =
       let P : List OptionValue → Type 0 = λ xs. Explains told (λ read. IsAnswer AreScripts (Err fault) (scripts_from read n xs)) in
       subst P all_given
-      (so_far_stops told one_read script_at script_own (values_of SCRIPT (take i values)) v (values_of SCRIPT (drop (i + 1) values)) (AreScripts scripts) IsScript AreScripts fault so_far next n)
+      (so_far_stops told one_read script_at script_own (values_with SCRIPT (take i values)) v (values_with SCRIPT (drop (i + 1) values)) (AreScripts scripts) IsScript AreScripts fault so_far next n)
 
 pub scripts_same : (told : List TreeState) (xs ys : List OptionValue) (scripts : Vec Script Global) → ys ≡ xs → IsSoFar told one_read script_at xs (AreScripts scripts) → IsSoFar told one_read script_at ys (AreScripts scripts)
 scripts_same told xs ys scripts e h = let P : List OptionValue → Type 0 = λ l. IsSoFar told one_read script_at l (AreScripts scripts) in subst P (sym e) h
@@ -76,7 +76,7 @@ scripts_same told xs ys scripts e h = let P : List OptionValue → Type 0 = λ l
 -- ---- as many as there are values
 
 module _ {X Y : Type 0} (count : X → ℕ) (of : ℕ → X → Result Y MakeFault) where
-  long_by : (r : Result Y MakeFault) (e : Result (List Y) MakeFault) (ys : List Y) (m : ℕ) → unless_refused r (λ y0. unless_refused e (λ l. Ok (y0 ∷ l))) ≡ Ok ys → ((l : List Y) → e ≡ Ok l → length l ≡ m) → length ys ≡ suc m
+  long_by : (r : Result Y MakeFault) (e : Result (List Y) MakeFault) (ys : List Y) (m : ℕ) → on_success r (λ y0. on_success e (λ l. Ok (y0 ∷ l))) ≡ Ok ys → ((l : List Y) → e ≡ Ok l → length l ≡ m) → length ys ≡ suc m
   long_by (Ok y0) (Ok l) ys m e h = let all : ys ≡ y0 ∷ l = cc in ap length all ∙ ap suc (h l refl)
   long_by (Ok y0) (Err x) ys m e h = absurd (cc)
   long_by (Err x) e ys m i h = absurd (cc)
@@ -129,50 +129,50 @@ both_parts told ss ds names scripts r p q =
 
 module _ (command : CommandLine) (names : List (List ℕ)) (read : Reads) where
   abbrev behind_info : List packages.Script → List InfoItem → Result (List ℕ) MakeFault
-  behind_info scripts about = unless_refused (folders_below read (length scripts) (values_of FILES command.values) names) (package_of_parts command scripts about)
+  behind_info scripts about = on_success (folders_below read (length scripts) (values_with FILES command.values) names) (package_of_parts command scripts about)
 
   abbrev behind_scripts : List packages.Script → Result (List ℕ) MakeFault
-  behind_scripts scripts = unless_refused (or_info_bad (information command)) (behind_info scripts)
+  behind_scripts scripts = on_success (or_info_bad (information command)) (behind_info scripts)
 
-  pub scripts_fault : (fault : MakeFault) → IsAnswer AreScripts (Err fault) (scripts_from read 0 (values_of SCRIPT command.values)) → IsAnswer IsBytes (Err fault) (made_package command names read)
+  pub scripts_fault : (fault : MakeFault) → IsAnswer AreScripts (Err fault) (scripts_from read 0 (values_with SCRIPT command.values)) → IsAnswer IsBytes (Err fault) (made_package command names read)
   unfolding made_package
-  scripts_fault fault h = fault_of_part AreScripts IsBytes fault (scripts_from read 0 (values_of SCRIPT command.values)) behind_scripts h
+  scripts_fault fault h = fault_of_part AreScripts IsBytes fault (scripts_from read 0 (values_with SCRIPT command.values)) behind_scripts h
 
-  to_info : (ys : List packages.Script) → scripts_from read 0 (values_of SCRIPT command.values) ≡ Ok ys → made_package command names read ≡ behind_scripts ys
+  to_info : (ys : List packages.Script) → scripts_from read 0 (values_with SCRIPT command.values) ≡ Ok ys → made_package command names read ≡ behind_scripts ys
   unfolding made_package
-  to_info ys e = ap (λ (r : Result (List packages.Script) MakeFault). unless_refused r behind_scripts) e
+  to_info ys e = ap (λ (r : Result (List packages.Script) MakeFault). on_success r behind_scripts) e
 
-  pub info_fault : (ys : List packages.Script) (fault : MakeFault) → scripts_from read 0 (values_of SCRIPT command.values) ≡ Ok ys → IsInfoFault fault (information command) → IsAnswer IsBytes (Err fault) (made_package command names read)
-  info_fault ys (InfoBad place) e h = to_info ys e ∙ ap (λ (r : Result (List InfoItem) ℕ). unless_refused (or_info_bad r) (behind_info ys)) h
+  pub info_fault : (ys : List packages.Script) (fault : MakeFault) → scripts_from read 0 (values_with SCRIPT command.values) ≡ Ok ys → IsInfoFault fault (information command) → IsAnswer IsBytes (Err fault) (made_package command names read)
+  info_fault ys (InfoBad place) e h = to_info ys e ∙ ap (λ (r : Result (List InfoItem) ℕ). on_success (or_info_bad r) (behind_info ys)) h
   info_fault ys Memory e h = tt
   info_fault ys Disk e h = tt
   info_fault ys (FileMissing p) e h = absurd h
   info_fault ys (FileBad p c) e h = absurd h
   info_fault ys (TooLarge b v) e h = absurd h
 
-  to_folders : (ys : List packages.Script) (about : List InfoItem) → scripts_from read 0 (values_of SCRIPT command.values) ≡ Ok ys → information command ≡ Ok about → made_package command names read ≡ behind_info ys about
-  to_folders ys about e i = to_info ys e ∙ ap (λ (r : Result (List InfoItem) ℕ). unless_refused (or_info_bad r) (behind_info ys)) i
+  to_folders : (ys : List packages.Script) (about : List InfoItem) → scripts_from read 0 (values_with SCRIPT command.values) ≡ Ok ys → information command ≡ Ok about → made_package command names read ≡ behind_info ys about
+  to_folders ys about e i = to_info ys e ∙ ap (λ (r : Result (List InfoItem) ℕ). on_success (or_info_bad r) (behind_info ys)) i
 
   pub folders_fault : (scripts : Vec Script Global) (about : List InfoItem) (fault : MakeFault) → information command ≡ Ok about
-      → AreParts (values_of SCRIPT command.values) (values_of FILES command.values) names scripts (Err fault) read → IsAnswer IsBytes (Err fault) (made_package command names read)
+      → AreParts (values_with SCRIPT command.values) (values_with FILES command.values) names scripts (Err fault) read → IsAnswer IsBytes (Err fault) (made_package command names read)
   folders_fault scripts about fault i h =
       let Q : Result (List ℕ) MakeFault → Type 0 = λ w. IsAnswer IsBytes (Err fault) w in
       subst Q (sym (to_folders h.given about h.are i))
-      (fault_of_part IsPacking IsBytes fault (folders_below read (length h.given) (values_of FILES command.values) names) (package_of_parts command h.given about) h.rest)
+      (fault_of_part IsPacking IsBytes fault (folders_below read (length h.given) (values_with FILES command.values) names) (package_of_parts command h.given about) h.rest)
 
   pub parts_made : (scripts : Vec Script Global) (about : List InfoItem) (packing : Packing) (r : Result (Vec ℕ Global) MakeFault) → information command ≡ Ok about
-      → AreParts (values_of SCRIPT command.values) (values_of FILES command.values) names scripts (Ok packing) read
+      → AreParts (values_with SCRIPT command.values) (values_with FILES command.values) names scripts (Ok packing) read
       → ((sources : List SourceFolder) → IsPacking packing sources → IsAnswer IsBytes r (package_of_parts command (scripts_view scripts.items) about sources))
       → IsAnswer IsBytes r (made_package command names read)
   parts_made scripts about packing r i h made =
       let Q : Result (List ℕ) MakeFault → Type 0 = λ w. IsAnswer IsBytes r w in
       let R : List packages.Script → Type 0 = λ l. IsAnswer IsBytes r (package_of_parts command l about h.rest.0) in
-      subst Q (sym (to_folders h.given about h.are i ∙ ap (λ (x : Result (List SourceFolder) MakeFault). unless_refused x (package_of_parts command h.given about)) h.rest.1))
+      subst Q (sym (to_folders h.given about h.are i ∙ ap (λ (x : Result (List SourceFolder) MakeFault). on_success x (package_of_parts command h.given about)) h.rest.1))
       (subst R h.view (made h.rest.0 h.rest.2))
 
 -- ---- a run, of what is made
 
-pub made_by : (told : List TreeState) (command : CommandLine) (names : List (List ℕ)) (r : Result (Vec ℕ Global) MakeFault) → AreNamesFor (values_of FILES command.values) names → IfObservable told (λ v. AreBelow (values_of FILES command.values) v names)
+pub made_by : (told : List TreeState) (command : CommandLine) (names : List (List ℕ)) (r : Result (Vec ℕ Global) MakeFault) → AreNamesFor (values_with FILES command.values) names → IfObservable told (λ v. AreBelow (values_with FILES command.values) v names)
     → Explains told (λ read. IsAnswer IsBytes r (made_package command names read)) → IsMadeRun told command r
 made_by told command names (Ok file) named below p = record { names = names; named = named; below = below; reads = record { read = p.read; observed = p.observed; is = p.is.1 ∙ ap Ok p.is.2 } }
 made_by told command names (Err Disk) named below p = tt
@@ -183,7 +183,7 @@ made_by told command names (Err (InfoBad q)) named below p = record { names = na
 made_by told command names (Err (TooLarge b v)) named below p = record { names = names; named = named; below = below; reads = p }
 
 -- the tree was asked before the run, and stayed as it was
-pub run_as : (t0 t1 : List TreeState) (command : CommandLine) (names : List (List ℕ)) (r : Result (Vec ℕ Global) MakeFault) → t1 ≡ t0 → AreNamesFor (values_of FILES command.values) names → IfObservable t0 (λ v. AreBelow (values_of FILES command.values) v names)
+pub run_as : (t0 t1 : List TreeState) (command : CommandLine) (names : List (List ℕ)) (r : Result (Vec ℕ Global) MakeFault) → t1 ≡ t0 → AreNamesFor (values_with FILES command.values) names → IfObservable t0 (λ v. AreBelow (values_with FILES command.values) v names)
     → Explains t1 (λ read. IsAnswer IsBytes r (made_package command names read)) → IsMadeRun t0 command r
 run_as t0 t1 command names r e named below p =
     let P : List TreeState → Type 0 = λ t. Explains t (λ read. IsAnswer IsBytes r (made_package command names read)) in
@@ -191,12 +191,12 @@ run_as t0 t1 command names r e named below p =
 
 -- ---- the listing
 
-pub below_as : (told : List TreeState) (command : CommandLine) (values : List OptionValue) (names : List (List ℕ)) → values ≡ command.values → IfObservable told (λ v. AreBelow (values_of FILES values) v names)
-    → IfObservable told (λ v. AreBelow (values_of FILES command.values) v names)
-below_as told command values names e h = let P : List OptionValue → Type 0 = λ vs. IfObservable told (λ v. AreBelow (values_of FILES vs) v names) in subst P e h
+pub below_as : (told : List TreeState) (command : CommandLine) (values : List OptionValue) (names : List (List ℕ)) → values ≡ command.values → IfObservable told (λ v. AreBelow (values_with FILES values) v names)
+    → IfObservable told (λ v. AreBelow (values_with FILES command.values) v names)
+below_as told command values names e h = let P : List OptionValue → Type 0 = λ vs. IfObservable told (λ v. AreBelow (values_with FILES vs) v names) in subst P e h
 
-pub named_as : (command : CommandLine) (values : List OptionValue) (names : List (List ℕ)) → values ≡ command.values → AreNamesFor (values_of FILES values) names → AreNamesFor (values_of FILES command.values) names
-named_as command values names e h = let P : List OptionValue → Type 0 = λ vs. AreNamesFor (values_of FILES vs) names in subst P e h
+pub named_as : (command : CommandLine) (values : List OptionValue) (names : List (List ℕ)) → values ≡ command.values → AreNamesFor (values_with FILES values) names → AreNamesFor (values_with FILES command.values) names
+named_as command values names e h = let P : List OptionValue → Type 0 = λ vs. AreNamesFor (values_with FILES vs) names in subst P e h
 
 pub nothing_named : (dirs : List OptionValue) (names : List (List ℕ)) → dirs ≡ [] → AreNamesFor dirs names
 nothing_named dirs names e = let P : List OptionValue → Type 0 = λ l. AreNamesFor l names in subst P (sym e) tt
@@ -220,17 +220,17 @@ cut_run told command (Err e) fault h cut = let P : MakeFault → Type 0 = λ f. 
 -- ---- what is said of a command's values, and of lists as they are borrowed
 
 pub scripts_as : (told : List TreeState) (r : Result (Vec Script Global) MakeFault) (values wanted : List OptionValue) → values ≡ wanted
-    → Explains told (λ read. IsAnswer AreScripts r (scripts_from read 0 (values_of SCRIPT values))) → Explains told (λ read. IsAnswer AreScripts r (scripts_from read 0 (values_of SCRIPT wanted)))
-scripts_as told r values wanted e h = let P : List OptionValue → Type 0 = λ vs. Explains told (λ read. IsAnswer AreScripts r (scripts_from read 0 (values_of SCRIPT vs))) in subst P e h
+    → Explains told (λ read. IsAnswer AreScripts r (scripts_from read 0 (values_with SCRIPT values))) → Explains told (λ read. IsAnswer AreScripts r (scripts_from read 0 (values_with SCRIPT wanted)))
+scripts_as told r values wanted e h = let P : List OptionValue → Type 0 = λ vs. Explains told (λ read. IsAnswer AreScripts r (scripts_from read 0 (values_with SCRIPT vs))) in subst P e h
 
 -- folders behind scripts, after which the tree stayed as it was
 pub both_as : (t0 t1 : List TreeState) (command : CommandLine) (values : List OptionValue) (names : List (List ℕ)) (scripts : Vec Script Global) (r : Result Packing MakeFault) → values ≡ command.values → t1 ≡ t0
-    → Explains t0 (λ read. IsAnswer AreScripts (Ok scripts) (scripts_from read 0 (values_of SCRIPT values))) → ((n : ℕ) → Explains t1 (λ read. IsAnswer IsPacking r (folders_below read n (values_of FILES values) names)))
-    → Explains t0 (AreParts (values_of SCRIPT command.values) (values_of FILES command.values) names scripts r)
+    → Explains t0 (λ read. IsAnswer AreScripts (Ok scripts) (scripts_from read 0 (values_with SCRIPT values))) → ((n : ℕ) → Explains t1 (λ read. IsAnswer IsPacking r (folders_below read n (values_with FILES values) names)))
+    → Explains t0 (AreParts (values_with SCRIPT command.values) (values_with FILES command.values) names scripts r)
 both_as t0 t1 command values names scripts r e same p q =
-    let P : List OptionValue → Type 0 = λ vs. Explains t0 (AreParts (values_of SCRIPT vs) (values_of FILES vs) names scripts r) in
-    let Q : List TreeState → Type 0 = λ t. (n : ℕ) → Explains t (λ read. IsAnswer IsPacking r (folders_below read n (values_of FILES values) names)) in
-    subst P e (both_parts t0 (values_of SCRIPT values) (values_of FILES values) names scripts r p (subst Q same q))
+    let P : List OptionValue → Type 0 = λ vs. Explains t0 (AreParts (values_with SCRIPT vs) (values_with FILES vs) names scripts r) in
+    let Q : List TreeState → Type 0 = λ t. (n : ℕ) → Explains t (λ read. IsAnswer IsPacking r (folders_below read n (values_with FILES values) names)) in
+    subst P e (both_parts t0 (values_with SCRIPT values) (values_with FILES values) names scripts r p (subst Q same q))
 
 pub package_as : (command : CommandLine) (about : List InfoItem) (borrowed scripts : List Script) (packing : Packing) (r : Result (Vec ℕ Global) MakeFault) → borrowed ≡ scripts
     → ((sources : List SourceFolder) → IsPacking packing sources → IsAnswer IsBytes r (package_of_parts command (scripts_view borrowed) about sources))
@@ -241,13 +241,13 @@ package_as command about borrowed scripts packing r e made sources is =
 -- ---- of the folder that is given, or of none
 
 pub listed_for : (told : List TreeState) (vs : List OptionValue) (folder : List ℕ) (names : List (List ℕ)) → IsFolder vs folder
-    → IfObservable told (λ w. IsListOf folder w names) → IfObservable told (λ w. AreBelow (values_of FILES vs) w names)
+    → IfObservable told (λ w. IsListOf folder w names) → IfObservable told (λ w. AreBelow (values_with FILES vs) w names)
 listed_for told vs folder names f h =
     let P : List OptionValue → Type 0 = λ l. IfObservable told (λ w. AreBelow l w names) in
     let Q : List ℕ → Type 0 = λ d. IfObservable told (λ w. IsListOf d w names) in
     subst P (sym f.first) (subst Q (sym f.name) h)
 
-pub named_for : (vs : List OptionValue) (folder : List ℕ) (names : List (List ℕ)) → IsFolder vs folder → AreNamesBelow folder names → AreNamesFor (values_of FILES vs) names
+pub named_for : (vs : List OptionValue) (folder : List ℕ) (names : List (List ℕ)) → IsFolder vs folder → AreNamesBelow folder names → AreNamesFor (values_with FILES vs) names
 named_for vs folder names f h =
     let P : List OptionValue → Type 0 = λ l. AreNamesFor l names in
     let Q : List ℕ → Type 0 = λ d. AreNamesBelow d names in

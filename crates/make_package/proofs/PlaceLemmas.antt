@@ -14,7 +14,7 @@ use Rattle.std.specs.Str.{bytes_eq}
 use Rattle.std.specs.declared.cmp.Ordering.{Ordering}
 use Rattle.std.specs.declared.cmp.Ordering.TheVariants.{Less, Greater}
 use Rattle.std.proofs.lemmas.Option.{get_or_from_slice_get, slice_get_within}
-use Rattle.make_package.specs.Folders.{folder_of, path_below, names_in_folder, with_names, folders_over}
+use Rattle.make_package.specs.Folders.{folder_of, path_below, names_in_folder, with_folders, folders_over}
 use Rattle.make_package.specs.BorrowedNames.{IsIndexOf}
 use Rattle.make_package.proofs.FolderLemmas.{cmp, turned, against, searchable, all_placed_append}
 
@@ -100,12 +100,12 @@ abbrev coming : List ℕ → List (List ℕ) → List (List ℕ)
 coming dir names = flat_map folders_over (map (path_below dir) names)
 
 pub folders_next : (dir : List ℕ) (names before later : List (List ℕ)) (i : ℕ) (name path : List ℕ) → slice_get names i ≡ Some name → path ≡ path_below dir name
-    → later ≡ with_names before (folders_over path) → with_names before (coming dir (drop i names)) ≡ with_names later (coming dir (drop (i + 1) names))
+    → later ≡ with_folders before (folders_over path) → with_folders before (coming dir (drop i names)) ≡ with_folders later (coming dir (drop (i + 1) names))
 folders_next dir names before later i name path here is added =
-    ap (λ (l : List (List ℕ)). with_names before (coming dir l)) (drop_here names i name here)
+    ap (λ (l : List (List ℕ)). with_folders before (coming dir l)) (drop_here names i name here)
     ∙ all_placed_append before (folders_over (path_below dir name)) (coming dir (drop (i + 1) names))
-    ∙ ap (λ (p : List ℕ). with_names (with_names before (folders_over p)) (coming dir (drop (i + 1) names))) (sym is)
-    ∙ ap (λ (l : List (List ℕ)). with_names l (coming dir (drop (i + 1) names))) (sym added)
+    ∙ ap (λ (p : List ℕ). with_folders (with_folders before (folders_over p)) (coming dir (drop (i + 1) names))) (sym is)
+    ∙ ap (λ (l : List (List ℕ)). with_folders l (coming dir (drop (i + 1) names))) (sym added)
 
 -- ---- one more file
 

@@ -5,7 +5,7 @@ use Rattle.std.proofs.lemmas.Option.{get_or_from_slice_get, slice_get_within}
 use Rattle.std.proofs.lemmas.List.Elements.{filter-append}
 use Rattle.adb_view.specs.Plain.{blob_value, Plain, Plains, more}
 use Rattle.command_core.specs.declared.values.OptionValue.{OptionValue}
-use Rattle.make_package.specs.Sources.{values_of, texts_of}
+use Rattle.make_package.specs.Sources.{values_with, texts_of}
 use Rattle.std.proofs.lemmas.List.{take_more, map-append}
 use Rattle.adb_write.specs.DepthFirst.{WritesValues, push}
 use Rattle.adb_write.specs.Writing.{Writing}
@@ -35,23 +35,23 @@ abbrev if_of : Bool → OptionValue → List OptionValue
 if_of b v = if b then v ∷ [] else []
 
 given_next : (letter : ℕ) (values : List OptionValue) (i : ℕ) (v : OptionValue) (b : Bool) → slice_get values i ≡ Some v → (v.letter == letter) ≡ b
-    → values_of letter (take (i + 1) values) ≡ values_of letter (take i values) ++ if_of b v
+    → values_with letter (take (i + 1) values) ≡ values_with letter (take i values) ++ if_of b v
 given_next letter values i v b here e =
     let lt : i < length values = slice_get_within values i v here in
     let p : OptionValue → Bool = λ w. w.letter == letter in
     ap (filter p) (take_more values i v lt ∙ ap (λ (w : OptionValue). take i values ++ w ∷ []) (get_or_from_slice_get values i v v here))
-    ∙ filter-append p (take i values) (v ∷ []) ∙ ap (λ (c : Bool). values_of letter (take i values) ++ if_of c v) e
+    ∙ filter-append p (take i values) (v ∷ []) ∙ ap (λ (c : Bool). values_with letter (take i values) ++ if_of c v) e
 
-pub given_append : (letter : ℕ) (xs ys : List OptionValue) → values_of letter (xs ++ ys) ≡ values_of letter xs ++ values_of letter ys
+pub given_append : (letter : ℕ) (xs ys : List OptionValue) → values_with letter (xs ++ ys) ≡ values_with letter xs ++ values_with letter ys
 given_append letter xs ys = let p : OptionValue → Bool = λ w. w.letter == letter in filter-append p xs ys
 
 pub given_one : (letter : ℕ) (values : List OptionValue) (i : ℕ) (v : OptionValue) → slice_get values i ≡ Some v → v.letter ≡ letter
-    → values_of letter (take (i + 1) values) ≡ values_of letter (take i values) ++ v ∷ []
+    → values_with letter (take (i + 1) values) ≡ values_with letter (take i values) ++ v ∷ []
 given_one letter values i v here e = given_next letter values i v true here (eq-eqb v.letter letter e)
 
 pub given_other : (letter : ℕ) (values : List OptionValue) (i : ℕ) (v : OptionValue) → slice_get values i ≡ Some v → (v.letter ≡ letter → ⊥)
-    → values_of letter (take (i + 1) values) ≡ values_of letter (take i values)
-given_other letter values i v here ne = given_next letter values i v false here (ne_eqb v.letter letter ne) ∙ append-nil (values_of letter (take i values))
+    → values_with letter (take (i + 1) values) ≡ values_with letter (take i values)
+given_other letter values i v here ne = given_next letter values i v false here (ne_eqb v.letter letter ne) ∙ append-nil (values_with letter (take i values))
 
 abbrev pub blobs : List OptionValue → Plains
 blobs values = plains_of (map blob_value (texts_of values))
@@ -62,17 +62,17 @@ blobs_push values v =
     ∙ ap plains_of (map-append blob_value (texts_of values) (v.text ∷ [])) ∙ plains_push (map blob_value (texts_of values)) (blob_value v.text)
 
 pub blob_more : (letter : ℕ) (values : List OptionValue) (i : ℕ) (v : OptionValue) (words later : List ℕ) (a b b' : Writing) → slice_get values i ≡ Some v → v.letter ≡ letter → b' ≡ b
-    → later ≡ words → WritesValues a (push (blobs (values_of letter (take i values))) (blob_value v.text)) words b → WritesValues a (blobs (values_of letter (take (i + 1) values))) later b'
+    → later ≡ words → WritesValues a (push (blobs (values_with letter (take i values))) (blob_value v.text)) words b → WritesValues a (blobs (values_with letter (take (i + 1) values))) later b'
 blob_more letter values i v words later a b b' here e w l h =
     let P : Plains → Type 0 = λ vs. WritesValues a vs words b in
-    let Q : List ℕ → Type 0 = λ ws. WritesValues a (blobs (values_of letter (take (i + 1) values))) ws b in
-    let R : Writing → Type 0 = λ x. WritesValues a (blobs (values_of letter (take (i + 1) values))) later x in
-    subst R (sym w) (subst Q (sym l) (subst P (sym (ap blobs (given_one letter values i v here e) ∙ blobs_push (values_of letter (take i values)) v)) h))
+    let Q : List ℕ → Type 0 = λ ws. WritesValues a (blobs (values_with letter (take (i + 1) values))) ws b in
+    let R : Writing → Type 0 = λ x. WritesValues a (blobs (values_with letter (take (i + 1) values))) later x in
+    subst R (sym w) (subst Q (sym l) (subst P (sym (ap blobs (given_one letter values i v here e) ∙ blobs_push (values_with letter (take i values)) v)) h))
 
 pub blob_same : (letter : ℕ) (values : List OptionValue) (i : ℕ) (v : OptionValue) (words later : List ℕ) (a b b' : Writing) → slice_get values i ≡ Some v → (v.letter ≡ letter → ⊥) → b' ≡ b
-    → later ≡ words → WritesValues a (blobs (values_of letter (take i values))) words b → WritesValues a (blobs (values_of letter (take (i + 1) values))) later b'
+    → later ≡ words → WritesValues a (blobs (values_with letter (take i values))) words b → WritesValues a (blobs (values_with letter (take (i + 1) values))) later b'
 blob_same letter values i v words later a b b' here ne w l h =
     let P : Plains → Type 0 = λ vs. WritesValues a vs words b in
-    let Q : List ℕ → Type 0 = λ ws. WritesValues a (blobs (values_of letter (take (i + 1) values))) ws b in
-    let R : Writing → Type 0 = λ x. WritesValues a (blobs (values_of letter (take (i + 1) values))) later x in
+    let Q : List ℕ → Type 0 = λ ws. WritesValues a (blobs (values_with letter (take (i + 1) values))) ws b in
+    let R : Writing → Type 0 = λ x. WritesValues a (blobs (values_with letter (take (i + 1) values))) later x in
     subst R (sym w) (subst Q (sym l) (subst P (sym (ap blobs (given_other letter values i v here ne))) h))

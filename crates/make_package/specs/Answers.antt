@@ -14,7 +14,7 @@ use Rattle.make_info.specs.declared.fault.MakeFault.{MakeFault}
 use Rattle.make_info.specs.declared.fault.MakeFault.TheVariants.{Disk, Memory}
 use Rattle.make_package.specs.Making.{made_package}
 use Rattle.make_package.specs.Runs.{Explains}
-use Rattle.make_package.specs.Sources.{AreNamesFor, values_of}
+use Rattle.make_package.specs.Sources.{AreNamesFor, values_with}
 
 -- ---- parts of a run
 
@@ -56,8 +56,8 @@ OnRefusal fault P = P (Err fault)
 pub record IsMadeOf (history : List TreeState) (command : CommandLine)
     (made : Result (List ℕ) MakeFault) : Type 0 where
   pub names : List (List ℕ)
-  pub named : AreNamesFor (values_of FILES command.values) names
-  pub below : IfObservable history (λ v. AreBelow (values_of FILES command.values) v names)
+  pub named : AreNamesFor (values_with FILES command.values) names
+  pub below : IfObservable history (λ v. AreBelow (values_with FILES command.values) v names)
   pub reads : Explains history (λ read. made_package command names read ≡ made)
 
 -- the answer is what is made; a fault of the tree and want of memory stand for anything
@@ -69,12 +69,12 @@ IsMadeRun history command (Err fault) = OnRefusal fault (IsMadeOf history comman
 pub record IsMadeIn (command : CommandLine) (v : TreeState) (made : Result (List ℕ) MakeFault) :
     Type 0 where
   pub names : List (List ℕ)
-  pub below : AreBelow (values_of FILES command.values) v names
+  pub below : AreBelow (values_with FILES command.values) v names
   pub is : made_package command names (λ n name. files_of v name) ≡ made
 
 -- what is made of a command by some names below its folder and some reads
 pub record IsMadeBySome (command : CommandLine) (made : Result (List ℕ) MakeFault) : Type 0 where
   pub names : List (List ℕ)
-  pub named : AreNamesFor (values_of FILES command.values) names
+  pub named : AreNamesFor (values_with FILES command.values) names
   pub read : Reads
   pub is : made_package command names read ≡ made

@@ -33,22 +33,22 @@ folders_over path = [] ∷ before_slashes path
 
 -- ---- names in byte order, each once
 
-abbrev pub with_name_by :
+abbrev pub with_folder_by :
     Ordering → List ℕ → List ℕ → List (List ℕ) → List (List ℕ) → List (List ℕ)
-with_name_by Less name x xs further = name ∷ x ∷ xs
-with_name_by Equal name x xs further = x ∷ xs
-with_name_by Greater name x xs further = x ∷ further
+with_folder_by Less name x xs further = name ∷ x ∷ xs
+with_folder_by Equal name x xs further = x ∷ xs
+with_folder_by Greater name x xs further = x ∷ further
 
-abbrev pub with_name : List ℕ → List (List ℕ) → List (List ℕ)
-with_name name [] = name ∷ []
-with_name name (x ∷ xs) = with_name_by (slice_cmp nat_cmp name x) name x xs (with_name name xs)
+abbrev pub with_folder : List ℕ → List (List ℕ) → List (List ℕ)
+with_folder name [] = name ∷ []
+with_folder name (x ∷ xs) = with_folder_by (slice_cmp nat_cmp name x) name x xs (with_folder name xs)
 
-abbrev pub with_names : List (List ℕ) → List (List ℕ) → List (List ℕ)
-with_names so_far [] = so_far
-with_names so_far (name ∷ names) = with_names (with_name name so_far) names
+abbrev pub with_folders : List (List ℕ) → List (List ℕ) → List (List ℕ)
+with_folders so_far [] = so_far
+with_folders so_far (name ∷ names) = with_folders (with_folder name so_far) names
 
 abbrev pub sorted_names : List (List ℕ) → List (List ℕ)
-sorted_names names = with_names [] names
+sorted_names names = with_folders [] names
 
 -- ---- the folders of a package
 

@@ -13,7 +13,7 @@ use Rattle.make_info.specs.Reads.{Reads}
 use Rattle.make_info.specs.declared.fault.MakeFault.{MakeFault}
 use Rattle.make_info.specs.declared.fault.MakeFault.TheVariants.{InfoBad, TooLarge}
 use Rattle.make_package.specs.Package.{SourceFolder, Script, value_of_package, installed_size, contents_of_folders}
-use Rattle.make_package.specs.Sources.{unless_refused, values_of, texts_of, scripts_from, folders_below}
+use Rattle.make_package.specs.Sources.{on_success, values_with, texts_of, scripts_from, folders_below}
 
 -- ---- the file
 
@@ -37,13 +37,13 @@ abbrev pub package_of_parts :
 package_of_parts command scripts about folders =
     package_container
     (value_of_package (information_value about (installed_size folders)) folders scripts
-    (texts_of (values_of TRIGGER command.values)) (replaces_priority about))
+    (texts_of (values_with TRIGGER command.values)) (replaces_priority about))
     (contents_of_folders 1 folders)
 
 -- scripts first, then the information, then the files below the folder
 unfoldable pub made_package : CommandLine → List (List ℕ) → Reads → Result (List ℕ) MakeFault
 made_package command names read =
-    unless_refused (scripts_from read 0 (values_of SCRIPT command.values)) (λ scripts.
-    unless_refused (or_info_bad (information command)) (λ about.
-    unless_refused (folders_below read (length scripts) (values_of FILES command.values) names)
+    on_success (scripts_from read 0 (values_with SCRIPT command.values)) (λ scripts.
+    on_success (or_info_bad (information command)) (λ about.
+    on_success (folders_below read (length scripts) (values_with FILES command.values) names)
     (package_of_parts command scripts about)))

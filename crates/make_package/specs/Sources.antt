@@ -11,10 +11,10 @@ use Rattle.make_package.specs.Folders.{last_part_of, FolderListing, folders_of}
 use Rattle.make_package.specs.Package.{Source, SourceFolder, Script}
 
 -- what comes of a result, or its fault
-abbrev pub unless_refused :
+abbrev pub on_success :
     {A B : Type 0} → Result A MakeFault → (A → Result B MakeFault) → Result B MakeFault
-unless_refused (Ok x) next = next x
-unless_refused (Err fault) next = Err fault
+on_success (Ok x) next = next x
+on_success (Err fault) next = Err fault
 
 -- what was found for the argument at a place
 abbrev pub found_at : ℕ → Option (List ℕ) → Result (List ℕ) MakeFault
@@ -27,14 +27,14 @@ abbrev pub each_from :
     {X Y : Type 0} → (X → ℕ) → (ℕ → X → Result Y MakeFault) → ℕ → List X → Result (List Y) MakeFault
 each_from count of n [] = Ok []
 each_from count of n (x ∷ xs) =
-    unless_refused (of n x)
-    (λ y. unless_refused (each_from count of (n + count x) xs) (λ ys. Ok (y ∷ ys)))
+    on_success (of n x)
+    (λ y. on_success (each_from count of (n + count x) xs) (λ ys. Ok (y ∷ ys)))
 
 -- ---- the values of options
 
 -- the values of the option with this letter, in the order given
-abbrev pub values_of : ℕ → List OptionValue → List OptionValue
-values_of letter values = filter (λ (v : OptionValue). v.letter == letter) values
+abbrev pub values_with : ℕ → List OptionValue → List OptionValue
+values_with letter values = filter (λ (v : OptionValue). v.letter == letter) values
 
 abbrev pub texts_of : List OptionValue → List (List ℕ)
 texts_of values = map (λ (v : OptionValue). v.text) values
@@ -53,7 +53,7 @@ script_with kind bytes = record { field = kind; bytes = bytes }
 -- the script that a value gives as TYPE:FILE
 abbrev pub script_at : Reads → ℕ → OptionValue → Result Script MakeFault
 script_at read n v =
-    unless_refused (found_at v.place (read n (without_dot (script_file v.text))))
+    on_success (found_at v.place (read n (without_dot (script_file v.text))))
     (λ bytes. Ok (script_with (script_type v.text) bytes))
 
 abbrev pub scripts_from : Reads → ℕ → List OptionValue → Result (List Script) MakeFault
@@ -68,14 +68,14 @@ source_with name bytes = record { name = last_part_of name; bytes = bytes }
 -- the file under a name in the tree, which the argument at a place lists
 abbrev pub file_at : ℕ → Reads → ℕ → List ℕ → Result Source MakeFault
 file_at place read n name =
-    unless_refused (found_at place (read n name)) (λ bytes. Ok (source_with name bytes))
+    on_success (found_at place (read n name)) (λ bytes. Ok (source_with name bytes))
 
 abbrev pub sources_from : ℕ → Reads → ℕ → List (List ℕ) → Result (List Source) MakeFault
 sources_from place read n names = each_from (λ name. 1) (file_at place read) n names
 
 abbrev pub folder_at : ℕ → Reads → ℕ → FolderListing → Result SourceFolder MakeFault
 folder_at place read n folder =
-    unless_refused (sources_from place read n folder.files)
+    on_success (sources_from place read n folder.files)
     (λ files. Ok (record { name = folder.name; files = files }))
 
 abbrev pub source_folders_from :

@@ -14,7 +14,7 @@ ghost use Rattle.make_package.specs.Package.{SourceFolder, contents_of_folders, 
 ghost use Rattle.make_package.specs.Packed.{IsPacking, files_size, packed_folder, packed_size};
 ghost use Rattle.make_package.specs.Runs.{IsAnswer};
 ghost use Rattle.make_package.specs.Scripts.{scripts_view};
-ghost use Rattle.make_package.specs.Sources.{values_of, texts_of};
+ghost use Rattle.make_package.specs.Sources.{values_with, texts_of};
 
 use crate::file::{File, Folder, Packing};
 use crate::packing::put_in_front;
@@ -23,7 +23,7 @@ use adb_schema::PACKAGE_WORD;
 use adb_view::Val;
 use adb_write::{Writer, a_value_written_depth_first_is_canonical, file_of};
 use command_core::{Command, Values};
-use make_info::{Information, Information, MakeFault, MakeFault};
+use make_info::{Information, MakeFault};
 use std::alloc::{AllocError, Global};
 
 /// The package of a command, with this information, these files and these scripts.
@@ -90,13 +90,13 @@ fn payload(
 ) -> Result<Vec<u8>, MakeFault>
     ensures made { IfOk result (λ payload. written_of
         (package_with (information_value about.now size) (map packed_folder folders.now)
-        (scripts_view scripts.now) (texts_of (values_of TRIGGER values.now))
+        (scripts_view scripts.now) (texts_of (values_with TRIGGER values.now))
         (replaces_priority about.now)) ≡ Ok payload.items) }
     ensures small { IfOk result (λ payload. length payload.items ≤ MOST_BYTES) }
     ensures err { IfErr result (λ fault. IsOverflow fault
         (written_of (package_with (information_value about.now size)
         (map packed_folder folders.now) (scripts_view scripts.now)
-        (texts_of (values_of TRIGGER values.now)) (replaces_priority about.now)))) }
+        (texts_of (values_with TRIGGER values.now)) (replaces_priority about.now)))) }
 {
     a_value_written_depth_first_is_canonical();
     let mut writer = Writer::new(alloc);
@@ -116,7 +116,7 @@ fn write_root(
 ) -> Result<Val, AllocError>
     ensures { IfOk result (λ root. WritesValue writer.old
         (package_with (information_value about.now size) (map packed_folder folders.now)
-        (scripts_view scripts.now) (texts_of (values_of TRIGGER values.now))
+        (scripts_view scripts.now) (texts_of (values_with TRIGGER values.now))
         (replaces_priority about.now)) root writer.new) }
 {
     let info = about.write(writer, size)?;

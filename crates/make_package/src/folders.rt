@@ -1,7 +1,7 @@
 //! The folders of a package, and which of the files below a folder of the tree stands in which.
 ghost use Rattle.std.specs.Prelude.{◌≡◌, ◌<◌, ◌≤◌, ◌+◌, ◌-◌, not, [], length, drop, map, replicate, slice_get, OnOk, IfOk};
 ghost use Rattle.std.specs.List.{suffix_len};
-ghost use Rattle.make_package.specs.Folders.{is_slash, folder_of, last_part_of, folders_over, with_names, with_name, path_below, folder_names, names_in_folder};
+ghost use Rattle.make_package.specs.Folders.{is_slash, folder_of, last_part_of, folders_over, with_folders, with_folder, path_below, folder_names, names_in_folder};
 ghost use Rattle.make_package.specs.BorrowedNames.{IsIndexOf, names_borrowed};
 
 use base_core::{Name, Names};
@@ -40,7 +40,7 @@ impl<'a> FolderNames<'a> {
 
     /// Adds the folders that hold a path, at any depth.
     pub(crate) fn add_over(&mut self, path: &'a [u8]) -> Result<(), AllocError>
-        ensures { OnOk result (self.new ≡ with_names self.old (folders_over path.now)) }
+        ensures { OnOk result (self.new ≡ with_folders self.old (folders_over path.now)) }
     {
         self.add(&path[..0])?;
         for (i, b) in path.iter().enumerate() {
@@ -54,7 +54,7 @@ impl<'a> FolderNames<'a> {
     /// Adds a folder, unless it is there. Paths that come in byte order bring the folders nearly in
     /// order: one comes too late only behind those that its name begins, so that few are moved.
     fn add(&mut self, folder: &'a [u8]) -> Result<(), AllocError>
-        ensures { OnOk result (self.new ≡ with_name folder.now self.old) }
+        ensures { OnOk result (self.new ≡ with_folder folder.now self.old) }
     {
         let Err(at) = self.names.binary_search(&folder) else {
             return Ok(());

@@ -11,7 +11,7 @@ ghost use Rattle.make_package.specs.Answers.{IsCutOff, IsFirstValue, AreBelow};
 ghost use Rattle.make_package.specs.Packed.{IsPacking};
 ghost use Rattle.make_package.specs.Runs.{Explains, IsAnswer};
 ghost use Rattle.make_package.specs.Scripts.{AreScripts, IsScript};
-ghost use Rattle.make_package.specs.Sources.{AreNamesFor, folders_below, values_of, script_at, scripts_from};
+ghost use Rattle.make_package.specs.Sources.{AreNamesFor, folders_below, values_with, script_at, scripts_from};
 ghost use Rattle.std.specs.Prelude.{◌≡◌, ◌++◌, ◌∷◌, [], ℕ, IfOk, IsTrue, OnOk};
 
 use crate::file::Packing;
@@ -34,11 +34,14 @@ pub(crate) fn list_names<T: Tree>(
         (T.counts tree.old) (T.counts tree.new) result }
     ensures cut { IsCutOff result }
     ensures names { IfOk result (λ names. IfObservable (T.history tree.old) (λ v.
-        AreBelow (values_of FILES values.now) v names)) }
-    ensures order { IfOk result (λ names. AreNamesFor (values_of FILES values.now) names) }
+        AreBelow (values_with FILES values.now) v names)) }
+    ensures order { IfOk result (λ names. AreNamesFor (values_with FILES values.now) names) }
 {
     match values.first_file(FILES) {
-        Some(folder) => Ok(tree.list(alloc, folder)?),
+        Some(folder) => {
+            let names = tree.list(alloc, folder)?;
+            Ok(names)
+        }
         None => Ok(Names::new(alloc)),
     }
 }
@@ -54,7 +57,7 @@ pub(crate) fn pack_below<'a, T: Tree>(
     ensures tree { OnlyReads MakeFault.Disk (T.history tree.old) (T.history tree.new)
         (T.counts tree.old) (T.counts tree.new) result }
     ensures read { (n : ℕ) → Explains (T.history tree.old) (λ read.
-        IsAnswer IsPacking result (folders_below read n (values_of FILES values.now) names.now)) }
+        IsAnswer IsPacking result (folders_below read n (values_with FILES values.now) names.now)) }
 {
     match first_folder(values) {
         Some(value) => {
@@ -70,7 +73,7 @@ pub(crate) fn pack_below<'a, T: Tree>(
 
 /// The value of the option that gives a folder, if it is given.
 fn first_folder(values: &Values) -> Option<&OptionValue>
-    ensures { IsFirstValue result (values_of FILES values.entry.now) }
+    ensures { IsFirstValue result (values_with FILES values.entry.now) }
 {
     values.first(FILES)
 }
@@ -85,7 +88,7 @@ pub(crate) fn read_scripts<'a, T: Tree>(
     ensures tree { OnlyReads MakeFault.Disk (T.history tree.old) (T.history tree.new)
         (T.counts tree.old) (T.counts tree.new) result }
     ensures read { (n : ℕ) → Explains (T.history tree.old) (λ read.
-        IsAnswer AreScripts result (scripts_from read n (values_of SCRIPT values.entry.now))) }
+        IsAnswer AreScripts result (scripts_from read n (values_with SCRIPT values.entry.now))) }
 {
     let mut scripts = Vec::new(alloc);
     for i in 0..values.len() {

@@ -8,13 +8,13 @@ ghost use Rattle.make_info.specs.Values.{plains_of, size_value, number_value};
 ghost use Rattle.make_package.specs.Package.{access_value, script_in, value_of_scripts, package_with};
 ghost use Rattle.make_package.specs.Packed.{packed_file, packed_folder};
 ghost use Rattle.make_package.specs.Scripts.{scripts_view};
-ghost use Rattle.make_package.specs.Sources.{values_of, texts_of};
+ghost use Rattle.make_package.specs.Sources.{values_with, texts_of};
 ghost use Rattle.std.specs.Prelude.{map, IfOk, ◌≡◌, Option};
 
 use crate::file::{File, Folder};
 use adb_view::Val;
 use adb_write::{Writer, values_are_written_depth_first};
-use command_core::Values;
+use command_core::{TRIGGER, Values};
 use std::alloc::{AllocError, Global};
 
 /// The mode of every folder.
@@ -178,7 +178,7 @@ pub(crate) fn write_package(
         → WritesValue before about info writer.old
         → WritesValue before (package_with about (map packed_folder folders.now)
         (scripts_view scripts.now) (texts_of
-        (values_of TRIGGER values.now)) priority) word writer.new) }
+        (values_with TRIGGER values.now)) priority) word writer.new) }
 {
     values_are_written_depth_first();
     let paths = write_paths(alloc, writer, folders)?;
@@ -193,13 +193,13 @@ pub(crate) fn write_package(
 fn write_triggers(alloc: Global, writer: &mut Writer, values: &Values) -> Result<Val, AllocError>
     ensures { IfOk result (λ word. WritesValue writer.old
         (arr_value (plains_of (map blob_value
-        (texts_of (values_of TRIGGER values.now))))) word writer.new) }
+        (texts_of (values_with TRIGGER values.now))))) word writer.new) }
 {
     values_are_written_depth_first();
     let mut words = Vec::new(alloc);
     for i in 0..values.len() {
         let value = values.get(i);
-        if value.letter == b't' {
+        if value.letter == TRIGGER {
             let word = writer.blob(value.text.as_bytes())?;
             words.push(word)?;
         }

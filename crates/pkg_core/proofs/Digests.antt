@@ -21,7 +21,8 @@ use Rattle.adb_tables.specs.Values.{nth, entries_in, entry_in, int_in, text_in}
 use Rattle.adb_tables.specs.declared.tables.Which.{Which}
 use Rattle.adb_tables.specs.declared.tables.Kind.TheVariants.{Obj}
 use Rattle.adb_tables.specs.declared.tables.Which.TheVariants as Tables
-use Rattle.pkg_core.specs.Contents.{Contents, Expected, AreContentsOf, AreTrueTo, HaveDigests, IsDigestOf, digest_fault, expected_at, expected_contents, files_from, folders_from, hash_fault}
+use Rattle.pkg_core.specs.Contents.{Contents, Expected, digest_fault, expected_at, expected_contents, expected_files, expected_folders, hash_fault}
+use Rattle.pkg_core.specs.GoodContents.{AreContentsOf, AreTrueTo, HaveDigests, IsDigestOf}
 
 -- ---- where nothing is told, each text and number keeps its rule
 
@@ -89,23 +90,23 @@ file_digests d i place around f root h = by_contents (is_with_contents f) refl
     by_contents true c = (file_has place around f root c h, tt)
     by_contents false c = tt
 
-files_digests : (d i place : ℕ) (around : Surroundings) (vs : Plains) → around.root ≡ Tables.Package → Keep (each_leaf (leaves (shape_of (Obj Tables.File)) place around) vs) → HaveDigests (files_from d i (list_of vs))
+files_digests : (d i place : ℕ) (around : Surroundings) (vs : Plains) → around.root ≡ Tables.Package → Keep (each_leaf (leaves (shape_of (Obj Tables.File)) place around) vs) → HaveDigests (expected_files d i (list_of vs))
 files_digests d i place around none root h = tt
 files_digests d i place around (more f vs) root h =
     let parts = parts_keep (leaves (shape_of (Obj Tables.File)) place around f) (each_leaf (leaves (shape_of (Obj Tables.File)) place around) vs) h in
-    more_digests (expected_at d i f) (files_from d (i + 1) (list_of vs)) (file_digests d i place around f root parts.0) (files_digests d (i + 1) place around vs root parts.1)
+    more_digests (expected_at d i f) (expected_files d (i + 1) (list_of vs)) (file_digests d i place around f root parts.0) (files_digests d (i + 1) place around vs root parts.1)
 
-folder_digests : (d place : ℕ) (around : Surroundings) (folder : Plain) → around.root ≡ Tables.Package → Keep (leaves (shape_of (Obj Tables.Dir)) place around folder) → HaveDigests (files_from d 1 (files_in folder))
+folder_digests : (d place : ℕ) (around : Surroundings) (folder : Plain) → around.root ≡ Tables.Package → Keep (leaves (shape_of (Obj Tables.Dir)) place around folder) → HaveDigests (expected_files d 1 (files_in folder))
 unfolding shape_of leaves
 folder_digests d place around folder root h =
     let files = field_keeps (shapes_of (table Tables.Dir)) 2 501 (inside_of 5 around folder) (entries_in folder) (array (shape_of (Obj Tables.File))) refl h in
     files_digests d 1 503 (inside_of 5 around folder) (entries_in (entry_in folder 2)) root files
 
-folders_digests : (i place : ℕ) (around : Surroundings) (vs : Plains) → around.root ≡ Tables.Package → Keep (each_leaf (leaves (shape_of (Obj Tables.Dir)) place around) vs) → HaveDigests (folders_from i (list_of vs))
+folders_digests : (i place : ℕ) (around : Surroundings) (vs : Plains) → around.root ≡ Tables.Package → Keep (each_leaf (leaves (shape_of (Obj Tables.Dir)) place around) vs) → HaveDigests (expected_folders i (list_of vs))
 folders_digests i place around none root h = tt
 folders_digests i place around (more d vs) root h =
     let parts = parts_keep (leaves (shape_of (Obj Tables.Dir)) place around d) (each_leaf (leaves (shape_of (Obj Tables.Dir)) place around) vs) h in
-    more_digests (files_from i 1 (files_in d)) (folders_from (i + 1) (list_of vs)) (folder_digests i place around d root parts.0) (folders_digests (i + 1) place around vs root parts.1)
+    more_digests (expected_files i 1 (files_in d)) (expected_folders (i + 1) (list_of vs)) (folder_digests i place around d root parts.0) (folders_digests (i + 1) place around vs root parts.1)
 
 texts_keep : (v : Plain) → Keep (leaves_of Tables.Package v) → HaveDigests (expected_contents v)
 unfolding shape_of leaves

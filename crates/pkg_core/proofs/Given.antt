@@ -18,20 +18,21 @@ use Rattle.adb_tables.specs.declared.tables.Kind.TheVariants.{Obj}
 use Rattle.adb_schema.specs.Soundness.{blocks_fault, file_fault, file_pair, first_payload, payload_behind, payload_fault, payload_in, root_value, schema_fault}
 use Rattle.adb_tables.specs.declared.tables.Which.TheVariants.{Package}
 use Rattle.pkg_core.specs.Contents as C
-use Rattle.pkg_core.specs.Contents.{Expected, Files, AreContentsOf, AreTrueTo, IsContentsOf, bytes_in, contents_at, contents_fault, contents_in, expected_contents, fault_in, files_of, hash_fault}
+use Rattle.pkg_core.specs.Contents.{Expected, Files, contents_bytes, contents_by, contents_fault, contents_in, expected_contents, fault_in, files_by_blocks, hash_fault}
+use Rattle.pkg_core.specs.GoodContents.{AreContentsOf, AreTrueTo, IsContentsOf}
 use Rattle.pkg_core.proofs.Digests.{texts_give_digests, true_contents, TellsFirst}
-use Rattle.pkg_core.specs.Whole.{behind_fault, files_behind, files_by_header, files_in_file, package_fault, package_of, whole_fault}
+use Rattle.pkg_core.specs.Whole.{behind_fault, files_behind, files_by_header, files_in_file, package_fault, package_with_contents, whole_fault}
 
 -- the sizes agree, and then the digests
 size_right : (b : Bool) (d : Cause) (o : Option Cause) → (if not b then Some d else o) ≡ None → (b ≡ true) × (o ≡ None)
 size_right true d o h = (refl, h)
 size_right false d o h = (cc)
 
-file_right : (payload : List ℕ) (e : Expected) → C.file_fault payload e ≡ None → IsContentsOf e (contents_at payload e)
+file_right : (payload : List ℕ) (e : Expected) → C.file_fault payload e ≡ None → IsContentsOf e (contents_by payload e)
 file_right payload e h =
     let (order, after) = size_right (C.is_of payload e) (DataOrder (e.folder, e.file) (file_pair payload)) _ h in
-    let (size, digest) = size_right (length (bytes_in payload) == e.size) (DataSize e.size (length (bytes_in payload))) _ after in
-    record { folder = refl; file = refl; size = eqb-true (length (bytes_in payload)) e.size size; hash = digest }
+    let (size, digest) = size_right (length (contents_bytes payload) == e.size) (DataSize e.size (length (contents_bytes payload))) _ after in
+    record { folder = refl; file = refl; size = eqb-true (length (contents_bytes payload)) e.size size; hash = digest }
 
 -- ---- block by block
 
@@ -65,11 +66,11 @@ none_expected : (es : List Expected) → fault_in (C.unless (C.missing_fault es)
 none_expected [] h = tt
 none_expected (e ∷ es) h = (cc)
 
-pub files_right : (es : List Expected) (r : Reading) → contents_fault es r ≡ None → AreContentsOf es (contents_in (files_of es r))
-unfolding files_of
+pub files_right : (es : List Expected) (r : Reading) → contents_fault es r ≡ None → AreContentsOf es (contents_in (files_by_blocks es r))
+unfolding files_by_blocks
 files_right es done h = none_expected es h
 files_right es (fault c) h = (cc)
-files_right es (more b at r) h = block_right b.kind b.payload at (λ left. files_of left r) (λ left. files_right left r) es h
+files_right es (more b at r) h = block_right b.kind b.payload at (λ left. files_by_blocks left r) (λ left. files_right left r) es h
 
 -- ---- a whole package
 
@@ -96,12 +97,12 @@ blocks_true told done h = let A : List Expected → Type 0 = λ es. AreTrueTo es
 blocks_true told (fault c) h = (cc)
 blocks_true told (more b at r) h =
     let v : Plain = root_value Package b.payload in
-    true_contents (expected_contents v) (contents_in (files_of (expected_contents v) r)) (texts_give_digests told v (texts_good b.payload (first_none (payload_fault Package b.payload) _ h))) (files_right (expected_contents v) r (second_none (payload_fault Package b.payload) _ h))
+    true_contents (expected_contents v) (contents_in (files_by_blocks (expected_contents v) r)) (texts_give_digests told v (texts_good b.payload (first_none (payload_fault Package b.payload) _ h))) (files_right (expected_contents v) r (second_none (payload_fault Package b.payload) _ h))
 
 header_true : TellsFirst → (file : List ℕ) (h : Result ℕ Cause) → file_fault (behind_fault Package) Package file h ≡ None → AreTrueTo (expected_contents (root_value Package (payload_behind file h))) (contents_in (files_by_header file h))
 header_true told file (Ok schema) e = blocks_true told (reading_of (start_of schema file)) (second_none (schema_fault Package schema) _ e)
 header_true told file (Err c) e = (cc)
 
-pub package_true : TellsFirst → (file : List ℕ) → package_fault file ≡ None → AreTrueTo (expected_contents (package_of file).value) (package_of file).contents
+pub package_true : TellsFirst → (file : List ℕ) → package_fault file ≡ None → AreTrueTo (expected_contents (package_with_contents file).value) (package_with_contents file).contents
 unfolding whole_fault files_in_file payload_in
 package_true told file h = header_true told file (header_of file) h

@@ -4,7 +4,7 @@ use Rattle.adb_view.specs.Plain.{Plain, Plains, none, more}
 use Rattle.adb_tables.specs.Values.{nth, count_of, entries_in, entry_in, int_in, text_in}
 use Rattle.adb_rules.specs.Texts.{is_with_contents}
 use Rattle.adb_fields.specs.Repeated.{list_of}
-use Rattle.pkg_core.specs.Contents.{Expected, expected_at, files_from, folders_from}
+use Rattle.pkg_core.specs.Contents.{Expected, expected_at, expected_files, expected_folders}
 use Rattle.pkg_core.specs.Opened.{left_from}
 
 pub next_listed : (vs : Plains) (i : ℕ) → i < count_of vs → drop i (list_of vs) ≡ nth vs i ∷ drop (i + 1) (list_of vs)
@@ -22,13 +22,13 @@ none_listed (more v vs) zero h = absurd (omega arith)
 none_listed (more v vs) (suc i) h = none_listed vs i (omega arith)
 
 -- a file more, with contents or without
-file_more : (d i : ℕ) (vs : Plains) → i < count_of vs → files_from d (i + 1) (drop i (list_of vs)) ≡ expected_at d (i + 1) (nth vs i) ++ files_from d (i + 1 + 1) (drop (i + 1) (list_of vs))
-file_more d i vs h = ap (files_from d (i + 1)) (next_listed vs i h)
+file_more : (d i : ℕ) (vs : Plains) → i < count_of vs → expected_files d (i + 1) (drop i (list_of vs)) ≡ expected_at d (i + 1) (nth vs i) ++ expected_files d (i + 1 + 1) (drop (i + 1) (list_of vs))
+file_more d i vs h = ap (expected_files d (i + 1)) (next_listed vs i h)
 
 pub some_file : (d folder i : ℕ) (v f : Plain) (size : ℕ) (hash : List ℕ) → i < count_of (entries_in v) → folder ≡ d → f ≡ entry_in v (i + 1 - 1) → is_with_contents f ≡ true → size ≡ int_in (entry_in f 2) → hash ≡ text_in (entry_in f 4)
-    → files_from d (i + 1) (drop i (list_of (entries_in v))) ≡ record { folder = folder; file = i + 1; size = size; hash = hash } ∷ files_from d (i + 1 + 1) (drop (i + 1) (list_of (entries_in v)))
+    → expected_files d (i + 1) (drop i (list_of (entries_in v))) ≡ record { folder = folder; file = i + 1; size = size; hash = hash } ∷ expected_files d (i + 1 + 1) (drop (i + 1) (list_of (entries_in v)))
 some_file d folder i v f size hash lt e is c s h =
-    let others : List Expected = files_from d (i + 1 + 1) (drop (i + 1) (list_of (entries_in v))) in
+    let others : List Expected = expected_files d (i + 1 + 1) (drop (i + 1) (list_of (entries_in v))) in
     let at : f ≡ entry_in v i = is ∙ ap (entry_in v) (omega arith) in
     let this : List Expected = record { folder = d; file = i + 1; size = int_in (entry_in f 2); hash = text_in (entry_in f 4) } ∷ [] in
     file_more d i (entries_in v) lt
@@ -37,45 +37,45 @@ some_file d folder i v f size hash lt e is c s h =
     ∙ (λ k. record { folder = (sym e) k; file = i + 1; size = (sym s) k; hash = (sym h) k } ∷ others)))
 
 pub other_file : (d i : ℕ) (v f : Plain) → i < count_of (entries_in v) → f ≡ entry_in v (i + 1 - 1) → is_with_contents f ≡ false
-    → files_from d (i + 1) (drop i (list_of (entries_in v))) ≡ files_from d (i + 1 + 1) (drop (i + 1) (list_of (entries_in v)))
+    → expected_files d (i + 1) (drop i (list_of (entries_in v))) ≡ expected_files d (i + 1 + 1) (drop (i + 1) (list_of (entries_in v)))
 other_file d i v f lt is c =
-    let others : List Expected = files_from d (i + 1 + 1) (drop (i + 1) (list_of (entries_in v))) in
+    let others : List Expected = expected_files d (i + 1 + 1) (drop (i + 1) (list_of (entries_in v))) in
     let at : f ≡ entry_in v i = is ∙ ap (entry_in v) (omega arith) in
     let this : List Expected = record { folder = d; file = i + 1; size = int_in (entry_in f 2); hash = text_in (entry_in f 4) } ∷ [] in
     file_more d i (entries_in v) lt
     ∙ (ap (λ (g : Plain). expected_at d (i + 1) g ++ others) (sym at)
     ∙ ap (λ (b : Bool). (if b then this else []) ++ others) c)
 
-pub no_file : (d j i : ℕ) (v : Plain) → count_of (entries_in v) ≤ i → files_from d j (drop i (list_of (entries_in v))) ≡ []
-no_file d j i v h = ap (files_from d j) (none_listed (entries_in v) i h)
+pub no_file : (d j i : ℕ) (v : Plain) → count_of (entries_in v) ≤ i → expected_files d j (drop i (list_of (entries_in v))) ≡ []
+no_file d j i v h = ap (expected_files d j) (none_listed (entries_in v) i h)
 
 -- a folder more
-at_folder : (i : ℕ) (folders : List Plain) → left_from i 0 folders ≡ folders_from i folders
+at_folder : (i : ℕ) (folders : List Plain) → left_from i 0 folders ≡ expected_folders i folders
 at_folder i [] = refl
 at_folder i (d ∷ ds) = refl
 
 folder_more : (i j : ℕ) (v d fs : Plain) → i < count_of (entries_in v) → d ≡ entry_in v (i + 1 - 1) → fs ≡ entry_in d 2
-    → left_from (i + 1) j (drop i (list_of (entries_in v))) ≡ files_from (i + 1) (j + 1) (drop j (list_of (entries_in fs))) ++ folders_from (i + 1 + 1) (drop (i + 1) (list_of (entries_in v)))
+    → left_from (i + 1) j (drop i (list_of (entries_in v))) ≡ expected_files (i + 1) (j + 1) (drop j (list_of (entries_in fs))) ++ expected_folders (i + 1 + 1) (drop (i + 1) (list_of (entries_in v)))
 folder_more i j v d fs lt is files =
     let at : fs ≡ entry_in (entry_in v i) 2 = files ∙ (ap (λ (g : Plain). entry_in g 2) is ∙ ap (λ n. entry_in (entry_in v n) 2) (omega arith)) in
     ap (left_from (i + 1) j) (next_listed (entries_in v) i lt)
-    ∙ ap (λ (g : Plain). files_from (i + 1) (j + 1) (drop j (list_of (entries_in g))) ++ folders_from (i + 1 + 1) (drop (i + 1) (list_of (entries_in v)))) (sym at)
+    ∙ ap (λ (g : Plain). expected_files (i + 1) (j + 1) (drop j (list_of (entries_in g))) ++ expected_folders (i + 1 + 1) (drop (i + 1) (list_of (entries_in v)))) (sym at)
 
 pub some_left : (i j k : ℕ) (v d fs : Plain) (w : Expected) → i < count_of (entries_in v) → d ≡ entry_in v (i + 1 - 1) → fs ≡ entry_in d 2
-    → files_from (i + 1) (j + 1) (drop j (list_of (entries_in fs))) ≡ w ∷ files_from (i + 1) (k + 1) (drop k (list_of (entries_in fs)))
+    → expected_files (i + 1) (j + 1) (drop j (list_of (entries_in fs))) ≡ w ∷ expected_files (i + 1) (k + 1) (drop k (list_of (entries_in fs)))
     → left_from (i + 1) j (drop i (list_of (entries_in v))) ≡ w ∷ left_from (i + 1) k (drop i (list_of (entries_in v)))
 some_left i j k v d fs w lt is files e =
-    let others : List Expected = folders_from (i + 1 + 1) (drop (i + 1) (list_of (entries_in v))) in
+    let others : List Expected = expected_folders (i + 1 + 1) (drop (i + 1) (list_of (entries_in v))) in
     folder_more i j v d fs lt is files
     ∙ (ap (λ es. es ++ others) e
     ∙ ap (λ es. w ∷ es) (sym (folder_more i k v d fs lt is files)))
 
 pub folder_left : (i j : ℕ) (v d fs : Plain) → i < count_of (entries_in v) → d ≡ entry_in v (i + 1 - 1) → fs ≡ entry_in d 2
-    → files_from (i + 1) (j + 1) (drop j (list_of (entries_in fs))) ≡ []
+    → expected_files (i + 1) (j + 1) (drop j (list_of (entries_in fs))) ≡ []
     → left_from (i + 1) j (drop i (list_of (entries_in v))) ≡ left_from (i + 1 + 1) 0 (drop (i + 1) (list_of (entries_in v)))
 folder_left i j v d fs lt is files e =
     folder_more i j v d fs lt is files
-    ∙ (ap (λ es. es ++ folders_from (i + 1 + 1) (drop (i + 1) (list_of (entries_in v)))) e
+    ∙ (ap (λ es. es ++ expected_folders (i + 1 + 1) (drop (i + 1) (list_of (entries_in v)))) e
     ∙ sym (at_folder (i + 1 + 1) (drop (i + 1) (list_of (entries_in v)))))
 
 pub none_left : (i j : ℕ) (v : Plain) → count_of (entries_in v) ≤ i → left_from (i + 1) j (drop i (list_of (entries_in v))) ≡ []

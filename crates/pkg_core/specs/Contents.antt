@@ -13,13 +13,13 @@ use Rattle.adb_block.specs.declared.block.BlockKind.TheVariants as Kinds
 use Rattle.adb_view.specs.Plain.{Plain}
 use Rattle.adb_tables.specs.Values.{entry_in, int_in, text_in}
 use Rattle.adb_fields.specs.Repeated.{folders_in, files_in}
-use Rattle.adb_rules.specs.Rules.{is_digest_length}
 use Rattle.adb_schema.specs.Soundness.{file_pair}
 use Rattle.adb_rules.specs.Texts.{is_with_contents}
 
 -- ---- what is expected
 
--- a file whose contents are due: the positions of its folder and of itself in it, which count from 1, its size, and its digest
+-- a file whose contents are due: the positions of its folder and of itself in it, which count from
+-- 1, its size, and its digest
 pub record Expected : Type 0 where
   pub folder : ℕ
   pub file : ℕ
@@ -30,29 +30,37 @@ pub record Expected : Type 0 where
 abbrev pub expected_at : ℕ → ℕ → Plain → List Expected
 expected_at folder i file =
     if is_with_contents file
-    then record { folder = folder; file = i; size = int_in (entry_in file 2); hash = text_in (entry_in file 4) } ∷ []
+    then record {
+      folder = folder;
+      file = i;
+      size = int_in (entry_in file 2);
+      hash = text_in (entry_in file 4);
+    } ∷ []
     else []
 
-abbrev pub files_from : ℕ → ℕ → List Plain → List Expected
-files_from folder i [] = []
-files_from folder i (file ∷ files) = expected_at folder i file ++ files_from folder (i + 1) files
+abbrev pub expected_files : ℕ → ℕ → List Plain → List Expected
+expected_files folder i [] = []
+expected_files folder i (file ∷ files) =
+    expected_at folder i file ++ expected_files folder (i + 1) files
 
-abbrev pub folders_from : ℕ → List Plain → List Expected
-folders_from i [] = []
-folders_from i (folder ∷ folders) = files_from i 1 (files_in folder) ++ folders_from (i + 1) folders
+abbrev pub expected_folders : ℕ → List Plain → List Expected
+expected_folders i [] = []
+expected_folders i (folder ∷ folders) =
+    expected_files i 1 (files_in folder) ++ expected_folders (i + 1) folders
 
 -- of a package, folder by folder
 abbrev pub expected_contents : Plain → List Expected
-expected_contents pkg = folders_from 1 (folders_in pkg)
+expected_contents pkg = expected_folders 1 (folders_in pkg)
 
 -- ---- one block of contents
 
 -- the bytes of a file, behind its two positions
-abbrev pub bytes_in : List ℕ → List ℕ
-bytes_in payload = drop 8 payload
+abbrev pub contents_bytes : List ℕ → List ℕ
+contents_bytes payload = drop 8 payload
 
 abbrev pub digest_fault : (List ℕ → Digest) → List ℕ → List ℕ → Option Cause
-digest_fault as_digest wanted found = if bytes_eq wanted found then None else Some (HashDiffers (as_digest wanted) (as_digest found))
+digest_fault as_digest wanted found =
+    if bytes_eq wanted found then None else Some (HashDiffers (as_digest wanted) (as_digest found))
 
 -- whether bytes have the digest; which function it is of (FIPS 180-4) its length tells
 unfoldable pub hash_fault : List ℕ → List ℕ → Option Cause
@@ -62,24 +70,27 @@ hash_fault hash bytes =
     else if length hash == 64 then digest_fault Sha512 hash (sha512 bytes)
     else None
 
-abbrev pub is_of : List ℕ → Expected → Bool
-is_of payload e = ((file_pair payload).0 == e.folder) && ((file_pair payload).1 == e.file)
+abbrev pub has_positions_of : List ℕ → Expected → Bool
+has_positions_of payload e =
+    ((file_pair payload).0 == e.folder) && ((file_pair payload).1 == e.file)
 
 -- first the positions, then the size, then the digest
-abbrev pub file_fault : List ℕ → Expected → Option Cause
-file_fault payload e =
-    if not (is_of payload e) then Some (DataOrder (e.folder, e.file) (file_pair payload))
-    else if not (length (bytes_in payload) == e.size) then Some (DataSize e.size (length (bytes_in payload)))
-    else hash_fault e.hash (bytes_in payload)
+abbrev pub expected_fault : List ℕ → Expected → Option Cause
+expected_fault payload e =
+    if not (has_positions_of payload e) then Some (DataOrder (e.folder, e.file) (file_pair payload))
+    else if not (length (contents_bytes payload) == e.size)
+    then Some (DataSize e.size (length (contents_bytes payload)))
+    else hash_fault e.hash (contents_bytes payload)
 
 -- against the file that is expected next; (0, 0) where there is none
 abbrev pub next_fault : List ℕ → List Expected → Option Cause
 next_fault payload [] = Some (DataOrder (0, 0) (file_pair payload))
-next_fault payload (e ∷ es) = file_fault payload e
+next_fault payload (e ∷ es) = expected_fault payload e
 
 -- a block of contents at an offset
 abbrev pub contents_block_fault : List ℕ → ℕ → List Expected → Option Cause
-contents_block_fault payload at es = if nat_lt (length payload) 8 then Some (Truncated at) else next_fault payload es
+contents_block_fault payload at es =
+    if nat_lt (length payload) 8 then Some (Truncated at) else next_fault payload es
 
 -- where blocks end, no file may be left
 abbrev pub missing_fault : List Expected → Option Cause
@@ -100,26 +111,28 @@ pub data Files : Type 0 where
   refused : Cause → Files
   given : Contents → Files → Files
 
-abbrev pub unless : Option Cause → Files → Files
-unless None files = files
-unless (Some c) files = refused c
+abbrev pub unless_fault : Option Cause → Files → Files
+unless_fault None files = files
+unless_fault (Some c) files = refused c
 
-abbrev pub contents_at : List ℕ → Expected → Contents
-contents_at payload e = record { folder = e.folder; file = e.file; bytes = bytes_in payload }
+abbrev pub contents_by : List ℕ → Expected → Contents
+contents_by payload e = record { folder = e.folder; file = e.file; bytes = contents_bytes payload }
 
 abbrev pub with_next : List ℕ → (List Expected → Files) → List Expected → Files
 with_next payload further [] = no_more
-with_next payload further (e ∷ es) = given (contents_at payload e) (further es)
+with_next payload further (e ∷ es) = given (contents_by payload e) (further es)
 
-abbrev pub at_block : BlockKind → List ℕ → ℕ → (List Expected → Files) → List Expected → Files
-at_block Kinds.Contents payload at further es = unless (contents_block_fault payload at es) (with_next payload further es)
-at_block kind payload at further es = further es
+abbrev pub files_at_block : BlockKind → List ℕ → ℕ → (List Expected → Files) → List Expected → Files
+files_at_block Kinds.Contents payload at further es =
+    unless_fault (contents_block_fault payload at es) (with_next payload further es)
+files_at_block kind payload at further es = further es
 
 -- what the blocks give, of the files that are expected
-unfoldable pub files_of : List Expected → Reading → Files
-files_of es done = unless (missing_fault es) no_more
-files_of es (fault c) = refused c
-files_of es (more b at r) = at_block b.kind b.payload at (λ left. files_of left r) es
+unfoldable pub files_by_blocks : List Expected → Reading → Files
+files_by_blocks es done = unless_fault (missing_fault es) no_more
+files_by_blocks es (fault c) = refused c
+files_by_blocks es (more b at r) =
+    files_at_block b.kind b.payload at (λ left. files_by_blocks left r) es
 
 abbrev pub fault_in : Files → Option Cause
 fault_in no_more = None
@@ -133,44 +146,4 @@ contents_in (given contents files) = contents ∷ contents_in files
 
 -- the first failed test of the blocks behind a package's values, block by block
 abbrev pub contents_fault : List Expected → Reading → Option Cause
-contents_fault es r = fault_in (files_of es r)
-
--- ---- what that comes to
-
--- the contents are those of the file that is expected: its positions, its size and its digest
-pub record IsContentsOf (e : Expected) (contents : Contents) : Type 0 where
-  pub folder : contents.folder ≡ e.folder
-  pub file : contents.file ≡ e.file
-  pub size : length contents.bytes ≡ e.size
-  pub hash : hash_fault e.hash contents.bytes ≡ None
-
--- one for each file, in order
-abbrev pub AreContentsOf : List Expected → List Contents → Type 0
-AreContentsOf [] [] = Unit {0}
-AreContentsOf [] (contents ∷ others) = ⊥
-AreContentsOf (e ∷ es) [] = ⊥
-AreContentsOf (e ∷ es) (contents ∷ others) = IsContentsOf e contents × AreContentsOf es others
-
--- ---- and of a package whose values are good
-
--- the digest is that of the bytes, by one of the three functions
-abbrev pub IsDigestOf : List ℕ → List ℕ → Type 0
-IsDigestOf hash bytes = (hash ≡ sha1 bytes) ⊎ ((hash ≡ sha256 bytes) ⊎ (hash ≡ sha512 bytes))
-
--- the contents are what the file's entry says of them
-pub record IsTrueTo (e : Expected) (contents : Contents) : Type 0 where
-  pub folder : contents.folder ≡ e.folder
-  pub file : contents.file ≡ e.file
-  pub size : length contents.bytes ≡ e.size
-  pub digest : IsDigestOf e.hash contents.bytes
-
-abbrev pub AreTrueTo : List Expected → List Contents → Type 0
-AreTrueTo [] [] = Unit {0}
-AreTrueTo [] (contents ∷ others) = ⊥
-AreTrueTo (e ∷ es) [] = ⊥
-AreTrueTo (e ∷ es) (contents ∷ others) = IsTrueTo e contents × AreTrueTo es others
-
--- each digest has the length of one of the three functions
-abbrev pub HaveDigests : List Expected → Type 0
-HaveDigests [] = Unit {0}
-HaveDigests (e ∷ es) = (is_digest_length (length e.hash) ≡ true) × HaveDigests es
+contents_fault es r = fault_in (files_by_blocks es r)

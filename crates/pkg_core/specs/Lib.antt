@@ -1,3 +1,7 @@
+-- what the contract of `apk` says
 pub mod Contents
-pub mod Opened
 pub mod Whole
+-- what only inner contracts and proofs use
+pub mod Opened
+pub mod Refusals
+pub mod GoodContents

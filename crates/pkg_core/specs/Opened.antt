@@ -7,20 +7,21 @@ use Rattle.adb_tables.specs.Values.{entries_in}
 use Rattle.adb_schema.specs.Checked.{checked_value}
 use Rattle.adb_fields.specs.ListValue.{list_value}
 use Rattle.adb_fields.specs.Repeated.{list_of, files_in}
-use Rattle.pkg_core.specs.Contents.{Expected, Contents, Files, no_more, refused, given, files_from, folders_from, files_of, contents_at, contents_block_fault}
+use Rattle.pkg_core.specs.Contents.{Expected, Contents, Files, no_more, refused, given, expected_files, expected_folders, files_by_blocks, contents_by, contents_block_fault}
 use Rattle.pkg_core.specs.declared.pack.Package.{Package}
 use Rattle.pkg_core.specs.declared.walk.Walk.{Walk}
 use Rattle.pkg_core.specs.declared.walk.Wanted.{Wanted}
-use Rattle.pkg_core.specs.declared.rest.Rest.{Rest}
-use Rattle.pkg_core.specs.declared.rest.FileContents.{FileContents}
+use Rattle.pkg_core.specs.declared.walk.Rest.{Rest}
+use Rattle.pkg_core.specs.declared.walk.FileContents.{FileContents}
 
-abbrev pub contents_of : FileContents → Contents
-contents_of f = record { folder = f.path; file = f.file; bytes = f.bytes.now }
+abbrev pub contents_view : FileContents → Contents
+contents_view f = record { folder = f.path; file = f.file; bytes = f.bytes.now }
 
--- the next file, and then those behind it; None where there is no more; or the first failed test, which is told from then on
+-- the next file, and then those behind it; None where there is no more; or the first failed test,
+-- which is told from then on
 abbrev pub IsNextFile : Files → Result (Option FileContents) Cause → Files → Type 0
 IsNextFile before (Ok None) after = (before ≡ no_more) × (after ≡ no_more)
-IsNextFile before (Ok (Some f)) after = before ≡ given (contents_of f) after
+IsNextFile before (Ok (Some f)) after = before ≡ given (contents_view f) after
 IsNextFile before (Err c) after = (before ≡ refused c) × (after ≡ refused c)
 
 -- ---- the walk over the files
@@ -31,20 +32,23 @@ expected_of w = record { folder = w.folder; file = w.file; size = w.size; hash =
 -- of folders, the first of which has this position, where so many files of the first are passed
 abbrev pub left_from : ℕ → ℕ → List Plain → List Expected
 left_from i j [] = []
-left_from i j (folder ∷ folders) = files_from i (j + 1) (drop j (files_in folder)) ++ folders_from (i + 1) folders
+left_from i j (folder ∷ folders) =
+    expected_files i (j + 1) (drop j (files_in folder)) ++ expected_folders (i + 1) folders
 
 abbrev pub left_in : Walk → List Expected
-left_in walk = left_from (walk.folder + 1) walk.file (drop walk.folder (list_of (entries_in (list_value walk.folders))))
+left_in walk =
+    left_from (walk.folder + 1) walk.file
+    (drop walk.folder (list_of (entries_in (list_value walk.folders))))
 
 -- the first of a list and those behind it, or None where it is empty
-abbrev pub IsTaken : List Expected → Option Wanted → List Expected → Type 0
-IsTaken before None after = (before ≡ []) × (after ≡ [])
-IsTaken before (Some w) after = before ≡ expected_of w ∷ after
+abbrev pub TakesFirst : List Expected → Option Wanted → List Expected → Type 0
+TakesFirst before None after = (before ≡ []) × (after ≡ [])
+TakesFirst before (Some w) after = before ≡ expected_of w ∷ after
 
 -- ---- the blocks with it
 
 abbrev pub files_left : Rest → Files
-files_left rest = files_of (left_in rest.walk) (reading_of rest.blocks)
+files_left rest = files_by_blocks (left_in rest.walk) (reading_of rest.blocks)
 
 -- after a refusal that refusal alone
 abbrev pub unless_refused : Option Cause → Files → Files
@@ -52,20 +56,22 @@ unless_refused None files = files
 unless_refused (Some c) files = refused c
 
 -- as IsNextFile, but for what comes after a refusal
-abbrev pub IsRead : Files → Result (Option FileContents) Cause → Files → Type 0
-IsRead before (Ok None) after = (before ≡ no_more) × (after ≡ no_more)
-IsRead before (Ok (Some f)) after = before ≡ given (contents_of f) after
-IsRead before (Err c) after = before ≡ refused c
+abbrev pub ReadsNext : Files → Result (Option FileContents) Cause → Files → Type 0
+ReadsNext before (Ok None) after = (before ≡ no_more) × (after ≡ no_more)
+ReadsNext before (Ok (Some f)) after = before ≡ given (contents_view f) after
+ReadsNext before (Err c) after = before ≡ refused c
 
 -- the contents are those of the first file, and the others are left
-abbrev pub IsFirst : List ℕ → FileContents → List Expected → List Expected → Type 0
-IsFirst payload f [] after = ⊥
-IsFirst payload f (e ∷ es) after = (contents_of f ≡ contents_at payload e) × (es ≡ after)
+abbrev pub GivesFirst : List ℕ → FileContents → List Expected → List Expected → Type 0
+GivesFirst payload f [] after = ⊥
+GivesFirst payload f (e ∷ es) after = (contents_view f ≡ contents_by payload e) × (es ≡ after)
 
 -- what a block of contents gives
-abbrev pub IsGiven : List ℕ → ℕ → List Expected → Result FileContents Cause → List Expected → Type 0
-IsGiven payload at before (Ok f) after = (contents_block_fault payload at before ≡ None) × IsFirst payload f before after
-IsGiven payload at before (Err c) after = contents_block_fault payload at before ≡ Some c
+abbrev pub GivesContents : List ℕ → ℕ → List Expected → Result FileContents Cause → List Expected
+    → Type 0
+GivesContents payload at before (Ok f) after =
+    (contents_block_fault payload at before ≡ None) × GivesFirst payload f before after
+GivesContents payload at before (Err c) after = contents_block_fault payload at before ≡ Some c
 
 -- ---- a package
 

@@ -13,7 +13,7 @@ use Rattle.adb_tables.specs.declared.tables.Which.TheVariants.{Package, Index, I
 use Rattle.adb_schema.specs.declared.read.TheConstants.{PACKAGE_WORD, INDEX_WORD, IDB_WORD, INTENT_WORD}
 use Rattle.adb_schema.specs.declared.read.ReadFault.{ReadFault}
 use Rattle.adb_schema.specs.declared.read.ReadFault.TheVariants as ReadFaults
-use Rattle.pkg_core.specs.Contents.{Contents, Files, no_more, refused, files_of, contents_in, contents_fault, expected_contents}
+use Rattle.pkg_core.specs.Contents.{Contents, Files, no_more, refused, files_by_blocks, contents_in, contents_fault, expected_contents}
 use Rattle.pkg_core.specs.declared.pack.PackageFault.{PackageFault}
 use Rattle.pkg_core.specs.declared.pack.PackageFault.TheVariants.{Bad, Memory}
 
@@ -37,13 +37,13 @@ behind_fault which value r = rest_fault which r
 unfoldable pub whole_fault : Which → List ℕ → Option Cause
 whole_fault which file = fault_with (behind_fault which) which file
 
-abbrev pub schema_fault : List ℕ → ℕ → Option Which → Option Cause
-schema_fault file schema None = Some (WrongSchema schema)
-schema_fault file schema (Some which) = whole_fault which file
+abbrev pub fault_by_schema : List ℕ → ℕ → Option Which → Option Cause
+fault_by_schema file schema None = Some (WrongSchema schema)
+fault_by_schema file schema (Some which) = whole_fault which file
 
 abbrev pub fault_by_header : List ℕ → Result ℕ Cause → Option Cause
 fault_by_header file (Err c) = Some c
-fault_by_header file (Ok schema) = schema_fault file schema (root_of_schema schema)
+fault_by_header file (Ok schema) = fault_by_schema file schema (root_of_schema schema)
 
 -- all tests in their order, of a file that is to be a container of one of the four schemas
 unfoldable pub container_fault : List ℕ → Option Cause
@@ -62,7 +62,7 @@ package_id file = sha256 (payload_in file)
 abbrev pub files_behind : Reading → Files
 files_behind done = no_more
 files_behind (fault c) = refused c
-files_behind (more b at r) = files_of (expected_contents (root_value Package b.payload)) r
+files_behind (more b at r) = files_by_blocks (expected_contents (root_value Package b.payload)) r
 
 abbrev pub files_by_header : List ℕ → Result ℕ Cause → Files
 files_by_header file (Ok schema) = files_behind (reading_of (start_of schema file))
@@ -77,14 +77,9 @@ pub record Packed : Type 0 where
   pub value : Plain
   pub contents : List Contents
 
-abbrev pub package_of : List ℕ → Packed
-package_of file = record { value = root_value Package (payload_in file); contents = contents_in (files_in_file file) }
-
--- a refusal tells what there is to tell
-abbrev pub IsRefused : PackageFault → Option Cause → Type 0
-IsRefused (Bad cause) told = told ≡ Some cause
-IsRefused Memory told = Unit {0}
-
-abbrev pub fault_of_read : ReadFault → PackageFault
-fault_of_read (ReadFaults.Bad cause) = Bad cause
-fault_of_read ReadFaults.Memory = Memory
+abbrev pub package_with_contents : List ℕ → Packed
+package_with_contents file =
+    record {
+      value = root_value Package (payload_in file);
+      contents = contents_in (files_in_file file);
+    }

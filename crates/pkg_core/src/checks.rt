@@ -1,29 +1,36 @@
-//! The test of a whole container.
+//! The tests of a container to its end, and the digests of contents.
 
-ghost use Rattle.std.specs.Prelude.{◌≡◌, ◌≢◌, None, IfOk, IfErr};
+ghost use Rattle.std.specs.Prelude.{◌≡◌, ◌≢◌, None, IfOk, IfErr, length};
 ghost use Rattle.adb_view.specs.Gives.{cause_of};
-ghost use Rattle.adb_tables.specs.declared.tables.Which.TheVariants as Tables;
-ghost use Rattle.pkg_core.specs.Contents.{fault_in};
+ghost use Rattle.pkg_core.specs.Contents.{fault_in, digest_fault, hash_fault};
 ghost use Rattle.pkg_core.specs.Opened.{opened_files};
-ghost use Rattle.pkg_core.specs.Whole.{container_fault, package_fault, root_of_schema, whole_fault, IsRefused};
+ghost use Rattle.pkg_core.specs.Whole.{container_fault, package_fault, root_of_schema, whole_fault};
+ghost use Rattle.pkg_core.specs.Refusals.{IsFaultOf};
+ghost use Rattle.sha1.specs.Sha1.{sha1};
+ghost use Rattle.sha2.specs.Sha256.{sha256};
+ghost use Rattle.sha2.specs.Sha512.{sha512};
+ghost use Rattle.adb_tables.specs.declared.tables.Which.TheVariants as Tables;
+ghost use Rattle.base_core.specs.declared.cause.Digest.TheVariants as Digests;
 
 use crate::pack::{Package, PackageFault};
 use adb_block::Blocks;
 use adb_schema::{IDB_WORD, INDEX_WORD, INTENT_WORD, PACKAGE_WORD, Which, read_adb};
-use base_core::Cause;
+use base_core::{Cause, Digest as FoundDigest};
+use sha1::Sha1;
+use sha2::{Digest, Sha256, Sha512};
 use std::alloc::Global;
 
-/// Tests a container (apk-v3(5)) of any of the four schemas to its end: the file's header, its schema, the first block's
-/// framing, its head, its shape, its texts, names that stand twice, and the further blocks, in a package with the
-/// contents of its files.
+/// Tests a container (apk-v3(5)) of any of the four schemas to its end: the file's header, its
+/// schema, the first block's framing, its head, its shape, its texts, names that stand twice, and
+/// the further blocks, in a package with the contents of its files.
 ///
 /// # Errors
 ///
-/// `Bad` with the cause of the first test that fails, or `Memory`. It is `WrongSchema` where the schema is none of the
-/// four.
+/// `Bad` with the cause of the first test that fails, or `Memory`. It is `WrongSchema` where the
+/// schema is none of the four.
 #[tactic(auto, unfolding(crate::specs::Whole::container_fault))]
 pub fn verify(alloc: Global, bytes: &[u8]) -> Result<(), PackageFault>
-    ensures bad { IfErr result (λ fault. IsRefused fault (container_fault bytes.now)) }
+    ensures bad { IfErr result (λ fault. IsFaultOf fault (container_fault bytes.now)) }
     ensures sound { IfOk result (λ _. container_fault bytes.now ≡ None) }
 {
     let found = Blocks::new(bytes)?.schema();
@@ -48,7 +55,7 @@ fn root_of_schema(schema: u32) -> Option<Which>
 
 /// Tests a container that is to have this table at its root.
 fn verify_as(alloc: Global, bytes: &[u8], which: Which) -> Result<(), PackageFault>
-    ensures bad { IfErr result (λ fault. IsRefused fault (whole_fault which bytes.now)) }
+    ensures bad { IfErr result (λ fault. IsFaultOf fault (whole_fault which bytes.now)) }
     ensures sound { IfOk result (λ _. whole_fault which bytes.now ≡ None) }
 {
     match which {
@@ -60,7 +67,7 @@ fn verify_as(alloc: Global, bytes: &[u8], which: Which) -> Result<(), PackageFau
 /// Tests a package, with the contents of its files.
 #[tactic(auto, using(crate::proofs::Steps::files_then, crate::proofs::Steps::values_first))]
 fn verify_package(alloc: Global, bytes: &[u8]) -> Result<(), PackageFault>
-    ensures bad { IfErr result (λ fault. IsRefused fault (package_fault bytes.now)) }
+    ensures bad { IfErr result (λ fault. IsFaultOf fault (package_fault bytes.now)) }
     ensures sound { IfOk result (λ _. package_fault bytes.now ≡ None) }
 {
     let mut pkg = Package::new(alloc, bytes)?;
@@ -80,9 +87,75 @@ fn check_files(pkg: &mut Package<'_>) -> Result<(), Cause>
 #[tactic(auto, using(crate::proofs::Steps::other_fault))]
 fn verify_other(alloc: Global, bytes: &[u8], which: Which) -> Result<(), PackageFault>
     requires { which ≢ Tables.Package }
-    ensures bad { IfErr result (λ fault. IsRefused fault (whole_fault which bytes.now)) }
+    ensures bad { IfErr result (λ fault. IsFaultOf fault (whole_fault which bytes.now)) }
     ensures sound { IfOk result (λ _. whole_fault which bytes.now ≡ None) }
 {
     read_adb(alloc, bytes, which)?;
     Ok(())
+}
+
+/// Why bytes do not have this digest, if they do not. Its length tells the function: SHA-1, SHA-256
+/// or SHA-512 (FIPS 180-4). A digest of another length is not looked at; no file of a checked
+/// package that has contents has one.
+#[tactic(auto, unfolding(crate::specs::Contents::hash_fault))]
+pub(crate) fn hash_fault(hash: &[u8], bytes: &[u8]) -> Option<Cause>
+    ensures { result ≡ hash_fault hash.now bytes.now }
+{
+    match hash.len() {
+        20 => sha1_fault(hash, bytes),
+        32 => sha256_fault(hash, bytes),
+        64 => sha512_fault(hash, bytes),
+        _ => None,
+    }
+}
+
+/// Compares a SHA-1.
+fn sha1_fault(hash: &[u8], bytes: &[u8]) -> Option<Cause>
+    requires { length hash.now ≡ 20 }
+    ensures { result ≡ digest_fault Digests.Sha1 hash.now (sha1 bytes.now) }
+{
+    let found = Sha1::digest(bytes);
+    if hash == found.as_slice() {
+        return None;
+    }
+    let mut wanted = [0; 20];
+    wanted.copy_from_slice(hash);
+    Some(Cause::HashDiffers {
+        wanted: FoundDigest::Sha1(wanted),
+        found: FoundDigest::Sha1(found),
+    })
+}
+
+/// Compares a SHA-256.
+fn sha256_fault(hash: &[u8], bytes: &[u8]) -> Option<Cause>
+    requires { length hash.now ≡ 32 }
+    ensures { result ≡ digest_fault Digests.Sha256 hash.now (sha256 bytes.now) }
+{
+    let found = Sha256::digest(bytes);
+    if hash == found.as_slice() {
+        return None;
+    }
+    let mut wanted = [0; 32];
+    wanted.copy_from_slice(hash);
+    Some(Cause::HashDiffers {
+        wanted: FoundDigest::Sha256(wanted),
+        found: FoundDigest::Sha256(found),
+    })
+}
+
+/// Compares a SHA-512.
+fn sha512_fault(hash: &[u8], bytes: &[u8]) -> Option<Cause>
+    requires { length hash.now ≡ 64 }
+    ensures { result ≡ digest_fault Digests.Sha512 hash.now (sha512 bytes.now) }
+{
+    let found = Sha512::digest(bytes);
+    if hash == found.as_slice() {
+        return None;
+    }
+    let mut wanted = [0; 64];
+    wanted.copy_from_slice(hash);
+    Some(Cause::HashDiffers {
+        wanted: FoundDigest::Sha512(wanted),
+        found: FoundDigest::Sha512(found),
+    })
 }

@@ -1,16 +1,16 @@
-//! Packages (apk-package(5)) with the contents of their files, and the test of a whole container (apk-v3(5)).
+//! Packages (apk-package(5)) with the contents of their files, and the test of a whole container
+//! (apk-v3(5)).
 //!
-//! The bytes of a file come in; `Package` lends its values and the contents of its files, one after the other, and
-//! `verify` tests a container of any schema to its end. The contracts cite `Contents` (which files have contents, and
-//! what the blocks give of them), `Opened` (what a package that is read shows) and `Whole` (the first failed test of a
-//! whole container) of `specs/`.
+//! The bytes of a file come in; `Package` lends its values and the contents of its files, one after
+//! the other, and `verify` tests a container of any schema to its end. The contracts cite
+//! `Contents` (which files have contents, and what the blocks give of them), `Opened` (what a
+//! package that is read shows), `Whole` (the first failed test of a whole container), `Refusals`
+//! and `GoodContents` (what contents in which no test fails come to) of `specs/`.
 #![tactic(auto)]
 
 mod checks;
-mod digest;
 mod laws;
 mod pack;
-mod rest;
 mod walk;
 
 pub use checks::verify;
@@ -19,4 +19,4 @@ pub use laws::{
     good_blocks_give_the_contents_of_each_file,
 };
 pub use pack::{Package, PackageFault};
-pub use rest::FileContents;
+pub use walk::FileContents;

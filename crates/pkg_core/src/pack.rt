@@ -6,11 +6,10 @@ ghost use Rattle.adb_block.specs.Reading.{reading_of};
 ghost use Rattle.adb_schema.specs.Checked.{which_of};
 ghost use Rattle.adb_schema.specs.Soundness.{first_fault, payload_in, root_value};
 ghost use Rattle.adb_tables.specs.declared.tables.Which.TheVariants as Tables;
-ghost use Rattle.pkg_core.specs.Contents.{expected_contents, files_of};
+ghost use Rattle.pkg_core.specs.Contents.{expected_contents, files_by_blocks};
 ghost use Rattle.pkg_core.specs.Whole.{files_in_file};
 
-use crate::rest::{FileContents, Rest};
-use crate::walk::Walk;
+use crate::walk::{FileContents, Rest, Walk};
 use adb_block::Blocks;
 use adb_schema::{Checked, PackageView, ReadFault, Which, read_adb};
 use base_core::Cause;
@@ -42,9 +41,9 @@ impl From<Cause> for PackageFault {
 
 impl From<ReadFault> for PackageFault {
     ghost use Rattle.std.specs.Prelude.{◌≡◌};
-    ghost use Rattle.pkg_core.specs.Whole.{fault_of_read};
+    ghost use Rattle.pkg_core.specs.Refusals.{fault_of_read};
 
-    ghost from_gives = { λ told fault. fault ≡ fault_of_read told };
+    ghost from_gives = { λ read fault. fault ≡ fault_of_read read };
 
     fn from(fault: ReadFault) -> PackageFault {
         match fault {
@@ -54,8 +53,9 @@ impl From<ReadFault> for PackageFault {
     }
 }
 
-/// A package whose values are tested, before its first file, between two or behind the last. All is lent from the file's
-/// bytes. Contracts see, by `Opened` of `specs/`, the plain value, the bytes that hold it, and the files that are left.
+/// A package whose values are tested, before its first file, between two or behind the last. All is
+/// lent from the file's bytes. Contracts see, by `Opened` of `specs/`, the plain value, the bytes
+/// that hold it, and the files that are left.
 #[derive(Drop)]
 pub struct Package<'a> {
     checked: Checked<'a>,
@@ -68,19 +68,22 @@ pub struct Package<'a> {
 impl<'a> Package<'a> {
     ghost use Rattle.adb_schema.specs.Views.{package_value};
     ghost use Rattle.pkg_core.specs.Opened.{opened_files, opened_payload, opened_value, IsNextFile};
-    ghost use Rattle.pkg_core.specs.Whole.{package_id, IsRefused};
+    ghost use Rattle.pkg_core.specs.Whole.{package_id};
+    ghost use Rattle.pkg_core.specs.Refusals.{IsFaultOf};
 
-    /// Reads the values of a package, and tests them in this order: the file's header, its schema, the first block's
-    /// framing, its head, its shape, its texts, and names that stand twice. What stands behind the first block is read
-    /// by `next_file`.
+    /// Reads the values of a package, and tests them in this order: the file's header, its schema,
+    /// the first block's framing, its head, its shape, its texts, and names that stand twice. What
+    /// stands behind the first block is read by `next_file`.
     ///
     /// # Errors
     ///
     /// `Bad` with the cause of the first test that fails, or `Memory`.
     pub fn new(alloc: Global, bytes: &'a [u8]) -> Result<Package<'a>, PackageFault>
-        ensures bad { IfErr result (λ fault. IsRefused fault (first_fault Tables.Package bytes.entry.now)) }
+        ensures bad { IfErr result
+            (λ fault. IsFaultOf fault (first_fault Tables.Package bytes.entry.now)) }
         ensures sound { IfOk result (λ _. first_fault Tables.Package bytes.entry.now ≡ None) }
-        ensures value { IfOk result (λ pkg. opened_value pkg ≡ root_value Tables.Package (payload_in bytes.entry.now)) }
+        ensures value { IfOk result
+            (λ pkg. opened_value pkg ≡ root_value Tables.Package (payload_in bytes.entry.now)) }
         ensures payload { IfOk result (λ pkg. opened_payload pkg ≡ payload_in bytes.entry.now) }
         ensures id { IfOk result (λ pkg. sha256 (opened_payload pkg) ≡ package_id bytes.entry.now) }
         ensures files { IfOk result (λ pkg. opened_files pkg ≡ files_in_file bytes.entry.now) }
@@ -110,14 +113,15 @@ impl<'a> Package<'a> {
         Sha256::digest(self.payload)
     }
 
-    /// The contents of the next file: of those without target and with a size above 0, in the order of folders and of
-    /// the files in them. None comes exactly behind the last block.
+    /// The contents of the next file: of those without target and with a size above 0, in the order
+    /// of folders and of the files in them. None comes exactly behind the last block.
     ///
     /// # Errors
     ///
-    /// The first failed test, block by block: the framing of the block; contents of fewer than 8 bytes (`Truncated`);
-    /// those of another file than the next one, or of none, and none where one is left (`DataOrder`); another size
-    /// (`DataSize`); another digest (`HashDiffers`). After an error the same error comes again.
+    /// The first failed test, block by block: the framing of the block; contents of fewer than 8
+    /// bytes (`Truncated`); those of another file than the next one, or of none, and none where one
+    /// is left (`DataOrder`); another size (`DataSize`); another digest (`HashDiffers`). After an
+    /// error the same error comes again.
     pub fn next_file(&mut self) -> Result<Option<FileContents<'a>>, Cause>
         ensures file { IsNextFile (opened_files self.old) result (opened_files self.new) }
         ensures value { opened_value self.new ≡ opened_value self.old }
@@ -141,7 +145,8 @@ impl<'a> Package<'a> {
 fn first_block<'a>(bytes: &'a [u8]) -> (&'a [u8], Blocks<'a>)
     requires { first_fault Tables.Package bytes.now ≡ None }
     ensures payload { result.0.now ≡ payload_in bytes.entry.now }
-    ensures files { files_of (expected_contents (root_value Tables.Package result.0.now)) (reading_of result.1) ≡ files_in_file bytes.entry.now }
+    ensures files { files_by_blocks (expected_contents (root_value Tables.Package result.0.now))
+        (reading_of result.1) ≡ files_in_file bytes.entry.now }
 {
     let Ok(mut blocks) = Blocks::new(bytes) else {
         unreachable!()

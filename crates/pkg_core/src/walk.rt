@@ -1,14 +1,20 @@
-//! The walk over the files of a package that have contents.
+//! The files of a package that have contents: the walk over them, and the blocks that hold their
+//! bytes.
 
-ghost use Rattle.std.specs.Prelude.{◌≡◌, ◌&&◌, ◌+◌, ◌-◌, ◌<◌, ◌≤◌, ◌^◌, drop, length};
+ghost use Rattle.std.specs.Prelude.{◌≡◌, ◌&&◌, ◌+◌, ◌-◌, ◌<◌, ◌≤◌, ◌^◌, drop, length, ◌==◌, [], Some, IfOk};
 ghost use Rattle.adb_tables.specs.Values.{entries_in, count_of};
 ghost use Rattle.adb_schema.specs.Views.{file_value};
 ghost use Rattle.adb_fields.specs.ListValue.{list_value};
 ghost use Rattle.adb_fields.specs.Repeated.{list_of};
 ghost use Rattle.adb_rules.specs.Texts.{is_with_contents};
-ghost use Rattle.pkg_core.specs.Contents.{files_from};
+ghost use Rattle.pkg_core.specs.Contents.{expected_files, contents_bytes, expected_fault, missing_fault};
+ghost use Rattle.adb_view.specs.Gives.{cause_of};
+ghost use Rattle.pkg_core.specs.Opened.{expected_of};
 
-use adb_schema::{DirInfo, FileInfo, List};
+use crate::checks::hash_fault;
+use adb_block::{BlockKind, Blocks};
+use adb_schema::{DirInfo, FileInfo, List, file_pair};
+use base_core::Cause;
 
 /// Where a walk stands: behind so many folders, and behind so many files of the next one.
 #[derive(Clone, Copy)]
@@ -18,8 +24,8 @@ pub(crate) struct Walk<'a> {
     file: usize,
 }
 
-/// A file whose contents are due: the positions of its folder and of itself in it, which count from 1, its size in
-/// bytes, and its digest.
+/// A file whose contents are due: the positions of its folder and of itself in it, which count from
+/// 1, its size in bytes, and its digest.
 #[derive(Clone, Copy)]
 pub(crate) struct Wanted<'a> {
     pub(crate) folder: u32,
@@ -30,12 +36,13 @@ pub(crate) struct Wanted<'a> {
 
 impl<'a> Walk<'a> {
     ghost use Rattle.adb_fields.specs.Repeated.{files_in};
-    ghost use Rattle.pkg_core.specs.Contents.{folders_from};
-    ghost use Rattle.pkg_core.specs.Opened.{left_in, IsTaken};
+    ghost use Rattle.pkg_core.specs.Contents.{expected_folders};
+    ghost use Rattle.pkg_core.specs.Opened.{left_in, TakesFirst};
 
     /// A walk before the first of these folders.
     pub(crate) fn new(folders: List<'a, DirInfo<'a>>) -> Walk<'a>
-        ensures { left_in result ≡ folders_from 1 (list_of (entries_in (list_value folders.entry))) }
+        ensures { left_in result
+            ≡ expected_folders 1 (list_of (entries_in (list_value folders.entry))) }
     {
         Walk {
             folders,
@@ -46,7 +53,7 @@ impl<'a> Walk<'a> {
 
     /// Goes on to the next file that has contents, or None behind the last.
     pub(crate) fn next(&mut self) -> Option<Wanted<'a>>
-        ensures { IsTaken (left_in self.old) result (left_in self.new) }
+        ensures { TakesFirst (left_in self.old) result (left_in self.new) }
     {
         while self.folder < self.folders.len() {
             let files = self.folders.get(self.folder + 1).files();
@@ -66,7 +73,10 @@ impl<'a> Walk<'a> {
         requires { self.old.folder + 1 < 2 ^ 32 }
         ensures folders { self.new.folders ≡ self.old.folders }
         ensures folder { self.new.folder ≡ self.old.folder }
-        ensures taken { IsTaken (files_from (self.old.folder + 1) (self.old.file + 1) (drop self.old.file (list_of (entries_in (list_value files.entry))))) result (files_from (self.old.folder + 1) (self.new.file + 1) (drop self.new.file (list_of (entries_in (list_value files.entry))))) }
+        ensures taken { TakesFirst (expected_files (self.old.folder + 1) (self.old.file + 1)
+            (drop self.old.file (list_of (entries_in (list_value files.entry))))) result
+            (expected_files (self.old.folder + 1) (self.new.file + 1)
+            (drop self.new.file (list_of (entries_in (list_value files.entry))))) }
     {
         while self.file < files.len() {
             self.file += 1;
@@ -89,4 +99,107 @@ fn has_contents(file: &FileInfo<'_>) -> bool
     ensures { result ≡ is_with_contents (file_value file.now) }
 {
     file.target().is_empty() && file.size() > 0
+}
+
+/// The bytes in front of a file's own in its contents: the positions of its folder and of itself.
+const HEAD: usize = 8;
+
+/// The contents of a file, with the positions of its folder and of itself in it, which count from
+/// 1. The bytes are lent.
+#[derive(Clone, Copy)]
+pub struct FileContents<'a> {
+    pub path: u32,
+    pub file: u32,
+    pub bytes: &'a [u8],
+}
+
+/// The blocks that are left, and the walk over the files that are expected in them.
+#[derive(Drop)]
+pub(crate) struct Rest<'a> {
+    pub(crate) blocks: Blocks<'a>,
+    pub(crate) walk: Walk<'a>,
+}
+
+impl<'a> Rest<'a> {
+    ghost use Rattle.pkg_core.specs.Opened.{files_left, ReadsNext};
+
+    /// Reads on to the next contents, and tests them; None behind the last block.
+    #[tactic(auto, unfolding(crate::specs::Contents::files_by_blocks))]
+    pub(crate) fn next(&mut self) -> Result<Option<FileContents<'a>>, Cause>
+        ensures { ReadsNext (files_left self.old) result (files_left self.new) }
+    {
+        loop {
+            let Some(block) = self.blocks.next()? else {
+                self.walk.end()?;
+                return Ok(None);
+            };
+            if let BlockKind::Contents = block.kind {
+                let contents = self.walk.give(block.payload, block.at)?;
+                return Ok(Some(contents));
+            }
+        }
+    }
+}
+
+impl<'a> Walk<'a> {
+    ghost use Rattle.pkg_core.specs.Opened.{left_in, GivesContents};
+
+    /// Where the blocks end, no file may be left.
+    pub(crate) fn end(&mut self) -> Result<(), Cause>
+        ensures exact { cause_of result ≡ missing_fault (left_in self.old) }
+        ensures end { IfOk result (λ _. left_in self.new ≡ []) }
+    {
+        match self.next() {
+            Some(wanted) => Err(Cause::DataOrder {
+                expected: (wanted.folder, wanted.file),
+                found: (0, 0),
+            }),
+            None => Ok(()),
+        }
+    }
+
+    /// Tests a block of contents against the next file, and gives them.
+    pub(crate) fn give(&mut self, payload: &'a [u8], at: u64) -> Result<FileContents<'a>, Cause>
+        ensures { GivesContents payload.entry.now at (left_in self.old) result (left_in self.new) }
+    {
+        if payload.len() < HEAD {
+            return Err(Cause::Truncated { at });
+        }
+        let Some(wanted) = self.next() else {
+            return Err(Cause::DataOrder {
+                expected: (0, 0),
+                found: file_pair(payload),
+            });
+        };
+        match expected_fault(payload, wanted) {
+            Some(cause) => Err(cause),
+            None => Ok(FileContents {
+                path: wanted.folder,
+                file: wanted.file,
+                bytes: &payload[HEAD..],
+            }),
+        }
+    }
+}
+
+/// Why contents are not those of a file, if they are not: first the positions are compared, then
+/// the size, then the digest.
+fn expected_fault(payload: &[u8], wanted: Wanted<'_>) -> Option<Cause>
+    requires { 8 ≤ length payload.now }
+    ensures { result ≡ expected_fault payload.now (expected_of wanted.entry) }
+{
+    let expected = (wanted.folder, wanted.file);
+    let found = file_pair(payload);
+    if found != expected {
+        return Some(Cause::DataOrder { expected, found });
+    }
+    let bytes = &payload[HEAD..];
+    let size = bytes.len() as u64;
+    if size != wanted.size {
+        return Some(Cause::DataSize {
+            wanted: wanted.size,
+            found: size,
+        });
+    }
+    hash_fault(wanted.hash, bytes)
 }

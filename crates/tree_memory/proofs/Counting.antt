@@ -9,8 +9,8 @@ use Rattle.base_core.specs.Faults.{GoesOn, HasCause}
 use Rattle.tree_memory.specs.Plans.{PlanState, is_listed, is_stopped, is_next, has_more, listed_on, one_on}
 use Rattle.tree_memory.specs.Tallies.{called, faulted, misused, wanted, begun, goes_on, HasGrown}
 use Rattle.tree_memory.specs.Memory.{counts_by}
-use Rattle.tree_memory.specs.declared.tally.Calls.{Calls}
-use Rattle.tree_memory.specs.declared.tally.Tally.{Tally}
+use Rattle.tree_memory.specs.declared.calls.Calls.{Calls}
+use Rattle.tree_memory.specs.declared.calls.Tally.{Tally}
 
 -- ---- plans
 

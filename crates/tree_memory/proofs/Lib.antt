@@ -9,5 +9,6 @@ pub mod Keeping
 pub mod Outcomes
 pub mod Picking
 pub mod Placed
+pub mod Planned
 mod Rows
 pub mod Sinking

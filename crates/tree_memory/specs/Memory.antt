@@ -4,7 +4,7 @@ use Rattle.base_core.specs.Faults.{Counts, next_count}
 use Rattle.base_core.specs.Tree.{TreeState}
 use Rattle.tree_memory.specs.Plans.{PlanState, is_next, has_more, one_on}
 use Rattle.tree_memory.specs.Stores.{store_state, store_history}
-use Rattle.tree_memory.specs.declared.tally.Calls.{Calls}
+use Rattle.tree_memory.specs.declared.calls.Calls.{Calls}
 use Rattle.tree_memory.specs.declared.tree.MemoryTree.{MemoryTree}
 
 -- the newest state
@@ -39,6 +39,10 @@ calls_of tree = tree.calls.tally.calls
 abbrev pub writes_of : MemoryTree → ℕ
 writes_of tree = tree.calls.tally.writes
 
+-- the greatest length that a `read_at` asked for
+abbrev pub longest_of : MemoryTree → ℕ
+longest_of tree = tree.longest
+
 -- ---- a call that reads
 
 -- it is counted, the plan is one call nearer, and an error is a fault, never for want of memory
@@ -71,6 +75,7 @@ pub record IsWrite {T E : Type 0} (can : TreeState → Type 0) (old new : Memory
   pub calls : calls_of new ≡ next_count (calls_of old)
   pub writes : writes_of new ≡ next_count (writes_of old)
   pub plan : plan_of new ≡ one_on (plan_of old)
+  pub longest : longest_of new ≡ longest_of old
   pub faults : (counts_of new).faults ≡ (if is_ok result then (counts_of old).faults else next_count (counts_of old).faults)
   pub free : OnOk result (IsFree can old)
   pub wants : OnOk result ((counts_of new).wants ≡ (counts_of old).wants)

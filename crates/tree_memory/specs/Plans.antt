@@ -1,5 +1,5 @@
 -- A plan of failures: which calls are to fail, counted from 1 from now on.
-use Rattle.std.specs.Prelude.{ℕ, ◌-◌, ◌==◌, nat_lt, Bool, false, ◌||◌, List, [], map, Option, Some, None, is_some}
+use Rattle.std.specs.Prelude.{ℕ, zero, suc, ◌-◌, ◌==◌, nat_lt, Bool, false, ◌||◌, List, [], map, Option, Some, None, is_some}
 use Rattle.std.specs.List.{list_any, filter}
 use Rattle.std.specs.Option.{option_map}
 
@@ -36,3 +36,19 @@ listed_on listed = filter (λ n. nat_lt 0 n) (map (λ n. n - 1) listed)
 
 abbrev pub one_on : PlanState → PlanState
 one_on plan = record { listed = listed_on plan.listed; stop = option_map (λ n. n - 1) plan.stop }
+
+-- the plan behind so many calls
+abbrev pub plan_after : ℕ → PlanState → PlanState
+plan_after zero plan = plan
+plan_after (suc k) plan = plan_after k (one_on plan)
+
+-- ---- as it was made
+
+-- whether call k, counted from 1, is behind the next so many
+abbrev pub is_behind : Option ℕ → ℕ → Bool
+is_behind None k = false
+is_behind (Some n) k = nat_lt n k
+
+-- whether call k, counted from 1, is to fail: it is listed, or it is behind the stop
+abbrev pub is_to_fail : PlanState → ℕ → Bool
+is_to_fail plan k = list_any (λ n. n == k) plan.listed || is_behind plan.stop k

@@ -1,17 +1,19 @@
 -- A sink in memory, and what a write makes of it.
-use Rattle.std.specs.Prelude.{◌≡◌, ◌⊎◌, ℕ, ◌-◌, ◌<◌, min, List, [], ◌++◌, length, take, Option, Some, None, is_some}
+use Rattle.std.specs.Prelude.{◌≡◌, ◌⊎◌, ℕ, ◌-◌, ◌<◌, min, max, List, [], ◌++◌, length, take, Option, Some, None, is_some}
 use Rattle.std.specs.Option.{option_map}
 use Rattle.base_core.specs.Faults.{Counts, next_count}
 
--- its bytes, how many more it takes, where that is planned, and how often it failed, also for want of its own memory
+-- its bytes, how many more it takes and how many a write takes at most, where these are planned, and how often it failed,
+-- also for want of its own memory
 pub record SinkState : Type 0 where
   pub bytes : List ℕ
   pub room : Option ℕ
+  pub most : Option ℕ
   pub faults : ℕ
   pub wants : ℕ
 
 abbrev pub new_sink : SinkState
-new_sink = record { bytes = []; room = None; faults = 0; wants = 0 }
+new_sink = record { bytes = []; room = None; most = None; faults = 0; wants = 0 }
 
 -- only a planned end can fail it, beside want of memory
 abbrev pub sink_counts : SinkState → Counts
@@ -22,9 +24,18 @@ abbrev pub fitting : Option ℕ → ℕ → ℕ
 fitting None len = len
 fitting (Some room) len = min len room
 
--- all of the piece that fits is taken
+-- how many of so many bytes a write takes: at least one, where there is one
+abbrev pub part : Option ℕ → ℕ → ℕ
+part None len = len
+part (Some n) len = min len (max n 1)
+
+-- how many bytes of a piece are taken: all that fit, or the most that a write takes
+abbrev pub share_of : SinkState → List ℕ → ℕ
+share_of sink piece = part sink.most (fitting sink.room (length piece))
+
+-- so many bytes of the piece are taken
 pub record Takes (old : SinkState) (piece : List ℕ) (n : ℕ) (new : SinkState) : Type 0 where
-  pub taken : n ≡ fitting old.room (length piece)
+  pub taken : n ≡ share_of old piece
   pub left : new ≡ record old { bytes = old.bytes ++ take n piece; room = option_map (λ room. room - n) old.room }
 
 -- a write of some bytes where no room is left
@@ -35,7 +46,7 @@ pub record IsFull (old : SinkState) (piece : List ℕ) (new : SinkState) : Type 
 
 -- a write of some bytes for which there was no memory
 pub record IsWanting (old : SinkState) (piece : List ℕ) (new : SinkState) : Type 0 where
-  pub some : 0 < fitting old.room (length piece)
+  pub some : 0 < share_of old piece
   pub counted : new ≡ record old { faults = next_count old.faults; wants = next_count old.wants }
 
 abbrev pub Refuses : SinkState → List ℕ → SinkState → Type 0

@@ -1,7 +1,7 @@
 -- The counts of a tree in memory, and what a call makes of them.
 use Rattle.std.specs.Prelude.{◌≤◌, Bool, true, false}
 use Rattle.base_core.specs.Faults.{next_count}
-use Rattle.tree_memory.specs.declared.tally.Tally.{Tally}
+use Rattle.tree_memory.specs.declared.calls.Tally.{Tally}
 
 abbrev pub no_calls : Tally
 no_calls = record { calls = 0; writes = 0; faults = 0; misuses = 0; wants = 0 }

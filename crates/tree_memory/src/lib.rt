@@ -6,21 +6,19 @@
 //! after a crash, by a number), `Plans` (which calls are to fail) and `Sink` (the sink) of `specs/`.
 #![tactic(auto)]
 
+mod calls;
 mod changes;
 mod image;
 mod laws;
-mod plan;
 mod sink;
 mod store;
 mod table;
-mod tally;
 mod tree;
 
-pub use laws::{an_endless_sink_fails_for_want_of_memory, an_unplanned_fault_has_its_reason};
+pub use laws::{
+    a_call_fails_where_it_is_planned, an_endless_sink_fails_for_want_of_memory,
+    an_unplanned_fault_has_its_reason,
+};
 pub use sink::MemorySink;
 pub use tree::MemoryTree;
 
-#[cfg(test)]
-mod sink_tests;
-#[cfg(test)]
-mod tests;

@@ -1,7 +1,8 @@
+//! A sink in memory.
 ghost use Rattle.std.specs.Prelude.{◌≡◌, ◌≤◌, List, Option, Some, take, IfOk, OnErr, [], IsOk};
 ghost use Rattle.base_core.specs.Faults.{FailsWithCause, next_count};
 ghost use Rattle.base_core.specs.Sink.{Adds, IsWriteCount};
-ghost use Rattle.tree_memory.specs.Sink.{SinkState, new_sink, sink_counts, fitting, Takes, Refuses};
+ghost use Rattle.tree_memory.specs.Sink.{SinkState, new_sink, sink_counts, fitting, part, Takes, Refuses};
 
 use base_core::{Sink, SinkFault};
 use std::alloc::Global;
@@ -13,6 +14,8 @@ pub struct MemorySink {
     bytes: Vec<u8>,
     // How many more bytes it takes, where its end is planned.
     room: Option<usize>,
+    // How many bytes a write takes at most, where that is planned.
+    most: Option<usize>,
     faults: u64,
     wants: u64,
 }
@@ -22,7 +25,7 @@ impl Model for MemorySink {
 
     ghost Value = { SinkState };
 
-    ghost view = { λ sink. record { bytes = sink.bytes.items; room = sink.room; faults = sink.faults; wants = sink.wants } };
+    ghost view = { λ sink. record { bytes = sink.bytes.items; room = sink.room; most = sink.most; faults = sink.faults; wants = sink.wants } };
 }
 
 impl MemorySink {
@@ -33,6 +36,7 @@ impl MemorySink {
         MemorySink {
             bytes: Vec::new(alloc),
             room: None,
+            most: None,
             faults: 0,
             wants: 0,
         }
@@ -50,6 +54,14 @@ impl MemorySink {
         ensures { self.new ≡ record self.old { room = Some n } }
     {
         self.room = Some(n);
+    }
+
+    /// Takes at most so many bytes in each write, as a pipe may.
+    pub fn take_at_most(&mut self, n: usize)
+        requires { 1 ≤ n }
+        ensures { self.new ≡ record self.old { most = Some n } }
+    {
+        self.most = Some(n);
     }
 
     /// How many writes failed for want of the sink's own memory.
@@ -87,6 +99,16 @@ fn fitting(room: Option<usize>, len: usize) -> usize
     }
 }
 
+// How many of so many bytes a write takes. At least one byte is taken where there is one.
+fn part(most: Option<usize>, len: usize) -> usize
+    ensures { result ≡ part most len }
+{
+    match most {
+        None => len,
+        Some(n) => len.min(n.max(1)),
+    }
+}
+
 impl Sink for MemorySink {
     ghost bytes = { λ sink. Some sink.bytes };
 
@@ -99,14 +121,15 @@ impl Sink for MemorySink {
         ensures unchanged { OnErr result (Some self.new.bytes ≡ Some self.old.bytes) }
         ensures cause { FailsWithCause (sink_counts self.old) (sink_counts self.new) result }
 
-        // It takes all that fits, and fails only where nothing does, or for want of its own memory.
+        // It takes all that fits, or the most that a write takes, and fails only where nothing fits, or for
+        // want of its own memory.
         ensures ok { IfOk result (λ n. Takes self.old piece.now n self.new) }
         ensures err { OnErr result (Refuses self.old piece.now self.new) }
     {
         if piece.is_empty() {
             return Ok(0);
         }
-        let n = fitting(self.room, piece.len());
+        let n = part(self.most, fitting(self.room, piece.len()));
         if n == 0 {
             return Err(self.fault());
         }

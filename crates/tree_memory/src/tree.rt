@@ -1,4 +1,4 @@
-ghost use Rattle.std.specs.Prelude.{◌≡◌, ◌↔◌, [], ◌∷◌, List, Some, None, IsTrue, IsOk, IfOk, IfSome, IsErrOf, OnOk, OnErr, false, true, length, take, drop, if◌then◌else◌};
+ghost use Rattle.std.specs.Prelude.{◌≡◌, ◌↔◌, [], ◌∷◌, List, Some, None, IsTrue, IsOk, IfOk, IfSome, IsErrOf, OnOk, OnErr, false, true, length, max, take, drop, if◌then◌else◌};
 ghost use Rattle.std.specs.Option.{option_map, option_copied};
 ghost use Rattle.base_core.specs.Calls.{IsCounted, Moves, IfObservable};
 ghost use Rattle.base_core.specs.Restart.{IsCrashOf};
@@ -12,9 +12,8 @@ ghost use Rattle.tree_memory.specs.Images.{maps_of, picked};
 ghost use Rattle.tree_memory.specs.Kept.{CanPut};
 ghost use Rattle.tree_memory.specs.Plans.{no_plan, is_next, has_more, one_on};
 
-use crate::plan::Plan;
+use crate::calls::{Calls, Plan};
 use crate::store::Store;
-use crate::tally::Calls;
 use base_core::{Disk, Name, Names, Tree, TreeFault};
 use std::alloc::{AllocError, Global};
 
@@ -23,10 +22,12 @@ use std::alloc::{AllocError, Global};
 pub struct MemoryTree {
     store: Store,
     calls: Calls,
+    // The greatest length that a `read_at` asked for.
+    longest: u64,
 }
 
 impl MemoryTree {
-    ghost use Rattle.tree_memory.specs.Memory.{state_of, history_of, counts_of, calls_of, writes_of, plan_of};
+    ghost use Rattle.tree_memory.specs.Memory.{state_of, history_of, counts_of, calls_of, writes_of, plan_of, longest_of};
 
     /// An empty tree, with no faults and no planned failures.
     pub fn new(alloc: Global) -> MemoryTree
@@ -35,10 +36,12 @@ impl MemoryTree {
         ensures plan { plan_of result ≡ no_plan }
         ensures calls { calls_of result ≡ 0 }
         ensures writes { writes_of result ≡ 0 }
+        ensures longest { longest_of result ≡ 0 }
     {
         MemoryTree {
             store: Store::new(alloc),
             calls: Calls::new(alloc),
+            longest: 0,
         }
     }
 
@@ -60,6 +63,7 @@ impl MemoryTree {
         ensures plan { plan_of self.new ≡ plan_of self.old }
         ensures calls { calls_of self.new ≡ calls_of self.old }
         ensures writes { writes_of self.new ≡ writes_of self.old }
+        ensures longest { longest_of self.new ≡ longest_of self.old }
     {
         let bytes = Vec::from_slice(self.store.alloc, bytes)?;
         self.store.put(name, bytes)
@@ -88,6 +92,7 @@ impl MemoryTree {
         ensures counts { counts_of self.new ≡ record (counts_of self.old) { fallible = has_more (plan_of self.new) } }
         ensures calls { calls_of self.new ≡ calls_of self.old }
         ensures writes { writes_of self.new ≡ writes_of self.old }
+        ensures longest { longest_of self.new ≡ longest_of self.old }
     {
         self.calls.plan = Plan::at(self.store.alloc, calls)?;
         Ok(())
@@ -100,6 +105,7 @@ impl MemoryTree {
         ensures counts { counts_of self.new ≡ record (counts_of self.old) { fallible = true } }
         ensures calls { calls_of self.new ≡ calls_of self.old }
         ensures writes { writes_of self.new ≡ writes_of self.old }
+        ensures longest { longest_of self.new ≡ longest_of self.old }
     {
         self.calls.plan = Plan::after(self.store.alloc, n);
     }
@@ -115,11 +121,13 @@ impl MemoryTree {
         ensures plan { IfOk result (λ image. plan_of image ≡ no_plan) }
         ensures calls { IfOk result (λ image. calls_of image ≡ 0) }
         ensures writes { IfOk result (λ image. writes_of image ≡ 0) }
+        ensures longest { IfOk result (λ image. longest_of image ≡ 0) }
     {
         let store = self.store.image(alloc, choice)?;
         Ok(MemoryTree {
             store,
             calls: Calls::new(alloc),
+            longest: 0,
         })
     }
 
@@ -151,6 +159,13 @@ impl MemoryTree {
         self.calls.tally.wants
     }
 
+    /// The greatest length that a `read_at` asked for, in bytes. It shows that no file is read whole.
+    pub fn longest_read(&self) -> u64
+        ensures { result ≡ longest_of self.now }
+    {
+        self.longest
+    }
+
     /// How many maps of names there are, any one of which a crash may leave.
     pub fn maps(&self) -> u64
         ensures { result ≡ length (maps_of (state_of self.now)) }
@@ -160,7 +175,7 @@ impl MemoryTree {
 }
 
 impl Tree for MemoryTree {
-    ghost use Rattle.tree_memory.specs.Memory.{state_of, history_of, counts_of, calls_of, writes_of, plan_of, IsRead, IsWrite};
+    ghost use Rattle.tree_memory.specs.Memory.{state_of, history_of, counts_of, calls_of, writes_of, plan_of, longest_of, IsRead, IsWrite};
     ghost use Rattle.tree_memory.specs.WholeLaw.{whole_history};
 
     ghost history = { λ tree. history_of tree };
@@ -177,6 +192,7 @@ impl Tree for MemoryTree {
         // It fails exactly where that is planned.
         ensures when { IsOk result ↔ (is_next (plan_of self.old) ≡ false) }
         ensures call { IsRead self.old self.new result }
+        ensures longest { longest_of self.new ≡ longest_of self.old }
     {
         self.calls.begin(true)?;
         match self.store.file(name) {
@@ -195,7 +211,9 @@ impl Tree for MemoryTree {
         ensures when { IsOk result ↔ ((is_next (plan_of self.old) ≡ false) × CanRead name.now at (length into.old) (state_of self.old)) }
         ensures same_state { OnErr result (into.new ≡ into.old) }
         ensures call { IsRead self.old self.new result }
+        ensures longest { longest_of self.new ≡ max (longest_of self.old) (length into.old) }
     {
+        self.longest = self.longest.max(into.len() as u64);
         let can = self.store.can_read(name, at, into.len());
         self.calls.begin(can)?;
         self.store.read_at(name, at, into);
@@ -285,6 +303,7 @@ impl Tree for MemoryTree {
         ensures writes { writes_of self.new ≡ writes_of self.old }
         ensures faults { (counts_of self.new).faults ≡ (if is_next (plan_of self.old) then next_count (counts_of self.old).faults else (counts_of self.old).faults) }
         ensures wants { (counts_of self.new).wants ≡ (counts_of self.old).wants }
+        ensures longest { longest_of self.new ≡ longest_of self.old }
     {
         self.calls.begin(true)?;
         let names = self.store.list(alloc, folder)?;

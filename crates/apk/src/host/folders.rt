@@ -1,52 +1,231 @@
-// Folders: those on the way to a file, those that became empty, and those whose names changed.
+//! Folders: those on the way to a file, those that hold nothing, and those whose names changed.
 
-use super::look::{Found, done, look, text};
-use base_core::TreeFault;
-use std::alloc::{AllocError, Global};
+use super::failure::{HostFault, IS_FOLDER, NO_FOLDER};
+use super::look::{Found, look, text};
+use std::alloc::Global;
 use std::collections::BTreeSet;
 use std::fs;
 use std::fs::{Files, OpenFile};
 use std::io::ErrorKind;
 
-/// The folders whose names changed since they were last written through.
+/// What is known of the folders below the root. Only this run writes there, so what was looked at once stays so.
 #[derive(Drop)]
-pub struct Touched {
+pub struct Folders {
     alloc: Global,
-    folders: BTreeSet<Vec<u8>>,
+    // Those that were looked at or made.
+    known: BTreeSet<Vec<u8>>,
+    // Those whose names changed since they were last written through.
+    changed: BTreeSet<Vec<u8>>,
 }
 
-impl Touched {
-    pub fn new(alloc: Global) -> Touched {
-        Touched {
+impl Folders {
+    pub fn new(alloc: Global) -> Folders {
+        Folders {
             alloc,
-            folders: BTreeSet::new(alloc),
+            known: BTreeSet::new(alloc),
+            changed: BTreeSet::new(alloc),
         }
     }
 
-    /// Notes a folder. It is noted before its names change, so that none is forgotten.
-    pub fn add(&mut self, folder: &[u8]) -> Result<(), AllocError> {
-        let folder = Vec::from_slice(self.alloc, folder)?;
-        self.folders.insert(folder)?;
+    /// Whether all on the way to a path are folders.
+    pub fn have_way<R: Files>(&mut self, rt: &R, path: &[u8]) -> Result<bool, HostFault> {
+        if self.are_known_to(path) {
+            return Ok(true);
+        }
+        for (i, byte) in path.iter().enumerate() {
+            if *byte == b'/' && !self.has(rt, &path[..i])? {
+                return Ok(false);
+            }
+        }
+        Ok(true)
+    }
+
+    /// What a path leads to: nothing where something on the way is no folder.
+    pub fn find<R: Files>(&mut self, rt: &R, path: &[u8]) -> Result<Found, HostFault> {
+        if !self.have_way(rt, path)? {
+            return Ok(Found::Nothing);
+        }
+        look(rt, self.alloc, path)
+    }
+
+    /// Makes the folders on the way to a path that are absent. A file on the way is a fault.
+    pub fn make_way<R: Files>(&mut self, rt: &R, path: &[u8]) -> Result<(), HostFault> {
+        if self.are_known_to(path) {
+            return Ok(());
+        }
+        for (i, byte) in path.iter().enumerate() {
+            if *byte == b'/' {
+                self.make(rt, &path[..i])?;
+            }
+        }
         Ok(())
     }
 
-    /// Lets the host write each folder through, once. A folder that is gone by now is passed over: the one that it
-    /// stood in was noted when it went.
-    pub fn write_through<R: Files>(&mut self, rt: &R) -> Result<(), TreeFault> {
-        for folder in &self.folders {
+    /// Keeps that a folder stands at a path.
+    pub fn keep_known(&mut self, folder: &[u8]) -> Result<(), HostFault> {
+        let folder = Vec::from_slice(self.alloc, folder)?;
+        keep(&mut self.known, folder)
+    }
+
+    /// Notes a folder whose names are to change. It is noted before they do, so that none is forgotten.
+    pub fn note(&mut self, folder: &[u8]) -> Result<(), HostFault> {
+        let folder = Vec::from_slice(self.alloc, folder)?;
+        keep(&mut self.changed, folder)
+    }
+
+    /// Takes folders away that hold nothing and stand where a file is to be. Where a file or anything else is below them
+    /// it is a fault, and nothing changes.
+    pub fn clear<R: Files + AllocGlobal + Clone + Drop>(
+        &mut self,
+        rt: &R,
+        path: &[u8],
+    ) -> Result<(), HostFault> {
+        let folders = empty_tree(rt, self.alloc, path)?;
+        for folder in folders.iter().rev() {
+            self.note(parent_of(folder))?;
+            fs::remove_dir(rt, text(folder)?)?;
+            self.forget(folder);
+        }
+        Ok(())
+    }
+
+    /// Takes the folders away that a file was the last to stand in, the deepest first. The root stays.
+    pub fn prune<R: Files>(&mut self, rt: &R, path: &[u8]) -> Result<(), HostFault> {
+        for i in (0..path.len()).rev() {
+            if path[i] == b'/' && !self.take_away(rt, &path[..i])? {
+                break;
+            }
+        }
+        Ok(())
+    }
+
+    /// Lets the host write each folder through, once, whose names changed.
+    pub fn write_through<R: Files>(&mut self, rt: &R) -> Result<(), HostFault> {
+        for folder in &self.changed {
             write_folder(rt, folder)?;
         }
-        self.folders.clear();
+        self.changed.clear();
         Ok(())
+    }
+
+    fn are_known_to(&self, path: &[u8]) -> bool {
+        let folder = parent_of(path);
+        folder.is_empty() || self.is_known(folder)
+    }
+
+    fn is_known(&self, folder: &[u8]) -> bool {
+        self.known.contains(folder)
+    }
+
+    /// Whether a folder stands at a path.
+    fn has<R: Files>(&mut self, rt: &R, path: &[u8]) -> Result<bool, HostFault> {
+        if self.is_known(path) {
+            return Ok(true);
+        }
+        if look(rt, self.alloc, path)? != Found::Folder {
+            return Ok(false);
+        }
+        self.keep_known(path)?;
+        Ok(true)
+    }
+
+    fn make<R: Files>(&mut self, rt: &R, folder: &[u8]) -> Result<(), HostFault> {
+        if self.is_known(folder) {
+            return Ok(());
+        }
+        match look(rt, self.alloc, folder)? {
+            Found::Folder => {}
+            Found::File(_) => return Err(HostFault::at(self.alloc, NO_FOLDER, folder)),
+            Found::Nothing => {
+                self.note(parent_of(folder))?;
+                fs::create_dir(rt, text(folder)?)?;
+            }
+        }
+        self.keep_known(folder)
+    }
+
+    /// Takes a folder away if it is empty. It answers whether it did.
+    fn take_away<R: Files>(&mut self, rt: &R, folder: &[u8]) -> Result<bool, HostFault> {
+        let around = parent_of(folder);
+        let was_noted = self.changed.contains(around);
+        self.note(around)?;
+        match fs::remove_dir(rt, text(folder)?) {
+            Ok(()) => {}
+            Err(e) if stays(e.kind()) => {
+                if !was_noted {
+                    self.changed.remove(around);
+                }
+                return Ok(false);
+            }
+            Err(e) => return Err(e.into()),
+        }
+        self.forget(folder);
+        Ok(true)
+    }
+
+    /// Forgets a folder that is gone.
+    fn forget(&mut self, folder: &[u8]) {
+        self.known.remove(folder);
+        self.changed.remove(folder);
     }
 }
 
-fn write_folder<R: Files>(rt: &R, folder: &[u8]) -> Result<(), TreeFault> {
-    let path: &[u8] = if folder.is_empty() { b"." } else { folder };
-    if look(rt, path)? == Found::Folder {
-        done(done(fs::open(rt, text(path)?))?.sync_all())?;
+fn keep(folders: &mut BTreeSet<Vec<u8>>, folder: Vec<u8>) -> Result<(), HostFault> {
+    match folders.insert(folder) {
+        Ok(_) => Ok(()),
+        Err(_) => Err(HostFault::Memory),
     }
-    Ok(())
+}
+
+/// The folders of a tree of folders that hold no file and nothing else, each behind the one that it stands in.
+fn empty_tree<R: Files + AllocGlobal + Clone + Drop>(
+    rt: &R,
+    alloc: Global,
+    root: &[u8],
+) -> Result<Vec<Vec<u8>>, HostFault> {
+    let mut folders = Vec::new(alloc);
+    push(&mut folders, Vec::from_slice(alloc, root)?)?;
+    for next in 0..usize::MAX {
+        if next >= folders.len() {
+            break;
+        }
+        let found = folders_in(rt, alloc, &folders[next])?;
+        for folder in found {
+            push(&mut folders, folder)?;
+        }
+    }
+    Ok(folders)
+}
+
+/// The folders in a folder that holds nothing else.
+fn folders_in<R: Files + AllocGlobal + Clone + Drop>(
+    rt: &R,
+    alloc: Global,
+    folder: &[u8],
+) -> Result<Vec<Vec<u8>>, HostFault> {
+    let mut found = Vec::new(alloc);
+    for entry in fs::read_dir(rt, text(folder)?)? {
+        let entry = entry?;
+        let path = entry.path();
+        let path = path.as_str().as_bytes();
+        if look(rt, alloc, path)? != Found::Folder {
+            return Err(HostFault::own(IS_FOLDER));
+        }
+        push(&mut found, Vec::from_slice(alloc, path)?)?;
+    }
+    Ok(found)
+}
+
+fn push(list: &mut Vec<Vec<u8>>, path: Vec<u8>) -> Result<(), HostFault> {
+    match list.push(path) {
+        Ok(()) => Ok(()),
+        Err(_) => Err(HostFault::Memory),
+    }
+}
+
+fn write_folder<R: Files>(rt: &R, folder: &[u8]) -> Result<(), HostFault> {
+    let path: &[u8] = if folder.is_empty() { b"." } else { folder };
+    Ok(fs::open(rt, text(path)?)?.sync_all()?)
 }
 
 /// The folder that a path stands in. The root is the empty path.
@@ -57,55 +236,8 @@ pub fn parent_of(path: &[u8]) -> &[u8] {
     }
 }
 
-/// Makes the folders on the way to a path that are absent. A file on the way is a fault.
-pub fn make_way<R: Files>(rt: &R, touched: &mut Touched, path: &[u8]) -> Result<(), TreeFault> {
-    for (i, byte) in path.iter().enumerate() {
-        if *byte == b'/' {
-            make_folder(rt, touched, &path[..i])?;
-        }
-    }
-    Ok(())
-}
-
-fn make_folder<R: Files>(rt: &R, touched: &mut Touched, folder: &[u8]) -> Result<(), TreeFault> {
-    match look(rt, folder)? {
-        Found::Folder => Ok(()),
-        Found::File { .. } => Err(TreeFault::Disk),
-        Found::Nothing => {
-            touched.add(parent_of(folder))?;
-            done(fs::create_dir(rt, text(folder)?))
-        }
-    }
-}
-
-/// Takes away the folders on the way to a path that are empty, the deepest first, up to one that is not. The root
-/// stays.
-pub fn prune<R: Files>(rt: &R, touched: &mut Touched, path: &[u8]) -> Result<(), TreeFault> {
-    for i in (0..path.len()).rev() {
-        if path[i] == b'/' && !take_away(rt, touched, &path[..i])? {
-            break;
-        }
-    }
-    Ok(())
-}
-
-// Takes a folder away if it is empty. It answers whether there is none now.
-fn take_away<R: Files>(rt: &R, touched: &mut Touched, folder: &[u8]) -> Result<bool, TreeFault> {
-    match look(rt, folder)? {
-        Found::Nothing => return Ok(true),
-        Found::File { .. } => return Ok(false),
-        Found::Folder => {}
-    }
-    touched.add(parent_of(folder))?;
-    match fs::remove_dir(rt, text(folder)?) {
-        Ok(()) => Ok(true),
-        Err(e) if stays(e.kind()) => Ok(false),
-        Err(_) => Err(TreeFault::Disk),
-    }
-}
-
-// Whether an error says that a folder is not empty, that another file system stands on it, or that the one around it may
-// not be written, which the host may say before it looks whether the folder is empty.
+/// Whether an error says that a folder is not empty, that another file system stands on it, or that the one around it may
+/// not be written, which the host may say before it looks whether the folder is empty.
 fn stays(kind: ErrorKind) -> bool {
     matches!(
         kind,

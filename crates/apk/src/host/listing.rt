@@ -1,4 +1,4 @@
-// The files below a folder.
+//! The files below a folder.
 ghost use Rattle.std.specs.Prelude.{◌≡◌, ◌↔◌, ◌-◌, [], ◌∷◌, ◌++◌, ℕ, List, All, Contains, IfOk, IsTrue, OnErr, OnOk, Some, length, slice_get};
 ghost use Rattle.std.specs.Cmp.Lexicographic.{slice_cmp};
 ghost use Rattle.std.specs.List.Sorted.{IsSorted};
@@ -6,8 +6,10 @@ ghost use Rattle.std.specs.Ordering.{nat_cmp};
 ghost use Rattle.base_core.specs.Files.{IsFolderOf};
 ghost use Rattle.base_core.specs.Listed.{AreNamesBelow, IsRising};
 
-use super::look::{Found, done, find, look, text};
-use base_core::{Name, Names, TreeFault, is_folder_of};
+use super::failure::{HostFault, IS_NO_NAME};
+use super::folders::Folders;
+use super::look::{Found, look, text};
+use base_core::{Name, Names, is_folder_of};
 use std::alloc::{AllocError, Global};
 use std::fs;
 use std::fs::Files;
@@ -16,8 +18,9 @@ use std::fs::Files;
 pub fn list_below<R: Files + AllocGlobal + Clone + Drop>(
     rt: &R,
     alloc: Global,
+    known: &mut Folders,
     folder: &Name,
-) -> Result<Names, TreeFault>
+) -> Result<Names, HostFault>
     ensures { IfOk result (AreNamesBelow folder.now) }
 {
     let mut walk = Walk {
@@ -25,19 +28,20 @@ pub fn list_below<R: Files + AllocGlobal + Clone + Drop>(
         folders: Vec::new(alloc),
         files: Vec::new(alloc),
     };
-    if find(rt, folder.as_bytes())? == Found::Folder {
+    if known.find(rt, folder.as_bytes())? == Found::Folder {
         keep(&mut walk.folders, folder.copy(alloc)?)?;
     }
     for _ in 0..u64::MAX {
         let Some(next) = walk.folders.pop() else {
             break;
         };
+        known.keep_known(next.as_bytes())?;
         walk.visit(rt, folder, &next)?;
     }
     Ok(walk.sorted()?)
 }
 
-// The folders that are still to be visited, and the files that were found.
+/// The folders that are still to be visited, and the files that were found.
 #[derive(Drop)]
 struct Walk {
     alloc: Global,
@@ -46,44 +50,43 @@ struct Walk {
 }
 
 impl Walk {
-    // Finds what stands in a folder, which is the root or below it.
+    /// Finds what stands in a folder, which is the root or below it.
     fn visit<R: Files + AllocGlobal + Clone + Drop>(
         &mut self,
         rt: &R,
         root: &Name,
         folder: &Name,
-    ) -> Result<(), TreeFault>
+    ) -> Result<(), HostFault>
         requires { All (IsFolderOf root.now) self.old.files.items }
         ensures { All (IsFolderOf root.now) self.new.files.items }
     {
-        for entry in done(fs::read_dir(rt, text(folder.as_bytes())?))? {
-            let entry = done(entry)?;
+        for entry in fs::read_dir(rt, text(folder.as_bytes())?)? {
+            let entry = entry?;
             self.meet(rt, root, entry.path().as_str().as_bytes())?;
         }
         Ok(())
     }
 
-    // Keeps what stands at a path. A path that is no name is a fault, so the walk is as deep as a name at most, and so is
-    // a path that is not below the root.
-    fn meet<R: Files>(&mut self, rt: &R, root: &Name, path: &[u8]) -> Result<(), TreeFault>
+    /// Keeps what stands at a path. A path that is no name is a fault, so the walk is as deep as a name at most, and so is
+    /// a path that is not below the root.
+    fn meet<R: Files>(&mut self, rt: &R, root: &Name, path: &[u8]) -> Result<(), HostFault>
         requires { All (IsFolderOf root.now) self.old.files.items }
         ensures { All (IsFolderOf root.now) self.new.files.items }
     {
         let Some(name) = Name::read(self.alloc, path)? else {
-            return Err(TreeFault::Disk);
+            return Err(HostFault::at(self.alloc, IS_NO_NAME, path));
         };
         if !is_folder_of(root.as_bytes(), path) {
-            return Err(TreeFault::Disk);
+            return Err(HostFault::at(self.alloc, IS_NO_NAME, path));
         }
-        match look(rt, path)? {
-            Found::Folder => keep(&mut self.folders, name)?,
-            Found::File { .. } => keep(&mut self.files, name)?,
-            Found::Nothing => {}
+        match look(rt, self.alloc, path)? {
+            Found::Folder => Ok(keep(&mut self.folders, name)?),
+            Found::File(_) => Ok(keep(&mut self.files, name)?),
+            Found::Nothing => Ok(()),
         }
-        Ok(())
     }
 
-    // The files that were found, in byte order, each once: a host that changes under a walk may show one twice.
+    /// The files that were found, in byte order, each once: a host that changes under a walk may show one twice.
     fn sorted(mut self) -> Result<Names, AllocError>
         ensures { (root : List ℕ) → All (IsFolderOf root) self.files.items → IfOk result (AreNamesBelow root) }
     {
@@ -94,7 +97,7 @@ impl Walk {
     }
 }
 
-// Names in order, each once.
+/// Names in order, each once.
 fn each_once(alloc: Global, sorted: Vec<Name>) -> Result<Names, AllocError>
     requires { IsSorted (slice_cmp nat_cmp) sorted.items }
     ensures rising { IfOk result IsRising }
@@ -110,7 +113,7 @@ fn each_once(alloc: Global, sorted: Vec<Name>) -> Result<Names, AllocError>
     Ok(names)
 }
 
-// Whether a name is the last one of the list.
+/// Whether a name is the last one of the list.
 fn is_last(names: &Names, name: &Name) -> bool
     ensures { IsTrue result ↔ (slice_get names.now (length names.now - 1) ≡ Some name.now) }
 {

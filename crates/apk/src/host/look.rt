@@ -1,46 +1,66 @@
-// What the host has at a path, and what its errors mean.
+//! What the host has at a path, and what its errors mean.
 
-use base_core::TreeFault;
-use std::fs::Files;
+use super::failure::{HostFault, IS_LINK, IS_NO_NAME, IS_SPECIAL};
+use std::alloc::Global;
+use std::fs::{Files, Metadata};
 use std::io::ErrorKind;
-use std::{fs, io, str};
+use std::os::unix::fs::MetadataExt;
+use std::{fs, str};
 
 /// What the host has at a path.
 #[derive(Clone, Copy, PartialEq, Eq)]
 pub enum Found {
     Nothing,
     Folder,
-    File { len: u64 },
+    File(LookedAt),
+}
+
+/// A regular file as it was looked at: its length in bytes, and what tells it from every other file of the host.
+#[derive(Clone, Copy, PartialEq, Eq)]
+pub struct LookedAt {
+    pub len: u64,
+    device: u64,
+    number: u64,
+}
+
+impl LookedAt {
+    fn of(data: &Metadata) -> LookedAt {
+        LookedAt {
+            len: data.len(),
+            device: data.dev(),
+            number: data.ino(),
+        }
+    }
+
+    /// Whether what the host tells of an open file is that regular file.
+    pub fn is(&self, data: &Metadata) -> bool {
+        data.is_file() && data.dev() == self.device && data.ino() == self.number
+    }
 }
 
 /// What stands at a path itself. A symbolic link is not followed: it is a fault, as is all else that is neither a
 /// regular file nor a folder.
-pub fn look<R: Files>(rt: &R, path: &[u8]) -> Result<Found, TreeFault> {
+pub fn look<R: Files>(rt: &R, alloc: Global, path: &[u8]) -> Result<Found, HostFault> {
     let data = match fs::symlink_metadata(rt, text(path)?) {
         Ok(data) => data,
         Err(e) if is_absence(e.kind()) => return Ok(Found::Nothing),
-        Err(_) => return Err(TreeFault::Disk),
+        Err(e) => return Err(e.into()),
     };
     if data.is_file() {
-        Ok(Found::File { len: data.len() })
-    } else if data.is_dir() {
-        Ok(Found::Folder)
+        return Ok(Found::File(LookedAt::of(&data)));
+    }
+    if data.is_dir() {
+        return Ok(Found::Folder);
+    }
+    let reason = if data.is_symlink() {
+        IS_LINK
     } else {
-        Err(TreeFault::Disk)
-    }
+        IS_SPECIAL
+    };
+    Err(HostFault::at(alloc, reason, path))
 }
 
-/// What a path leads to: nothing where something on the way is no folder.
-pub fn find<R: Files>(rt: &R, path: &[u8]) -> Result<Found, TreeFault> {
-    for (i, byte) in path.iter().enumerate() {
-        if *byte == b'/' && look(rt, &path[..i])? != Found::Folder {
-            return Ok(Found::Nothing);
-        }
-    }
-    look(rt, path)
-}
-
-// Whether an error says that there is nothing at a path; no file has a name that is too long for the host.
+/// Whether an error says that there is nothing at a path; no file has a name that is too long for the host.
 fn is_absence(kind: ErrorKind) -> bool {
     matches!(
         kind,
@@ -49,18 +69,9 @@ fn is_absence(kind: ErrorKind) -> bool {
 }
 
 /// A path as the host takes it.
-pub fn text(path: &[u8]) -> Result<&str, TreeFault> {
+pub fn text(path: &[u8]) -> Result<&str, HostFault> {
     match str::from_utf8(path) {
         Ok(text) => Ok(text),
-        Err(_) => Err(TreeFault::Disk),
-    }
-}
-
-/// What the host did, where a failure other than want of memory is a fault.
-pub fn done<T>(answer: io::Result<T>) -> Result<T, TreeFault> {
-    match answer {
-        Ok(value) => Ok(value),
-        Err(e) if e.kind() == ErrorKind::OutOfMemory => Err(TreeFault::Memory),
-        Err(_) => Err(TreeFault::Disk),
+        Err(_) => Err(HostFault::own(IS_NO_NAME)),
     }
 }

@@ -1,56 +1,93 @@
-// A file that stays open between calls.
+//! Files that stay open between calls.
 
-use super::look::{Found, done, find, text};
-use base_core::TreeFault;
-use std::alloc::{AllocError, Global};
-use std::fs::{Files, OpenOptions};
+use super::failure::{ENDS_EARLY, HostFault, WAS_SWAPPED};
+use super::look::{LookedAt, text};
+use std::alloc::Global;
+use std::fs::{Files, OpenFile, OpenOptions};
+use std::io::{Read, Seek, SeekFrom, Write};
 
-/// An open file, with the path under which it was opened.
+/// An open file, with the path under which it was opened, its length, and where the next read goes on, if that is known.
 #[derive(Drop)]
 pub struct Opened<F: Drop> {
     path: Vec<u8>,
     file: F,
+    len: u64,
+    at: Option<u64>,
 }
 
-impl<F: Drop> Opened<F> {
-    pub fn new(alloc: Global, path: &[u8], file: F) -> Result<Opened<F>, AllocError> {
-        let path = Vec::from_slice(alloc, path)?;
-        Ok(Opened { path, file })
+impl<F: OpenFile + Read + Write + Seek + Drop> Opened<F> {
+    /// Opens the regular file at a path that was looked at. What is opened is that file.
+    pub fn open<R: Files<File = F>>(
+        rt: &R,
+        alloc: Global,
+        path: &[u8],
+        how: &OpenOptions,
+        looked_at: LookedAt,
+    ) -> Result<Opened<F>, HostFault> {
+        let file = how.open(rt, text(path)?)?;
+        let data = file.metadata()?;
+        if !looked_at.is(&data) {
+            return Err(HostFault::own(WAS_SWAPPED));
+        }
+        Ok(Opened {
+            path: Vec::from_slice(alloc, path)?,
+            file,
+            len: data.len(),
+            at: Some(0),
+        })
+    }
+
+    /// Makes a file at a path where nothing stands.
+    pub fn make<R: Files<File = F>>(
+        rt: &R,
+        alloc: Global,
+        path: &[u8],
+        how: &mut OpenOptions,
+    ) -> Result<Opened<F>, HostFault> {
+        let copy = Vec::from_slice(alloc, path)?;
+        let file = how.create_new(true).open(rt, text(path)?)?;
+        Ok(Opened {
+            path: copy,
+            file,
+            len: 0,
+            at: Some(0),
+        })
+    }
+
+    /// Fills the buffer with the bytes from `at` on.
+    pub fn fill(&mut self, at: u64, into: &mut [u8]) -> Result<(), HostFault> {
+        if at > self.len || into.len() as u64 > self.len - at {
+            return Err(HostFault::own(ENDS_EARLY));
+        }
+        if self.at != Some(at) {
+            self.file.seek(SeekFrom::Start(at))?;
+        }
+        self.at = None;
+        self.file.read_exact(into)?;
+        self.at = Some(at + into.len() as u64);
+        Ok(())
+    }
+
+    /// Adds a piece at the end.
+    pub fn add(&mut self, piece: &[u8]) -> Result<(), HostFault> {
+        self.file.write_all(piece)?;
+        self.len = self.len.saturating_add(piece.len() as u64);
+        Ok(())
+    }
+
+    /// Cuts off what a failed `add` has written. It answers whether that is done.
+    pub fn cut_back(&mut self) -> bool {
+        self.file.set_len(self.len).is_ok()
+    }
+
+    /// Lets the host write the file through.
+    pub fn write_through(&self) -> Result<(), HostFault> {
+        Ok(self.file.sync_all()?)
     }
 }
 
-/// The regular file at a path, which stays open from now on. What was open before is closed.
-pub fn file_at<'s, R: Files>(
-    rt: &R,
-    alloc: Global,
-    slot: &'s mut Option<Opened<R::File>>,
-    path: &[u8],
-    how: &OpenOptions,
-) -> Result<&'s mut R::File, TreeFault> {
-    if !is_open(slot, path) {
-        *slot = Some(open(rt, alloc, path, how)?);
-    }
-    match slot {
-        Some(opened) => Ok(&mut opened.file),
-        None => Err(TreeFault::Disk),
-    }
-}
-
-fn open<R: Files>(
-    rt: &R,
-    alloc: Global,
-    path: &[u8],
-    how: &OpenOptions,
-) -> Result<Opened<R::File>, TreeFault> {
-    match find(rt, path)? {
-        Found::File { .. } => {}
-        Found::Folder | Found::Nothing => return Err(TreeFault::Disk),
-    }
-    let file = done(how.open(rt, text(path)?))?;
-    Ok(Opened::new(alloc, path, file)?)
-}
-
-fn is_open<F: Drop>(slot: &Option<Opened<F>>, path: &[u8]) -> bool {
+/// Whether the file at a path is the open one.
+pub fn is_open<F: Drop>(slot: &Option<Opened<F>>, path: &[u8]) -> bool {
     match slot {
         Some(opened) => opened.path.as_slice() == path,
         None => false,

@@ -9,7 +9,7 @@ type Host<'a> = HostTree<'a, HostRuntime>;
 #[test]
 fn writes_renames_lists_and_reads(rt: HostRuntime) -> Result<(), Fail> {
     let folder = enter_an_empty_folder(&rt)?;
-    let mut tree = HostTree::new(&rt, rt.alloc());
+    let mut tree = HostTree::new(&rt, rt.alloc(), Access::Write);
     assert!(rt; lists_what_it_wrote(&rt, &mut tree)?);
     assert!(rt; renames(&rt, &mut tree)?);
     assert!(rt; reads(&rt, &mut tree)?);

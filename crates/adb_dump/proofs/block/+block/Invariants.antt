@@ -3,9 +3,9 @@ use Rattle.adb_view.specs.Adb.{payload_of}
 use Rattle.adb_view.specs.Entries.{array_entries}
 use Rattle.adb_fields.specs.Fields.{are_all_sound, values_at}
 use Rattle.adb_tables.specs.Schema.{shape_of, shapes_of}
-use Rattle.adb_dump.specs.Dump.{block_lines, entries, fields_lines}
+use Rattle.adb_dump.specs.Dump.{block_lines, array_lines, fields_lines}
 use Rattle.adb_tables.specs.Rank.{rank, rank_of_all}
-use Rattle.adb_dump.specs.Laid.{laid}
+use Rattle.adb_dump.specs.Margin.{lines_at}
 use Rattle.adb_dump.specs.Words.{fields_sound, fields_at}
 use Rattle.adb_dump.proofs.Left.{entries_left, fields_left}
 use Rattle.adb_dump.proofs.block.+block.Given as goal
@@ -28,11 +28,11 @@ decreases-write_field l = 2 * rank l.field.kind + 1
 abbrev pub invariant-write_entries-loop-i : goal.invariant-write_entries-loop-i
 invariant-write_entries-loop-i l = record {
   sound : are_all_sound (payload_of l.adb) l.kind (drop l.i (array_entries l.words)) ≡ true;
-  so_far : l.out.items ++ laid l.place.depth l.begun (entries_left (payload_of l.adb) l.kind (array_entries l.words) l.i) ≡ l.initial.out.items ++ laid l.place.depth l.initial.begun (entries (block_lines (shape_of l.kind)) (values_at (payload_of l.adb) l.kind (array_entries l.words)));
+  so_far : l.out.items ++ lines_at l.start.depth l.begun (entries_left (payload_of l.adb) l.kind (array_entries l.words) l.i) ≡ l.initial.out.items ++ lines_at l.start.depth l.initial.begun (array_lines (block_lines (shape_of l.kind)) (values_at (payload_of l.adb) l.kind (array_entries l.words)));
 }
 
 abbrev pub invariant-write_fields-loop-i : goal.invariant-write_fields-loop-i
 invariant-write_fields-loop-i l = record {
   sound : fields_sound (payload_of l.adb) (drop l.i l.fields) (drop l.i (array_entries l.words)) ≡ true;
-  so_far : l.out.items ++ laid l.place.depth l.begun (fields_left (payload_of l.adb) l.fields (array_entries l.words) l.i) ≡ l.initial.out.items ++ laid l.place.depth l.initial.begun (fields_lines (shapes_of l.fields) (fields_at (payload_of l.adb) l.fields (array_entries l.words)));
+  so_far : l.out.items ++ lines_at l.start.depth l.begun (fields_left (payload_of l.adb) l.fields (array_entries l.words) l.i) ≡ l.initial.out.items ++ lines_at l.start.depth l.initial.begun (fields_lines (shapes_of l.fields) (fields_at (payload_of l.adb) l.fields (array_entries l.words)));
 }

@@ -1,7 +1,7 @@
 use Rattle.std.proofs.Common.{ℕ, Ok}
 use Rattle.base_core.specs.Calls.{IfObservable}
 use Rattle.base_core.specs.Read.{OnlyReads}
-use Rattle.make_info.specs.Reads.{reads_of}
+use Rattle.make_index.specs.Files.{reads_of}
 use Rattle.make_info.specs.declared.fault.MakeFault.{MakeFault}
 use Rattle.make_info.specs.declared.fault.MakeFault.TheVariants.{Disk}
 use Rattle.make_index.specs.Views.{entries_view}

@@ -1,6 +1,6 @@
 use Rattle.std.proofs.Common.{◌≡◌, true, sym, ◌∙◌}
 use Rattle.std.proofs.lemmas.Str.{IsUtf8-from_ascii}
-use Rattle.make_info.specs.Fields.{is_decimal}
+use Rattle.command_core.specs.Operands.{is_decimal}
 use Rattle.make_info.proofs.Numbers.{decimal_digits, digits_ascii, parsed_number}
 use Rattle.make_info.proofs.field.read_number.Goals as goal
 

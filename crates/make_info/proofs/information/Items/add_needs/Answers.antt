@@ -5,7 +5,8 @@ use Rattle.std.specs.Slice.Iter.{split_rest, split_done, split_callee}
 use Rattle.std.proofs.lemmas.Iterator.Splits.{YieldsList-from_slice_split}
 use Rattle.std.proofs.lemmas.Iterator.Consumers.{YieldsList-turn, YieldsList-end}
 use Rattle.std.proofs.lemmas.List.{length_push}
-use Rattle.make_info.specs.Fields.{needs_in, nonempty_part}
+use Rattle.make_info.specs.Fields.{needs_in}
+use Rattle.make_info.specs.Reading.{nonempty_part}
 use Rattle.make_info.specs.Information.{with_values}
 use Rattle.make_info.proofs.Saying.{more_needs, no_needs_left, stopped_needs}
 use Rattle.make_info.proofs.information.Items.add_needs.Goals as goal

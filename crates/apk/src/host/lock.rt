@@ -1,0 +1,41 @@
+//! The lock on the root: one run writes there, or any number read.
+
+use super::failure::{HostFault, IS_LOCKED};
+use std::fs::{File, Files, TryLockError};
+use std::time::{Clock, Duration};
+use std::{fs, thread};
+
+/// How long one sleep is while another run holds the lock.
+const SLEEP_MILLISECONDS: u64 = 50;
+
+/// How often the lock is tried: for 60 seconds.
+const MOST_TRIES: u64 = 60_000 / SLEEP_MILLISECONDS;
+
+/// What a run may do below the root.
+#[derive(Clone, Copy, PartialEq, Eq)]
+pub enum Access {
+    Read,
+    Write,
+}
+
+/// Waits until no other run stands in the way, 60 seconds at most. The lock holds until the file that is answered is closed.
+pub fn lock_root<R: Files<File = File> + Clock>(rt: &R, access: Access) -> Result<File, HostFault> {
+    let root = fs::open(rt, ".")?;
+    for _ in 0..MOST_TRIES {
+        match try_to_lock(&root, access) {
+            Ok(()) => return Ok(root),
+            Err(TryLockError::WouldBlock) => {
+                thread::sleep(rt, Duration::from_millis(SLEEP_MILLISECONDS));
+            }
+            Err(TryLockError::Error(e)) => return Err(e.into()),
+        }
+    }
+    Err(HostFault::own(IS_LOCKED))
+}
+
+fn try_to_lock(root: &File, access: Access) -> Result<(), TryLockError> {
+    match access {
+        Access::Read => root.try_lock_shared(),
+        Access::Write => root.try_lock(),
+    }
+}

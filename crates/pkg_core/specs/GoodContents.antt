@@ -1,0 +1,45 @@
+-- What the contents of files come to where no test fails.
+use Rattle.std.specs.Prelude.{◌≡◌, ◌⊎◌, ℕ, true, List, [], ◌∷◌, length, None}
+use Rattle.sha1.specs.Sha1.{sha1}
+use Rattle.sha2.specs.Sha256.{sha256}
+use Rattle.sha2.specs.Sha512.{sha512}
+use Rattle.adb_rules.specs.Rules.{is_digest_length}
+use Rattle.pkg_core.specs.Contents.{Contents, Expected, hash_fault}
+
+-- the contents are those of the file that is expected: its positions, its size and its digest
+pub record IsContentsOf (e : Expected) (contents : Contents) : Type 0 where
+  pub folder : contents.folder ≡ e.folder
+  pub file : contents.file ≡ e.file
+  pub size : length contents.bytes ≡ e.size
+  pub hash : hash_fault e.hash contents.bytes ≡ None
+
+-- one for each file, in order
+abbrev pub AreContentsOf : List Expected → List Contents → Type 0
+AreContentsOf [] [] = Unit {0}
+AreContentsOf [] (contents ∷ others) = ⊥
+AreContentsOf (e ∷ es) [] = ⊥
+AreContentsOf (e ∷ es) (contents ∷ others) = IsContentsOf e contents × AreContentsOf es others
+
+-- ---- where the values of the package are good
+
+-- the digest is that of the bytes, by one of the three functions
+abbrev pub IsDigestOf : List ℕ → List ℕ → Type 0
+IsDigestOf hash bytes = (hash ≡ sha1 bytes) ⊎ ((hash ≡ sha256 bytes) ⊎ (hash ≡ sha512 bytes))
+
+-- the contents are what the file's entry says of them
+pub record IsTrueTo (e : Expected) (contents : Contents) : Type 0 where
+  pub folder : contents.folder ≡ e.folder
+  pub file : contents.file ≡ e.file
+  pub size : length contents.bytes ≡ e.size
+  pub digest : IsDigestOf e.hash contents.bytes
+
+abbrev pub AreTrueTo : List Expected → List Contents → Type 0
+AreTrueTo [] [] = Unit {0}
+AreTrueTo [] (contents ∷ others) = ⊥
+AreTrueTo (e ∷ es) [] = ⊥
+AreTrueTo (e ∷ es) (contents ∷ others) = IsTrueTo e contents × AreTrueTo es others
+
+-- each digest has the length of one of the three functions
+abbrev pub HaveDigests : List Expected → Type 0
+HaveDigests [] = Unit {0}
+HaveDigests (e ∷ es) = (is_digest_length (length e.hash) ≡ true) × HaveDigests es

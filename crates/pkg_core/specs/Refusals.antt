@@ -1,0 +1,16 @@
+-- What the refusals of this crate report.
+use Rattle.std.specs.Prelude.{◌≡◌, Option, Some}
+use Rattle.base_core.specs.declared.cause.Cause.{Cause}
+use Rattle.adb_schema.specs.declared.read.ReadFault.{ReadFault}
+use Rattle.adb_schema.specs.declared.read.ReadFault.TheVariants as ReadFaults
+use Rattle.pkg_core.specs.declared.pack.PackageFault.{PackageFault}
+use Rattle.pkg_core.specs.declared.pack.PackageFault.TheVariants.{Bad, Memory}
+
+-- a bad container is refused with the first failed test; want of memory says nothing of it
+abbrev pub IsFaultOf : PackageFault → Option Cause → Type 0
+IsFaultOf (Bad cause) fault = fault ≡ Some cause
+IsFaultOf Memory fault = Unit {0}
+
+abbrev pub fault_of_read : ReadFault → PackageFault
+fault_of_read (ReadFaults.Bad cause) = Bad cause
+fault_of_read ReadFaults.Memory = Memory

@@ -1,0 +1,214 @@
+//! The calls of a tree in memory: which are to fail, and how many there were.
+ghost use Rattle.std.specs.Prelude.{◌≡◌, [], None, Some, OnOk, OnErr, is_ok, if◌then◌else◌};
+ghost use Rattle.base_core.specs.Faults.{next_count};
+ghost use Rattle.tree_memory.specs.Plans.{PlanState, no_plan, is_next, is_listed, one_on, listed_on};
+ghost use Rattle.tree_memory.specs.Tallies.{no_calls, called, faulted, misused, wanted, begun, goes_on, HasGrown};
+
+use base_core::Disk;
+use std::alloc::{AllocError, Global};
+use std::marker::Model;
+
+/// Which calls are to fail, counted from 1 from now on.
+#[derive(Drop)]
+pub struct Plan {
+    // Those with these numbers.
+    listed: Vec<u64>,
+    // All behind the next so many.
+    stop: Option<u64>,
+}
+
+impl Model for Plan {
+    ghost use Rattle.tree_memory.specs.Plans.{PlanState};
+
+    ghost Value = { PlanState };
+
+    ghost view = { λ plan. record { listed = plan.listed.items; stop = plan.stop } };
+}
+
+impl Plan {
+    /// No call is to fail.
+    pub fn none(alloc: Global) -> Plan
+        ensures { result ≡ no_plan }
+    {
+        Plan {
+            listed: Vec::new(alloc),
+            stop: None,
+        }
+    }
+
+    /// The calls with these numbers are to fail.
+    pub fn at(alloc: Global, calls: &[u64]) -> Result<Plan, AllocError>
+        ensures { OnOk result (result ≡ Ok (record { listed = calls.now; stop = None })) }
+    {
+        let listed = Vec::from_slice(alloc, calls)?;
+        Ok(Plan { listed, stop: None })
+    }
+
+    /// All calls behind the next n are to fail.
+    pub fn after(alloc: Global, n: u64) -> Plan
+        ensures { result ≡ record { listed = []; stop = Some n } }
+    {
+        Plan {
+            listed: Vec::new(alloc),
+            stop: Some(n),
+        }
+    }
+
+    /// Whether the next call is to fail. The plan is one call nearer.
+    pub fn pass(&mut self) -> bool
+        ensures planned { result ≡ is_next self.old }
+        ensures nearer { self.new ≡ one_on self.old }
+    {
+        let listed = pass(&mut self.listed);
+        match self.stop {
+            None => listed,
+            Some(n) => {
+                self.stop = Some(n.saturating_sub(1));
+                listed || n == 0
+            }
+        }
+    }
+}
+
+// Whether the next call is one of those with these numbers, which are one call nearer.
+fn pass(plan: &mut Vec<u64>) -> bool
+    ensures planned { result ≡ is_listed plan.old.items }
+    ensures nearer { plan.new.items ≡ listed_on plan.old.items }
+{
+    let planned = plan.contains(&1);
+    for n in plan.iter_mut() {
+        *n = n.saturating_sub(1);
+    }
+    plan.retain(|n| *n > 0);
+    planned
+}
+
+/// How many calls were made, and how many of them failed. Each count stays at its last value.
+#[derive(Clone, Copy)]
+pub struct Tally {
+    pub calls: u64,
+    pub writes: u64,
+    pub faults: u64,
+    pub misuses: u64,
+    pub wants: u64,
+}
+
+impl Tally {
+    pub fn new() -> Tally
+        ensures { result ≡ no_calls }
+    {
+        Tally {
+            calls: 0,
+            writes: 0,
+            faults: 0,
+            misuses: 0,
+            wants: 0,
+        }
+    }
+
+    /// One more call.
+    pub fn call(&mut self)
+        ensures { self.new ≡ called self.old }
+    {
+        self.calls = self.calls.saturating_add(1);
+    }
+
+    /// The call is one that writes.
+    pub fn write(&mut self)
+        ensures { self.new ≡ record self.old { writes = next_count self.old.writes } }
+    {
+        self.writes = self.writes.saturating_add(1);
+    }
+
+    /// The call failed.
+    pub fn fault(&mut self)
+        ensures is { self.new ≡ faulted self.old }
+        ensures grown { HasGrown self.old self.new }
+    {
+        self.faults = self.faults.saturating_add(1);
+    }
+
+    /// The call had to fail.
+    pub fn misuse(&mut self)
+        ensures is { self.new ≡ misused self.old }
+        ensures grown { HasGrown self.old self.new }
+    {
+        self.fault();
+        self.misuses = self.misuses.saturating_add(1);
+    }
+
+    /// The call failed for want of memory.
+    pub fn want(&mut self)
+        ensures is { self.new ≡ wanted self.old }
+        ensures grown { HasGrown self.old self.new }
+    {
+        self.fault();
+        self.wants = self.wants.saturating_add(1);
+    }
+}
+
+/// The calls of a tree: which are to fail, and how many there were.
+#[derive(Drop)]
+pub struct Calls {
+    pub plan: Plan,
+    pub tally: Tally,
+}
+
+impl Calls {
+    pub fn new(alloc: Global) -> Calls
+        ensures plan { result.plan ≡ no_plan }
+        ensures tally { result.tally ≡ no_calls }
+    {
+        Calls {
+            plan: Plan::none(alloc),
+            tally: Tally::new(),
+        }
+    }
+
+    /// Counts a call. It fails where it is a misuse, or where that is planned.
+    pub fn begin(&mut self, can: bool) -> Result<(), Disk>
+        ensures plan { self.new.plan ≡ one_on self.old.plan }
+        ensures tally { self.new.tally ≡ begun can (is_next self.old.plan) self.old.tally }
+        ensures grown { HasGrown self.old.tally self.new.tally }
+        ensures when { is_ok result ≡ goes_on can (is_next self.old.plan) }
+    {
+        self.tally.call();
+        let planned = self.plan.pass();
+        if !can {
+            self.tally.misuse();
+            return Err(Disk);
+        }
+        if planned {
+            self.tally.fault();
+            return Err(Disk);
+        }
+        Ok(())
+    }
+
+    /// The same of a call that writes.
+    pub fn begin_write(&mut self, can: bool) -> Result<(), Disk>
+        ensures plan { self.new.plan ≡ one_on self.old.plan }
+        ensures tally { self.new.tally ≡ begun can (is_next self.old.plan) (record self.old.tally { writes = next_count self.old.tally.writes }) }
+        ensures grown { HasGrown self.old.tally self.new.tally }
+        ensures when { is_ok result ≡ goes_on can (is_next self.old.plan) }
+    {
+        self.tally.write();
+        self.begin(can)
+    }
+
+    /// Counts the want of memory as the call's fault.
+    pub fn finish(&mut self, done: Result<(), AllocError>) -> Result<(), Disk>
+        ensures plan { self.new.plan ≡ self.old.plan }
+        ensures tally { self.new.tally ≡ (if is_ok done then self.old.tally else wanted self.old.tally) }
+        ensures grown { HasGrown self.old.tally self.new.tally }
+        ensures when { is_ok result ≡ is_ok done }
+    {
+        match done {
+            Ok(()) => Ok(()),
+            Err(_) => {
+                self.tally.want();
+                Err(Disk)
+            }
+        }
+    }
+}
