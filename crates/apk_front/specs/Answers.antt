@@ -10,7 +10,7 @@ use Rattle.outcome.specs.Commands.{IsOutcome}
 use Rattle.outcome.specs.Outcome.{Outcome}
 use Rattle.report_core.specs.Texts.{tree_line, memory_line}
 use Rattle.report_core.specs.declared.refusal.Refusal.{Refusal}
-use Rattle.words_core.specs.Grammar.{start_of}
+use Rattle.words_core.specs.Grammar.{line_start}
 use Rattle.apk_front.specs.declared.answer.Answer.{Answer}
 use Rattle.apk_front.specs.declared.answer.Answer.TheVariants.{Ok, Refused, TreeFault, OutFault, Memory}
 
@@ -149,4 +149,4 @@ IsOutcomeUnlessMemory words files Leaves Memory before after out err = Unit {0}
 
 -- whether words name an applet behind the options that stand first
 abbrev pub name_an_applet : List (List ℕ) → Bool
-name_an_applet words = is_ok (start_of no_flags 1 words)
+name_an_applet words = is_ok (line_start words)

@@ -21,6 +21,7 @@ use Rattle.words_core.specs.declared.reading.AppletSite.{AppletSite}
 use Rattle.words_core.specs.declared.reading.OptionState.{OptionState}
 use Rattle.words_core.specs.declared.reading.Reading.{Reading}
 use Rattle.words_core.specs.declared.reading.Start.{Start}
+use Rattle.words_core.specs.declared.word.TheConstants.{EQUALS_SIGN}
 use Rattle.words_core.specs.Options.{OptionSpec, applet_of, is_early, option_spelled, options_of}
 
 -- ---- a word
@@ -35,12 +36,12 @@ is_end word = bytes_eq word (codes "--")
 
 -- of `--name=value` the name, of `-xvalue` the first two bytes
 unfoldable pub option_name : List ℕ → List ℕ
-option_name word = if bytes_eq (take 2 word) (codes "--") then before_first (λ b. b == 61) word else take 2 word
+option_name word = if bytes_eq (take 2 word) (codes "--") then before_first (λ b. b == EQUALS_SIGN) word else take 2 word
 
 -- the value that an option's word holds: what is behind the first `=` of a long one, and behind the letter of a short one
 unfoldable pub held_value : List ℕ → Option (List ℕ)
 held_value word =
-    if bytes_eq (take 2 word) (codes "--") then option_map (λ i. drop (i + 1) word) (position (λ b. b == 61) word) else
+    if bytes_eq (take 2 word) (codes "--") then option_map (λ i. drop (i + 1) word) (position (λ b. b == EQUALS_SIGN) word) else
     if nat_lt 2 (length word) then Some (drop 2 word) else
     None
 

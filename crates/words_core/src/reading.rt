@@ -9,7 +9,7 @@ ghost use Rattle.words_core.specs.Options.{options_of};
 ghost use Rattle.words_core.specs.Steps.{IsStep};
 
 use crate::options::{Meaning, applet_of, is_early, option_spelled, with_option};
-use crate::word::{held_value, is_end, is_option, option_name, place_behind};
+use crate::word::{MOST_PLACES, held_value, is_end, is_option, option_name, place_behind};
 use base_core::Words;
 use command_core::{Applet, Flags, Operands, ValueRule, Values};
 use std::alloc::{AllocError, Global};
@@ -51,7 +51,8 @@ pub(crate) fn read_start(words: &Words) -> Result<Start, u32>
 
 // Looks for the applet, which only some options may stand before.
 fn find_applet(words: &Words) -> Result<AppletSite, u32>
-    ensures { result ≡ applet_site 1 words.now }
+    ensures site { result ≡ applet_site 1 words.now }
+    ensures few { length words.now < MOST_PLACES }
 {
     for i in 0..words.len() {
         let word = words.word(i);
@@ -83,7 +84,7 @@ fn applet_behind_end(words: &Words, before: usize) -> Result<AppletSite, u32>
 // The applet that is a word with so many before it.
 #[tactic(auto, unfolding(crate::specs::Grammar::site_at))]
 fn applet_at(word: &[u8], ended: bool, before: usize) -> Result<AppletSite, u32>
-    requires { before < 4294967295 }
+    requires { before < MOST_PLACES }
     ensures { result ≡ site_at ended (before + 1) word.now }
 {
     match applet_of(word) {
@@ -100,6 +101,7 @@ fn applet_at(word: &[u8], ended: bool, before: usize) -> Result<AppletSite, u32>
 fn read_early(words: &Words, site: &AppletSite) -> Result<Flags, u32>
     requires low { 1 ≤ site.now.read }
     requires high { site.now.read ≤ length words.now }
+    requires few { length words.now < MOST_PLACES }
     ensures { result ≡ early_flags (options_of site.now.applet) no_flags 1 (take (site.now.read - 1) words.now) }
 {
     let mut flags = Flags::none();

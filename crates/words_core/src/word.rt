@@ -4,6 +4,11 @@ ghost use Rattle.std.specs.List.{position};
 ghost use Rattle.std.specs.Option.{option_map};
 ghost use Rattle.words_core.specs.Grammar.{held_value, is_end, is_option, option_name};
 
+/// Places are u32 numbers: so many words are too many.
+pub(crate) const MOST_PLACES: usize = 4294967295;
+
+const EQUALS_SIGN: u8 = b'=';
+
 /// Whether a word is an option, or the end of the options: two or more bytes that begin with a dash.
 pub(crate) fn is_option(word: &[u8]) -> bool
     ensures { result ≡ is_option word.now }
@@ -20,9 +25,9 @@ pub(crate) fn is_end(word: &[u8]) -> bool
 
 // Where the first `=` stands.
 fn equals_sign(word: &[u8]) -> Option<usize>
-    ensures { result ≡ position (λ b. b == 61) word.now }
+    ensures { result ≡ position (λ b. b == EQUALS_SIGN) word.now }
 {
-    word.iter().position(|byte| *byte == b'=')
+    word.iter().position(|byte| *byte == EQUALS_SIGN)
 }
 
 /// Of `--name=value` the name, of `-xvalue` the first two bytes.
@@ -57,7 +62,7 @@ pub(crate) fn held_value(word: &[u8]) -> Option<&[u8]>
 
 // What is behind the first `=` of a word.
 fn long_value(word: &[u8]) -> Option<&[u8]>
-    ensures { option_map (λ text. text.now) result ≡ option_map (λ i. drop (i + 1) word.now) (position (λ b. b == 61) word.now) }
+    ensures { option_map (λ text. text.now) result ≡ option_map (λ i. drop (i + 1) word.now) (position (λ b. b == EQUALS_SIGN) word.now) }
 {
     match equals_sign(word) {
         Some(i) => Some(&word[i + 1..]),
@@ -67,7 +72,7 @@ fn long_value(word: &[u8]) -> Option<&[u8]>
 
 /// The place of a word, counted from 1, where so many stand before it.
 pub(crate) fn place_behind(before: usize) -> u32
-    requires { before < 4294967295 }
+    requires { before < MOST_PLACES }
     ensures { result ≡ before + 1 }
 {
     before as u32 + 1
