@@ -1,5 +1,5 @@
 -- A command is judged good.
-use Rattle.std.proofs.Common.{Bool, List, None, Ok, Option, Some, [], ap, arith, false, length, not, refl, sym, true, ℕ, ◌+◌, ◌<◌, ◌∙◌, ◌∷◌, ◌≡◌, ◌≤◌}
+use Rattle.std.proofs.Common.{Bool, List, None, Ok, Option, Some, [], ap, arith, false, length, not, refl, sym, true, ℕ, ◌+◌, ◌∙◌, ◌∷◌, ◌≡◌, ◌≤◌}
 use Rattle.std.specs.List.{list_all}
 use Rattle.std.specs.Prelude.{nat_le, ◌&&◌}
 use Rattle.std.proofs.lemmas.Bool.{and_parts, false≢true, le-ltb, leb-true, lt-ltb}
