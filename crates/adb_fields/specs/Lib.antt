@@ -6,3 +6,4 @@ pub mod Repeated
 pub mod Fields
 pub mod ListValue
 pub mod NamedTexts
+pub mod Once

@@ -21,4 +21,4 @@ pub use pairs::{
 pub use reads::{
     field_word, hash_field, hash_word, int_field, int_word, objects_field, objects_word, text_field, text_word, texts_field, texts_word,
 };
-pub use repeated::repeated_names;
+pub use repeated::{no_name_is_repeated_where_each_stands_once, repeated_names};

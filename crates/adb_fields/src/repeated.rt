@@ -1,6 +1,6 @@
 //! Names that stand twice in a walked container.
 
-ghost use Rattle.std.specs.Prelude.{◌≡◌, ◌+◌, ◌<◌, ◌^◌, [], ◌∷◌, true, Some, map, IfOk};
+ghost use Rattle.std.specs.Prelude.{◌↔◌, None, ◌≡◌, ◌+◌, ◌<◌, ◌^◌, [], ◌∷◌, true, Some, map, IfOk};
 ghost use Rattle.adb_view.specs.Adb.{payload_of};
 ghost use Rattle.adb_view.specs.Entries.{array_entries};
 ghost use Rattle.adb_tables.specs.Values.{count_of, entries_in, entry_in, is_sound, kind_at, value_at};
@@ -8,6 +8,9 @@ ghost use Rattle.adb_fields.specs.Fields.{are_all_sound};
 ghost use Rattle.adb_tables.specs.Shaped.{shaped_value, table_of};
 ghost use Rattle.adb_tables.specs.Walk.{or_else};
 ghost use Rattle.adb_fields.specs.Repeated.{between_fault, file_twice, files_in, folder_twice, folders_in, inside_fault, name_of, name_twice, package_twice, path_in_two, repeated_at, repeated_fault, twice, twice_in_one};
+ghost use Rattle.adb_fields.specs.Once.{NamesStandOnce};
+ghost use Rattle.adb_view.specs.Plain.{Plain};
+ghost use Rattle.adb_tables.specs.declared.tables.Which.{Which};
 ghost use Rattle.adb_fields.specs.NamedTexts.{plains_at};
 ghost use Rattle.adb_tables.specs.declared.tables.Kind.TheVariants as Kinds;
 ghost use Rattle.adb_tables.specs.declared.tables.Which.TheVariants as Tables;
@@ -15,7 +18,7 @@ ghost use Rattle.adb_tables.specs.declared.tables.Which.TheVariants as Tables;
 use crate::name_lists::{add_texts, all_paths, object_names, package_names};
 use crate::pairs::{Pair, earlier, first_pair};
 use crate::reads::{objects_field, texts_field};
-use adb_tables::{Shaped, Which, entry_word};
+use adb_tables::{Shaped, Which, entry_word, values_of_few_visits_have_no_fault};
 use adb_view::{Adb, Arr, Val};
 use base_core::Cause;
 use std::alloc::{AllocError, Global};
@@ -29,6 +32,7 @@ use std::alloc::{AllocError, Global};
 pub fn repeated_names(alloc: Global, shaped: &Shaped<'_>) -> Result<Option<Cause>, AllocError>
     ensures { IfOk result (λ cause. cause ≡ repeated_fault (table_of shaped.now) (shaped_value shaped.now)) }
 {
+    values_of_few_visits_have_no_fault();
     let adb = shaped.adb();
     let root = adb.root();
     match shaped.which() {
@@ -198,3 +202,8 @@ fn files_twice(alloc: Global, adb: Adb<'_>, packages: Arr<'_>) -> Result<Option<
     }
     Ok(first)
 }
+
+/// No repeated name is reported of a value exactly where each stands once.
+pub fn no_name_is_repeated_where_each_stands_once()
+    ensures { (which : Which) (value : Plain) → (repeated_fault which value ≡ None) ↔ NamesStandOnce which value }
+{}

@@ -27,5 +27,3 @@ pub use sink::{Sink, SinkFault, write_all};
 pub use text::{Text, Words};
 pub use tree::{Disk, Tree, TreeFault, read_all};
 
-#[cfg(test)]
-mod tests;

@@ -77,5 +77,10 @@ fn sink(alloc: Global, plan: SinkPlan) -> MemorySink {
     if let Some(end) = plan.end {
         sink.fail_after(end);
     }
+    if let Some(most) = plan.most
+        && most > 0
+    {
+        sink.take_at_most(most);
+    }
     sink
 }

@@ -122,6 +122,7 @@ impl Reader {
         match word {
             b"row" => self.begin_row(rest),
             b"from" => self.begin_with(rest),
+            b"in" => self.keep_in_memory(rest),
             b"file" => self.add_given(rest),
             b"then" => self.add_wanted(rest),
             b"names" => self.add_names(rest),
@@ -225,6 +226,17 @@ impl Reader {
 
 /// Files.
 impl Reader {
+    /// A row that a host's folder may not carry. Here all rows run in memory, so nothing else is to be kept of it.
+    fn keep_in_memory(&mut self, rest: &[u8]) -> Result<(), Trouble> {
+        if rest != b"memory".as_slice() {
+            return Err(Trouble::BadShape);
+        }
+        match &self.row {
+            Some(_) => Ok(()),
+            None => Err(Trouble::NoRow),
+        }
+    }
+
     /// A file that stands there before the first command line.
     fn add_given(&mut self, rest: &[u8]) -> Result<(), Trouble> {
         if self.step.is_some() {

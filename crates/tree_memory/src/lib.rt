@@ -22,7 +22,3 @@ pub use laws::{
 pub use sink::MemorySink;
 pub use tree::MemoryTree;
 
-#[cfg(test)]
-mod sink_tests;
-#[cfg(test)]
-mod tests;
