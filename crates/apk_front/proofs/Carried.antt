@@ -264,12 +264,12 @@ usage_reported words (v ∷ rest) verdict is = (as_outcome (files_of v) verdict,
 
 -- an applet that does not make only reads
 only_reads_unless : (applet : Applet) → (applet ≡ Mkpkg → ⊥) → (applet ≡ Mkndx → ⊥) → does_only_read (effect_of applet) ≡ true
-only_reads_unless Mkpkg package index = absurd (package refl)
-only_reads_unless Mkndx package index = absurd (index refl)
-only_reads_unless other package index = refl
+only_reads_unless Mkpkg p i = absurd (p refl)
+only_reads_unless Mkndx p i = absurd (i refl)
+only_reads_unless other p i = refl
 
 pub reads_one : (command : CommandLine) (applet : Applet) → applet ≡ command.applet → (applet ≡ Mkpkg → ⊥) → (applet ≡ Mkndx → ⊥) → does_only_read (effect_of command.applet) ≡ true
-reads_one command applet same package index = subst (λ (a : Applet). does_only_read (effect_of a) ≡ true) same (only_reads_unless applet package index)
+reads_one command applet same p i = subst (λ (a : Applet). does_only_read (effect_of a) ≡ true) same (only_reads_unless applet p i)
 
 -- ---- an applet that no word names yet
 

@@ -67,8 +67,8 @@ OnMade (Err why) Means = is_cut why ≡ false → Means (Err why)
 -- ---- over these files
 
 -- what `mkpkg` makes
-pub record IsPackageMade (command : CommandLine) (files : Files) (made : Result (List ℕ) MakeFault) :
-    Type 0 where
+pub record IsPackageMade (command : CommandLine) (files : Files)
+    (made : Result (List ℕ) MakeFault) : Type 0 where
   pub names : List (List ℕ)
   pub listing : IsListing (values_with FILES command.values) files names
   pub is : made_package command names (reads_in files) ≡ made
