@@ -5,7 +5,6 @@ use Rattle.base_core.specs.Sink.{SinkChange}
 use Rattle.base_core.specs.declared.tree.TreeFault.{TreeFault}
 use Rattle.base_core.specs.declared.tree.TreeFault.TheVariants.{Disk, Memory as NoMemory}
 use Rattle.command_core.specs.Command.{CommandLine}
-use Rattle.command_core.specs.Flags.{no_flags}
 use Rattle.words_core.specs.Grammar.{command_from, command_of, line_start}
 use Rattle.std.specs.Prelude.{is_ok}
 use Rattle.apk_front.specs.Answers.{name_an_applet}

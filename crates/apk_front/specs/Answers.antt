@@ -5,7 +5,6 @@ use Rattle.base_core.specs.Faults.{Counts, HasCause, IsNoFault, Rose}
 use Rattle.base_core.specs.Files.{Files}
 use Rattle.base_core.specs.Sink.{SinkChange, Gets, GetsSome, SinkFailed}
 use Rattle.base_core.specs.Tree.{TreeState, files_of}
-use Rattle.command_core.specs.Flags.{no_flags}
 use Rattle.outcome.specs.Commands.{IsOutcome}
 use Rattle.outcome.specs.Outcome.{Outcome}
 use Rattle.report_core.specs.Texts.{tree_line, memory_line}
