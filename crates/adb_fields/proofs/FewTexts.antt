@@ -1,8 +1,8 @@
 -- A payload of few visits has few texts: those of an intent are counted in 32 bits.
 use Rattle.std.proofs.Common.{◌≡◌, ℕ, suc, ◌+◌, ◌<◌, ◌≤◌, true, List, [], ◌∷◌, ◌++◌, length, get_or, Option, Some, None, Result, Ok, Err, refl, ap, sym, ◌∙◌, subst, arith, length-append, ◌^◌}
-use Rattle.std.specs.Prelude.{is_none}
+use Rattle.std.specs.Prelude.{is_none, is_some, ◌↔◌}
 use Rattle.base_core.specs.declared.cause.Cause.{Cause}
-use Rattle.adb_view.specs.Plain.{Plain, text, array}
+use Rattle.adb_view.specs.Plain.{Plain, Shape, text, array, plain_of}
 use Rattle.adb_view.specs.Readers.{run_of, ARRAY, OBJECT}
 use Rattle.adb_view.specs.Visits.{visits, field_visits, each_visit, or_empty}
 use Rattle.adb_tables.specs.Schema.{shape_of, shapes_of, table}
@@ -12,7 +12,6 @@ use Rattle.adb_tables.specs.declared.tables.Kind.TheVariants.{Obj, TextArr, Text
 use Rattle.adb_tables.specs.declared.tables.Which.{Which}
 use Rattle.adb_tables.specs.declared.tables.Which.TheVariants.{Intent}
 use Rattle.adb_view.specs.Head.{root_of}
-use Rattle.adb_tables.proofs.ShapeWalk.{none_told}
 use Rattle.adb_fields.proofs.FieldReads.{object_read_of, field_read, texts_sound, texts_value, texts_run, entry_count}
 
 run-found : (p : List ℕ) (w : ℕ) (r : Result (List ℕ) Cause) → is_sound p TextArr w ≡ true → run_of ARRAY p w ≡ r → (ws : List ℕ) × (run_of ARRAY p w ≡ Ok ws)
@@ -62,8 +61,12 @@ field-count : (p : List ℕ) (w : ℕ) (v : Plain) (ws : List ℕ) → is_sound 
 field-count p w v ws h e r =
     sym (entry_count p Text ws (texts_sound p w ws h r) ∙ ap (λ (u : Plain). count_of (entries_in u)) (texts_value p w ws h r ∙ e))
 
-pub intent_few : (p : List ℕ) (w : ℕ) → is_sound p (Obj Intent) w ≡ true → is_none (shape_fault p (shape_of (Obj Intent)) w) ≡ true → count_of (entries_in (entry_in (value_at p (Obj Intent) w) 0)) + count_of (entries_in (entry_in (value_at p (Obj Intent) w) 1)) ≤ LIMIT
-intent_few p w h few =
+-- `values_of_few_visits_have_no_fault` says so
+abbrev pub FewVisits : Type 0
+FewVisits = (p : List ℕ) (s : Shape) (w : ℕ) → (shape_fault p s w ≡ None) ↔ ((is_some (plain_of p s w) ≡ true) × (length (visits p s w) ≤ LIMIT))
+
+pub intent_few : FewVisits → (p : List ℕ) (w : ℕ) → is_sound p (Obj Intent) w ≡ true → is_none (shape_fault p (shape_of (Obj Intent)) w) ≡ true → count_of (entries_in (entry_in (value_at p (Obj Intent) w) 0)) + count_of (entries_in (entry_in (value_at p (Obj Intent) w) 1)) ≤ LIMIT
+intent_few visited p w h few =
     let (ws, read) = object_read_of p Intent w h in
     let one = field_read p Intent w ws 0 TextArr h read.run refl in
     let two = field_read p Intent w ws 1 TextArr h read.run refl in
@@ -73,16 +76,16 @@ intent_few p w h few =
     let n = field-count p (get_or ws 1 0) _ b two.sound two.value run_b in
     let c = both-visited p ws a b run_a run_b in
     let d = intent-visits p w ws read.run in
-    let l = ((none_told p (shape_of (Obj Intent)) w).0 (none-is (shape_fault p (shape_of (Obj Intent)) w) few)).1 in
+    let l = ((visited p (shape_of (Obj Intent)) w).0 (none-is (shape_fault p (shape_of (Obj Intent)) w) few)).1 in
     omega arith
 
 -- the same of a payload that was walked as an intent
-pub intent_fits : (p q : List ℕ) (which : Which) (w : ℕ) → p ≡ q → w ≡ root_of p → which ≡ Intent → is_sound q (Obj which) (root_of q) ≡ true → is_none (shape_fault q (shape_of (Obj which)) (root_of q)) ≡ true → count_of (entries_in (entry_in (value_at p (Obj Intent) w) 0)) + count_of (entries_in (entry_in (value_at p (Obj Intent) w) 1)) < 2 ^ 32
-intent_fits p q which w same root is sound few =
+pub intent_fits : FewVisits → (p q : List ℕ) (which : Which) (w : ℕ) → p ≡ q → w ≡ root_of p → which ≡ Intent → is_sound q (Obj which) (root_of q) ≡ true → is_none (shape_fault q (shape_of (Obj which)) (root_of q)) ≡ true → count_of (entries_in (entry_in (value_at p (Obj Intent) w) 0)) + count_of (entries_in (entry_in (value_at p (Obj Intent) w) 1)) < 2 ^ 32
+intent_fits visited p q which w same root is sound few =
     let at : w ≡ root_of q = root ∙ ap root_of same in
     let S : Which → Type 0 = λ x. is_sound q (Obj x) (root_of q) ≡ true in
     let F : Which → Type 0 = λ x. is_none (shape_fault q (shape_of (Obj x)) (root_of q)) ≡ true in
-    let l = intent_few q (root_of q) (subst S is sound) (subst F is few) in
+    let l = intent_few visited q (root_of q) (subst S is sound) (subst F is few) in
     let G : List ℕ → ℕ → Type 0 = λ b r. count_of (entries_in (entry_in (value_at b (Obj Intent) r) 0)) + count_of (entries_in (entry_in (value_at b (Obj Intent) r) 1)) < 2 ^ 32 in
     let here : G q (root_of q) = omega arith in
     subst (λ (b : List ℕ). G b w) (sym same) (subst (λ (r : ℕ). G q r) (sym at) here)

@@ -8,13 +8,25 @@ use Rattle.adb_view.specs.Readers.{int_of, blob_of, run_of, ARRAY, OBJECT}
 use Rattle.adb_tables.specs.Schema.{table, shape_of, shapes_of, schema_number}
 use Rattle.adb_fields.specs.Fields.{IsFieldOf, are_all_sound, values_at, array_at}
 use Rattle.adb_tables.specs.Values.{is_sound, value_at, kind_at, nth, count_of, entries_in, entry_in, int_in, text_in}
-use Rattle.adb_view.proofs.Found.{run_of-null, int_of-null, blob_of-null}
 use Rattle.adb_tables.specs.Shapes.{object_shape, objects_shape, texts_shape, int_shape, text_shape, hash_shape}
 use Rattle.base_core.specs.declared.cause.Cause.{Cause}
 use Rattle.adb_tables.specs.declared.tables.Which.{Which}
 use Rattle.adb_tables.specs.declared.tables.Kind.{Kind}
 use Rattle.adb_tables.specs.declared.tables.Kind.TheVariants.{Int, Text, Hash, Obj, TextArr, ObjArr}
 use Rattle.adb_tables.specs.declared.tables.Field.{Field}
+
+-- NULL is read by each reader
+int_of-null : (p : List ℕ) → int_of p 0 ≡ Ok 0
+unfolding int_of
+int_of-null p = refl
+
+blob_of-null : (p : List ℕ) → blob_of p 0 ≡ Ok []
+unfolding blob_of
+blob_of-null p = refl
+
+run_of-null : (kind : ℕ) (p : List ℕ) → run_of kind p 0 ≡ Ok []
+unfolding run_of
+run_of-null kind p = refl
 
 some_is : {A : Type 0} (o : Option A) → is_some o ≡ true → (x : A) × (o ≡ Some x)
 some_is (Some x) e = (x, refl)

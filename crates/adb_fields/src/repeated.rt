@@ -15,7 +15,7 @@ ghost use Rattle.adb_tables.specs.declared.tables.Which.TheVariants as Tables;
 use crate::name_lists::{add_texts, all_paths, object_names, package_names};
 use crate::pairs::{Pair, earlier, first_pair};
 use crate::reads::{objects_field, texts_field};
-use adb_tables::{Shaped, Which, entry_word};
+use adb_tables::{Shaped, Which, entry_word, values_of_few_visits_have_no_fault};
 use adb_view::{Adb, Arr, Val};
 use base_core::Cause;
 use std::alloc::{AllocError, Global};
@@ -29,6 +29,7 @@ use std::alloc::{AllocError, Global};
 pub fn repeated_names(alloc: Global, shaped: &Shaped<'_>) -> Result<Option<Cause>, AllocError>
     ensures { IfOk result (λ cause. cause ≡ repeated_fault (table_of shaped.now) (shaped_value shaped.now)) }
 {
+    values_of_few_visits_have_no_fault();
     let adb = shaped.adb();
     let root = adb.root();
     match shaped.which() {

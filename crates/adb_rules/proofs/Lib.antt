@@ -1,3 +1,4 @@
 pub mod Below
 pub mod TextSteps
 pub mod FirstBad
+pub mod SoundLeaves

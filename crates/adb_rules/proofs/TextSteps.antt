@@ -10,7 +10,6 @@ use Rattle.adb_fields.specs.Fields.{IsFieldOf, are_all_sound, values_at, array_a
 use Rattle.adb_tables.specs.Values.{is_sound, value_at, entries_in, nth, int_in, text_in}
 use Rattle.adb_tables.specs.Walk.{or_else}
 use Rattle.adb_tables.specs.Rank.{rank, rank_of_all}
-use Rattle.adb_tables.proofs.WalkSteps.{field_rank}
 use Rattle.adb_rules.specs.Texts.{Surroundings, Leaf, number_leaf, text_leaf, keeps_rule, number_of_leaf, each_leaf, leaves, field_leaves, inside_of, first_bad}
 use Rattle.adb_tables.specs.Shapes.{object_shape, objects_shape, texts_shape, int_shape, text_shape, hash_shape}
 use Rattle.adb_tables.specs.declared.tables.Which.{Which}
@@ -117,7 +116,7 @@ entries_end p k f ws i le = rw (drop_all i ws le) refl
 
 -- ---- over the fields
 
-pub behind : ℕ → Plains → Plains
+unfoldable pub behind : ℕ → Plains → Plains
 behind zero vs = vs
 behind (suc i) none = none
 behind (suc i) (more v vs) = behind i vs
@@ -126,14 +125,14 @@ pub behind-zero : (vs : Plains) → behind 0 vs ≡ vs
 unfolding behind
 behind-zero vs = refl
 
-nth-behind : (i : ℕ) (vs : Plains) → nth (behind i vs) 0 ≡ nth vs i
+pub nth-behind : (i : ℕ) (vs : Plains) → nth (behind i vs) 0 ≡ nth vs i
 unfolding behind
 nth-behind zero none = refl
 nth-behind zero (more v vs) = refl
 nth-behind (suc i) none = refl
 nth-behind (suc i) (more v vs) = nth-behind i vs
 
-behind-behind : (i : ℕ) (vs : Plains) → behind 1 (behind i vs) ≡ behind (suc i) vs
+pub behind-behind : (i : ℕ) (vs : Plains) → behind 1 (behind i vs) ≡ behind (suc i) vs
 unfolding behind
 behind-behind zero vs = refl
 behind-behind (suc i) none = refl
@@ -226,6 +225,11 @@ field_bad p which w i word d field_number a c lt is bad =
 pub field_sound_of : (p : List ℕ) (which : Which) (w i word : ℕ) (d : Field) (fs : List Field) → fs ≡ table which → i < length fs → IsFieldOf p which w i word → is_sound p (get_or fs i d).kind word ≡ true
 field_sound_of p which w i word d fs e lt is =
     subst (λ (gs : List Field). i < length gs → is_sound p (get_or gs i d).kind word ≡ true) (sym e) (λ lt. field_sound p which w i word d lt is) lt
+
+field_rank : (fs : List Field) (i : ℕ) (d : Field) → i < length fs → rank (get_or fs i d).kind ≤ rank_of_all fs
+field_rank [] i d lt = absurd (omega arith)
+field_rank (f ∷ fs) zero d lt = omega arith
+field_rank (f ∷ fs) (suc i) d lt = omega (arith, field_rank fs i d (omega arith))
 
 pub field_below : (which : Which) (i : ℕ) (d : Field) (fs : List Field) → fs ≡ table which → i < length fs → rank (get_or fs i d).kind ≤ rank_of_all (table which)
 field_below which i d fs e lt =

@@ -4,3 +4,4 @@ pub mod Rules
 pub mod Texts
 -- what only inner contracts and proofs use
 pub mod Surroundings
+pub mod SoundValues

@@ -9,4 +9,6 @@ mod rules;
 mod text_walk;
 
 pub use rules::{is_reserved, is_reserved_file, is_stage_name};
-pub use text_walk::{check_texts, the_first_bad_text_is_reported};
+pub use text_walk::{
+    check_texts, no_text_is_bad_where_each_keeps_its_rule, the_first_bad_text_is_reported,
+};

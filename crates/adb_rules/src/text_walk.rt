@@ -1,12 +1,13 @@
 //! The text walk: each number and text of a walked payload, against the rule of its field.
 
-ghost use Rattle.std.specs.Prelude.{◌≡◌, ◌==◌, ◌*◌, true, length, ◌+◌, ◌<◌, ◌≤◌, ◌^◌, IfOk, [], ◌∷◌};
+ghost use Rattle.std.specs.Prelude.{◌↔◌, None, ◌≡◌, ◌==◌, ◌*◌, true, length, ◌+◌, ◌<◌, ◌≤◌, ◌^◌, IfOk, [], ◌∷◌};
 ghost use Rattle.adb_view.specs.Adb.{payload_of};
 ghost use Rattle.adb_tables.specs.Schema.{schema_number, shape_of, shapes_of, table};
 ghost use Rattle.adb_tables.specs.Values.{is_sound, value_at, entries_in};
 ghost use Rattle.adb_fields.specs.Paths.{path_of};
 ghost use Rattle.adb_rules.specs.Surroundings.{surroundings_of};
 ghost use Rattle.adb_tables.specs.Shaped.{shaped_value, table_of};
+ghost use Rattle.adb_rules.specs.SoundValues.{KeepsRules};
 ghost use Rattle.adb_rules.specs.Texts.{at_root, inside_of, is_file_hash, is_listed_file, is_package_hash, is_with_contents, may_list, needs_hash, number_rule, text_rule, each_leaf, field_leaves, first_bad, leaves, number_leaf, text_leaf, leaves_of, text_fault, IsFirstBadOf};
 ghost use Rattle.adb_view.specs.Entries.{array_entries};
 ghost use Rattle.adb_view.specs.Gives.{cause_of};
@@ -285,4 +286,9 @@ fn check_text(field_number: u16, around: &Surroundings<'_>, bytes: &[u8]) -> Res
 /// and field by field; none is reported exactly where each keeps its rule.
 pub fn the_first_bad_text_is_reported()
     ensures { (which : Which) (value : Plain) → IsFirstBadOf (leaves_of which value) (text_fault which value) }
+{}
+
+/// No text or number of a value is bad exactly where each keeps the rule of its field, table by table.
+pub fn no_text_is_bad_where_each_keeps_its_rule()
+    ensures { (which : Which) (value : Plain) → (text_fault which value ≡ None) ↔ KeepsRules which value }
 {}

@@ -1,0 +1,73 @@
+-- What the value of a sound container is, table by table: each text and number keeps the rule of its field. Fields count
+-- from 0.
+use Rattle.std.specs.Prelude.{◌≡◌, ℕ, true, Bool, if◌then◌else◌, List, [], length}
+use Rattle.version_core.specs.Order.{is_version}
+use Rattle.dep_core.specs.Dependency.{is_dep_name, is_package_name}
+use Rattle.dep_core.specs.Value.{is_matching, is_version_or_empty}
+use Rattle.adb_view.specs.Plain.{Plain}
+use Rattle.adb_view.specs.Shaped.{Each}
+use Rattle.adb_tables.specs.Values.{entries_in, entry_in, int_in, text_in}
+use Rattle.adb_tables.specs.declared.tables.Which.{Which}
+use Rattle.adb_tables.specs.declared.tables.Which.TheVariants.{Dep, Acl, PkgInfo, File, Dir, Scripts, Package, Index, Idb, Intent}
+use Rattle.adb_fields.specs.Paths.{path_of}
+use Rattle.adb_rules.specs.Rules.{is_change_name, is_digest_length, is_digest_length_or_none, is_file_name, is_folder_name, is_name_pattern, is_target}
+use Rattle.adb_rules.specs.Texts.{is_package_hash, is_with_contents, may_list, needs_hash}
+
+-- a name, a version or none, and a number that is an operator
+pub record IsDependency (v : Plain) : Type 0 where
+  pub name : is_dep_name (text_in (entry_in v 0)) ≡ true
+  pub version : is_version_or_empty (text_in (entry_in v 1)) ≡ true
+  pub matching : is_matching (int_in (entry_in v 2)) ≡ true
+
+-- what is told of a package, in a container with this table at its root: in an index it has its hash
+pub record IsInformation (root : Which) (v : Plain) : Type 0 where
+  pub name : is_package_name (text_in (entry_in v 0)) ≡ true
+  pub version : is_version (text_in (entry_in v 1)) ≡ true
+  pub hash : is_package_hash root (length (text_in (entry_in v 2))) ≡ true
+  pub depends : Each IsDependency (entries_in (entry_in v 14))
+  pub provides : Each IsDependency (entries_in (entry_in v 15))
+  pub replaces : Each IsDependency (entries_in (entry_in v 16))
+  pub install_if : Each IsDependency (entries_in (entry_in v 17))
+  pub recommends : Each IsDependency (entries_in (entry_in v 18))
+
+-- a file of the folder with this name; where it has contents, it has their hash, but in a database
+pub record IsFileOf (root : Which) (folder : List ℕ) (v : Plain) : Type 0 where
+  pub name : is_file_name folder (text_in (entry_in v 0)) ≡ true
+  pub listed : may_list root (path_of folder (text_in (entry_in v 0))) ≡ true
+  pub hash : (if needs_hash root (is_with_contents v)
+      then is_digest_length (length (text_in (entry_in v 4)))
+      else is_digest_length_or_none (length (text_in (entry_in v 4)))) ≡ true
+  pub target : is_target (text_in (entry_in v 5)) ≡ true
+
+pub record IsFolder (root : Which) (v : Plain) : Type 0 where
+  pub name : is_folder_name (text_in (entry_in v 0)) ≡ true
+  pub files : Each (IsFileOf root (text_in (entry_in v 0))) (entries_in (entry_in v 2))
+
+pub record IsPackage (root : Which) (v : Plain) : Type 0 where
+  pub info : IsInformation root (entry_in v 0)
+  pub folders : Each (IsFolder root) (entries_in (entry_in v 1))
+
+pub record IsIndex (v : Plain) : Type 0 where
+  pub packages : Each (IsInformation Index) (entries_in (entry_in v 1))
+  pub pattern : is_name_pattern (text_in (entry_in v 2)) ≡ true
+
+-- a text that a change may remove or write
+abbrev pub IsChangeName : Plain → Type 0
+IsChangeName v = is_change_name (text_in v) ≡ true
+
+pub record IsIntent (v : Plain) : Type 0 where
+  pub removals : Each IsChangeName (entries_in (entry_in v 0))
+  pub writes : Each IsChangeName (entries_in (entry_in v 1))
+
+-- the value of a payload with this table at its root
+abbrev pub KeepsRules : Which → Plain → Type 0
+KeepsRules Dep v = IsDependency v
+KeepsRules Acl v = Unit {0}
+KeepsRules PkgInfo v = IsInformation PkgInfo v
+KeepsRules File v = IsFileOf File [] v
+KeepsRules Dir v = IsFolder Dir v
+KeepsRules Scripts v = Unit {0}
+KeepsRules Package v = IsPackage Package v
+KeepsRules Index v = IsIndex v
+KeepsRules Idb v = Each (IsPackage Idb) (entries_in (entry_in v 0))
+KeepsRules Intent v = IsIntent v
