@@ -192,8 +192,8 @@ fn write_index(
 
 /// Writes an array of entries.
 fn write_entries(alloc: Global, writer: &mut Writer, entries: &[Entry]) -> Result<Val, AllocError>
-    ensures { IfOk result (λ word.
-        WritesValue writer.old (arr_value (plains_of (map entry_view entries.now))) word writer.new) }
+    ensures { IfOk result (λ word. WritesValue writer.old
+        (arr_value (plains_of (map entry_view entries.now))) word writer.new) }
 {
     values_are_written_depth_first();
     let mut words = Vec::with_capacity(alloc, entries.len())?;
