@@ -10,5 +10,5 @@ mod text_walk;
 
 pub use rules::{is_reserved, is_reserved_file, is_stage_name};
 pub use text_walk::{
-    check_texts, no_text_is_bad_where_each_keeps_its_rule, the_first_bad_text_is_reported,
+    check_texts, entries_keep_the_rule_of_their_list, no_text_is_bad_where_each_keeps_its_rule, the_first_bad_text_is_reported,
 };

@@ -1,13 +1,14 @@
 //! The text walk: each number and text of a walked payload, against the rule of its field.
 
-ghost use Rattle.std.specs.Prelude.{◌↔◌, None, ◌≡◌, ◌==◌, ◌*◌, true, length, ◌+◌, ◌<◌, ◌≤◌, ◌^◌, IfOk, [], ◌∷◌};
+ghost use Rattle.std.specs.Prelude.{ℕ, List, ◌↔◌, None, ◌≡◌, ◌==◌, ◌*◌, true, length, ◌+◌, ◌<◌, ◌≤◌, ◌^◌, IfOk, [], ◌∷◌};
 ghost use Rattle.adb_view.specs.Adb.{payload_of};
 ghost use Rattle.adb_tables.specs.Schema.{schema_number, shape_of, shapes_of, table};
-ghost use Rattle.adb_tables.specs.Values.{is_sound, value_at, entries_in};
+ghost use Rattle.adb_tables.specs.Values.{is_sound, value_at, entries_in, entry_in, count_of};
 ghost use Rattle.adb_fields.specs.Paths.{path_of};
 ghost use Rattle.adb_rules.specs.Surroundings.{surroundings_of};
 ghost use Rattle.adb_tables.specs.Shaped.{shaped_value, table_of};
-ghost use Rattle.adb_rules.specs.SoundValues.{KeepsRules};
+ghost use Rattle.adb_view.specs.Shaped.{Each};
+ghost use Rattle.adb_rules.specs.SoundValues.{IsChangeName, IsDependency, IsFileOf, IsFolder, IsInformation, IsPackage, KeepsRules};
 ghost use Rattle.adb_rules.specs.Texts.{at_root, inside_of, is_file_hash, is_listed_file, is_package_hash, is_with_contents, may_list, needs_hash, number_rule, text_rule, each_leaf, field_leaves, first_bad, leaves, number_leaf, text_leaf, leaves_of, text_fault, IsFirstBadOf};
 ghost use Rattle.adb_view.specs.Entries.{array_entries};
 ghost use Rattle.adb_view.specs.Gives.{cause_of};
@@ -291,4 +292,20 @@ pub fn the_first_bad_text_is_reported()
 /// No text or number of a value is bad exactly where each keeps the rule of its field, table by table.
 pub fn no_text_is_bad_where_each_keeps_its_rule()
     ensures { (which : Which) (value : Plain) → (text_fault which value ≡ None) ↔ KeepsRules which value }
+{}
+
+/// Each entry of a list keeps the rule that the list keeps. Entries count from 0.
+pub fn entries_keep_the_rule_of_their_list()
+    ensures dependency { (list : Plain) (i : ℕ)
+        → Each IsDependency (entries_in list) → i < count_of (entries_in list) → IsDependency (entry_in list i) }
+    ensures information { (root : Which) (list : Plain) (i : ℕ)
+        → Each (IsInformation root) (entries_in list) → i < count_of (entries_in list) → IsInformation root (entry_in list i) }
+    ensures file { (root : Which) (folder : List ℕ) (list : Plain) (i : ℕ)
+        → Each (IsFileOf root folder) (entries_in list) → i < count_of (entries_in list) → IsFileOf root folder (entry_in list i) }
+    ensures folder { (root : Which) (list : Plain) (i : ℕ)
+        → Each (IsFolder root) (entries_in list) → i < count_of (entries_in list) → IsFolder root (entry_in list i) }
+    ensures package { (root : Which) (list : Plain) (i : ℕ)
+        → Each (IsPackage root) (entries_in list) → i < count_of (entries_in list) → IsPackage root (entry_in list i) }
+    ensures change_name { (list : Plain) (i : ℕ)
+        → Each IsChangeName (entries_in list) → i < count_of (entries_in list) → IsChangeName (entry_in list i) }
 {}

@@ -12,7 +12,7 @@ ghost use Rattle.adb_rules.specs.Texts.{text_fault};
 use crate::package::PackageView;
 use crate::package_info::PkgInfo;
 use adb_fields::{Kinded, List, View, objects_field, text_field, texts_field};
-use adb_rules::check_texts;
+use adb_rules::{check_texts, no_text_is_bad_where_each_keeps_its_rule};
 use adb_tables::{Shaped, Which};
 use adb_view::{Adb, Val};
 use base_core::Cause;
@@ -26,6 +26,7 @@ pub struct Checked<'a> {
 
 impl<'a> Checked<'a> {
     ghost use Rattle.adb_tables.specs.Shaped.{adb_of};
+    ghost use Rattle.adb_rules.specs.SoundValues.{KeepsRules};
     ghost use Rattle.adb_schema.specs.Checked.{which_of, checked_value};
     ghost use Rattle.adb_schema.specs.Views.{package_value, index_value, idb_value, intent_value};
 
@@ -50,6 +51,13 @@ impl<'a> Checked<'a> {
         ensures { result ≡ self.now.shaped }
     {
         self.shaped
+    }
+
+    /// Each text and number of a checked payload keeps the rule of its field: a name is a package's, a version a version.
+    pub fn values_keep_their_rules(&self)
+        ensures { KeepsRules (which_of self.now) (checked_value self.now) }
+    {
+        no_text_is_bad_where_each_keeps_its_rule();
     }
 
     /// The package that the payload holds.

@@ -22,5 +22,5 @@ pub use package::{AclView, DirInfo, FileInfo, PackageView, ScriptsView};
 pub use package_info::{DepView, PkgInfo};
 pub use read::{
     IDB_WORD, INDEX_WORD, INTENT_WORD, PACKAGE_WORD, ReadFault, file_pair, read_adb, repeated,
-    schema_word, schema_words_are_as_listed,
+    schema_word, schema_words_are_as_listed, sound_containers_hold_sound_values,
 };

@@ -1,6 +1,6 @@
 //! The reading of a whole container, and names that stand twice in it.
 
-ghost use Rattle.std.specs.Prelude.{◌≡◌, ◌≤◌, None, Some, length, codes, IfOk, IfErr};
+ghost use Rattle.std.specs.Prelude.{ℕ, List, All, ◌<◌, ◌≡◌, ◌≤◌, None, Some, length, codes, IfOk, IfErr};
 ghost use Rattle.std.specs.Int.{w32, to_le_bytes};
 ghost use Rattle.adb_fields.specs.Repeated.{repeated_fault};
 ghost use Rattle.adb_block.specs.Reading.{reading_of};
@@ -8,13 +8,17 @@ ghost use Rattle.adb_view.specs.Adb.{payload_of};
 ghost use Rattle.adb_view.specs.Gives.{cause_of};
 ghost use Rattle.adb_tables.specs.Shaped.{adb_of};
 ghost use Rattle.adb_schema.specs.Checked.{checked_value, which_of};
-ghost use Rattle.adb_schema.specs.Soundness.{block_fault, first_block_fault, file_pair, first_fault, further_fault, payload_fault, is_schema_wanted, payload_in, rest_fault, root_value, schema_word, undue_contents, IsBehindFirst, IsReadFault};
+ghost use Rattle.adb_view.specs.Plain.{IsNormal};
+ghost use Rattle.adb_tables.specs.declared.tables.Which.{Which};
+ghost use Rattle.adb_schema.specs.SoundContainers.{IsSoundValue};
+ghost use Rattle.adb_schema.specs.Soundness.{block_fault, first_block_fault, file_pair, first_fault, further_fault, payload_fault, is_schema_wanted, payload_in, rest_fault, root_value, schema_word, undue_contents, IsBehindFirst, IsReadFault, IsSound};
 
 use crate::checked::Checked;
 use adb_block::{Block, BlockKind, Blocks};
-use adb_fields::repeated_names;
-use adb_tables::{Which, shape};
-use adb_view::Adb;
+use adb_fields::{no_name_is_repeated_where_each_stands_once, repeated_names};
+use adb_rules::no_text_is_bad_where_each_keeps_its_rule;
+use adb_tables::{Which, shape, values_of_few_visits_have_no_fault};
+use adb_view::{Adb, values_are_normal, values_have_their_shape};
 use base_core::Cause;
 use std::alloc::{AllocError, Global};
 use thiserror::Error;
@@ -227,3 +231,18 @@ pub fn schema_words_are_as_listed()
     ensures database { to_le_bytes w32 IDB_WORD ≡ codes "idb\0" }
     ensures intent { to_le_bytes w32 INTENT_WORD ≡ codes "intt" }
 {}
+
+/// What a file that passes every test holds: a value that has the shape of its table, in which each text and number keeps
+/// the rule of its field and no name stands twice; of bytes, it is normal.
+pub fn sound_containers_hold_sound_values()
+    ensures value { (which : Which) (file : List ℕ)
+        → IsSound which file → IsSoundValue which (root_value which (payload_in file)) }
+    ensures normal { (which : Which) (file : List ℕ)
+        → IsSound which file → All (λ b. b < 256) (payload_in file) → IsNormal (root_value which (payload_in file)) }
+{
+    values_of_few_visits_have_no_fault();
+    values_have_their_shape();
+    values_are_normal();
+    no_text_is_bad_where_each_keeps_its_rule();
+    no_name_is_repeated_where_each_stands_once();
+}
