@@ -173,12 +173,16 @@ apart n (names ∷ lists) h = (
       (in-front _ (all_at n names) (by_list_from (n + 1) lists) (in-map (λ m. record { name = m; position = n }) name names k))
       (in-behind r.one (all_at n names) (by_list_from (n + 1) lists) r.inside) r.alike (omega arith)),
   apart (n + 1) lists
-  (λ q k. h q (record {
-    one = k.one; other = k.other;
-    one_in = in-behind k.one (all_at n names) (by_list_from (n + 1) lists) k.one_in;
-    other_in = in-behind k.other (all_at n names) (by_list_from (n + 1) lists) k.other_in;
-    alike = k.alike; first = k.first; second = k.second; rises = k.rises;
-  })),
+      (λ q k. h q (record {
+        one = k.one;
+        other = k.other;
+        one_in = in-behind k.one (all_at n names) (by_list_from (n + 1) lists) k.one_in;
+        other_in = in-behind k.other (all_at n names) (by_list_from (n + 1) lists) k.other_in;
+        alike = k.alike;
+        first = k.first;
+        second = k.second;
+        rises = k.rises;
+      })),
 )
 
 no_pair_between : (n : ℕ) (names : List (List ℕ)) (lists : List (List (List ℕ))) (a b : Named) → ((name : List ℕ) → IsIn name names → ¬ IsInOneOf name lists) → NoPair (by_list_from (n + 1) lists)

@@ -25,7 +25,8 @@ pub record IsPair (names : List Named) (p : Pair) : Type 0 where
   pub second : p.second ≡ other.position
   pub rises : p.first < p.second
 
--- no pair has a smaller second position, and of those with the same second position none a smaller first one
+-- no pair has a smaller second position, and of those with the same second position none a smaller
+-- first one
 pub record IsFirst (IsOne : Pair → Type 0) (p : Pair) : Type 0 where
   pub is_one : IsOne p
   pub second : (q : Pair) → IsOne q → p.second ≤ q.second
@@ -51,7 +52,8 @@ earliest [] = None
 earliest (p ∷ ps) = earlier p (earliest ps)
 
 abbrev pub pair_of : Named → Named → Option Pair
-pair_of x y = if bytes_eq x.name y.name && nat_lt x.position y.position then Some (record { first = x.position; second = y.position }) else None
+pair_of x y = if bytes_eq x.name y.name && nat_lt x.position y.position
+    then Some (record { first = x.position; second = y.position }) else None
 
 -- of all pairs of equal names the first
 unfoldable pub first_pair : List Named → Option Pair

@@ -79,7 +79,8 @@ abbrev pub folder_twice : List Plain → Option Pair
 folder_twice packages = twice_in_one (map (λ pkg. map name_of (folders_in pkg)) packages)
 
 abbrev pub file_twice : List Plain → Option Pair
-file_twice packages = twice_in_one (flat_map (λ pkg. map (λ folder. map name_of (files_in folder)) (folders_in pkg)) packages)
+file_twice packages = twice_in_one
+    (flat_map (λ pkg. map (λ folder. map name_of (files_in folder)) (folders_in pkg)) packages)
 
 abbrev pub package_twice : List Plain → Option Pair
 package_twice packages = twice (map package_name packages)
@@ -98,10 +99,12 @@ abbrev pub repeated_at : ℕ → Option Pair → Option Cause
 repeated_at field_number pair = option_map (λ p. Repeated field_number p.first p.second) pair
 
 abbrev pub inside_fault : List Plain → Option Cause
-inside_fault packages = or_else (repeated_at 501 (folder_twice packages)) (repeated_at 401 (file_twice packages))
+inside_fault packages = or_else (repeated_at 501 (folder_twice packages))
+    (repeated_at 401 (file_twice packages))
 
 abbrev pub between_fault : List Plain → Option Cause
-between_fault packages = or_else (repeated_at 901 (package_twice packages)) (repeated_at 401 (path_in_two packages))
+between_fault packages = or_else (repeated_at 901 (package_twice packages))
+    (repeated_at 401 (path_in_two packages))
 
 -- the first kind that stands
 unfoldable pub repeated_fault : Which → Plain → Option Cause

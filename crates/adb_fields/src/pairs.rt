@@ -16,8 +16,8 @@ pub(crate) struct Pair {
     pub second: u32,
 }
 
-/// A name and its position, which counts from 1. Where there is a folder, the name is a path: the folder's, `/`, and the
-/// file's.
+/// A name and its position, which counts from 1. Where there is a folder, the name is a path: the
+/// folder's, `/`, and the file's.
 #[derive(Clone, Copy)]
 pub(crate) struct Entry<'a> {
     pub folder: &'a [u8],
@@ -26,7 +26,8 @@ pub(crate) struct Entry<'a> {
 }
 
 impl Pair {
-    /// Whether it is told rather than another: it has the smaller second position, or the same and the smaller first one.
+    /// Whether it is told rather than another: it has the smaller second position, or the same and
+    /// the smaller first one.
     fn is_before(&self, other: &Pair) -> bool
         ensures { result ≡ is_before self.now other.now }
     {
@@ -48,8 +49,9 @@ pub(crate) fn earlier(one: Option<Pair>, other: Option<Pair>) -> Option<Pair>
     }
 }
 
-/// Of all pairs of positions at which one name stands, the first: the one with the smallest second position, and of
-/// several such the one with the smallest first position. It leaves the names sorted.
+/// Of all pairs of positions at which one name stands, the first: the one with the smallest second
+/// position, and of several such the one with the smallest first position. It leaves the names
+/// sorted.
 pub(crate) fn first_pair(entries: &mut [Entry<'_>]) -> Option<Pair>
     ensures { result ≡ first_pair (map named_by entries.old) }
 {
@@ -120,7 +122,9 @@ fn compared_fronts(one: &[u8], other: &[u8], len: usize) -> Ordering
 
 /// The order of what is left of two names from a place on.
 fn compared_from(one: &Entry<'_>, other: &Entry<'_>, from: usize) -> Ordering
-    ensures { result ≡ slice_cmp nat_cmp (drop from (named_by one.now).name) (drop from (named_by other.now).name) }
+    ensures { result
+        ≡ slice_cmp nat_cmp (drop from (named_by one.now).name)
+        (drop from (named_by other.now).name) }
 {
     let mut i = from;
     loop {
@@ -181,5 +185,6 @@ pub fn the_first_pair_in_one_of_several_lists_is_reported()
 
 /// Of the names that two of several lists have, at the positions of the lists.
 pub fn the_first_pair_of_two_lists_is_reported()
-    ensures { (lists : List (List (List ℕ))) → IsFirstOf (IsPair (by_list_from 1 lists)) (in_two lists) }
+    ensures { (lists : List (List (List ℕ)))
+        → IsFirstOf (IsPair (by_list_from 1 lists)) (in_two lists) }
 {}

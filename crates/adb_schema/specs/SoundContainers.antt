@@ -1,5 +1,5 @@
--- What the value of a sound container is: it has the shape of its table, each text and number keeps the rule of its field,
--- and no name stands twice.
+-- What the value of a sound container is: it has the shape of its table, each text and number keeps
+-- the rule of its field, and no name stands twice.
 use Rattle.adb_view.specs.Plain.{Plain}
 use Rattle.adb_view.specs.Shaped.{HasShape}
 use Rattle.adb_tables.specs.Schema.{shape_of}

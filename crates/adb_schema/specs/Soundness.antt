@@ -47,11 +47,15 @@ payload_fault which payload =
 
 -- the two numbers that contents begin with: the positions of the folder and of the file in it
 abbrev pub file_pair : List ℕ → ℕ × ℕ
-file_pair payload = (from_le_bytes w32 (take 4 payload), from_le_bytes w32 (take 4 (drop 4 payload)))
+file_pair payload = (
+  from_le_bytes w32 (take 4 payload),
+  from_le_bytes w32 (take 4 (drop 4 payload)),
+)
 
 -- contents where none are due
 abbrev pub undue_contents : List ℕ → ℕ → Cause
-undue_contents payload at = if nat_lt (length payload) 8 then Truncated at else DataOrder (0, 0) (file_pair payload)
+undue_contents payload at = if nat_lt (length payload) 8 then Truncated at
+    else DataOrder (0, 0) (file_pair payload)
 
 abbrev pub block_fault : BlockKind → List ℕ → ℕ → Option Cause
 block_fault Contents payload at = Some (undue_contents payload at)
@@ -75,23 +79,28 @@ is_schema_wanted (Some word) schema = word == schema
 is_schema_wanted None schema = false
 
 abbrev pub schema_fault : Which → ℕ → Option Cause
-schema_fault which schema = if is_schema_wanted (schema_word which) schema then None else Some (WrongSchema schema)
+schema_fault which schema = if is_schema_wanted (schema_word which) schema then None
+    else Some (WrongSchema schema)
 
 -- the first block, and by its value what stands behind it
 abbrev pub blocks_fault : (Plain → Reading → Option Cause) → Which → Reading → Option Cause
 blocks_fault rest which done = None
 blocks_fault rest which (fault c) = Some c
-blocks_fault rest which (more b at r) = or_else (payload_fault which b.payload) (rest (root_value which b.payload) r)
+blocks_fault rest which (more b at r) = or_else (payload_fault which b.payload)
+    (rest (root_value which b.payload) r)
 
-abbrev pub file_fault : (Plain → Reading → Option Cause) → Which → List ℕ → Result ℕ Cause → Option Cause
+abbrev pub file_fault : (Plain → Reading → Option Cause) → Which → List ℕ → Result ℕ Cause
+    → Option Cause
 file_fault rest which file (Err c) = Some c
-file_fault rest which file (Ok schema) = or_else (schema_fault which schema) (blocks_fault rest which (reading_of (start_of schema file)))
+file_fault rest which file (Ok schema) = or_else (schema_fault which schema)
+    (blocks_fault rest which (reading_of (start_of schema file)))
 
 -- with a test of what stands behind the first block
 abbrev pub fault_with : (Plain → Reading → Option Cause) → Which → List ℕ → Option Cause
 fault_with rest which file = file_fault rest which file (header_of file)
 
--- the first failed test of a file that is to be a container of this table; of a package, but for the contents behind its first block
+-- the first failed test of a file that is to be a container of this table; of a package, but for
+-- the contents behind its first block
 unfoldable pub first_fault : Which → List ℕ → Option Cause
 first_fault which file = fault_with (λ v r. rest_fault which r) which file
 
@@ -122,7 +131,8 @@ IsReadFault Memory told = Unit {0}
 abbrev pub IsBehindFirst : Which → List ℕ → Reading → Reading → Type 0
 IsBehindFirst which payload done later = ⊥
 IsBehindFirst which payload (fault c) later = ⊥
-IsBehindFirst which payload (more b at r) later = (payload ≡ b.payload) × (payload_fault which b.payload ≡ None) × (r ≡ later)
+IsBehindFirst which payload (more b at r) later = (payload ≡ b.payload)
+    × (payload_fault which b.payload ≡ None) × (r ≡ later)
 
 -- why the first block is refused
 abbrev pub first_block_fault : Which → Reading → Option Cause

@@ -30,14 +30,16 @@ impl<'a> Checked<'a> {
     ghost use Rattle.adb_schema.specs.Checked.{which_of, checked_value};
     ghost use Rattle.adb_schema.specs.Views.{package_value, index_value, idb_value, intent_value};
 
-    /// Tests each text and number of a walked payload against the rule of its field. It takes no memory.
+    /// Tests each text and number of a walked payload against the rule of its field. It takes no
+    /// memory.
     ///
     /// # Errors
     ///
-    /// `BadText` with the number of the first field that breaks its rule, depth first and field by field; a missing
-    /// field counts as Null.
+    /// `BadText` with the number of the first field that breaks its rule, depth first and field by
+    /// field; a missing field counts as Null.
     pub fn new(shaped: Shaped<'a>) -> Result<Checked<'a>, Cause>
-        ensures exact { cause_of result ≡ text_fault (table_of shaped.entry) (shaped_value shaped.entry) }
+        ensures exact { cause_of result
+            ≡ text_fault (table_of shaped.entry) (shaped_value shaped.entry) }
         ensures which { IfOk result (λ checked. which_of checked ≡ table_of shaped.entry) }
         ensures value { IfOk result (λ checked. checked_value checked ≡ shaped_value shaped.entry) }
         ensures payload { IfOk result (λ checked. adb_of checked.shaped ≡ adb_of shaped.entry) }
@@ -53,7 +55,8 @@ impl<'a> Checked<'a> {
         self.shaped
     }
 
-    /// Each text and number of a checked payload keeps the rule of its field: a name is a package's, a version a version.
+    /// Each text and number of a checked payload keeps the rule of its field: a name is a
+    /// package's, a version a version.
     pub fn values_keep_their_rules(&self)
         ensures { KeepsRules (which_of self.now) (checked_value self.now) }
     {
@@ -133,8 +136,7 @@ impl<'a> IndexView<'a> {
     pub fn packages(&self) -> List<'a, PkgInfo<'a>>
         ensures { list_value result ≡ entry_in (index_value self.now) 1 }
     {
-        let entries =
-            objects_field(self.adb, Which::Index, self.word, 1, Which::PkgInfo);
+        let entries = objects_field(self.adb, Which::Index, self.word, 1, Which::PkgInfo);
         List::of(self.adb, entries)
     }
 
@@ -175,8 +177,7 @@ impl<'a> IdbView<'a> {
     pub fn packages(&self) -> List<'a, PackageView<'a>>
         ensures { list_value result ≡ entry_in (idb_value self.now) 0 }
     {
-        let entries =
-            objects_field(self.adb, Which::Idb, self.word, 0, Which::Package);
+        let entries = objects_field(self.adb, Which::Idb, self.word, 0, Which::Package);
         List::of(self.adb, entries)
     }
 }

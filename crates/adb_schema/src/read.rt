@@ -81,31 +81,37 @@ pub fn schema_word(which: Which) -> Option<u32>
     }
 }
 
-/// Looks for a name that stands twice in a checked container, and answers the cause `Repeated`, or None exactly where
-/// there is none. The kinds are looked at in this order: in a package and in a database two folders of a package, over
-/// all packages, and two files of a folder; in a database also two packages, and one path in two packages, at the
-/// positions of the packages; in an intent two names, of the removals followed by the writes. Of the first kind that
-/// stands, the pair with the smallest second position is reported, and of those the one with the smallest first.
+/// Looks for a name that stands twice in a checked container, and answers the cause `Repeated`, or
+/// None exactly where there is none. The kinds are looked at in this order: in a package and in a
+/// database two folders of a package, over all packages, and two files of a folder; in a database
+/// also two packages, and one path in two packages, at the positions of the packages; in an intent
+/// two names, of the removals followed by the writes. Of the first kind that stands, the pair with
+/// the smallest second position is reported, and of those the one with the smallest first.
 pub fn repeated(alloc: Global, checked: &Checked<'_>) -> Result<Option<Cause>, AllocError>
-    ensures { IfOk result (λ cause. cause ≡ repeated_fault (which_of checked.now) (checked_value checked.now)) }
+    ensures { IfOk result (λ cause. cause
+        ≡ repeated_fault (which_of checked.now) (checked_value checked.now)) }
 {
     repeated_names(alloc, &checked.shaped())
 }
 
-/// Reads a container (apk-v3(5)) with this table at its root, and tests it in this order: the file's header, its schema,
-/// the first block's framing, its head, its shape, its texts, and names that stand twice; then, but for a package, the
-/// framing of the further blocks, and that none of them holds contents.
+/// Reads a container (apk-v3(5)) with this table at its root, and tests it in this order: the
+/// file's header, its schema, the first block's framing, its head, its shape, its texts, and names
+/// that stand twice; then, but for a package, the framing of the further blocks, and that none of
+/// them holds contents.
 ///
 /// # Errors
 ///
-/// `Bad` with the cause of the first test that fails, or `Memory`. Every schema is wrong for a table that is no root.
+/// `Bad` with the cause of the first test that fails, or `Memory`. Every schema is wrong for a
+/// table that is no root.
 #[tactic(auto, unfolding(crate::specs::Soundness::first_fault, crate::specs::Soundness::payload_in))]
 pub fn read_adb<'a>(alloc: Global, bytes: &'a [u8], which: Which) -> Result<Checked<'a>, ReadFault>
     ensures bad { IfErr result (λ fault. IsReadFault fault (first_fault which bytes.entry.now)) }
     ensures sound { IfOk result (λ _. first_fault which bytes.entry.now ≡ None) }
     ensures table { IfOk result (λ checked. which_of checked ≡ which) }
-    ensures payload { IfOk result (λ checked. payload_of (adb_of checked.shaped) ≡ payload_in bytes.entry.now) }
-    ensures value { IfOk result (λ checked. checked_value checked ≡ root_value which (payload_in bytes.entry.now)) }
+    ensures payload { IfOk result (λ checked. payload_of (adb_of checked.shaped)
+        ≡ payload_in bytes.entry.now) }
+    ensures value { IfOk result (λ checked. checked_value checked
+        ≡ root_value which (payload_in bytes.entry.now)) }
 {
     let mut blocks = Blocks::new(bytes)?;
     let found = blocks.schema();
@@ -134,9 +140,12 @@ fn read_first<'a>(
     which: Which,
 ) -> Result<Checked<'a>, ReadFault>
     requires { blocks.old.last ≡ None }
-    ensures bad { IfErr result (λ fault. IsReadFault fault (first_block_fault which (reading_of blocks.old))) }
+    ensures bad { IfErr result
+        (λ fault. IsReadFault fault (first_block_fault which (reading_of blocks.old))) }
     ensures table { IfOk result (λ checked. which_of checked ≡ which) }
-    ensures behind { IfOk result (λ checked. IsBehindFirst which (payload_of (adb_of checked.shaped)) (reading_of blocks.old) (reading_of blocks.new)) }
+    ensures behind { IfOk result
+        (λ checked. IsBehindFirst which (payload_of (adb_of checked.shaped)) (reading_of blocks.old)
+        (reading_of blocks.new)) }
 {
     match blocks.next()? {
         Some(block) => check_payload(alloc, block.payload, which),
@@ -150,10 +159,12 @@ fn check_payload<'a>(
     payload: &'a [u8],
     which: Which,
 ) -> Result<Checked<'a>, ReadFault>
-    ensures bad { IfErr result (λ fault. IsReadFault fault (payload_fault which payload.entry.now)) }
+    ensures bad { IfErr result
+        (λ fault. IsReadFault fault (payload_fault which payload.entry.now)) }
     ensures sound { IfOk result (λ _. payload_fault which payload.entry.now ≡ None) }
     ensures table { IfOk result (λ checked. which_of checked ≡ which) }
-    ensures payload { IfOk result (λ checked. payload_of (adb_of checked.shaped) ≡ payload.entry.now) }
+    ensures payload { IfOk result (λ checked. payload_of (adb_of checked.shaped)
+        ≡ payload.entry.now) }
 {
     let adb = Adb::new(payload)?;
     let shaped = shape(adb, which)?;
@@ -212,8 +223,8 @@ fn undue_contents(payload: &[u8], at: u64) -> Cause
     }
 }
 
-/// The two numbers that contents begin with (apk-v3(5)): the positions of the folder and of the file in it that they
-/// belong to, which count from 1.
+/// The two numbers that contents begin with (apk-v3(5)): the positions of the folder and of the
+/// file in it that they belong to, which count from 1.
 pub fn file_pair(payload: &[u8]) -> (u32, u32)
     requires { 8 ≤ length payload.now }
     ensures { result ≡ file_pair payload.now }
@@ -232,13 +243,14 @@ pub fn schema_words_are_as_listed()
     ensures intent { to_le_bytes w32 INTENT_WORD ≡ codes "intt" }
 {}
 
-/// What a file that passes every test holds: a value that has the shape of its table, in which each text and number keeps
-/// the rule of its field and no name stands twice; of bytes, it is normal.
+/// What a file that passes every test holds: a value that has the shape of its table, in which each
+/// text and number keeps the rule of its field and no name stands twice; of bytes, it is normal.
 pub fn sound_containers_hold_sound_values()
     ensures value { (which : Which) (file : List ℕ)
         → IsSound which file → IsSoundValue which (root_value which (payload_in file)) }
     ensures normal { (which : Which) (file : List ℕ)
-        → IsSound which file → All (λ b. b < 256) (payload_in file) → IsNormal (root_value which (payload_in file)) }
+        → IsSound which file → All (λ b. b < 256) (payload_in file)
+        → IsNormal (root_value which (payload_in file)) }
 {
     values_of_few_visits_have_no_fault();
     values_have_their_shape();

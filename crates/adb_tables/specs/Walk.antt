@@ -1,4 +1,5 @@
--- The walk over a payload's values: the first visit that is faulty, and the same walk counting without a list.
+-- The walk over a payload's values: the first visit that is faulty, and the same walk counting
+-- without a list.
 use Rattle.std.specs.Prelude.{◌≡◌, ℕ, ◌+◌, ◌<◌, List, [], ◌∷◌, slice_get, Option, Some, None, Result, Ok, Err, nat_lt, if◌then◌else◌}
 use Rattle.adb_view.specs.Plain.{Shape, number, text, hash, array, object, Fields, no_fields, field}
 use Rattle.adb_view.specs.Readers.{run_of, ARRAY, OBJECT}
@@ -33,9 +34,12 @@ pub record IsFirstFault (p : List ℕ) (vs : List Visit) (c : Cause) : Type 0 wh
   pub v : Visit
   pub at : slice_get vs i ≡ Some v
   pub fault : visit_fault p (i + 1) v ≡ Some c
-  pub before : (j : ℕ) → (u : Visit) → j < i → slice_get vs j ≡ Some u → visit_fault p (j + 1) u ≡ None
+  pub before : (j : ℕ) → (u : Visit) → j < i → slice_get vs j ≡ Some u → visit_fault p (j + 1) u
+      ≡ None
 
--- ---- the walk that counts and keeps no list: how many visits there were behind a word and what lies below it, or the first fault
+-- ---- the walk that counts and keeps no list
+
+-- its answer is how many visits there were behind a word and what lies below it, or the first fault
 
 infixl 10 ◌>>=◌
 abbrev pub ◌>>=◌ : {A B : Type 0} → Result A Cause → (A → Result B Cause) → Result B Cause
@@ -59,8 +63,10 @@ unfoldable mutual
   walk p number n w = walk_visit p n number w
   walk p text n w = walk_visit p n text w
   walk p hash n w = walk_visit p n hash w
-  walk p (array s) n w = walk_visit p n (array s) w >>= λ m. each_walk (walk p s) m (or_empty (run_of ARRAY p w))
-  walk p (object schema fs) n w = walk_visit p n (object schema fs) w >>= λ m. fields_walk p fs m (or_empty (run_of OBJECT p w))
+  walk p (array s) n w = walk_visit p n (array s) w >>= λ m. each_walk (walk p s) m
+      (or_empty (run_of ARRAY p w))
+  walk p (object schema fs) n w = walk_visit p n (object schema fs) w >>= λ m. fields_walk p fs m
+      (or_empty (run_of OBJECT p w))
 
   pub fields_walk : List ℕ → Fields → ℕ → List ℕ → Result ℕ Cause
   fields_walk p no_fields n ws = Ok n

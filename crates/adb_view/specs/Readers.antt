@@ -29,7 +29,8 @@ int_of payload word =
 
 -- a length, and behind it so many bytes
 abbrev pub counted_at : Width → List ℕ → ℕ → Option (List ℕ)
-counted_at w payload at = option_and_then (λ len. range_at payload (at + byte_len w) len) (number_at w payload at)
+counted_at w payload at = option_and_then (λ len. range_at payload (at + byte_len w) len)
+    (number_at w payload at)
 
 -- a blob, with its length in 1, 2 or 4 bytes; NULL is empty
 unfoldable pub blob_of : List ℕ → ℕ → Result (List ℕ) Cause

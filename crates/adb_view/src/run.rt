@@ -1,9 +1,10 @@
+//! Runs of words: the entries of an array, and of an object.
+
 ghost use Rattle.std.specs.Prelude.{◌≡◌, ◌≤◌, ◌<◌, ◌-◌, ◌*◌, ◌^◌, ◌==◌, length};
 ghost use Rattle.adb_view.specs.Readers.{run_of, entry_at};
 ghost use Rattle.adb_view.specs.Gives.{Gives};
 
-use crate::bytes::{run, word_at};
-use crate::val::Val;
+use crate::words::{Val, run, word_at};
 use base_core::Cause;
 
 /// The entries of an array, as their words stand in the payload.

@@ -7,7 +7,14 @@ use std::test::Fail;
 
 /// The schema of a file, the payload of its first block, the bytes behind that block, the table that the file is read as,
 /// and the cause of its refusal.
-type Row = (&'static str, &'static [u8], &'static [u8], &'static [u8], Which, Option<Cause>);
+type Row = (
+    &'static str,
+    &'static [u8],
+    &'static [u8],
+    &'static [u8],
+    Which,
+    Option<Cause>,
+);
 
 #[rattlefmt::skip]
 const ROWS: [Row; 11] = [

@@ -116,7 +116,13 @@ fn each_fault_at_each_field_of_each_table(rt: HostRuntime) -> Result<(), Fail> {
 }
 
 /// A payload by the words of its root object and the bytes behind it, the table that it is walked as, and the fault.
-type Row = (&'static str, Which, &'static [u32], &'static [u8], Option<Cause>);
+type Row = (
+    &'static str,
+    Which,
+    &'static [u32],
+    &'static [u8],
+    Option<Cause>,
+);
 
 #[rattlefmt::skip]
 const ROWS: [Row; 11] = [

@@ -1,8 +1,8 @@
 //! Views: each field of each table.
 
 use adb_schema::{
-    AclView, DepView, DirInfo, FileInfo, IdbView, IndexView, IntentView, Kind, List, PackageView, PkgInfo,
-    ScriptsView, View, Which, fields_of, shape,
+    AclView, DepView, DirInfo, FileInfo, IdbView, IndexView, IntentView, Kind, List, PackageView,
+    PkgInfo, ScriptsView, View, Which, fields_of, shape,
 };
 use adb_view::Adb;
 use std::alloc::{AllocError, Global};
