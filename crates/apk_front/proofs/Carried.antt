@@ -20,7 +20,7 @@ use Rattle.make_index.specs.Files.{AreFiles}
 use Rattle.make_info.specs.Reads.{Reads}
 use Rattle.outcome.specs.Dump.{adbdump, dump_outcome, text_outcome, dump_of}
 use Rattle.outcome.specs.Make.{mkndx, mkpkg}
-use Rattle.outcome.specs.Commands.{IsFoundOutcomeOf, MayBeListedFor, IsListingFor, IsOutcome, IsOutcomeOf, reads_in, run_applet, run}
+use Rattle.outcome.specs.Commands.{IsFoundOutcomeOf, MayBeListedFor, IsListingFor, IsOutcome, IsOutcomeOf, reads_in, applet_outcome, command_outcome}
 use Rattle.outcome.specs.Effect.{does_only_read, effect_of, output, output_by, output_if, reads_only}
 use Rattle.outcome.specs.Outcome.{Outcome, just_refusal, just_report, outcome_of, report_unless}
 use Rattle.outcome.specs.Verify.{verify_refusal, sound_lines}
@@ -65,7 +65,7 @@ dump_files : (files : Files) (os : List Operand) → (adbdump (reads_in files) f
 dump_files files [] = refl
 dump_files files (o ∷ os) = found_files files o.place (files (without_dot o.text))
 
-left_files : (applet : Applet) (command : CommandLine) (names : List (List ℕ)) (files : Files) → does_only_read (effect_of applet) ≡ true → (run_applet applet command names (reads_in files) files).files ≡ files
+left_files : (applet : Applet) (command : CommandLine) (names : List (List ℕ)) (files : Files) → does_only_read (effect_of applet) ≡ true → (applet_outcome applet command names (reads_in files) files).files ≡ files
 left_files Verify command names files reads = unless_files files (verify_refusal (reads_in files) 0 command.operands) (sound_lines command.operands)
 left_files Version command names files reads =
     elim command.flags.test as (λ b. (if b then report_unless files (version_refusal command.operands) (order_report command.operands) else outcome_of (version_refusal command.operands) (invalid_lines command.operands) files).files ≡ files) [
@@ -80,13 +80,13 @@ left_files other command names files reads = refl
 abbrev pub Ones : CommandLine → TreeState → Outcome → Type 0
 Ones command v = IsOutcomeOf (Ok command) (files_of v)
 
-pub look_found : (command : CommandLine) (old : History) (judged : Judged) → does_only_read (effect_of command.applet) ≡ true → IfOk judged (λ verdict. IfObservable old (λ v. as_outcome (files_of v) verdict ≡ run command [] (reads_in (files_of v)) (files_of v)))
+pub look_found : (command : CommandLine) (old : History) (judged : Judged) → does_only_read (effect_of command.applet) ≡ true → IfOk judged (λ verdict. IfObservable old (λ v. as_outcome (files_of v) verdict ≡ command_outcome command [] (reads_in (files_of v)) (files_of v)))
     → IfOk judged (λ verdict. IfObservable old (λ v. ReportsOne (Ones command v) verdict))
 look_found command old (Err e) reads found = tt
 look_found command [] (Ok verdict) reads found = tt
 look_found command (v ∷ rest) (Ok verdict) reads found = (as_outcome (files_of v) verdict, ([], no_listing command.applet command (files_of v) reads, found), refl)
 
-pub look_read : (command : CommandLine) (judged : Judged) → does_only_read (effect_of command.applet) ≡ true → IfOk judged (λ verdict. (read : Reads) × (as_outcome no_names verdict ≡ run command [] read no_names)) → IfOk judged (ReportsOne (IsFoundOutcomeOf (Ok command)))
+pub look_read : (command : CommandLine) (judged : Judged) → does_only_read (effect_of command.applet) ≡ true → IfOk judged (λ verdict. (read : Reads) × (as_outcome no_names verdict ≡ command_outcome command [] read no_names)) → IfOk judged (ReportsOne (IsFoundOutcomeOf (Ok command)))
 look_read command (Err e) reads found = tt
 look_read command (Ok verdict) reads (read, is) = (as_outcome no_names verdict, ([], no_listing_by_some command.applet command reads, read, is), refl)
 
@@ -104,18 +104,18 @@ look_run command old now judged reads same =
 
 package_one : (command : CommandLine) (files : Files) (o : Outcome) → Mkpkg ≡ command.applet → IsPackageOutcome command files o → IsOutcomeOf (Ok command) files o
 package_one command files o same (names, listed, is) =
-    (names, subst (λ (a : Applet). IsListingFor a command files names) same listed, is ∙ ap (λ (a : Applet). run_applet a command names (reads_in files) files) same)
+    (names, subst (λ (a : Applet). IsListingFor a command files names) same listed, is ∙ ap (λ (a : Applet). applet_outcome a command names (reads_in files) files) same)
 
 one_package : (command : CommandLine) (files : Files) (o : Outcome) → Mkpkg ≡ command.applet → IsOutcomeOf (Ok command) files o → IsPackageOutcome command files o
 one_package command files o same (names, listed, is) =
-    (names, subst (λ (a : Applet). IsListingFor a command files names) (sym same) listed, is ∙ ap (λ (a : Applet). run_applet a command names (reads_in files) files) (sym same))
+    (names, subst (λ (a : Applet). IsListingFor a command files names) (sym same) listed, is ∙ ap (λ (a : Applet). applet_outcome a command names (reads_in files) files) (sym same))
 
 index_one : (command : CommandLine) (files : Files) (o : Outcome) → Mkndx ≡ command.applet → IsIndexOutcome command files o → IsOutcomeOf (Ok command) files o
 index_one command files o same is =
-    ([], subst (λ (a : Applet). IsListingFor a command files []) same refl, is ∙ ap (λ (a : Applet). run_applet a command [] (reads_in files) files) same)
+    ([], subst (λ (a : Applet). IsListingFor a command files []) same refl, is ∙ ap (λ (a : Applet). applet_outcome a command [] (reads_in files) files) same)
 
 one_index : (command : CommandLine) (files : Files) (o : Outcome) → Mkndx ≡ command.applet → IsOutcomeOf (Ok command) files o → IsIndexOutcome command files o
-one_index command files o same (names, listed, is) = is ∙ ap (λ (a : Applet). run_applet a command names (reads_in files) files) (sym same)
+one_index command files o same (names, listed, is) = is ∙ ap (λ (a : Applet). applet_outcome a command names (reads_in files) files) (sym same)
 
 reports_among : (A B : TreeState → Outcome → Type 0) (old : History) (judged : Judged) → ((v : TreeState) (o : Outcome) → A v o → B v o) → IfOk judged (λ verdict. IfObservable old (λ v. ReportsOne (A v) verdict))
     → IfOk judged (λ verdict. IfObservable old (λ v. ReportsOne (B v) verdict))
@@ -135,13 +135,13 @@ pub package_read_one : (command : CommandLine) (judged : Judged) → Mkpkg ≡ c
     → IfOk judged (ReportsOne (IsFoundOutcomeOf (Ok command)))
 package_read_one command (Err e) same found = tt
 package_read_one command (Ok verdict) same (names, named, read, reports) =
-    (mkpkg read no_names command names, (names, subst (λ (a : Applet). MayBeListedFor a command names) same named, read, ap (λ (a : Applet). run_applet a command names read no_names) same), reports)
+    (mkpkg read no_names command names, (names, subst (λ (a : Applet). MayBeListedFor a command names) same named, read, ap (λ (a : Applet). applet_outcome a command names read no_names) same), reports)
 
 pub index_read_one : (command : CommandLine) (judged : Judged) → Mkndx ≡ command.applet → IfOk judged (λ verdict. (read : Reads) × AreFiles read 0 command.operands × Reports verdict (mkndx read no_names command))
     → IfOk judged (ReportsOne (IsFoundOutcomeOf (Ok command)))
 index_read_one command (Err e) same found = tt
 index_read_one command (Ok verdict) same (read, files, reports) =
-    (mkndx read no_names command, ([], subst (λ (a : Applet). MayBeListedFor a command []) same refl, read, ap (λ (a : Applet). run_applet a command [] read no_names) same), reports)
+    (mkndx read no_names command, ([], subst (λ (a : Applet). MayBeListedFor a command []) same refl, read, ap (λ (a : Applet). applet_outcome a command [] read no_names) same), reports)
 
 runs_among : (A B : TreeState → Outcome → Type 0) (reads : Bool) (out : Option (List ℕ)) (judged : Judged) (old now : History) → ((v : TreeState) (o : Outcome) → B v o → A v o) → IfObservable old (λ v. IsRun (A v) reads out judged v old now)
     → IfObservable old (λ v. IsRun (B v) reads out judged v old now)
@@ -264,17 +264,17 @@ usage_reported words (v ∷ rest) verdict is = (as_outcome (files_of v) verdict,
 
 -- an applet that does not make only reads
 only_reads_unless : (applet : Applet) → (applet ≡ Mkpkg → ⊥) → (applet ≡ Mkndx → ⊥) → does_only_read (effect_of applet) ≡ true
-only_reads_unless Mkpkg package index = absurd (package refl)
-only_reads_unless Mkndx package index = absurd (index refl)
-only_reads_unless other package index = refl
+only_reads_unless Mkpkg p i = absurd (p refl)
+only_reads_unless Mkndx p i = absurd (i refl)
+only_reads_unless other p i = refl
 
 pub reads_one : (command : CommandLine) (applet : Applet) → applet ≡ command.applet → (applet ≡ Mkpkg → ⊥) → (applet ≡ Mkndx → ⊥) → does_only_read (effect_of command.applet) ≡ true
-reads_one command applet same package index = subst (λ (a : Applet). does_only_read (effect_of a) ≡ true) same (only_reads_unless applet package index)
+reads_one command applet same p i = subst (λ (a : Applet). does_only_read (effect_of a) ≡ true) same (only_reads_unless applet p i)
 
 -- ---- an applet that no word names yet
 
 nothing_of : (applet : Applet) (command : CommandLine) → (applet ≡ Verify → ⊥) → (applet ≡ Version → ⊥) → (applet ≡ Adbdump → ⊥) → does_only_read (effect_of applet) ≡ true
-    → (read : Reads) (files : Files) → run_applet applet command [] read files ≡ just_report files []
+    → (read : Reads) (files : Files) → applet_outcome applet command [] read files ≡ just_report files []
 nothing_of Verify command v n d reads read files = absurd (v refl)
 nothing_of Version command v n d reads read files = absurd (n refl)
 nothing_of Adbdump command v n d reads read files = absurd (d refl)
@@ -284,21 +284,21 @@ nothing_of other command v n d reads read files = refl
 
 -- the outcome of a command is empty
 abbrev pub IsNothing : CommandLine → Type 0
-IsNothing command = (read : Reads) (files : Files) → run command [] read files ≡ just_report files []
+IsNothing command = (read : Reads) (files : Files) → command_outcome command [] read files ≡ just_report files []
 
 pub is_nothing : (command : CommandLine) (applet : Applet) → applet ≡ command.applet → (applet ≡ Verify → ⊥) → (applet ≡ Version → ⊥) → (applet ≡ Adbdump → ⊥) → does_only_read (effect_of command.applet) ≡ true → IsNothing command
 is_nothing command applet same v n d reads =
     nothing_of command.applet command (λ is. v (same ∙ is)) (λ is. n (same ∙ is)) (λ is. d (same ∙ is)) reads
 
 pub nothing_found : (old : History) (command : CommandLine) (verdict : Verdict) → IsNothing command → ((files : Files) → as_outcome files verdict ≡ just_report files [])
-    → IfObservable old (λ v. as_outcome (files_of v) verdict ≡ run command [] (reads_in (files_of v)) (files_of v))
+    → IfObservable old (λ v. as_outcome (files_of v) verdict ≡ command_outcome command [] (reads_in (files_of v)) (files_of v))
 nothing_found [] command verdict nothing is = tt
 nothing_found (v ∷ old) command verdict nothing is = is (files_of v) ∙ sym (nothing (reads_in (files_of v)) (files_of v))
 
-pub nothing_read : (command : CommandLine) (verdict : Verdict) → IsNothing command → ((files : Files) → as_outcome files verdict ≡ just_report files []) → (read : Reads) × (as_outcome no_names verdict ≡ run command [] read no_names)
+pub nothing_read : (command : CommandLine) (verdict : Verdict) → IsNothing command → ((files : Files) → as_outcome files verdict ≡ just_report files []) → (read : Reads) × (as_outcome no_names verdict ≡ command_outcome command [] read no_names)
 nothing_read command verdict nothing is = (λ k name. None, is no_names ∙ sym (nothing (λ k name. None) no_names))
 
-pub nothing_by_words : (command : CommandLine) (verdict : Verdict) → IsNothing command → ((files : Files) → as_outcome files verdict ≡ just_report files []) → (files : Files) → as_outcome files verdict ≡ run command [] (reads_in files) files
+pub nothing_by_words : (command : CommandLine) (verdict : Verdict) → IsNothing command → ((files : Files) → as_outcome files verdict ≡ just_report files []) → (files : Files) → as_outcome files verdict ≡ command_outcome command [] (reads_in files) files
 nothing_by_words command verdict nothing is files = is files ∙ sym (nothing (reads_in files) files)
 
 -- ---- what is said of every run

@@ -28,7 +28,7 @@ use Rattle.command_core.specs.Files.{without_dot}
 use Rattle.command_core.specs.declared.values.OptionValue.{OptionValue}
 use Rattle.apk_front.specs.Moments.{HasRoomFor}
 use Rattle.apk_front.specs.Runs.{IsRun}
-use Rattle.apk_front.specs.Containers.{IsIndex, IsIndexFound, IsIndexOutcome, IsPackage, IsPackageFound, IsPackageOutcome, OnMade, is_cut, is_cut_off, made_in}
+use Rattle.apk_front.specs.Containers.{IsIndexMade, IsIndexFound, IsIndexOutcome, IsPackageMade, IsPackageFound, IsPackageOutcome, OnMade, is_cut, is_cut_off, made_in}
 use Rattle.apk_front.specs.Verdicts.{Reports, ReportsOne, as_outcome}
 use Rattle.apk_front.specs.declared.answer.Verdict.{Verdict}
 use Rattle.apk_front.proofs.Packages.{HaveListing, made_allowed, package_here}
@@ -75,10 +75,10 @@ map_observable [] P Q f p = tt
 map_observable (v ∷ rest) P Q f p = f v p
 
 pub package_made : HaveListing → (command : CommandLine) (container : Container) (old : History) → IfOk container (λ file. IfObservable old (λ v. IsMadeIn command v (Ok file.items)))
-    → IfErr container (λ why. OnRefusal why (λ made. IfObservable old (λ v. IsMadeIn command v made))) → IfObservable old (λ v. OnMade container (IsPackage command (files_of v)))
+    → IfErr container (λ why. OnRefusal why (λ made. IfObservable old (λ v. IsMadeIn command v made))) → IfObservable old (λ v. OnMade container (IsPackageMade command (files_of v)))
 package_made law command container old ok err =
-    map_observable old (λ v. OnMade container (IsMadeIn command v)) (λ v. OnMade container (IsPackage command (files_of v)))
-    (λ v m. weaker container (IsMadeIn command v) (IsPackage command (files_of v)) (λ made. package_here law command v made) m)
+    map_observable old (λ v. OnMade container (IsMadeIn command v)) (λ v. OnMade container (IsPackageMade command (files_of v)))
+    (λ v m. weaker container (IsMadeIn command v) (IsPackageMade command (files_of v)) (λ made. package_here law command v made) m)
     (means_at container old (IsMadeIn command) ok err)
 
 pub package_found : (command : CommandLine) (container : Container) → IfOk container (λ file. IsMadeBySome command (Ok file.items)) → IfErr container (λ why. OnRefusal why (IsMadeBySome command)) → OnMade container (IsPackageFound command)
@@ -94,9 +94,9 @@ made_means (Err (Faults.TooLarge bytes values)) answer h = λ cut. h
 made_means (Err Faults.Disk) answer h = λ cut. cc
 made_means (Err Faults.Memory) answer h = λ cut. cc
 
-pub index_made : (command : CommandLine) (container : Container) (old : History) → IfObservable old (λ v. IsMadeBy (λ (file : Vec ℕ Global). file.items) container (made_index command (reads_of v))) → IfObservable old (λ v. OnMade container (IsIndex command (files_of v)))
+pub index_made : (command : CommandLine) (container : Container) (old : History) → IfObservable old (λ v. IsMadeBy (λ (file : Vec ℕ Global). file.items) container (made_index command (reads_of v))) → IfObservable old (λ v. OnMade container (IsIndexMade command (files_of v)))
 index_made command container old h =
-    map_observable old (λ v. IsMadeBy (λ (file : Vec ℕ Global). file.items) container (made_index command (reads_of v))) (λ v. OnMade container (IsIndex command (files_of v)))
+    map_observable old (λ v. IsMadeBy (λ (file : Vec ℕ Global). file.items) container (made_index command (reads_of v))) (λ v. OnMade container (IsIndexMade command (files_of v)))
     (λ v m. made_means container (made_index command (reads_of v)) m) h
 
 pub index_found : (command : CommandLine) (container : Container) → (read : Reads) × AreFiles read 0 command.operands × IsMadeBy (λ (file : Vec ℕ Global). file.items) container (made_index command read) → OnMade container (IsIndexFound command)
@@ -195,7 +195,7 @@ one_below : HaveOneList → (values : List OptionValue) (files : Files) (a b : L
 one_below one [] files a b x y = x ∙ sym y
 one_below one (dir ∷ dirs) files a b x y = one (files_below (without_dot dir.text) files) a b x y
 
-pub package_outcomes : HaveOneList → (command : CommandLine) (report : List ℕ) → report ≡ [] → AreOutcomes (λ v. IsPackage command (files_of v)) (λ v. IsPackageOutcome command (files_of v)) (output_name command) report
+pub package_outcomes : HaveOneList → (command : CommandLine) (report : List ℕ) → report ≡ [] → AreOutcomes (λ v. IsPackageMade command (files_of v)) (λ v. IsPackageOutcome command (files_of v)) (output_name command) report
 package_outcomes one command report none = record {
   one = λ v answer m. (
     m.names,
@@ -221,7 +221,7 @@ package_read command report container (Ok verdict) none found whole reports =
 
 -- ---- of an index
 
-pub index_outcomes : (command : CommandLine) (report : List ℕ) → report ≡ index_line (length command.operands) → AreOutcomes (λ v. IsIndex command (files_of v)) (λ v. IsIndexOutcome command (files_of v)) (output_name command) report
+pub index_outcomes : (command : CommandLine) (report : List ℕ) → report ≡ index_line (length command.operands) → AreOutcomes (λ v. IsIndexMade command (files_of v)) (λ v. IsIndexOutcome command (files_of v)) (output_name command) report
 index_outcomes command report is = record {
   one = λ v answer m. ap (λ r. make_outcome (files_of v) (output_name command) r answer) is ∙ ap (make_outcome (files_of v) (output_name command) (index_line (length command.operands))) (sym m);
   only = λ v answer m o one.

@@ -34,7 +34,7 @@ use Rattle.report_core.specs.declared.refusal.Refusal.TheVariants.{FileMissing, 
 use Rattle.command_core.specs.Operands.{are_files}
 use Rattle.command_core.specs.Files.{without_dot}
 use Rattle.command_core.specs.declared.operands.Operand.{Operand}
-use Rattle.apk_front.specs.Containers.{IsDumpFault, IsShapedFirst, first_block_fault}
+use Rattle.apk_front.specs.Containers.{IsDumpFault, IsShapedFirst, first_form_fault}
 use Rattle.apk_front.specs.Verdicts.{as_outcome}
 use Rattle.apk_front.specs.declared.answer.Verdict.{Verdict}
 use Rattle.apk_front.proofs.Operands.{file_named}
@@ -51,7 +51,7 @@ text_of_shaped which (more b at r) later shaped text first framed table is =
     ap (λ f. or_else f (framing_fault r)) first.1 ∙ (ap framing_fault first.2 ∙ sym framed) in
     ap (λ f. or_text f (dump_text which (root_value which b.payload))) tested ∙ ap Ok (sym (is ∙ value))
 
-pub first_block_bad : (which : Which) (r : Reading) (c : Cause) → first_block_fault which r ≡ Some c → dump_of_blocks which r ≡ Err c
+pub first_block_bad : (which : Which) (r : Reading) (c : Cause) → first_form_fault which r ≡ Some c → dump_of_blocks which r ≡ Err c
 first_block_bad which done c h = absurd (none-some c h)
 first_block_bad which (fault d) c h = ap (λ f. or_text f (dump_text which (root_value which []))) h
 first_block_bad which (more b at r) c h = ap (λ f. or_text (or_else f (framing_fault r)) (dump_text which (root_value which b.payload))) h

@@ -19,7 +19,7 @@ use Rattle.command_core.specs.declared.command.Flags.{Flags}
 use Rattle.command_core.specs.declared.operands.Operand.{Operand}
 use Rattle.outcome.specs.Outcome.{Outcome, just_refusal}
 use Rattle.outcome.specs.Version.{version}
-use Rattle.outcome.specs.Commands.{IsFoundOutcome, IsFoundOutcomeOf, MayBeListedFor, IsOutcome, IsOutcomeOf, IsListingFor, reads_in, run_applet, run}
+use Rattle.outcome.specs.Commands.{IsFoundOutcome, IsFoundOutcomeOf, MayBeListedFor, IsOutcome, IsOutcomeOf, IsListingFor, reads_in, applet_outcome, command_outcome}
 use Rattle.outcome.specs.Effect.{Effect, Makes, does_only_read, does_rest_on_words, effect_of, output, reads_only, rests_on_words}
 use Rattle.apk_front.specs.Answers.{IsAnswerTo, IsAnswerOf, LeavesFiles, LeavesAny, HasCauses, IsFaultless, IsComplete, DidNotFail, FailedAt}
 use Rattle.apk_front.specs.Runs.{IsRun}
@@ -46,11 +46,11 @@ words_read : (effect : Effect) → does_rest_on_words effect ≡ true → does_o
 words_read Makes rests = cc
 words_read other rests = refl
 
-pub ran_over : (words : List (List ℕ)) (command : CommandLine) (files : Files) (o : Outcome) → command_of words ≡ Ok command → does_only_read (effect_of command.applet) ≡ true → o ≡ run command [] (reads_in files) files → IsOutcome words files o
+pub ran_over : (words : List (List ℕ)) (command : CommandLine) (files : Files) (o : Outcome) → command_of words ≡ Ok command → does_only_read (effect_of command.applet) ≡ true → o ≡ command_outcome command [] (reads_in files) files → IsOutcome words files o
 ran_over words command files o is reads ran = subst (λ (r : Result CommandLine ℕ). IsOutcomeOf r files o) (sym is) ([], no_listing command.applet command files reads, ran)
 
 pub ran_by_words : (words : List (List ℕ)) (command : CommandLine) (judged : Result Verdict TreeFault) → command_of words ≡ Ok command
-    → (IsTrue (does_rest_on_words (effect_of command.applet)) → MatchResult judged (λ verdict. (files : Files) → as_outcome files verdict ≡ run command [] (reads_in files) files) (λ fault. fault ≡ NoMemory))
+    → (IsTrue (does_rest_on_words (effect_of command.applet)) → MatchResult judged (λ verdict. (files : Files) → as_outcome files verdict ≡ command_outcome command [] (reads_in files) files) (λ fault. fault ≡ NoMemory))
     → IsTrue (rests_on_words (command_of words)) → MatchResult judged (λ verdict. (files : Files) → IsOutcome words files (as_outcome files verdict)) (λ fault. fault ≡ NoMemory)
 ran_by_words words command (Ok verdict) is ran rests = λ files.
     let on_words = subst (λ (r : Result CommandLine ℕ). IsTrue (rests_on_words r)) is rests in
@@ -164,12 +164,12 @@ pub ran_by_reads : (words : List (List ℕ)) (command : CommandLine) (judged : J
 ran_by_reads words command judged is ran = subst (λ (r : Result CommandLine ℕ). IfOk judged (ReportsOne (IsFoundOutcomeOf r))) (sym is) ran
 
 pub ran_version : (command : CommandLine) (applet : Applet) (flags : Flags) (operands : List Operand) (verdict : Verdict) → applet ≡ command.applet → applet ≡ Version → flags ≡ command.flags → operands ≡ command.operands
-    → ((files : Files) → as_outcome files verdict ≡ version files flags operands) → (read : ℕ → List ℕ → Option (List ℕ)) × (as_outcome no_names verdict ≡ run command [] read no_names)
+    → ((files : Files) → as_outcome files verdict ≡ version files flags operands) → (read : ℕ → List ℕ → Option (List ℕ)) × (as_outcome no_names verdict ≡ command_outcome command [] read no_names)
 ran_version command applet flags operands verdict same is flags_same operands_same printed =
     let nothing : ℕ → List ℕ → Option (List ℕ) = λ k name. None in (
       nothing,
       printed no_names ∙ ap (λ (f : Flags). version no_names f operands) flags_same ∙ ap (λ (o : List Operand). version no_names command.flags o) operands_same
-          ∙ sym (ap (λ (a : Applet). run_applet a command [] nothing no_names) (sym same ∙ is)),
+          ∙ sym (ap (λ (a : Applet). applet_outcome a command [] nothing no_names) (sym same ∙ is)),
     )
 
 pub answered_by_reads : (words : List (List ℕ)) (tree_failed : Type 0) (judged : Judged) (answer : Answer) (out err : SinkChange)

@@ -5,8 +5,7 @@ use Rattle.base_core.specs.Sink.{SinkChange}
 use Rattle.base_core.specs.declared.tree.TreeFault.{TreeFault}
 use Rattle.base_core.specs.declared.tree.TreeFault.TheVariants.{Disk, Memory as NoMemory}
 use Rattle.command_core.specs.Command.{CommandLine}
-use Rattle.command_core.specs.Flags.{no_flags}
-use Rattle.words_core.specs.Grammar.{command_of, start_of, with_start}
+use Rattle.words_core.specs.Grammar.{command_from, command_of, line_start}
 use Rattle.std.specs.Prelude.{is_ok}
 use Rattle.apk_front.specs.Answers.{name_an_applet}
 use Rattle.apk_front.specs.Verdicts.{IsShown}
@@ -18,7 +17,7 @@ use Rattle.apk_front.specs.declared.answer.Verdict.{Verdict}
 pub command_named : (words : List (List ℕ)) (command : CommandLine) → command_of words ≡ Ok command → IsTrue (name_an_applet words)
 unfolding command_of
 command_named words command h =
-    elim (start_of no_flags 1 words) as (λ start. with_start words start ≡ Ok command → IsTrue (is_ok start)) [
+    elim (line_start words) as (λ start. command_from words start ≡ Ok command → IsTrue (is_ok start)) [
       | Ok start ↦ λ e. refl
       | Err place ↦ λ e. cc
     ] h

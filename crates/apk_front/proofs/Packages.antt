@@ -15,7 +15,7 @@ use Rattle.make_package.specs.Making.{made_package, or_info_bad, package_of_part
 use Rattle.make_package.specs.Sources.{on_success, folders_below, values_with, scripts_from}
 use Rattle.outcome.specs.Commands.{reads_in}
 use Rattle.outcome.specs.Make.{IsListing, files_below}
-use Rattle.apk_front.specs.Containers.{IsPackage}
+use Rattle.apk_front.specs.Containers.{IsPackageMade}
 
 -- the names below a folder, as a tree lists them, are those of its files
 abbrev pub HaveListing : Type 0
@@ -30,10 +30,10 @@ no_folder command read names others none =
     on_success (scripts_from read 0 (values_with SCRIPT command.values)) (λ scripts. on_success (or_info_bad (information command)) (λ about. on_success (folders_below read (length scripts) values ns) (package_of_parts command scripts about))) in
     ap (λ values. by values names) none ∙ sym (ap (λ values. by values others) none)
 
-pub package_here : HaveListing → (command : CommandLine) (v : TreeState) (made : Result (List ℕ) MakeFault) → IsMadeIn command v made → IsPackage command (files_of v) made
+pub package_here : HaveListing → (command : CommandLine) (v : TreeState) (made : Result (List ℕ) MakeFault) → IsMadeIn command v made → IsPackageMade command (files_of v) made
 package_here law command v made m = by_values (values_with FILES command.values) refl m.below
   where
-    by_values : (values : List OptionValue) → values_with FILES command.values ≡ values → AreBelow values v m.names → IsPackage command (files_of v) made
+    by_values : (values : List OptionValue) → values_with FILES command.values ≡ values → AreBelow values v m.names → IsPackageMade command (files_of v) made
     by_values [] is listed = record {
       names = [];
       listing = subst (λ (vs : List OptionValue). IsListing vs (files_of v) []) (sym is) refl;

@@ -5,12 +5,11 @@ use Rattle.base_core.specs.Faults.{Counts, HasCause, IsNoFault, Rose}
 use Rattle.base_core.specs.Files.{Files}
 use Rattle.base_core.specs.Sink.{SinkChange, Gets, GetsSome, SinkFailed}
 use Rattle.base_core.specs.Tree.{TreeState, files_of}
-use Rattle.command_core.specs.Flags.{no_flags}
 use Rattle.outcome.specs.Commands.{IsOutcome}
 use Rattle.outcome.specs.Outcome.{Outcome}
 use Rattle.report_core.specs.Texts.{tree_line, memory_line}
 use Rattle.report_core.specs.declared.refusal.Refusal.{Refusal}
-use Rattle.words_core.specs.Grammar.{start_of}
+use Rattle.words_core.specs.Grammar.{line_start}
 use Rattle.apk_front.specs.declared.answer.Answer.{Answer}
 use Rattle.apk_front.specs.declared.answer.Answer.TheVariants.{Ok, Refused, TreeFault, OutFault, Memory}
 
@@ -149,4 +148,4 @@ IsOutcomeUnlessMemory words files Leaves Memory before after out err = Unit {0}
 
 -- whether words name an applet behind the options that stand first
 abbrev pub name_an_applet : List (List ℕ) → Bool
-name_an_applet words = is_ok (start_of no_flags 1 words)
+name_an_applet words = is_ok (line_start words)

@@ -29,10 +29,10 @@ IsDumpFault (ReadFaults.Bad cause) text = text ≡ Err cause
 IsDumpFault ReadFaults.Memory text = Unit {0}
 
 -- why the first block is refused
-abbrev pub first_block_fault : Which → Reading → Option Cause
-first_block_fault which done = None
-first_block_fault which (fault c) = Some c
-first_block_fault which (more b at r) = form_fault which b.payload
+abbrev pub first_form_fault : Which → Reading → Option Cause
+first_form_fault which done = None
+first_form_fault which (fault c) = Some c
+first_form_fault which (more b at r) = form_fault which b.payload
 
 -- the first block passed its tests, and the reader stands behind it
 abbrev pub IsShapedFirst : Which → List ℕ → Reading → Reading → Type 0
@@ -67,15 +67,15 @@ OnMade (Err why) Means = is_cut why ≡ false → Means (Err why)
 -- ---- over these files
 
 -- what `mkpkg` makes
-pub record IsPackage (command : CommandLine) (files : Files) (made : Result (List ℕ) MakeFault) :
-    Type 0 where
+pub record IsPackageMade (command : CommandLine) (files : Files)
+    (made : Result (List ℕ) MakeFault) : Type 0 where
   pub names : List (List ℕ)
   pub listing : IsListing (values_with FILES command.values) files names
   pub is : made_package command names (reads_in files) ≡ made
 
 -- what `mkndx` makes
-abbrev pub IsIndex : CommandLine → Files → Result (List ℕ) MakeFault → Type 0
-IsIndex command files made = made_index command (reads_in files) ≡ made
+abbrev pub IsIndexMade : CommandLine → Files → Result (List ℕ) MakeFault → Type 0
+IsIndexMade command files made = made_index command (reads_in files) ≡ made
 
 -- the outcome of `mkpkg`
 abbrev pub IsPackageOutcome : CommandLine → Files → Outcome → Type 0

@@ -5,7 +5,7 @@ ghost use Rattle.adb_tables.specs.Shaped.{adb_of, table_of};
 ghost use Rattle.adb_schema.specs.Soundness.{schema_word};
 ghost use Rattle.adb_view.specs.Adb.{payload_of};
 ghost use Rattle.adb_view.specs.Gives.{cause_of};
-ghost use Rattle.apk_front.specs.Containers.{IsDumpFault, IsShapedFirst, first_block_fault};
+ghost use Rattle.apk_front.specs.Containers.{IsDumpFault, IsShapedFirst, first_form_fault};
 ghost use Rattle.apk_front.specs.Verdicts.{as_outcome};
 ghost use Rattle.base_core.specs.Calls.{IfObservable};
 ghost use Rattle.base_core.specs.Files.{Files, no_names};
@@ -114,7 +114,7 @@ fn text_of_blocks(alloc: Global, blocks: &mut Blocks<'_>, which: Which) -> Resul
 fn shape_first<'a>(blocks: &mut Blocks<'a>, which: Which) -> Result<Shaped<'a>, Cause>
     requires { blocks.old.last ≡ None }
     ensures bad { IfErr result (λ cause.
-        first_block_fault which (reading_of blocks.old) ≡ Some cause) }
+        first_form_fault which (reading_of blocks.old) ≡ Some cause) }
     ensures table { IfOk result (λ shaped. table_of shaped ≡ which) }
     ensures behind { IfOk result (λ shaped. IsShapedFirst which (payload_of (adb_of shaped))
         (reading_of blocks.old) (reading_of blocks.new)) }

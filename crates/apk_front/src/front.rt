@@ -91,8 +91,8 @@ pub fn apk<T: Tree, O: Sink, E: Sink>(
 
     // Where besides no failure is planned of the tree and the sinks, the run ends as its outcome
     // says, unless memory ran out: the run's, or the own memory of one of the three.
-    ensures unless_memory { IfObservable (T.history tree.old) (λ v. LeavesRoom words.now (files_of v)
-        → IsUnplanned (T.counts tree.old)
+    ensures unless_memory { IfObservable (T.history tree.old) (λ v.
+        LeavesRoom words.now (files_of v) → IsUnplanned (T.counts tree.old)
         → IsUnplanned (O.counts out.old) → IsUnplanned (E.counts err.old)
         → IsOutcomeUnlessMemory words.now (files_of v) (LeavesFiles (T.history tree.new)) result
         (T.counts tree.old) (T.counts tree.new)

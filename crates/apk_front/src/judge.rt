@@ -10,7 +10,7 @@ ghost use Rattle.base_core.specs.Files.{Files, no_names};
 ghost use Rattle.base_core.specs.Read.{OnlyReads};
 ghost use Rattle.base_core.specs.Tree.{files_of};
 ghost use Rattle.make_info.specs.Reads.{Reads};
-ghost use Rattle.outcome.specs.Commands.{IsFoundOutcome, IsFoundOutcomeOf, IsOutcome, IsOutcomeOf, reads_in, run};
+ghost use Rattle.outcome.specs.Commands.{IsFoundOutcome, IsFoundOutcomeOf, IsOutcome, IsOutcomeOf, reads_in, command_outcome};
 ghost use Rattle.outcome.specs.Effect.{does_only_read, does_rest_on_words, effect_of, output, output_if, reads_only, rests_on_words};
 ghost use Rattle.outcome.specs.Outcome.{Outcome};
 ghost use Rattle.words_core.specs.Grammar.{command_of};
@@ -76,7 +76,7 @@ fn run<T: Tree>(alloc: Global, command: &Command, tree: &mut T) -> Result<Verdic
     ensures by_words { IsTrue (does_rest_on_words (effect_of command.now.applet))
         → MatchResult result
         (λ verdict. (files : Files)
-        → as_outcome files verdict ≡ run command.now [] (reads_in files) files)
+        → as_outcome files verdict ≡ command_outcome command.now [] (reads_in files) files)
         (λ fault. fault ≡ TreeFault.Memory) }
     ensures untouched { IsTrue (does_rest_on_words (effect_of command.now.applet))
         → tree.new ≡ tree.old }
@@ -114,13 +114,13 @@ fn look<T: Tree>(alloc: Global, command: &Command, tree: &mut T) -> Result<Verdi
     requires { IsTrue (does_only_read (effect_of command.now.applet)) }
     ensures found { IfOk result (λ verdict. IfObservable (T.history tree.old) (λ v.
         as_outcome (files_of v) verdict
-        ≡ run command.now [] (reads_in (files_of v)) (files_of v))) }
+        ≡ command_outcome command.now [] (reads_in (files_of v)) (files_of v))) }
     ensures by_reads { IfOk result (λ verdict. (read : Reads)
-        × (as_outcome no_names verdict ≡ run command.now [] read no_names)) }
+        × (as_outcome no_names verdict ≡ command_outcome command.now [] read no_names)) }
     ensures by_words { IsTrue (does_rest_on_words (effect_of command.now.applet))
         → MatchResult result
         (λ verdict. (files : Files)
-        → as_outcome files verdict ≡ run command.now [] (reads_in files) files)
+        → as_outcome files verdict ≡ command_outcome command.now [] (reads_in files) files)
         (λ fault. fault ≡ TreeFault.Memory) }
     ensures untouched { IsTrue (does_rest_on_words (effect_of command.now.applet))
         → tree.new ≡ tree.old }

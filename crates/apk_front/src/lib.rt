@@ -19,6 +19,3 @@ mod version;
 pub use answer::{Answer, status};
 pub use front::apk;
 pub use report_core::Refusal;
-
-#[cfg(test)]
-mod tests;

@@ -14,7 +14,7 @@ ghost use Rattle.std.specs.Prelude.{map, IfOk, ◌≡◌, Option};
 use crate::file::{File, Folder};
 use adb_view::Val;
 use adb_write::{Writer, values_are_written_depth_first};
-use command_core::Values;
+use command_core::{TRIGGER, Values};
 use std::alloc::{AllocError, Global};
 
 /// The mode of every folder.
@@ -199,7 +199,7 @@ fn write_triggers(alloc: Global, writer: &mut Writer, values: &Values) -> Result
     let mut words = Vec::new(alloc);
     for i in 0..values.len() {
         let value = values.get(i);
-        if value.letter == b't' {
+        if value.letter == TRIGGER {
             let word = writer.blob(value.text.as_bytes())?;
             words.push(word)?;
         }

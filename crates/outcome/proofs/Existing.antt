@@ -16,7 +16,7 @@ use Rattle.command_core.specs.declared.command.Applet.{Applet}
 use Rattle.command_core.specs.declared.command.Applet.TheVariants.{Mkpkg}
 use Rattle.command_core.specs.declared.values.OptionValue.{OptionValue}
 use Rattle.make_package.specs.Sources.{values_with}
-use Rattle.outcome.specs.Commands.{IsListingFor, IsOutcome, IsOutcomeOf, reads_in, run}
+use Rattle.outcome.specs.Commands.{IsListingFor, IsOutcome, IsOutcomeOf, reads_in, command_outcome}
 use Rattle.outcome.specs.Make.{IsListing, files_below}
 use Rattle.outcome.specs.Outcome.{Outcome, just_refusal}
 
@@ -47,7 +47,7 @@ outcome_by : HaveList → (read : Result CommandLine ℕ) (files : Files) (withi
 outcome_by have (Err place) files within h = (just_refusal files (Usage place), refl)
 outcome_by have (Ok command) files within h =
     let found = names_exist have command.applet command files within h in
-    (run command found.0 (reads_in files) files, (found.0, found.1, refl))
+    (command_outcome command found.0 (reads_in files) files, (found.0, found.1, refl))
 
 pub outcome_exists : HaveList → (words within : List (List ℕ)) (files : Files) → IsWithin within files → (o : Outcome) × IsOutcome words files o
 outcome_exists have words within files h = outcome_by have (command_of words) files within h
@@ -63,7 +63,7 @@ names_one one other command files a b x y = x ∙ sym y
 outcome_one : HaveOneList → (read : Result CommandLine ℕ) (files : Files) (a b : Outcome) → IsOutcomeOf read files a → IsOutcomeOf read files b → a ≡ b
 outcome_one one (Err place) files a b x y = x ∙ sym y
 outcome_one one (Ok command) files a b (n, g, x) (m, k, y) =
-    x ∙ (ap (λ names. run command names (reads_in files) files) (names_one one command.applet command files n m g k) ∙ sym y)
+    x ∙ (ap (λ names. command_outcome command names (reads_in files) files) (names_one one command.applet command files n m g k) ∙ sym y)
 
 pub outcome_unique : HaveOneList → (words : List (List ℕ)) (files : Files) (a b : Outcome) → IsOutcome words files a → IsOutcome words files b → a ≡ b
 outcome_unique one words files a b x y = outcome_one one (command_of words) files a b x y

@@ -39,7 +39,7 @@ use Rattle.command_core.specs.declared.command.Applet.TheVariants.{Mkndx, Mkpkg}
 use Rattle.command_core.specs.declared.operands.Operand.{Operand}
 use Rattle.command_core.specs.declared.values.OptionValue.{OptionValue}
 use Rattle.outcome.proofs.Listings.{if_some, is_below}
-use Rattle.outcome.specs.Commands.{IsListingFor, IsOutcome, IsOutcomeOf, reads_in, run_applet}
+use Rattle.outcome.specs.Commands.{IsListingFor, IsOutcome, IsOutcomeOf, reads_in, applet_outcome}
 use Rattle.outcome.specs.Effect.{effect_of, output, output_by, output_if}
 use Rattle.outcome.specs.Make.{IsListing, files_below, index_line, make_outcome, mkndx, mkpkg}
 use Rattle.outcome.specs.Outcome.{Outcome, just_refusal, just_report}
@@ -244,7 +244,7 @@ index_sound law command files name good is none =
     (bytes, here, λ few. law command read bytes (files_found files good 0 command.operands) ok)
 
 applet_sound : SoundPackage → SoundIndex → (applet : Applet) (command : CommandLine) (names : List (List ℕ)) (files : Files) (name : List ℕ) → AreNamedFiles files → IsListingFor applet command files names
-    → output_if (effect_of applet) command ≡ Some name → (run_applet applet command names (reads_in files) files).refusal ≡ None → IsSoundAt name (run_applet applet command names (reads_in files) files).files
+    → output_if (effect_of applet) command ≡ Some name → (applet_outcome applet command names (reads_in files) files).refusal ≡ None → IsSoundAt name (applet_outcome applet command names (reads_in files) files).files
 applet_sound packages indexes Mkpkg command names files name good are is none = package_sound packages command names files name good are is none
 applet_sound packages indexes Mkndx command names files name good are is none = index_sound indexes command files name good is none
 applet_sound packages indexes other command names files name good are is none = absurd (cc (is))

@@ -18,17 +18,17 @@ use Rattle.outcome.specs.Version.{version}
 -- ---- the outcome of an applet
 
 -- by the names that it lists, by what its reads find, and by the files, which it may change
-abbrev pub run_applet : Applet → CommandLine → List (List ℕ) → Reads → Files → Outcome
-run_applet Verify command names read files = verify read files command.operands
-run_applet Version command names read files = version files command.flags command.operands
-run_applet Adbdump command names read files = adbdump read files command.operands
-run_applet Mkpkg command names read files = mkpkg read files command names
-run_applet Mkndx command names read files = mkndx read files command
+abbrev pub applet_outcome : Applet → CommandLine → List (List ℕ) → Reads → Files → Outcome
+applet_outcome Verify command names read files = verify read files command.operands
+applet_outcome Version command names read files = version files command.flags command.operands
+applet_outcome Adbdump command names read files = adbdump read files command.operands
+applet_outcome Mkpkg command names read files = mkpkg read files command names
+applet_outcome Mkndx command names read files = mkndx read files command
 -- no word names another applet yet
-run_applet other command names read files = just_report files []
+applet_outcome other command names read files = just_report files []
 
-abbrev pub run : CommandLine → List (List ℕ) → Reads → Files → Outcome
-run command names read files = run_applet command.applet command names read files
+abbrev pub command_outcome : CommandLine → List (List ℕ) → Reads → Files → Outcome
+command_outcome command names read files = applet_outcome command.applet command names read files
 
 -- ---- over the files of a tree
 
@@ -46,7 +46,7 @@ IsOutcomeOf (Err place) files outcome = outcome ≡ just_refusal files (Usage pl
 IsOutcomeOf (Ok command) files outcome =
     (names : List (List ℕ))
     × IsListingFor command.applet command files names
-    × (outcome ≡ run command names (reads_in files) files)
+    × (outcome ≡ command_outcome command names (reads_in files) files)
 
 -- the outcome of a command line over these files
 abbrev pub IsOutcome : List (List ℕ) → Files → Outcome → Type 0
@@ -66,7 +66,7 @@ IsFoundOutcomeOf (Ok command) outcome =
     (names : List (List ℕ))
     × MayBeListedFor command.applet command names
     × (read : Reads)
-    × (outcome ≡ run command names read no_names)
+    × (outcome ≡ command_outcome command names read no_names)
 
 -- the outcome of a command line for some listing, and for some contents, or none, at each read;
 -- nothing is said of the files afterwards

@@ -3,7 +3,8 @@ use Rattle.std.specs.Prelude.{◌≡◌, ℕ, ◌<◌, ◌^◌, List, length, So
 use Rattle.base_core.specs.Files.{Files}
 use Rattle.pkg_core.specs.Whole.{container_fault}
 
--- a file stands under the name; it passes all tests of a container, if it has fewer than 2 ^ 64 bytes
+-- a file stands under the name; it passes all tests of a container, if it has fewer than 2 ^ 64
+-- bytes
 abbrev pub IsSoundAt : List ℕ → Files → Type 0
 IsSoundAt name files =
     (bytes : List ℕ)

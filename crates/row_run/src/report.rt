@@ -27,7 +27,7 @@ impl<T: Drop> From<AllocFailed<T>> for RowFault {
     }
 }
 
-/// A difference, told in pieces, at a line of the text.
+/// A difference, in pieces, at a line of the text.
 pub(crate) fn differs(alloc: Global, line: u64, pieces: &[&[u8]]) -> RowFault {
     match difference(alloc, line, pieces) {
         Ok(text) => RowFault::Differs(text),
@@ -58,7 +58,7 @@ pub(crate) fn digits(alloc: Global, number: u64) -> Result<Vec<u8>, AllocError> 
     Ok(text)
 }
 
-/// Two texts are alike, or the first place at which they differ is told.
+/// Two texts are alike, or the first place at which they differ is reported.
 pub(crate) fn compare(
     alloc: Global,
     line: u64,
@@ -97,7 +97,7 @@ fn first_difference(found: &[u8], wanted: &[u8]) -> usize {
     at
 }
 
-/// Two numbers are alike, or both are told.
+/// Two numbers are alike, or both are reported.
 pub(crate) fn compare_numbers(
     alloc: Global,
     line: u64,

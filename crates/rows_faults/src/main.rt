@@ -1,4 +1,4 @@
-//! Shows what is told of texts that are no rows, and of rows that fail.
+//! Shows what is reported of texts that are no rows, and of rows that fail.
 //!
 //! Standard input has texts of rows, each behind a line `==== NAME`. Each is run with a program that only echoes: it
 //! prints each word on a line, and is refused where there is none. A text whose last line is `\` has no end of its line
@@ -39,7 +39,7 @@ impl Program for Echo {
     }
 }
 
-/// A text that is read, and all that is told.
+/// A text that is read, and all that is reported.
 #[derive(Drop)]
 struct Cases {
     alloc: Global,

@@ -10,4 +10,5 @@ store_state store = state_on (contents_of store.files.items) empty_state store.c
 
 -- the states so far, the newest first
 abbrev pub store_history : Store → List TreeState
-store_history store = store_state store ∷ earlier_on (contents_of store.files.items) empty_state [] store.changes.items
+store_history store =
+    store_state store ∷ earlier_on (contents_of store.files.items) empty_state [] store.changes.items
