@@ -7,7 +7,7 @@ use Rattle.adb_view.specs.Plain.{Plain, Plains, none, more}
 use Rattle.adb_tables.specs.Values.{entries_in, entry_in, text_in}
 use Rattle.adb_tables.specs.Walk.{or_else}
 use Rattle.adb_fields.specs.Paths.{path_of}
-use Rattle.adb_fields.specs.Pairs.{Named, IsIn, IsPair, first_pair, earliest}
+use Rattle.adb_fields.specs.Pairs.{Named, first_pair, earliest}
 use Rattle.adb_fields.specs.declared.pairs.Pair.{Pair}
 use Rattle.adb_tables.specs.declared.tables.Which.{Which}
 use Rattle.adb_tables.specs.declared.tables.Which.TheVariants.{Package, Idb, Intent}
@@ -25,12 +25,6 @@ twice names = first_pair (numbered_from 1 names)
 -- a name that stands twice in one of several lists
 abbrev pub twice_in_one : List (List (List ℕ)) → Option Pair
 twice_in_one lists = earliest (map twice lists)
-
--- one of the lists has the name at both positions
-pub record IsPairInOne (lists : List (List (List ℕ))) (p : Pair) : Type 0 where
-  pub names : List (List ℕ)
-  pub names_in : IsIn names lists
-  pub is_pair : IsPair (numbered_from 1 names) p
 
 abbrev pub all_at : ℕ → List (List ℕ) → List Named
 all_at n names = map (λ name. record { name = name; position = n }) names

@@ -3,9 +3,12 @@
 ghost use Rattle.std.specs.Prelude.{◌≡◌, ◌<◌, ◌^◌, ◌+◌, ◌≤◌, length, map, take, drop, slice_get, IfSome, ℕ, List};
 ghost use Rattle.std.specs.Cmp.Lexicographic.{slice_cmp};
 ghost use Rattle.std.specs.Ordering.{nat_cmp};
-ghost use Rattle.adb_fields.specs.Pairs.{first_pair, pair_of, earlier, earliest, is_before, IsFirstOf, IsPair};
+ghost use Rattle.adb_fields.specs.Pairs.{first_pair, pair_of, earlier, earliest, is_before};
+ghost use Rattle.adb_fields.specs.FirstPair.{IsFirstOf};
+ghost use Rattle.adb_fields.specs.FirstPair.{IsPair};
 ghost use Rattle.adb_fields.specs.NamedTexts.{named_by, named_cmp, neighbours};
-ghost use Rattle.adb_fields.specs.Repeated.{by_list_from, in_two, numbered_from, twice, twice_in_one, IsPairInOne};
+ghost use Rattle.adb_fields.specs.Repeated.{by_list_from, in_two, numbered_from, twice, twice_in_one};
+ghost use Rattle.adb_fields.specs.FirstPair.{IsPairInOne};
 
 use std::cmp::Ordering;
 

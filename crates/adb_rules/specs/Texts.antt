@@ -137,18 +137,3 @@ first_bad (leaf ∷ others) = if keeps_rule leaf then first_bad others
 
 abbrev pub text_fault : Which → Plain → Option Cause
 text_fault which v = first_bad (leaves_of which v)
-
--- a leaf breaks its rule, and none before it does
-pub record IsFirstBad (all : List Leaf) (c : Cause) : Type 0 where
-  pub i : ℕ
-  pub leaf : Leaf
-  pub at : slice_get all i ≡ Some leaf
-  pub broken : keeps_rule leaf ≡ false
-  pub cause : c ≡ BadText (number_of_leaf leaf)
-  pub before : (j : ℕ) → (other : Leaf) → j < i → slice_get all j ≡ Some other → keeps_rule other
-      ≡ true
-
--- the cause is that of the first leaf that breaks its rule; without one each keeps its own
-abbrev pub IsFirstBadOf : List Leaf → Option Cause → Type 0
-IsFirstBadOf all None = list_all keeps_rule all ≡ true
-IsFirstBadOf all (Some c) = IsFirstBad all c

@@ -19,8 +19,6 @@ use Rattle.adb_tables.specs.declared.tables.Which.{Which}
 use Rattle.adb_tables.specs.declared.tables.Which.TheVariants.{Package, Index, Idb, Intent}
 use Rattle.adb_tables.specs.declared.tables.Kind.TheVariants.{Obj}
 use Rattle.adb_schema.specs.declared.read.TheConstants.{PACKAGE_WORD, INDEX_WORD, IDB_WORD, INTENT_WORD}
-use Rattle.adb_schema.specs.declared.read.ReadFault.{ReadFault}
-use Rattle.adb_schema.specs.declared.read.ReadFault.TheVariants.{Bad, Memory}
 
 -- the schema in the header of a container with this table at its root; other tables are none's root
 abbrev pub schema_word : Which → Option ℕ
@@ -104,9 +102,6 @@ fault_with rest which file = file_fault rest which file (header_of file)
 unfoldable pub first_fault : Which → List ℕ → Option Cause
 first_fault which file = fault_with (λ v r. rest_fault which r) which file
 
-abbrev pub IsSound : Which → List ℕ → Type 0
-IsSound which file = first_fault which file ≡ None
-
 -- ---- what is read
 
 abbrev pub first_payload : Reading → List ℕ
@@ -121,21 +116,3 @@ payload_behind file (Err c) = []
 -- the payload of a file's first block
 unfoldable pub payload_in : List ℕ → List ℕ
 payload_in file = payload_behind file (header_of file)
-
--- a refusal tells what there is to tell
-abbrev pub IsReadFault : ReadFault → Option Cause → Type 0
-IsReadFault (Bad cause) told = told ≡ Some cause
-IsReadFault Memory told = Unit {0}
-
--- the first block passed its tests, and the reader stands behind it
-abbrev pub IsBehindFirst : Which → List ℕ → Reading → Reading → Type 0
-IsBehindFirst which payload done later = ⊥
-IsBehindFirst which payload (fault c) later = ⊥
-IsBehindFirst which payload (more b at r) later = (payload ≡ b.payload)
-    × (payload_fault which b.payload ≡ None) × (r ≡ later)
-
--- why the first block is refused
-abbrev pub first_block_fault : Which → Reading → Option Cause
-first_block_fault which done = None
-first_block_fault which (fault c) = Some c
-first_block_fault which (more b at r) = payload_fault which b.payload

@@ -11,7 +11,11 @@ ghost use Rattle.adb_schema.specs.Checked.{checked_value, which_of};
 ghost use Rattle.adb_view.specs.Plain.{IsNormal};
 ghost use Rattle.adb_tables.specs.declared.tables.Which.{Which};
 ghost use Rattle.adb_schema.specs.SoundContainers.{IsSoundValue};
-ghost use Rattle.adb_schema.specs.Soundness.{block_fault, first_block_fault, file_pair, first_fault, further_fault, payload_fault, is_schema_wanted, payload_in, rest_fault, root_value, schema_word, undue_contents, IsBehindFirst, IsReadFault, IsSound};
+ghost use Rattle.adb_schema.specs.Soundness.{block_fault, file_pair, first_fault, further_fault, payload_fault, is_schema_wanted, payload_in, rest_fault, root_value, schema_word, undue_contents};
+ghost use Rattle.adb_schema.specs.ReadFaults.{first_block_fault};
+ghost use Rattle.adb_schema.specs.ReadFaults.{IsBehindFirst};
+ghost use Rattle.adb_schema.specs.ReadFaults.{IsReadFault};
+ghost use Rattle.adb_schema.specs.SoundContainers.{IsSound};
 
 use crate::checked::Checked;
 use adb_block::{Block, BlockKind, Blocks};

@@ -11,7 +11,8 @@ mod adb;
 mod run;
 mod words;
 
-pub use adb::Adb;
-pub use laws::{value_is_found_where_visits_are_sound, values_are_normal, values_have_their_shape};
+pub use adb::{
+    Adb, value_is_found_where_visits_are_sound, values_are_normal, values_have_their_shape,
+};
 pub use run::{Arr, Obj};
 pub use words::Val;

@@ -1,6 +1,6 @@
 use Rattle.std.proofs.Common.{◌≡◌, ℕ, ◌*◌, ◌-◌, ◌/◌, ◌∙◌, ap, List, length, get_or, take, drop}
 use Rattle.std.proofs.lemmas.List.{take_rest}
-use Rattle.adb_view.proofs.Words.{word_read}
+use Rattle.adb_view.proofs.RunWords.{word_read}
 use Rattle.adb_view.proofs.words.word_at.Goals as goal
 
 pub returns : goal.returns
