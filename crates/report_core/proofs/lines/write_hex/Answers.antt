@@ -3,7 +3,7 @@ use Rattle.std.proofs.lemmas.Result.{err_from_is_err_and}
 use Rattle.hex.specs.Hex.{encode_lower}
 use Rattle.report_core.proofs.Fronts.{added-more, front-more, digits_chain, no_digits}
 use Rattle.report_core.proofs.Counting.{goes_on_twice, no_fault_twice, fails_after}
-use Rattle.report_core.proofs.piece.write_hex.Goals as goal
+use Rattle.report_core.proofs.lines.write_hex.Goals as goal
 
 pub loop-byte-init : goal.loop-byte-init
 loop-byte-init g c = record {

@@ -1,7 +1,7 @@
 use Rattle.std.proofs.Common.{codes, decimal}
 use Rattle.std.proofs.lemmas.Result.{err_from_is_err_and}
 use Rattle.report_core.proofs.Behind.{done_by, three, cut_in_the_first, cut_in_the_second}
-use Rattle.report_core.proofs.piece.write_position.Goals as goal
+use Rattle.report_core.proofs.lines.write_position.Goals as goal
 
 pub returns-in_err-write_number : goal.returns-in_err-write_number
 returns-in_err-write_number g c =

@@ -1,6 +1,6 @@
 use Rattle.std.proofs.lemmas.Result.{err_from_is_err_and}
 use Rattle.report_core.proofs.Behind.{done_by, written_behind, cut_short}
-use Rattle.report_core.proofs.error.write_sentence.Goals as goal
+use Rattle.report_core.proofs.lines.write_sentence.Goals as goal
 
 pub returns-in_err-write_pieces : goal.returns-in_err-write_pieces
 returns-in_err-write_pieces g c =

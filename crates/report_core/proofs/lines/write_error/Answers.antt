@@ -2,7 +2,7 @@ use Rattle.std.proofs.Common.{codes, ap}
 use Rattle.std.proofs.lemmas.Result.{err_from_is_err_and}
 use Rattle.report_core.specs.Texts.{error_line}
 use Rattle.report_core.proofs.Behind.{done_by, three, cut_in_the_first, cut_in_the_second, writes_same}
-use Rattle.report_core.proofs.error.write_error.Goals as goal
+use Rattle.report_core.proofs.lines.write_error.Goals as goal
 
 pub returns-in_err-write_all : goal.returns-in_err-write_all
 returns-in_err-write_all g c =
