@@ -6,3 +6,4 @@ pub mod NameLists
 pub mod FirstKinds
 pub mod FewTexts
 pub mod RepeatedRows
+pub mod OnceLemmas

@@ -8,102 +8,93 @@ use Rattle.base_core.specs.Tree.{TreeState, files_of}
 use Rattle.base_core.specs.declared.tree.TreeFault.{TreeFault}
 use Rattle.base_core.specs.declared.tree.TreeFault.TheVariants.{Disk, Memory as NoMemory}
 use Rattle.report_core.specs.declared.refusal.Refusal.TheVariants.{Usage}
-use Rattle.words_core.specs.Command.{CommandLine}
+use Rattle.command_core.specs.Command.{CommandLine}
 use Rattle.words_core.specs.Faults.{IsWordsFault}
 use Rattle.words_core.specs.Grammar.{command_of}
 use Rattle.words_core.specs.declared.read.WordsFault.{WordsFault}
 use Rattle.words_core.specs.declared.read.WordsFault.TheVariants.{Usage as WrongWord}
-use Rattle.words_core.specs.declared.applet.Applet.{Applet}
-use Rattle.words_core.specs.declared.applet.Applet.TheVariants.{Adbdump, Mkndx, Mkpkg, Verify, Version}
-use Rattle.words_core.specs.declared.flags.Flags.{Flags}
-use Rattle.words_core.specs.declared.operands.Operand.{Operand}
-use Rattle.outcome.specs.Told.{Outcome, refused}
+use Rattle.command_core.specs.declared.command.Applet.{Applet}
+use Rattle.command_core.specs.declared.command.Applet.TheVariants.{Mkpkg, Version}
+use Rattle.command_core.specs.declared.command.Flags.{Flags}
+use Rattle.command_core.specs.declared.operands.Operand.{Operand}
+use Rattle.outcome.specs.Outcome.{Outcome, just_refusal}
 use Rattle.outcome.specs.Version.{version}
-use Rattle.outcome.specs.Outcome.{IsFoundOutcome, IsFoundOutcomeOf, IsGivenBySome, IsOutcome, IsOutcomeOf, IsGivenTo, run_by, run_of}
-use Rattle.outcome.specs.Reach.{does_read_only, does_rest_on_words, output, reads_only, rests_on_words}
-use Rattle.apk_front.specs.Answers.{IsAnswer, IsAnswerOf, LeavesFiles, LeavesAny, HasCauses, IsFaultless, IsComplete, DidNotFail, FailedAt}
-use Rattle.apk_front.specs.Moments.{IsRun}
-use Rattle.apk_front.specs.Shown.{shown, IsTold, IsShown, TellsOne}
-use Rattle.apk_front.proofs.Telling.{either_failed}
+use Rattle.outcome.specs.Commands.{IsFoundOutcome, IsFoundOutcomeOf, MayBeListedFor, IsOutcome, IsOutcomeOf, IsListingFor, reads_in, applet_outcome, command_outcome}
+use Rattle.outcome.specs.Effect.{Effect, Makes, does_only_read, does_rest_on_words, effect_of, output, reads_only, rests_on_words}
+use Rattle.apk_front.specs.Answers.{IsAnswerTo, IsAnswerOf, LeavesFiles, LeavesAny, HasCauses, IsFaultless, IsComplete, DidNotFail, FailedAt}
+use Rattle.apk_front.specs.Runs.{IsRun}
+use Rattle.apk_front.specs.Verdicts.{as_outcome, IsPrinted, IsShown, ReportsOne}
+use Rattle.apk_front.proofs.Printing.{either_failed}
 use Rattle.apk_front.specs.declared.answer.Answer.{Answer}
 use Rattle.apk_front.specs.declared.answer.Answer.TheVariants.{Ok as Good, Refused, TreeFault as TreeFailed, OutFault, Memory}
-use Rattle.apk_front.specs.declared.verdict.Verdict.{Verdict}
+use Rattle.apk_front.specs.declared.answer.Verdict.{Verdict}
 
 -- ---- the words and the outcome
 
-pub usage_over : (words : List (List ℕ)) (place : ℕ) (files : Files) → command_of words ≡ Err place → IsOutcome words files (refused files (Usage place))
-usage_over words place files is = subst (λ (r : Result CommandLine ℕ). IsOutcomeOf r files (refused files (Usage place))) (sym is) refl
+pub usage_over : (words : List (List ℕ)) (place : ℕ) (files : Files) → command_of words ≡ Err place → IsOutcome words files (just_refusal files (Usage place))
+usage_over words place files is = subst (λ (r : Result CommandLine ℕ). IsOutcomeOf r files (just_refusal files (Usage place))) (sym is) refl
 
-pub given_none : (applet : Applet) (command : CommandLine) (files : Files) → does_read_only applet ≡ true → IsGivenTo applet command files []
-given_none Verify command files reads = refl
-given_none Version command files reads = refl
-given_none Adbdump command files reads = refl
-given_none Mkpkg command files reads = cc
-given_none Mkndx command files reads = cc
+pub no_listing : (applet : Applet) (command : CommandLine) (files : Files) → does_only_read (effect_of applet) ≡ true → IsListingFor applet command files []
+no_listing Mkpkg command files reads = cc
+no_listing other command files reads = refl
 
-pub given_none_by_some : (applet : Applet) (command : CommandLine) → does_read_only applet ≡ true → IsGivenBySome applet command []
-given_none_by_some Verify command reads = refl
-given_none_by_some Version command reads = refl
-given_none_by_some Adbdump command reads = refl
-given_none_by_some Mkpkg command reads = cc
-given_none_by_some Mkndx command reads = cc
+pub no_listing_by_some : (applet : Applet) (command : CommandLine) → does_only_read (effect_of applet) ≡ true → MayBeListedFor applet command []
+no_listing_by_some Mkpkg command reads = cc
+no_listing_by_some other command reads = refl
 
-words_read : (applet : Applet) → does_rest_on_words applet ≡ true → does_read_only applet ≡ true
-words_read Verify rests = refl
-words_read Version rests = refl
-words_read Adbdump rests = refl
-words_read Mkpkg rests = cc
-words_read Mkndx rests = cc
+words_read : (effect : Effect) → does_rest_on_words effect ≡ true → does_only_read effect ≡ true
+words_read Makes rests = cc
+words_read other rests = refl
 
-pub ran_over : (words : List (List ℕ)) (command : CommandLine) (files : Files) (o : Outcome) → command_of words ≡ Ok command → does_read_only command.applet ≡ true → o ≡ run_of command [] files → IsOutcome words files o
-ran_over words command files o is reads ran = subst (λ (r : Result CommandLine ℕ). IsOutcomeOf r files o) (sym is) ([], given_none command.applet command files reads, ran)
+pub ran_over : (words : List (List ℕ)) (command : CommandLine) (files : Files) (o : Outcome) → command_of words ≡ Ok command → does_only_read (effect_of command.applet) ≡ true → o ≡ command_outcome command [] (reads_in files) files → IsOutcome words files o
+ran_over words command files o is reads ran = subst (λ (r : Result CommandLine ℕ). IsOutcomeOf r files o) (sym is) ([], no_listing command.applet command files reads, ran)
 
 pub ran_by_words : (words : List (List ℕ)) (command : CommandLine) (judged : Result Verdict TreeFault) → command_of words ≡ Ok command
-    → (IsTrue (does_rest_on_words command.applet) → MatchResult judged (λ verdict. (files : Files) → shown files verdict ≡ run_of command [] files) (λ fault. fault ≡ NoMemory))
-    → IsTrue (rests_on_words (command_of words)) → MatchResult judged (λ verdict. (files : Files) → IsOutcome words files (shown files verdict)) (λ fault. fault ≡ NoMemory)
+    → (IsTrue (does_rest_on_words (effect_of command.applet)) → MatchResult judged (λ verdict. (files : Files) → as_outcome files verdict ≡ command_outcome command [] (reads_in files) files) (λ fault. fault ≡ NoMemory))
+    → IsTrue (rests_on_words (command_of words)) → MatchResult judged (λ verdict. (files : Files) → IsOutcome words files (as_outcome files verdict)) (λ fault. fault ≡ NoMemory)
 ran_by_words words command (Ok verdict) is ran rests = λ files.
     let on_words = subst (λ (r : Result CommandLine ℕ). IsTrue (rests_on_words r)) is rests in
-    ran_over words command files (shown files verdict) is (words_read command.applet on_words) (ran on_words files)
+    ran_over words command files (as_outcome files verdict) is (words_read (effect_of command.applet) on_words) (ran on_words files)
 ran_by_words words command (Err fault) is ran rests = ran (subst (λ (r : Result CommandLine ℕ). IsTrue (rests_on_words r)) is rests)
 
-pub rests_on : (words : List (List ℕ)) (command : CommandLine) → command_of words ≡ Ok command → IsTrue (rests_on_words (command_of words)) → IsTrue (does_rest_on_words command.applet)
+pub rests_on : (words : List (List ℕ)) (command : CommandLine) → command_of words ≡ Ok command → IsTrue (rests_on_words (command_of words)) → IsTrue (does_rest_on_words (effect_of command.applet))
 rests_on words command is rests = subst (λ (r : Result CommandLine ℕ). IsTrue (rests_on_words r)) is rests
 
 pub usage_verdict : (words : List (List ℕ)) (p q : ℕ) (fault : WordsFault) (verdict : Verdict) → p ≡ q → fault ≡ WrongWord q → IsWordsFault fault (command_of words)
-    → ((files : Files) → shown files verdict ≡ refused files (Usage p)) → (files : Files) → IsOutcome words files (shown files verdict)
+    → ((files : Files) → as_outcome files verdict ≡ just_refusal files (Usage p)) → (files : Files) → IsOutcome words files (as_outcome files verdict)
 usage_verdict words p q fault verdict same is of is_shown files =
     let read : command_of words ≡ Err q = subst (λ (f : WordsFault). IsWordsFault f (command_of words)) is of in
-    subst (IsOutcome words files) (sym (is_shown files ∙ ap (λ (n : ℕ). refused files (Usage n)) same)) (usage_over words q files read)
+    subst (IsOutcome words files) (sym (is_shown files ∙ ap (λ (n : ℕ). just_refusal files (Usage n)) same)) (usage_over words q files read)
 
-pub told_all : (h : List TreeState) (P : TreeState → Type 0) → ((v : TreeState) → P v) → IfObservable h P
-told_all [] P all = tt
-told_all (v ∷ h) P all = all v
+pub all_observable : (h : List TreeState) (P : TreeState → Type 0) → ((v : TreeState) → P v) → IfObservable h P
+all_observable [] P all = tt
+all_observable (v ∷ h) P all = all v
 
 -- ---- the outcome and the answer
 
 abbrev pub Judged : Type 0
 Judged = Result Verdict TreeFault
 
-told_one : (IsOne Leaves : Outcome → Type 0) (tree_failed : Type 0) (o : Outcome) (answer : Answer) (out err : SinkChange) → IsOne o → Leaves o → IsTold o answer out err → IsAnswerOf IsOne Leaves tree_failed answer out err
-told_one IsOne Leaves tree_failed o Good out err is leaves told = (o, is, told, leaves)
-told_one IsOne Leaves tree_failed o (Refused refusal) out err is leaves told = (o, is, told, leaves)
-told_one IsOne Leaves tree_failed o OutFault out err is leaves told = (o, is, told, leaves)
-told_one IsOne Leaves tree_failed o TreeFailed out err is leaves told = absurd told
-told_one IsOne Leaves tree_failed o Memory out err is leaves told = absurd told
+printed_one : (IsOne Leaves : Outcome → Type 0) (tree_failed : Type 0) (o : Outcome) (answer : Answer) (out err : SinkChange) → IsOne o → Leaves o → IsPrinted o answer out err → IsAnswerOf IsOne Leaves tree_failed answer out err
+printed_one IsOne Leaves tree_failed o Good out err is leaves printed = (o, is, printed, leaves)
+printed_one IsOne Leaves tree_failed o (Refused refusal) out err is leaves printed = (o, is, printed, leaves)
+printed_one IsOne Leaves tree_failed o OutFault out err is leaves printed = (o, is, printed, leaves)
+printed_one IsOne Leaves tree_failed o TreeFailed out err is leaves printed = absurd printed
+printed_one IsOne Leaves tree_failed o Memory out err is leaves printed = absurd printed
 
-told_answer : (words : List (List ℕ)) (files : Files) (Leaves : Outcome → Type 0) (tree_failed : Type 0) (o : Outcome) (answer : Answer) (out err : SinkChange) → IsOutcome words files o → Leaves o → IsTold o answer out err → IsAnswer words files Leaves tree_failed answer out err
-told_answer words files Leaves tree_failed o answer out err is leaves told = told_one (IsOutcome words files) Leaves tree_failed o answer out err is leaves told
+printed_answer : (words : List (List ℕ)) (files : Files) (Leaves : Outcome → Type 0) (tree_failed : Type 0) (o : Outcome) (answer : Answer) (out err : SinkChange) → IsOutcome words files o → Leaves o → IsPrinted o answer out err → IsAnswerTo words files Leaves tree_failed answer out err
+printed_answer words files Leaves tree_failed o answer out err is leaves printed = printed_one (IsOutcome words files) Leaves tree_failed o answer out err is leaves printed
 
 -- what stands for one outcome
-tells_answer : (IsOne Leaves : Outcome → Type 0) (tree_failed : Type 0) (verdict : Verdict) (answer : Answer) (out err : SinkChange) → TellsOne IsOne verdict → ((o : Outcome) → IsOne o → Leaves o)
-    → ((files : Files) → IsTold (shown files verdict) answer out err) → IsAnswerOf IsOne Leaves tree_failed answer out err
-tells_answer IsOne Leaves tree_failed verdict answer out err (o, is, tells) leaves is_shown =
-    told_one IsOne Leaves tree_failed o answer out err is (leaves o is) (subst (λ (x : Outcome). IsTold x answer out err) tells (is_shown o.files))
+reported_answer : (IsOne Leaves : Outcome → Type 0) (tree_failed : Type 0) (verdict : Verdict) (answer : Answer) (out err : SinkChange) → ReportsOne IsOne verdict → ((o : Outcome) → IsOne o → Leaves o)
+    → ((files : Files) → IsPrinted (as_outcome files verdict) answer out err) → IsAnswerOf IsOne Leaves tree_failed answer out err
+reported_answer IsOne Leaves tree_failed verdict answer out err (o, is, reports) leaves is_shown =
+    printed_one IsOne Leaves tree_failed o answer out err is (leaves o is) (subst (λ (x : Outcome). IsPrinted x answer out err) reports (is_shown o.files))
 
 judged_answer : (IsOne Leaves : Outcome → Type 0) (tree_failed : Type 0) (judged : Judged) (answer : Answer) (out err : SinkChange)
-    → IfOk judged (TellsOne IsOne) → ((o : Outcome) → IsOne o → OnOk judged (Leaves o)) → (IsErrOf judged Disk → tree_failed) → IsShown judged answer out err
+    → IfOk judged (ReportsOne IsOne) → ((o : Outcome) → IsOne o → OnOk judged (Leaves o)) → (IsErrOf judged Disk → tree_failed) → IsShown judged answer out err
     → IsAnswerOf IsOne Leaves tree_failed answer out err
-judged_answer IsOne Leaves tree_failed (Ok verdict) answer out err found leaves disk is_shown = tells_answer IsOne Leaves tree_failed verdict answer out err found leaves is_shown
+judged_answer IsOne Leaves tree_failed (Ok verdict) answer out err found leaves disk is_shown = reported_answer IsOne Leaves tree_failed verdict answer out err found leaves is_shown
 judged_answer IsOne Leaves tree_failed (Err Disk) answer out err found leaves disk is_shown =
     subst (λ (a : Answer). IsAnswerOf IsOne Leaves tree_failed a out err) (sym is_shown.0) (disk refl, is_shown.1)
 judged_answer IsOne Leaves tree_failed (Err NoMemory) answer out err found leaves disk is_shown =
@@ -122,11 +113,11 @@ abbrev pub Runs : List (List ℕ) → Judged → List TreeState → List TreeSta
 Runs words judged old now = IfObservable old (λ v. IsRun (IsOutcome words (files_of v)) (reads_only (command_of words)) (output words) judged v old now)
 
 pub answered : (words : List (List ℕ)) (old now : List TreeState) (tree_failed : Type 0) (judged : Judged) (answer : Answer) (out err : SinkChange)
-    → IfOk judged (λ verdict. IfObservable old (λ v. TellsOne (IsOutcome words (files_of v)) verdict)) → Runs words judged old now → (IsErrOf judged Disk → tree_failed) → IsShown judged answer out err
-    → IfObservable old (λ v. IsAnswer words (files_of v) (LeavesFiles now) tree_failed answer out err)
+    → IfOk judged (λ verdict. IfObservable old (λ v. ReportsOne (IsOutcome words (files_of v)) verdict)) → Runs words judged old now → (IsErrOf judged Disk → tree_failed) → IsShown judged answer out err
+    → IfObservable old (λ v. IsAnswerTo words (files_of v) (LeavesFiles now) tree_failed answer out err)
 answered words [] now tree_failed judged answer out err found run disk is_shown = tt
 answered words (v ∷ rest) now tree_failed judged answer out err found run disk is_shown =
-    judged_answer (IsOutcome words (files_of v)) (LeavesFiles now) tree_failed judged answer out err (found_at v rest judged (λ verdict w. TellsOne (IsOutcome words (files_of w)) verdict) found)
+    judged_answer (IsOutcome words (files_of v)) (LeavesFiles now) tree_failed judged answer out err (found_at v rest judged (λ verdict w. ReportsOne (IsOutcome words (files_of w)) verdict) found)
     (λ o is. leaves_if judged (o.refusal ≡ None) (HasNow now (λ w. files_of w ≡ o.files)) (run.leaves o is)) disk is_shown
 
 -- ---- no count rose
@@ -136,7 +127,7 @@ not_failed outcome before after out err faultless (inl failed) = faultless.out_s
 not_failed outcome before after out err faultless (inr failed) = faultless.err_sink failed.failed.fault
 
 complete_by : (words : List (List ℕ)) (files : Files) (Leaves : Outcome → Type 0) (before after : Counts) (answer : Answer) (out err : SinkChange)
-    → IsAnswer words files Leaves (HasCause before after) answer out err → IsFaultless before after out err → IsComplete words files answer
+    → IsAnswerTo words files Leaves (HasCause before after) answer out err → IsFaultless before after out err → IsComplete words files answer
 complete_by words files Leaves before after Good out err (o, is, stated, leaves) faultless = inr (o, is, stated.same)
 complete_by words files Leaves before after (Refused refusal) out err (o, is, stated, leaves) faultless = inr (o, is, stated.same)
 complete_by words files Leaves before after OutFault out err (o, is, fault, leaves) faultless = absurd (not_failed o before after out err faultless (either_failed fault.which))
@@ -144,7 +135,7 @@ complete_by words files Leaves before after TreeFailed out err (cause, fault) fa
 complete_by words files Leaves before after Memory out err fault faultless = inl refl
 
 pub completed : (words : List (List ℕ)) (old now : List TreeState) (before after : Counts) (answer : Answer) (out err : SinkChange)
-    → IfObservable old (λ v. IsAnswer words (files_of v) (LeavesFiles now) (HasCause before after) answer out err)
+    → IfObservable old (λ v. IsAnswerTo words (files_of v) (LeavesFiles now) (HasCause before after) answer out err)
     → IfObservable old (λ v. IsFaultless before after out err → IsComplete words (files_of v) answer)
 completed words [] now before after answer out err answered = tt
 completed words (v ∷ rest) now before after answer out err answered = λ faultless. complete_by words (files_of v) (LeavesFiles now) before after answer out err answered faultless
@@ -152,37 +143,37 @@ completed words (v ∷ rest) now before after answer out err answered = λ fault
 -- ---- for every tree
 
 pub answered_by_words : (words : List (List ℕ)) (judged : Judged) (answer : Answer) (out err : SinkChange)
-    → (IsTrue (rests_on_words (command_of words)) → MatchResult judged (λ verdict. (files : Files) → IsOutcome words files (shown files verdict)) (λ fault. fault ≡ NoMemory)) → IsShown judged answer out err
-    → IsTrue (rests_on_words (command_of words)) → IsAnswer words no_names LeavesAny ⊥ answer out err
+    → (IsTrue (rests_on_words (command_of words)) → MatchResult judged (λ verdict. (files : Files) → IsOutcome words files (as_outcome files verdict)) (λ fault. fault ≡ NoMemory)) → IsShown judged answer out err
+    → IsTrue (rests_on_words (command_of words)) → IsAnswerTo words no_names LeavesAny ⊥ answer out err
 answered_by_words words (Ok verdict) answer out err by_words is_shown rests =
-    told_answer words no_names LeavesAny ⊥ (shown no_names verdict) answer out err (by_words rests no_names) tt (is_shown no_names)
+    printed_answer words no_names LeavesAny ⊥ (as_outcome no_names verdict) answer out err (by_words rests no_names) tt (is_shown no_names)
 answered_by_words words (Err Disk) answer out err by_words is_shown rests = absurd (let e : Disk ≡ NoMemory = by_words rests in cc)
 answered_by_words words (Err NoMemory) answer out err by_words is_shown rests =
-    subst (λ (a : Answer). IsAnswer words no_names LeavesAny ⊥ a out err) (sym is_shown.0) is_shown.1
+    subst (λ (a : Answer). IsAnswerTo words no_names LeavesAny ⊥ a out err) (sym is_shown.0) is_shown.1
 
 -- ---- by what was found
 
 pub usage_found : (words : List (List ℕ)) (p q : ℕ) (fault : WordsFault) (verdict : Verdict) → p ≡ q → fault ≡ WrongWord q → IsWordsFault fault (command_of words)
-    → ((files : Files) → shown files verdict ≡ refused files (Usage p)) → TellsOne (IsFoundOutcome words) verdict
+    → ((files : Files) → as_outcome files verdict ≡ just_refusal files (Usage p)) → ReportsOne (IsFoundOutcome words) verdict
 usage_found words p q fault verdict same is of is_shown =
     let read : command_of words ≡ Err q = subst (λ (f : WordsFault). IsWordsFault f (command_of words)) is of in
-    (shown no_names verdict, subst (λ (r : Result CommandLine ℕ). IsFoundOutcomeOf r (shown no_names verdict)) (sym read) (is_shown no_names ∙ ap (λ (n : ℕ). refused no_names (Usage n)) same), refl)
+    (as_outcome no_names verdict, subst (λ (r : Result CommandLine ℕ). IsFoundOutcomeOf r (as_outcome no_names verdict)) (sym read) (is_shown no_names ∙ ap (λ (n : ℕ). just_refusal no_names (Usage n)) same), refl)
 
 pub ran_by_reads : (words : List (List ℕ)) (command : CommandLine) (judged : Judged) → command_of words ≡ Ok command
-    → IfOk judged (TellsOne (IsFoundOutcomeOf (Ok command))) → IfOk judged (TellsOne (IsFoundOutcome words))
-ran_by_reads words command judged is ran = subst (λ (r : Result CommandLine ℕ). IfOk judged (TellsOne (IsFoundOutcomeOf r))) (sym is) ran
+    → IfOk judged (ReportsOne (IsFoundOutcomeOf (Ok command))) → IfOk judged (ReportsOne (IsFoundOutcome words))
+ran_by_reads words command judged is ran = subst (λ (r : Result CommandLine ℕ). IfOk judged (ReportsOne (IsFoundOutcomeOf r))) (sym is) ran
 
 pub ran_version : (command : CommandLine) (applet : Applet) (flags : Flags) (operands : List Operand) (verdict : Verdict) → applet ≡ command.applet → applet ≡ Version → flags ≡ command.flags → operands ≡ command.operands
-    → ((files : Files) → shown files verdict ≡ version files flags operands) → (read : ℕ → List ℕ → Option (List ℕ)) × (shown no_names verdict ≡ run_by command.applet command [] read)
-ran_version command applet flags operands verdict same is flags_same operands_same told =
+    → ((files : Files) → as_outcome files verdict ≡ version files flags operands) → (read : ℕ → List ℕ → Option (List ℕ)) × (as_outcome no_names verdict ≡ command_outcome command [] read no_names)
+ran_version command applet flags operands verdict same is flags_same operands_same printed =
     let nothing : ℕ → List ℕ → Option (List ℕ) = λ k name. None in (
       nothing,
-      told no_names ∙ ap (λ (f : Flags). version no_names f operands) flags_same ∙ ap (λ (o : List Operand). version no_names command.flags o) operands_same
-          ∙ sym (ap (λ (a : Applet). run_by a command [] nothing) (sym same ∙ is)),
+      printed no_names ∙ ap (λ (f : Flags). version no_names f operands) flags_same ∙ ap (λ (o : List Operand). version no_names command.flags o) operands_same
+          ∙ sym (ap (λ (a : Applet). applet_outcome a command [] nothing no_names) (sym same ∙ is)),
     )
 
 pub answered_by_reads : (words : List (List ℕ)) (tree_failed : Type 0) (judged : Judged) (answer : Answer) (out err : SinkChange)
-    → IfOk judged (TellsOne (IsFoundOutcome words)) → (IsErrOf judged Disk → tree_failed) → IsShown judged answer out err
+    → IfOk judged (ReportsOne (IsFoundOutcome words)) → (IsErrOf judged Disk → tree_failed) → IsShown judged answer out err
     → IsAnswerOf (IsFoundOutcome words) LeavesAny tree_failed answer out err
 answered_by_reads words tree_failed judged answer out err found disk is_shown =
     judged_answer (IsFoundOutcome words) LeavesAny tree_failed judged answer out err found (λ o is. any_ok judged) disk is_shown
@@ -198,15 +189,15 @@ which_failed : (o : Outcome) (out err : SinkChange) → (FailedAt out o.out × G
 which_failed o out err (inl (failed, gets, kept)) = inl (failed.failed, kept)
 which_failed o out err (inr (failed, gets, kept)) = inr (failed.failed, kept)
 
-told_causes : (before after : Counts) (o : Outcome) (answer : Answer) (out err : SinkChange) → IsNoFault before after → IsTold o answer out err → HasCauses answer before after out err
-told_causes before after o Good out err kept told = (kept, told.out_kept, told.err_kept)
-told_causes before after o (Refused refusal) out err kept told = (kept, told.out_kept, told.err_kept)
-told_causes before after o OutFault out err kept told = (kept, which_failed o out err told.which)
-told_causes before after o TreeFailed out err kept told = absurd told
-told_causes before after o Memory out err kept told = absurd told
+printed_causes : (before after : Counts) (o : Outcome) (answer : Answer) (out err : SinkChange) → IsNoFault before after → IsPrinted o answer out err → HasCauses answer before after out err
+printed_causes before after o Good out err kept printed = (kept, printed.out_kept, printed.err_kept)
+printed_causes before after o (Refused refusal) out err kept printed = (kept, printed.out_kept, printed.err_kept)
+printed_causes before after o OutFault out err kept printed = (kept, which_failed o out err printed.which)
+printed_causes before after o TreeFailed out err kept printed = absurd printed
+printed_causes before after o Memory out err kept printed = absurd printed
 
 pub caused : (before after : Counts) (judged : Judged) (answer : Answer) (out err : SinkChange) → OnOk judged (IsNoFault before after) → (IsErrOf judged Disk → HasCause before after)
     → (IsErrOf judged NoMemory → IsNoFault before after) → IsShown judged answer out err → HasCauses answer before after out err
-caused before after (Ok verdict) answer out err kept disk memory is_shown = told_causes before after (shown no_names verdict) answer out err kept (is_shown no_names)
+caused before after (Ok verdict) answer out err kept disk memory is_shown = printed_causes before after (as_outcome no_names verdict) answer out err kept (is_shown no_names)
 caused before after (Err Disk) answer out err kept disk memory is_shown = subst (λ (a : Answer). HasCauses a before after out err) (sym is_shown.0) (disk refl, is_shown.1)
 caused before after (Err NoMemory) answer out err kept disk memory is_shown = subst (λ (a : Answer). HasCauses a before after out err) (sym is_shown.0) (memory refl, is_shown.1)

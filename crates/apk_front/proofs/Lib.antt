@@ -1,11 +1,10 @@
-pub mod Counting
 pub mod Judged
 pub mod Unplanned
-pub mod Telling
+pub mod Printing
 pub mod Operands
 pub mod Dumping
 pub mod Runs
-pub mod BelowFolder
+pub mod Packages
 pub mod Containers
 pub mod NothingFailed
 pub mod Carried

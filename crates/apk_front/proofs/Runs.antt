@@ -11,12 +11,14 @@ use Rattle.base_core.specs.declared.tree.TreeFault.{TreeFault}
 use Rattle.adb_rules.specs.Reserved.{is_reserved}
 use Rattle.journal_core.specs.Recovery.{IsSettled, RestsOn, intent_name}
 use Rattle.journal_core.specs.Replacing.{HasRoom, HidesScratch, IsReplacing, replaced_files}
-use Rattle.outcome.specs.Make.{made}
-use Rattle.outcome.specs.Told.{Outcome, refused, reported}
+use Rattle.journal_core.specs.Reading.{IsReadAs}
+use Rattle.outcome.specs.Make.{make_outcome}
+use Rattle.outcome.specs.Outcome.{Outcome, just_refusal, just_report}
 use Rattle.report_core.specs.declared.refusal.Refusal.TheVariants.{Reserved}
-use Rattle.apk_front.specs.Moments.{HasRoomFor, HidesScratchOf, IsRun}
-use Rattle.apk_front.specs.Shown.{Tells, shown}
-use Rattle.apk_front.specs.declared.verdict.Verdict.{Verdict}
+use Rattle.apk_front.specs.Moments.{HasRoomFor, HidesScratchOf, IsReadApart}
+use Rattle.apk_front.specs.Runs.{IsRun}
+use Rattle.apk_front.specs.Verdicts.{Reports, as_outcome}
+use Rattle.apk_front.specs.declared.answer.Verdict.{Verdict}
 
 abbrev pub History : Type 0
 History = List TreeState
@@ -42,108 +44,116 @@ IsIdle IsOne reads judged v = (o : Outcome) → IsOne o → o.refusal ≡ None �
 
 pub run_idle : (IsOne : Outcome → Type 0) (reads : Bool) (output : Option (List ℕ)) (judged : Judged) (v : TreeState) (rest now : History) → now ≡ v ∷ rest → IsIdle IsOne reads judged v → IsRun IsOne reads output judged v (v ∷ rest) now
 run_idle IsOne reads output judged v rest now same idle = record {
-  moments = λ X o orderly hides one. record { added = []; is = same; each = All-nil (IsReplacing X o.files v) };
-  orderly = λ X orderly hides. subst (λ (h : History). HasNow h (IsOrderly (RestsOn X))) (sym same) orderly;
-  settled = λ X o orderly hides before one none.
-      on_ok judged (λ is. subst (λ (h : History). HasNow h (IsSettled X o.files)) (sym same) (subst (λ (f : Files). IsSettled X f v) (sym is.0) (before is.1))) (idle o one none);
+  moments = λ ignored o orderly hides one. record { added = []; is = same; each = All-nil (IsReplacing ignored o.files v) };
+  orderly = λ ignored orderly hides. subst (λ (h : History). HasNow h (IsOrderly (RestsOn ignored))) (sym same) orderly;
+  settled = λ ignored o orderly hides before one none.
+      on_ok judged (λ is. subst (λ (h : History). HasNow h (IsSettled ignored o.files)) (sym same) (subst (λ (f : Files). IsSettled ignored f v) (sym is.0) (before is.1))) (idle o one none);
+  reads = λ o one. record { added = []; is = same; each = All-nil (IsReadApart output o.files (files_of v)) };
   leaves = λ o one none. on_ok judged (λ is. subst (λ (h : History). HasNow h (λ w. files_of w ≡ o.files)) (sym same) (sym is.0)) (idle o one none);
   refused = λ o one some. same;
 }
 
-pub told_idle : (IsOne : TreeState → Outcome → Type 0) (reads : Bool) (output : Option (List ℕ)) (judged : Judged) (old now : History) → now ≡ old → ((v : TreeState) → IsIdle (IsOne v) reads judged v) → IfObservable old (λ v. IsRun (IsOne v) reads output judged v old now)
-told_idle IsOne reads output judged [] now same idle = tt
-told_idle IsOne reads output judged (v ∷ rest) now same idle = run_idle (IsOne v) reads output judged v rest now same (idle v)
+pub idle_at : (IsOne : TreeState → Outcome → Type 0) (reads : Bool) (output : Option (List ℕ)) (judged : Judged) (old now : History) → now ≡ old → ((v : TreeState) → IsIdle (IsOne v) reads judged v) → IfObservable old (λ v. IsRun (IsOne v) reads output judged v old now)
+idle_at IsOne reads output judged [] now same idle = tt
+idle_at IsOne reads output judged (v ∷ rest) now same idle = run_idle (IsOne v) reads output judged v rest now same (idle v)
 
 -- it failed
-pub told_failed : (IsOne : TreeState → Outcome → Type 0) (reads : Bool) (output : Option (List ℕ)) (judged : Judged) (e : TreeFault) (old now : History) → judged ≡ Err e → now ≡ old → IfObservable old (λ v. IsRun (IsOne v) reads output judged v old now)
-told_failed IsOne reads output judged e old now is same = told_idle IsOne reads output judged old now same (λ v o one none. err_ok _ judged e is)
+pub failed_at : (IsOne : TreeState → Outcome → Type 0) (reads : Bool) (output : Option (List ℕ)) (judged : Judged) (e : TreeFault) (old now : History) → judged ≡ Err e → now ≡ old → IfObservable old (λ v. IsRun (IsOne v) reads output judged v old now)
+failed_at IsOne reads output judged e old now is same = idle_at IsOne reads output judged old now same (λ v o one none. err_ok _ judged e is)
 
 -- it was refused
-pub told_refused : (IsOne : TreeState → Outcome → Type 0) (reads : Bool) (output : Option (List ℕ)) (judged : Judged) (old now : History) → now ≡ old → ((v : TreeState) (o : Outcome) → IsOne v o → IsSome o.refusal) → IfObservable old (λ v. IsRun (IsOne v) reads output judged v old now)
-told_refused IsOne reads output judged old now same all = told_idle IsOne reads output judged old now same (λ v o one none. absurd (none_is_some o.refusal none (all v o one)))
+pub refused_at : (IsOne : TreeState → Outcome → Type 0) (reads : Bool) (output : Option (List ℕ)) (judged : Judged) (old now : History) → now ≡ old → ((v : TreeState) (o : Outcome) → IsOne v o → IsSome o.refusal) → IfObservable old (λ v. IsRun (IsOne v) reads output judged v old now)
+refused_at IsOne reads output judged old now same all = idle_at IsOne reads output judged old now same (λ v o one none. absurd (none_is_some o.refusal none (all v o one)))
 
 -- ---- a file was written
 
 -- the outcomes of a container
 abbrev pub IsMade : Option (List ℕ) → List ℕ → List ℕ → TreeState → Outcome → Type 0
-IsMade output report file v o = o ≡ made (files_of v) output report (Ok file)
+IsMade output report file v o = o ≡ make_outcome (files_of v) output report (Ok file)
 
-reserved_is : (output : Option (List ℕ)) (report file name : List ℕ) (files : Files) → output ≡ Some name → is_reserved name ≡ true → made files output report (Ok file) ≡ refused files (Reserved name)
+reserved_is : (output : Option (List ℕ)) (report file name : List ℕ) (files : Files) → output ≡ Some name → is_reserved name ≡ true → make_outcome files output report (Ok file) ≡ just_refusal files (Reserved name)
 reserved_is output report file name files is reserved =
-    ap (λ (out : Option (List ℕ)). made files out report (Ok file)) is
-    ∙ ap (λ b. if b then refused files (Reserved name) else reported (replaced_files name file files) report) reserved
+    ap (λ (out : Option (List ℕ)). make_outcome files out report (Ok file)) is
+    ∙ ap (λ b. if b then just_refusal files (Reserved name) else just_report (replaced_files name file files) report) reserved
 
-free_is : (output : Option (List ℕ)) (report file name : List ℕ) (files : Files) → output ≡ Some name → is_reserved name ≡ false → made files output report (Ok file) ≡ reported (replaced_files name file files) report
+free_is : (output : Option (List ℕ)) (report file name : List ℕ) (files : Files) → output ≡ Some name → is_reserved name ≡ false → make_outcome files output report (Ok file) ≡ just_report (replaced_files name file files) report
 free_is output report file name files is free =
-    ap (λ (out : Option (List ℕ)). made files out report (Ok file)) is
-    ∙ ap (λ b. if b then refused files (Reserved name) else reported (replaced_files name file files) report) free
+    ap (λ (out : Option (List ℕ)). make_outcome files out report (Ok file)) is
+    ∙ ap (λ b. if b then just_refusal files (Reserved name) else just_report (replaced_files name file files) report) free
 
 pub reserved_run : (output : Option (List ℕ)) (report file name : List ℕ) (judged : Judged) (old now : History) → output ≡ Some name → is_reserved name ≡ true → now ≡ old
     → IfObservable old (λ v. IsRun (IsMade output report file v) false output judged v old now)
 reserved_run output report file name judged old now is reserved same =
-    told_refused (IsMade output report file) false output judged old now same
+    refused_at (IsMade output report file) false output judged old now same
     (λ v o one. subst (λ (x : Outcome). IsSome x.refusal) (sym (one ∙ reserved_is output report file name (files_of v) is reserved)) refl)
 
-pub reserved_told : (output : Option (List ℕ)) (report file name : List ℕ) (verdict : Verdict) → output ≡ Some name → is_reserved name ≡ true → ((files : Files) → shown files verdict ≡ refused files (Reserved name))
-    → (files : Files) → Tells verdict (made files output report (Ok file))
-reserved_told output report file name verdict is reserved told files =
+pub reserved_reports : (output : Option (List ℕ)) (report file name : List ℕ) (verdict : Verdict) → output ≡ Some name → is_reserved name ≡ true → ((files : Files) → as_outcome files verdict ≡ just_refusal files (Reserved name))
+    → (files : Files) → Reports verdict (make_outcome files output report (Ok file))
+reserved_reports output report file name verdict is reserved same_outcome files =
     let same = reserved_is output report file name files is reserved in
-    subst (λ (o : Outcome). Tells verdict o) (sym same) (told files)
+    subst (λ (o : Outcome). Reports verdict o) (sym same) (same_outcome files)
 
-pub free_told : (output : Option (List ℕ)) (report file name : List ℕ) (verdict : Verdict) → output ≡ Some name → is_reserved name ≡ false → ((files : Files) → shown files verdict ≡ reported files report)
-    → (files : Files) → Tells verdict (made files output report (Ok file))
-free_told output report file name verdict is free told files =
+pub free_reports : (output : Option (List ℕ)) (report file name : List ℕ) (verdict : Verdict) → output ≡ Some name → is_reserved name ≡ false → ((files : Files) → as_outcome files verdict ≡ just_report files report)
+    → (files : Files) → Reports verdict (make_outcome files output report (Ok file))
+free_reports output report file name verdict is free same_outcome files =
     let same = free_is output report file name files is free in
-    subst (λ (o : Outcome). Tells verdict o) (sym same) (told (replaced_files name file files))
+    subst (λ (o : Outcome). Reports verdict o) (sym same) (same_outcome (replaced_files name file files))
 
 -- what `replace` says of the tree
 pub record IsReplaced (name file : List ℕ) (judged : Judged) (v : TreeState) (old now : History) : Type 0 where
-  pub moments : (X : List ℕ → Bool) → IsOrderly (RestsOn X) v → HidesScratch X name → Since (IsReplacing X (replaced_files name file (files_of v)) v) old now
-  pub orderly : (X : List ℕ → Bool) → IsOrderly (RestsOn X) v → HidesScratch X name → HasNow now (IsOrderly (RestsOn X))
-  pub settled : (X : List ℕ → Bool) → IsOrderly (RestsOn X) v → HidesScratch X name → OnOk judged (HasNow now (IsSettled X (replaced_files name file (files_of v))))
+  pub moments : (ignored : List ℕ → Bool) → IsOrderly (RestsOn ignored) v → HidesScratch ignored name → Since (IsReplacing ignored (replaced_files name file (files_of v)) v) old now
+  pub orderly : (ignored : List ℕ → Bool) → IsOrderly (RestsOn ignored) v → HidesScratch ignored name → HasNow now (IsOrderly (RestsOn ignored))
+  pub settled : (ignored : List ℕ → Bool) → IsOrderly (RestsOn ignored) v → HidesScratch ignored name → OnOk judged (HasNow now (IsSettled ignored (replaced_files name file (files_of v))))
+  pub reads : Since (IsReadAs name file (files_of v)) old now
   pub leaves : OnOk judged (HasNow now (λ w. files_of w ≡ replaced_files name file (files_of v)))
 
 free_run : (output : Option (List ℕ)) (report file name : List ℕ) (judged : Judged) (v : TreeState) (old now : History) → output ≡ Some name → is_reserved name ≡ false
     → IsReplaced name file judged v old now → IsRun (IsMade output report file v) false output judged v old now
 free_run output report file name judged v old now is free done =
     let same = free_is output report file name (files_of v) is free in
-    let hidden : (X : List ℕ → Bool) → HidesScratchOf output X → HidesScratch X name = λ X hides. subst (λ (out : Option (List ℕ)). HidesScratchOf out X) is hides in
+    let hidden : (ignored : List ℕ → Bool) → HidesScratchOf output ignored → HidesScratch ignored name = λ ignored hides. subst (λ (out : Option (List ℕ)). HidesScratchOf out ignored) is hides in
     let left : (o : Outcome) → IsMade output report file v o → replaced_files name file (files_of v) ≡ o.files = λ o one. sym (ap (λ (x : Outcome). x.files) (one ∙ same)) in
     record {
-      moments = λ X o orderly hides one. subst (λ (f : Files). Since (IsReplacing X f v) old now) (left o one) (done.moments X orderly (hidden X hides));
-      orderly = λ X orderly hides. done.orderly X orderly (hidden X hides);
-      settled = λ X o orderly hides before one none. subst (λ (f : Files). OnOk judged (HasNow now (IsSettled X f))) (left o one) (done.settled X orderly (hidden X hides));
+      moments = λ ignored o orderly hides one. subst (λ (f : Files). Since (IsReplacing ignored f v) old now) (left o one) (done.moments ignored orderly (hidden ignored hides));
+      orderly = λ ignored orderly hides. done.orderly ignored orderly (hidden ignored hides);
+      settled = λ ignored o orderly hides before one none. subst (λ (f : Files). OnOk judged (HasNow now (IsSettled ignored f))) (left o one) (done.settled ignored orderly (hidden ignored hides));
+      reads = λ o one.
+          subst (λ (out : Option (List ℕ)). Since (IsReadApart out o.files (files_of v)) old now) (sym is)
+          (subst (λ (f : Files). Since (IsReadApart (Some name) f (files_of v)) old now) (left o one) done.reads);
       leaves = λ o one none. subst (λ (f : Files). OnOk judged (HasNow now (λ w. files_of w ≡ f))) (left o one) done.leaves;
       refused = λ o one some. absurd (none_is_some o.refusal (ap (λ (x : Outcome). x.refusal) (one ∙ same)) some);
     }
 
 abbrev Moves : List ℕ → List ℕ → History → History → Type 0
-Moves name file old now = IfObservable old (λ v. (X : List ℕ → Bool) → IsOrderly (RestsOn X) v → HidesScratch X name → Since (IsReplacing X (replaced_files name file (files_of v)) v) old now)
+Moves name file old now = IfObservable old (λ v. (ignored : List ℕ → Bool) → IsOrderly (RestsOn ignored) v → HidesScratch ignored name → Since (IsReplacing ignored (replaced_files name file (files_of v)) v) old now)
+
+abbrev IsReadOnTheWay : List ℕ → List ℕ → History → History → Type 0
+IsReadOnTheWay name file old now = IfObservable old (λ v. Since (IsReadAs name file (files_of v)) old now)
 
 abbrev StaysOrderly : List ℕ → History → History → Type 0
-StaysOrderly name old now = IfObservable old (λ v. (X : List ℕ → Bool) → IsOrderly (RestsOn X) v → HidesScratch X name → HasNow now (IsOrderly (RestsOn X)))
+StaysOrderly name old now = IfObservable old (λ v. (ignored : List ℕ → Bool) → IsOrderly (RestsOn ignored) v → HidesScratch ignored name → HasNow now (IsOrderly (RestsOn ignored)))
 
 pub written_run : (output : Option (List ℕ)) (report file name : List ℕ) (verdict : Verdict) (old now : History) → output ≡ Some name → is_reserved name ≡ false
-    → Moves name file old now → StaysOrderly name old now
-    → IfObservable old (λ v. (X : List ℕ → Bool) → IsOrderly (RestsOn X) v → HidesScratch X name → HasNow now (IsSettled X (replaced_files name file (files_of v))))
+    → Moves name file old now → StaysOrderly name old now → IsReadOnTheWay name file old now
+    → IfObservable old (λ v. (ignored : List ℕ → Bool) → IsOrderly (RestsOn ignored) v → HidesScratch ignored name → HasNow now (IsSettled ignored (replaced_files name file (files_of v))))
     → IfObservable old (λ v. HasNow now (λ w. files_of w ≡ replaced_files name file (files_of v)))
     → IfObservable old (λ v. IsRun (IsMade output report file v) false output (Ok verdict) v old now)
-written_run output report file name verdict [] now is free moves orderly settled leaves = tt
-written_run output report file name verdict (v ∷ rest) now is free moves orderly settled leaves =
-    free_run output report file name (Ok verdict) v (v ∷ rest) now is free (record { moments = moves; orderly = orderly; settled = settled; leaves = leaves })
+written_run output report file name verdict [] now is free moves orderly reads settled leaves = tt
+written_run output report file name verdict (v ∷ rest) now is free moves orderly reads settled leaves =
+    free_run output report file name (Ok verdict) v (v ∷ rest) now is free (record { moments = moves; orderly = orderly; settled = settled; reads = reads; leaves = leaves })
 
 pub cut_run : (output : Option (List ℕ)) (report file name : List ℕ) (judged : Judged) (e : TreeFault) (old now : History) → judged ≡ Err e → output ≡ Some name → is_reserved name ≡ false
-    → Moves name file old now → StaysOrderly name old now
+    → Moves name file old now → StaysOrderly name old now → IsReadOnTheWay name file old now
     → IfObservable old (λ v. IsRun (IsMade output report file v) false output judged v old now)
-cut_run output report file name judged e [] now failed is free moves orderly = tt
-cut_run output report file name judged e (v ∷ rest) now failed is free moves orderly =
+cut_run output report file name judged e [] now failed is free moves orderly reads = tt
+cut_run output report file name judged e (v ∷ rest) now failed is free moves orderly reads =
     free_run output report file name judged v (v ∷ rest) now is free
-    (record { moments = moves; orderly = orderly; settled = λ X o h. err_ok _ judged e failed; leaves = err_ok _ judged e failed })
+    (record { moments = moves; orderly = orderly; settled = λ ignored orders hides. err_ok _ judged e failed; reads = reads; leaves = err_ok _ judged e failed })
 
 -- ---- room
 
 abbrev pub HasRoomIf : Option (List ℕ) → List ℕ → List ℕ → TreeState → Type 0
-HasRoomIf output report file v = (made (files_of v) output report (Ok file)).refusal ≡ None → HasRoomFor output (files_of v)
+HasRoomIf output report file v = (make_outcome (files_of v) output report (Ok file)).refusal ≡ None → HasRoomFor output (files_of v)
 
 pub room_proper : (output : Option (List ℕ)) (report file name : List ℕ) (old : History) (P : Type 0) → output ≡ Some name → is_reserved name ≡ false
     → IfObservable old (λ v. HasRoom name (files_of v) → P) → IfObservable old (λ v. HasRoomIf output report file v → P)
@@ -155,25 +165,26 @@ pub any_proper : (Room : TreeState → Type 0) (old : History) (P : Type 0) → 
 any_proper Room [] P p = tt
 any_proper Room (v ∷ rest) P p = λ room. p
 
-pub on_told_proper : (Room : TreeState → Type 0) (old : History) (P : Type 0) → IfObservable old (λ v. P) → IfObservable old (λ v. Room v → P)
-on_told_proper Room [] P p = tt
-on_told_proper Room (v ∷ rest) P p = λ room. p
+pub proper_anyway : (Room : TreeState → Type 0) (old : History) (P : Type 0) → IfObservable old (λ v. P) → IfObservable old (λ v. Room v → P)
+proper_anyway Room [] P p = tt
+proper_anyway Room (v ∷ rest) P p = λ room. p
 
 -- the intent's name is reserved
 pub not_intent : (name : List ℕ) → is_reserved name ≡ false → name ≡ intent_name → ⊥
 not_intent name free is = let reserved : is_reserved name ≡ true = ap is_reserved is in false≢true (sym free ∙ reserved)
 
 -- a report is no refusal
-pub reported_none : (verdict : Verdict) (report : List ℕ) (P : Type 0) → ((files : Files) → shown files verdict ≡ reported files report) → IsSome verdict.refusal → P
-reported_none verdict report P told some = absurd (none_is_some verdict.refusal (ap (λ (o : Outcome). o.refusal) (told (λ q. None))) some)
+pub report_no_refusal : (verdict : Verdict) (report : List ℕ) (P : Type 0) → ((files : Files) → as_outcome files verdict ≡ just_report files report) → IsSome verdict.refusal → P
+report_no_refusal verdict report P same_outcome some = absurd (none_is_some verdict.refusal (ap (λ (o : Outcome). o.refusal) (same_outcome (λ q. None))) some)
 
 -- ---- outcomes that are among others
 
-pub run_among : (A B : Outcome → Type 0) (reads : Bool) (output : Option (List ℕ)) (judged : Judged) (v : TreeState) (old now : History) → ((o : Outcome) → B o → A o) → IsRun A reads output judged v old now → IsRun B reads output judged v old now
-run_among A B reads output judged v old now f run = record {
-  moments = λ X o orderly hides one. run.moments X o orderly hides (f o one);
+pub run_among : (A B : Outcome → Type 0) (only_reads : Bool) (output : Option (List ℕ)) (judged : Judged) (v : TreeState) (old now : History) → ((o : Outcome) → B o → A o) → IsRun A only_reads output judged v old now → IsRun B only_reads output judged v old now
+run_among A B only_reads output judged v old now f run = record {
+  moments = λ ignored o orderly hides one. run.moments ignored o orderly hides (f o one);
   orderly = run.orderly;
-  settled = λ X o orderly hides before one none. run.settled X o orderly hides before (f o one) none;
+  settled = λ ignored o orderly hides before one none. run.settled ignored o orderly hides before (f o one) none;
+  reads = λ o one. run.reads o (f o one);
   leaves = λ o one none. run.leaves o (f o one) none;
   refused = λ o one some. run.refused o (f o one) some;
 }

@@ -4,10 +4,10 @@ use Rattle.base_core.specs.Calls.{IfObservable}
 use Rattle.base_core.specs.Faults.{Counts, HasCause, Rose}
 use Rattle.base_core.specs.Files.{Files}
 use Rattle.base_core.specs.Tree.{TreeState, files_of}
-use Rattle.apk_front.specs.Answers.{IsAnswer, LeavesFiles, FailedAt, IsUnplanned, IsOutcomeUnlessMemory}
-use Rattle.outcome.specs.Told.{Outcome}
+use Rattle.apk_front.specs.Answers.{IsAnswerTo, LeavesFiles, FailedAt, IsUnplanned, IsOutcomeUnlessMemory}
+use Rattle.outcome.specs.Outcome.{Outcome}
 use Rattle.base_core.specs.Sink.{SinkChange, KeepsCount}
-use Rattle.apk_front.proofs.Telling.{either_failed}
+use Rattle.apk_front.proofs.Printing.{either_failed}
 use Rattle.apk_front.specs.declared.answer.Answer.{Answer}
 use Rattle.apk_front.specs.declared.answer.Answer.TheVariants.{Ok as Good, Refused, TreeFault, OutFault, Memory}
 
@@ -27,7 +27,7 @@ sink_wanted o out err calm_out calm_err keeps_out keeps_err (inl failed) = inl (
 sink_wanted o out err calm_out calm_err keeps_out keeps_err (inr failed) = inr (wanted err.before err.after calm_err keeps_err.proper failed.failed)
 
 ends_as_stated : (words : List (List ℕ)) (files : Files) (Leaves : Outcome → Type 0) (before after : Counts) (answer : Answer) (out err : SinkChange)
-    → IsAnswer words files Leaves (HasCause before after) answer out err → after.misuses ≡ before.misuses → KeepsCount out → KeepsCount err
+    → IsAnswerTo words files Leaves (HasCause before after) answer out err → after.misuses ≡ before.misuses → KeepsCount out → KeepsCount err
     → IsUnplanned before → IsUnplanned out.before → IsUnplanned err.before
     → IsOutcomeUnlessMemory words files Leaves answer before after out err
 ends_as_stated words files Leaves before after Good out err stated same keeps_out keeps_err calm calm_out calm_err = stated
@@ -37,7 +37,7 @@ ends_as_stated words files Leaves before after OutFault out err (o, is, fault, l
 ends_as_stated words files Leaves before after Memory out err fault same keeps_out keeps_err calm calm_out calm_err = tt
 
 pub ends_unless_memory : (Room : TreeState → Type 0) (words : List (List ℕ)) (old now : List TreeState) (before after : Counts) (answer : Answer) (out err : SinkChange)
-    → IfObservable old (λ v. IsAnswer words (files_of v) (LeavesFiles now) (HasCause before after) answer out err)
+    → IfObservable old (λ v. IsAnswerTo words (files_of v) (LeavesFiles now) (HasCause before after) answer out err)
     → IfObservable old (λ v. Room v → after.misuses ≡ before.misuses)
     → KeepsCount out → KeepsCount err
     → IfObservable old (λ v. Room v → IsUnplanned before → IsUnplanned out.before → IsUnplanned err.before

@@ -1,20 +1,20 @@
--- What a run of the top call answers, and leaves of its two sinks.
+-- What a run of the top call answers, and what it prints on its two sinks.
 use Rattle.std.specs.Prelude.{◌≡◌, ◌≢◌, ◌⊎◌, ◌<◌, ℕ, ◌-◌, ◌^◌, false, Bool, List, [], Option, Some, None, is_ok}
 use Rattle.base_core.specs.Calls.{HasNow}
 use Rattle.base_core.specs.Faults.{Counts, HasCause, IsNoFault, Rose}
 use Rattle.base_core.specs.Files.{Files}
-use Rattle.base_core.specs.Tree.{TreeState, files_of}
-use Rattle.outcome.specs.Told.{Outcome}
-use Rattle.outcome.specs.Outcome.{IsOutcome}
 use Rattle.base_core.specs.Sink.{SinkChange, Gets, GetsSome, SinkFailed}
+use Rattle.base_core.specs.Tree.{TreeState, files_of}
+use Rattle.outcome.specs.Commands.{IsOutcome}
+use Rattle.outcome.specs.Outcome.{Outcome}
 use Rattle.report_core.specs.Texts.{tree_line, memory_line}
+use Rattle.report_core.specs.declared.refusal.Refusal.{Refusal}
+use Rattle.words_core.specs.Grammar.{line_start}
 use Rattle.apk_front.specs.declared.answer.Answer.{Answer}
 use Rattle.apk_front.specs.declared.answer.Answer.TheVariants.{Ok, Refused, TreeFault, OutFault, Memory}
-use Rattle.report_core.specs.declared.refusal.Refusal.{Refusal}
-use Rattle.words_core.specs.Flags.{no_flags}
-use Rattle.words_core.specs.Grammar.{start_of}
 
--- the answer of an outcome
+-- ---- the answer of an outcome
+
 abbrev pub answer_by : Option Refusal → Answer
 answer_by None = Ok
 answer_by (Some refusal) = Refused refusal
@@ -22,13 +22,7 @@ answer_by (Some refusal) = Refused refusal
 abbrev pub answer_of : Outcome → Answer
 answer_of outcome = answer_by outcome.refusal
 
--- the exit status of an answer
-abbrev pub status_of : Answer → ℕ
-status_of Ok = 0
-status_of (Refused refusal) = 1
-status_of TreeFault = 2
-status_of OutFault = 3
-status_of Memory = 4
+-- ---- what is printed
 
 -- its counts of faults and of wants stand as before
 abbrev pub DidNotFail : SinkChange → Type 0
@@ -51,29 +45,44 @@ pub record IsStated (outcome : Outcome) (answer : Answer) (out err : SinkChange)
   pub out_kept : DidNotFail out
   pub err_kept : DidNotFail err
 
--- just one sink failed, in place of an outcome's answer: out, and then nothing is printed on err; or err, behind the whole report on out
+-- just one sink failed while an outcome was printed
 pub record IsOutFault (outcome : Outcome) (out err : SinkChange) : Type 0 where
-  pub which : (FailedAt out outcome.out × Gets err [] × DidNotFail err) ⊎ (FailedAt err outcome.err × Gets out outcome.out × DidNotFail out)
+  -- out, and then nothing is printed on err; or err, behind the whole report on out
+  pub which :
+      (FailedAt out outcome.out × Gets err [] × DidNotFail err)
+      ⊎ (FailedAt err outcome.err × Gets out outcome.out × DidNotFail out)
   pub out_gets : GetsSome out outcome.out
   pub err_gets : GetsSome err outcome.err
 
--- a fault in place of every outcome: only its line on err, and nothing failed on out
+-- no outcome was printed: only this line on err, and nothing failed on out
 pub record IsFault (line : List ℕ) (out err : SinkChange) : Type 0 where
   pub out_gets : Gets out []
   pub out_kept : DidNotFail out
   pub err_gets : GetsLine err line
 
--- The answer of one of these outcomes, with its bytes and what it leaves; a fault that had its cause; or want of memory.
-abbrev pub IsAnswerOf : (Outcome → Type 0) → (Outcome → Type 0) → Type 0 → Answer → SinkChange → SinkChange → Type 0
-IsAnswerOf IsOne Leaves tree_failed Ok out err = (outcome : Outcome) × IsOne outcome × IsStated outcome Ok out err × Leaves outcome
-IsAnswerOf IsOne Leaves tree_failed (Refused refusal) out err = (outcome : Outcome) × IsOne outcome × IsStated outcome (Refused refusal) out err × Leaves outcome
-IsAnswerOf IsOne Leaves tree_failed OutFault out err = (outcome : Outcome) × IsOne outcome × IsOutFault outcome out err × Leaves outcome
+-- ---- the answer
+
+-- The answer of one of these outcomes, with its bytes and what it leaves; or a fault of the tree,
+-- where that had its cause; or want of memory.
+abbrev pub IsAnswerOf :
+    (Outcome → Type 0) → (Outcome → Type 0) → Type 0 → Answer → SinkChange → SinkChange → Type 0
+IsAnswerOf IsOne Leaves tree_failed Ok out err =
+    (outcome : Outcome) × IsOne outcome × IsStated outcome Ok out err × Leaves outcome
+IsAnswerOf IsOne Leaves tree_failed (Refused refusal) out err =
+    (outcome : Outcome)
+    × IsOne outcome
+    × IsStated outcome (Refused refusal) out err
+    × Leaves outcome
+IsAnswerOf IsOne Leaves tree_failed OutFault out err =
+    (outcome : Outcome) × IsOne outcome × IsOutFault outcome out err × Leaves outcome
 IsAnswerOf IsOne Leaves tree_failed TreeFault out err = tree_failed × IsFault tree_line out err
 IsAnswerOf IsOne Leaves tree_failed Memory out err = IsFault memory_line out err
 
 -- the answer to these words over these files
-abbrev pub IsAnswer : List (List ℕ) → Files → (Outcome → Type 0) → Type 0 → Answer → SinkChange → SinkChange → Type 0
-IsAnswer words files Leaves tree_failed answer out err = IsAnswerOf (IsOutcome words files) Leaves tree_failed answer out err
+abbrev pub IsAnswerTo :
+    List (List ℕ) → Files → (Outcome → Type 0) → Type 0 → Answer → SinkChange → SinkChange → Type 0
+IsAnswerTo words files Leaves tree_failed answer out err =
+    IsAnswerOf (IsOutcome words files) Leaves tree_failed answer out err
 
 -- where the outcome is no refusal, the files as read are then its files
 abbrev pub LeavesFiles : List TreeState → Outcome → Type 0
@@ -83,14 +92,20 @@ LeavesFiles now outcome = outcome.refusal ≡ None → HasNow now (λ w. files_o
 abbrev pub LeavesAny : Outcome → Type 0
 LeavesAny outcome = Unit {0}
 
--- What failed, by the counts of the tree before and after, and of the sinks. Behind Ok and a refusal, nothing failed. A fault of the
--- tree has its cause there. Behind a fault of a sink, just one sink failed, and not the tree. Want of memory is told only where the
--- tree did not fail. A fault of the tree, and want of memory, print just their line.
+-- ---- what failed
+
+-- By the counts of the tree before and after, and of the sinks: behind Ok and a refusal nothing
+-- failed. A fault of the tree has its cause there. Behind a fault of a sink just one sink failed,
+-- and not the tree. Want of memory is answered only where the tree did not fail. A fault of the
+-- tree and want of memory print just their line.
 abbrev pub HasCauses : Answer → Counts → Counts → SinkChange → SinkChange → Type 0
 HasCauses Ok before after out err = IsNoFault before after × DidNotFail out × DidNotFail err
-HasCauses (Refused refusal) before after out err = IsNoFault before after × DidNotFail out × DidNotFail err
+HasCauses (Refused refusal) before after out err =
+    IsNoFault before after × DidNotFail out × DidNotFail err
 HasCauses TreeFault before after out err = HasCause before after × IsFault tree_line out err
-HasCauses OutFault before after out err = IsNoFault before after × ((SinkFailed out × DidNotFail err) ⊎ (SinkFailed err × DidNotFail out))
+HasCauses OutFault before after out err =
+    IsNoFault before after
+    × ((SinkFailed out × DidNotFail err) ⊎ (SinkFailed err × DidNotFail out))
 HasCauses Memory before after out err = IsNoFault before after × IsFault memory_line out err
 
 -- no count rose: neither the tree's, nor a sink's
@@ -101,21 +116,36 @@ pub record IsFaultless (before after : Counts) (out err : SinkChange) : Type 0 w
 
 -- the answer is the outcome's, unless memory ran out
 abbrev pub IsComplete : List (List ℕ) → Files → Answer → Type 0
-IsComplete words files answer = (answer ≡ Memory) ⊎ ((outcome : Outcome) × IsOutcome words files outcome × (answer ≡ answer_of outcome))
+IsComplete words files answer =
+    (answer ≡ Memory)
+    ⊎ ((outcome : Outcome) × IsOutcome words files outcome × (answer ≡ answer_of outcome))
 
 -- no failure is planned, and the count of misuses is below its last value
 pub record IsUnplanned (counts : Counts) : Type 0 where
   pub unplanned : counts.fallible ≡ false
   pub below : counts.misuses < 2 ^ 64 - 1
 
--- The answer, all bytes and the files are the outcome's, or memory ran out: the run's, or the own memory of the tree or of a sink.
-abbrev pub IsOutcomeUnlessMemory : List (List ℕ) → Files → (Outcome → Type 0) → Answer → Counts → Counts → SinkChange → SinkChange → Type 0
-IsOutcomeUnlessMemory words files Leaves Ok before after out err = (outcome : Outcome) × IsOutcome words files outcome × IsStated outcome Ok out err × Leaves outcome
-IsOutcomeUnlessMemory words files Leaves (Refused refusal) before after out err = (outcome : Outcome) × IsOutcome words files outcome × IsStated outcome (Refused refusal) out err × Leaves outcome
-IsOutcomeUnlessMemory words files Leaves TreeFault before after out err = Rose before.wants after.wants
-IsOutcomeUnlessMemory words files Leaves OutFault before after out err = Rose out.before.wants out.after.wants ⊎ Rose err.before.wants err.after.wants
+-- The answer, all bytes and the files are the outcome's, or memory ran out: the run's, or the own
+-- memory of the tree or of a sink.
+abbrev pub IsOutcomeUnlessMemory :
+    List (List ℕ) → Files → (Outcome → Type 0) → Answer → Counts → Counts
+    → SinkChange → SinkChange → Type 0
+IsOutcomeUnlessMemory words files Leaves Ok before after out err =
+    (outcome : Outcome)
+    × IsOutcome words files outcome
+    × IsStated outcome Ok out err
+    × Leaves outcome
+IsOutcomeUnlessMemory words files Leaves (Refused refusal) before after out err =
+    (outcome : Outcome)
+    × IsOutcome words files outcome
+    × IsStated outcome (Refused refusal) out err
+    × Leaves outcome
+IsOutcomeUnlessMemory words files Leaves TreeFault before after out err =
+    Rose before.wants after.wants
+IsOutcomeUnlessMemory words files Leaves OutFault before after out err =
+    Rose out.before.wants out.after.wants ⊎ Rose err.before.wants err.after.wants
 IsOutcomeUnlessMemory words files Leaves Memory before after out err = Unit {0}
 
 -- whether words name an applet behind the options that stand first
 abbrev pub name_an_applet : List (List ℕ) → Bool
-name_an_applet words = is_ok (start_of no_flags 1 words)
+name_an_applet words = is_ok (line_start words)

@@ -1,3 +1,8 @@
+-- what the contract of `apk` says, in the order in which it is best read
 pub mod Answers
-pub mod Shown
 pub mod Moments
+-- what only inner contracts and proofs use
+pub mod Status
+pub mod Verdicts
+pub mod Runs
+pub mod Containers

@@ -1,7 +1,16 @@
-ghost use Rattle.std.specs.Prelude.{◌≡◌};
-ghost use Rattle.apk_front.specs.Answers.{status_of};
+//! What a run answers: what it was judged to come to is printed on the two sinks.
+ghost use Rattle.std.specs.Prelude.{◌≡◌, ◌≢◌, [], OnErr, Err};
+ghost use Rattle.apk_front.specs.Answers.{GetsLine};
+ghost use Rattle.apk_front.specs.Status.{status_of};
+ghost use Rattle.apk_front.specs.Verdicts.{IsPrinted, IsRefusalPrinted, IsShown, as_outcome};
+ghost use Rattle.base_core.specs.Files.{Files};
+ghost use Rattle.base_core.specs.Sink.{sink_change, KeepsCount};
+ghost use Rattle.base_core.specs.Write.{Writes};
+ghost use Rattle.outcome.specs.Outcome.{just_refusal, just_report};
 
-use report_core::Refusal;
+use base_core::{Sink, SinkFault, Text, TreeFault, counts_of_calls_in_a_row_join, write_all};
+use report_core::{Refusal, write_error};
+use std::alloc::Global;
 
 /// What a run answers.
 #[derive(Drop)]
@@ -18,7 +27,8 @@ pub enum Answer {
     Memory,
 }
 
-/// The exit status of an answer: 0 for `Ok`, 1 for `Refused`, 2 for `TreeFault`, 3 for `OutFault`, 4 for `Memory`.
+/// The exit status of an answer: 0 for `Ok`, 1 for `Refused`, 2 for `TreeFault`, 3 for `OutFault`,
+/// 4 for `Memory`.
 pub fn status(answer: &Answer) -> u8
     ensures { result ≡ status_of answer.now }
 {
@@ -29,4 +39,127 @@ pub fn status(answer: &Answer) -> u8
         Answer::OutFault => 3,
         Answer::Memory => 4,
     }
+}
+
+/// What a command comes to: a report, and a refusal behind it, if there is one.
+#[derive(Drop)]
+pub(crate) struct Verdict {
+    pub(crate) report: Text,
+    pub(crate) refusal: Option<Refusal>,
+}
+
+impl Verdict {
+    /// An empty report.
+    pub(crate) fn empty(alloc: Global) -> Verdict
+        ensures { (files : Files) → as_outcome files result ≡ just_report files [] }
+    {
+        Verdict::reported(Text::from_vec(Vec::new(alloc)))
+    }
+
+    /// Just a report.
+    pub(crate) fn reported(report: Text) -> Verdict
+        ensures { (files : Files) → as_outcome files result ≡ just_report files report }
+    {
+        Verdict {
+            report,
+            refusal: None,
+        }
+    }
+
+    /// Just a refusal.
+    pub(crate) fn refused(alloc: Global, refusal: Refusal) -> Verdict
+        ensures { (files : Files) → as_outcome files result ≡ just_refusal files refusal }
+    {
+        Verdict {
+            report: Text::from_vec(Vec::new(alloc)),
+            refusal: Some(refusal),
+        }
+    }
+}
+
+/// Prints what was judged, and answers it.
+pub(crate) fn show<O: Sink, E: Sink>(
+    judged: Result<Verdict, TreeFault>,
+    out: &mut O,
+    err: &mut E,
+) -> Answer
+    ensures shown { IsShown judged result
+        (sink_change O.bytes O.counts out.old out.new)
+        (sink_change E.bytes E.counts err.old err.new) }
+    ensures out_counts { KeepsCount (sink_change O.bytes O.counts out.old out.new) }
+    ensures err_counts { KeepsCount (sink_change E.bytes E.counts err.old err.new) }
+{
+    match judged {
+        Ok(verdict) => print_verdict(verdict, out, err),
+        Err(fault) => print_fault(fault, out, err),
+    }
+}
+
+// Prints the line of a fault of the tree, or of want of memory.
+fn print_fault<O: Sink, E: Sink>(fault: TreeFault, _out: &mut O, err: &mut E) -> Answer
+    ensures shown { IsShown (Err fault) result
+        (sink_change O.bytes O.counts _out.old _out.new)
+        (sink_change E.bytes E.counts err.old err.new) }
+    ensures out_counts { KeepsCount (sink_change O.bytes O.counts _out.old _out.new) }
+    ensures err_counts { KeepsCount (sink_change E.bytes E.counts err.old err.new) }
+{
+    match fault {
+        TreeFault::Disk => {
+            print_line(b"ERROR: the tree failed\n", err);
+            Answer::TreeFault
+        }
+        TreeFault::Memory => {
+            print_line(b"ERROR: out of memory\n", err);
+            Answer::Memory
+        }
+    }
+}
+
+// Prints the report, and the line of the refusal behind it.
+fn print_verdict<O: Sink, E: Sink>(verdict: Verdict, out: &mut O, err: &mut E) -> Answer
+    ensures printed { (files : Files) → IsPrinted (as_outcome files verdict) result
+        (sink_change O.bytes O.counts out.old out.new)
+        (sink_change E.bytes E.counts err.old err.new) }
+    ensures out_counts { KeepsCount (sink_change O.bytes O.counts out.old out.new) }
+    ensures err_counts { KeepsCount (sink_change E.bytes E.counts err.old err.new) }
+{
+    counts_of_calls_in_a_row_join();
+    match print_report(verdict.report.as_bytes(), out) {
+        Ok(()) => print_refusal(verdict.refusal, err),
+        Err(_) => Answer::OutFault,
+    }
+}
+
+// Prints a report; one without bytes never fails.
+fn print_report<O: Sink>(bytes: &[u8], out: &mut O) -> Result<(), SinkFault>
+    ensures written { Writes bytes.now (sink_change O.bytes O.counts out.old out.new) result }
+    ensures some { OnErr result (bytes.now ≢ []) }
+{
+    if bytes.is_empty() {
+        return Ok(());
+    }
+    write_all(out, bytes)
+}
+
+// Prints the line of a refusal, if there is one.
+fn print_refusal<E: Sink>(refusal: Option<Refusal>, err: &mut E) -> Answer
+    ensures printed { IsRefusalPrinted refusal result
+        (sink_change E.bytes E.counts err.old err.new) }
+    ensures counts { KeepsCount (sink_change E.bytes E.counts err.old err.new) }
+{
+    let Some(refusal) = refusal else {
+        return Answer::Ok;
+    };
+    match write_error(&refusal, err) {
+        Ok(()) => Answer::Refused(refusal),
+        Err(_) => Answer::OutFault,
+    }
+}
+
+// Prints a fault's line; a fault of the sink changes nothing in the answer.
+fn print_line<E: Sink>(line: &[u8], err: &mut E)
+    ensures line { GetsLine (sink_change E.bytes E.counts err.old err.new) line.now }
+    ensures counts { KeepsCount (sink_change E.bytes E.counts err.old err.new) }
+{
+    let _ = write_all(err, line);
 }

@@ -1,6 +1,7 @@
+//! The top call. Its contract is what this repository proves of a run of `apk`.
 ghost use Rattle.std.specs.Prelude.{◌≡◌, ℕ, Bool, List, None, IsSome, IsTrue};
-ghost use Rattle.apk_front.specs.Answers.{name_an_applet, IsAnswer, IsAnswerOf, LeavesFiles, LeavesAny, HasCauses, IsFaultless, IsComplete, IsUnplanned, IsOutcomeUnlessMemory};
-ghost use Rattle.apk_front.specs.Moments.{HidesScratchOf, IsCarriedOut, IsLeftUndone, LeavesRoom};
+ghost use Rattle.apk_front.specs.Answers.{name_an_applet, IsAnswerOf, IsAnswerTo, LeavesFiles, LeavesAny, HasCauses, IsFaultless, IsComplete, IsUnplanned, IsOutcomeUnlessMemory};
+ghost use Rattle.apk_front.specs.Moments.{HidesScratchOf, IsCarriedOut, IsLeftUndone, IsReadApart, LeavesRoom};
 ghost use Rattle.base_core.specs.Calls.{HasNow, IfObservable};
 ghost use Rattle.base_core.specs.Crash.{IsOrderly, Since};
 ghost use Rattle.base_core.specs.Faults.{GoesOn, HasCause};
@@ -9,21 +10,25 @@ ghost use Rattle.base_core.specs.Sink.{sink_change, KeepsCount};
 ghost use Rattle.base_core.specs.Tree.{files_of};
 ghost use Rattle.journal_core.specs.Recovery.{IsSettled, RestsOn};
 ghost use Rattle.journal_core.specs.Replacing.{IsReplacing};
-ghost use Rattle.outcome.specs.Outcome.{IsFoundOutcome, IsOutcome};
-ghost use Rattle.outcome.specs.Reach.{output, reads_only, rests_on_words};
-ghost use Rattle.outcome.specs.Told.{Outcome};
+ghost use Rattle.outcome.specs.Commands.{IsFoundOutcome, IsOutcome};
+ghost use Rattle.outcome.specs.Effect.{output, reads_only, rests_on_words};
+ghost use Rattle.outcome.specs.Outcome.{Outcome};
 ghost use Rattle.words_core.specs.Grammar.{command_of};
 
-use crate::answer::Answer;
+use crate::answer::{Answer, show};
 use crate::judge::judge;
-use crate::show::show;
 use base_core::{Sink, Tree, Words};
 use std::alloc::Global;
 
-/// Runs a command line, without the program's name, on a tree of files and two sinks, as apk(8) describes it.
+/// Runs a command line, without the program's name, on a tree of files and two sinks, as apk(8)
+/// describes it.
 ///
-/// What a command answers, prints and leaves is told by `Outcome`. A fault of the tree or of a sink, and want of
-/// memory, are answered in its place.
+/// `Outcome` says what a command answers, prints and leaves. A fault of the tree or of a sink, and
+/// want of memory, are answered in its place.
+///
+/// A clause that begins with `IfObservable` speaks of a tree whose history is observable, as of the
+/// one in memory; `v` is the state in which the run begins. `ignored` are names whose files a crash
+/// may leave as they are: they contain OUTPUT.apk-tmp, and not lib/apk/intent.
 pub fn apk<T: Tree, O: Sink, E: Sink>(
     alloc: Global,
     words: &Words,
@@ -31,33 +36,47 @@ pub fn apk<T: Tree, O: Sink, E: Sink>(
     out: &mut O,
     err: &mut E,
 ) -> Answer
-    // Where the tree tells its files: the answer and the bytes of the two sinks are those of the outcome, or a fault
-    // with its cause or want of memory stands in their place; and what is left are the outcome's files.
-    ensures stated { IfObservable (T.history tree.old) (λ v. IsAnswer words.now (files_of v) (LeavesFiles (T.history tree.new))
-        (HasCause (T.counts tree.old) (T.counts tree.new)) result
-        (sink_change O.bytes O.counts out.old out.new) (sink_change E.bytes E.counts err.old err.new)) }
+    // ---- what is answered, printed and left
 
-    // Where the tree tells its files and no count rose, the answer is the outcome's, or memory ran out.
+    // The answer, the bytes of the two sinks and the files left are the outcome's; or in its place
+    // stands a fault of the tree or of a sink, with its cause, or want of memory.
+    ensures stated { IfObservable (T.history tree.old) (λ v.
+        IsAnswerTo words.now (files_of v) (LeavesFiles (T.history tree.new))
+        (HasCause (T.counts tree.old) (T.counts tree.new)) result
+        (sink_change O.bytes O.counts out.old out.new)
+        (sink_change E.bytes E.counts err.old err.new)) }
+
+    // Where no count of faults rose, the answer is the outcome's, or memory ran out.
     ensures complete { IfObservable (T.history tree.old) (λ v.
-        IsFaultless (T.counts tree.old) (T.counts tree.new) (sink_change O.bytes O.counts out.old out.new) (sink_change E.bytes E.counts err.old err.new)
+        IsFaultless (T.counts tree.old) (T.counts tree.new)
+        (sink_change O.bytes O.counts out.old out.new)
+        (sink_change E.bytes E.counts err.old err.new)
         → IsComplete words.now (files_of v) result) }
 
-    // For every tree, also one that tells nothing: where the outcome rests on the words alone it is the answer, and
-    // the tree never fails.
-    ensures every_tree { IsTrue (rests_on_words (command_of words.now)) → IsAnswer words.now no_names LeavesAny ⊥ result
-        (sink_change O.bytes O.counts out.old out.new) (sink_change E.bytes E.counts err.old err.new) }
+    // On every tree: an outcome that rests on the words alone is the answer, and the tree never
+    // fails.
+    ensures every_tree { IsTrue (rests_on_words (command_of words.now))
+        → IsAnswerTo words.now no_names LeavesAny ⊥ result
+        (sink_change O.bytes O.counts out.old out.new)
+        (sink_change E.bytes E.counts err.old err.new) }
 
-    // For every tree, also one that tells nothing: the answer and the bytes are the outcome's by some names below its
-    // folder, and by some bytes, or none, for each file that is read, or a fault with its cause or want of memory stands
-    // in their place.
-    ensures found { IsAnswerOf (IsFoundOutcome words.now) LeavesAny (HasCause (T.counts tree.old) (T.counts tree.new)) result
-        (sink_change O.bytes O.counts out.old out.new) (sink_change E.bytes E.counts err.old err.new) }
+    // On every tree: the answer and the bytes are what the specification gives for some listing and
+    // some contents at each read. That these are the real ones of a file system is trusted.
+    ensures found { IsAnswerOf (IsFoundOutcome words.now) LeavesAny
+        (HasCause (T.counts tree.old) (T.counts tree.new)) result
+        (sink_change O.bytes O.counts out.old out.new)
+        (sink_change E.bytes E.counts err.old err.new) }
 
-    // For every tree and sink, by their counts: behind `Ok` and a refusal nothing failed, neither the tree nor a sink.
-    // A fault of the tree or of a sink has its cause. Want of memory, and a fault of a sink, hide no fault of the tree.
-    // A fault of the tree and want of memory print just their line, and the counts go on.
+    // ---- what failed, on every tree and sink
+
+    // Behind `Ok` and a refusal nothing failed, neither the tree nor a sink. A fault of the tree or
+    // of a sink has its cause. Want of memory, and a fault of a sink, hide no fault of the tree. A
+    // fault of the tree and want of memory print just their line.
     ensures causes { HasCauses result (T.counts tree.old) (T.counts tree.new)
-        (sink_change O.bytes O.counts out.old out.new) (sink_change E.bytes E.counts err.old err.new) }
+        (sink_change O.bytes O.counts out.old out.new)
+        (sink_change E.bytes E.counts err.old err.new) }
+
+    // No count falls, and no sink is misused.
     ensures tree_counts { GoesOn (T.counts tree.old) (T.counts tree.new) }
     ensures out_counts { KeepsCount (sink_change O.bytes O.counts out.old out.new) }
     ensures err_counts { KeepsCount (sink_change E.bytes E.counts err.old err.new) }
@@ -65,38 +84,66 @@ pub fn apk<T: Tree, O: Sink, E: Sink>(
     // Want of memory is answered only where the words name an applet.
     ensures memory { result ≡ Answer.Memory → IsTrue (name_an_applet words.now) }
 
+    // No call is a misuse of the tree, where its files leave room for the output: then OUTPUT and
+    // OUTPUT.apk-tmp are no folder of another file, and no file is a folder of them.
+    ensures proper { IfObservable (T.history tree.old) (λ v. LeavesRoom words.now (files_of v)
+        → (T.counts tree.new).misuses ≡ (T.counts tree.old).misuses) }
+
+    // Where besides no failure is planned of the tree and the sinks, the run ends as its outcome
+    // says, unless memory ran out: the run's, or the own memory of one of the three.
+    ensures unless_memory { IfObservable (T.history tree.old) (λ v.
+        LeavesRoom words.now (files_of v) → IsUnplanned (T.counts tree.old)
+        → IsUnplanned (O.counts out.old) → IsUnplanned (E.counts err.old)
+        → IsOutcomeUnlessMemory words.now (files_of v) (LeavesFiles (T.history tree.new)) result
+        (T.counts tree.old) (T.counts tree.new)
+        (sink_change O.bytes O.counts out.old out.new)
+        (sink_change E.bytes E.counts err.old err.new)) }
+
+    // ---- what is done to the tree
+
     // Where the outcome rests on the words alone, no call is made on the tree.
     ensures untouched { IsTrue (rests_on_words (command_of words.now)) → tree.new ≡ tree.old }
 
-    // A command that only reads leaves the tree as it is, and so does a run that is refused, or for which there is no memory.
-    ensures same { IsTrue (reads_only (command_of words.now)) → T.history tree.new ≡ T.history tree.old }
+    // A command that only reads leaves the tree as it is, and so does a run that is refused, or for
+    // which there is no memory.
+    ensures same { IsTrue (reads_only (command_of words.now))
+        → T.history tree.new ≡ T.history tree.old }
     ensures undone { IsLeftUndone result → T.history tree.new ≡ T.history tree.old }
 
     // Nothing is written for an outcome that is a refusal, whatever is answered in its place.
-    ensures unwritten { IfObservable (T.history tree.old) (λ v. (outcome : Outcome) → IsOutcome words.now (files_of v) outcome → IsSome outcome.refusal
+    ensures unwritten { IfObservable (T.history tree.old) (λ v. (outcome : Outcome)
+        → IsOutcome words.now (files_of v) outcome → IsSome outcome.refusal
         → T.history tree.new ≡ T.history tree.old) }
 
-    // In an orderly tree, with names X that hold the output's scratch name: at each moment a crash leaves a state from before or that of the
-    // outcome's files, apart from X. The tree stays orderly, whatever is answered.
-    ensures crash { IfObservable (T.history tree.old) (λ v. (X : List ℕ → Bool) (outcome : Outcome) → IsOrderly (RestsOn X) v → HidesScratchOf (output words.now) X
-        → IsOutcome words.now (files_of v) outcome → Since (IsReplacing X outcome.files v) (T.history tree.old) (T.history tree.new)) }
-    ensures orderly { IfObservable (T.history tree.old) (λ v. (X : List ℕ → Bool) → IsOrderly (RestsOn X) v → HidesScratchOf (output words.now) X
-        → HasNow (T.history tree.new) (IsOrderly (RestsOn X))) }
+    // At each moment the files as read are the old ones, but for OUTPUT.apk-tmp, or the outcome's:
+    // no other file is touched, also where the tree fails.
+    ensures reads { IfObservable (T.history tree.old) (λ v. (outcome : Outcome)
+        → IsOutcome words.now (files_of v) outcome
+        → Since (IsReadApart (output words.now) outcome.files (files_of v))
+        (T.history tree.old) (T.history tree.new)) }
 
-    // Once the outcome is carried out, each crash leaves the state of its files; of a command that only reads, where all was settled before.
-    ensures settled { IfObservable (T.history tree.old) (λ v. (X : List ℕ → Bool) (outcome : Outcome) → IsOrderly (RestsOn X) v → HidesScratchOf (output words.now) X
-        → (IsTrue (reads_only (command_of words.now)) → IsSettled X (files_of v) v) → IsOutcome words.now (files_of v) outcome → outcome.refusal ≡ None
-        → IsCarriedOut result → HasNow (T.history tree.new) (IsSettled X outcome.files)) }
+    // ---- what a crash leaves, of a tree that was orderly
 
-    // Where the tree tells its files, and they leave room for the output, no call is a misuse. There is room for each command that only reads.
-    ensures proper { IfObservable (T.history tree.old) (λ v. LeavesRoom words.now (files_of v) → (T.counts tree.new).misuses ≡ (T.counts tree.old).misuses) }
+    // At each moment a crash leaves the old files or the outcome's; OUTPUT.apk-tmp may be left too.
+    ensures crash { IfObservable (T.history tree.old) (λ v. (ignored : List ℕ → Bool)
+        (outcome : Outcome)
+        → IsOrderly (RestsOn ignored) v → HidesScratchOf (output words.now) ignored
+        → IsOutcome words.now (files_of v) outcome
+        → Since (IsReplacing ignored outcome.files v) (T.history tree.old) (T.history tree.new)) }
 
-    // Where besides no failure is planned of the tree and of the sinks, the run ends as its outcome says, unless memory ran
-    // out: the run's, or the own memory of one of the three.
-    ensures unless_memory { IfObservable (T.history tree.old) (λ v. LeavesRoom words.now (files_of v)
-        → IsUnplanned (T.counts tree.old) → IsUnplanned (O.counts out.old) → IsUnplanned (E.counts err.old)
-        → IsOutcomeUnlessMemory words.now (files_of v) (LeavesFiles (T.history tree.new)) result (T.counts tree.old) (T.counts tree.new)
-        (sink_change O.bytes O.counts out.old out.new) (sink_change E.bytes E.counts err.old err.new)) }
+    // The tree is orderly again, whatever is answered.
+    ensures orderly { IfObservable (T.history tree.old) (λ v. (ignored : List ℕ → Bool)
+        → IsOrderly (RestsOn ignored) v → HidesScratchOf (output words.now) ignored
+        → HasNow (T.history tree.new) (IsOrderly (RestsOn ignored))) }
+
+    // Once the outcome is carried out, each crash leaves its files; of a command that only reads,
+    // where each crash left the old ones before.
+    ensures settled { IfObservable (T.history tree.old) (λ v. (ignored : List ℕ → Bool)
+        (outcome : Outcome)
+        → IsOrderly (RestsOn ignored) v → HidesScratchOf (output words.now) ignored
+        → (IsTrue (reads_only (command_of words.now)) → IsSettled ignored (files_of v) v)
+        → IsOutcome words.now (files_of v) outcome → outcome.refusal ≡ None
+        → IsCarriedOut result → HasNow (T.history tree.new) (IsSettled ignored outcome.files)) }
 {
     let judged = judge(alloc, words, tree);
     show(judged, out, err)

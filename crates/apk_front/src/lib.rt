@@ -1,9 +1,11 @@
-//! The top call of the package keeper: words, a tree of files and two sinks come in, an answer goes out.
+//! The top call of the package keeper: words, a tree of files and two sinks come in, an answer goes
+//! out.
 //!
-//! A run is first judged, by the words and the tree, and carried out on the tree, and then shown on the sinks. The
-//! contract of `apk` cites `outcome` (what a command answers, prints and leaves), `words_core` (what the words ask for),
-//! `journal_core` (what a crash leaves), and of `specs/` `Answers` (how an answer relates to an outcome, and what stands
-//! in its place) and `Moments` (what a run does to the tree).
+//! A run is first judged, by the words and the tree, and carried out on the tree, and then printed
+//! on the sinks. The contract of `apk` cites `outcome` (what a command answers, prints and leaves),
+//! `words_core` (what the words ask for), `journal_core` (what a crash leaves), and of `specs/`
+//! `Answers` (how an answer relates to an outcome, and what stands in its place) and `Moments`
+//! (what a run does to the tree).
 #![tactic(auto)]
 
 mod answer;
@@ -11,14 +13,9 @@ mod dump;
 mod front;
 mod judge;
 mod make;
-mod show;
-mod verdict;
 mod verify;
 mod version;
 
 pub use answer::{Answer, status};
 pub use front::apk;
 pub use report_core::Refusal;
-
-#[cfg(test)]
-mod tests;

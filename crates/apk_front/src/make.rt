@@ -1,34 +1,41 @@
-// `mkpkg` and `mkndx`: a container is made, and stands whole under its name.
-ghost use Rattle.std.specs.Prelude.{◌≡◌, ◌≢◌, ◌⊎◌, ℕ, false, true, List, None, Ok, Err, IsSome, IfOk, IsErrOf, OnOk};
-ghost use Rattle.apk_front.specs.Moments.{HasRoomFor, IsRun};
-ghost use Rattle.apk_front.specs.Shown.{IsIndex, IsIndexFound, IsIndexOutcome, IsPackage, IsPackageFound, IsPackageOutcome, OnMade, Tells, TellsOne, is_cut, is_cut_off, made_in};
+//! `mkpkg` and `mkndx`: a container is made, and stands whole under its name.
+ghost use Rattle.std.specs.Prelude.{◌≡◌, ◌≢◌, ◌⊎◌, ℕ, false, true, List, Ok, Err, IsSome, IfOk, IsErrOf, OnOk};
+ghost use Rattle.apk_front.specs.Containers.{IsIndexMade, IsIndexFound, IsIndexOutcome, IsPackageMade, IsPackageFound, IsPackageOutcome, OnMade, is_cut, is_cut_off, made_in};
+ghost use Rattle.apk_front.specs.Moments.{HasRoomFor};
+ghost use Rattle.apk_front.specs.Runs.{IsRun};
+ghost use Rattle.apk_front.specs.Verdicts.{Reports, ReportsOne};
 ghost use Rattle.base_core.specs.Calls.{IfObservable};
 ghost use Rattle.base_core.specs.Faults.{GoesOn, HasCause, IsNoFault};
 ghost use Rattle.base_core.specs.Files.{Files, no_names};
+ghost use Rattle.base_core.specs.Read.{OnlyReads};
 ghost use Rattle.base_core.specs.Tree.{files_of};
-ghost use Rattle.make_info.specs.Faults.{UnlessDisk};
+ghost use Rattle.command_core.specs.Sound.{IsCommand};
+ghost use Rattle.command_core.specs.declared.command.Applet.TheVariants.{Mkndx, Mkpkg};
+ghost use Rattle.command_core.specs.declared.values.TheConstants.{FILES};
+ghost use Rattle.make_index.specs.Files.{AreFiles};
 ghost use Rattle.make_info.specs.Output.{output_name};
-ghost use Rattle.make_package.specs.Sources.{AreNamesFor, values_with};
 ghost use Rattle.make_info.specs.Reads.{Reads};
-ghost use Rattle.outcome.specs.Make.{index_line, made, mkndx, mkndx_by, mkpkg_by, unless_reserved};
-ghost use Rattle.outcome.specs.Told.{Outcome, refused};
+ghost use Rattle.make_package.specs.Sources.{AreNamesFor, values_with};
+ghost use Rattle.outcome.specs.Make.{index_line, make_outcome, mkndx, mkpkg, unless_reserved};
+ghost use Rattle.outcome.specs.Outcome.{Outcome, just_refusal};
 ghost use Rattle.report_core.specs.declared.refusal.Refusal.TheVariants.{ResultTooLarge};
-ghost use Rattle.words_core.specs.Command.{IsCommand};
-ghost use Rattle.words_core.specs.declared.applet.Applet.TheVariants.{Mkndx, Mkpkg};
 
-use crate::verdict::Verdict;
+use crate::answer::Verdict;
 use adb_schema::is_reserved;
-use base_core::{Name, Text, Tree, TreeFault, files_have_one_list_of_names};
+use base_core::{
+    Text, Tree, TreeFault, counts_of_calls_in_a_row_join, files_have_one_list_of_names,
+};
+use command_core::Command;
 use journal_core::replace;
 use make_core::{
     MakeFault, a_package_with_information_has_an_output, an_index_has_an_output,
     an_output_is_short, output_name,
 };
+use outcome::a_listing_of_a_tree_is_that_of_its_files;
 use report_core::Refusal;
 use std::alloc::{AllocError, Global};
-use words_core::Command;
 
-/// Makes a package, and writes it under the output's name. It tells nothing.
+/// Makes a package, and writes it under the output's name. It reports nothing.
 pub(crate) fn mkpkg<T: Tree>(
     alloc: Global,
     command: &Command,
@@ -36,18 +43,29 @@ pub(crate) fn mkpkg<T: Tree>(
 ) -> Result<Verdict, TreeFault>
     requires command { IsCommand command.now }
     requires applet { command.now.applet ≡ Mkpkg }
-    ensures found { IfOk result (λ verdict. IfObservable (T.history tree.old) (λ v. TellsOne (IsPackageOutcome command.now (files_of v)) verdict)) }
-    ensures by_reads { IfOk result (λ verdict. (names : List (List ℕ)) × AreNamesFor (values_with 70 command.now.values) names × (read : Reads) × Tells verdict (mkpkg_by no_names read command.now names)) }
-    ensures run { IfObservable (T.history tree.old) (λ v. IsRun (IsPackageOutcome command.now (files_of v)) false (output_name command.now) result v (T.history tree.old) (T.history tree.new)) }
-    ensures refused { IfOk result (λ verdict. IsSome verdict.refusal → T.history tree.new ≡ T.history tree.old) }
+    ensures found { IfOk result (λ verdict. IfObservable (T.history tree.old) (λ v.
+        ReportsOne (IsPackageOutcome command.now (files_of v)) verdict)) }
+    ensures by_reads { IfOk result (λ verdict. (names : List (List ℕ))
+        × AreNamesFor (values_with FILES command.now.values) names
+        × (read : Reads) × Reports verdict (mkpkg read no_names command.now names)) }
+    ensures run { IfObservable (T.history tree.old) (λ v. IsRun
+        (IsPackageOutcome command.now (files_of v)) false (output_name command.now)
+        result v (T.history tree.old) (T.history tree.new)) }
+    ensures refused { IfOk result (λ verdict. IsSome verdict.refusal
+        → T.history tree.new ≡ T.history tree.old) }
     ensures undone { IsErrOf result TreeFault.Memory → T.history tree.new ≡ T.history tree.old }
     ensures goes_on { GoesOn (T.counts tree.old) (T.counts tree.new) }
-    ensures disk { IsErrOf result TreeFault.Disk → HasCause (T.counts tree.old) (T.counts tree.new) }
+    ensures disk { IsErrOf result TreeFault.Disk
+        → HasCause (T.counts tree.old) (T.counts tree.new) }
     ensures kept { OnOk result (IsNoFault (T.counts tree.old) (T.counts tree.new)) }
-    ensures memory { IsErrOf result TreeFault.Memory → IsNoFault (T.counts tree.old) (T.counts tree.new) }
-    ensures proper { IfObservable (T.history tree.old) (λ v. ((outcome : Outcome) → IsPackageOutcome command.now (files_of v) outcome → outcome.refusal ≡ None → HasRoomFor (output_name command.now) (files_of v))
+    ensures memory { IsErrOf result TreeFault.Memory
+        → IsNoFault (T.counts tree.old) (T.counts tree.new) }
+    ensures proper { IfObservable (T.history tree.old) (λ v.
+        ((outcome : Outcome) → IsPackageOutcome command.now (files_of v) outcome
+        → outcome.refusal ≡ None → HasRoomFor (output_name command.now) (files_of v))
         → (T.counts tree.new).misuses ≡ (T.counts tree.old).misuses) }
 {
+    counts_of_calls_in_a_row_join();
     files_have_one_list_of_names();
     a_package_with_information_has_an_output();
     let container = package(alloc, command, tree);
@@ -55,7 +73,7 @@ pub(crate) fn mkpkg<T: Tree>(
     finish(alloc, command, container, report, tree)
 }
 
-/// Makes an index, and writes it under the output's name. It tells how many packages it has.
+/// Makes an index, writes it under the output's name, and reports how many packages it has.
 pub(crate) fn mkndx<T: Tree>(
     alloc: Global,
     command: &Command,
@@ -63,18 +81,29 @@ pub(crate) fn mkndx<T: Tree>(
 ) -> Result<Verdict, TreeFault>
     requires command { IsCommand command.now }
     requires applet { command.now.applet ≡ Mkndx }
-    ensures found { IfOk result (λ verdict. IfObservable (T.history tree.old) (λ v. TellsOne (IsIndexOutcome command.now (files_of v)) verdict)) }
-    ensures by_reads { IfOk result (λ verdict. (read : Reads) × Tells verdict (mkndx_by no_names read command.now)) }
-    ensures run { IfObservable (T.history tree.old) (λ v. IsRun (IsIndexOutcome command.now (files_of v)) false (output_name command.now) result v (T.history tree.old) (T.history tree.new)) }
-    ensures refused { IfOk result (λ verdict. IsSome verdict.refusal → T.history tree.new ≡ T.history tree.old) }
+    ensures found { IfOk result (λ verdict. IfObservable (T.history tree.old) (λ v.
+        ReportsOne (IsIndexOutcome command.now (files_of v)) verdict)) }
+    ensures by_reads { IfOk result (λ verdict. (read : Reads)
+        × AreFiles read 0 command.now.operands
+        × Reports verdict (mkndx read no_names command.now)) }
+    ensures run { IfObservable (T.history tree.old) (λ v. IsRun
+        (IsIndexOutcome command.now (files_of v)) false (output_name command.now)
+        result v (T.history tree.old) (T.history tree.new)) }
+    ensures refused { IfOk result (λ verdict. IsSome verdict.refusal
+        → T.history tree.new ≡ T.history tree.old) }
     ensures undone { IsErrOf result TreeFault.Memory → T.history tree.new ≡ T.history tree.old }
     ensures goes_on { GoesOn (T.counts tree.old) (T.counts tree.new) }
-    ensures disk { IsErrOf result TreeFault.Disk → HasCause (T.counts tree.old) (T.counts tree.new) }
+    ensures disk { IsErrOf result TreeFault.Disk
+        → HasCause (T.counts tree.old) (T.counts tree.new) }
     ensures kept { OnOk result (IsNoFault (T.counts tree.old) (T.counts tree.new)) }
-    ensures memory { IsErrOf result TreeFault.Memory → IsNoFault (T.counts tree.old) (T.counts tree.new) }
-    ensures proper { IfObservable (T.history tree.old) (λ v. ((outcome : Outcome) → IsIndexOutcome command.now (files_of v) outcome → outcome.refusal ≡ None → HasRoomFor (output_name command.now) (files_of v))
+    ensures memory { IsErrOf result TreeFault.Memory
+        → IsNoFault (T.counts tree.old) (T.counts tree.new) }
+    ensures proper { IfObservable (T.history tree.old) (λ v.
+        ((outcome : Outcome) → IsIndexOutcome command.now (files_of v) outcome
+        → outcome.refusal ≡ None → HasRoomFor (output_name command.now) (files_of v))
         → (T.counts tree.new).misuses ≡ (T.counts tree.old).misuses) }
 {
+    counts_of_calls_in_a_row_join();
     an_index_has_an_output();
     let report = index_line(alloc, command.operands().len())?;
     let container = index(alloc, command, tree);
@@ -84,32 +113,29 @@ pub(crate) fn mkndx<T: Tree>(
 // What a package is made of, read and made.
 fn package<T: Tree>(alloc: Global, command: &Command, tree: &mut T) -> Result<Vec<u8>, MakeFault>
     requires { command.now.applet ≡ Mkpkg }
-    ensures told { IfObservable (T.history tree.old) (λ v. OnMade result (IsPackage command.now (files_of v))) }
+    ensures made { IfObservable (T.history tree.old) (λ v.
+        OnMade result (IsPackageMade command.now (files_of v))) }
     ensures found { OnMade result (IsPackageFound command.now) }
-    ensures same { T.history tree.new ≡ T.history tree.old }
-    ensures goes_on { GoesOn (T.counts tree.old) (T.counts tree.new) }
-    ensures disk { IsErrOf result MakeFault.Disk → HasCause (T.counts tree.old) (T.counts tree.new) }
-    ensures kept { UnlessDisk result (IsNoFault (T.counts tree.old) (T.counts tree.new)) }
-    ensures proper { IfObservable (T.history tree.old) (λ v. (T.counts tree.new).misuses ≡ (T.counts tree.old).misuses) }
+    ensures tree { OnlyReads MakeFault.Disk (T.history tree.old) (T.history tree.new)
+        (T.counts tree.old) (T.counts tree.new) result }
 {
+    a_listing_of_a_tree_is_that_of_its_files();
     make_core::mkpkg(alloc, command, tree)
 }
 
 // The packages of an index, read, and the index made.
 fn index<T: Tree>(alloc: Global, command: &Command, tree: &mut T) -> Result<Vec<u8>, MakeFault>
     requires { command.now.applet ≡ Mkndx }
-    ensures told { IfObservable (T.history tree.old) (λ v. OnMade result (IsIndex command.now (files_of v))) }
+    ensures made { IfObservable (T.history tree.old) (λ v.
+        OnMade result (IsIndexMade command.now (files_of v))) }
     ensures found { OnMade result (IsIndexFound command.now) }
-    ensures same { T.history tree.new ≡ T.history tree.old }
-    ensures goes_on { GoesOn (T.counts tree.old) (T.counts tree.new) }
-    ensures disk { IsErrOf result MakeFault.Disk → HasCause (T.counts tree.old) (T.counts tree.new) }
-    ensures kept { UnlessDisk result (IsNoFault (T.counts tree.old) (T.counts tree.new)) }
-    ensures proper { IfObservable (T.history tree.old) (λ v. (T.counts tree.new).misuses ≡ (T.counts tree.old).misuses) }
+    ensures tree { OnlyReads MakeFault.Disk (T.history tree.old) (T.history tree.new)
+        (T.counts tree.old) (T.counts tree.new) result }
 {
     make_core::mkndx(alloc, command, tree)
 }
 
-// What is told of an index.
+// The report of an index.
 fn index_line(alloc: Global, count: usize) -> Result<Text, AllocError>
     ensures { IfOk result (λ line. line ≡ index_line count) }
 {
@@ -127,18 +153,28 @@ fn finish<T: Tree>(
 ) -> Result<Verdict, TreeFault>
     requires command { IsCommand command.now }
     requires output { IfOk container (λ file. IsSome (output_name command.now)) }
-    ensures told { IfOk result (λ verdict. (files : Files) → Tells verdict (made files (output_name command.now) report (made_in container))) }
-    ensures run { IfObservable (T.history tree.old) (λ v. IsRun (λ outcome. outcome ≡ made (files_of v) (output_name command.now) report (made_in container)) false (output_name command.now) result v (T.history tree.old) (T.history tree.new)) }
+    ensures reported { IfOk result (λ verdict. (files : Files) → Reports verdict
+        (make_outcome files (output_name command.now) report (made_in container))) }
+    ensures run { IfObservable (T.history tree.old) (λ v. IsRun
+        (λ outcome. outcome
+        ≡ make_outcome (files_of v) (output_name command.now) report (made_in container))
+        false (output_name command.now) result v (T.history tree.old) (T.history tree.new)) }
     ensures done { IfOk result (λ verdict. is_cut_off container ≡ false) }
     ensures cut { is_cut_off container ≡ true → T.history tree.new ≡ T.history tree.old }
-    ensures refused { IfOk result (λ verdict. IsSome verdict.refusal → T.history tree.new ≡ T.history tree.old) }
+    ensures refused { IfOk result (λ verdict. IsSome verdict.refusal
+        → T.history tree.new ≡ T.history tree.old) }
     ensures undone { IsErrOf result TreeFault.Memory → T.history tree.new ≡ T.history tree.old }
     ensures goes_on { GoesOn (T.counts tree.old) (T.counts tree.new) }
-    ensures disk { IsErrOf result TreeFault.Disk → IsErrOf container MakeFault.Disk ⊎ HasCause (T.counts tree.old) (T.counts tree.new) }
+    ensures disk { IsErrOf result TreeFault.Disk
+        → IsErrOf container MakeFault.Disk ⊎ HasCause (T.counts tree.old) (T.counts tree.new) }
     ensures kept { OnOk result (IsNoFault (T.counts tree.old) (T.counts tree.new)) }
-    ensures memory { IsErrOf result TreeFault.Memory → IsNoFault (T.counts tree.old) (T.counts tree.new) }
+    ensures memory { IsErrOf result TreeFault.Memory
+        → IsNoFault (T.counts tree.old) (T.counts tree.new) }
     ensures lost { IsErrOf result TreeFault.Memory → container ≢ Err MakeFault.Disk }
-    ensures proper { IfObservable (T.history tree.old) (λ v. (IfOk container (λ file. (made (files_of v) (output_name command.now) report (Ok file.items)).refusal ≡ None → HasRoomFor (output_name command.now) (files_of v)))
+    ensures proper { IfObservable (T.history tree.old) (λ v.
+        IfOk container (λ file.
+        (make_outcome (files_of v) (output_name command.now) report (Ok file.items)).refusal
+        ≡ None → HasRoomFor (output_name command.now) (files_of v))
         → (T.counts tree.new).misuses ≡ (T.counts tree.old).misuses) }
 {
     match container {
@@ -157,15 +193,24 @@ fn write<T: Tree>(
 ) -> Result<Verdict, TreeFault>
     requires command { IsCommand command.now }
     requires output { IsSome (output_name command.now) }
-    ensures told { IfOk result (λ verdict. (files : Files) → Tells verdict (made files (output_name command.now) report (Ok file.now))) }
-    ensures run { IfObservable (T.history tree.old) (λ v. IsRun (λ outcome. outcome ≡ made (files_of v) (output_name command.now) report (Ok file.now)) false (output_name command.now) result v (T.history tree.old) (T.history tree.new)) }
-    ensures refused { IfOk result (λ verdict. IsSome verdict.refusal → T.history tree.new ≡ T.history tree.old) }
+    ensures reported { IfOk result (λ verdict. (files : Files) → Reports verdict
+        (make_outcome files (output_name command.now) report (Ok file.now))) }
+    ensures run { IfObservable (T.history tree.old) (λ v. IsRun
+        (λ outcome. outcome
+        ≡ make_outcome (files_of v) (output_name command.now) report (Ok file.now))
+        false (output_name command.now) result v (T.history tree.old) (T.history tree.new)) }
+    ensures refused { IfOk result (λ verdict. IsSome verdict.refusal
+        → T.history tree.new ≡ T.history tree.old) }
     ensures undone { IsErrOf result TreeFault.Memory → T.history tree.new ≡ T.history tree.old }
     ensures goes_on { GoesOn (T.counts tree.old) (T.counts tree.new) }
-    ensures disk { IsErrOf result TreeFault.Disk → HasCause (T.counts tree.old) (T.counts tree.new) }
+    ensures disk { IsErrOf result TreeFault.Disk
+        → HasCause (T.counts tree.old) (T.counts tree.new) }
     ensures kept { OnOk result (IsNoFault (T.counts tree.old) (T.counts tree.new)) }
-    ensures memory { IsErrOf result TreeFault.Memory → IsNoFault (T.counts tree.old) (T.counts tree.new) }
-    ensures proper { IfObservable (T.history tree.old) (λ v. ((made (files_of v) (output_name command.now) report (Ok file.now)).refusal ≡ None → HasRoomFor (output_name command.now) (files_of v))
+    ensures memory { IsErrOf result TreeFault.Memory
+        → IsNoFault (T.counts tree.old) (T.counts tree.new) }
+    ensures proper { IfObservable (T.history tree.old) (λ v.
+        ((make_outcome (files_of v) (output_name command.now) report (Ok file.now)).refusal ≡ None
+        → HasRoomFor (output_name command.now) (files_of v))
         → (T.counts tree.new).misuses ≡ (T.counts tree.old).misuses) }
 {
     an_output_is_short();
@@ -182,7 +227,8 @@ fn write<T: Tree>(
 
 // Refuses what was not made.
 fn refuse(alloc: Global, command: &Command, fault: MakeFault) -> Result<Verdict, TreeFault>
-    ensures told { IfOk result (λ verdict. (files : Files) (report : List ℕ) → Tells verdict (made files (output_name command.now) report (Err fault))) }
+    ensures reported { IfOk result (λ verdict. (files : Files) (report : List ℕ)
+        → Reports verdict (make_outcome files (output_name command.now) report (Err fault))) }
     ensures refused { IfOk result (λ verdict. IsSome verdict.refusal) }
     ensures done { IfOk result (λ verdict. is_cut fault ≡ false) }
     ensures disk { IsErrOf result TreeFault.Disk → fault ≡ MakeFault.Disk }
@@ -194,7 +240,9 @@ fn refuse(alloc: Global, command: &Command, fault: MakeFault) -> Result<Verdict,
 
 // Why it was not made.
 fn refusal_of(alloc: Global, command: &Command, fault: MakeFault) -> Result<Refusal, TreeFault>
-    ensures told { IfOk result (λ refusal. (files : Files) (report : List ℕ) → made files (output_name command.now) report (Err fault) ≡ refused files refusal) }
+    ensures reported { IfOk result (λ refusal. (files : Files) (report : List ℕ)
+        → make_outcome files (output_name command.now) report (Err fault)
+        ≡ just_refusal files refusal) }
     ensures done { IfOk result (λ refusal. is_cut fault ≡ false) }
     ensures disk { IsErrOf result TreeFault.Disk → fault ≡ MakeFault.Disk }
     ensures lost { IsErrOf result TreeFault.Memory → fault ≢ MakeFault.Disk }
@@ -212,14 +260,16 @@ fn refusal_of(alloc: Global, command: &Command, fault: MakeFault) -> Result<Refu
     }
 }
 
-// The refusal of a container that is too large: a reserved output is told before that.
+// The refusal of a container that is too large: a reserved output is refused before that.
 fn too_large(
     alloc: Global,
     command: &Command,
     bytes: u64,
     values: u64,
 ) -> Result<Refusal, AllocError>
-    ensures { IfOk result (λ refusal. (files : Files) → refused files refusal ≡ unless_reserved files (output_name command.now) (refused files (ResultTooLarge bytes values))) }
+    ensures { IfOk result (λ refusal. (files : Files) → just_refusal files refusal
+        ≡ unless_reserved files (output_name command.now)
+        (just_refusal files (ResultTooLarge bytes values))) }
 {
     match output_name(alloc, command)? {
         Some(path) if is_reserved(path.as_bytes()) => Ok(Refusal::Reserved { path }),

@@ -1,27 +1,27 @@
-// `version`: two versions are compared, or texts are checked for being versions.
-ghost use Rattle.std.specs.Prelude.{◌≡◌, ◌++◌, length, IsTrue, IfOk, OnOk};
-ghost use Rattle.apk_front.specs.Shown.{shown};
+//! `version`: two versions are compared, or texts are checked for being versions.
+ghost use Rattle.std.specs.Prelude.{◌≡◌, ◌++◌, length, true, IfOk, OnOk};
+ghost use Rattle.apk_front.specs.Verdicts.{as_outcome};
 ghost use Rattle.base_core.specs.Files.{Files};
-ghost use Rattle.outcome.specs.Told.{told, unless};
-ghost use Rattle.outcome.specs.Version.{compared, invalid_line, invalid_lines, order_line, version, version_refusal};
-ghost use Rattle.words_core.specs.Command.{is_version};
+ghost use Rattle.outcome.specs.Outcome.{outcome_of, report_unless};
+ghost use Rattle.outcome.specs.Version.{invalid_line, invalid_lines, order_line, order_report, version, version_refusal};
 
-use crate::verdict::Verdict;
+use crate::answer::Verdict;
 use base_core::Text;
+use command_core::{Flags, Operands};
 use report_core::Refusal;
 use std::alloc::{AllocError, Global};
 use std::cmp::Ordering;
 use version_core::Version;
-use words_core::{Flags, Operands};
 
-/// Compares the two operands, or tells those that are no versions.
+/// Compares the two operands, or reports those that are no versions.
 pub(crate) fn version(
     alloc: Global,
     flags: Flags,
     operands: &Operands,
 ) -> Result<Verdict, AllocError>
-    requires { IsTrue (is_version flags operands.now) }
-    ensures { IfOk result (λ verdict. (files : Files) → shown files verdict ≡ version files flags operands.now) }
+    requires { flags.test ≡ true → length operands.now ≡ 2 }
+    ensures { IfOk result (λ verdict. (files : Files)
+        → as_outcome files verdict ≡ version files flags operands.now) }
 {
     if flags.test {
         compare(alloc, operands)
@@ -33,7 +33,8 @@ pub(crate) fn version(
 // The order of two versions.
 fn compare(alloc: Global, operands: &Operands) -> Result<Verdict, AllocError>
     requires { length operands.now ≡ 2 }
-    ensures { IfOk result (λ verdict. (files : Files) → shown files verdict ≡ unless files (version_refusal operands.now) (compared operands.now)) }
+    ensures { IfOk result (λ verdict. (files : Files) → as_outcome files verdict
+        ≡ report_unless files (version_refusal operands.now) (order_report operands.now)) }
 {
     let (first, second) = (operands.get(0), operands.get(1));
     let Some(version) = Version::read(first.text.as_bytes()) else {
@@ -60,7 +61,8 @@ fn order_line(order: Ordering) -> &'static [u8]
 
 // The operands that are no versions, and the refusal of the first of them.
 fn check(alloc: Global, operands: &Operands) -> Result<Verdict, AllocError>
-    ensures { IfOk result (λ verdict. (files : Files) → shown files verdict ≡ told (version_refusal operands.now) (invalid_lines operands.now) files) }
+    ensures { IfOk result (λ verdict. (files : Files) → as_outcome files verdict
+        ≡ outcome_of (version_refusal operands.now) (invalid_lines operands.now) files) }
 {
     let report = lines(alloc, operands)?;
     let refusal = first_refusal(operands);

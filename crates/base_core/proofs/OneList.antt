@@ -8,8 +8,7 @@ use Rattle.std.proofs.lemmas.Bool.Decides.{Decides-eqb}
 use Rattle.std.proofs.lemmas.Slice.Eq.{bytes_eq-Decides}
 use Rattle.std.proofs.lemmas.Map.Views.{Contains-from_any}
 use Rattle.base_core.specs.Files.{NameMap, AreNamedFiles, IsFile, IsWithin, IsFolderOf}
-use Rattle.base_core.specs.Name.{IsName}
-use Rattle.base_core.specs.Tree.{File, TreeState, IsMapOf, IsWhole, bytes_at, files_by, files_of}
+use Rattle.base_core.specs.Tree.{TreeState, IsMapOf, IsWhole, bytes_at, files_by, files_of}
 use Rattle.base_core.specs.Listed.{AreNamesBelow, IsListOf, IsNameBelow, IsNamesOf, IsRising}
 use Rattle.base_core.proofs.Rising.{in_at, keep, keep_rises, kept_passes, passing_kept, same_list, contains_from_in, in_from_contains, pairs_from_rises, rises_from_pairs}
 

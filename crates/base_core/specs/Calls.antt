@@ -3,8 +3,8 @@ use Rattle.std.specs.Prelude.{◌≡◌, ◌⊎◌, List, [], ◌∷◌, Result,
 use Rattle.base_core.specs.Tree.{TreeState}
 use Rattle.base_core.specs.Faults.{Counts, GoesOn, HasCause, IsNoFault, next_count}
 
--- A tree's history is the list of its states so far, the newest first. It is observable where it is not empty: a tree
--- whose states nobody can know, as one over the host's files, has an empty one.
+-- A tree's history is the list of its states so far, the newest first. It is observable where it is
+-- not empty: a tree whose states nobody can know, as one over the host's files, has an empty one.
 
 -- P holds of the newest state, where the history is observable
 abbrev pub IfObservable : List TreeState → (TreeState → Type 0) → Type 0
@@ -16,8 +16,8 @@ abbrev pub HasNow : List TreeState → (TreeState → Type 0) → Type 0
 HasNow [] P = ⊥
 HasNow (v ∷ earlier) P = P v
 
--- a call that succeeds adds the state `done`; one that fails adds the state `failed`, or none, and none where it was a
--- misuse
+-- a call that succeeds adds the state `done`; one that fails adds the state `failed`, or none, and
+-- none where it was a misuse
 pub record Moves {T E : Type 0} (can : TreeState → Type 0) (done failed : TreeState → TreeState)
     (old new : List TreeState) (result : Result T E) : Type 0 where
   -- what is not observable stays so

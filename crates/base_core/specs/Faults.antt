@@ -29,7 +29,8 @@ pub record GoesOn (before now : Counts) : Type 0 where
 -- a failure is counted, and has its reason
 pub record HasCause (before now : Counts) : Type 0 where
   pub fault : Rose before.faults now.faults
-  pub reason : IsTrue before.fallible ⊎ (Rose before.misuses now.misuses ⊎ Rose before.wants now.wants)
+  pub reason : IsTrue before.fallible ⊎ (Rose before.misuses now.misuses
+      ⊎ Rose before.wants now.wants)
 
 -- no fault was counted, and no want of memory
 pub record IsNoFault (before now : Counts) : Type 0 where

@@ -11,7 +11,8 @@ abbrev pub bytes_in : Option (Vec ℕ Global) → Option (List ℕ)
 bytes_in found = option_map (λ bytes. bytes.items) found
 
 -- a call that only reads; `disk_fault` is its answer where the tree failed
-pub record OnlyReads {A E : Type 0} (disk_fault : E) (old new : List TreeState) (before now : Counts)
+pub record OnlyReads {A E : Type 0} (disk_fault : E) (old new : List TreeState)
+    (before now : Counts)
     (result : Result A E) : Type 0 where
   -- the states stay
   pub same : new ≡ old

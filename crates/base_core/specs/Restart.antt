@@ -15,7 +15,8 @@ EachMoment P [] = Unit {0}
 EachMoment P (v ∷ earlier) = P earlier v × EachMoment P earlier
 
 -- P holds so at each moment since
-pub record SinceBy (P : List TreeState → TreeState → Type 0) (old new : List TreeState) : Type 0 where
+pub record SinceBy (P : List TreeState → TreeState → Type 0)
+    (old new : List TreeState) : Type 0 where
   pub added : List TreeState
   pub is : new ≡ added ++ old
   pub each : EachMoment P added
@@ -23,4 +24,5 @@ pub record SinceBy (P : List TreeState → TreeState → Type 0) (old new : List
 -- at one of the moments the name as read led to a file that was made as number `made` or later
 abbrev pub HasLed : List ℕ → ℕ → List TreeState → Type 0
 HasLed name made [] = ⊥
-HasLed name made (v ∷ earlier) = ((n : ℕ) × (v.names name ≡ Some n) × (made ≤ n)) ⊎ HasLed name made earlier
+HasLed name made (v ∷ earlier) =
+    ((n : ℕ) × (v.names name ≡ Some n) × (made ≤ n)) ⊎ HasLed name made earlier

@@ -7,8 +7,8 @@ pub record File : Type 0 where
   pub bytes : List ℕ
   pub synced : Bool
 
--- the files by number, and how many were made; the names as read, and the maps of names before it, since the names were
--- last synced, the newest first
+-- the files by number, and how many were made; the names as read, and the maps of names before it,
+-- since the names were last synced, the newest first
 pub record TreeState : Type 0 where
   pub files : ℕ → File
   pub made : ℕ
@@ -92,7 +92,8 @@ HasName name v = IsSome (v.names name)
 
 -- the file is there, and has so many bytes from this place on
 abbrev pub CanRead : List ℕ → ℕ → ℕ → TreeState → Type 0
-CanRead name at len v = (bytes : List ℕ) × (files_of v name ≡ Some bytes) × (at + len ≤ length bytes)
+CanRead name at len v =
+    (bytes : List ℕ) × (files_of v name ≡ Some bytes) × (at + len ≤ length bytes)
 
 pub record CanCreate (name : List ℕ) (v : TreeState) : Type 0 where
   pub absent : v.names name ≡ None
@@ -113,8 +114,9 @@ IsAmong map (x ∷ xs) = (map ≡ x) ⊎ IsAmong map xs
 abbrev pub IsMapOf : TreeState → NameMap → Type 0
 IsMapOf v map = IsAmong map (v.names ∷ v.older)
 
--- what holds of every state that a tree shows: in each map of names finitely many names are present, each is a name, none
--- is a folder of another, and each leads to a file that was made; and each file has fewer than 2 ^ 64 bytes
+-- what holds of every state that a tree shows: in each map of names finitely many names are
+-- present, each is a name, none is a folder of another, and each leads to a file that was made; and
+-- each file has fewer than 2 ^ 64 bytes
 pub record IsWhole (v : TreeState) : Type 0 where
   pub finite : (map : NameMap) → IsMapOf v map → (names : List (List ℕ)) × IsWithin names map
   pub named : (map : NameMap) → IsMapOf v map → AreNames map

@@ -1,6 +1,7 @@
 //! Why a container is refused.
 
-/// A digest of a file's bytes: SHA-1 (FIPS 180-4, 20 bytes), SHA-256 (32 bytes) or SHA-512 (64 bytes).
+/// A digest of a file's bytes: SHA-1 (FIPS 180-4, 20 bytes), SHA-256 (32 bytes) or SHA-512 (64
+/// bytes).
 #[derive(Clone, Copy, Debug, PartialEq, Eq)]
 pub enum Digest {
     Sha1([u8; 20]),
@@ -8,8 +9,8 @@ pub enum Digest {
     Sha512([u8; 64]),
 }
 
-/// Why a container (apk-v3(5)), or a database that is a text, is refused. `at` is an offset in bytes
-/// from the file's start, `word` the 32-bit word of a value.
+/// Why a container (apk-v3(5)), or a database that is a text, is refused. `at` is an offset in
+/// bytes from the file's start, `word` the 32-bit word of a value.
 #[derive(Clone, Copy, Debug, PartialEq, Eq)]
 pub enum Cause {
     /// The file does not begin as an ADB container does.
@@ -53,8 +54,9 @@ pub enum Cause {
         first: u32,
         second: u32,
     },
-    /// The contents of one file stand where those of another have to. Each of the two is given by the
-    /// position of its folder and its position in the folder, which count from 1; (0, 0) is none.
+    /// The contents of one file stand where those of another have to. Each of the two is given by
+    /// the position of its folder and its position in the folder, which count from 1; (0, 0) is
+    /// none.
     DataOrder {
         expected: (u32, u32),
         found: (u32, u32),

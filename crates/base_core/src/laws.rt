@@ -23,8 +23,8 @@ pub fn a_crash_settles()
         → (q : List ℕ) → image q ≡ files_of w q }
 {}
 
-/// Which files have to be durable. A crate that can read what is left to do says so, and then learns the
-/// laws below for its own `rests_on`.
+/// Which files have to be durable. A crate that can read what is left to do says so, and then
+/// learns the laws below for its own `rests_on`.
 pub trait Durability {
     /// Whether something rests on the file of a name, by all files and the ignored names.
     ghost rests_on: { (List ℕ → Bool) → Files → List ℕ → Type 0 };
@@ -32,7 +32,8 @@ pub trait Durability {
 
 /// After a crash a tree is orderly, whatever rests on its files.
 pub fn a_crash_leaves_order<D: Durability>()
-    ensures { (ignored : List ℕ → Bool) (v w : TreeState) → IsCrashOf v w → IsOrderly (D.rests_on ignored) w }
+    ensures { (ignored : List ℕ → Bool) (v w : TreeState) → IsCrashOf v w
+        → IsOrderly (D.rests_on ignored) w }
 {}
 
 /// What a crash leaves of an orderly tree has, by one of its maps, the bytes of each file on which
@@ -52,8 +53,8 @@ pub fn order_lasts_where_less_rests<D: Durability>()
 
 // ---- names and files
 
-/// A listing can always be answered: each folder of a whole state has one, in which all are names, and
-/// no second one.
+/// A listing can always be answered: each folder of a whole state has one, in which all are names,
+/// and no second one.
 pub fn a_folder_has_one_listing()
     ensures exists { (v : TreeState) → IsWhole v → (folder : List ℕ)
         → (names : List (List ℕ)) × IsListOf folder v names × AreNamesBelow folder names }
@@ -61,39 +62,43 @@ pub fn a_folder_has_one_listing()
         → IsListOf folder v a → IsListOf folder v b → a ≡ b }
 {}
 
-/// A map with finitely many names has a list of them, and no second one. Each map of a whole state is
-/// such a map.
+/// A map with finitely many names has a list of them, and no second one. Each map of a whole state
+/// is such a map.
 pub fn a_map_has_one_list_of_names()
     ensures exists { (map : NameMap) (within : List (List ℕ)) → IsWithin within map
         → (names : List (List ℕ)) × IsNamesOf map names }
-    ensures one { (map : NameMap) (a b : List (List ℕ)) → IsNamesOf map a → IsNamesOf map b → a ≡ b }
+    ensures one { (map : NameMap) (a b : List (List ℕ)) → IsNamesOf map a → IsNamesOf map b
+        → a ≡ b }
 {}
 
 /// Files under finitely many names have a list of their names, and no second one.
 pub fn files_have_one_list_of_names()
     ensures exists { (files : Files) (within : List (List ℕ)) → IsWithin within files
         → (names : List (List ℕ)) × IsNamesOf files names }
-    ensures one { (files : Files) (a b : List (List ℕ)) → IsNamesOf files a → IsNamesOf files b → a ≡ b }
+    ensures one { (files : Files) (a b : List (List ℕ)) → IsNamesOf files a → IsNamesOf files b
+        → a ≡ b }
 {}
 
 /// The files as read stand under just the names as read.
 pub fn the_files_as_read_have_the_names_as_read()
-    ensures { (v : TreeState) (names : List (List ℕ)) → IsNamesOf v.names names → IsNamesOf (files_of v) names }
+    ensures { (v : TreeState) (names : List (List ℕ)) → IsNamesOf v.names names
+        → IsNamesOf (files_of v) names }
 {}
 
-/// The files of a whole state, by each of its maps, stand under names and have fewer than 2^64 bytes
-/// each, and there are finitely many.
+/// The files of a whole state, by each of its maps, stand under names and have fewer than 2^64
+/// bytes each, and there are finitely many.
 pub fn the_files_of_a_whole_state_are_named_files()
     ensures named { (v : TreeState) → IsWhole v → (map : NameMap) → IsMapOf v map
         → AreNamedFiles (files_by v map) }
     ensures read { (v : TreeState) → IsWhole v → AreNamedFiles (files_of v) }
-    ensures finite { (v : TreeState) → IsWhole v → (names : List (List ℕ)) × IsWithin names (files_of v) }
+    ensures finite { (v : TreeState) → IsWhole v → (names : List (List ℕ))
+        × IsWithin names (files_of v) }
 {}
 
 // ---- calls in a row
 
-/// What is said of the counts over each of two calls in a row holds over both, and with no call no count
-/// changes.
+/// What is said of the counts over each of two calls in a row holds over both, and with no call no
+/// count changes.
 pub fn counts_of_calls_in_a_row_join()
     ensures goes_on { (a b c : Counts) → GoesOn a b → GoesOn b c → GoesOn a c }
     ensures cause_before { (a b c : Counts) → HasCause a b → GoesOn b c → HasCause a c }
@@ -106,13 +111,14 @@ pub fn counts_of_calls_in_a_row_join()
 pub fn readings_in_a_row_join<A, B, E>()
     ensures none { (disk_fault : E) (h : List TreeState) (a : Counts) (value : A)
         → OnlyReads disk_fault h h a a (Ok value) }
-    ensures two { (disk_fault : E) (h0 h1 h2 : List TreeState) (a b c : Counts) (value : A) (then : Result B E)
+    ensures two { (disk_fault : E) (h0 h1 h2 : List TreeState) (a b c : Counts) (value : A)
+        (then : Result B E)
         → OnlyReads disk_fault h0 h1 a b (Ok value) → OnlyReads disk_fault h1 h2 b c then
         → OnlyReads disk_fault h0 h2 a c then }
 {}
 
-/// That a name has led to a file that was made in a run holds of each run that began before, and of more
-/// moments.
+/// That a name has led to a file that was made in a run holds of each run that began before, and of
+/// more moments.
 pub fn a_file_made_in_a_run_was_made_in_an_earlier_one()
     ensures begun { (name : List ℕ) (a b : ℕ) (moments : List TreeState) → a ≤ b
         → HasLed name b moments → HasLed name a moments }

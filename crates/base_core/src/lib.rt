@@ -1,10 +1,12 @@
-//! What the crates above share: names, texts and words; the traits of the outside, `Tree` and `Sink`, with
-//! what their calls mean; a read of a whole file and a write of all bytes; and why a container is refused.
+//! What the crates above share: names, texts and words; the traits of the outside, `Tree` and
+//! `Sink`, with what their calls mean; a read of a whole file and a write of all bytes; and why a
+//! container is refused.
 //!
-//! Bytes come in and leave as `Name`, `Text`, `Words` or `Names`. The contracts cite `Name` (what a name
-//! is), `Files` (files by their names), `Tree`, `Calls` and `Crash` (the states of a tree, what each call
-//! makes of it, and what a crash leaves of it), `Listed` (listings), `Faults` (the counts) and `Sink` of
-//! `specs/`; those that only inner contracts need are `Restart`, `Read` and `Write`.
+//! Bytes come in and leave as `Name`, `Text`, `Words` or `Names`. The contracts cite `Name` (what a
+//! name is), `Files` (files by their names), `Tree`, `Calls` and `Crash` (the states of a tree,
+//! what each call makes of it, and what a crash leaves of it), `Listed` (listings), `Faults` (the
+//! counts) and `Sink` of `specs/`; those that only inner contracts need are `Restart`, `Read` and
+//! `Write`.
 #![tactic(auto)]
 
 mod cause;
@@ -26,6 +28,3 @@ pub use name::{Name, Names, is_folder_of, is_name};
 pub use sink::{Sink, SinkFault, write_all};
 pub use text::{Text, Words};
 pub use tree::{Disk, Tree, TreeFault, read_all};
-
-#[cfg(test)]
-mod tests;

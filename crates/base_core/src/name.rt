@@ -1,3 +1,4 @@
+//! Names of files, and lists of them.
 ghost use Rattle.std.specs.Prelude.{◌≡◌, ◌↔◌, ◌<◌, ◌==◌, ◌++◌, ◌∷◌, [], length, slice_get, Some, IfOk, IfSome, OnOk, OnErr, is_some, IsTrue, All};
 ghost use Rattle.std.specs.List.{list_all};
 ghost use Rattle.std.specs.Str.{is_utf8};
@@ -8,8 +9,8 @@ use std::alloc::{AllocError, Global};
 use std::marker::Model;
 use std::str;
 
-/// A path seen as its bytes: UTF-8, 1 to 1,024 bytes, parts separated by `/`, no part empty, `.` or `..`, no zero
-/// byte. It is relative to the root that a tree stands for.
+/// A path seen as its bytes: UTF-8, 1 to 1,024 bytes, parts separated by `/`, no part empty, `.` or
+/// `..`, no zero byte. It is relative to the root that a tree stands for.
 #[derive(Drop)]
 pub struct Name {
     bytes: Vec<u8>,

@@ -27,7 +27,8 @@ pub trait Sink {
     fn write(&mut self, piece: &[u8]) -> Result<usize, SinkFault>
         ensures taken { IfOk result (λ n. IsWriteCount n piece.now) }
         ensures empty { piece.now ≡ [] → IsOk result }
-        ensures added { IfOk result (λ n. Adds (bytes self.old) (bytes self.new) (take n piece.now)) }
+        ensures added { IfOk result (λ n.
+            Adds (bytes self.old) (bytes self.new) (take n piece.now)) }
         ensures unchanged { OnErr result (bytes self.new ≡ bytes self.old) }
         ensures cause { FailsWithCause (counts self.old) (counts self.new) result };
 }

@@ -1,3 +1,4 @@
+//! Byte texts, and the words of a command line.
 ghost use Rattle.std.specs.Prelude.{◌≡◌, ◌<◌, [], ◌∷◌, ◌++◌, length, IfOk, OnOk, OnErr, slice_get, Some, ◌==◌};
 
 use std::alloc::{AllocError, Global};
@@ -41,8 +42,8 @@ impl Text {
     }
 }
 
-/// The words of a command line, without the program's name: at most 4,294,967,294, so that places, counted from 1,
-/// and the place behind the last one are u32 numbers.
+/// The words of a command line, without the program's name: at most 4,294,967,294, so that places,
+/// counted from 1, and the place behind the last one are u32 numbers.
 #[derive(Drop)]
 pub struct Words {
     alloc: Global,

@@ -44,9 +44,9 @@ impl From<AllocError> for TreeFault {
     }
 }
 
-/// Files under names, as a folder of the host or a tree in memory. A call that would make one name a
-/// folder of another is a misuse. Each call answers `Disk` only where the tree's count of faults rose in
-/// it, also where its history is not observable.
+/// Files under names, as a folder of the host or a tree in memory. A call that would make one name
+/// a folder of another is a misuse. Each call answers `Disk` only where the tree's count of faults
+/// rose in it, also where its history is not observable.
 pub trait Tree {
     /// The states so far, the newest first. It is empty where they are not observable.
     ghost history: { Self → List TreeState };
@@ -57,46 +57,49 @@ pub trait Tree {
     /// The file's length in bytes, or None exactly where the name is absent.
     fn size(&mut self, name: &Name) -> Result<Option<u64>, Disk>
         ensures same { history self.new ≡ history self.old }
-        ensures counts { IsCounted Anywhere (history self.old) (counts self.old) (counts self.new) result }
+        ensures counts { IsCounted Anywhere (history self.old) (counts self.old)
+            (counts self.new) result }
         ensures value { IfOk result (λ size. IfObservable (history self.old) (λ v.
             size ≡ option_map length (files_of v name.now))) };
 
-    /// Fills the buffer with the file's bytes from `at` on. An absent name, or a read past the file's
-    /// end, is a misuse, and a fault.
+    /// Fills the buffer with the file's bytes from `at` on. An absent name, or a read past the
+    /// file's end, is a misuse, and a fault.
     fn read_at(&mut self, name: &Name, at: u64, into: &mut [u8]) -> Result<(), Disk>
         ensures same { history self.new ≡ history self.old }
         ensures counts { IsCounted (CanRead name.now at (length into.old)) (history self.old)
             (counts self.old) (counts self.new) result }
         ensures value { OnOk result (IfObservable (history self.old) (λ v.
-            IfSome (files_of v name.now) (λ bytes. into.new ≡ take (length into.old) (drop at bytes)))) };
+            IfSome (files_of v name.now) (λ bytes.
+            into.new ≡ take (length into.old) (drop at bytes)))) };
 
-    /// Makes an empty file, which is not synced. A name that is present, or that would make one name a
-    /// folder of another, is a misuse, and a fault.
+    /// Makes an empty file, which is not synced. A name that is present, or that would make one
+    /// name a folder of another, is a misuse, and a fault.
     fn create(&mut self, name: &Name) -> Result<(), Disk>
         ensures moves { Moves (CanCreate name.now) (after_create name.now) (after_create name.now)
             (history self.old) (history self.new) result }
         ensures counts { IsCounted (CanCreate name.now) (history self.old)
             (counts self.old) (counts self.new) result };
 
-    /// Adds a piece at the file's end. The file is not synced any more, and where the call fails it may
-    /// not be either. An absent name is a misuse, and a fault.
+    /// Adds a piece at the file's end. The file is not synced any more, and where the call fails it
+    /// may not be either. An absent name is a misuse, and a fault.
     fn append(&mut self, name: &Name, piece: &[u8]) -> Result<(), Disk>
-        ensures moves { Moves (HasName name.now) (after_append name.now piece.now) (after_failed_append name.now)
+        ensures moves { Moves (HasName name.now) (after_append name.now piece.now)
+            (after_failed_append name.now)
             (history self.old) (history self.new) result }
         ensures counts { IsCounted (HasName name.now) (history self.old)
             (counts self.old) (counts self.new) result };
 
-    /// File fsync: no later crash undoes what was written to the file before this call. An absent name
-    /// is a misuse, and a fault.
+    /// File fsync: no later crash undoes what was written to the file before this call. An absent
+    /// name is a misuse, and a fault.
     fn sync(&mut self, name: &Name) -> Result<(), Disk>
         ensures moves { Moves (HasName name.now) (after_sync name.now) same_state
             (history self.old) (history self.new) result }
         ensures counts { IsCounted (HasName name.now) (history self.old)
             (counts self.old) (counts self.new) result };
 
-    /// Lets `to` lead to the file of `from`, and `from` to none, in one step; what `to` led to is gone.
-    /// An absent `from`, the same name twice, or a `to` that would make one name a folder of another is
-    /// a misuse, and a fault.
+    /// Lets `to` lead to the file of `from`, and `from` to none, in one step; what `to` led to is
+    /// gone. An absent `from`, the same name twice, or a `to` that would make one name a folder of
+    /// another is a misuse, and a fault.
     fn rename(&mut self, from: &Name, to: &Name) -> Result<(), Disk>
         ensures moves { Moves (CanRename from.now to.now) (after_rename from.now to.now)
             (after_rename from.now to.now) (history self.old) (history self.new) result }
@@ -107,15 +110,18 @@ pub trait Tree {
     fn remove(&mut self, name: &Name) -> Result<(), Disk>
         ensures moves { Moves Anywhere (after_remove name.now) (after_remove name.now)
             (history self.old) (history self.new) result }
-        ensures counts { IsCounted Anywhere (history self.old) (counts self.old) (counts self.new) result };
+        ensures counts { IsCounted Anywhere (history self.old) (counts self.old)
+            (counts self.new) result };
 
     /// Directory fsync: no later crash undoes a change of names made before this call.
     fn sync_names(&mut self) -> Result<(), Disk>
-        ensures moves { Moves Anywhere after_sync_names same_state (history self.old) (history self.new) result }
-        ensures counts { IsCounted Anywhere (history self.old) (counts self.old) (counts self.new) result };
+        ensures moves { Moves Anywhere after_sync_names same_state (history self.old)
+            (history self.new) result }
+        ensures counts { IsCounted Anywhere (history self.old) (counts self.old)
+            (counts self.new) result };
 
-    /// All names below a folder, at any depth. They are names below the folder in byte order, each once,
-    /// also where the history is not observable. Want of memory is no fault of the tree.
+    /// All names below a folder, at any depth. They are names below the folder in byte order, each
+    /// once, also where the history is not observable. Want of memory is no fault of the tree.
     fn list(&mut self, alloc: Global, folder: &Name) -> Result<Names, TreeFault>
         ensures same { history self.new ≡ history self.old }
         ensures goes_on { GoesOn (counts self.old) (counts self.new) }
@@ -123,7 +129,8 @@ pub trait Tree {
         ensures kept { OnOk result (IsNoFault (counts self.old) (counts self.new)) }
         ensures memory { IsErrOf result Memory → IsNoFault (counts self.old) (counts self.new) }
         ensures proper { (counts self.new).misuses ≡ (counts self.old).misuses }
-        ensures value { IfOk result (λ names. IfObservable (history self.old) (λ v. IsListOf folder.now v names)) }
+        ensures value { IfOk result (λ names.
+            IfObservable (history self.old) (λ v. IsListOf folder.now v names)) }
         ensures order { IfOk result (λ names. AreNamesBelow folder.now names) };
 
     /// Each state that is observable is whole: its names are names, finitely many, none a folder of
@@ -131,7 +138,8 @@ pub trait Tree {
     ghost whole: { (tree : Self) → All IsWhole (history tree) };
 }
 
-/// The whole file, or None exactly where it is absent. The tree stays as it is, whatever the answer.
+/// The whole file, or None exactly where it is absent. The tree stays as it is, whatever the
+/// answer.
 ///
 /// # Errors
 ///

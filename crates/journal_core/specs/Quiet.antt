@@ -7,9 +7,12 @@ use Rattle.journal_core.specs.Recovery.{RestsOn, state_of}
 
 -- each crash leaves a state that one at an earlier moment might have left
 abbrev pub IsQuiet : (List ℕ → Bool) → TreeState → TreeState → Type 0
-IsQuiet ignored start v = (image : Files) → IsImage v image → (was : Files) × IsImage start was × (state_of ignored image ≡ state_of ignored was)
+IsQuiet ignored start v =
+    (image : Files) → IsImage v image → (was : Files) × IsImage start was
+    × (state_of ignored image ≡ state_of ignored was)
 
--- an orderly moment at which nothing has happened to the state, nor to the state as read; files may have been made
+-- an orderly moment at which nothing has happened to the state, nor to the state as read; files may
+-- have been made
 pub record IsStill (ignored : List ℕ → Bool) (start v : TreeState) : Type 0 where
   pub orderly : IsOrderly (RestsOn ignored) v
   pub quiet : IsQuiet ignored start v

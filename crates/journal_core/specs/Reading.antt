@@ -6,7 +6,8 @@ use Rattle.journal_core.specs.Replacing.{replaced_files_by, scratch_of}
 
 -- the files are the old ones, apart from the scratch name, or they are the new ones
 abbrev pub IsOldOrReplaced : List ℕ → List ℕ → List ℕ → Files → Files → Type 0
-IsOldOrReplaced scratch name bytes old now = ((q : List ℕ) → q ≢ scratch → now q ≡ old q) ⊎ (now ≡ replaced_files_by scratch name bytes old)
+IsOldOrReplaced scratch name bytes old now =
+    ((q : List ℕ) → q ≢ scratch → now q ≡ old q) ⊎ (now ≡ replaced_files_by scratch name bytes old)
 
 -- the files as read are so
 abbrev pub IsReadAs : List ℕ → List ℕ → Files → TreeState → Type 0

@@ -1,4 +1,5 @@
--- What files stand for, also in the midst of a change: the intent that is still to be done, and the names that no state has.
+-- What files stand for, also in the midst of a change: the intent that is still to be done, and the
+-- names that no state has.
 use Rattle.std.specs.Prelude.{◌≡◌, ◌⊎◌, ◌≤◌, ◌<◌, ℕ, ◌+◌, Bool, false, ◌||◌, if◌then◌else◌, List, [], ◌∷◌, ◌++◌, map, length, Option, Some, None, codes, decimal, nat_eq}
 use Rattle.std.specs.Str.{bytes_eq}
 use Rattle.std.specs.List.{starts_with, list_any}
@@ -14,7 +15,7 @@ use Rattle.adb_tables.specs.declared.tables.Which.TheVariants.{Intent as IntentT
 
 -- ---- names
 
--- the file that tells what is left to do
+-- the file that says what is left to do
 abbrev pub intent_name : List ℕ
 intent_name = codes "lib/apk/intent"
 
@@ -38,7 +39,11 @@ pub record Intent : Type 0 where
 
 -- the two lists of an intent container's plain value
 abbrev pub intent_in : Plain → Intent
-intent_in v = record { removals = map text_in (entries_at 0 v); writes = map text_in (entries_at 1 v) }
+intent_in v = record {
+  removals = map text_in (entries_at 0 v);
+  writes =
+      map text_in (entries_at 1 v);
+}
 
 abbrev pub intent_unless : Option Cause → Plain → Option Intent
 intent_unless None v = Some (intent_in v)
@@ -46,7 +51,8 @@ intent_unless (Some cause) v = None
 
 -- the intent that a file's bytes spell, or none where they are no intent container
 unfoldable pub read_intent : List ℕ → Option Intent
-read_intent file = intent_unless (first_fault IntentTable file) (root_value IntentTable (payload_in file))
+read_intent file = intent_unless (first_fault IntentTable file)
+    (root_value IntentTable (payload_in file))
 
 abbrev pub intent_at : Option (List ℕ) → Option Intent
 intent_at None = None
@@ -69,7 +75,8 @@ move_if files from to (Some bytes) = move_name files from to bytes
 -- the waiting files from number k on are moved to their names; one that is absent was moved before
 abbrev pub after_moves : ℕ → List (List ℕ) → Files → Files
 after_moves k [] files = files
-after_moves k (name ∷ names) files = after_moves (k + 1) names (move_if files (stage_name k) name (files (stage_name k)))
+after_moves k (name ∷ names) files =
+    after_moves (k + 1) names (move_if files (stage_name k) name (files (stage_name k)))
 
 -- the files once all actions are done
 abbrev pub after_actions : Intent → Files → Files
@@ -81,7 +88,8 @@ abbrev pub recovered_files_by : Option Intent → Files → Files
 recovered_files_by None files = files
 recovered_files_by (Some intent) files = drop_name (after_actions intent files) intent_name
 
--- the files once their intent is done and gone; the same files, where there is none or it is no intent container
+-- the files once their intent is done and gone; the same files, where there is none or it is no
+-- intent container
 abbrev pub recovered_files : Files → Files
 recovered_files files = recovered_files_by (intent_of files) files
 
@@ -100,17 +108,21 @@ abbrev pub IsPlaceOf : Option Intent → List ℕ → Type 0
 IsPlaceOf None q = ⊥
 IsPlaceOf (Some intent) q = (k : ℕ) × (1 ≤ k) × (k < 1 + length intent.writes) × (q ≡ stage_name k)
 
--- the state of files rests on their intent, on each file that is not hidden, and on those that wait for the intent's actions
+-- the state of files rests on their intent, on each file that is not hidden, and on those that wait
+-- for the intent's actions
 abbrev pub RestsOn : (List ℕ → Bool) → Files → List ℕ → Type 0
-RestsOn ignored files q = (q ≡ intent_name) ⊎ (((is_staged q || ignored q) ≡ false) ⊎ IsPlaceOf (intent_of files) q)
+RestsOn ignored files q =
+    (q ≡ intent_name) ⊎ (((is_staged q || ignored q) ≡ false) ⊎ IsPlaceOf (intent_of files) q)
 
 -- ---- what a crash leaves, as states
 
 -- each crash leaves the state of these files
 abbrev pub IsSettled : (List ℕ → Bool) → Files → TreeState → Type 0
-IsSettled ignored files v = (image : Files) → IsImage v image → state_of ignored image ≡ state_of ignored files
+IsSettled ignored files v =
+    (image : Files) → IsImage v image → state_of ignored image ≡ state_of ignored files
 
 -- each crash leaves a state that one at an earlier moment might have left, or that of these files
 abbrev pub IsOldOrNew : (List ℕ → Bool) → TreeState → Files → TreeState → Type 0
 IsOldOrNew ignored start files v = (image : Files) → IsImage v image
-    → ((was : Files) × IsImage start was × (state_of ignored image ≡ state_of ignored was)) ⊎ (state_of ignored image ≡ state_of ignored files)
+    → ((was : Files) × IsImage start was × (state_of ignored image ≡ state_of ignored was))
+    ⊎ (state_of ignored image ≡ state_of ignored files)

@@ -1,8 +1,8 @@
 //! Changes of a tree that a crash cannot cut in two: a whole file replaced.
 //!
-//! The contracts cite `Recovery` (the intent, the state that files stand for, and what a crash leaves of
-//! it), `Replacing` and `Reading` (a whole file in the place of another) and `Quiet` (moments at which
-//! nothing happens to the state) of `specs/`.
+//! The contracts cite `Recovery` (the intent, the state that files stand for, and what a crash
+//! leaves of it), `Replacing` and `Reading` (a whole file in the place of another) and `Quiet`
+//! (moments at which nothing happens to the state) of `specs/`.
 #![tactic(auto)]
 
 mod laws;

@@ -1,6 +1,5 @@
 pub mod Apart
 pub mod Blind
-pub mod FoundShapes
 pub mod GoodValues
 pub mod IndexEntry
 pub mod InformationGood

@@ -21,11 +21,11 @@ use Rattle.adb_schema.specs.Soundness.{blocks_fault, file_fault, first_payload, 
 use Rattle.adb_tables.specs.declared.tables.Which.TheVariants.{Package}
 use Rattle.adb_tables.specs.declared.tables.Kind.TheVariants.{Obj}
 use Rattle.pkg_core.specs.Whole.{behind_fault, package_fault, package_with_contents, whole_fault}
-use Rattle.make_core.proofs.FoundShapes.{found_shaped}
 
 -- what the layers below say of values that are found
 pub record Values : Type 0 where
   pub normal : (payload : List ℕ) → All (λ b. b < 256) payload → (shape : Shape) (word : ℕ) → IfSome (plain_of payload shape word) IsNormal
+  pub shapes : (payload : List ℕ) (shape : Shape) (word : ℕ) → IfSome (plain_of payload shape word) (HasShape shape)
   pub faultless : (payload : List ℕ) (shape : Shape) (word : ℕ) → (shape_fault payload shape word ≡ None) ↔ ((is_some (plain_of payload shape word) ≡ true) × (length (visits payload shape word) ≤ LIMIT))
 
 abbrev AreBytes : List ℕ → Type 0
@@ -116,7 +116,7 @@ value_opened laws payload p =
     let is = some_is (plain_of payload (shape_of (Obj Package)) (root_of payload)) found.0 in
     record {
       normal = subst (λ (o : Option Plain). IfSome o IsNormal) is (laws.normal payload p.0 (shape_of (Obj Package)) (root_of payload));
-      shaped = found_shaped payload (shape_of (Obj Package)) (root_of payload) _ is;
+      shaped = subst (λ (o : Option Plain). IfSome o (HasShape (shape_of (Obj Package)))) is (laws.shapes payload (shape_of (Obj Package)) (root_of payload));
       kept = front_none _ _ texts;
     }
 

@@ -1,17 +1,24 @@
 -- The parts of a value that has its shape and keeps its rules.
 use Rattle.std.proofs.Common.{◌≡◌, ℕ, zero, suc, ◌+◌, ◌<◌, Option, Some, None, refl, sym, subst, arith, add-zero}
-use Rattle.adb_view.specs.Plain.{Plain, null, int, blob, arr, obj, Plains, none, more, Shape, object, Fields, no_fields, field}
+use Rattle.adb_view.specs.Plain.{Plain, null, int, blob, arr, obj, Plains, none, more, Shape, number, text, hash, array, object, Fields, no_fields, field}
 use Rattle.adb_view.specs.Shaped.{HasShape, HaveShapes}
 use Rattle.adb_rules.specs.Texts.{Surroundings, leaves, field_leaves, first_bad}
 use Rattle.adb_tables.specs.Values.{nth, entries_in}
 use Rattle.make_index.specs.Entries.{with_at}
-use Rattle.make_core.proofs.FoundShapes.{null_shaped}
 use Rattle.make_core.proofs.GoodValues.{good_append, good_back, good_front}
 
 abbrev pub shape_at : Fields → ℕ → Option Shape
 shape_at no_fields i = None
 shape_at (field name s fs) zero = Some s
 shape_at (field name s fs) (suc i) = shape_at fs i
+
+null_shaped : (s : Shape) → HasShape s null
+unfolding HasShape
+null_shaped number = tt
+null_shaped text = tt
+null_shaped hash = tt
+null_shaped (array s) = tt
+null_shaped (object schema fs) = tt
 
 pub part_shaped : (fs : Fields) (i : ℕ) (s : Shape) (vs : Plains) → shape_at fs i ≡ Some s → HaveShapes fs vs → HasShape s (nth vs i)
 unfolding HaveShapes

@@ -15,7 +15,7 @@ use adb_sound::{
     a_container_of_a_good_value_is_sound, a_package_of_a_good_value_and_its_contents_is_sound,
     contents_stand_in_their_container,
 };
-use adb_view::values_are_normal;
+use adb_view::{values_are_normal, values_have_their_shape};
 use adb_write::a_value_overflows_exactly_past_a_limit;
 use dep_core::{read_texts_are_spelled, values_are_read_back};
 use make_package::the_installed_size_is_that_of_the_contents;
@@ -30,6 +30,7 @@ pub fn a_made_index_is_sound()
     a_container_of_a_good_value_is_sound();
     a_value_overflows_exactly_past_a_limit();
     values_are_normal();
+    values_have_their_shape();
     values_of_few_visits_have_no_fault();
 }
 

@@ -24,7 +24,7 @@ use Rattle.make_index.proofs.IndexAgain.{entry_again, entry_id, entry_name, entr
 use Rattle.make_index.proofs.IndexRules.{package_version}
 use Rattle.sha2.specs.Sha256.{sha256}
 use Rattle.std.specs.declared.alloc.Global.{Global}
-use Rattle.make_index.proofs.IndexShapes.{info_of_package, value_shape}
+use Rattle.make_index.proofs.IndexShapes.{FoundShapes, info_of_package, value_shape}
 use Rattle.make_index.proofs.IndexSound.{payload_all}
 
 -- ---- what was written within the limits
@@ -110,8 +110,8 @@ module _
       })
 
 -- the info of a package has the shape of one
-package_info_shape : (payload : List ℕ) → HasShape (shape_of (Kinds.Obj Tables.PkgInfo)) (entry_in (root_value Tables.Package payload) 0)
-package_info_shape payload = info_of_package (root_value Tables.Package payload) (value_shape payload (Kinds.Obj Tables.Package) (root_of payload))
+package_info_shape : FoundShapes → (payload : List ℕ) → HasShape (shape_of (Kinds.Obj Tables.PkgInfo)) (entry_in (root_value Tables.Package payload) 0)
+package_info_shape shapes payload = info_of_package (root_value Tables.Package payload) (value_shape shapes payload (Kinds.Obj Tables.Package) (root_of payload))
 
 -- ---- what an entry is ordered by
 
@@ -133,24 +133,24 @@ if_some P Q (Some x) f h = f x h
 pub bytes_all : (xs : List ℕ) → ((i : ℕ) → get_or xs i 0 < 256) → All (λ b. b < 256) xs
 bytes_all xs h k d l = subst (λ n. n < 256) (get_or_default xs k 0 d l) (h k)
 
-pub holds_found :
+pub holds_found : FoundShapes →
     ((shape : Shape) (v : Plain) → IsNormal v → HasShape shape v → size_of v ≤ MOST_BYTES → value_of (canonical v) shape ≡ Some v)
     → ((v : Plain) → IsNormal v → is_some (overflow_of v) ≡ passes (size_of v, value_count v))
     → ((payload : List ℕ) → All (λ b. b < 256) payload → (shape : Shape) (word : ℕ) → IfSome (plain_of payload shape word) IsNormal)
     → (file : List ℕ) (value : Plain) (payload : List ℕ) → value ≡ root_value Tables.Package (payload_in file) → payload ≡ payload_in file → All (λ b. b < 256) file → length file < 2 ^ 64
     → (found : Option (Vec ℕ Global)) → IfSome found (λ own. written_of (entry_value (entry_in value 0) (sha256 payload) (length file)) ≡ Ok own.items) → IfSome found (λ own. HoldsEntry own.items (entry_of_package file))
-holds_found read_back overflows normal file value payload is_value is_payload bytes small found h =
+holds_found shapes read_back overflows normal file value payload is_value is_payload bytes small found h =
     let info : Plain = entry_in (root_value Tables.Package (payload_in file)) 0 in
     let value_is_normal : IsNormal (root_value Tables.Package (payload_in file)) = value_normal read_back overflows normal (payload_in file) (Kinds.Obj Tables.Package) (root_of (payload_in file)) (payload_all (λ b. b < 256) file bytes) in
     if_some _ _ found (λ own made. holds read_back overflows normal info (package_id file) (length file) own.items
     (entry_in_normal read_back overflows normal (root_value Tables.Package (payload_in file)) 0 value_is_normal)
-    (package_info_shape (payload_in file)) small
+    (package_info_shape shapes (payload_in file)) small
     ((λ j. written_of (entry_value (entry_in (sym is_value j) 0) (sha256 (sym is_payload j)) (length file))) ∙ made)) h
 
 -- ---- the entry of any package
 
-pub entry_of_shape : (file : List ℕ) → HasShape (shape_of (Kinds.Obj Tables.PkgInfo)) (entry_of_package file)
-entry_of_shape file = entry_shape (entry_in (root_value Tables.Package (payload_in file)) 0) (package_id file) (length file) (package_info_shape (payload_in file))
+pub entry_of_shape : FoundShapes → (file : List ℕ) → HasShape (shape_of (Kinds.Obj Tables.PkgInfo)) (entry_of_package file)
+entry_of_shape shapes file = entry_shape (entry_in (root_value Tables.Package (payload_in file)) 0) (package_id file) (length file) (package_info_shape shapes (payload_in file))
 
 pub entry_of_version : (file : List ℕ) → first_fault Tables.Package file ≡ None → is_version (text_in (entry_in (entry_of_package file) 1)) ≡ true
 entry_of_version file sound = ap is_version (entry_version (entry_in (root_value Tables.Package (payload_in file)) 0) (package_id file) (length file)) ∙ package_version file sound

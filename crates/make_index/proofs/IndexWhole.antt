@@ -1,13 +1,15 @@
 -- The index that a command asks for, over any tree.
-use Rattle.std.proofs.Common.{◌≡◌, ℕ, true, List, [], ◌∷◌, Option, Result, Ok, Err, refl, sym, ◌∙◌, ap, subst, Bool, not, ◌&&◌, length}
-use Rattle.std.specs.Prelude.{nat_le}
+use Rattle.std.proofs.Common.{◌≡◌, ℕ, true, List, [], ◌∷◌, Option, Some, Result, Ok, Err, refl, sym, ◌∙◌, ap, subst}
 use Rattle.base_core.specs.Calls.{IfObservable}
 use Rattle.base_core.specs.Tree.{TreeState}
 use Rattle.adb_view.specs.Plain.{Plain}
-use Rattle.command_core.specs.Command.{CommandLine, IsCommand}
-use Rattle.command_core.specs.Applets.{may_have, needed_option, operand_rule, value_rules}
-use Rattle.command_core.specs.Operands.{are_files, are_operands}
-use Rattle.command_core.specs.Values.{are_values, lacks_value}
+use Rattle.command_core.specs.Command.{CommandLine}
+use Rattle.command_core.specs.Sound.{IsCommand}
+use Rattle.command_core.specs.Applets.{operand_rule}
+use Rattle.command_core.specs.Named.{are_files}
+use Rattle.command_core.specs.Operands.{at_least}
+use Rattle.command_core.specs.declared.operands.OperandKind.TheVariants.{File}
+use Rattle.command_core.specs.declared.operands.OperandRule.{OperandRule}
 use Rattle.command_core.specs.declared.operands.Operand.{Operand}
 use Rattle.command_core.specs.declared.command.Applet.{Applet}
 use Rattle.command_core.specs.declared.command.Applet.TheVariants.{Mkndx}
@@ -16,16 +18,7 @@ use Rattle.make_index.specs.Kept.{IsMade, IsMadeBy}
 use Rattle.make_index.specs.Files.{reads_of, AreFiles}
 use Rattle.make_info.specs.declared.fault.MakeFault.{MakeFault}
 use Rattle.make_info.specs.declared.fault.MakeFault.TheVariants.{FileMissing, FileBad, InfoBad, TooLarge, Disk, Memory}
-use Rattle.make_index.proofs.IndexReads.{both_true, by_made}
-
-pub command_files : (command : CommandLine) → IsCommand command → command.applet ≡ Mkndx → are_files command.operands ≡ true
-command_files command h e =
-    let operands : Bool = are_operands (operand_rule command.applet command.flags) command.operands in
-    let values : Bool = are_values (value_rules command.applet) command.values in
-    let all : (may_have command.applet command.flags && operands && values) ≡ true = (both_true (may_have command.applet command.flags && operands && values) (not (lacks_value (needed_option command.applet) command.values)) h).0 in
-    let taken : operands ≡ true = (both_true (may_have command.applet command.flags) operands (both_true (may_have command.applet command.flags && operands) values all).0).1 in
-    let own : are_operands (operand_rule Mkndx command.flags) command.operands ≡ true = subst (λ (a : Applet). are_operands (operand_rule a command.flags) command.operands ≡ true) e taken in
-    (both_true (nat_le 0 (length command.operands) && true) (are_files command.operands) own).1
+use Rattle.make_index.proofs.IndexReads.{by_made}
 
 made_all : {A : Type 0} (view : A → List ℕ) (d : List ℕ) (r : Result A MakeFault) (told : Result (List Plain) MakeFault) (es : List Plain) → told ≡ Ok es → IsMade view r (index_of d es) → IsMadeBy view r (index_of_found d told)
 made_all view d r told es e h = subst (λ (t : Result (List Plain) MakeFault). IsMadeBy view r (index_of_found d t)) (sym e) (by_made view r (index_of d es) h)
@@ -58,5 +51,9 @@ module _ (command : CommandLine) (os : List Operand) (is_os : os ≡ command.ope
   pub found_refused : {A B : Type 0} (one : B → List Plain) (view : A → List ℕ) (fault : MakeFault) (r : Result A MakeFault) → (read : ℕ → List ℕ → Option (List ℕ)) × AreFiles read 0 os × IsMadeBy one (Err fault) (found_entries read 0 os) → r ≡ Err fault → (read : ℕ → List ℕ → Option (List ℕ)) × AreFiles read 0 command.operands × IsMadeBy view r (made_index command read)
   found_refused one view fault r so e = (so.0, subst (AreFiles so.0 0) is_os so.1, by_command command (description_in command.values) os refl is_os view so.0 r (subst (λ x. IsMadeBy view x (index_of_found (description_in command.values) (found_entries so.0 0 os))) (sym e) (refused_all one view (description_in command.values) fault _ so.2)))
 
-pub files_by : (command : CommandLine) (os : List Operand) → IsCommand command → command.applet ≡ Mkndx → os ≡ command.operands → are_files os ≡ true
-files_by command os h e is = ap are_files is ∙ command_files command h e
+-- what the layer of commands says of operands that are files
+abbrev pub AreFileOperands : Type 0
+AreFileOperands = (c : CommandLine) (rule : OperandRule) → IsCommand c → operand_rule c.applet c.flags ≡ Some rule → rule.kind ≡ File → are_files c.operands ≡ true
+
+pub files_by : AreFileOperands → (command : CommandLine) (os : List Operand) → IsCommand command → command.applet ≡ Mkndx → os ≡ command.operands → are_files os ≡ true
+files_by law command os h e is = ap are_files is ∙ law command (at_least 0 File) h (ap (λ (a : Applet). operand_rule a command.flags) e) refl

@@ -16,7 +16,7 @@ ghost use Rattle.version_core.specs.Order.{is_version, version_cmp};
 ghost use Rattle.adb_tables.specs.declared.tables.Which.TheVariants as Tables;
 
 use crate::source::{EntryPayload, EntrySource, PackageFile, entry_payload};
-use adb_view::{Val, values_are_normal};
+use adb_view::{Val, values_are_normal, values_have_their_shape};
 use adb_write::{Writer, a_canonical_payload_is_read_back, a_value_overflows_exactly_past_a_limit};
 use base_core::Cause;
 use make_info::MakeFault;
@@ -82,7 +82,8 @@ impl Entry {
 
     /// Writes the entry.
     pub(crate) fn write(&self, alloc: Global, writer: &mut Writer) -> Result<Val, AllocError>
-        ensures { IfOk result (λ word. WritesValue writer.old (entry_view self.now) word writer.new) }
+        ensures { IfOk result (λ word. WritesValue writer.old
+            (entry_view self.now) word writer.new) }
     {
         self.source.write(alloc, writer)
     }
@@ -122,6 +123,7 @@ fn read_parts(alloc: Global, place: u32, file: &[u8]) -> Result<Parts, MakeFault
     a_canonical_payload_is_read_back();
     a_value_overflows_exactly_past_a_limit();
     values_are_normal();
+    values_have_their_shape();
     let pkg = open_tested(alloc, place, file)?;
     let info = pkg.view().info();
     let mut name = Vec::new(alloc);

@@ -23,16 +23,16 @@ ghost use Rattle.make_info.specs.Reads.{Reads};
 ghost use Rattle.make_info.specs.Values.{plains_of};
 ghost use Rattle.std.specs.Prelude.{◌≡◌, ◌≤◌, Ok, IfOk, IfErr, length, map, ◌<◌, ◌^◌, ℕ, List, All, true, None, ◌++◌, ◌∷◌, [], Option, IfSome, IsTrue};
 ghost use Rattle.version_core.specs.Order.{is_version};
-ghost use Rattle.command_core.specs.Operands.{are_files};
+ghost use Rattle.command_core.specs.Named.{are_files};
 
 use crate::entry::Entry;
 use adb_schema::INDEX_WORD;
-use adb_view::{Val, values_are_normal};
+use adb_view::{Val, values_are_normal, values_have_their_shape};
 use adb_write::{
     Writer, a_value_written_depth_first_is_canonical, file_of, values_are_written_depth_first,
 };
 use base_core::{Name, Tree, read_all};
-use command_core::{Applet, Command, DESCRIPTION, Operands, Values};
+use command_core::{Applet, Command, DESCRIPTION, Operands, Values, file_operands_are_files};
 use make_info::MakeFault;
 use std::alloc::{AllocError, Global};
 use version_core::order_is_total;
@@ -53,6 +53,7 @@ pub fn make<T: Tree>(alloc: Global, command: &Command, tree: &mut T) -> Result<V
     ensures tree { OnlyReads MakeFault.Disk (T.history tree.old) (T.history tree.new)
         (T.counts tree.old) (T.counts tree.new) result }
 {
+    file_operands_are_files();
     let entries = read_entries(alloc, command.operands(), tree)?;
     index_file(alloc, description(command.values()), entries)
 }
@@ -191,8 +192,8 @@ fn write_index(
 
 /// Writes an array of entries.
 fn write_entries(alloc: Global, writer: &mut Writer, entries: &[Entry]) -> Result<Val, AllocError>
-    ensures { IfOk result (λ word.
-        WritesValue writer.old (arr_value (plains_of (map entry_view entries.now))) word writer.new) }
+    ensures { IfOk result (λ word. WritesValue writer.old
+        (arr_value (plains_of (map entry_view entries.now))) word writer.new) }
 {
     values_are_written_depth_first();
     let mut words = Vec::with_capacity(alloc, entries.len())?;
@@ -213,4 +214,5 @@ pub fn an_entry_is_an_info()
         → is_version (version_in (entry_of_package file)) ≡ true }
 {
     values_are_normal();
+    values_have_their_shape();
 }

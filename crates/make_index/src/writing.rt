@@ -8,7 +8,7 @@ ghost use Rattle.make_index.specs.Entries.{int_value, without_zeros, entry_value
 ghost use Rattle.make_index.specs.Appending.{IsAppended, text_plains, int_plains};
 
 use adb_schema::{DepView, List, PkgInfo};
-use adb_view::Val;
+use adb_view::{Val, values_have_their_shape};
 use adb_write::{Writer, values_are_written_depth_first};
 use std::alloc::{AllocError, Global};
 
@@ -27,6 +27,7 @@ pub(crate) fn write_info<'a>(
     ensures { IfOk result (λ word. WritesValue writer.old
         (entry_value (info_value info.now) id.now len) word writer.new) }
 {
+    values_have_their_shape();
     values_are_written_depth_first();
     let mut words = Vec::with_capacity(alloc, INFO_FIELDS)?;
     add_texts(
@@ -146,6 +147,7 @@ fn write_tags<'a>(
     ensures { IfOk result (λ word. WritesValue writer.old
         (without_zeros (list_value texts.entry)) word writer.new) }
 {
+    values_have_their_shape();
     values_are_written_depth_first();
     let mut words = Vec::new(alloc);
     for i in 0..texts.len() {
@@ -163,6 +165,7 @@ fn write_deps<'a>(
     ensures { IfOk result (λ word. WritesValue writer.old
         (without_zeros (list_value deps.entry)) word writer.new) }
 {
+    values_have_their_shape();
     values_are_written_depth_first();
     let mut words = Vec::new(alloc);
     for i in 0..deps.len() {
@@ -176,6 +179,7 @@ fn write_dep(writer: &mut Writer, dep: &DepView<'_>) -> Result<Val, AllocError>
     ensures { IfOk result (λ word. WritesValue writer.old
         (without_zeros (dependency_value dep.now)) word writer.new) }
 {
+    values_have_their_shape();
     values_are_written_depth_first();
     let name = writer.blob(dep.name())?;
     let version = writer.blob(dep.version())?;

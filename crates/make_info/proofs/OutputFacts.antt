@@ -1,59 +1,41 @@
 -- An output is short, and it is there.
 use Rattle.command_core.specs.declared.values.TheConstants.{OUTPUT}
 use Rattle.std.proofs.Common.{◌≡◌, ℕ, ◌≤◌, Bool, true, false, not, cond, List, [], ◌∷◌, ◌++◌, length, map, Option, Some, None, Result, Ok, Err, refl, sym, ◌∙◌, ap, subst}
-use Rattle.std.specs.Prelude.{is_ok, is_some, nat_le, ◌&&◌, ◌||◌, if◌then◌else◌}
+use Rattle.std.specs.Prelude.{is_ok, is_some, ◌==◌, ◌&&◌, ◌||◌, if◌then◌else◌}
 use Rattle.std.specs.List.{find, list_any}
 use Rattle.std.specs.Option.{option_and_then, option_map, option_or}
-use Rattle.std.proofs.lemmas.Bool.{and_parts, leb-true}
+use Rattle.std.proofs.lemmas.Bool.{and_parts}
 use Rattle.std.proofs.lemmas.Option.{none-some}
 use Rattle.version_core.specs.Order.{is_version}
 use Rattle.dep_core.specs.Dependency.{is_package_name}
-use Rattle.command_core.specs.Applets.{may_have, needed_option, operand_rule, value_rules}
-use Rattle.command_core.specs.Command.{CommandLine, IsCommand}
-use Rattle.command_core.specs.Values.{are_values, is_given, lacks_value}
-use Rattle.command_core.specs.Operands.{are_operands}
-use Rattle.command_core.specs.Files.{is_file, without_dot}
-use Rattle.command_core.specs.declared.command.Applet.{Applet}
-use Rattle.command_core.specs.declared.command.Applet.TheVariants.{Add, Adbdump, Del, Demo, Fix, Info, Mkndx, Mkpkg, Upgrade, Verify, Version}
+use Rattle.command_core.specs.Applets.{needed_option}
+use Rattle.command_core.specs.Command.{CommandLine}
+use Rattle.command_core.specs.Sound.{IsCommand}
+use Rattle.command_core.specs.Values.{first_value, is_given}
+use Rattle.command_core.specs.declared.command.Applet.TheVariants.{Mkndx, Mkpkg}
 use Rattle.command_core.specs.declared.values.OptionValue.{OptionValue}
 use Rattle.make_info.specs.declared.field.Field.{Field}
 use Rattle.make_info.specs.declared.field.Field.TheVariants as Fields
 use Rattle.make_info.specs.Fields.{kind_of_field, values_by_kind, text_if}
-use Rattle.make_info.specs.FieldTexts.{FieldText, file_name_in, first_text_for, field_text_in, if_passes, info_options, is_for, is_text_for, is_info_option, is_output_option, is_too_long, package_name_in, named_output, default_output, package_file_name_of, text_when_for, package_version_in}
+use Rattle.make_info.specs.declared.output.TheConstants.{LONGEST_OUTPUT}
+use Rattle.make_info.specs.FieldTexts.{FieldText, file_name_in, first_text_for, field_text_in, if_passes, info_options, is_for, is_text_for, is_info_option, is_too_long, package_name_in, named_output, default_output, package_file_name_of, text_when_for, package_version_in}
 use Rattle.make_info.specs.Information.{InfoItem, all_items, first_offence, information, information_of, is_second, info_item, items_of_text, items_of_option, lacks_name_or_version, offends, unless_offence}
 use Rattle.make_info.specs.Output.{if_allowed, is_mkpkg, output_name, package_output}
-use Rattle.make_info.proofs.Outputs.{IsAllowedOutput, allowed, allowed_output, by_offending, no_value, own_fits, unoffended, values_are}
+use Rattle.make_info.proofs.Outputs.{AreOutputs, allowed, by_offending, named_short, no_value, own_fits, unoffended}
 use Rattle.make_info.proofs.Reading.{same_field}
 
 -- ---- it is short
 
-short_by : (applet : Applet) (file : List ℕ) → IsAllowedOutput (value_rules applet) file → length file ≤ 1016
-short_by Add file a = cc
-short_by Del file a = cc
-short_by Upgrade file a = cc
-short_by Fix file a = cc
-short_by Info file a = cc
-short_by Demo file a = cc
-short_by Verify file a = cc
-short_by Version file a = cc
-short_by Adbdump file a = cc
-short_by Mkpkg file a = subst (λ f. length f ≤ 1016) a.2 (leb-true (length (without_dot a.0)) 1016 (and_parts (is_file a.0) (nat_le (length (without_dot a.0)) 1016) a.1).1)
-short_by Mkndx file a = subst (λ f. length f ≤ 1016) a.2 (leb-true (length (without_dot a.0)) 1016 (and_parts (is_file a.0) (nat_le (length (without_dot a.0)) 1016) a.1).1)
+package_short : AreOutputs → (command : CommandLine) (file : List ℕ) (r : Result (List InfoItem) ℕ) (named : Option (List ℕ)) → r ≡ information command → named ≡ named_output command.values → IsCommand command → if_allowed r (option_or named (default_output command.values)) ≡ Some file → length file ≤ LONGEST_OUTPUT
+package_short law command file (Err place) named r n is h = absurd (none-some file h)
+package_short law command file (Ok about) (Some name) r n is h = named_short law command file is (sym n ∙ h)
+package_short law command file (Ok about) None r n is h = own_fits command.values command.behind file (ap is_ok (sym r)) (sym n) h
 
-named_short : (command : CommandLine) (file : List ℕ) → IsCommand command → named_output command.values ≡ Some file → length file ≤ 1016
-named_short command file is h =
-    short_by command.applet file (allowed_output (value_rules command.applet) command.values file (values_are command is) h)
-
-package_short : (command : CommandLine) (file : List ℕ) (r : Result (List InfoItem) ℕ) (named : Option (List ℕ)) → r ≡ information command → named ≡ named_output command.values → IsCommand command → if_allowed r (option_or named (default_output command.values)) ≡ Some file → length file ≤ 1016
-package_short command file (Err place) named r n is h = absurd (none-some file h)
-package_short command file (Ok about) (Some name) r n is h = named_short command file is (sym n ∙ h)
-package_short command file (Ok about) None r n is h = own_fits command.values command.behind file (ap is_ok (sym r)) (sym n) h
-
-pub output_short : (command : CommandLine) (name : List ℕ) → IsCommand command → output_name command ≡ Some name → length name ≤ 1016
-output_short command name is h =
-    elim (is_mkpkg command.applet) as (λ b. (if b then package_output command else named_output command.values) ≡ Some name → length name ≤ 1016) [
-      | true ↦ λ e. package_short command name (information command) (named_output command.values) refl refl is e
-      | false ↦ λ e. named_short command name is e
+pub output_short : AreOutputs → (command : CommandLine) (name : List ℕ) → IsCommand command → output_name command ≡ Some name → length name ≤ LONGEST_OUTPUT
+output_short law command name is h =
+    elim (is_mkpkg command.applet) as (λ b. (if b then package_output command else named_output command.values) ≡ Some name → length name ≤ LONGEST_OUTPUT) [
+      | true ↦ λ e. package_short law command name (information command) (named_output command.values) refl refl is e
+      | false ↦ λ e. named_short law command name is e
     ] h
 
 -- ---- it is there
@@ -61,21 +43,19 @@ output_short command name is h =
 found_output : (vs : List OptionValue) → is_given OUTPUT vs ≡ true → is_some (named_output vs) ≡ true
 found_output [] h = cc
 found_output (v ∷ vs) h =
-    elim (is_output_option v) as (λ b. (b || is_given OUTPUT vs) ≡ true → is_some (option_map file_name_in (cond b (Some v) (find is_output_option vs))) ≡ true) [
+    elim (v.letter == OUTPUT) as (λ b. (b || is_given OUTPUT vs) ≡ true → is_some (option_map file_name_in (cond b (Some v) (first_value OUTPUT vs))) ≡ true) [
       | true ↦ λ e. refl
       | false ↦ λ e. found_output vs e
     ] h
 
-not_lacking_one : (b : Bool) → not (not b) ≡ true → b ≡ true
-not_lacking_one true h = refl
-not_lacking_one false h = cc
+-- what the layer of commands says of the option that an applet needs
+abbrev pub IsNeeded : Type 0
+IsNeeded = (c : CommandLine) (letter : ℕ) → IsCommand c → needed_option c.applet ≡ Some letter → is_given letter c.values ≡ true
 
-pub index_output_there : (command : CommandLine) → IsCommand command → command.applet ≡ Mkndx → is_some (output_name command) ≡ true
-index_output_there command h is =
-    let others : Bool = may_have command.applet command.flags && are_operands (operand_rule command.applet command.flags) command.operands && are_values (value_rules command.applet) command.values in
-    let needed : not (lacks_value (needed_option command.applet) command.values) ≡ true = (and_parts others (not (lacks_value (needed_option command.applet) command.values)) h).1 in
-    let given : is_given OUTPUT command.values ≡ true = not_lacking_one (is_given OUTPUT command.values) (subst (λ (a : Applet). not (lacks_value (needed_option a) command.values) ≡ true) is needed) in
-    ap (λ a. is_some (if is_mkpkg a then package_output command else named_output command.values)) is ∙ found_output command.values given
+pub index_output_there : IsNeeded → (command : CommandLine) → IsCommand command → command.applet ≡ Mkndx → is_some (output_name command) ≡ true
+index_output_there law command h is =
+    ap (λ a. is_some (if is_mkpkg a then package_output command else named_output command.values)) is
+    ∙ found_output command.values (law command OUTPUT h (ap needed_option is))
 
 -- a field of which every good value passes a test
 abbrev IsStrict : Field → (List ℕ → Bool) → Type 0

@@ -1,76 +1,54 @@
 -- What the output is called.
 use Rattle.command_core.specs.declared.values.TheConstants.{OUTPUT}
-use Rattle.std.proofs.Common.{◌≡◌, ℕ, ◌≤◌, Bool, true, false, not, cond, List, [], ◌∷◌, ◌++◌, length, Option, Some, None, Result, Ok, Err, refl, sym, ◌∙◌, ap, subst, arith}
+use Rattle.std.proofs.Common.{◌≡◌, ℕ, ◌≤◌, Bool, true, false, not, cond, List, [], ◌∷◌, ◌++◌, length, Option, Some, None, Result, Ok, Err, Bor, refl, sym, ◌∙◌, ap, subst, arith}
 use Rattle.std.specs.Prelude.{IfOk, IfSome, is_ok, is_some, nat_lt, nat_le, ◌&&◌, ◌||◌}
-use Rattle.std.specs.List.{find, list_all}
 use Rattle.std.specs.Option.{option_and_then, option_map, option_or}
-use Rattle.std.proofs.lemmas.Bool.{and_parts, ltb-false}
-use Rattle.std.proofs.lemmas.Bool.Decides.{nat_tests}
+use Rattle.std.proofs.lemmas.Bool.{and_parts, leb-true, ltb-false}
 use Rattle.base_core.specs.Name.{is_name}
 use Rattle.version_core.specs.Order.{is_version}
-use Rattle.command_core.specs.Applets.{may_have, needed_option, operand_rule, value_rules}
-use Rattle.command_core.specs.Operands.{are_operands}
-use Rattle.command_core.specs.declared.values.ValueRule.{ValueRule}
-use Rattle.command_core.specs.Command.{CommandLine, IsCommand}
-use Rattle.command_core.specs.Values.{are_apart, is_value_by, are_values, lacks_value}
-use Rattle.command_core.specs.Files.{is_file, without_dot}
-use Rattle.command_core.specs.declared.command.Applet.{Applet}
-use Rattle.command_core.specs.declared.command.Applet.TheVariants.{Add, Adbdump, Del, Demo, Fix, Info, Mkndx, Mkpkg, Upgrade, Verify, Version}
+use Rattle.command_core.specs.Command.{CommandLine}
+use Rattle.command_core.specs.Sound.{IsCommand}
+use Rattle.command_core.specs.Values.{first_value}
+use Rattle.command_core.specs.Files.{is_file, is_output, without_dot}
 use Rattle.command_core.specs.declared.values.OptionValue.{OptionValue}
 use Rattle.make_info.specs.declared.field.Field.{Field}
 use Rattle.make_info.specs.declared.field.Field.TheVariants as Fields
-use Rattle.make_info.specs.FieldTexts.{FieldText, file_name_in, first_text_for, field_text_in, if_passes, info_options, is_for, is_text_for, is_info_option, is_long_name, is_output_option, is_too_long, package_name_in, named_output, default_output, package_file_name_of, text_for, text_when_for}
+use Rattle.make_info.specs.declared.output.TheConstants.{LONGEST_OUTPUT}
+use Rattle.make_info.specs.FieldTexts.{FieldText, file_name_in, first_text_for, field_text_in, if_passes, info_options, is_for, is_text_for, is_info_option, is_long_name, is_too_long, package_name_in, named_output, default_output, package_file_name_of, text_for, text_when_for}
 use Rattle.make_info.specs.Information.{InfoItem, all_items, first_offence, information, information_of, is_second, items_of_option, lacks_name_or_version, offends, unless_offence}
 use Rattle.make_info.specs.Output.{if_allowed, is_mkpkg, output_name, package_output}
 use Rattle.make_info.proofs.FileNames.{HaveVersionBytes, own_file_name}
 
 -- ---- a named output is a name
 
-abbrev pub IsAllowedOutput : List ValueRule → List ℕ → Type 0
-IsAllowedOutput options file = (text : List ℕ) × (is_value_by (rule_for options OUTPUT) text ≡ true) × (without_dot text ≡ file)
+-- what the layer of commands says of the file that `-o` names
+abbrev pub AreOutputs : Type 0
+AreOutputs = (c : CommandLine) (v : OptionValue) → IsCommand c → first_value OUTPUT c.values ≡ Some v → is_output v.text ≡ true
 
-some_is : (x y : List ℕ) → Some x ≡ Some y → x ≡ y
-some_is x y h = cc
+named_by : (o : Option OptionValue) (file : List ℕ) → option_map file_name_in o ≡ Some file → (v : OptionValue) × (o ≡ Some v) × (without_dot v.text ≡ file)
+named_by None file e = absurd (cc (e))
+named_by (Some v) file e = (v, refl, cc (e))
 
-by_letter : (options : List ValueRule) (v : OptionValue) (vs : List OptionValue) (file : List ℕ) (b : Bool) → is_output_option v ≡ b → are_values options (v ∷ vs) ≡ true → option_map file_name_in (cond b (Some v) (find is_output_option vs)) ≡ Some file → (option_map file_name_in (find is_output_option vs) ≡ Some file → IsAllowedOutput options file) → IsAllowedOutput options file
-by_letter options v vs file true is h e later =
-    let letter : v.letter ≡ OUTPUT = grind (arith, nat_tests) in
-    let first : is_value_by (rule_for options v.letter) v.text ≡ true =
-    (and_parts (is_value_by (rule_for options v.letter) v.text) (list_all (are_apart options v) vs) (and_parts (is_value_by (rule_for options v.letter) v.text && list_all (are_apart options v) vs) (are_values options vs) h).0).0 in
-    (v.text, subst (λ n. is_value_by (rule_for options n) v.text ≡ true) letter first, some_is _ _ e)
-by_letter options v vs file false is h e later = later e
+pub named_short : AreOutputs → (command : CommandLine) (file : List ℕ) → IsCommand command → named_output command.values ≡ Some file → length file ≤ LONGEST_OUTPUT
+named_short law command file is h =
+    let named = named_by (first_value OUTPUT command.values) file h in
+    let v : OptionValue = named.0 in
+    subst (λ f. length f ≤ LONGEST_OUTPUT) named.2 (leb-true (length (without_dot v.text)) LONGEST_OUTPUT (and_parts (is_file v.text) (nat_le (length (without_dot v.text)) LONGEST_OUTPUT) (law command v is named.1)).1)
 
-pub allowed_output : (options : List ValueRule) (vs : List OptionValue) (file : List ℕ) → are_values options vs ≡ true → named_output vs ≡ Some file → IsAllowedOutput options file
-allowed_output options [] file h e = cc
-allowed_output options (v ∷ vs) file h e =
-    by_letter options v vs file (is_output_option v) refl h e
-    (allowed_output options vs file (and_parts (is_value_by (rule_for options v.letter) v.text && list_all (are_apart options v) vs) (are_values options vs) h).1)
+file_by : AreOutputs → (command : CommandLine) → IsCommand command → (o : Option OptionValue) → first_value OUTPUT command.values ≡ o → IfSome o (λ v. is_file v.text ≡ true)
+file_by law command is None e = tt
+file_by law command is (Some v) e = (and_parts (is_file v.text) (nat_le (length (without_dot v.text)) LONGEST_OUTPUT) (law command v is e)).0
 
-by_applet : (applet : Applet) (file : List ℕ) → IsAllowedOutput (value_rules applet) file → is_name file ≡ true
-by_applet Add file a = cc
-by_applet Del file a = cc
-by_applet Upgrade file a = cc
-by_applet Fix file a = cc
-by_applet Info file a = cc
-by_applet Demo file a = cc
-by_applet Verify file a = cc
-by_applet Version file a = cc
-by_applet Adbdump file a = cc
-by_applet Mkpkg file a =
-    subst (λ f. is_name f ≡ true) a.2 (and_parts (is_file a.0) (nat_le (length (without_dot a.0)) 1016) a.1).0
-by_applet Mkndx file a =
-    subst (λ f. is_name f ≡ true) a.2 (and_parts (is_file a.0) (nat_le (length (without_dot a.0)) 1016) a.1).0
+-- so it is read as a name
+pub output_is_file : AreOutputs → (command : CommandLine) (values : List OptionValue) → IsCommand command → values ≡ command.values → IfSome (first_value OUTPUT values) (λ v. is_file v.text ≡ true)
+output_is_file law command values is e =
+    let P : List OptionValue → Type 0 = λ vs. IfSome (first_value OUTPUT vs) (λ v. is_file v.text ≡ true) in
+    subst P (sym e) (file_by law command is (first_value OUTPUT command.values) refl)
 
--- the values of a command are ones of its applet
-pub values_are : (command : CommandLine) → IsCommand command → are_values (value_rules command.applet) command.values ≡ true
-values_are command h =
-    let operands : Bool = may_have command.applet command.flags && are_operands (operand_rule command.applet command.flags) command.operands in
-    let values : Bool = are_values (value_rules command.applet) command.values in
-    (and_parts operands values (and_parts (operands && values) (not (lacks_value (needed_option command.applet) command.values)) h).0).1
-
-pub named_is_name : (command : CommandLine) (file : List ℕ) → IsCommand command → named_output command.values ≡ Some file → is_name file ≡ true
-named_is_name command file is h =
-    by_applet command.applet file (allowed_output (value_rules command.applet) command.values file (values_are command is) h)
+-- whether it is there
+pub named_some : (r : Option (Bor OptionValue)) (o : Option OptionValue) → option_map (λ (v : Bor OptionValue). v.now) r ≡ o → is_some r ≡ is_some (option_map file_name_in o)
+named_some None o e = let P : Option OptionValue → Type 0 = λ x. false ≡ is_some (option_map file_name_in x) in subst P e refl
+named_some (Some v) o e = let P : Option OptionValue → Type 0 = λ x. true ≡ is_some (option_map file_name_in x) in subst P e refl
 
 -- ---- a name that is read
 
@@ -140,31 +118,26 @@ no_own_file : (values : List OptionValue) → first_text_for Fields.Version valu
 no_own_file values h =
     ap (λ o. package_file_name_of (package_name_in values) (option_and_then (if_passes is_version) o)) h ∙ no_file (package_name_in values)
 
-fits_by : (values : List OptionValue) (behind : ℕ) (file : List ℕ) (b : Bool) → is_too_long values ≡ b → is_ok (information_of values behind) ≡ true → named_output values ≡ None → default_output values ≡ Some file → length file ≤ 1016
+fits_by : (values : List OptionValue) (behind : ℕ) (file : List ℕ) (b : Bool) → is_too_long values ≡ b → is_ok (information_of values behind) ≡ true → named_output values ≡ None → default_output values ≡ Some file → length file ≤ LONGEST_OUTPUT
 fits_by values behind file true t h n o =
     let first : first_offence true [] (info_options values) ≡ None = ap (λ b. first_offence b [] (info_options values)) (sym t) ∙ unoffended values behind h in
     absurd (some_none (default_output values) file o (no_own_file values (no_version [] values first)))
 fits_by values behind file false t h n o =
-    let short : nat_lt 1016 (length file) ≡ false =
+    let short : nat_lt LONGEST_OUTPUT (length file) ≡ false =
     sym (ap (λ x. not (is_some x) && is_long_name (default_output values)) n ∙ ap is_long_name o) ∙ t in
-    ltb-false 1016 (length file) short
+    ltb-false LONGEST_OUTPUT (length file) short
 
-pub own_fits : (values : List OptionValue) (behind : ℕ) (file : List ℕ) → is_ok (information_of values behind) ≡ true → named_output values ≡ None → default_output values ≡ Some file → length file ≤ 1016
+pub own_fits : (values : List OptionValue) (behind : ℕ) (file : List ℕ) → is_ok (information_of values behind) ≡ true → named_output values ≡ None → default_output values ≡ Some file → length file ≤ LONGEST_OUTPUT
 own_fits values behind file h n o = fits_by values behind file (is_too_long values) refl h n o
 
 -- ---- what is answered
 
-pub named_case : {E : Type 0} (r : Result (Option (List ℕ)) E) (command : CommandLine) (file : List ℕ) → IsCommand command → is_ok (information command) ≡ true → named_output command.values ≡ Some file → IfOk r (λ found. is_some found ≡ is_name file) → IfOk r (λ found. IfSome found (λ name. name ≡ file)) → IfOk r (λ name. name ≡ package_output command)
-named_case r command file is good h when value =
-    read_name r file (package_output command) when value (named_is_name command file is h)
-    (sym (allowed (information command) (option_or (named_output command.values) (default_output command.values)) good ∙ ap (λ o. option_or o (default_output command.values)) h))
+pub named_case : (command : CommandLine) (name : Option (List ℕ)) (file : List ℕ) → is_ok (information command) ≡ true → name ≡ Some file → name ≡ named_output command.values → Some file ≡ package_output command
+named_case command name file good some h =
+    let named : named_output command.values ≡ Some file = sym h ∙ some in
+    sym (allowed (information command) (option_or (named_output command.values) (default_output command.values)) good ∙ ap (λ o. option_or o (default_output command.values)) named)
 
 pub own_case : {E : Type 0} (r : Result (Option (List ℕ)) E) (command : CommandLine) (file : List ℕ) → HaveVersionBytes → is_ok (information command) ≡ true → named_output command.values ≡ None → default_output command.values ≡ Some file → IfOk r (λ found. is_some found ≡ is_name file) → IfOk r (λ found. IfSome found (λ name. name ≡ file)) → IfOk r (λ name. name ≡ package_output command)
 own_case r command file spelled good n o when value =
     read_name r file (package_output command) when value (own_file_name spelled command.values file o (own_fits command.values command.behind file good n o))
     (sym (allowed (information command) (option_or (named_output command.values) (default_output command.values)) good ∙ (ap (λ x. option_or x (default_output command.values)) n ∙ o)))
-
-pub index_case : {E : Type 0} (r : Result (Option (List ℕ)) E) (command : CommandLine) (file : List ℕ) → IsCommand command → is_mkpkg command.applet ≡ false → named_output command.values ≡ Some file → IfOk r (λ found. is_some found ≡ is_name file) → IfOk r (λ found. IfSome found (λ name. name ≡ file)) → IfOk r (λ name. name ≡ output_name command)
-index_case r command file is applet h when value =
-    read_name r file (output_name command) when value (named_is_name command file is h)
-    (sym (ap (λ b. cond b (package_output command) (named_output command.values)) applet ∙ h))

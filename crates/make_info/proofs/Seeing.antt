@@ -16,11 +16,11 @@ find-map p f (x ∷ xs) =
       | false ↦ find-map p f xs
     ]
 
-option_map-now : (r : Option (Bor Entry)) → option_map (λ (x : Bor Entry). item_view x.now) r ≡ option_map item_view (option_map (λ (x : Bor Entry). x.now) r)
+option_map-now : (r : Option (Bor Item)) → option_map (λ (x : Bor Item). item_view x.now) r ≡ option_map item_view (option_map (λ (x : Bor Item). x.now) r)
 option_map-now None = refl
 option_map-now (Some x) = refl
 
 -- an entry that is found, seen as an item
-pub found_seen : (f : Field) (es : List Entry) (r : Option (Bor Entry)) → option_map (λ (x : Bor Entry). x.now) r ≡ find (λ (e : Entry). is_same e.field f) es → option_map (λ (x : Bor Entry). item_view x.now) r ≡ find (is_item_for f) (map item_view es)
+pub found_seen : (f : Field) (es : List Item) (r : Option (Bor Item)) → option_map (λ (x : Bor Item). x.now) r ≡ find (λ (e : Item). is_same e.field f) es → option_map (λ (x : Bor Item). item_view x.now) r ≡ find (is_item_for f) (map item_view es)
 found_seen f es r h =
     option_map-now r ∙ (ap (option_map item_view) h ∙ sym (find-map (is_item_for f) item_view es))

@@ -34,10 +34,10 @@ column_more info size cs i c d l h =
     ap (column_values info size) (take_more cs i d l ∙ ap (λ y. take i cs ++ y ∷ []) (sym h)) ∙ columns_push info size (take i cs) c
 
 -- what is said of a field by the first entries
-abbrev pub said_by : Field → List Entry → Plains
+abbrev pub said_by : Field → List Item → Plains
 said_by f es = plains_for f (map item_view es)
 
-said_push : (f : Field) (es : List Entry) (e : Entry) → is_same e.field f ≡ true → said_by f (es ++ e ∷ []) ≡ push (said_by f es) (plain_value (value_view e.value))
+said_push : (f : Field) (es : List Item) (e : Item) → is_same e.field f ≡ true → said_by f (es ++ e ∷ []) ≡ push (said_by f es) (plain_value (value_view e.value))
 said_push f [] e h = ap (λ b. cond b (more (plain_value (value_view e.value)) none) none) h
 said_push f (x ∷ es) e h =
     elim (is_same x.field f) as (λ b. cond b (more (plain_value (value_view x.value)) (said_by f (es ++ e ∷ []))) (said_by f (es ++ e ∷ [])) ≡ push (cond b (more (plain_value (value_view x.value)) (said_by f es)) (said_by f es)) (plain_value (value_view e.value))) [
@@ -45,7 +45,7 @@ said_push f (x ∷ es) e h =
       | false ↦ said_push f es e h
     ]
 
-said_keep : (f : Field) (es : List Entry) (e : Entry) → is_same e.field f ≡ false → said_by f (es ++ e ∷ []) ≡ said_by f es
+said_keep : (f : Field) (es : List Item) (e : Item) → is_same e.field f ≡ false → said_by f (es ++ e ∷ []) ≡ said_by f es
 said_keep f [] e h = ap (λ b. cond b (more (plain_value (value_view e.value)) none) none) h
 said_keep f (x ∷ es) e h =
     elim (is_same x.field f) as (λ b. cond b (more (plain_value (value_view x.value)) (said_by f (es ++ e ∷ []))) (said_by f (es ++ e ∷ [])) ≡ cond b (more (plain_value (value_view x.value)) (said_by f es)) (said_by f es)) [
@@ -53,10 +53,10 @@ said_keep f (x ∷ es) e h =
       | false ↦ said_keep f es e h
     ]
 
-pub said_more : (f : Field) (es : List Entry) (i : ℕ) (e : Entry) → i < length es → e ≡ get_or es i e → is_same e.field f ≡ true → said_by f (take (i + 1) es) ≡ push (said_by f (take i es)) (plain_value (value_view e.value))
+pub said_more : (f : Field) (es : List Item) (i : ℕ) (e : Item) → i < length es → e ≡ get_or es i e → is_same e.field f ≡ true → said_by f (take (i + 1) es) ≡ push (said_by f (take i es)) (plain_value (value_view e.value))
 said_more f es i e l h s =
     ap (said_by f) (take_more es i e l ∙ ap (λ y. take i es ++ y ∷ []) (sym h)) ∙ said_push f (take i es) e s
 
-pub said_same : (f : Field) (es : List Entry) (i : ℕ) (e : Entry) → i < length es → e ≡ get_or es i e → is_same e.field f ≡ false → said_by f (take (i + 1) es) ≡ said_by f (take i es)
+pub said_same : (f : Field) (es : List Item) (i : ℕ) (e : Item) → i < length es → e ≡ get_or es i e → is_same e.field f ≡ false → said_by f (take (i + 1) es) ≡ said_by f (take i es)
 said_same f es i e l h s =
     ap (said_by f) (take_more es i e l ∙ ap (λ y. take i es ++ y ∷ []) (sym h)) ∙ said_keep f (take i es) e s

@@ -2,11 +2,14 @@
 -- among them.
 use Rattle.command_core.specs.declared.values.TheConstants.{INFO, OUTPUT}
 use Rattle.std.specs.Prelude.{ℕ, ◌+◌, ◌==◌, nat_lt, Bool, false, List, [], ◌∷◌, ◌++◌, length, take, drop, position, codes, Option, Some, None, option_map, option_and_then, is_some, not, ◌&&◌, if◌then◌else◌}
-use Rattle.std.specs.List.{filter, find}
+use Rattle.std.specs.List.{filter}
 use Rattle.std.specs.Option.{option_or}
 use Rattle.std.specs.Str.{bytes_eq}
 use Rattle.version_core.specs.Order.{is_version}
 use Rattle.dep_core.specs.Dependency.{is_package_name}
+use Rattle.command_core.specs.Values.{first_value}
+use Rattle.make_info.specs.declared.information.TheConstants.{COLON}
+use Rattle.make_info.specs.declared.output.TheConstants.{HYPHEN, LONGEST_OUTPUT}
 use Rattle.command_core.specs.Files.{without_dot}
 use Rattle.command_core.specs.declared.values.OptionValue.{OptionValue}
 use Rattle.make_info.specs.declared.field.Field.{Field}
@@ -27,7 +30,7 @@ field_text_from text (Some colon) =
 -- a text FIELD:VALUE, where FIELD ends before the first `:`; None where there is no `:`, or FIELD
 -- is no field
 abbrev pub field_text_in : List ℕ → Option FieldText
-field_text_in text = field_text_from text (position (λ b. b == 58) text)
+field_text_in text = field_text_from text (position (λ b. b == COLON) text)
 
 abbrev pub is_same : Field → Field → Bool
 is_same f g = bytes_eq (field_word f) (field_word g)
@@ -74,7 +77,7 @@ package_version_in values =
 
 -- NAME-VERSION.apk
 abbrev pub package_file_name : List ℕ → List ℕ → List ℕ
-package_file_name name version = name ++ (45 ∷ version ++ codes ".apk")
+package_file_name name version = name ++ (HYPHEN ∷ version ++ codes ".apk")
 
 abbrev pub package_file_name_of : Option (List ℕ) → Option (List ℕ) → Option (List ℕ)
 package_file_name_of name version =
@@ -84,19 +87,16 @@ package_file_name_of name version =
 abbrev pub default_output : List OptionValue → Option (List ℕ)
 default_output values = package_file_name_of (package_name_in values) (package_version_in values)
 
-abbrev pub is_output_option : OptionValue → Bool
-is_output_option v = v.letter == OUTPUT
-
 abbrev pub file_name_in : OptionValue → List ℕ
 file_name_in v = without_dot v.text
 
 -- the file that `-o` names
 abbrev pub named_output : List OptionValue → Option (List ℕ)
-named_output values = option_map file_name_in (find is_output_option values)
+named_output values = option_map file_name_in (first_value OUTPUT values)
 
 abbrev pub is_long_name : Option (List ℕ) → Bool
 is_long_name None = false
-is_long_name (Some file) = nat_lt 1016 (length file)
+is_long_name (Some file) = nat_lt LONGEST_OUTPUT (length file)
 
 -- whether the output is NAME-VERSION.apk, and that is too long
 abbrev pub is_too_long : List OptionValue → Bool

@@ -14,12 +14,15 @@ ghost use Rattle.std.specs.Prelude.{◌≡◌, ◌==◌, ◌<◌, length, positi
 use crate::fault::MakeFault;
 use crate::field::{Field, Kind, read_number};
 use crate::output::is_too_long;
-use command_core::{Command, Values};
+use command_core::{Command, INFO, Values};
 use dep_core::{Dep, is_package_name, read_dep};
 use hex::FromHexError;
 use std::alloc::{AllocError, Global};
 use std::marker::Model;
 use version_core::Version;
+
+/// What stands between FIELD and VALUE.
+const COLON: u8 = b':';
 
 /// A field, and the value that is given for it.
 #[derive(Clone, Copy)]
@@ -43,10 +46,10 @@ impl<'a> FieldText<'a> {
 
 // Where the first `:` stands.
 fn colon_in(text: &[u8]) -> Option<usize>
-    ensures at { result ≡ position (λ b. b == 58) text.now }
+    ensures at { result ≡ position (λ b. b == COLON) text.now }
     ensures within { IfSome result (λ at. at < length text.now) }
 {
-    text.iter().position(|byte| *byte == b':')
+    text.iter().position(|byte| *byte == COLON)
 }
 
 /// What the values of `-I` of `mkpkg` say of a package (apk(8)). It borrows their texts from the
@@ -93,7 +96,7 @@ fn read_values<'a>(
     let mut entries = Items::new(alloc);
     for i in 0..values.len() {
         let value = values.get(i);
-        if value.letter != b'I' {
+        if value.letter != INFO {
             continue;
         }
         if !add_value(&mut entries, value.text.as_bytes(), too_long)? {

@@ -3,31 +3,29 @@ ghost use Rattle.make_info.specs.FieldTexts.{first_text_for, is_too_long, packag
 ghost use Rattle.make_info.specs.Information.{information};
 ghost use Rattle.make_info.specs.Output.{is_mkpkg, output_name, package_output};
 ghost use Rattle.std.specs.Option.{option_map};
-ghost use Rattle.std.specs.Prelude.{◌≡◌, ◌||◌, IfOk, is_ok, ◌≤◌, List, ℕ, Some, IsSome, IsTrue, length};
-ghost use Rattle.command_core.specs.Command.{CommandLine, IsCommand};
+ghost use Rattle.make_info.specs.declared.output.TheConstants.{LONGEST_OUTPUT};
+ghost use Rattle.std.specs.Prelude.{is_some, ◌≡◌, ◌||◌, IfOk, is_ok, ◌≤◌, List, ℕ, Some, IsSome, IsTrue, length};
+ghost use Rattle.command_core.specs.Command.{CommandLine};
+ghost use Rattle.command_core.specs.Sound.{IsCommand};
 ghost use Rattle.command_core.specs.declared.command.Applet.TheVariants.{Mkndx, Mkpkg};
 
 use crate::fault::MakeFault;
 use crate::field::Field;
 use crate::information::{FieldText, read_information};
 use base_core::Name;
-use command_core::{Applet, Command, OptionValue, Values};
+use command_core::{
+    Applet, Command, INFO, OUTPUT, OptionValue, Values, a_command_has_what_its_applet_may_have,
+    values_are_of_their_kind,
+};
 use dep_core::is_package_name;
 use std::alloc::{AllocError, Global};
 use version_core::{Version, versions_have_version_bytes};
 
+/// What stands between NAME and VERSION.
+const HYPHEN: u8 = b'-';
+
 /// How long a file's name may be, so that a scratch name beside it is a name too.
 const LONGEST_OUTPUT: usize = 1016;
-
-/// The file that `-o` names.
-pub(crate) fn named_output(values: &Values) -> Option<&[u8]>
-    ensures { option_map (λ file. file.now) result ≡ named_output values.entry.now }
-{
-    match values.first(b'o') {
-        Some(value) => Some(value.file()),
-        None => None,
-    }
-}
 
 /// NAME-VERSION.apk, where a good name and a good version are given.
 pub(crate) fn default_output(alloc: Global, values: &Values) -> Result<Option<Vec<u8>>, AllocError>
@@ -41,7 +39,7 @@ pub(crate) fn default_output(alloc: Global, values: &Values) -> Result<Option<Ve
         return Ok(None);
     };
     let mut file = Vec::from_slice(alloc, name)?;
-    file.push(b'-')?;
+    file.push(HYPHEN)?;
     file.extend_from_slice(version)?;
     file.extend_from_slice(b".apk")?;
     Ok(Some(file))
@@ -51,7 +49,7 @@ pub(crate) fn default_output(alloc: Global, values: &Values) -> Result<Option<Ve
 pub(crate) fn is_too_long(values: &Values) -> bool
     ensures { result ≡ is_too_long values.now }
 {
-    if named_output(values).is_some() {
+    if is_output_named(values) {
         return false;
     }
     let Some(name) = package_name_in(values) else {
@@ -61,6 +59,13 @@ pub(crate) fn is_too_long(values: &Values) -> bool
         return false;
     };
     name.len() + version.len() + b"-.apk".len() > LONGEST_OUTPUT
+}
+
+// Whether an output is named.
+fn is_output_named(values: &Values) -> bool
+    ensures { result ≡ is_some (named_output values.now) }
+{
+    values.first(OUTPUT).is_some()
 }
 
 // The package's name, where a good one is given.
@@ -102,7 +107,7 @@ fn first_text_for(values: &Values, field: Field) -> Option<&[u8]>
 fn text_for(value: &OptionValue, field: Field) -> Option<&[u8]>
     ensures { option_map (λ text. text.now) result ≡ text_for field value.entry.now }
 {
-    if value.letter != b'I' {
+    if value.letter != INFO {
         return None;
     }
     let given = FieldText::of(value.text.as_bytes())?;
@@ -121,8 +126,19 @@ pub fn output_name(alloc: Global, command: &Command) -> Result<Option<Name>, All
     if is_mkpkg(command.applet()) {
         return package_output(alloc, command);
     }
-    match named_output(command.values()) {
-        Some(file) => Name::read(alloc, file),
+    named_output(alloc, command)
+}
+
+// The name of the file that `-o` names.
+fn named_output(alloc: Global, command: &Command) -> Result<Option<Name>, AllocError>
+    ensures { IfOk result (λ name. name ≡ named_output command.now.values) }
+{
+    values_are_of_their_kind();
+    match command.values().first_file(OUTPUT) {
+        Some(file) => {
+            let name = file.copy(alloc)?;
+            Ok(Some(name))
+        }
         None => Ok(None),
     }
 }
@@ -140,8 +156,8 @@ fn package_output(alloc: Global, command: &Command) -> Result<Option<Name>, Allo
     if !is_allowed(alloc, command)? {
         return Ok(None);
     }
-    if let Some(file) = named_output(command.values()) {
-        return Name::read(alloc, file);
+    if let Some(name) = named_output(alloc, command)? {
+        return Ok(Some(name));
     }
     versions_have_version_bytes();
     match default_output(alloc, command.values())? {
@@ -164,8 +180,10 @@ fn is_allowed(alloc: Global, command: &Command) -> Result<bool, AllocError>
 /// An output's name has room for eight bytes more in a name.
 pub fn an_output_is_short()
     ensures { (command : CommandLine) (name : List ℕ) → IsCommand command
-        → output_name command ≡ Some name → length name ≤ 1016 }
-{}
+        → output_name command ≡ Some name → length name ≤ LONGEST_OUTPUT }
+{
+    values_are_of_their_kind();
+}
 
 /// Where the information of a package is allowed, there is an output.
 pub fn a_package_with_information_has_an_output()
@@ -177,4 +195,6 @@ pub fn a_package_with_information_has_an_output()
 pub fn an_index_has_an_output()
     ensures { (command : CommandLine) → IsCommand command → command.applet ≡ Mkndx
         → IsSome (output_name command) }
-{}
+{
+    a_command_has_what_its_applet_may_have();
+}

@@ -1,6 +1,6 @@
 -- The parts of a package that a command asks for.
 use Rattle.command_core.specs.declared.values.TheConstants.{FILES, SCRIPT, TRIGGER}
-use Rattle.std.proofs.Common.{◌≡◌, ℕ, zero, suc, ◌+◌, ◌≤◌, Bool, true, false, cond, eqb, ◌&&◌, List, [], ◌∷◌, ◌++◌, length, drop, map, codes, sum_by, Option, Some, None, Result, Ok, Err, Vec, Bor, refl, sym, ap, ◌∙◌, subst, arith, append_assoc, append-nil, not}
+use Rattle.std.proofs.Common.{◌≡◌, ℕ, zero, suc, ◌+◌, ◌≤◌, Bool, true, false, cond, eqb, ◌&&◌, List, [], ◌∷◌, ◌++◌, length, drop, map, codes, sum_by, Option, Some, None, Result, Ok, Err, Vec, Bor, refl, sym, ap, ◌∙◌, subst, arith, append_assoc, append-nil}
 use Rattle.std.specs.Int.{w32, to_le_bytes}
 use Rattle.std.specs.List.{flat_map, list_all, list_any, slice_get}
 use Rattle.std.specs.Option.{option_map}
@@ -19,11 +19,10 @@ use Rattle.adb_schema.specs.declared.read.TheConstants.{PACKAGE_WORD}
 use Rattle.adb_write.specs.Canonical.{PayloadCounts, canonical, or_overflow, overflow_of, written_of}
 use Rattle.adb_write.specs.File.{adb_piece, file_of}
 use Rattle.pkg_core.specs.Contents.{Contents}
-use Rattle.command_core.specs.Applets.{may_have, needed_option, operand_rule, value_rules}
-use Rattle.command_core.specs.Operands.{are_operands}
+use Rattle.command_core.specs.Sound.{value_rules, IsCommand, are_apart, rule_for, is_value_by, are_values}
 use Rattle.command_core.specs.declared.values.ValueRule.{ValueRule}
-use Rattle.command_core.specs.Command.{CommandLine, IsCommand}
-use Rattle.command_core.specs.Values.{first_value, are_apart, lacks_value, is_value_by, are_values, script_file, script_type, script_types}
+use Rattle.command_core.specs.Command.{CommandLine}
+use Rattle.command_core.specs.Values.{first_value, script_file, script_type, script_types}
 use Rattle.command_core.specs.Files.{is_file, without_dot}
 use Rattle.command_core.specs.declared.command.Applet.{Applet}
 use Rattle.command_core.specs.declared.command.Applet.TheVariants.{Mkpkg}
@@ -54,16 +53,13 @@ left_at (y ∷ xs) (suc i) x e =
 
 -- ---- the values of a command
 
--- the values of a command are ones of its applet
-pub values_are : (command : CommandLine) → IsCommand command → are_values (value_rules command.applet) command.values ≡ true
-values_are command h =
-    let operands : Bool = may_have command.applet command.flags && are_operands (operand_rule command.applet command.flags) command.operands in
-    let values : Bool = are_values (value_rules command.applet) command.values in
-    (and_parts operands values (and_parts (operands && values) (not (lacks_value (needed_option command.applet) command.values)) h).0).1
+-- what the layer of commands says of the values of a command
+abbrev pub AreAllowed : Type 0
+AreAllowed = (c : CommandLine) → IsCommand c → are_values (value_rules c.applet) c.values ≡ true
 
-pub values_allowed : (command : CommandLine) (values : List OptionValue) → IsCommand command → command.applet ≡ Mkpkg → values ≡ command.values → are_values (value_rules Mkpkg) values ≡ true
-values_allowed command values h e is =
-    let own : are_values (value_rules Mkpkg) command.values ≡ true = subst (λ (a : Applet). are_values (value_rules a) command.values ≡ true) e (values_are command h) in
+pub values_allowed : AreAllowed → (command : CommandLine) (values : List OptionValue) → IsCommand command → command.applet ≡ Mkpkg → values ≡ command.values → are_values (value_rules Mkpkg) values ≡ true
+values_allowed law command values h e is =
+    let own : are_values (value_rules Mkpkg) command.values ≡ true = subst (λ (a : Applet). are_values (value_rules a) command.values ≡ true) e (law command h) in
     ap (are_values (value_rules Mkpkg)) is ∙ own
 
 first_two : (options : List ValueRule) (v : OptionValue) (vs : List OptionValue) → are_values options (v ∷ vs) ≡ true → (is_value_by (rule_for options v.letter) v.text ≡ true) × (are_values options vs ≡ true)

@@ -23,7 +23,7 @@ use adb_schema::PACKAGE_WORD;
 use adb_view::Val;
 use adb_write::{Writer, a_value_written_depth_first_is_canonical, file_of};
 use command_core::{Command, Values};
-use make_info::{Information, Information, MakeFault, MakeFault};
+use make_info::{Information, MakeFault};
 use std::alloc::{AllocError, Global};
 
 /// The package of a command, with this information, these files and these scripts.

@@ -11,7 +11,7 @@ use crate::reading::{list_names, pack_below, read_scripts};
 use crate::writing::Script;
 use adb_sound::contents_stand_in_their_container;
 use base_core::{Names, Tree, readings_in_a_row_join};
-use command_core::{Applet, Command};
+use command_core::{Applet, Command, a_command_has_what_its_applet_may_have};
 use make_info::{MakeFault, read_information};
 use std::alloc::Global;
 
@@ -31,6 +31,7 @@ pub fn make<T: Tree>(alloc: Global, command: &Command, tree: &mut T) -> Result<V
         (T.counts tree.old) (T.counts tree.new) result }
     ensures made { IsMadeRun (T.history tree.old) command.now result }
 {
+    a_command_has_what_its_applet_may_have();
     let names = list_names(alloc, tree, command.values())?;
     pack(alloc, command, tree, &names)
 }
@@ -48,6 +49,7 @@ fn pack<T: Tree>(
     ensures read { Explains (T.history tree.old) (λ read.
         IsAnswer IsBytes result (made_package command.now names.now read)) }
 {
+    a_command_has_what_its_applet_may_have();
     contents_stand_in_their_container();
     readings_in_a_row_join::<Vec<Script<'_>>, Packing<'_>, MakeFault>();
     let values = command.values();

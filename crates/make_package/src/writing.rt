@@ -14,7 +14,7 @@ ghost use Rattle.std.specs.Prelude.{map, IfOk, ◌≡◌, Option};
 use crate::file::{File, Folder};
 use adb_view::Val;
 use adb_write::{Writer, values_are_written_depth_first};
-use command_core::Values;
+use command_core::{TRIGGER, Values};
 use std::alloc::{AllocError, Global};
 
 /// The mode of every folder.
@@ -44,7 +44,8 @@ fn write_paths(
 
 /// Writes a folder with its files.
 fn write_folder(alloc: Global, writer: &mut Writer, folder: &Folder<'_>) -> Result<Val, AllocError>
-    ensures { IfOk result (λ word. WritesValue writer.old (packed_folder folder.now) word writer.new) }
+    ensures { IfOk result (λ word. WritesValue writer.old
+        (packed_folder folder.now) word writer.new) }
 {
     values_are_written_depth_first();
     let name = writer.blob(folder.name)?;
@@ -199,7 +200,7 @@ fn write_triggers(alloc: Global, writer: &mut Writer, values: &Values) -> Result
     let mut words = Vec::new(alloc);
     for i in 0..values.len() {
         let value = values.get(i);
-        if value.letter == b't' {
+        if value.letter == TRIGGER {
             let word = writer.blob(value.text.as_bytes())?;
             words.push(word)?;
         }

@@ -7,15 +7,18 @@ use Rattle.std.proofs.lemmas.Bool.{false≢true}
 use Rattle.base_core.specs.Files.{Files, IsWithin}
 use Rattle.base_core.specs.Listed.{IsNamesOf}
 use Rattle.report_core.specs.declared.refusal.Refusal.TheVariants.{Usage}
-use Rattle.words_core.specs.Command.{CommandLine, without_dot}
+use Rattle.command_core.specs.Command.{CommandLine}
+use Rattle.command_core.specs.Files.{without_dot}
+use Rattle.command_core.specs.declared.values.TheConstants.{FILES}
+use Rattle.command_core.specs.Files.{without_dot}
 use Rattle.words_core.specs.Grammar.{command_of}
-use Rattle.words_core.specs.declared.applet.Applet.{Applet}
-use Rattle.words_core.specs.declared.applet.Applet.TheVariants.{Adbdump, Mkndx, Mkpkg, Verify, Version}
-use Rattle.words_core.specs.declared.values.OptionValue.{OptionValue}
+use Rattle.command_core.specs.declared.command.Applet.{Applet}
+use Rattle.command_core.specs.declared.command.Applet.TheVariants.{Mkpkg}
+use Rattle.command_core.specs.declared.values.OptionValue.{OptionValue}
 use Rattle.make_package.specs.Sources.{values_with}
-use Rattle.outcome.specs.Make.{IsBelow, below}
-use Rattle.outcome.specs.Outcome.{Given, IsGivenTo, IsOutcome, IsOutcomeOf, run_of}
-use Rattle.outcome.specs.Told.{Outcome, refused}
+use Rattle.outcome.specs.Commands.{IsListingFor, IsOutcome, IsOutcomeOf, reads_in, command_outcome}
+use Rattle.outcome.specs.Make.{IsListing, files_below}
+use Rattle.outcome.specs.Outcome.{Outcome, just_refusal}
 
 -- files under finitely many names have a list of them, and no second one
 abbrev pub HaveList : Type 0
@@ -25,48 +28,42 @@ abbrev pub HaveOneList : Type 0
 HaveOneList = (files : Files) (a b : List (List ℕ)) → IsNamesOf files a → IsNamesOf files b → a ≡ b
 
 -- what is below a folder is within the files
-within_below : (folder : List ℕ) (files : Files) (within : List (List ℕ)) → IsWithin within files → IsWithin within (below folder files)
+within_below : (folder : List ℕ) (files : Files) (within : List (List ℕ)) → IsWithin within files → IsWithin within (files_below folder files)
 within_below folder files within h q some =
     elim (starts_with nat_eq q (folder ++ codes "/")) as (λ b. IsSome (if b then files q else None) → list_any (bytes_eq q) within ≡ true) [
       | true ↦ λ s. h q s
       | false ↦ λ s. absurd (false≢true s)
     ] some
 
-below_exists : HaveList → (values : List OptionValue) (files : Files) (within : List (List ℕ)) → IsWithin within files → (names : Given) × IsBelow values files names
-below_exists have [] files within h = ([], refl)
-below_exists have (v ∷ values) files within h = have (below (without_dot v.text) files) within (within_below (without_dot v.text) files within h)
+listing_exists : HaveList → (values : List OptionValue) (files : Files) (within : List (List ℕ)) → IsWithin within files → (names : List (List ℕ)) × IsListing values files names
+listing_exists have [] files within h = ([], refl)
+listing_exists have (v ∷ values) files within h = have (files_below (without_dot v.text) files) within (within_below (without_dot v.text) files within h)
 
-given_exists : HaveList → (applet : Applet) (command : CommandLine) (files : Files) (within : List (List ℕ)) → IsWithin within files → (names : Given) × IsGivenTo applet command files names
-given_exists have Verify command files within h = ([], refl)
-given_exists have Version command files within h = ([], refl)
-given_exists have Adbdump command files within h = ([], refl)
-given_exists have Mkpkg command files within h = below_exists have (values_with 70 command.values) files within h
-given_exists have Mkndx command files within h = ([], refl)
+names_exist : HaveList → (applet : Applet) (command : CommandLine) (files : Files) (within : List (List ℕ)) → IsWithin within files → (names : List (List ℕ)) × IsListingFor applet command files names
+names_exist have Mkpkg command files within h = listing_exists have (values_with FILES command.values) files within h
+names_exist have other command files within h = ([], refl)
 
 outcome_by : HaveList → (read : Result CommandLine ℕ) (files : Files) (within : List (List ℕ)) → IsWithin within files → (o : Outcome) × IsOutcomeOf read files o
-outcome_by have (Err place) files within h = (refused files (Usage place), refl)
+outcome_by have (Err place) files within h = (just_refusal files (Usage place), refl)
 outcome_by have (Ok command) files within h =
-    let found = given_exists have command.applet command files within h in
-    (run_of command found.0 files, (found.0, found.1, refl))
+    let found = names_exist have command.applet command files within h in
+    (command_outcome command found.0 (reads_in files) files, (found.0, found.1, refl))
 
 pub outcome_exists : HaveList → (words within : List (List ℕ)) (files : Files) → IsWithin within files → (o : Outcome) × IsOutcome words files o
 outcome_exists have words within files h = outcome_by have (command_of words) files within h
 
-below_one : HaveOneList → (values : List OptionValue) (files : Files) (a b : Given) → IsBelow values files a → IsBelow values files b → a ≡ b
-below_one one [] files a b x y = x ∙ sym y
-below_one one (v ∷ values) files a b x y = one (below (without_dot v.text) files) a b x y
+listing_one : HaveOneList → (values : List OptionValue) (files : Files) (a b : List (List ℕ)) → IsListing values files a → IsListing values files b → a ≡ b
+listing_one one [] files a b x y = x ∙ sym y
+listing_one one (v ∷ values) files a b x y = one (files_below (without_dot v.text) files) a b x y
 
-given_one : HaveOneList → (applet : Applet) (command : CommandLine) (files : Files) (a b : Given) → IsGivenTo applet command files a → IsGivenTo applet command files b → a ≡ b
-given_one one Verify command files a b x y = x ∙ sym y
-given_one one Version command files a b x y = x ∙ sym y
-given_one one Adbdump command files a b x y = x ∙ sym y
-given_one one Mkpkg command files a b x y = below_one one (values_with 70 command.values) files a b x y
-given_one one Mkndx command files a b x y = x ∙ sym y
+names_one : HaveOneList → (applet : Applet) (command : CommandLine) (files : Files) (a b : List (List ℕ)) → IsListingFor applet command files a → IsListingFor applet command files b → a ≡ b
+names_one one Mkpkg command files a b x y = listing_one one (values_with FILES command.values) files a b x y
+names_one one other command files a b x y = x ∙ sym y
 
 outcome_one : HaveOneList → (read : Result CommandLine ℕ) (files : Files) (a b : Outcome) → IsOutcomeOf read files a → IsOutcomeOf read files b → a ≡ b
 outcome_one one (Err place) files a b x y = x ∙ sym y
 outcome_one one (Ok command) files a b (n, g, x) (m, k, y) =
-    x ∙ (ap (λ names. run_of command names files) (given_one one command.applet command files n m g k) ∙ sym y)
+    x ∙ (ap (λ names. command_outcome command names (reads_in files) files) (names_one one command.applet command files n m g k) ∙ sym y)
 
 pub outcome_unique : HaveOneList → (words : List (List ℕ)) (files : Files) (a b : Outcome) → IsOutcome words files a → IsOutcome words files b → a ≡ b
 outcome_unique one words files a b x y = outcome_one one (command_of words) files a b x y

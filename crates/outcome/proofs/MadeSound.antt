@@ -8,9 +8,11 @@ use Rattle.std.proofs.lemmas.Slice.Eq.{bytes_eq-Decides}
 use Rattle.adb_rules.specs.Reserved.{is_reserved}
 use Rattle.adb_view.specs.Plain.{Plain}
 use Rattle.adb_write.specs.Canonical.{PayloadCounts, overflow_of, written_of}
-use Rattle.base_core.specs.Files.{Files, IsFolderOf, drop_name}
+use Rattle.base_core.specs.Files.{AreNamedFiles, Files, IsFolderOf, drop_name}
 use Rattle.base_core.specs.Listed.{AreNamesBelow, IsNameBelow, IsNamesOf}
+use Rattle.base_core.specs.Tree.{IsWhole, TreeState, files_of}
 use Rattle.base_core.specs.declared.cause.Cause.{Cause}
+use Rattle.command_core.specs.declared.values.TheConstants.{FILES, SCRIPT, TRIGGER}
 use Rattle.journal_core.specs.Replacing.{replaced_files, scratch_of}
 use Rattle.make_package.specs.Folders.{FolderListing, folders_of, last_part_of}
 use Rattle.make_index.specs.Index.{and_entries, found_entries, found_entry, index_container, index_of, index_of_found, value_of_index, entry_unless, description_in, made_index}
@@ -28,185 +30,171 @@ use Rattle.pkg_core.specs.Contents.{Contents}
 use Rattle.pkg_core.specs.Whole.{container_fault, package_fault}
 use Rattle.report_core.specs.declared.refusal.Refusal.{Refusal}
 use Rattle.report_core.specs.declared.refusal.Refusal.TheVariants.{Reserved, ResultTooLarge}
-use Rattle.words_core.specs.Command.{CommandLine, without_dot}
+use Rattle.command_core.specs.Command.{CommandLine}
+use Rattle.command_core.specs.Files.{without_dot}
 use Rattle.words_core.specs.Grammar.{command_of}
-use Rattle.words_core.specs.Values.{script_file, script_type}
-use Rattle.words_core.specs.declared.applet.Applet.{Applet}
-use Rattle.words_core.specs.declared.applet.Applet.TheVariants.{Adbdump, Mkndx, Mkpkg, Verify, Version}
-use Rattle.words_core.specs.declared.operands.Operand.{Operand}
-use Rattle.words_core.specs.declared.values.OptionValue.{OptionValue}
-use Rattle.outcome.specs.Make.{IsBelow, below, index_line, made, mkndx, mkpkg}
-use Rattle.outcome.specs.Outcome.{IsGivenTo, IsOutcome, IsOutcomeOf, run_applet}
-use Rattle.outcome.specs.Reach.{output, output_by, output_of}
-use Rattle.outcome.specs.Sound.{AreNamedFiles, IsSoundAt}
-use Rattle.outcome.specs.Told.{Outcome, refused, reported}
+use Rattle.command_core.specs.Values.{script_file, script_type}
+use Rattle.command_core.specs.declared.command.Applet.{Applet}
+use Rattle.command_core.specs.declared.command.Applet.TheVariants.{Mkndx, Mkpkg}
+use Rattle.command_core.specs.declared.operands.Operand.{Operand}
+use Rattle.command_core.specs.declared.values.OptionValue.{OptionValue}
+use Rattle.outcome.proofs.Listings.{if_some, is_below}
+use Rattle.outcome.specs.Commands.{IsListingFor, IsOutcome, IsOutcomeOf, reads_in, applet_outcome}
+use Rattle.outcome.specs.Effect.{effect_of, output, output_by, output_if}
+use Rattle.outcome.specs.Make.{IsListing, files_below, index_line, make_outcome, mkndx, mkpkg}
+use Rattle.outcome.specs.Outcome.{Outcome, just_refusal, just_report}
+use Rattle.outcome.specs.Sound.{IsSoundAt}
 
 -- a package that is made of names below its folder is sound, and so is an index of files
 abbrev pub SoundPackage : Type 0
-SoundPackage = (command : CommandLine) (names : List (List ℕ)) (read : Reads) (bytes : List ℕ) → AreNamesFor (values_with 70 command.values) names → made_package command names read ≡ Ok bytes → length bytes < 2 ^ 64 → container_fault bytes ≡ None
+SoundPackage = (command : CommandLine) (names : List (List ℕ)) (read : Reads) (bytes : List ℕ) → AreNamesFor (values_with FILES command.values) names → made_package command names read ≡ Ok bytes → length bytes < 2 ^ 64 → container_fault bytes ≡ None
 
 abbrev pub SoundIndex : Type 0
 SoundIndex = (command : CommandLine) (read : Reads) (bytes : List ℕ) → AreFiles read 0 command.operands → made_index command read ≡ Ok bytes → container_fault bytes ≡ None
 
 -- ---- the names below a folder are names below it
 
-is_below : (folder q : List ℕ) → starts_with nat_eq q (folder ++ codes "/") ≡ true → IsFolderOf folder q
-is_below [] [] h = cc
-is_below [] (x ∷ q) h =
-    let same : x ≡ 47 = sym (eqb-true 47 x (and_parts (nat_eq 47 x) true h).0) in
-    (q, ap (λ y. y ∷ q) same)
-is_below (b ∷ folder) [] h = cc
-is_below (b ∷ folder) (x ∷ q) h =
-    let parts = and_parts (nat_eq b x) (starts_with nat_eq q (folder ++ codes "/")) h in
-    let same : x ≡ b = sym (eqb-true b x parts.0) in
-    let more = is_below folder q parts.1 in
-    (more.0, ap (λ y. y ∷ q) same ∙ ap (λ p. b ∷ p) more.1)
-
-if_some : (b : Bool) (o : Option (List ℕ)) → IsSome (if b then o else None) → (b ≡ true) × IsSome o
-if_some true o h = (refl, h)
-if_some false o h = cc
-
-name_below : (folder : List ℕ) (files : Files) → AreNamedFiles files → (q : List ℕ) → IsSome (below folder files q) → IsNameBelow folder q
+name_below : (folder : List ℕ) (files : Files) → AreNamedFiles files → (q : List ℕ) → IsSome (files_below folder files q) → IsNameBelow folder q
 name_below folder files good q some =
     let found = if_some (starts_with nat_eq q (folder ++ codes "/")) (files q) some in
     record { named = good.named q found.1; below = is_below folder q found.0 }
 
-names_below : (folder : List ℕ) (files : Files) (names : List (List ℕ)) → AreNamedFiles files → IsNamesOf (below folder files) names → AreNamesBelow folder names
+names_below : (folder : List ℕ) (files : Files) (names : List (List ℕ)) → AreNamedFiles files → IsNamesOf (files_below folder files) names → AreNamesBelow folder names
 names_below folder files names good are = record {
   rising = are.rising;
   each = All-weaker (Contains names) (IsNameBelow folder) (λ q here. name_below folder files good q ((are.each q).0 here)) names (All-contains_itself names);
 }
 
-names_for : (values : List OptionValue) (files : Files) (names : List (List ℕ)) → AreNamedFiles files → IsBelow values files names → AreNamesFor values names
+names_for : (values : List OptionValue) (files : Files) (names : List (List ℕ)) → AreNamedFiles files → IsListing values files names → AreNamesFor values names
 names_for [] files names good are = tt
 names_for (folder ∷ values) files names good are = names_below (without_dot folder.text) files names good are
 
 -- ---- what reads find in the files are files
 
-files_found : (files : Files) → AreNamedFiles files → (n : ℕ) (operands : List Operand) → AreFiles (λ n name. files name) n operands
+files_found : (files : Files) → AreNamedFiles files → (n : ℕ) (operands : List Operand) → AreFiles (reads_in files) n operands
 files_found files good n [] = tt
 files_found files good n (o ∷ operands) = (good.each (without_dot o.text), files_found files good (n + 1) operands)
 
 -- ---- the definitions of what is made give no fault of the tree, and no want of memory
 
-abbrev IsTold : {A : Type 0} → Result A MakeFault → Type 0
-IsTold (Ok x) = Unit {0}
-IsTold (Err (FileMissing place)) = Unit {0}
-IsTold (Err (FileBad place cause)) = Unit {0}
-IsTold (Err (InfoBad place)) = Unit {0}
-IsTold (Err (TooLarge bytes values)) = Unit {0}
-IsTold (Err Disk) = ⊥
-IsTold (Err Memory) = ⊥
+abbrev IsRefusalOrMade : {A : Type 0} → Result A MakeFault → Type 0
+IsRefusalOrMade (Ok x) = Unit {0}
+IsRefusalOrMade (Err (FileMissing place)) = Unit {0}
+IsRefusalOrMade (Err (FileBad place cause)) = Unit {0}
+IsRefusalOrMade (Err (InfoBad place)) = Unit {0}
+IsRefusalOrMade (Err (TooLarge bytes values)) = Unit {0}
+IsRefusalOrMade (Err Disk) = ⊥
+IsRefusalOrMade (Err Memory) = ⊥
 
-told_err : (A B : Type 0) (why : MakeFault) → IsTold {A = A} (Err why) → IsTold {A = B} (Err why)
-told_err A B (FileMissing place) h = tt
-told_err A B (FileBad place cause) h = tt
-told_err A B (InfoBad place) h = tt
-told_err A B (TooLarge bytes values) h = tt
-told_err A B Disk h = absurd h
-told_err A B Memory h = absurd h
+fine_err : (A B : Type 0) (why : MakeFault) → IsRefusalOrMade {A = A} (Err why) → IsRefusalOrMade {A = B} (Err why)
+fine_err A B (FileMissing place) h = tt
+fine_err A B (FileBad place cause) h = tt
+fine_err A B (InfoBad place) h = tt
+fine_err A B (TooLarge bytes values) h = tt
+fine_err A B Disk h = absurd h
+fine_err A B Memory h = absurd h
 
-after_told : {A B : Type 0} (r : Result A MakeFault) (next : A → Result B MakeFault) → IsTold r → ((x : A) → IsTold (next x)) → IsTold (on_success r next)
-after_told (Ok x) next h further = further x
-after_told {A} {B} (Err why) next h further = told_err A B why h
+after_fine : {A B : Type 0} (r : Result A MakeFault) (next : A → Result B MakeFault) → IsRefusalOrMade r → ((x : A) → IsRefusalOrMade (next x)) → IsRefusalOrMade (on_success r next)
+after_fine (Ok x) next h further = further x
+after_fine {A} {B} (Err why) next h further = fine_err A B why h
 
-each_told : {X Y : Type 0} (count : X → ℕ) (of : ℕ → X → Result Y MakeFault) → ((n : ℕ) (x : X) → IsTold (of n x)) → (n : ℕ) (xs : List X) → IsTold (each_from count of n xs)
-each_told count of h n [] = tt
-each_told count of h n (x ∷ xs) =
-    after_told (of n x) (λ y. on_success (each_from count of (n + count x) xs) (λ ys. Ok (y ∷ ys))) (h n x)
-    (λ y. after_told (each_from count of (n + count x) xs) (λ ys. Ok (y ∷ ys)) (each_told count of h (n + count x) xs) (λ ys. tt))
+each_fine : {X Y : Type 0} (count : X → ℕ) (of : ℕ → X → Result Y MakeFault) → ((n : ℕ) (x : X) → IsRefusalOrMade (of n x)) → (n : ℕ) (xs : List X) → IsRefusalOrMade (each_from count of n xs)
+each_fine count of h n [] = tt
+each_fine count of h n (x ∷ xs) =
+    after_fine (of n x) (λ y. on_success (each_from count of (n + count x) xs) (λ ys. Ok (y ∷ ys))) (h n x)
+    (λ y. after_fine (each_from count of (n + count x) xs) (λ ys. Ok (y ∷ ys)) (each_fine count of h (n + count x) xs) (λ ys. tt))
 
-found_told : (place : ℕ) (found : Option (List ℕ)) → IsTold (found_at place found)
-found_told place None = tt
-found_told place (Some bytes) = tt
+found_fine : (place : ℕ) (found : Option (List ℕ)) → IsRefusalOrMade (found_at place found)
+found_fine place None = tt
+found_fine place (Some bytes) = tt
 
-info_told : (r : Result (List InfoItem) ℕ) → IsTold (or_info_bad r)
-info_told (Ok items) = tt
-info_told (Err place) = tt
+info_fine : (r : Result (List InfoItem) ℕ) → IsRefusalOrMade (or_info_bad r)
+info_fine (Ok items) = tt
+info_fine (Err place) = tt
 
 script_of : OptionValue → List ℕ → Result Script MakeFault
 script_of v bytes = Ok (record { field = script_type v.text; bytes = bytes })
 
-script_told : (read : Reads) (n : ℕ) (v : OptionValue) → IsTold (script_at read n v)
+script_fine : (read : Reads) (n : ℕ) (v : OptionValue) → IsRefusalOrMade (script_at read n v)
 unfolding script_of
-script_told read n v = after_told (found_at v.place (read n (without_dot (script_file v.text)))) (script_of v) (found_told v.place (read n (without_dot (script_file v.text)))) (λ bytes. tt)
+script_fine read n v = after_fine (found_at v.place (read n (without_dot (script_file v.text)))) (script_of v) (found_fine v.place (read n (without_dot (script_file v.text)))) (λ bytes. tt)
 
 source_of : List ℕ → List ℕ → Result Source MakeFault
 source_of name bytes = Ok (record { name = last_part_of name; bytes = bytes })
 
-file_told : (place : ℕ) (read : Reads) (n : ℕ) (name : List ℕ) → IsTold (file_at place read n name)
+file_fine : (place : ℕ) (read : Reads) (n : ℕ) (name : List ℕ) → IsRefusalOrMade (file_at place read n name)
 unfolding source_of
-file_told place read n name = after_told (found_at place (read n name)) (source_of name) (found_told place (read n name)) (λ bytes. tt)
+file_fine place read n name = after_fine (found_at place (read n name)) (source_of name) (found_fine place (read n name)) (λ bytes. tt)
 
 folder_of : FolderListing → List Source → Result SourceFolder MakeFault
 folder_of folder files = Ok (record { name = folder.name; files = files })
 
-folder_told : (place : ℕ) (read : Reads) (n : ℕ) (folder : FolderListing) → IsTold (folder_at place read n folder)
+folder_fine : (place : ℕ) (read : Reads) (n : ℕ) (folder : FolderListing) → IsRefusalOrMade (folder_at place read n folder)
 unfolding folder_of
-folder_told place read n folder =
-    after_told (sources_from place read n folder.files) (folder_of folder) (each_told (λ name. 1) (file_at place read) (file_told place read) n folder.files) (λ files. tt)
+folder_fine place read n folder =
+    after_fine (sources_from place read n folder.files) (folder_of folder) (each_fine (λ name. 1) (file_at place read) (file_fine place read) n folder.files) (λ files. tt)
 
-folders_told : (read : Reads) (n : ℕ) (values : List OptionValue) (names : List (List ℕ)) → IsTold (folders_below read n values names)
-folders_told read n [] names = tt
-folders_told read n (v ∷ values) names =
-    each_told (λ (folder : FolderListing). length folder.files) (folder_at v.place read) (folder_told v.place read) n (folders_of (without_dot v.text) names)
+folders_fine : (read : Reads) (n : ℕ) (values : List OptionValue) (names : List (List ℕ)) → IsRefusalOrMade (folders_below read n values names)
+folders_fine read n [] names = tt
+folders_fine read n (v ∷ values) names =
+    each_fine (λ (folder : FolderListing). length folder.files) (folder_at v.place read) (folder_fine v.place read) n (folders_of (without_dot v.text) names)
 
-unless_told : (counts : Option PayloadCounts) (v : Plain) (contents : List Contents) → IsTold (container_unless counts v contents)
-unless_told None v contents = tt
-unless_told (Some counts) v contents = tt
+unless_fine : (counts : Option PayloadCounts) (v : Plain) (contents : List Contents) → IsRefusalOrMade (container_unless counts v contents)
+unless_fine None v contents = tt
+unless_fine (Some counts) v contents = tt
 
-file_of_told : (v : Plain) (contents : List Contents) → IsTold (package_container v contents)
+file_of_fine : (v : Plain) (contents : List Contents) → IsRefusalOrMade (package_container v contents)
 unfolding package_container
-file_of_told v contents = unless_told (overflow_of v) v contents
+file_of_fine v contents = unless_fine (overflow_of v) v contents
 
-package_told : (command : CommandLine) (names : List (List ℕ)) (read : Reads) → IsTold (made_package command names read)
+package_fine : (command : CommandLine) (names : List (List ℕ)) (read : Reads) → IsRefusalOrMade (made_package command names read)
 unfolding made_package
-package_told command names read =
-    after_told (scripts_from read 0 (values_with 115 command.values))
-    (λ scripts. on_success (or_info_bad (information command)) (λ about. on_success (folders_below read (length scripts) (values_with 70 command.values) names) (package_of_parts command scripts about)))
-    (each_told (λ v. 1) (script_at read) (script_told read) 0 (values_with 115 command.values))
+package_fine command names read =
+    after_fine (scripts_from read 0 (values_with SCRIPT command.values))
+    (λ scripts. on_success (or_info_bad (information command)) (λ about. on_success (folders_below read (length scripts) (values_with FILES command.values) names) (package_of_parts command scripts about)))
+    (each_fine (λ v. 1) (script_at read) (script_fine read) 0 (values_with SCRIPT command.values))
     (λ scripts.
-    after_told (or_info_bad (information command)) (λ about. on_success (folders_below read (length scripts) (values_with 70 command.values) names) (package_of_parts command scripts about))
-    (info_told (information command))
+    after_fine (or_info_bad (information command)) (λ about. on_success (folders_below read (length scripts) (values_with FILES command.values) names) (package_of_parts command scripts about))
+    (info_fine (information command))
     (λ about.
-    after_told (folders_below read (length scripts) (values_with 70 command.values) names) (package_of_parts command scripts about)
-    (folders_told read (length scripts) (values_with 70 command.values) names)
+    after_fine (folders_below read (length scripts) (values_with FILES command.values) names) (package_of_parts command scripts about)
+    (folders_fine read (length scripts) (values_with FILES command.values) names)
     (λ folders.
-    file_of_told
-    (value_of_package (information_value about (installed_size folders)) folders scripts (texts_of (values_with 116 command.values)) (replaces_priority about))
+    file_of_fine
+    (value_of_package (information_value about (installed_size folders)) folders scripts (texts_of (values_with TRIGGER command.values)) (replaces_priority about))
     (contents_of_folders 1 folders))))
 
-tested_told : (place : ℕ) (file : List ℕ) (cause : Option Cause) → IsTold (entry_unless place file cause)
-tested_told place file None = tt
-tested_told place file (Some cause) = tt
+tested_fine : (place : ℕ) (file : List ℕ) (cause : Option Cause) → IsRefusalOrMade (entry_unless place file cause)
+tested_fine place file None = tt
+tested_fine place file (Some cause) = tt
 
-entry_told : (place : ℕ) (found : Option (List ℕ)) → IsTold (found_entry place found)
-entry_told place None = tt
-entry_told place (Some file) = tested_told place file (package_fault file)
+entry_fine : (place : ℕ) (found : Option (List ℕ)) → IsRefusalOrMade (found_entry place found)
+entry_fine place None = tt
+entry_fine place (Some file) = tested_fine place file (package_fault file)
 
-and_told : (entry : Result Plain MakeFault) (others : Result (List Plain) MakeFault) → IsTold entry → IsTold others → IsTold (and_entries entry others)
-and_told (Err why) others h further = told_err Plain (List Plain) why h
-and_told (Ok entry) (Err why) h further = further
-and_told (Ok entry) (Ok entries) h further = tt
+and_fine : (entry : Result Plain MakeFault) (others : Result (List Plain) MakeFault) → IsRefusalOrMade entry → IsRefusalOrMade others → IsRefusalOrMade (and_entries entry others)
+and_fine (Err why) others h further = fine_err Plain (List Plain) why h
+and_fine (Ok entry) (Err why) h further = further
+and_fine (Ok entry) (Ok entries) h further = tt
 
-entries_told : (read : Reads) (n : ℕ) (operands : List Operand) → IsTold (found_entries read n operands)
-entries_told read n [] = tt
-entries_told read n (o ∷ operands) =
-    and_told (found_entry o.place (read n (without_dot o.text))) (found_entries read (n + 1) operands)
-    (entry_told o.place (read n (without_dot o.text))) (entries_told read (n + 1) operands)
+entries_fine : (read : Reads) (n : ℕ) (operands : List Operand) → IsRefusalOrMade (found_entries read n operands)
+entries_fine read n [] = tt
+entries_fine read n (o ∷ operands) =
+    and_fine (found_entry o.place (read n (without_dot o.text))) (found_entries read (n + 1) operands)
+    (entry_fine o.place (read n (without_dot o.text))) (entries_fine read (n + 1) operands)
 
-written_told : (payload : Result (List ℕ) PayloadCounts) → IsTold (index_container payload)
-written_told (Ok payload) = tt
-written_told (Err counts) = tt
+written_fine : (payload : Result (List ℕ) PayloadCounts) → IsRefusalOrMade (index_container payload)
+written_fine (Ok payload) = tt
+written_fine (Err counts) = tt
 
-of_found_told : (description : List ℕ) (entries : Result (List Plain) MakeFault) → IsTold entries → IsTold (index_of_found description entries)
+of_found_fine : (description : List ℕ) (entries : Result (List Plain) MakeFault) → IsRefusalOrMade entries → IsRefusalOrMade (index_of_found description entries)
 unfolding index_of
-of_found_told description (Ok entries) h = written_told (written_of (value_of_index description (sorted_by entry_cmp entries)))
-of_found_told description (Err why) h = told_err (List Plain) (List ℕ) why h
+of_found_fine description (Ok entries) h = written_fine (written_of (value_of_index description (sorted_by entry_cmp entries)))
+of_found_fine description (Err why) h = fine_err (List Plain) (List ℕ) why h
 
-index_told : (command : CommandLine) (read : Reads) → IsTold (made_index command read)
+index_fine : (command : CommandLine) (read : Reads) → IsRefusalOrMade (made_index command read)
 unfolding made_index
-index_told command read = of_found_told (description_in command.values) (found_entries read 0 command.operands) (entries_told read 0 command.operands)
+index_fine command read = of_found_fine (description_in command.values) (found_entries read 0 command.operands) (entries_fine read 0 command.operands)
 
 -- ---- what was made, where nothing is refused, stands under the output's name
 
@@ -216,52 +204,50 @@ Stands name result outcome = (bytes : List ℕ) × (result ≡ Ok bytes) × (out
 put_there : (name bytes : List ℕ) (files : Files) → replaced_files name bytes files name ≡ Some bytes
 put_there name bytes files = ap (λ (b : Bool). if b then Some bytes else drop_name files (scratch_of name) name) ((bytes_eq-Decides name name).1 refl)
 
-stands_unless : (reserved : Bool) (name bytes report : List ℕ) (files : Files) → (if reserved then refused files (Reserved name) else reported (replaced_files name bytes files) report).refusal ≡ None
-    → (if reserved then refused files (Reserved name) else reported (replaced_files name bytes files) report).files name ≡ Some bytes
+stands_unless : (reserved : Bool) (name bytes report : List ℕ) (files : Files) → (if reserved then just_refusal files (Reserved name) else just_report (replaced_files name bytes files) report).refusal ≡ None
+    → (if reserved then just_refusal files (Reserved name) else just_report (replaced_files name bytes files) report).files name ≡ Some bytes
 stands_unless true name bytes report files none = cc
 stands_unless false name bytes report files none = put_there name bytes files
 
-refused_either_way : (reserved : Bool) (a b : Refusal) (files : Files) → (if reserved then refused files a else refused files b).refusal ≡ None → ⊥
+refused_either_way : (reserved : Bool) (a b : Refusal) (files : Files) → (if reserved then just_refusal files a else just_refusal files b).refusal ≡ None → ⊥
 refused_either_way true a b files none = cc
 refused_either_way false a b files none = cc
 
-stands : (files : Files) (name report : List ℕ) (result : Result (List ℕ) MakeFault) → IsTold result → (made files (Some name) report result).refusal ≡ None → Stands name result (made files (Some name) report result)
-stands files name report (Ok bytes) told none = (bytes, refl, stands_unless (is_reserved name) name bytes report files none)
-stands files name report (Err (FileMissing place)) told none = absurd (cc (none))
-stands files name report (Err (FileBad place cause)) told none = absurd (cc (none))
-stands files name report (Err (InfoBad place)) told none = absurd (cc (none))
-stands files name report (Err (TooLarge bytes values)) told none = absurd (refused_either_way (is_reserved name) (Reserved name) (ResultTooLarge bytes values) files none)
-stands files name report (Err Disk) told none = absurd told
-stands files name report (Err Memory) told none = absurd told
+stands : (files : Files) (name report : List ℕ) (result : Result (List ℕ) MakeFault) → IsRefusalOrMade result → (make_outcome files (Some name) report result).refusal ≡ None → Stands name result (make_outcome files (Some name) report result)
+stands files name report (Ok bytes) fine none = (bytes, refl, stands_unless (is_reserved name) name bytes report files none)
+stands files name report (Err (FileMissing place)) fine none = absurd (cc (none))
+stands files name report (Err (FileBad place cause)) fine none = absurd (cc (none))
+stands files name report (Err (InfoBad place)) fine none = absurd (cc (none))
+stands files name report (Err (TooLarge bytes values)) fine none = absurd (refused_either_way (is_reserved name) (Reserved name) (ResultTooLarge bytes values) files none)
+stands files name report (Err Disk) fine none = absurd fine
+stands files name report (Err Memory) fine none = absurd fine
 
-stands_at : (files : Files) (output : Option (List ℕ)) (name report : List ℕ) (result : Result (List ℕ) MakeFault) → IsTold result → output ≡ Some name → (made files output report result).refusal ≡ None
-    → Stands name result (made files output report result)
-stands_at files output name report result told is =
-    subst (λ (o : Option (List ℕ)). (made files o report result).refusal ≡ None → Stands name result (made files o report result)) (sym is) (stands files name report result told)
+stands_at : (files : Files) (output : Option (List ℕ)) (name report : List ℕ) (result : Result (List ℕ) MakeFault) → IsRefusalOrMade result → output ≡ Some name → (make_outcome files output report result).refusal ≡ None
+    → Stands name result (make_outcome files output report result)
+stands_at files output name report result fine is =
+    subst (λ (o : Option (List ℕ)). (make_outcome files o report result).refusal ≡ None → Stands name result (make_outcome files o report result)) (sym is) (stands files name report result fine)
 
 -- ---- the outcome of a command
 
-package_sound : SoundPackage → (command : CommandLine) (names : List (List ℕ)) (files : Files) (name : List ℕ) → AreNamedFiles files → IsBelow (values_with 70 command.values) files names → output_name command ≡ Some name
-    → (mkpkg files command names).refusal ≡ None → IsSoundAt name (mkpkg files command names).files
+package_sound : SoundPackage → (command : CommandLine) (names : List (List ℕ)) (files : Files) (name : List ℕ) → AreNamedFiles files → IsListing (values_with FILES command.values) files names → output_name command ≡ Some name
+    → (mkpkg (reads_in files) files command names).refusal ≡ None → IsSoundAt name (mkpkg (reads_in files) files command names).files
 package_sound law command names files name good are is none =
-    let read : Reads = λ n q. files q in
-    let (bytes, ok, here) = stands_at files (output_name command) name [] (made_package command names read) (package_told command names read) is none in
-    (bytes, here, law command names read bytes (names_for (values_with 70 command.values) files names good are) ok)
+    let read : Reads = reads_in files in
+    let (bytes, ok, here) = stands_at files (output_name command) name [] (made_package command names read) (package_fine command names read) is none in
+    (bytes, here, law command names read bytes (names_for (values_with FILES command.values) files names good are) ok)
 
 index_sound : SoundIndex → (command : CommandLine) (files : Files) (name : List ℕ) → AreNamedFiles files → output_name command ≡ Some name
-    → (mkndx files command).refusal ≡ None → IsSoundAt name (mkndx files command).files
+    → (mkndx (reads_in files) files command).refusal ≡ None → IsSoundAt name (mkndx (reads_in files) files command).files
 index_sound law command files name good is none =
-    let read : Reads = λ n q. files q in
-    let (bytes, ok, here) = stands_at files (output_name command) name (index_line (length command.operands)) (made_index command read) (index_told command read) is none in
+    let read : Reads = reads_in files in
+    let (bytes, ok, here) = stands_at files (output_name command) name (index_line (length command.operands)) (made_index command read) (index_fine command read) is none in
     (bytes, here, λ few. law command read bytes (files_found files good 0 command.operands) ok)
 
-applet_sound : SoundPackage → SoundIndex → (applet : Applet) (command : CommandLine) (names : List (List ℕ)) (files : Files) (name : List ℕ) → AreNamedFiles files → IsGivenTo applet command files names
-    → output_of applet command ≡ Some name → (run_applet applet command names files).refusal ≡ None → IsSoundAt name (run_applet applet command names files).files
-applet_sound packages indexes Verify command names files name good are is none = absurd (cc (is))
-applet_sound packages indexes Version command names files name good are is none = absurd (cc (is))
-applet_sound packages indexes Adbdump command names files name good are is none = absurd (cc (is))
+applet_sound : SoundPackage → SoundIndex → (applet : Applet) (command : CommandLine) (names : List (List ℕ)) (files : Files) (name : List ℕ) → AreNamedFiles files → IsListingFor applet command files names
+    → output_if (effect_of applet) command ≡ Some name → (applet_outcome applet command names (reads_in files) files).refusal ≡ None → IsSoundAt name (applet_outcome applet command names (reads_in files) files).files
 applet_sound packages indexes Mkpkg command names files name good are is none = package_sound packages command names files name good are is none
 applet_sound packages indexes Mkndx command names files name good are is none = index_sound indexes command files name good is none
+applet_sound packages indexes other command names files name good are is none = absurd (cc (is))
 
 sound_by : SoundPackage → SoundIndex → (read : Result CommandLine ℕ) (files : Files) (o : Outcome) (name : List ℕ) → AreNamedFiles files → IsOutcomeOf read files o → o.refusal ≡ None → output_by read ≡ Some name
     → IsSoundAt name o.files
@@ -270,6 +256,7 @@ sound_by packages indexes (Ok command) files o name good (names, are, is) none n
     subst (λ (p : Outcome). IsSoundAt name p.files) (sym is)
     (applet_sound packages indexes command.applet command names files name good are named (ap (λ (p : Outcome). p.refusal) (sym is) ∙ none))
 
-pub made_sound : SoundPackage → SoundIndex → (words : List (List ℕ)) (files : Files) (o : Outcome) (name : List ℕ) → AreNamedFiles files → IsOutcome words files o → o.refusal ≡ None → output words ≡ Some name
+pub made_sound : ((v : TreeState) → IsWhole v → AreNamedFiles (files_of v)) → SoundPackage → SoundIndex
+    → (words : List (List ℕ)) (v : TreeState) (o : Outcome) (name : List ℕ) → IsWhole v → IsOutcome words (files_of v) o → o.refusal ≡ None → output words ≡ Some name
     → IsSoundAt name o.files
-made_sound packages indexes words files o name good is none named = sound_by packages indexes (command_of words) files o name good is none named
+made_sound named packages indexes words v o name whole is none under = sound_by packages indexes (command_of words) (files_of v) o name (named v whole) is none under

@@ -1,8 +1,10 @@
+-- what the contract of `apk` says, in the order in which it is best read
 pub mod Outcome
-pub mod Verify
+pub mod Commands
+pub mod Effect
 pub mod Version
+pub mod Verify
 pub mod Dump
 pub mod Make
-pub mod Reach
-pub mod Told
+-- what only inner contracts and proofs use
 pub mod Sound

@@ -9,61 +9,66 @@ use Rattle.journal_core.specs.Replacing.{replaced_files}
 use Rattle.make_index.specs.Index.{made_index}
 use Rattle.make_package.specs.Making.{made_package}
 use Rattle.make_info.specs.Output.{output_name}
+use Rattle.make_info.specs.Reads.{Reads}
 use Rattle.make_info.specs.declared.fault.MakeFault.{MakeFault}
 use Rattle.make_info.specs.declared.fault.MakeFault.TheVariants.{FileMissing as NoFile, FileBad as BadFile, InfoBad as BadInfo, TooLarge, Disk, Memory}
 use Rattle.report_core.specs.declared.refusal.Refusal.TheVariants.{FileMissing, FileBad, InfoBad, Reserved, ResultTooLarge}
-use Rattle.words_core.specs.Command.{CommandLine, without_dot}
-use Rattle.words_core.specs.declared.values.OptionValue.{OptionValue}
-use Rattle.outcome.specs.Told.{Outcome, refused, reported}
+use Rattle.command_core.specs.Command.{CommandLine}
+use Rattle.command_core.specs.Files.{without_dot}
+use Rattle.command_core.specs.declared.values.OptionValue.{OptionValue}
+use Rattle.outcome.specs.Outcome.{Outcome, just_refusal, just_report}
 
 -- ---- what is below the folder that `-F` names
 
--- the files below a folder
-abbrev pub below : List ℕ → Files → Files
-below folder files name = if starts_with nat_eq name (folder ++ codes "/") then files name else None
+abbrev pub files_below : List ℕ → Files → Files
+files_below folder files name =
+    if starts_with nat_eq name (folder ++ codes "/") then files name else None
 
--- names are just those of the files below the folder, in byte order; where no folder is given there are none
-abbrev pub IsBelow : List OptionValue → Files → List (List ℕ) → Type 0
-IsBelow [] files names = names ≡ []
-IsBelow (folder ∷ values) files names = IsNamesOf (below (without_dot folder.text) files) names
+-- just the names of the files below the folder, in byte order; none where no folder is given
+abbrev pub IsListing : List OptionValue → Files → List (List ℕ) → Type 0
+IsListing [] files names = names ≡ []
+IsListing (folder ∷ values) files names =
+    IsNamesOf (files_below (without_dot folder.text) files) names
 
 -- ---- what comes of it
 
--- the refusal of an output whose name is reserved
+-- a reserved name is refused as an output
 abbrev pub unless_reserved : Files → Option (List ℕ) → Outcome → Outcome
 unless_reserved files None otherwise = otherwise
-unless_reserved files (Some name) otherwise = if is_reserved name then refused files (Reserved name) else otherwise
+unless_reserved files (Some name) otherwise =
+    if is_reserved name then just_refusal files (Reserved name) else otherwise
 
--- the bytes stand under the output's name, and nothing under its scratch name
-abbrev pub written : Option (List ℕ) → List ℕ → Files → Files
-written None bytes files = files
-written (Some name) bytes files = replaced_files name bytes files
+-- these bytes stand under the output's name, and nothing under its scratch name
+abbrev pub files_with : Option (List ℕ) → List ℕ → Files → Files
+files_with None bytes files = files
+files_with (Some name) bytes files = replaced_files name bytes files
 
--- what comes of a container, or of the fault in its place, with a report of it. A reserved output is refused behind all
--- but a container that is too large. The definitions of what is made give no other fault
-abbrev pub made : Files → Option (List ℕ) → List ℕ → Result (List ℕ) MakeFault → Outcome
-made files output report (Ok bytes) = unless_reserved files output (reported (written output bytes files) report)
-made files output report (Err (NoFile place)) = refused files (FileMissing place)
-made files output report (Err (BadFile place cause)) = refused files (FileBad place cause)
-made files output report (Err (BadInfo place)) = refused files (InfoBad place)
-made files output report (Err (TooLarge bytes values)) = unless_reserved files output (refused files (ResultTooLarge bytes values))
-made files output report (Err Disk) = reported files []
-made files output report (Err Memory) = reported files []
+-- A container is written and reported; what cannot be made is refused. A reserved output is refused
+-- behind all other refusals but that of a container that is too large.
+abbrev pub make_outcome : Files → Option (List ℕ) → List ℕ → Result (List ℕ) MakeFault → Outcome
+make_outcome files output report (Ok bytes) =
+    unless_reserved files output (just_report (files_with output bytes files) report)
+make_outcome files output report (Err (NoFile place)) = just_refusal files (FileMissing place)
+make_outcome files output report (Err (BadFile place cause)) =
+    just_refusal files (FileBad place cause)
+make_outcome files output report (Err (BadInfo place)) = just_refusal files (InfoBad place)
+make_outcome files output report (Err (TooLarge bytes values)) =
+    unless_reserved files output (just_refusal files (ResultTooLarge bytes values))
+-- the definitions of what is made give neither of these
+make_outcome files output report (Err Disk) = just_report files []
+make_outcome files output report (Err Memory) = just_report files []
 
--- a package is made of the names below its folder, and of what reads find, which are numbered from 0; nothing is told
-abbrev pub mkpkg_by : Files → (ℕ → List ℕ → Option (List ℕ)) → CommandLine → List (List ℕ) → Outcome
-mkpkg_by files read command names = made files (output_name command) [] (made_package command names read)
+-- a package of the names below its folder, and of what reads find; nothing is reported
+abbrev pub mkpkg : Reads → Files → CommandLine → List (List ℕ) → Outcome
+mkpkg read files command names =
+    make_outcome files (output_name command) [] (made_package command names read)
 
-abbrev pub mkpkg : Files → CommandLine → List (List ℕ) → Outcome
-mkpkg files command names = mkpkg_by files (λ n name. files name) command names
-
--- what is told of an index
+-- the report of an index
 abbrev pub index_line : ℕ → List ℕ
 index_line count = codes "Index has " ++ decimal count ++ codes " packages\n"
 
--- an index is made of the packages that the operands name, as reads find them
-abbrev pub mkndx_by : Files → (ℕ → List ℕ → Option (List ℕ)) → CommandLine → Outcome
-mkndx_by files read command = made files (output_name command) (index_line (length command.operands)) (made_index command read)
-
-abbrev pub mkndx : Files → CommandLine → Outcome
-mkndx files command = mkndx_by files (λ n name. files name) command
+-- an index of the packages that the operands name, as reads find them
+abbrev pub mkndx : Reads → Files → CommandLine → Outcome
+mkndx read files command =
+    make_outcome files (output_name command) (index_line (length command.operands))
+    (made_index command read)

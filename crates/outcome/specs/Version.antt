@@ -6,14 +6,15 @@ use Rattle.base_core.specs.Files.{Files}
 use Rattle.report_core.specs.declared.refusal.Refusal.{Refusal}
 use Rattle.report_core.specs.declared.refusal.Refusal.TheVariants.{VersionBad}
 use Rattle.version_core.specs.Order.{is_version, version_cmp}
-use Rattle.words_core.specs.declared.flags.Flags.{Flags}
-use Rattle.words_core.specs.declared.operands.Operand.{Operand}
-use Rattle.outcome.specs.Told.{Outcome, told, unless}
+use Rattle.command_core.specs.declared.command.Flags.{Flags}
+use Rattle.command_core.specs.declared.operands.Operand.{Operand}
+use Rattle.outcome.specs.Outcome.{Outcome, outcome_of, report_unless}
 
 -- the refusal of the first operand that is no version
 abbrev pub version_refusal : List Operand → Option Refusal
 version_refusal [] = None
-version_refusal (o ∷ operands) = if is_version o.text then version_refusal operands else Some (VersionBad o.place)
+version_refusal (o ∷ operands) =
+    if is_version o.text then version_refusal operands else Some (VersionBad o.place)
 
 -- how the first of two versions stands to the second
 abbrev pub order_line : Ordering → List ℕ
@@ -21,13 +22,13 @@ order_line Less = codes "<\n"
 order_line Equal = codes "=\n"
 order_line Greater = codes ">\n"
 
--- the order of the first two operands; the words have just two
-abbrev pub compared : List Operand → List ℕ
-compared [] = []
-compared (a ∷ []) = []
-compared (a ∷ (b ∷ operands)) = order_line (version_cmp a.text b.text)
+-- the order of the first two operands; the grammar gives just two
+abbrev pub order_report : List Operand → List ℕ
+order_report [] = []
+order_report (a ∷ []) = []
+order_report (a ∷ (b ∷ operands)) = order_line (version_cmp a.text b.text)
 
--- what is told of a text that is no version
+-- the line of a text that is no version
 abbrev pub invalid_line : List ℕ → List ℕ
 invalid_line text = if is_version text then [] else text ++ codes "\n"
 
@@ -36,8 +37,9 @@ abbrev pub invalid_lines : List Operand → List ℕ
 invalid_lines [] = []
 invalid_lines (o ∷ operands) = invalid_line o.text ++ invalid_lines operands
 
--- with `--test` the order is told, unless one is no version; with `--check` those that are none are told, and the first is refused behind them
+-- `--test` prints the order, unless one operand is no version; `--check` prints the operands that
+-- are no versions, and the first of them is refused behind that report
 abbrev pub version : Files → Flags → List Operand → Outcome
 version files flags operands =
-    if flags.test then unless files (version_refusal operands) (compared operands) else
-    told (version_refusal operands) (invalid_lines operands) files
+    if flags.test then report_unless files (version_refusal operands) (order_report operands) else
+    outcome_of (version_refusal operands) (invalid_lines operands) files

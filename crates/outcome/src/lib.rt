@@ -1,12 +1,70 @@
-//! What every command answers, prints and leaves, as a function of its words and of the files of the tree.
+//! What every command answers, prints and leaves, as a function of its words and of the files of
+//! the tree.
 //!
-//! It is a crate of definitions: `Outcome` (what a command line comes to), `Verify`, `Version`, `Dump` and `Make` (the single commands),
-//! `Reach` (what a command looks at and changes) and `Sound` (when what it leaves is a sound container) of `specs/`. Its functions are laws: they do nothing, and their contracts say what follows from the definitions.
+//! It is a crate of definitions. `Outcome` of `specs/` says what a command comes to, `Commands`
+//! what a command line comes to, `Effect` what it looks at and changes, and `Version`, `Verify`,
+//! `Dump` and `Make` what each command comes to; `Sound` says when a file is a sound container. The
+//! functions are laws: they do nothing, and their contracts say what follows from the definitions,
+//! for all words and files.
 #![tactic(auto)]
 
-mod laws;
+ghost use Rattle.std.specs.Prelude.{◌≡◌, ℕ, List, None, Some, IsTrue};
+ghost use Rattle.base_core.specs.Files.{Files, IsWithin};
+ghost use Rattle.base_core.specs.Listed.{IsListOf, IsNamesOf};
+ghost use Rattle.base_core.specs.Tree.{IsWhole, TreeState, files_of};
+ghost use Rattle.outcome.specs.Commands.{IsOutcome};
+ghost use Rattle.outcome.specs.Effect.{output, reads_only, rests_on_words};
+ghost use Rattle.outcome.specs.Make.{files_below};
+ghost use Rattle.outcome.specs.Outcome.{Outcome, outcome_of};
+ghost use Rattle.outcome.specs.Sound.{IsSoundAt};
+ghost use Rattle.words_core.specs.Grammar.{command_of};
 
-pub use laws::{
-    a_command_that_reads_leaves_the_files, an_outcome_exists, an_outcome_is_unique,
-    an_outcome_of_words_is_the_same_everywhere, what_is_made_is_sound,
-};
+use base_core::{files_have_one_list_of_names, the_files_of_a_whole_state_are_named_files};
+use make_core::{a_made_index_is_sound, a_made_package_is_sound};
+
+/// A command line has an outcome over any files under finitely many names.
+pub fn an_outcome_exists()
+    ensures { (words within : List (List ℕ)) (files : Files)
+        → IsWithin within files → (o : Outcome) × IsOutcome words files o }
+{
+    files_have_one_list_of_names();
+}
+
+/// A command line has one outcome over some files, and no second one.
+pub fn an_outcome_is_unique()
+    ensures { (words : List (List ℕ)) (files : Files) (a b : Outcome)
+        → IsOutcome words files a → IsOutcome words files b → a ≡ b }
+{
+    files_have_one_list_of_names();
+}
+
+/// A command that only reads leaves the files as they are.
+pub fn a_command_that_reads_leaves_the_files()
+    ensures { (words : List (List ℕ)) (files : Files) (o : Outcome)
+        → IsTrue (reads_only (command_of words)) → IsOutcome words files o → o.files ≡ files }
+{}
+
+/// An outcome that rests on the words alone is the same over all other files, which it leaves.
+pub fn an_outcome_of_words_is_the_same_everywhere()
+    ensures { (words : List (List ℕ)) (files others : Files) (o : Outcome)
+        → IsTrue (rests_on_words (command_of words))
+        → IsOutcome words files o → IsOutcome words others (outcome_of o.refusal o.out others) }
+{}
+
+/// The names below a folder, as a tree lists them, are those of its files.
+pub fn a_listing_of_a_tree_is_that_of_its_files()
+    ensures { (folder : List ℕ) (v : TreeState) (names : List (List ℕ))
+        → IsListOf folder v names → IsNamesOf (files_below folder (files_of v)) names }
+{}
+
+/// What `mkpkg` or `mkndx` leaves under its output's name passes all tests of a container, where it
+/// has fewer than 2^64 bytes. Each state of a tree is whole.
+pub fn what_is_made_is_sound()
+    ensures { (words : List (List ℕ)) (v : TreeState) (o : Outcome) (name : List ℕ)
+        → IsWhole v → IsOutcome words (files_of v) o → o.refusal ≡ None
+        → output words ≡ Some name → IsSoundAt name o.files }
+{
+    the_files_of_a_whole_state_are_named_files();
+    a_made_package_is_sound();
+    a_made_index_is_sound();
+}

@@ -1,6 +1,7 @@
-//! Reads the lines of a dump text into a writer. Each value is written as soon as its last line is read.
+//! Reads the lines of a dump text into a writer. Each value is written as soon as its last line is
+//! read.
 use crate::text::{hash, number, text_bytes};
-use adb_schema::{Field, Kind, Which, fields_of, schema_word};
+use adb_tables::{Field, Kind, Which, fields_of};
 use adb_view::Val;
 use adb_write::{WriteFault, Writer, file_of};
 use std::alloc::{AllocError, AllocFailed, Global};
@@ -62,14 +63,14 @@ pub fn container_of(alloc: Global, text: &[u8]) -> Result<Vec<u8>, DumpFault> {
         return Err(DumpFault::NoDump);
     };
     let (schema, lines) = first_line(lines);
-    let root = root_of(schema)?;
+    let (root, schema) = root_of(schema)?;
     let mut reader = Reader::new(alloc, root)?;
     if let Some(lines) = lines {
         for line in lines.split(|byte| *byte == b'\n') {
             reader.read_line(line)?;
         }
     }
-    reader.finish(root)
+    reader.finish(schema)
 }
 
 /// The first line, and the others, if there are any.
@@ -80,16 +81,16 @@ fn first_line(text: &[u8]) -> (&[u8], Option<&[u8]>) {
     }
 }
 
-/// The table of a schema's line.
-fn root_of(line: &[u8]) -> Result<Which, DumpFault> {
+/// The table of the root by a schema's line, and the schema.
+fn root_of(line: &[u8]) -> Result<(Which, u32), DumpFault> {
     let Some(digits) = line.strip_prefix(b"#%SCHEMA: ") else {
         return Err(DumpFault::NoDump);
     };
     match digits {
-        b"676b6370" => Ok(Which::Package),
-        b"78646e69" => Ok(Which::Index),
-        b"00626469" => Ok(Which::Idb),
-        b"74746e69" => Ok(Which::Intent),
+        b"676b6370" => Ok((Which::Package, 0x676b_6370)),
+        b"78646e69" => Ok((Which::Index, 0x7864_6e69)),
+        b"00626469" => Ok((Which::Idb, 0x0062_6469)),
+        b"74746e69" => Ok((Which::Intent, 0x7474_6e69)),
         _ => Err(DumpFault::NoDump),
     }
 }
@@ -252,7 +253,7 @@ impl Reader {
         self.open(shape, deeper(column)?)
     }
 
-    fn finish(self, root: Which) -> Result<Vec<u8>, DumpFault> {
+    fn finish(self, schema: u32) -> Result<Vec<u8>, DumpFault> {
         let mut reader = self;
         reader.close_down_to(0)?;
         let word = reader.close()?;
@@ -261,9 +262,6 @@ impl Reader {
             Ok(payload) => payload,
             Err(WriteFault::TooLarge { .. }) => return Err(DumpFault::NoDump),
             Err(WriteFault::Memory) => return Err(DumpFault::Memory),
-        };
-        let Some(schema) = schema_word(root) else {
-            return Err(DumpFault::NoDump);
         };
         if payload.len() > MOST_BYTES {
             return Err(DumpFault::NoDump);

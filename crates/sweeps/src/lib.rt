@@ -1,5 +1,5 @@
-//! Tests across the crates: whole operations over a tree in memory, cut off at each of its calls, and read back after
-//! every crash.
+//! Tests across the crates that no command line reaches: a file that is replaced again and again,
+//! while the names are never synced, and read back from every image.
 #![tactic(auto)]
 
 #[cfg(test)]

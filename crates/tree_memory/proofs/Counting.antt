@@ -7,7 +7,7 @@ use Rattle.base_core.specs.Tree.{TreeState}
 use Rattle.base_core.specs.Calls.{IsCounted}
 use Rattle.base_core.specs.Faults.{GoesOn, HasCause}
 use Rattle.tree_memory.specs.Plans.{PlanState, is_listed, is_stopped, is_next, has_more, listed_on, one_on}
-use Rattle.tree_memory.specs.Tallies.{called, faulted, misused, wanted, begun, goes_on, HasGrown}
+use Rattle.tree_memory.specs.Tallies.{with_call, with_fault, with_misuse, with_want, with_begun_call, goes_on, HasGrown}
 use Rattle.tree_memory.specs.Memory.{counts_by}
 use Rattle.tree_memory.specs.declared.calls.Calls.{Calls}
 use Rattle.tree_memory.specs.declared.calls.Tally.{Tally}
@@ -63,7 +63,7 @@ more_is_more plan is = either (is_ahead (listed_on plan.listed)) (is_some (optio
 -- a call was counted, and fails at once if it has to, or where that is planned
 pub record IsBegun (b : Bool) (writes : ℕ) (old new : Calls) : Type 0 where
   pub plan : new.plan ≡ one_on old.plan
-  pub tally : new.tally ≡ begun b (is_next old.plan) (record old.tally { writes = writes })
+  pub tally : new.tally ≡ with_begun_call b (is_next old.plan) (record old.tally { writes = writes })
   pub grown : HasGrown old.tally new.tally
 
 -- b is the answer to whether it is no misuse
@@ -84,7 +84,7 @@ on old new grown nearer = record { faults = grown.faults; misuses = grown.misuse
 
 module _ (b : Bool) (writes : ℕ) (old new : Calls) (h : IsBegun b writes old new) where
   abbrev begun_at : Bool → Bool → Tally
-  begun_at c p = begun c p (record old.tally { writes = writes })
+  begun_at c p = with_begun_call c p (record old.tally { writes = writes })
 
   free : (c p : Bool) → goes_on c p ≡ true → (c ≡ true) × (p ≡ false)
   free true false goes = (refl, refl)
@@ -94,24 +94,24 @@ module _ (b : Bool) (writes : ℕ) (old new : Calls) (h : IsBegun b writes old n
   pub is_free : goes_on b (is_next old.plan) ≡ true → (b ≡ true) × (is_next old.plan ≡ false)
   is_free goes = free b (is_next old.plan) goes
 
-  pub free_tally : goes_on b (is_next old.plan) ≡ true → new.tally ≡ called (record old.tally { writes = writes })
+  pub free_tally : goes_on b (is_next old.plan) ≡ true → new.tally ≡ with_call (record old.tally { writes = writes })
   free_tally goes = let at = is_free goes in h.tally ∙ (λ i. begun_at (at.0 i) (at.1 i))
 
   -- ---- one that fails at once
 
-  failed : (c p : Bool) → goes_on c p ≡ false → ((c ≡ false) × (begun_at c p ≡ misused (called (record old.tally { writes = writes })))) ⊎ ((c ≡ true) × (p ≡ true) × (begun_at c p ≡ faulted (called (record old.tally { writes = writes }))))
+  failed : (c p : Bool) → goes_on c p ≡ false → ((c ≡ false) × (begun_at c p ≡ with_misuse (with_call (record old.tally { writes = writes })))) ⊎ ((c ≡ true) × (p ≡ true) × (begun_at c p ≡ with_fault (with_call (record old.tally { writes = writes }))))
   failed true false stays = absurd (cc)
   failed true true stays = inr (refl, refl, refl)
   failed false p stays = inl (refl, refl)
 
   pub record IsMisused : Type 0 where
     pub cannot : b ≡ false
-    pub tally : new.tally ≡ misused (called (record old.tally { writes = writes }))
+    pub tally : new.tally ≡ with_misuse (with_call (record old.tally { writes = writes }))
 
   pub record IsPlanned : Type 0 where
     pub can : b ≡ true
     pub next : is_next old.plan ≡ true
-    pub tally : new.tally ≡ faulted (called (record old.tally { writes = writes }))
+    pub tally : new.tally ≡ with_fault (with_call (record old.tally { writes = writes }))
 
   pub has_failed : goes_on b (is_next old.plan) ≡ false → IsMisused ⊎ IsPlanned
   has_failed stays = ⊎_elim (λ m. inl (record { cannot = m.0; tally = h.tally ∙ m.1 })) (λ p. inr (record { can = p.0; next = p.1; tally = h.tally ∙ p.2 })) (failed b (is_next old.plan) stays)
@@ -170,7 +170,7 @@ module _ (can : TreeState → Type 0) (v : TreeState) (earlier : List TreeState)
 -- the end of a call, for which there was memory or not
 pub record IsEnded (there : Bool) (mid new : Calls) : Type 0 where
   pub plan : new.plan ≡ mid.plan
-  pub tally : new.tally ≡ cond there mid.tally (wanted mid.tally)
+  pub tally : new.tally ≡ cond there mid.tally (with_want mid.tally)
   pub grown : HasGrown mid.tally new.tally
 
 module _ (can : TreeState → Type 0) (v : TreeState) (earlier : List TreeState) (b : Bool) (s : Says b (can v)) (writes : ℕ) (old mid new : Calls) (h : IsBegun b writes old mid) (goes : goes_on b (is_next old.plan) ≡ true) where
@@ -195,7 +195,7 @@ module _ (can : TreeState → Type 0) (v : TreeState) (earlier : List TreeState)
   }
   ended_counts true (Err e) end is = absurd (cc (is))
   ended_counts false (Ok x) end is = absurd (cc (is))
-  ended_counts false (Err e) end is = let tally = end.tally ∙ ap wanted (free_tally b writes old mid h goes) in record {
+  ended_counts false (Err e) end is = let tally = end.tally ∙ ap with_want (free_tally b writes old mid h goes) in record {
     goes_on = ended_on false end;
     cause = record { fault = omega (arith, ap (λ (u : Tally). u.faults) tally); reason = inr (inr (omega (arith, ap (λ (u : Tally). u.wants) tally))) };
     kept = tt;

@@ -15,7 +15,7 @@ use Rattle.base_core.specs.Name.{IsName}
 use Rattle.base_core.specs.Listed.{IsNamesOf}
 use Rattle.base_core.specs.Tree.{TreeState, File, IsMapOf, CanCreate, bytes_at, files_of, set_file, change_at, with_names, after_create}
 use Rattle.tree_memory.specs.Table.{IsTable, lookup, names_of}
-use Rattle.tree_memory.specs.Changes.{empty_state, after_put, step, state_on, earlier_on, contents_of, flags_of}
+use Rattle.tree_memory.specs.Changes.{empty_state, after_put, step, state_on, earlier_on, contents_of, synced_flags}
 use Rattle.tree_memory.specs.Kept.{IsKept, IsSoundState, IsStore, CanPut}
 use Rattle.tree_memory.specs.WholeLaw.{AreBounded, bounded_state}
 use Rattle.tree_memory.proofs.AtName.{name_cases, off_name, put-at, put-off}
@@ -32,14 +32,14 @@ contents-push : (files : List Stored) (file : Stored) → contents_of (files ++ 
 contents-push [] file = refl
 contents-push (f ∷ files) file = ap (λ (l : List (List ℕ)). f.bytes.items ∷ l) (contents-push files file)
 
-flags-push : (files : List Stored) (file : Stored) → flags_of (files ++ file ∷ []) ≡ flags_of files ++ file.synced ∷ []
+flags-push : (files : List Stored) (file : Stored) → synced_flags (files ++ file ∷ []) ≡ synced_flags files ++ file.synced ∷ []
 flags-push [] file = refl
 flags-push (f ∷ files) file = ap (λ (l : List Bool). f.synced ∷ l) (flags-push files file)
 
 pub length-contents : (files : List Stored) → length (contents_of files) ≡ length files
 length-contents files = length-map files (λ (f : Stored). f.bytes.items)
 
-length-flags : (files : List Stored) → length (flags_of files) ≡ length files
+length-flags : (files : List Stored) → length (synced_flags files) ≡ length files
 length-flags files = length-map files (λ (f : Stored). f.synced)
 
 -- a part of the files, one file more
@@ -70,7 +70,7 @@ kept_push v w es fs files f s kept bytes synced files_are made names = record {
   made = omega (arith, made, kept.made, length-append files (s ∷ []));
   bytes = λ n. ap (λ (g : ℕ → File). (g n).bytes) files_are ∙ part_push (λ (g : File). g.bytes) v.files v.made f (contents_of files) s.bytes.items [] (kept.made ∙ sym (length-contents files)) bytes kept.bytes n
       ∙ sym (ap (λ (l : List (List ℕ)). get_or l n []) (contents-push files s));
-  synced = λ n. ap (λ (g : ℕ → File). (g n).synced) files_are ∙ part_push (λ (g : File). g.synced) v.files v.made f (flags_of files) s.synced false (kept.made ∙ sym (length-flags files)) synced kept.synced n
+  synced = λ n. ap (λ (g : ℕ → File). (g n).synced) files_are ∙ part_push (λ (g : File). g.synced) v.files v.made f (synced_flags files) s.synced false (kept.made ∙ sym (length-flags files)) synced kept.synced n
       ∙ sym (ap (λ (l : List Bool). get_or l n false) (flags-push files s));
 }
 
@@ -82,7 +82,7 @@ kept_set v es files n change s kept within bytes synced = record {
   made = kept.made ∙ sym (length-set files n s);
   bytes = λ k. part_set (λ (g : File). g.bytes) v.files n (change (v.files n)) (contents_of files) s.bytes.items [] (omega (arith, within, length-contents files)) bytes kept.bytes k
       ∙ sym (ap (λ (l : List (List ℕ)). get_or l k []) (map-set (λ (f : Stored). f.bytes.items) files n s));
-  synced = λ k. part_set (λ (g : File). g.synced) v.files n (change (v.files n)) (flags_of files) s.synced false (omega (arith, within, length-flags files)) synced kept.synced k
+  synced = λ k. part_set (λ (g : File). g.synced) v.files n (change (v.files n)) (synced_flags files) s.synced false (omega (arith, within, length-flags files)) synced kept.synced k
       ∙ sym (ap (λ (l : List Bool). get_or l k false) (map-set (λ (f : Stored). f.synced) files n s));
 }
 

@@ -2,7 +2,7 @@
 use Rattle.std.specs.Prelude.{◌≡◌, true, false, [], ◌∷◌, Some, None, codes, length, refl}
 use Rattle.base_core.specs.Tree.{TreeState, after_create, after_append, after_sync, after_rename, after_remove, after_sync_names}
 use Rattle.tree_memory.specs.Changes.{empty_state, after_put}
-use Rattle.tree_memory.specs.Images.{maps_of, picked}
+use Rattle.tree_memory.specs.Images.{maps_of, image_of}
 use Rattle.tree_memory.specs.Plans.{PlanState, is_next, has_more, one_on}
 
 -- ---- images: an old file, and a new one that is not synced
@@ -11,33 +11,33 @@ two_maps : TreeState
 two_maps = after_append (codes "new") (codes "23") (after_create (codes "new") (after_put (codes "old") (codes "1") empty_state))
 
 -- the first choices go over the maps, the oldest first
-row_before : picked 0 two_maps (codes "new") ≡ None
+row_before : image_of 0 two_maps (codes "new") ≡ None
 unfolding two_maps
 row_before = refl
 
-row_old : picked 0 two_maps (codes "old") ≡ Some (codes "1")
+row_old : image_of 0 two_maps (codes "old") ≡ Some (codes "1")
 unfolding two_maps
 row_old = refl
 
-row_as_read : picked 1 two_maps (codes "new") ≡ Some (codes "23")
+row_as_read : image_of 1 two_maps (codes "new") ≡ Some (codes "23")
 unfolding two_maps
 row_as_read = refl
 
 -- the next ones over what the unsynced file holds
-row_nothing : picked 3 two_maps (codes "new") ≡ Some []
+row_nothing : image_of 3 two_maps (codes "new") ≡ Some []
 unfolding two_maps
 row_nothing = refl
 
-row_ones : picked 5 two_maps (codes "new") ≡ Some (255 ∷ 255 ∷ [])
+row_ones : image_of 5 two_maps (codes "new") ≡ Some (255 ∷ 255 ∷ [])
 unfolding two_maps
 row_ones = refl
 
-row_again : picked 7 two_maps (codes "new") ≡ Some (codes "23")
+row_again : image_of 7 two_maps (codes "new") ≡ Some (codes "23")
 unfolding two_maps
 row_again = refl
 
 -- a synced file holds its bytes in each of them
-row_synced : picked 5 (after_sync (codes "new") two_maps) (codes "new") ≡ Some (codes "23")
+row_synced : image_of 5 (after_sync (codes "new") two_maps) (codes "new") ≡ Some (codes "23")
 unfolding two_maps
 row_synced = refl
 

@@ -1,4 +1,4 @@
--- The record of what was made of a tree, and the states that it tells.
+-- The record of what was made of a tree, and the states that it gives.
 use Rattle.std.specs.Prelude.{ℕ, ◌+◌, Bool, true, false, ◌&&◌, is_some, nat_lt, nat_le, List, [], ◌∷◌, map, length, slice_index_or, take, Some}
 use Rattle.base_core.specs.Files.{no_names, put_name}
 use Rattle.base_core.specs.Tree.{TreeState, File, set_file, change_at, after_create, after_rename, after_remove, after_sync_names}
@@ -26,8 +26,8 @@ after_put name bytes v = record {
 abbrev pub contents_of : List Stored → List (List ℕ)
 contents_of files = map (λ file. file.bytes.items) files
 
-abbrev pub flags_of : List Stored → List Bool
-flags_of files = map (λ file. file.synced) files
+abbrev pub synced_flags : List Stored → List Bool
+synced_flags files = map (λ file. file.synced) files
 
 -- A file only grows at its end, so that what it held behind a change is a front of its bytes now.
 abbrev pub front_of : List (List ℕ) → ℕ → ℕ → List ℕ
@@ -36,8 +36,10 @@ front_of contents file len = take len (slice_index_or contents file [])
 abbrev pub step : List (List ℕ) → Change → TreeState → TreeState
 step contents (Put name file len) v = after_put name (front_of contents file len) v
 step contents (Create name) v = after_create name v
-step contents (Append file len) v = change_at (λ f. record { bytes = front_of contents file len; synced = false }) v (Some file)
-step contents (Sync file) v = change_at (λ f. record { bytes = f.bytes; synced = true }) v (Some file)
+step contents (Append file len) v =
+    change_at (λ f. record { bytes = front_of contents file len; synced = false }) v (Some file)
+step contents (Sync file) v =
+    change_at (λ f. record { bytes = f.bytes; synced = true }) v (Some file)
 step contents (Rename from to) v = after_rename from to v
 step contents (Remove name) v = after_remove name v
 step contents SyncNames v = after_sync_names v
@@ -57,9 +59,11 @@ earlier_on contents v earlier (c ∷ cs) = earlier_on contents (step contents c 
 
 -- the file was made, and got at least so many bytes
 abbrev pub is_front : List (List ℕ) → ℕ → ℕ → Bool
-is_front contents file len = nat_lt file (length contents) && nat_le len (length (slice_index_or contents file []))
+is_front contents file len =
+    nat_lt file (length contents) && nat_le len (length (slice_index_or contents file []))
 
--- whether a change of a state may be recorded: it speaks of bytes that are kept, and of names that are present
+-- whether a change of a state may be recorded: it speaks of bytes that are kept, and of names that
+-- are present
 abbrev pub can_step : List (List ℕ) → Change → TreeState → Bool
 can_step contents (Put name file len) v = is_front contents file len
 can_step contents (Create name) v = true

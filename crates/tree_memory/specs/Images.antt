@@ -1,4 +1,4 @@
--- What a crash leaves, as it is picked by a number.
+-- What a crash leaves, as it is image_of by a number.
 use Rattle.std.specs.Prelude.{◌≡◌, ℕ, ◌+◌, ◌/◌, ◌%◌, Bool, true, false, if◌then◌else◌, ◌||◌, ◌==◌, List, [], ◌∷◌, reverse, length, replicate, slice_index_or}
 use Rattle.std.specs.Option.{option_map}
 use Rattle.base_core.specs.Files.{Files, NameMap, no_names}
@@ -20,12 +20,14 @@ abbrev pub picked_map : ℕ → TreeState → NameMap
 picked_map choice v = slice_index_or (maps_of v) (choice % length (maps_of v)) no_names
 
 -- what an unsynced file holds: its bytes as read, nothing, or as many bytes of value 255
-abbrev pub filled : ℕ → File → List ℕ
-filled way file = if file.synced || way == 0 then file.bytes else (if way == 1 then [] else replicate (length file.bytes) 255)
+abbrev pub bytes_left : ℕ → File → List ℕ
+bytes_left way file = if file.synced || way == 0 then file.bytes else
+    (if way == 1 then [] else replicate (length file.bytes) 255)
 
 -- the files after the crash
-abbrev pub picked : ℕ → TreeState → Files
-picked choice v q = option_map (λ n. filled ((choice / length (maps_of v)) % 3) (v.files n)) (picked_map choice v q)
+abbrev pub image_of : ℕ → TreeState → Files
+image_of choice v q = option_map (λ n. bytes_left ((choice / length (maps_of v)) % 3) (v.files n))
+    (picked_map choice v q)
 
 -- ---- as it is read from a record
 
@@ -60,5 +62,5 @@ pub record HasNames (v : TreeState) (entries : List Entry) (count : ℕ) : Type 
   pub made : v.made ≡ count
 
 -- a file as it is stored
-abbrev pub file_of : Stored → File
-file_of stored = record { bytes = stored.bytes.items; synced = stored.synced }
+abbrev pub stored_file : Stored → File
+stored_file stored = record { bytes = stored.bytes.items; synced = stored.synced }

@@ -1,8 +1,9 @@
--- What is kept beside a record, so that it need not be read: the names and the files of its newest state.
+-- What is kept beside a record, so that it need not be read: the names and the files of its newest
+-- state.
 use Rattle.std.specs.Prelude.{◌≡◌, ℕ, true, false, List, [], ◌∷◌, length, slice_index_or, All}
 use Rattle.base_core.specs.Files.{NameMap, put_name, AreNames, IsFile, IsFolderLike}
 use Rattle.base_core.specs.Tree.{TreeState, IsMapOf}
-use Rattle.tree_memory.specs.Changes.{contents_of, flags_of, empty_state, state_on, earlier_on, is_record}
+use Rattle.tree_memory.specs.Changes.{contents_of, synced_flags, empty_state, state_on, earlier_on, is_record}
 use Rattle.tree_memory.specs.Table.{lookup}
 use Rattle.tree_memory.specs.declared.changes.Change.{Change}
 use Rattle.tree_memory.specs.declared.changes.Stored.{Stored}
@@ -13,19 +14,23 @@ pub record IsKept (v : TreeState) (entries : List Entry) (files : List Stored) :
   pub names : (q : List ℕ) → v.names q ≡ lookup entries q
   pub made : v.made ≡ length files
   pub bytes : (n : ℕ) → (v.files n).bytes ≡ slice_index_or (contents_of files) n []
-  pub synced : (n : ℕ) → (v.files n).synced ≡ slice_index_or (flags_of files) n false
+  pub synced : (n : ℕ) → (v.files n).synced ≡ slice_index_or (synced_flags files) n false
 
--- in each map that a crash may leave no name is a folder of another and each is a name, and each file has the content of one
+-- in each map that a crash may leave no name is a folder of another and each is a name, and each
+-- file has the content of one
 pub record IsSoundState (v : TreeState) : Type 0 where
   pub folders : (map : NameMap) → IsMapOf v map → IsFolderLike map
   pub named : (map : NameMap) → IsMapOf v map → AreNames map
   pub bytes : (n : ℕ) → IsFile (v.files n).bytes
 
--- changes are a record, a table and the files are those of its newest state, and each state so far is sound
-pub record IsStore (changes : List Change) (entries : List Entry) (files : List Stored) : Type 0 where
+-- changes are a record, a table and the files are those of its newest state, and each state so far
+-- is sound
+pub record IsStore (changes : List Change) (entries : List Entry)
+    (files : List Stored) : Type 0 where
   pub recorded : is_record (contents_of files) empty_state changes ≡ true
   pub kept : IsKept (state_on (contents_of files) empty_state changes) entries files
-  pub sound : All IsSoundState (state_on (contents_of files) empty_state changes ∷ earlier_on (contents_of files) empty_state [] changes)
+  pub sound : All IsSoundState (state_on (contents_of files) empty_state changes ∷ earlier_on
+      (contents_of files) empty_state [] changes)
 
 -- a file may be put there: no present name becomes a folder of another
 pub record CanPut (name : List ℕ) (v : TreeState) : Type 0 where

@@ -1,10 +1,12 @@
-pub mod Table
-pub mod WholeLaw
+-- what the contract of `apk` says: nothing
+-- what only inner contracts and proofs use
 pub mod Changes
-pub mod Kept
 pub mod Images
+pub mod Kept
+pub mod Memory
 pub mod Plans
-pub mod Tallies
 pub mod Sink
 pub mod Stores
-pub mod Memory
+pub mod Table
+pub mod Tallies
+pub mod WholeLaw

@@ -1,4 +1,4 @@
--- What a tree in memory tells, and what a call says beside what every tree says.
+-- What a tree in memory shows, and what each of its calls says beyond what every tree says.
 use Rattle.std.specs.Prelude.{◌≡◌, ◌⊎◌, ℕ, true, false, if◌then◌else◌, List, Result, OnOk, OnErr, is_ok}
 use Rattle.base_core.specs.Faults.{Counts, next_count}
 use Rattle.base_core.specs.Tree.{TreeState}
@@ -8,8 +8,8 @@ use Rattle.tree_memory.specs.declared.calls.Calls.{Calls}
 use Rattle.tree_memory.specs.declared.tree.MemoryTree.{MemoryTree}
 
 -- the newest state
-abbrev pub state_of : MemoryTree → TreeState
-state_of tree = store_state tree.store
+abbrev pub tree_state : MemoryTree → TreeState
+tree_state tree = store_state tree.store
 
 -- the states so far, the newest first
 abbrev pub history_of : MemoryTree → List TreeState
@@ -18,6 +18,10 @@ history_of tree = store_history tree.store
 -- which calls are to fail
 abbrev pub plan_of : MemoryTree → PlanState
 plan_of tree = tree.calls.plan
+
+-- no call has failed, and no failure is planned
+abbrev pub no_faults : Counts
+no_faults = record { faults = 0; misuses = 0; wants = 0; fallible = false }
 
 -- only a planned failure can fail a call, beside a misuse and want of memory
 abbrev pub counts_by : Calls → Counts
@@ -50,7 +54,8 @@ pub record IsRead {T E : Type 0} (old new : MemoryTree) (result : Result T E) : 
   pub calls : calls_of new ≡ next_count (calls_of old)
   pub writes : writes_of new ≡ writes_of old
   pub plan : plan_of new ≡ one_on (plan_of old)
-  pub faults : (counts_of new).faults ≡ (if is_ok result then (counts_of old).faults else next_count (counts_of old).faults)
+  pub faults : (counts_of new).faults ≡ (if is_ok result then (counts_of old).faults else next_count
+      (counts_of old).faults)
   pub wants : (counts_of new).wants ≡ (counts_of old).wants
 
 -- ---- a call that writes
@@ -58,11 +63,11 @@ pub record IsRead {T E : Type 0} (old new : MemoryTree) (result : Result T E) : 
 -- no failure is planned for it, and it is no misuse
 pub record IsFree (can : TreeState → Type 0) (old : MemoryTree) : Type 0 where
   pub unplanned : is_next (plan_of old) ≡ false
-  pub proper : can (state_of old)
+  pub proper : can (tree_state old)
 
 -- it failed since that was planned, or since it is a misuse
 pub record HadToFail (can : TreeState → Type 0) (old new : MemoryTree) : Type 0 where
-  pub reason : (is_next (plan_of old) ≡ true) ⊎ (can (state_of old) → ⊥)
+  pub reason : (is_next (plan_of old) ≡ true) ⊎ (can (tree_state old) → ⊥)
   pub wants : (counts_of new).wants ≡ (counts_of old).wants
 
 -- it failed for want of memory alone
@@ -70,13 +75,16 @@ pub record FailedForWant (can : TreeState → Type 0) (old new : MemoryTree) : T
   pub free : IsFree can old
   pub wants : (counts_of new).wants ≡ next_count (counts_of old).wants
 
--- it is counted, the plan is one call nearer, and an error is a fault, has one of these reasons, and changes nothing else
-pub record IsWrite {T E : Type 0} (can : TreeState → Type 0) (old new : MemoryTree) (result : Result T E) : Type 0 where
+-- it is counted, the plan is one call nearer, and an error is a fault, has one of these reasons,
+-- and changes nothing else
+pub record IsWrite {T E : Type 0} (can : TreeState → Type 0) (old new : MemoryTree)
+    (result : Result T E) : Type 0 where
   pub calls : calls_of new ≡ next_count (calls_of old)
   pub writes : writes_of new ≡ next_count (writes_of old)
   pub plan : plan_of new ≡ one_on (plan_of old)
   pub longest : longest_of new ≡ longest_of old
-  pub faults : (counts_of new).faults ≡ (if is_ok result then (counts_of old).faults else next_count (counts_of old).faults)
+  pub faults : (counts_of new).faults ≡ (if is_ok result then (counts_of old).faults else next_count
+      (counts_of old).faults)
   pub free : OnOk result (IsFree can old)
   pub wants : OnOk result ((counts_of new).wants ≡ (counts_of old).wants)
   pub reason : OnErr result (HadToFail can old new ⊎ FailedForWant can old new)

@@ -3,8 +3,8 @@ use Rattle.std.specs.Prelude.{◌≡◌, ◌⊎◌, ℕ, ◌-◌, ◌<◌, min, 
 use Rattle.std.specs.Option.{option_map}
 use Rattle.base_core.specs.Faults.{Counts, next_count}
 
--- its bytes, how many more it takes and how many a write takes at most, where these are planned, and how often it failed,
--- also for want of its own memory
+-- its bytes, how many more it takes and how many a write takes at most, where these are planned,
+-- and how often it failed, also for want of its own memory
 pub record SinkState : Type 0 where
   pub bytes : List ℕ
   pub room : Option ℕ
@@ -17,7 +17,13 @@ new_sink = record { bytes = []; room = None; most = None; faults = 0; wants = 0 
 
 -- only a planned end can fail it, beside want of memory
 abbrev pub sink_counts : SinkState → Counts
-sink_counts sink = record { faults = sink.faults; misuses = 0; wants = sink.wants; fallible = is_some sink.room }
+sink_counts sink = record {
+  faults = sink.faults;
+  misuses = 0;
+  wants = sink.wants;
+  fallible =
+      is_some sink.room;
+}
 
 -- how much of so many bytes fits
 abbrev pub fitting : Option ℕ → ℕ → ℕ
@@ -36,7 +42,11 @@ share_of sink piece = part sink.most (fitting sink.room (length piece))
 -- so many bytes of the piece are taken
 pub record Takes (old : SinkState) (piece : List ℕ) (n : ℕ) (new : SinkState) : Type 0 where
   pub taken : n ≡ share_of old piece
-  pub left : new ≡ record old { bytes = old.bytes ++ take n piece; room = option_map (λ room. room - n) old.room }
+  pub left : new ≡ record old {
+    bytes = old.bytes ++ take n piece;
+    room =
+        option_map (λ room. room - n) old.room;
+  }
 
 -- a write of some bytes where no room is left
 pub record IsFull (old : SinkState) (piece : List ℕ) (new : SinkState) : Type 0 where

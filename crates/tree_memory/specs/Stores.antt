@@ -1,4 +1,4 @@
--- The states that a store tells.
+-- The states that a store shows.
 use Rattle.std.specs.Prelude.{List, [], ◌∷◌}
 use Rattle.base_core.specs.Tree.{TreeState}
 use Rattle.tree_memory.specs.Changes.{empty_state, contents_of, state_on, earlier_on}
@@ -10,4 +10,5 @@ store_state store = state_on (contents_of store.files.items) empty_state store.c
 
 -- the states so far, the newest first
 abbrev pub store_history : Store → List TreeState
-store_history store = store_state store ∷ earlier_on (contents_of store.files.items) empty_state [] store.changes.items
+store_history store =
+    store_state store ∷ earlier_on (contents_of store.files.items) empty_state [] store.changes.items

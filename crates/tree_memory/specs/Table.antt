@@ -1,4 +1,5 @@
--- A table of names: entries, each a name and the number of its file, in the byte order of the names.
+-- A table of names: entries, each a name and the number of its file, in the byte order of the
+-- names.
 use Rattle.std.specs.Prelude.{◌≡◌, ◌≢◌, ◌↔◌, ℕ, ◌<◌, ◌≤◌, if◌then◌else◌, false, List, [], ◌∷◌, ◌++◌, map, Option, Some, None, IsSome, AllPairs, Contains, length}
 use Rattle.std.specs.List.{HoldsAt, AllWithin}
 use Rattle.std.specs.Ordering.{nat_cmp}
@@ -35,7 +36,8 @@ pub record IsPlace (entries : List Entry) (i : ℕ) (name : List ℕ) : Type 0 w
 pub record IsStart (entries : List Entry) (i : ℕ) (folder : List ℕ) : Type 0 where
   pub within : i ≤ length entries
   pub before : AllWithin (λ e. slice_cmp nat_cmp e.name (folder ++ 47 ∷ []) ≡ Less) entries 0 i
-  pub behind : AllWithin (λ e. slice_cmp nat_cmp e.name (folder ++ 47 ∷ []) ≢ Less) entries i (length entries)
+  pub behind : AllWithin (λ e. slice_cmp nat_cmp e.name (folder ++ 47 ∷ []) ≢ Less) entries i
+      (length entries)
 
 -- just the names below a folder, in byte order
 pub record IsBelow (entries : List Entry) (folder : List ℕ) (names : List (List ℕ)) : Type 0 where
@@ -46,11 +48,15 @@ pub record IsBelow (entries : List Entry) (folder : List ℕ) (names : List (Lis
 
 -- a folder of the name is a name of the table, and not the one left out
 abbrev pub HasFolderBut : List Entry → List ℕ → List ℕ → Type 0
-HasFolderBut entries name but = (folder : List ℕ) × IsFolderOf folder name × (IsSome (lookup entries folder) × (bytes_eq folder but ≡ false))
+HasFolderBut entries name but =
+    (folder : List ℕ) × IsFolderOf folder name
+    × (IsSome (lookup entries folder) × (bytes_eq folder but ≡ false))
 
 -- the folder has a name of the table below it, and not just the one left out
 abbrev pub HasBelowBut : List Entry → List ℕ → List ℕ → Type 0
-HasBelowBut entries folder but = (name : List ℕ) × IsFolderOf folder name × (IsSome (lookup entries name) × (bytes_eq name but ≡ false))
+HasBelowBut entries folder but =
+    (name : List ℕ) × IsFolderOf folder name
+    × (IsSome (lookup entries name) × (bytes_eq name but ≡ false))
 
 -- no name of the table is a folder of this one or lies below it, but the one left out
 pub record IsFit (entries : List Entry) (name but : List ℕ) : Type 0 where

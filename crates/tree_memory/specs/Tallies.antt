@@ -7,26 +7,26 @@ abbrev pub no_calls : Tally
 no_calls = record { calls = 0; writes = 0; faults = 0; misuses = 0; wants = 0 }
 
 -- one call more
-abbrev pub called : Tally → Tally
-called t = record t { calls = next_count t.calls }
+abbrev pub with_call : Tally → Tally
+with_call t = record t { calls = next_count t.calls }
 
 -- it failed
-abbrev pub faulted : Tally → Tally
-faulted t = record t { faults = next_count t.faults }
+abbrev pub with_fault : Tally → Tally
+with_fault t = record t { faults = next_count t.faults }
 
 -- it had to fail
-abbrev pub misused : Tally → Tally
-misused t = record t { faults = next_count t.faults; misuses = next_count t.misuses }
+abbrev pub with_misuse : Tally → Tally
+with_misuse t = record t { faults = next_count t.faults; misuses = next_count t.misuses }
 
 -- it failed for want of memory
-abbrev pub wanted : Tally → Tally
-wanted t = record t { faults = next_count t.faults; wants = next_count t.wants }
+abbrev pub with_want : Tally → Tally
+with_want t = record t { faults = next_count t.faults; wants = next_count t.wants }
 
 -- a call that may be one that has to fail, or is planned to fail: the misuse comes first
-abbrev pub begun : Bool → Bool → Tally → Tally
-begun false planned t = misused (called t)
-begun true true t = faulted (called t)
-begun true false t = called t
+abbrev pub with_begun_call : Bool → Bool → Tally → Tally
+with_begun_call false planned t = with_misuse (with_call t)
+with_begun_call true true t = with_fault (with_call t)
+with_begun_call true false t = with_call t
 
 -- whether it goes on
 abbrev pub goes_on : Bool → Bool → Bool

@@ -2,7 +2,7 @@
 ghost use Rattle.std.specs.Prelude.{◌≡◌, [], None, Some, OnOk, OnErr, is_ok, if◌then◌else◌};
 ghost use Rattle.base_core.specs.Faults.{next_count};
 ghost use Rattle.tree_memory.specs.Plans.{PlanState, no_plan, is_next, is_listed, one_on, listed_on};
-ghost use Rattle.tree_memory.specs.Tallies.{no_calls, called, faulted, misused, wanted, begun, goes_on, HasGrown};
+ghost use Rattle.tree_memory.specs.Tallies.{no_calls, with_call, with_fault, with_misuse, with_want, with_begun_call, goes_on, HasGrown};
 
 use base_core::Disk;
 use std::alloc::{AllocError, Global};
@@ -108,7 +108,7 @@ impl Tally {
 
     /// One more call.
     pub fn call(&mut self)
-        ensures { self.new ≡ called self.old }
+        ensures { self.new ≡ with_call self.old }
     {
         self.calls = self.calls.saturating_add(1);
     }
@@ -122,7 +122,7 @@ impl Tally {
 
     /// The call failed.
     pub fn fault(&mut self)
-        ensures is { self.new ≡ faulted self.old }
+        ensures is { self.new ≡ with_fault self.old }
         ensures grown { HasGrown self.old self.new }
     {
         self.faults = self.faults.saturating_add(1);
@@ -130,7 +130,7 @@ impl Tally {
 
     /// The call had to fail.
     pub fn misuse(&mut self)
-        ensures is { self.new ≡ misused self.old }
+        ensures is { self.new ≡ with_misuse self.old }
         ensures grown { HasGrown self.old self.new }
     {
         self.fault();
@@ -139,7 +139,7 @@ impl Tally {
 
     /// The call failed for want of memory.
     pub fn want(&mut self)
-        ensures is { self.new ≡ wanted self.old }
+        ensures is { self.new ≡ with_want self.old }
         ensures grown { HasGrown self.old self.new }
     {
         self.fault();
@@ -168,7 +168,8 @@ impl Calls {
     /// Counts a call. It fails where it is a misuse, or where that is planned.
     pub fn begin(&mut self, can: bool) -> Result<(), Disk>
         ensures plan { self.new.plan ≡ one_on self.old.plan }
-        ensures tally { self.new.tally ≡ begun can (is_next self.old.plan) self.old.tally }
+        ensures tally { self.new.tally ≡ with_begun_call can
+            (is_next self.old.plan) self.old.tally }
         ensures grown { HasGrown self.old.tally self.new.tally }
         ensures when { is_ok result ≡ goes_on can (is_next self.old.plan) }
     {
@@ -188,7 +189,8 @@ impl Calls {
     /// The same of a call that writes.
     pub fn begin_write(&mut self, can: bool) -> Result<(), Disk>
         ensures plan { self.new.plan ≡ one_on self.old.plan }
-        ensures tally { self.new.tally ≡ begun can (is_next self.old.plan) (record self.old.tally { writes = next_count self.old.tally.writes }) }
+        ensures tally { self.new.tally ≡ with_begun_call can (is_next self.old.plan)
+            (record self.old.tally { writes = next_count self.old.tally.writes }) }
         ensures grown { HasGrown self.old.tally self.new.tally }
         ensures when { is_ok result ≡ goes_on can (is_next self.old.plan) }
     {
@@ -199,7 +201,7 @@ impl Calls {
     /// Counts the want of memory as the call's fault.
     pub fn finish(&mut self, done: Result<(), AllocError>) -> Result<(), Disk>
         ensures plan { self.new.plan ≡ self.old.plan }
-        ensures tally { self.new.tally ≡ (if is_ok done then self.old.tally else wanted self.old.tally) }
+        ensures tally { self.new.tally ≡ (if is_ok done then self.old.tally else with_want self.old.tally) }
         ensures grown { HasGrown self.old.tally self.new.tally }
         ensures when { is_ok result ≡ is_ok done }
     {

@@ -4,7 +4,7 @@ ghost use Rattle.base_core.specs.Files.{no_names};
 ghost use Rattle.base_core.specs.Restart.{IsCrashOf};
 ghost use Rattle.base_core.specs.Tree.{TreeState, files_of};
 ghost use Rattle.tree_memory.specs.Changes.{empty_state, state_on, is_record, step};
-ghost use Rattle.tree_memory.specs.Images.{maps_of, newest_first, adds_map, maps_on, picked, filled, file_of, HasNames};
+ghost use Rattle.tree_memory.specs.Images.{maps_of, newest_first, adds_map, maps_on, image_of, bytes_left, stored_file, HasNames};
 ghost use Rattle.tree_memory.specs.Stores.{store_state};
 ghost use Rattle.tree_memory.specs.Table.{lookup};
 
@@ -26,10 +26,13 @@ impl Store {
         maps
     }
 
-    /// What a crash may leave, by a number: which map of names, and what an unsynced file then holds.
+    /// What a crash may leave, by a number: which map of names, and what an unsynced file then
+    /// holds.
     pub fn image(&self, alloc: Global, choice: u64) -> Result<Store, AllocError>
-        ensures files { IfOk result (λ image. files_of (store_state image) ≡ picked choice (store_state self.now)) }
-        ensures crash { IfOk result (λ image. IsCrashOf (store_state self.now) (store_state image)) }
+        ensures files { IfOk result (λ image.
+            files_of (store_state image) ≡ image_of choice (store_state self.now)) }
+        ensures crash { IfOk result (λ image.
+            IsCrashOf (store_state self.now) (store_state image)) }
     {
         let maps = self.maps();
         let back = maps - 1 - choice % maps;
@@ -38,7 +41,7 @@ impl Store {
         let names = names_after(alloc, &self.changes[..moment])?;
         let mut image = Store::new(alloc);
         for entry in &names.entries {
-            let bytes = filled(alloc, &self.files[entry.file], way)?;
+            let bytes = bytes_left(alloc, &self.files[entry.file], way)?;
             image.put(&entry.name, bytes)?;
         }
         Ok(image)
@@ -78,11 +81,15 @@ fn adds_map(change: &Change) -> bool
     }
 }
 
-// How many changes had been made when the map of names was read that is so many maps before the newest.
+// The length of the record at the point where the map of names was current that is `back` maps
+// before the newest one.
 fn moment(changes: &[Change], back: u64) -> usize
     ensures within { result ≤ length changes.now }
-    ensures names { (contents : List (List ℕ)) → is_record contents empty_state changes.now ≡ true → back < length (newest_first (state_on contents empty_state changes.now))
-        → (q : List ℕ) → (state_on contents empty_state (take result changes.now)).names q ≡ slice_index_or (newest_first (state_on contents empty_state changes.now)) back no_names q }
+    ensures names { (contents : List (List ℕ)) → is_record contents empty_state changes.now ≡ true
+        → back < length (newest_first (state_on contents empty_state changes.now))
+        → (q : List ℕ) → (state_on contents empty_state (take result changes.now)).names q
+        ≡ slice_index_or (newest_first (state_on contents empty_state changes.now)) back
+        no_names q }
 {
     let mut n = changes.len();
     let mut left = back;
@@ -100,7 +107,8 @@ fn moment(changes: &[Change], back: u64) -> usize
 
 // The names behind some changes, the first ones of a record.
 fn names_after(alloc: Global, changes: &[Change]) -> Result<NameTable, AllocError>
-    ensures { IfOk result (λ names. (contents : List (List ℕ)) (q : List ℕ) → (state_on contents empty_state changes.now).names q ≡ lookup names.entries.items q) }
+    ensures { IfOk result (λ names. (contents : List (List ℕ)) (q : List ℕ)
+        → (state_on contents empty_state changes.now).names q ≡ lookup names.entries.items q) }
 {
     let mut names = NameTable::new(alloc);
     let mut made = 0;
@@ -119,7 +127,9 @@ fn replay(
 ) -> Result<usize, AllocError>
     requires { made < 2 ^ 64 - 1 }
     ensures bound { IfOk result (λ n. n ≤ made + 1) }
-    ensures names { IfOk result (λ n. (contents : List (List ℕ)) (v : TreeState) → HasNames v names.old.entries.items made → HasNames (step contents change.now v) names.new.entries.items n) }
+    ensures names { IfOk result (λ n. (contents : List (List ℕ)) (v : TreeState)
+        → HasNames v names.old.entries.items made
+        → HasNames (step contents change.now v) names.new.entries.items n) }
 {
     match change {
         Change::Put { name, .. } => {
@@ -148,10 +158,10 @@ fn replay(
     }
 }
 
-// What a file holds after a crash: its bytes where it is synced, and else by the way that was chosen its bytes as read,
-// nothing, or as many bytes of value 255.
-fn filled(alloc: Global, file: &Stored, way: u64) -> Result<Vec<u8>, AllocError>
-    ensures { IfOk result (λ bytes. bytes.items ≡ filled way (file_of file.now)) }
+// What a file holds after a crash: its bytes where it is synced, and else by the way that was
+// chosen its bytes as read, nothing, or as many bytes of value 255.
+fn bytes_left(alloc: Global, file: &Stored, way: u64) -> Result<Vec<u8>, AllocError>
+    ensures { IfOk result (λ bytes. bytes.items ≡ bytes_left way (stored_file file.now)) }
 {
     if file.synced || way == 0 {
         return Vec::from_slice(alloc, &file.bytes);

@@ -1,9 +1,10 @@
-//! A tree and a sink in memory, which tell all that they hold. Tests and generated runs work on them: they are
-//! filled by hand, fail where it is planned, and are read back.
+//! A tree and a sink in memory, which show all that they hold. Tests and generated runs work on
+//! them: they are filled by hand, fail where it is planned, and are read back.
 //!
-//! Names and bytes come in and are lent. The contracts cite `Memory` (the states of a tree, its counts and its plan, and
-//! why a call fails), `Changes` (what a put makes of a state), `Kept` (where a file may be put), `Images` (what is left
-//! after a crash, by a number), `Plans` (which calls are to fail) and `Sink` (the sink) of `specs/`.
+//! Names and bytes come in and are lent. The contracts cite `Memory` (the states of a tree, its
+//! counts and its plan, and why a call fails), `Changes` (what a put makes of a state), `Kept`
+//! (where a file may be put), `Images` (what is left after a crash, by a number), `Plans` (which
+//! calls are to fail) and `Sink` (the sink) of `specs/`.
 #![tactic(auto)]
 
 mod calls;
@@ -21,8 +22,3 @@ pub use laws::{
 };
 pub use sink::MemorySink;
 pub use tree::MemoryTree;
-
-#[cfg(test)]
-mod sink_tests;
-#[cfg(test)]
-mod tests;

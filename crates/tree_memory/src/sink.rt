@@ -8,7 +8,7 @@ use base_core::{Sink, SinkFault};
 use std::alloc::Global;
 use std::marker::Model;
 
-/// A sink in memory. It tells all: its bytes, how many more it takes, and its counts.
+/// A sink in memory. It shows all: its bytes, how many more it takes, and its counts.
 #[derive(Drop)]
 pub struct MemorySink {
     bytes: Vec<u8>,
@@ -25,7 +25,14 @@ impl Model for MemorySink {
 
     ghost Value = { SinkState };
 
-    ghost view = { λ sink. record { bytes = sink.bytes.items; room = sink.room; most = sink.most; faults = sink.faults; wants = sink.wants } };
+    ghost view = { λ sink. record {
+      bytes = sink.bytes.items;
+      room = sink.room;
+      most =
+          sink.most;
+      faults = sink.faults;
+      wants = sink.wants;
+    } };
 }
 
 impl MemorySink {
@@ -80,7 +87,11 @@ impl MemorySink {
     }
 
     fn want(&mut self) -> SinkFault
-        ensures is { self.new ≡ record self.old { faults = next_count self.old.faults; wants = next_count self.old.wants } }
+        ensures is { self.new ≡ record self.old {
+          faults = next_count self.old.faults;
+          wants =
+              next_count self.old.wants;
+        } }
         ensures later { self.old.faults ≤ self.new.faults }
         ensures more { self.old.wants ≤ self.new.wants }
     {
@@ -117,12 +128,13 @@ impl Sink for MemorySink {
     fn write(&mut self, piece: &[u8]) -> Result<usize, SinkFault>
         ensures taken { IfOk result (λ n. IsWriteCount n piece.now) }
         ensures empty { piece.now ≡ [] → IsOk result }
-        ensures added { IfOk result (λ n. Adds (Some self.old.bytes) (Some self.new.bytes) (take n piece.now)) }
+        ensures added { IfOk result (λ n.
+            Adds (Some self.old.bytes) (Some self.new.bytes) (take n piece.now)) }
         ensures unchanged { OnErr result (Some self.new.bytes ≡ Some self.old.bytes) }
         ensures cause { FailsWithCause (sink_counts self.old) (sink_counts self.new) result }
 
-        // It takes all that fits, or the most that a write takes, and fails only where nothing fits, or for
-        // want of its own memory.
+        // It takes all that fits, or the most that a write takes, and fails only where nothing
+        // fits, or for want of its own memory.
         ensures ok { IfOk result (λ n. Takes self.old piece.now n self.new) }
         ensures err { OnErr result (Refuses self.old piece.now self.new) }
     {

@@ -1,3 +1,4 @@
+//! The store of a tree in memory: its record of changes, and what stands now.
 ghost use Rattle.std.specs.Prelude.{◌≡◌, ◌↔◌, ℕ, ◌<◌, ◌≤◌, ◌+◌, [], ◌∷◌, ◌++◌, List, IsTrue, IfOk, IfSome, OnOk, OnErr, length, take, drop};
 ghost use Rattle.std.specs.Option.{option_copied};
 ghost use Rattle.std.specs.Vec.{vec_len, vec_capacity};
@@ -51,7 +52,8 @@ impl Store {
     /// Fills a buffer with the file's bytes from a place on.
     pub fn read_at(&self, name: &Name, at: u64, into: &mut [u8])
         requires { CanRead name.now at (length into.old) (store_state self.now) }
-        ensures { IfSome (files_of (store_state self.now) name.now) (λ bytes. into.new ≡ take (length into.old) (drop at bytes)) }
+        ensures { IfSome (files_of (store_state self.now) name.now)
+            (λ bytes. into.new ≡ take (length into.old) (drop at bytes)) }
     {
         if let Some(bytes) = self.file(name) {
             copy_from(bytes, at as usize, into);
@@ -126,7 +128,8 @@ impl Store {
     /// A new synced file under the name, and the names synced.
     pub fn put(&mut self, name: &Name, bytes: Vec<u8>) -> Result<(), AllocError>
         requires { CanPut name.now (store_state self.old) }
-        ensures ok { OnOk result (store_history self.new ≡ after_put name.now bytes.items (store_state self.old) ∷ store_history self.old) }
+        ensures ok { OnOk result (store_history self.new
+            ≡ after_put name.now bytes.items (store_state self.old) ∷ store_history self.old) }
         ensures err { OnErr result (store_history self.new ≡ store_history self.old) }
     {
         let recorded = name.copy(self.alloc)?;
@@ -157,7 +160,8 @@ impl Store {
     /// A new empty file under the name.
     pub fn create(&mut self, name: &Name) -> Result<(), AllocError>
         requires { CanCreate name.now (store_state self.old) }
-        ensures ok { OnOk result (store_history self.new ≡ after_create name.now (store_state self.old) ∷ store_history self.old) }
+        ensures ok { OnOk result (store_history self.new
+            ≡ after_create name.now (store_state self.old) ∷ store_history self.old) }
         ensures err { OnErr result (store_history self.new ≡ store_history self.old) }
     {
         let recorded = name.copy(self.alloc)?;
@@ -180,7 +184,8 @@ impl Store {
     /// A piece at the file's end.
     pub fn append(&mut self, name: &Name, piece: &[u8]) -> Result<(), AllocError>
         requires { HasName name.now (store_state self.old) }
-        ensures ok { OnOk result (store_history self.new ≡ after_append name.now piece.now (store_state self.old) ∷ store_history self.old) }
+        ensures ok { OnOk result (store_history self.new
+            ≡ after_append name.now piece.now (store_state self.old) ∷ store_history self.old) }
         ensures err { OnErr result (store_history self.new ≡ store_history self.old) }
     {
         if let Some(file) = self.names.find(name.as_bytes()) {
@@ -195,7 +200,8 @@ impl Store {
     /// The file is synced.
     pub fn sync(&mut self, name: &Name) -> Result<(), AllocError>
         requires { HasName name.now (store_state self.old) }
-        ensures ok { OnOk result (store_history self.new ≡ after_sync name.now (store_state self.old) ∷ store_history self.old) }
+        ensures ok { OnOk result (store_history self.new
+            ≡ after_sync name.now (store_state self.old) ∷ store_history self.old) }
         ensures err { OnErr result (store_history self.new ≡ store_history self.old) }
     {
         if let Some(file) = self.names.find(name.as_bytes()) {
@@ -209,7 +215,8 @@ impl Store {
     /// The file of one name gets another.
     pub fn rename(&mut self, from: &Name, to: &Name) -> Result<(), AllocError>
         requires { CanRename from.now to.now (store_state self.old) }
-        ensures ok { OnOk result (store_history self.new ≡ after_rename from.now to.now (store_state self.old) ∷ store_history self.old) }
+        ensures ok { OnOk result (store_history self.new
+            ≡ after_rename from.now to.now (store_state self.old) ∷ store_history self.old) }
         ensures err { OnErr result (store_history self.new ≡ store_history self.old) }
     {
         if let Some(file) = self.names.find(from.as_bytes()) {
@@ -232,7 +239,8 @@ impl Store {
 
     /// The name leads to no file.
     pub fn remove(&mut self, name: &Name) -> Result<(), AllocError>
-        ensures ok { OnOk result (store_history self.new ≡ after_remove name.now (store_state self.old) ∷ store_history self.old) }
+        ensures ok { OnOk result (store_history self.new
+            ≡ after_remove name.now (store_state self.old) ∷ store_history self.old) }
         ensures err { OnErr result (store_history self.new ≡ store_history self.old) }
     {
         if !self.has(name) {
@@ -249,7 +257,8 @@ impl Store {
 
     /// The names are synced.
     pub fn sync_names(&mut self) -> Result<(), AllocError>
-        ensures ok { OnOk result (store_history self.new ≡ after_sync_names (store_state self.old) ∷ store_history self.old) }
+        ensures ok { OnOk result (store_history self.new
+            ≡ after_sync_names (store_state self.old) ∷ store_history self.old) }
         ensures err { OnErr result (store_history self.new ≡ store_history self.old) }
     {
         self.changes.reserve(1)?;

@@ -1,3 +1,4 @@
+//! A table of names in byte order, each with the number of its file.
 ghost use Rattle.std.specs.Prelude.{◌≡◌, ◌↔◌, ℕ, [], ◌∷◌, ◌++◌, false, List, IsTrue, IsSome, IfOk, IfErr, OnOk, OnErr};
 ghost use Rattle.std.specs.Ordering.{nat_cmp, is_lt};
 ghost use Rattle.std.specs.Str.{bytes_eq};
@@ -53,7 +54,9 @@ impl NameTable {
 
     /// Lets a name lead to a number. A refused one changes nothing.
     pub fn set(&mut self, name: Name, file: usize) -> Result<(), AllocError>
-        ensures ok { OnOk result ((q : List ℕ) → lookup self.new.entries.items q ≡ put_name (lookup self.old.entries.items) name file q) }
+        ensures ok { OnOk result ((q : List ℕ)
+            → lookup self.new.entries.items q
+            ≡ put_name (lookup self.old.entries.items) name file q) }
         ensures err { OnErr result (self.new.entries.items ≡ self.old.entries.items) }
     {
         match self.place(name.as_bytes()) {
@@ -65,14 +68,16 @@ impl NameTable {
 
     /// Takes a name away.
     pub fn remove(&mut self, name: &[u8])
-        ensures { (q : List ℕ) → lookup self.new.entries.items q ≡ drop_name (lookup self.old.entries.items) name.now q }
+        ensures { (q : List ℕ) → lookup self.new.entries.items q
+            ≡ drop_name (lookup self.old.entries.items) name.now q }
     {
         if let Ok(i) = self.place(name) {
             let _ = self.entries.remove(i);
         }
     }
 
-    /// Whether the name is no folder of a name of the table other than `but`, and has none of them as its folder.
+    /// Whether the name is no folder of a name of the table other than `but`, and has none of them
+    /// as its folder.
     pub fn fits(&self, name: &[u8], but: &[u8]) -> bool
         ensures { IsTrue result ↔ IsFit self.now.entries.items name.now but.now }
     {
@@ -96,7 +101,8 @@ impl NameTable {
 
     // Whether the name is in the table, and is not `but`.
     fn has_other(&self, name: &[u8], but: &[u8]) -> bool
-        ensures { IsTrue result ↔ (IsSome (lookup self.now.entries.items name.now) × (bytes_eq name.now but.now ≡ false)) }
+        ensures { IsTrue result ↔ (IsSome (lookup self.now.entries.items name.now)
+            × (bytes_eq name.now but.now ≡ false)) }
     {
         if name == but {
             return false;

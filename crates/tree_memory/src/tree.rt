@@ -1,3 +1,4 @@
+//! A tree of files in memory: its own calls, and those of the trait `Tree`.
 ghost use Rattle.std.specs.Prelude.{◌≡◌, ◌↔◌, [], ◌∷◌, List, Some, None, IsTrue, IsOk, IfOk, IfSome, IsErrOf, OnOk, OnErr, false, true, length, max, take, drop, if◌then◌else◌};
 ghost use Rattle.std.specs.Option.{option_map, option_copied};
 ghost use Rattle.base_core.specs.Calls.{IsCounted, Moves, IfObservable};
@@ -8,7 +9,7 @@ ghost use Rattle.base_core.specs.Listed.{AreNamesBelow, IsNamesOf, IsListOf};
 ghost use Rattle.base_core.specs.Tree.{files_of, after_create, after_append, after_failed_append, after_sync, after_rename, after_remove, after_sync_names, same_state, Anywhere, HasName, CanRead, CanCreate, CanRename};
 ghost use Rattle.base_core.specs.declared.tree.TreeFault.TheVariants.{Memory, Disk as DiskFault};
 ghost use Rattle.tree_memory.specs.Changes.{empty_state, after_put};
-ghost use Rattle.tree_memory.specs.Images.{maps_of, picked};
+ghost use Rattle.tree_memory.specs.Images.{maps_of, image_of};
 ghost use Rattle.tree_memory.specs.Kept.{CanPut};
 ghost use Rattle.tree_memory.specs.Plans.{no_plan, is_next, has_more, one_on};
 
@@ -17,7 +18,7 @@ use crate::store::Store;
 use base_core::{Disk, Name, Names, Tree, TreeFault};
 use std::alloc::{AllocError, Global};
 
-/// A tree of files in memory. It tells all: its states, its counts, and which calls are to fail.
+/// A tree of files in memory. It shows all: its states, its counts, and which calls are to fail.
 #[derive(Drop)]
 pub struct MemoryTree {
     store: Store,
@@ -27,12 +28,12 @@ pub struct MemoryTree {
 }
 
 impl MemoryTree {
-    ghost use Rattle.tree_memory.specs.Memory.{state_of, history_of, counts_of, calls_of, writes_of, plan_of, longest_of};
+    ghost use Rattle.tree_memory.specs.Memory.{tree_state, history_of, counts_of, calls_of, writes_of, plan_of, longest_of, no_faults};
 
     /// An empty tree, with no faults and no planned failures.
     pub fn new(alloc: Global) -> MemoryTree
         ensures history { history_of result ≡ empty_state ∷ [] }
-        ensures counts { counts_of result ≡ record { faults = 0; misuses = 0; wants = 0; fallible = false } }
+        ensures counts { counts_of result ≡ no_faults }
         ensures plan { plan_of result ≡ no_plan }
         ensures calls { calls_of result ≡ 0 }
         ensures writes { writes_of result ≡ 0 }
@@ -47,17 +48,19 @@ impl MemoryTree {
 
     /// Whether a file may be put under the name: no name becomes a folder of another.
     pub fn can_put(&self, name: &Name) -> bool
-        ensures { IsTrue result ↔ CanPut name.now (state_of self.now) }
+        ensures { IsTrue result ↔ CanPut name.now (tree_state self.now) }
     {
         self.store.can_put(name)
     }
 
-    /// Sets a synced file, and syncs the names. It is no call of `Tree` and is not counted. A refused put changes
-    /// nothing.
+    /// Sets a synced file, and syncs the names. It is no call of `Tree` and is not counted. A
+    /// refused put changes nothing.
     pub fn put(&mut self, name: &Name, bytes: &[u8]) -> Result<(), AllocError>
-        requires { CanPut name.now (state_of self.old) }
-        ensures ok { OnOk result (history_of self.new ≡ after_put name.now bytes.now (state_of self.old) ∷ history_of self.old) }
-        ensures files { OnOk result (files_of (state_of self.new) ≡ put_name (files_of (state_of self.old)) name.now bytes.now) }
+        requires { CanPut name.now (tree_state self.old) }
+        ensures ok { OnOk result (history_of self.new
+            ≡ after_put name.now bytes.now (tree_state self.old) ∷ history_of self.old) }
+        ensures files { OnOk result (files_of (tree_state self.new)
+            ≡ put_name (files_of (tree_state self.old)) name.now bytes.now) }
         ensures err { OnErr result (history_of self.new ≡ history_of self.old) }
         ensures counts { counts_of self.new ≡ counts_of self.old }
         ensures plan { plan_of self.new ≡ plan_of self.old }
@@ -71,25 +74,26 @@ impl MemoryTree {
 
     /// The bytes of a file as read, or None exactly where the name is absent.
     pub fn file(&self, name: &Name) -> Option<&[u8]>
-        ensures { option_copied result ≡ files_of (state_of self.now) name.now }
+        ensures { option_copied result ≡ files_of (tree_state self.now) name.now }
     {
         self.store.file(name)
     }
 
     /// All names, in byte order.
     pub fn names(&self, alloc: Global) -> Result<Names, AllocError>
-        ensures { IfOk result (IsNamesOf (state_of self.now).names) }
+        ensures { IfOk result (IsNamesOf (tree_state self.now).names) }
     {
         self.store.names(alloc)
     }
 
-    /// Makes the calls with these numbers fail, counted from 1 from now on, in place of those that were planned
-    /// before. A refused plan changes nothing.
+    /// Makes the calls with these numbers fail, counted from 1 from now on, in place of those that
+    /// were planned before. A refused plan changes nothing.
     pub fn fail_at(&mut self, calls: &[u64]) -> Result<(), AllocError>
         ensures ok { OnOk result (plan_of self.new ≡ record { listed = calls.now; stop = None }) }
         ensures err { OnErr result (plan_of self.new ≡ plan_of self.old) }
         ensures history { history_of self.new ≡ history_of self.old }
-        ensures counts { counts_of self.new ≡ record (counts_of self.old) { fallible = has_more (plan_of self.new) } }
+        ensures counts { counts_of self.new
+            ≡ record (counts_of self.old) { fallible = has_more (plan_of self.new) } }
         ensures calls { calls_of self.new ≡ calls_of self.old }
         ensures writes { writes_of self.new ≡ writes_of self.old }
         ensures longest { longest_of self.new ≡ longest_of self.old }
@@ -110,14 +114,16 @@ impl MemoryTree {
         self.calls.plan = Plan::after(self.store.alloc, n);
     }
 
-    /// A new tree, the one after a crash: it has one of the maps of names and all its files are synced. With m maps, it
-    /// has map `choice mod m`, counted from the oldest as 0. A file that was not synced holds what was read where
-    /// `(choice / m) mod 3` is 0, nothing where it is 1, and as many bytes of value 255 where it is 2. The new tree has
-    /// no faults and no planned failures. The tree itself stays as it is.
+    /// A new tree, the one after a crash: it has one of the maps of names and all its files are
+    /// synced. With m maps, it has map `choice mod m`, counted from the oldest as 0. A file that
+    /// was not synced holds what was read where `(choice / m) mod 3` is 0, nothing where it is 1,
+    /// and as many bytes of value 255 where it is 2. The new tree has no faults and no planned
+    /// failures. The tree itself stays as it is.
     pub fn pick_image(&self, alloc: Global, choice: u64) -> Result<MemoryTree, AllocError>
-        ensures files { IfOk result (λ image. files_of (state_of image) ≡ picked choice (state_of self.now)) }
-        ensures crash { IfOk result (λ image. IsCrashOf (state_of self.now) (state_of image)) }
-        ensures counts { IfOk result (λ image. counts_of image ≡ record { faults = 0; misuses = 0; wants = 0; fallible = false }) }
+        ensures files { IfOk result (λ image.
+            files_of (tree_state image) ≡ image_of choice (tree_state self.now)) }
+        ensures crash { IfOk result (λ image. IsCrashOf (tree_state self.now) (tree_state image)) }
+        ensures counts { IfOk result (λ image. counts_of image ≡ no_faults) }
         ensures plan { IfOk result (λ image. plan_of image ≡ no_plan) }
         ensures calls { IfOk result (λ image. calls_of image ≡ 0) }
         ensures writes { IfOk result (λ image. writes_of image ≡ 0) }
@@ -159,7 +165,8 @@ impl MemoryTree {
         self.calls.tally.wants
     }
 
-    /// The greatest length that a `read_at` asked for, in bytes. It shows that no file is read whole.
+    /// The greatest length that a `read_at` asked for, in bytes. It shows that no file is read
+    /// whole.
     pub fn longest_read(&self) -> u64
         ensures { result ≡ longest_of self.now }
     {
@@ -168,14 +175,14 @@ impl MemoryTree {
 
     /// How many maps of names there are, any one of which a crash may leave.
     pub fn maps(&self) -> u64
-        ensures { result ≡ length (maps_of (state_of self.now)) }
+        ensures { result ≡ length (maps_of (tree_state self.now)) }
     {
         self.store.maps()
     }
 }
 
 impl Tree for MemoryTree {
-    ghost use Rattle.tree_memory.specs.Memory.{state_of, history_of, counts_of, calls_of, writes_of, plan_of, longest_of, IsRead, IsWrite};
+    ghost use Rattle.tree_memory.specs.Memory.{tree_state, history_of, counts_of, calls_of, writes_of, plan_of, longest_of, IsRead, IsWrite};
     ghost use Rattle.tree_memory.specs.WholeLaw.{whole_history};
 
     ghost history = { λ tree. history_of tree };
@@ -186,8 +193,11 @@ impl Tree for MemoryTree {
 
     fn size(&mut self, name: &Name) -> Result<Option<u64>, Disk>
         ensures same { history_of self.new ≡ history_of self.old }
-        ensures counts { IsCounted Anywhere (history_of self.old) (counts_of self.old) (counts_of self.new) result }
-        ensures value { IfOk result (λ size. IfObservable (history_of self.old) (λ v. size ≡ option_map length (files_of v name.now))) }
+        ensures counts { IsCounted Anywhere (history_of self.old) (counts_of self.old)
+            (counts_of self.new) result }
+        ensures value { IfOk result (λ size.
+            IfObservable (history_of self.old)
+            (λ v. size ≡ option_map length (files_of v name.now))) }
 
         // It fails exactly where that is planned.
         ensures when { IsOk result ↔ (is_next (plan_of self.old) ≡ false) }
@@ -203,12 +213,15 @@ impl Tree for MemoryTree {
 
     fn read_at(&mut self, name: &Name, at: u64, into: &mut [u8]) -> Result<(), Disk>
         ensures same { history_of self.new ≡ history_of self.old }
-        ensures counts { IsCounted (CanRead name.now at (length into.old)) (history_of self.old) (counts_of self.old) (counts_of self.new) result }
-        ensures value { OnOk result (IfObservable (history_of self.old) (λ v. IfSome (files_of v name.now) (λ bytes.
+        ensures counts { IsCounted (CanRead name.now at (length into.old)) (history_of self.old)
+            (counts_of self.old) (counts_of self.new) result }
+        ensures value { OnOk result (IfObservable (history_of self.old)
+            (λ v. IfSome (files_of v name.now) (λ bytes.
             into.new ≡ take (length into.old) (drop at bytes)))) }
 
         // It fails exactly where that is planned, and at a misuse.
-        ensures when { IsOk result ↔ ((is_next (plan_of self.old) ≡ false) × CanRead name.now at (length into.old) (state_of self.old)) }
+        ensures when { IsOk result ↔ ((is_next (plan_of self.old) ≡ false)
+            × CanRead name.now at (length into.old) (tree_state self.old)) }
         ensures same_state { OnErr result (into.new ≡ into.old) }
         ensures call { IsRead self.old self.new result }
         ensures longest { longest_of self.new ≡ max (longest_of self.old) (length into.old) }
@@ -221,10 +234,13 @@ impl Tree for MemoryTree {
     }
 
     fn create(&mut self, name: &Name) -> Result<(), Disk>
-        ensures moves { Moves (CanCreate name.now) (after_create name.now) (after_create name.now) (history_of self.old) (history_of self.new) result }
-        ensures counts { IsCounted (CanCreate name.now) (history_of self.old) (counts_of self.old) (counts_of self.new) result }
+        ensures moves { Moves (CanCreate name.now) (after_create name.now) (after_create name.now)
+            (history_of self.old) (history_of self.new) result }
+        ensures counts { IsCounted (CanCreate name.now) (history_of self.old) (counts_of self.old)
+            (counts_of self.new) result }
 
-        // It fails exactly at a misuse, where that is planned, and for want of memory, and then changes nothing.
+        // It fails exactly at a misuse, where that is planned, and for want of memory, and then
+        // changes nothing.
         ensures call { IsWrite (CanCreate name.now) self.old self.new result }
     {
         let can = self.store.can_create(name);
@@ -234,8 +250,10 @@ impl Tree for MemoryTree {
     }
 
     fn append(&mut self, name: &Name, piece: &[u8]) -> Result<(), Disk>
-        ensures moves { Moves (HasName name.now) (after_append name.now piece.now) (after_failed_append name.now) (history_of self.old) (history_of self.new) result }
-        ensures counts { IsCounted (HasName name.now) (history_of self.old) (counts_of self.old) (counts_of self.new) result }
+        ensures moves { Moves (HasName name.now) (after_append name.now piece.now)
+            (after_failed_append name.now) (history_of self.old) (history_of self.new) result }
+        ensures counts { IsCounted (HasName name.now) (history_of self.old) (counts_of self.old)
+            (counts_of self.new) result }
         ensures call { IsWrite (HasName name.now) self.old self.new result }
     {
         let can = self.store.has(name);
@@ -245,8 +263,10 @@ impl Tree for MemoryTree {
     }
 
     fn sync(&mut self, name: &Name) -> Result<(), Disk>
-        ensures moves { Moves (HasName name.now) (after_sync name.now) same_state (history_of self.old) (history_of self.new) result }
-        ensures counts { IsCounted (HasName name.now) (history_of self.old) (counts_of self.old) (counts_of self.new) result }
+        ensures moves { Moves (HasName name.now) (after_sync name.now) same_state
+            (history_of self.old) (history_of self.new) result }
+        ensures counts { IsCounted (HasName name.now) (history_of self.old) (counts_of self.old)
+            (counts_of self.new) result }
         ensures call { IsWrite (HasName name.now) self.old self.new result }
     {
         let can = self.store.has(name);
@@ -256,8 +276,10 @@ impl Tree for MemoryTree {
     }
 
     fn rename(&mut self, from: &Name, to: &Name) -> Result<(), Disk>
-        ensures moves { Moves (CanRename from.now to.now) (after_rename from.now to.now) (after_rename from.now to.now) (history_of self.old) (history_of self.new) result }
-        ensures counts { IsCounted (CanRename from.now to.now) (history_of self.old) (counts_of self.old) (counts_of self.new) result }
+        ensures moves { Moves (CanRename from.now to.now) (after_rename from.now to.now)
+            (after_rename from.now to.now) (history_of self.old) (history_of self.new) result }
+        ensures counts { IsCounted (CanRename from.now to.now) (history_of self.old)
+            (counts_of self.old) (counts_of self.new) result }
         ensures call { IsWrite (CanRename from.now to.now) self.old self.new result }
     {
         let can = self.store.can_rename(from, to);
@@ -267,8 +289,10 @@ impl Tree for MemoryTree {
     }
 
     fn remove(&mut self, name: &Name) -> Result<(), Disk>
-        ensures moves { Moves Anywhere (after_remove name.now) (after_remove name.now) (history_of self.old) (history_of self.new) result }
-        ensures counts { IsCounted Anywhere (history_of self.old) (counts_of self.old) (counts_of self.new) result }
+        ensures moves { Moves Anywhere (after_remove name.now) (after_remove name.now)
+            (history_of self.old) (history_of self.new) result }
+        ensures counts { IsCounted Anywhere (history_of self.old) (counts_of self.old)
+            (counts_of self.new) result }
         ensures call { IsWrite Anywhere self.old self.new result }
     {
         self.calls.begin_write(true)?;
@@ -277,8 +301,10 @@ impl Tree for MemoryTree {
     }
 
     fn sync_names(&mut self) -> Result<(), Disk>
-        ensures moves { Moves Anywhere after_sync_names same_state (history_of self.old) (history_of self.new) result }
-        ensures counts { IsCounted Anywhere (history_of self.old) (counts_of self.old) (counts_of self.new) result }
+        ensures moves { Moves Anywhere after_sync_names same_state (history_of self.old)
+            (history_of self.new) result }
+        ensures counts { IsCounted Anywhere (history_of self.old) (counts_of self.old)
+            (counts_of self.new) result }
         ensures call { IsWrite Anywhere self.old self.new result }
     {
         self.calls.begin_write(true)?;
@@ -289,11 +315,14 @@ impl Tree for MemoryTree {
     fn list(&mut self, alloc: Global, folder: &Name) -> Result<Names, TreeFault>
         ensures same { history_of self.new ≡ history_of self.old }
         ensures goes_on { GoesOn (counts_of self.old) (counts_of self.new) }
-        ensures disk { IsErrOf result DiskFault → HasCause (counts_of self.old) (counts_of self.new) }
+        ensures disk { IsErrOf result DiskFault
+            → HasCause (counts_of self.old) (counts_of self.new) }
         ensures kept { OnOk result (IsNoFault (counts_of self.old) (counts_of self.new)) }
-        ensures memory { IsErrOf result Memory → IsNoFault (counts_of self.old) (counts_of self.new) }
+        ensures memory { IsErrOf result Memory
+            → IsNoFault (counts_of self.old) (counts_of self.new) }
         ensures proper { (counts_of self.new).misuses ≡ (counts_of self.old).misuses }
-        ensures value { IfOk result (λ names. IfObservable (history_of self.old) (λ v. IsListOf folder.now v names)) }
+        ensures value { IfOk result (λ names.
+            IfObservable (history_of self.old) (λ v. IsListOf folder.now v names)) }
         ensures order { IfOk result (λ names. AreNamesBelow folder.now names) }
 
         // The tree fails exactly where that is planned.
@@ -301,7 +330,9 @@ impl Tree for MemoryTree {
         ensures plan { plan_of self.new ≡ one_on (plan_of self.old) }
         ensures calls { calls_of self.new ≡ next_count (calls_of self.old) }
         ensures writes { writes_of self.new ≡ writes_of self.old }
-        ensures faults { (counts_of self.new).faults ≡ (if is_next (plan_of self.old) then next_count (counts_of self.old).faults else (counts_of self.old).faults) }
+        ensures faults { (counts_of self.new).faults
+            ≡ (if is_next (plan_of self.old) then next_count (counts_of self.old).faults else
+            (counts_of self.old).faults) }
         ensures wants { (counts_of self.new).wants ≡ (counts_of self.old).wants }
         ensures longest { longest_of self.new ≡ longest_of self.old }
     {

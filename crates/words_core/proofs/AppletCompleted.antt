@@ -1,92 +1,195 @@
 -- Words that lack a word can be completed, unless they are stuck.
-use Rattle.std.proofs.Common.{◌≡◌, ℕ, suc, ◌+◌, Bool, true, false, List, [], ◌∷◌, ◌++◌, drop, take, codes, append-nil, ◌-◌, not, Some, None, Ok, Err, refl, sym, ◌∙◌, ap, subst, arith, length, ◌<◌, ◌≤◌, if◌then◌else◌, inl, inr}
-use Rattle.std.proofs.lemmas.Bool.{cases_lt}
+use Rattle.std.proofs.Common.{Bool, Err, List, None, Ok, Option, Result, Some, [], ap, append-nil, arith, codes, drop, false, inl, inr, is_ok, length, not, option_and_then, refl, subst, suc, sym, take, true, ℕ, ◌++◌, ◌+◌, ◌-◌, ◌∙◌, ◌∷◌, ◌≡◌, ◌≤◌, if◌then◌else◌}
+use Rattle.base_core.specs.Name.{is_name}
+use Rattle.std.specs.List.{list_all, list_any}
+use Rattle.std.specs.Prelude.{◌||◌}
+use Rattle.std.specs.Str.{chars, is_utf8}
+use Rattle.std.proofs.lemmas.Bool.{and_parts, cases_lt, false≢true}
 use Rattle.std.proofs.lemmas.List.{length-take-le, take-append-drop}
-use Rattle.words_core.specs.declared.flags.Flags.{Flags}
-use Rattle.words_core.specs.declared.applet.Applet.TheVariants.{Verify}
-use Rattle.words_core.specs.declared.start.Start.{Start}
-use Rattle.words_core.specs.Applets.{applet_of, common}
-use Rattle.words_core.specs.Flags.{no_flags}
-use Rattle.words_core.specs.Grammar.{command_by, command_of, given_first, is_end, is_option, operands_of, options_of, or_at, reading_by, reading_from, reading_of, start_at, start_behind_end, start_by, start_of, with_option, with_start, judged}
-use Rattle.words_core.specs.Stuck.{are_stuck, are_stuck_by}
+use Rattle.std.proofs.lemmas.Option.{none-some}
+use lib.Utf8.{encode}
+use Rattle.command_core.specs.declared.command.Applet.{Applet}
+use Rattle.command_core.specs.declared.command.Applet.TheVariants.{Verify}
+use Rattle.command_core.specs.declared.command.Flag.TheVariants.{AllowUntrusted, NoScripts}
+use Rattle.command_core.specs.declared.command.Flags.{Flags}
+use Rattle.command_core.specs.Flags.{no_flags}
+use Rattle.words_core.specs.declared.options.Meaning.{Meaning}
+use Rattle.words_core.specs.declared.options.Meaning.TheVariants.{Flag as Plain}
+use Rattle.words_core.specs.declared.reading.AppletSite.{AppletSite}
+use Rattle.words_core.specs.declared.reading.OptionState.{OptionState}
+use Rattle.words_core.specs.declared.reading.Start.{Start}
+use Rattle.words_core.specs.Grammar.{applet_site, command_from, command_of, command_read, early_flags, first_state, is_end, is_option, line_start, operands_of, option_reading, reading_behind, reading_by, site_at, site_behind_end, site_by, start_by, start_from, start_with, verdict, with_meaning, with_option, with_spec}
+use Rattle.words_core.specs.Options.{OptionSpec, applets, common_options, early_words, is_early, option_spelled, options_of}
+use Rattle.words_core.specs.Stuck.{are_stuck, are_stuck_by, is_stuck_by, suit}
 use Rattle.words_core.proofs.GoneOn.{is_not}
-use Rattle.words_core.proofs.LinesMade.{start_end, start_here, start_option}
-use Rattle.words_core.proofs.MoreWords.{start_unread, usage_stays}
+use Rattle.words_core.proofs.LinesRead.{by_early}
+use Rattle.words_core.proofs.MoreWords.{usage_stays}
 use Rattle.words_core.proofs.OffendingWords.{usage_between}
-use Rattle.words_core.proofs.WordsCompleted.{CanBeCompleted, completed_from, files_good, with_texts}
+use Rattle.words_core.proofs.Sites.{err_here, flags_end, flags_step, foreign_between, no_start, seek_early, seek_end, seek_here, seek_late, take_stays}
+use Rattle.words_core.proofs.WordsCompleted.{CanBeCompleted, IsJudgedGood, completed_from, judged_good, with_texts}
 
 -- what is behind the applet where it is named behind words
 pub named_behind : (words : List (List ℕ)) (word : List ℕ) (more : List (List ℕ)) → drop (1 + length words) (words ++ (word ∷ more)) ≡ more
 named_behind [] word more = refl
 named_behind (w ∷ words) word more = (let same : 1 + length (w ∷ words) ≡ suc (1 + length words) = omega arith in ap (λ k. drop k ((w ∷ words) ++ (word ∷ more))) same ∙ named_behind words word more)
 
--- the words before the applet, where it is lacking, whether or not the options have ended
-abbrev pub IsSought : Flags → ℕ → List (List ℕ) → Type 0
-IsSought flags place words = (given : Flags) × (ended : Bool) × (start_of flags place (words ++ (codes "verify" ∷ (codes "a" ∷ []))) ≡ Ok (start_by given ended (place + length words) Verify))
+-- ---- options before the applet
 
-pub named_early : (flags : Flags) (ended : Bool) (place end : ℕ) (word : List ℕ) → place < end → start_at flags ended place word ≡ Err end → ⊥
-unfolding start_at
-named_early flags ended place end word l h =
-    elim (applet_of word) as (λ o. or_at place (λ applet. Ok (start_by flags ended place applet)) o ≡ Err end → ⊥) [
-      | None ↦ λ (e : Err place ≡ Err end). (let same : place ≡ end = cc in omega arith)
-      | Some applet ↦ λ (e : Ok (start_by flags ended place applet) ≡ Err end). cc
-    ] h
+-- two options say the same flag of every applet
+abbrev is_same_meaning : Meaning → Meaning → Bool
+is_same_meaning (Plain AllowUntrusted) (Plain AllowUntrusted) = true
+is_same_meaning (Plain NoScripts) (Plain NoScripts) = true
+is_same_meaning a b = false
 
-pub end_sought : (flags : Flags) (place : ℕ) (word : List ℕ) (words : List (List ℕ)) → is_end word ≡ true → start_behind_end flags (place + 1) words ≡ Err (place + length (word ∷ words)) → IsSought flags place (word ∷ words)
-unfolding start_behind_end start_at
-end_sought flags place word [] e h = (flags, true, start_end flags place word (codes "verify" ∷ (codes "a" ∷ [])) e)
-end_sought flags place word (next ∷ words) e h = absurd (let less : place + 1 < place + length (word ∷ (next ∷ words)) = omega arith in named_early flags true (place + 1) (place + length (word ∷ (next ∷ words))) next less h)
+-- such a word is no option of the first applet, or says there what it says for `verify`
+abbrev says_same : Option OptionSpec → Option OptionSpec → Bool
+says_same None verify = true
+says_same (Some o) None = false
+says_same (Some o) (Some v) = is_same_meaning o.meaning v.meaning
 
-pub sought : (flags : Flags) (place : ℕ) (words : List (List ℕ)) → start_of flags place words ≡ Err (place + length words) → IsSought flags place words
-unfolding start_at
-sought flags place [] h = (flags, false, let same : place ≡ place + 0 = omega arith in ap (λ k. Ok (start_by flags false k Verify)) same)
-sought flags place (word ∷ words) h =
+abbrev is_as_verify : Applet → List ℕ → Bool
+is_as_verify applet word = says_same (option_spelled (options_of applet) word) (option_spelled (options_of Verify) word)
+
+today : list_all (λ applet. list_all (is_as_verify applet) early_words) applets ≡ true
+unfolding common_options options_of early_words
+today = refl
+
+same_flags : (flags more : Flags) (a b : Meaning) → is_same_meaning a b ≡ true → with_meaning flags a ≡ Some more → with_meaning flags b ≡ Some more
+same_flags flags more (Plain AllowUntrusted) (Plain AllowUntrusted) s h = h
+same_flags flags more (Plain NoScripts) (Plain NoScripts) s h = h
+same_flags flags more a b s h = absurd (false≢true s)
+
+same_option : (flags more : Flags) (o v : Option OptionSpec) → says_same o v ≡ true → option_and_then (with_spec flags) o ≡ Some more → option_and_then (with_spec flags) v ≡ Some more
+same_option flags more None v s h = absurd (none-some more h)
+same_option flags more (Some o) None s h = absurd (false≢true s)
+same_option flags more (Some o) (Some v) s h = same_flags flags more o.meaning v.meaning s h
+
+-- options before the applet that are an applet's are those of `verify` too
+abbrev IsSuited : Applet → Flags → ℕ → List (List ℕ) → Type 0
+IsSuited applet flags place words = (more : Flags) × (early_flags (options_of applet) flags place words ≡ Ok more)
+
+suited : (applet : Applet) (flags : Flags) (place : ℕ) (words : List (List ℕ)) → list_all (is_as_verify applet) early_words ≡ true → applet_site place words ≡ Err (place + length words) → IsSuited applet flags place words → IsSuited Verify flags place words
+suited applet flags place [] each s f = (flags, refl)
+suited applet flags place (word ∷ words) each s f =
     let next : place + length (word ∷ words) ≡ place + 1 + length words = omega arith in
-    let less : place < place + length (word ∷ words) = omega arith in
-    let more : List (List ℕ) = codes "verify" ∷ (codes "a" ∷ []) in
-    elim (is_end word) as (λ b. is_end word ≡ b → IsSought flags place (word ∷ words)) [
-      | true ↦ λ e. end_sought flags place word words e (sym (start_end flags place word words e) ∙ h)
-      | false ↦ λ e. elim (is_option word) as (λ b. is_option word ≡ b → IsSought flags place (word ∷ words)) [
-        | true ↦ λ o. elim (with_option common flags word) as (λ w. with_option common flags word ≡ w → IsSought flags place (word ∷ words)) [
-          | None ↦ λ w. absurd (let same : Err place ≡ Err (place + length (word ∷ words)) = sym (start_unread flags place word words e o w) ∙ h in let is : place ≡ place + length (word ∷ words) = cc in omega arith)
-          | Some g ↦ λ w. (let rest = sought g (place + 1) words (sym (start_option flags g place word words e o w) ∙ (h ∙ ap Err next)) in
-              (rest.0, rest.1, start_option flags g place word (words ++ more) e o w ∙ (rest.2 ∙ ap (λ k. Ok (start_by rest.0 rest.1 k Verify)) (sym next))))
+    elim (is_end word) as (λ b. is_end word ≡ b → IsSuited Verify flags place (word ∷ words)) [
+      | true ↦ λ e. (flags, flags_end (options_of Verify) flags place word words e)
+      | false ↦ λ e. elim (is_option word) as (λ b. is_option word ≡ b → IsSuited Verify flags place (word ∷ words)) [
+        | false ↦ λ o. absurd (let same : place + length (word ∷ words) ≡ place = err_here place (place + length (word ∷ words)) false word (sym (seek_here place word words e o) ∙ s) in omega arith)
+        | true ↦ λ o. elim (is_early word) as (λ b. is_early word ≡ b → IsSuited Verify flags place (word ∷ words)) [
+          | false ↦ λ y. absurd (let same : Err place ≡ Err (place + length (word ∷ words)) = sym (seek_late place word words e o y) ∙ s in let is : place ≡ place + length (word ∷ words) = cc in omega arith)
+          | true ↦ λ y. elim (with_option (options_of applet) flags word) as (λ m. with_option (options_of applet) flags word ≡ m → IsSuited Verify flags place (word ∷ words)) [
+            | None ↦ λ m. absurd (let none : Err place ≡ Ok f.0 = sym (flags_step (options_of applet) flags place word words None e m) ∙ f.1 in cc)
+            | Some g ↦ λ m.
+                let same : with_option (options_of Verify) flags word ≡ Some g = same_option flags g (option_spelled (options_of applet) word) (option_spelled (options_of Verify) word) (by_early (is_as_verify applet) word each y) m in
+                let rest = suited applet g (place + 1) words each (sym (seek_early place word words e o y) ∙ (s ∙ ap Err next)) (f.0, sym (flags_step (options_of applet) flags place word words (Some g) e m) ∙ f.1) in
+                (rest.0, flags_step (options_of Verify) flags place word words (Some g) e same ∙ rest.1)
+          ] refl
         ] refl
-        | false ↦ λ o. absurd (named_early flags false place (place + length (word ∷ words)) word less (sym (start_here flags place word words e o) ∙ h))
+      ] refl
+    ] refl
+
+any_suits : (words : List (List ℕ)) (xs : List Applet) → list_all (λ applet. list_all (is_as_verify applet) early_words) xs ≡ true → applet_site 1 words ≡ Err (1 + length words) → list_any (suit words) xs ≡ true → IsSuited Verify no_flags 1 words
+any_suits words [] each s h = absurd (false≢true h)
+any_suits words (x ∷ xs) each s h =
+    let parts = and_parts (list_all (is_as_verify x) early_words) (list_all (λ applet. list_all (is_as_verify applet) early_words) xs) each in
+    elim (early_flags (options_of x) no_flags 1 words) as (λ r. early_flags (options_of x) no_flags 1 words ≡ r → (is_ok r || list_any (suit words) xs) ≡ true → IsSuited Verify no_flags 1 words) [
+      | Ok more ↦ λ f h. suited x no_flags 1 words parts.0 s (more, f)
+      | Err at ↦ λ f h. any_suits words xs parts.1 s h
+    ] refl h
+
+-- ---- the applet behind words that lack it
+
+-- the words before the applet, whether or not the options have ended
+abbrev pub IsSought : ℕ → List (List ℕ) → Type 0
+IsSought place words = (ended : Bool) × (applet_site place (words ++ (codes "verify" ∷ (codes "a" ∷ []))) ≡ Ok (site_by ended (place + length words) Verify))
+
+pub end_sought : (place : ℕ) (word : List ℕ) (words : List (List ℕ)) → is_end word ≡ true → site_behind_end (place + 1) words ≡ Err (place + length (word ∷ words)) → IsSought place (word ∷ words)
+unfolding site_behind_end site_at
+end_sought place word [] e h = (true, seek_end place word (codes "verify" ∷ (codes "a" ∷ [])) e)
+end_sought place word (next ∷ words) e h = absurd (let same : place + length (word ∷ (next ∷ words)) ≡ place + 1 = err_here (place + 1) (place + length (word ∷ (next ∷ words))) true next h in omega arith)
+
+pub sought : (place : ℕ) (words : List (List ℕ)) → applet_site place words ≡ Err (place + length words) → IsSought place words
+unfolding site_at
+sought place [] h = (false, let same : place ≡ place + 0 = omega arith in ap (λ k. Ok (site_by false k Verify)) same)
+sought place (word ∷ words) h =
+    let next : place + length (word ∷ words) ≡ place + 1 + length words = omega arith in
+    let more : List (List ℕ) = codes "verify" ∷ (codes "a" ∷ []) in
+    elim (is_end word) as (λ b. is_end word ≡ b → IsSought place (word ∷ words)) [
+      | true ↦ λ e. end_sought place word words e (sym (seek_end place word words e) ∙ h)
+      | false ↦ λ e. elim (is_option word) as (λ b. is_option word ≡ b → IsSought place (word ∷ words)) [
+        | true ↦ λ o. elim (is_early word) as (λ b. is_early word ≡ b → IsSought place (word ∷ words)) [
+          | false ↦ λ y. absurd (let same : Err place ≡ Err (place + length (word ∷ words)) = sym (seek_late place word words e o y) ∙ h in let is : place ≡ place + length (word ∷ words) = cc in omega arith)
+          | true ↦ λ y. (let rest = sought (place + 1) words (sym (seek_early place word words e o y) ∙ (h ∙ ap Err next)) in
+              (rest.0, seek_early place word (words ++ more) e o y ∙ (rest.1 ∙ ap (λ k. Ok (site_by rest.0 k Verify)) (sym next))))
+        ] refl
+        | false ↦ λ o. absurd (let same : place + length (word ∷ words) ≡ place = err_here place (place + length (word ∷ words)) false word (sym (seek_here place word words e o) ∙ h) in omega arith)
       ] refl
     ] refl
 
 -- the applet and a file behind words that lack an applet
-pub from_named : (start : Start) (words : List (List ℕ)) → start.applet ≡ Verify → start.read ≡ 1 + length words → reading_from start (words ++ (codes "verify" ∷ (codes "a" ∷ []))) ≡ with_texts (given_first start.flags) [] (start.read + 1) (codes "a" ∷ [])
-unfolding reading_from
+pub from_named : (start : Start) (words : List (List ℕ)) → start.applet ≡ Verify → start.read ≡ 1 + length words → reading_behind start (words ++ (codes "verify" ∷ (codes "a" ∷ []))) ≡ with_texts (first_state start.flags) [] (start.read + 1) (codes "a" ∷ [])
+unfolding reading_behind
 from_named start words v r =
-    subst (λ left. (if start.ended then reading_by (given_first start.flags) (operands_of (start.read + 1) left) None else reading_of (options_of start.applet) (given_first start.flags) (start.read + 1) left) ≡ with_texts (given_first start.flags) [] (start.read + 1) (codes "a" ∷ []))
+    subst (λ left. (if start.ended then reading_by (first_state start.flags) (operands_of (start.read + 1) left) None else option_reading (options_of start.applet) (first_state start.flags) (start.read + 1) left) ≡ with_texts (first_state start.flags) [] (start.read + 1) (codes "a" ∷ []))
     (sym (ap (λ k. drop k (words ++ (codes "verify" ∷ (codes "a" ∷ [])))) r ∙ named_behind words (codes "verify") (codes "a" ∷ [])))
-    (elim start.ended as (λ b. (if b then reading_by (given_first start.flags) (operands_of (start.read + 1) (codes "a" ∷ [])) None else reading_of (options_of start.applet) (given_first start.flags) (start.read + 1) (codes "a" ∷ [])) ≡ with_texts (given_first start.flags) [] (start.read + 1) (codes "a" ∷ [])) [
+    (elim start.ended as (λ b. (if b then reading_by (first_state start.flags) (operands_of (start.read + 1) (codes "a" ∷ [])) None else option_reading (options_of start.applet) (first_state start.flags) (start.read + 1) (codes "a" ∷ [])) ≡ with_texts (first_state start.flags) [] (start.read + 1) (codes "a" ∷ [])) [
       | true ↦ refl
       | false ↦ refl
     ])
 
-pub applet_completed : (words : List (List ℕ)) → start_of no_flags 1 words ≡ Err (1 + length words) → CanBeCompleted words
+file_good : (state : OptionState) (at : ℕ) → IsJudgedGood Verify (with_texts state [] at (codes "a" ∷ []))
+unfolding is_name is_utf8 chars encode
+file_good state at end = judged_good Verify (with_texts state [] at (codes "a" ∷ [])) end refl refl refl
+
+pub applet_completed : (words : List (List ℕ)) → applet_site 1 words ≡ Err (1 + length words) → list_any (suit words) applets ≡ true → CanBeCompleted words
 unfolding command_of
-applet_completed words h =
+applet_completed words h k =
     let more : List (List ℕ) = codes "verify" ∷ (codes "a" ∷ []) in
-    let found = sought no_flags 1 words h in
-    let start : Start = start_by found.0 found.1 (1 + length words) Verify in
-    let reading = with_texts (given_first found.0) [] (1 + length words + 1) (codes "a" ∷ []) in (
+    let found = sought 1 words h in
+    let flags = any_suits words applets today h k in
+    let site : AppletSite = site_by found.0 (1 + length words) Verify in
+    let start : Start = start_by site flags.0 in
+    let reading = with_texts (first_state flags.0) [] (1 + length words + 1) (codes "a" ∷ []) in
+    let before : 1 + length words - 1 ≡ length words = omega arith in
+    let early : early_flags (options_of Verify) no_flags 1 (take (1 + length words - 1) (words ++ more)) ≡ Ok flags.0 =
+    ap (λ n. early_flags (options_of Verify) no_flags 1 (take n (words ++ more))) before
+    ∙ (ap (early_flags (options_of Verify) no_flags 1) (take_stays (length words) words more (omega arith) ∙ take_all words) ∙ flags.1) in
+    let is : line_start (words ++ more) ≡ Ok start = ap (start_from (words ++ more)) found.1 ∙ ap (start_with site) early in (
       more,
-      command_by (length (words ++ more) + 1) Verify reading,
-      ap (with_start (words ++ more)) found.2 ∙ (ap (judged (length (words ++ more) + 1) Verify) (from_named start words refl refl) ∙ files_good (given_first found.0) [] (1 + length words + 1) refl (length (words ++ more) + 1)),
+      command_read (length (words ++ more) + 1) Verify reading,
+      ap (command_from (words ++ more)) is ∙ (ap (verdict (length (words ++ more) + 1) Verify) (from_named start words refl refl) ∙ file_good (first_state flags.0) (1 + length words + 1) (length (words ++ more) + 1)),
     )
+  where
+    take_all : (ws : List (List ℕ)) → take (length ws) ws ≡ ws
+    take_all [] = refl
+    take_all (w ∷ ws) = ap (λ xs. w ∷ xs) (take_all ws)
 
 pub completed_unless : (words : List (List ℕ)) → are_stuck words ≡ false → command_of words ≡ Err (length words + 1) → CanBeCompleted words
 unfolding command_of are_stuck
 completed_unless words k c =
-    elim (start_of no_flags 1 words) as (λ s. start_of no_flags 1 words ≡ s → are_stuck_by words s ≡ false → with_start words s ≡ Err (length words + 1) → CanBeCompleted words) [
-      | Err at ↦ λ s k (e : Err at ≡ Err (length words + 1)).
-          (let same : at ≡ length words + 1 = cc in let is : at ≡ 1 + length words = omega arith in applet_completed words (s ∙ ap Err is))
-      | Ok start ↦ λ s k e. completed_from words start k s e
-    ] refl k c
+    elim (applet_site 1 words) as (λ s. applet_site 1 words ≡ s → are_stuck_by words s ≡ false → CanBeCompleted words) [
+      | Err at ↦ λ s k.
+          (let none : Err at ≡ Err (length words + 1) = sym (ap (λ r. command_from words (start_from words r)) s) ∙ c in
+          let same : at ≡ length words + 1 = cc in
+          let is : at ≡ 1 + length words = omega arith in
+          applet_completed words (s ∙ ap Err is) (is_so (list_any (suit words) applets) k))
+      | Ok site ↦ λ s k. by_start site s (line_start words) refl (ap (λ r. is_stuck_by words (start_from words r)) s ∙ k)
+    ] refl k
+  where
+    is_so : (b : Bool) → not b ≡ false → b ≡ true
+    is_so true h = refl
+    is_so false h = sym h
+
+    by_start : (site : AppletSite) → applet_site 1 words ≡ Ok site → (r : Result Start ℕ) → line_start words ≡ r → is_stuck_by words (line_start words) ≡ false → CanBeCompleted words
+    by_start site found (Ok start) s k = completed_from words start (sym (ap (is_stuck_by words) s) ∙ k) s (sym (ap (command_from words) s) ∙ c)
+    by_start site found (Err at) s k =
+        let none : Err at ≡ Err (length words + 1) = sym (ap (command_from words) s) ∙ c in
+        let same : at ≡ length words + 1 = cc in
+        elim (no_start words at s) as (λ _. CanBeCompleted words) [
+          | inl e ↦ absurd (let both : Ok site ≡ Err at = sym found ∙ e in cc)
+          | inr f ↦ absurd (let between = foreign_between words at f in omega (arith, between.1))
+        ]
 
 -- the words before a usage error can be completed
 pub usage_is_first : (words : List (List ℕ)) (place : ℕ) → not (are_stuck (take (place - 1) words)) ≡ true → command_of words ≡ Err place → CanBeCompleted (take (place - 1) words)

@@ -1,3 +1,4 @@
+pub mod Sites
 pub mod OneMore
 pub mod Found
 pub mod KindsKept

@@ -1,19 +1,21 @@
 -- A usage error is at a word, or behind the last one; and where it is at a word, more words change nothing.
-use Rattle.std.proofs.Common.{◌≡◌, ℕ, ◌+◌, Bool, true, false, List, [], ◌∷◌, drop, Option, Some, None, Result, Ok, Err, refl, ◌∙◌, ap, subst, arith, length, length-drop, inl, inr, ◌⊎◌, ◌<◌, ◌≤◌, if◌then◌else◌}
+use Rattle.std.proofs.Common.{Bool, Err, List, None, Ok, Option, Result, Some, [], ap, arith, drop, false, inl, inr, length, length-drop, refl, subst, true, ℕ, ◌+◌, ◌<◌, ◌∙◌, ◌∷◌, ◌≡◌, ◌≤◌, ◌⊎◌, if◌then◌else◌}
 use Rattle.std.specs.Option.{option_map, option_or}
 use Rattle.std.proofs.lemmas.Option.{none-some, same_Some}
-use Rattle.words_core.specs.declared.applet.Applet.{Applet}
-use Rattle.words_core.specs.declared.flags.Flags.{Flags}
-use Rattle.words_core.specs.declared.given.Given.{Given}
-use Rattle.words_core.specs.declared.operands.Operand.{Operand}
+use Rattle.command_core.specs.declared.command.Applet.{Applet}
+use Rattle.command_core.specs.declared.operands.Operand.{Operand}
+use Rattle.command_core.specs.declared.operands.OperandRule.{OperandRule}
+use Rattle.command_core.specs.declared.values.ValueRule.{ValueRule}
+use Rattle.command_core.specs.Applets.{operand_rule}
+use Rattle.command_core.specs.Operands.{first_refused, operand_at, takes}
+use Rattle.words_core.specs.declared.reading.AppletSite.{AppletSite}
+use Rattle.words_core.specs.declared.reading.OptionState.{OptionState}
 use Rattle.words_core.specs.declared.reading.Reading.{Reading}
-use Rattle.words_core.specs.declared.rule.OperandRule.{OperandRule}
-use Rattle.words_core.specs.declared.start.Start.{Start}
-use Rattle.words_core.specs.declared.value_rule.ValueRule.{ValueRule}
-use Rattle.words_core.specs.Applets.{Entry, applet_of, common, row_of}
-use Rattle.words_core.specs.Flags.{no_flags}
-use Rattle.words_core.specs.Grammar.{command_by, command_of, first_refused, given_first, is_end, is_option, is_taken, judged, lacks, operand_at, operands_of, options_of, or_at, or_unread, reading_by, reading_end, reading_from, reading_of, refused_operand, start_at, start_behind_end, start_by, start_of, takes, unless_at, with_operand, with_option, with_start, with_word}
+use Rattle.words_core.specs.declared.reading.Start.{Start}
+use Rattle.words_core.specs.Grammar.{applet_site, command_from, command_of, command_read, first_state, is_end, is_option, is_option_or_value, lacks_word, line_start, operands_of, option_reading, or_at, or_unread, reading_behind, reading_by, reading_end, refused_operand, site_at, site_behind_end, site_by, unless_at, verdict, with_operand, with_word}
+use Rattle.words_core.specs.Options.{OptionSpec, applet_of, is_early, options_of}
 use Rattle.words_core.proofs.KindsKept.{IsPlain, start_known}
+use Rattle.words_core.proofs.Sites.{IsForeign, foreign_between, no_start}
 
 -- operands at places from one on and below another
 abbrev pub IsBetween : ℕ → ℕ → ℕ → Type 0
@@ -52,44 +54,44 @@ placed_lower low lower behind reading l h = record {
   unread = λ place e. (let is = h.unread place e in (omega (arith, is.0), is.1));
 }
 
-pub placed_operands : (given : Given) (low behind : ℕ) (operands : List Operand) → AllBetween low behind operands → IsPlaced low behind (reading_by given operands None)
-placed_operands given low behind operands h = record { operands = h; unread = λ place e. absurd (none-some place e) }
+pub placed_operands : (state : OptionState) (low behind : ℕ) (operands : List Operand) → AllBetween low behind operands → IsPlaced low behind (reading_by state operands None)
+placed_operands state low behind operands h = record { operands = h; unread = λ place e. absurd (none-some place e) }
 
-pub placed_unread : (given : Given) (low behind at : ℕ) → IsBetween low (behind + 1) at → IsPlaced low behind (reading_by given [] (Some at))
-placed_unread given low behind at h = record { operands = tt; unread = λ place e. subst (λ n. IsBetween low (behind + 1) n) (same_Some at place e) h }
+pub placed_unread : (state : OptionState) (low behind at : ℕ) → IsBetween low (behind + 1) at → IsPlaced low behind (reading_by state [] (Some at))
+placed_unread state low behind at h = record { operands = tt; unread = λ place e. subst (λ n. IsBetween low (behind + 1) n) (same_Some at place e) h }
 
-pub placed_end : (given : Given) (place behind : ℕ) → place ≤ behind → IsPlaced place behind (reading_end given place)
-placed_end given place behind l =
-    elim given.awaiting as (λ a. IsPlaced place behind (reading_by given [] (option_map (λ (rule : ValueRule). place) a))) [
-      | None ↦ placed_operands given place behind [] tt
-      | Some rule ↦ placed_unread given place behind place (omega arith, omega arith)
+pub placed_end : (state : OptionState) (place behind : ℕ) → place ≤ behind → IsPlaced place behind (reading_end state place)
+placed_end state place behind l =
+    elim state.awaiting as (λ a. IsPlaced place behind (reading_by state [] (option_map (λ (rule : ValueRule). place) a))) [
+      | None ↦ placed_operands state place behind [] tt
+      | Some rule ↦ placed_unread state place behind place (omega arith, omega arith)
     ]
 
-pub reading_placed : (entries : List Entry) (given : Given) (place behind : ℕ) (words : List (List ℕ)) → place + length words ≤ behind → IsPlaced place behind (reading_of entries given place words)
-reading_placed entries given place behind [] l = placed_end given place behind (omega arith)
-reading_placed entries given place behind (word ∷ words) l =
+pub reading_placed : (options : List OptionSpec) (state : OptionState) (place behind : ℕ) (words : List (List ℕ)) → place + length words ≤ behind → IsPlaced place behind (option_reading options state place words)
+reading_placed options state place behind [] l = placed_end state place behind (omega arith)
+reading_placed options state place behind (word ∷ words) l =
     let less : place + 1 + length words ≤ behind = omega arith in
     let here : IsBetween place behind place = (omega arith, omega arith) in
-    elim (is_taken given word) as (λ b. IsPlaced place behind (if b then or_unread given place (λ more. reading_of entries more (place + 1) words) (with_word entries given place word) else if is_end word then reading_by given (operands_of (place + 1) words) None else with_operand (operand_at place word) (reading_of entries given (place + 1) words))) [
-      | true ↦ elim (with_word entries given place word) as (λ m. IsPlaced place behind (or_unread given place (λ more. reading_of entries more (place + 1) words) m)) [
-        | None ↦ placed_unread given place behind place (omega arith, omega arith)
-        | Some more ↦ placed_lower (place + 1) place behind (reading_of entries more (place + 1) words) (omega arith) (reading_placed entries more (place + 1) behind words less)
+    elim (is_option_or_value state word) as (λ b. IsPlaced place behind (if b then or_unread state place (λ more. option_reading options more (place + 1) words) (with_word options state place word) else if is_end word then reading_by state (operands_of (place + 1) words) None else with_operand (operand_at place word) (option_reading options state (place + 1) words))) [
+      | true ↦ elim (with_word options state place word) as (λ m. IsPlaced place behind (or_unread state place (λ more. option_reading options more (place + 1) words) m)) [
+        | None ↦ placed_unread state place behind place (omega arith, omega arith)
+        | Some more ↦ placed_lower (place + 1) place behind (option_reading options more (place + 1) words) (omega arith) (reading_placed options more (place + 1) behind words less)
       ]
-      | false ↦ elim (is_end word) as (λ b. IsPlaced place behind (if b then reading_by given (operands_of (place + 1) words) None else with_operand (operand_at place word) (reading_of entries given (place + 1) words))) [
-        | true ↦ placed_lower (place + 1) place behind (reading_by given (operands_of (place + 1) words) None) (omega arith) (placed_operands given (place + 1) behind (operands_of (place + 1) words) (operands_between (place + 1) behind words less))
+      | false ↦ elim (is_end word) as (λ b. IsPlaced place behind (if b then reading_by state (operands_of (place + 1) words) None else with_operand (operand_at place word) (option_reading options state (place + 1) words))) [
+        | true ↦ placed_lower (place + 1) place behind (reading_by state (operands_of (place + 1) words) None) (omega arith) (placed_operands state (place + 1) behind (operands_of (place + 1) words) (operands_between (place + 1) behind words less))
         | false ↦
-            let rest = placed_lower (place + 1) place behind (reading_of entries given (place + 1) words) (omega arith) (reading_placed entries given (place + 1) behind words less) in
+            let rest = placed_lower (place + 1) place behind (option_reading options state (place + 1) words) (omega arith) (reading_placed options state (place + 1) behind words less) in
             record { operands = (here, rest.operands); unread = rest.unread }
       ]
     ]
 
-pub from_placed : (start : Start) (words : List (List ℕ)) → start.read ≤ length words → IsPlaced (start.read + 1) (length words + 1) (reading_from start words)
-unfolding reading_from
+pub from_placed : (start : Start) (words : List (List ℕ)) → start.read ≤ length words → IsPlaced (start.read + 1) (length words + 1) (reading_behind start words)
+unfolding reading_behind
 from_placed start words l =
     let less : start.read + 1 + length (drop start.read words) ≤ length words + 1 = omega (arith, length-drop start.read words) in
-    elim start.ended as (λ b. IsPlaced (start.read + 1) (length words + 1) (if b then reading_by (given_first start.flags) (operands_of (start.read + 1) (drop start.read words)) None else reading_of (options_of start.applet) (given_first start.flags) (start.read + 1) (drop start.read words))) [
-      | true ↦ placed_operands (given_first start.flags) (start.read + 1) (length words + 1) (operands_of (start.read + 1) (drop start.read words)) (operands_between (start.read + 1) (length words + 1) (drop start.read words) less)
-      | false ↦ reading_placed (options_of start.applet) (given_first start.flags) (start.read + 1) (length words + 1) (drop start.read words) less
+    elim start.ended as (λ b. IsPlaced (start.read + 1) (length words + 1) (if b then reading_by (first_state start.flags) (operands_of (start.read + 1) (drop start.read words)) None else option_reading (options_of start.applet) (first_state start.flags) (start.read + 1) (drop start.read words))) [
+      | true ↦ placed_operands (first_state start.flags) (start.read + 1) (length words + 1) (operands_of (start.read + 1) (drop start.read words)) (operands_between (start.read + 1) (length words + 1) (drop start.read words) less)
+      | false ↦ reading_placed (options_of start.applet) (first_state start.flags) (start.read + 1) (length words + 1) (drop start.read words) less
     ]
 
 -- the first that offends, at most behind the words
@@ -106,54 +108,54 @@ first_between (Some rule) low behind place reading p h =
 abbrev pub IsJudgedAt : ℕ → Option ℕ → ℕ → Type 0
 IsJudgedAt behind first place = (first ≡ Some place) ⊎ ((first ≡ None) × (place ≡ behind))
 
-pub judged_at : (applet : Applet) (reading : Reading) (behind place : ℕ) → judged behind applet reading ≡ Err place → IsJudgedAt behind (option_or (refused_operand ((row_of applet).operands reading.given.flags) reading.operands) reading.unread) place
-unfolding judged
+pub judged_at : (applet : Applet) (reading : Reading) (behind place : ℕ) → verdict behind applet reading ≡ Err place → IsJudgedAt behind (option_or (refused_operand (operand_rule applet reading.state.flags) reading.operands) reading.unread) place
+unfolding verdict
 judged_at applet reading behind place h =
-    let rule = (row_of applet).operands reading.given.flags in
-    elim (option_or (refused_operand rule reading.operands) reading.unread) as (λ o. unless_at o (if lacks applet rule reading then Err behind else Ok (command_by behind applet reading)) ≡ Err place → IsJudgedAt behind o place) [
-      | None ↦ elim (lacks applet rule reading) as (λ b. (if b then Err behind else Ok (command_by behind applet reading)) ≡ Err place → IsJudgedAt behind None place) [
+    let rule = operand_rule applet reading.state.flags in
+    elim (option_or (refused_operand rule reading.operands) reading.unread) as (λ o. unless_at o (if lacks_word applet rule reading then Err behind else Ok (command_read behind applet reading)) ≡ Err place → IsJudgedAt behind o place) [
+      | None ↦ elim (lacks_word applet rule reading) as (λ b. (if b then Err behind else Ok (command_read behind applet reading)) ≡ Err place → IsJudgedAt behind None place) [
         | true ↦ λ (e : Err behind ≡ Err place). inr (refl, cc)
-        | false ↦ λ (e : Ok (command_by behind applet reading) ≡ Err place). absurd (cc)
+        | false ↦ λ (e : Ok (command_read behind applet reading) ≡ Err place). absurd (cc)
       ]
       | Some at ↦ λ (e : Err at ≡ Err place). inl cc
     ] h
 
-pub judged_bad : (applet : Applet) (reading : Reading) (behind place : ℕ) → option_or (refused_operand ((row_of applet).operands reading.given.flags) reading.operands) reading.unread ≡ Some place → judged behind applet reading ≡ Err place
-unfolding judged
+pub judged_bad : (applet : Applet) (reading : Reading) (behind place : ℕ) → option_or (refused_operand (operand_rule applet reading.state.flags) reading.operands) reading.unread ≡ Some place → verdict behind applet reading ≡ Err place
+unfolding verdict
 judged_bad applet reading behind place h =
-    ap (λ o. unless_at o (if lacks applet ((row_of applet).operands reading.given.flags) reading then Err behind else Ok (command_by behind applet reading))) h
+    ap (λ o. unless_at o (if lacks_word applet (operand_rule applet reading.state.flags) reading then Err behind else Ok (command_read behind applet reading))) h
 
 -- where the search for the applet ends
-abbrev pub IsSearched : ℕ → ℕ → Result Start ℕ → Type 0
-IsSearched low behind (Ok start) = Unit {0}
+abbrev pub IsSearched : ℕ → ℕ → Result AppletSite ℕ → Type 0
+IsSearched low behind (Ok site) = Unit {0}
 IsSearched low behind (Err place) = IsBetween low behind place
 
-pub named_searched : (flags : Flags) (ended : Bool) (place low behind : ℕ) (word : List ℕ) → IsBetween low behind place → IsSearched low behind (start_at flags ended place word)
-unfolding start_at
-named_searched flags ended place low behind word h =
-    elim (applet_of word) as (λ o. IsSearched low behind (or_at place (λ applet. Ok (start_by flags ended place applet)) o)) [
+pub named_searched : (ended : Bool) (place low behind : ℕ) (word : List ℕ) → IsBetween low behind place → IsSearched low behind (site_at ended place word)
+unfolding site_at
+named_searched ended place low behind word h =
+    elim (applet_of word) as (λ o. IsSearched low behind (or_at place (λ applet. Ok (site_by ended place applet)) o)) [
       | None ↦ h
       | Some applet ↦ tt
     ]
 
-pub end_searched : (flags : Flags) (place low behind : ℕ) (words : List (List ℕ)) → IsBetween low behind place → IsSearched low behind (start_behind_end flags place words)
-unfolding start_behind_end
-end_searched flags place low behind [] h = h
-end_searched flags place low behind (word ∷ words) h = named_searched flags true place low behind word h
+pub end_searched : (place low behind : ℕ) (words : List (List ℕ)) → IsBetween low behind place → IsSearched low behind (site_behind_end place words)
+unfolding site_behind_end
+end_searched place low behind [] h = h
+end_searched place low behind (word ∷ words) h = named_searched true place low behind word h
 
-pub start_searched : (flags : Flags) (place low behind : ℕ) (words : List (List ℕ)) → low ≤ place → place + length words < behind → IsSearched low behind (start_of flags place words)
-start_searched flags place low behind [] l h = (omega arith, omega arith)
-start_searched flags place low behind (word ∷ words) l h =
+pub site_searched : (place low behind : ℕ) (words : List (List ℕ)) → low ≤ place → place + length words < behind → IsSearched low behind (applet_site place words)
+site_searched place low behind [] l h = (omega arith, omega arith)
+site_searched place low behind (word ∷ words) l h =
     let less : place + 1 + length words < behind = omega arith in
     let here : IsBetween low behind place = (omega arith, omega arith) in
-    elim (is_end word) as (λ b. IsSearched low behind (if b then start_behind_end flags (place + 1) words else if is_option word then or_at place (λ more. start_of more (place + 1) words) (with_option common flags word) else start_at flags false place word)) [
-      | true ↦ end_searched flags (place + 1) low behind words (omega arith, omega arith)
-      | false ↦ elim (is_option word) as (λ b. IsSearched low behind (if b then or_at place (λ more. start_of more (place + 1) words) (with_option common flags word) else start_at flags false place word)) [
-        | true ↦ elim (with_option common flags word) as (λ m. IsSearched low behind (or_at place (λ more. start_of more (place + 1) words) m)) [
-          | None ↦ here
-          | Some more ↦ start_searched more (place + 1) low behind words (omega arith) less
+    elim (is_end word) as (λ b. IsSearched low behind (if b then site_behind_end (place + 1) words else if is_option word then (if is_early word then applet_site (place + 1) words else Err place) else site_at false place word)) [
+      | true ↦ end_searched (place + 1) low behind words (omega arith, omega arith)
+      | false ↦ elim (is_option word) as (λ b. IsSearched low behind (if b then (if is_early word then applet_site (place + 1) words else Err place) else site_at false place word)) [
+        | true ↦ elim (is_early word) as (λ b. IsSearched low behind (if b then applet_site (place + 1) words else Err place)) [
+          | true ↦ site_searched (place + 1) low behind words (omega arith) less
+          | false ↦ here
         ]
-        | false ↦ named_searched flags false place low behind word here
+        | false ↦ named_searched false place low behind word here
       ]
     ]
 
@@ -161,19 +163,22 @@ start_searched flags place low behind (word ∷ words) l h =
 pub usage_between : (words : List (List ℕ)) (place : ℕ) → command_of words ≡ Err place → (1 ≤ place) × (place ≤ length words + 1)
 unfolding command_of
 usage_between words place c =
-    elim (start_of no_flags 1 words) as (λ s. start_of no_flags 1 words ≡ s → IsSearched 1 (length words + 2) s → with_start words s ≡ Err place → (1 ≤ place) × (place ≤ length words + 1)) [
-      | Err at ↦ λ s (h : IsBetween 1 (length words + 2) at) (e : Err at ≡ Err place). by_place at place (cc) h
-      | Ok start ↦ λ s h e. by_start start s e
-    ] refl (start_searched no_flags 1 1 (length words + 2) words (omega arith) (omega arith)) c
+    elim (line_start words) as (λ s. line_start words ≡ s → command_from words s ≡ Err place → (1 ≤ place) × (place ≤ length words + 1)) [
+      | Err at ↦ λ s (e : Err at ≡ Err place). by_place at place (cc) (no_start words at s)
+      | Ok start ↦ λ s e. by_start start s e
+    ] refl c
   where
-    by_place : (at place : ℕ) → at ≡ place → IsBetween 1 (length words + 2) at → (1 ≤ place) × (place ≤ length words + 1)
-    by_place at place e h = (omega (arith, h.0), omega (arith, h.1))
+    by_place : (at place : ℕ) → at ≡ place → (applet_site 1 words ≡ Err at) ⊎ IsForeign words at → (1 ≤ place) × (place ≤ length words + 1)
+    by_place at place e (inl s) =
+        let is : IsBetween 1 (length words + 2) at = subst (λ r. IsSearched 1 (length words + 2) r) s (site_searched 1 1 (length words + 2) words (omega arith) (omega arith)) in
+        (omega (arith, is.0), omega (arith, is.1))
+    by_place at place e (inr f) = (let is = foreign_between words at f in (omega (arith, is.0), omega (arith, is.1)))
 
-    by_start : (start : Start) → start_of no_flags 1 words ≡ Ok start → judged (length words + 1) start.applet (reading_from start words) ≡ Err place → (1 ≤ place) × (place ≤ length words + 1)
+    by_start : (start : Start) → line_start words ≡ Ok start → verdict (length words + 1) start.applet (reading_behind start words) ≡ Err place → (1 ≤ place) × (place ≤ length words + 1)
     by_start start s e =
         let known : IsPlain start (1 + length words) = start_known words start s in
-        let placed : IsPlaced (start.read + 1) (length words + 1) (reading_from start words) = from_placed start words (omega (arith, known.read)) in
-        elim (judged_at start.applet (reading_from start words) (length words + 1) place e) as (λ _. (1 ≤ place) × (place ≤ length words + 1)) [
-          | inl first ↦ (let is = first_between ((row_of start.applet).operands (reading_from start words).given.flags) (start.read + 1) (length words + 1) place (reading_from start words) placed first in (omega (arith, is.0), omega (arith, is.1)))
+        let placed : IsPlaced (start.read + 1) (length words + 1) (reading_behind start words) = from_placed start words (omega (arith, known.read)) in
+        elim (judged_at start.applet (reading_behind start words) (length words + 1) place e) as (λ _. (1 ≤ place) × (place ≤ length words + 1)) [
+          | inl first ↦ (let is = first_between (operand_rule start.applet (reading_behind start words).state.flags) (start.read + 1) (length words + 1) place (reading_behind start words) placed first in (omega (arith, is.0), omega (arith, is.1)))
           | inr last ↦ (omega (arith, last.1), omega (arith, last.1))
         ]

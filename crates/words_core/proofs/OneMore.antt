@@ -1,15 +1,15 @@
 -- One more word of a line that is read.
-use Rattle.std.proofs.Common.{◌≡◌, ℕ, zero, suc, ◌+◌, Bool, true, false, List, [], ◌∷◌, ◌++◌, drop, Option, Some, None, refl, sym, ◌∙◌, ap, arith, append_assoc, append-nil, option_and_then}
-use Rattle.std.specs.List.{slice_get}
-use Rattle.words_core.specs.declared.flags.Flags.{Flags}
-use Rattle.words_core.specs.declared.given.Given.{Given}
-use Rattle.words_core.specs.declared.operands.Operand.{Operand}
-use Rattle.words_core.specs.declared.reading.Reading.{Reading}
-use Rattle.words_core.specs.declared.rule.OperandRule.{OperandRule}
-use Rattle.words_core.specs.Applets.{Entry, common, entry_of}
-use Rattle.words_core.specs.Grammar.{first_refused, is_end, is_option, is_taken, operand_at, operands_of, or_at, or_unread, reading_by, reading_of, start_at, start_behind_end, start_of, takes, with_entry, with_operand, with_option, with_word}
-use Rattle.words_core.specs.Taken.{IsTaken}
+use Rattle.std.proofs.Common.{Bool, Err, List, None, Ok, Option, Some, [], ap, append-nil, append_assoc, arith, drop, false, length, option_and_then, refl, suc, sym, take, true, zero, ℕ, ◌++◌, ◌+◌, ◌<◌, ◌∙◌, ◌∷◌, ◌≡◌, ◌≤◌}
 use Rattle.std.proofs.lemmas.Bool.{false≢true, true≢false}
+use Rattle.std.specs.List.{slice_get}
+use Rattle.command_core.specs.declared.command.Flags.{Flags}
+use Rattle.command_core.specs.declared.operands.Operand.{Operand}
+use Rattle.command_core.specs.Operands.{operand_at}
+use Rattle.words_core.specs.declared.reading.OptionState.{OptionState}
+use Rattle.words_core.specs.declared.reading.Reading.{Reading}
+use Rattle.words_core.specs.Grammar.{applet_site, early_flags, is_end, is_option, is_option_or_value, operands_of, option_reading, or_at, or_unread, reading_by, site_at, site_behind_end, with_operand, with_option, with_spec, with_word}
+use Rattle.words_core.specs.Options.{OptionSpec, is_early, option_spelled}
+use Rattle.words_core.specs.Steps.{IsStep}
 
 -- what is left of a list where an element stands
 pub left_at : {X : Type 0} (xs : List X) (i : ℕ) (x : X) → slice_get xs i ≡ Some x → drop i xs ≡ x ∷ drop (i + 1) xs
@@ -30,73 +30,92 @@ pushed_front operands pushed rest word place at p e =
 
 pub behind_front : (operands pushed : List Operand) (reading : Reading) (word : List ℕ) (place at : ℕ) → place ≡ at → pushed ≡ operands ++ (operand_at place word ∷ []) → behind operands (with_operand (operand_at at word) reading) ≡ behind pushed reading
 behind_front operands pushed reading word place at p e =
-    ap (λ os. reading_by reading.given os reading.unread) (pushed_front operands pushed reading.operands word place at p e)
+    ap (λ os. reading_by reading.state os reading.unread) (pushed_front operands pushed reading.operands word place at p e)
 
 -- flags with an option that was found
-pub option_found : (entries : List Entry) (flags : Flags) (word : List ℕ) (found : Option Entry) (result more : Option Flags) → found ≡ entry_of entries word → result ≡ option_and_then (with_entry flags) found → result ≡ more → with_option entries flags word ≡ more
-option_found entries flags word found result more f r m = sym (ap (option_and_then (with_entry flags)) f) ∙ (sym r ∙ m)
+pub option_found : (options : List OptionSpec) (flags : Flags) (word : List ℕ) (found : Option OptionSpec) (result more : Option Flags) → found ≡ option_spelled options word → result ≡ option_and_then (with_spec flags) found → result ≡ more → with_option options flags word ≡ more
+option_found options flags word found result more f r m = sym (ap (option_and_then (with_spec flags)) f) ∙ (sym r ∙ m)
 
 -- the search for the applet
-pub start_ended : (flags : Flags) (words : List (List ℕ)) (i : ℕ) (word : List ℕ) → slice_get words i ≡ Some word → is_end word ≡ true → start_of flags (i + 1) (drop i words) ≡ start_behind_end flags (i + 1 + 1) (drop (i + 1) words)
-start_ended flags words i word at e = rw (left_at words i word at) (rw e refl)
+pub site_ended : (words : List (List ℕ)) (i : ℕ) (word : List ℕ) → slice_get words i ≡ Some word → is_end word ≡ true → applet_site (i + 1) (drop i words) ≡ site_behind_end (i + 1 + 1) (drop (i + 1) words)
+site_ended words i word at e = rw (left_at words i word at) (rw e refl)
 
-pub start_named : (flags : Flags) (words : List (List ℕ)) (i : ℕ) (word : List ℕ) → slice_get words i ≡ Some word → is_end word ≡ false → is_option word ≡ false → start_of flags (i + 1) (drop i words) ≡ start_at flags false (i + 1) word
-start_named flags words i word at e o = rw (left_at words i word at) (rw e (rw o refl))
+pub site_named : (words : List (List ℕ)) (i : ℕ) (word : List ℕ) → slice_get words i ≡ Some word → is_end word ≡ false → is_option word ≡ false → applet_site (i + 1) (drop i words) ≡ site_at false (i + 1) word
+site_named words i word at e o = rw (left_at words i word at) (rw e (rw o refl))
 
-pub start_more : (flags : Flags) (words : List (List ℕ)) (i : ℕ) (word : List ℕ) (more : Option Flags) → slice_get words i ≡ Some word → is_end word ≡ false → is_option word ≡ true → with_option common flags word ≡ more → start_of flags (i + 1) (drop i words) ≡ or_at (i + 1) (λ m. start_of m (i + 1 + 1) (drop (i + 1) words)) more
-start_more flags words i word more at e o m = rw (left_at words i word at) (rw e (rw o (rw m refl)))
+pub site_unread : (words : List (List ℕ)) (i : ℕ) (word : List ℕ) → slice_get words i ≡ Some word → is_end word ≡ false → is_option word ≡ true → is_early word ≡ false → applet_site (i + 1) (drop i words) ≡ Err (i + 1)
+site_unread words i word at e o y = rw (left_at words i word at) (rw e (rw o (rw y refl)))
+
+pub site_more : (words : List (List ℕ)) (i : ℕ) (word : List ℕ) → slice_get words i ≡ Some word → is_end word ≡ false → is_option word ≡ true → is_early word ≡ true → applet_site (i + 1) (drop i words) ≡ applet_site (i + 1 + 1) (drop (i + 1) words)
+site_more words i word at e o y = rw (left_at words i word at) (rw e (rw o (rw y refl)))
+
+-- the flags before the applet
+pub taken_at : (words : List (List ℕ)) (count i : ℕ) (word : List ℕ) → i < count → slice_get words i ≡ Some word → slice_get (take count words) i ≡ Some word
+taken_at [] count i word l at = cc
+taken_at (w ∷ words) zero i word l at = absurd (omega (arith, l))
+taken_at (w ∷ words) (suc count) zero word l at = at
+taken_at (w ∷ words) (suc count) (suc i) word l at = taken_at words count i word (omega (arith, l)) at
+
+pub early_ended : (options : List OptionSpec) (flags : Flags) (words : List (List ℕ)) (i : ℕ) (word : List ℕ) → slice_get words i ≡ Some word → is_end word ≡ true → early_flags options flags (i + 1) (drop i words) ≡ Ok flags
+early_ended options flags words i word at e = rw (left_at words i word at) (rw e refl)
+
+pub early_more : (options : List OptionSpec) (flags : Flags) (words : List (List ℕ)) (i : ℕ) (word : List ℕ) (more : Option Flags) → slice_get words i ≡ Some word → is_end word ≡ false → with_option options flags word ≡ more → early_flags options flags (i + 1) (drop i words) ≡ or_at (i + 1) (λ m. early_flags options m (i + 1 + 1) (drop (i + 1) words)) more
+early_more options flags words i word more at e m = rw (left_at words i word at) (rw e (rw m refl))
+
+pub early_done : (options : List OptionSpec) (flags : Flags) (words : List (List ℕ)) (i : ℕ) → length words ≤ i → early_flags options flags (i + 1) (drop i words) ≡ Ok flags
+early_done options flags words i l = rw (drop_all words i l) refl
+  where
+    drop_all : (ws : List (List ℕ)) (k : ℕ) → length ws ≤ k → drop k ws ≡ []
+    drop_all [] zero l = refl
+    drop_all [] (suc k) l = refl
+    drop_all (w ∷ ws) zero l = absurd (omega (arith, l))
+    drop_all (w ∷ ws) (suc k) l = drop_all ws k (omega (arith, l))
 
 -- the reading behind the applet
-pub reading_ended : (entries : List Entry) (given : Given) (words : List (List ℕ)) (i : ℕ) (word : List ℕ) → slice_get words i ≡ Some word → is_taken given word ≡ false → is_end word ≡ true → reading_of entries given (i + 1) (drop i words) ≡ reading_by given (operands_of (i + 1 + 1) (drop (i + 1) words)) None
-reading_ended entries given words i word at t e = rw (left_at words i word at) (rw t (rw e refl))
+pub reading_ended : (options : List OptionSpec) (state : OptionState) (words : List (List ℕ)) (i : ℕ) (word : List ℕ) → slice_get words i ≡ Some word → is_option_or_value state word ≡ false → is_end word ≡ true → option_reading options state (i + 1) (drop i words) ≡ reading_by state (operands_of (i + 1 + 1) (drop (i + 1) words)) None
+reading_ended options state words i word at t e = rw (left_at words i word at) (rw t (rw e refl))
 
-pub reading_operand : (entries : List Entry) (given : Given) (words : List (List ℕ)) (i : ℕ) (word : List ℕ) → slice_get words i ≡ Some word → is_taken given word ≡ false → is_end word ≡ false → reading_of entries given (i + 1) (drop i words) ≡ with_operand (operand_at (i + 1) word) (reading_of entries given (i + 1 + 1) (drop (i + 1) words))
-reading_operand entries given words i word at t e = rw (left_at words i word at) (rw t (rw e refl))
+pub reading_operand : (options : List OptionSpec) (state : OptionState) (words : List (List ℕ)) (i : ℕ) (word : List ℕ) → slice_get words i ≡ Some word → is_option_or_value state word ≡ false → is_end word ≡ false → option_reading options state (i + 1) (drop i words) ≡ with_operand (operand_at (i + 1) word) (option_reading options state (i + 1 + 1) (drop (i + 1) words))
+reading_operand options state words i word at t e = rw (left_at words i word at) (rw t (rw e refl))
 
-pub reading_more : (entries : List Entry) (given : Given) (words : List (List ℕ)) (i : ℕ) (word : List ℕ) (more : Option Given) → slice_get words i ≡ Some word → is_taken given word ≡ true → with_word entries given (i + 1) word ≡ more → reading_of entries given (i + 1) (drop i words) ≡ or_unread given (i + 1) (λ m. reading_of entries m (i + 1 + 1) (drop (i + 1) words)) more
-reading_more entries given words i word more at t m = rw (left_at words i word at) (rw t (rw m refl))
+pub reading_more : (options : List OptionSpec) (state : OptionState) (words : List (List ℕ)) (i : ℕ) (word : List ℕ) (more : Option OptionState) → slice_get words i ≡ Some word → is_option_or_value state word ≡ true → with_word options state (i + 1) word ≡ more → option_reading options state (i + 1) (drop i words) ≡ or_unread state (i + 1) (λ m. option_reading options m (i + 1 + 1) (drop (i + 1) words)) more
+reading_more options state words i word more at t m = rw (left_at words i word at) (rw t (rw m refl))
 
 -- one more operand
 pub operands_more : (words : List (List ℕ)) (i : ℕ) (word : List ℕ) → slice_get words i ≡ Some word → operands_of (i + 1) (drop i words) ≡ operand_at (i + 1) word ∷ operands_of (i + 1 + 1) (drop (i + 1) words)
 operands_more words i word at = rw (left_at words i word at) refl
 
-pub refused_more : (rule : OperandRule) (operands : List Operand) (i : ℕ) (operand : Operand) → slice_get operands i ≡ Some operand → takes rule i operand.text ≡ true → first_refused rule i (drop i operands) ≡ first_refused rule (i + 1) (drop (i + 1) operands)
-refused_more rule operands i operand at t = rw (left_at operands i operand at) (rw t refl)
-
-pub refused_here : (rule : OperandRule) (operands : List Operand) (i : ℕ) (operand : Operand) → slice_get operands i ≡ Some operand → takes rule i operand.text ≡ false → first_refused rule i (drop i operands) ≡ Some operand.place
-refused_here rule operands i operand at t = rw (left_at operands i operand at) (rw t refl)
-
 pub operands_push : (all operands pushed : List Operand) (words : List (List ℕ)) (i : ℕ) (word : List ℕ) (place : ℕ) → slice_get words i ≡ Some word → place ≡ i + 1 → pushed ≡ operands ++ (operand_at place word ∷ []) → all ≡ operands ++ operands_of (i + 1) (drop i words) → all ≡ pushed ++ operands_of (i + 1 + 1) (drop (i + 1) words)
 operands_push all operands pushed words i word place at p e kept =
     kept ∙ (ap (λ os. operands ++ os) (operands_more words i word at) ∙ pushed_front operands pushed _ word place (i + 1) p e)
 
-pub reading_push : (all : Reading) (entries : List Entry) (given : Given) (operands pushed : List Operand) (words : List (List ℕ)) (i : ℕ) (word : List ℕ) (place : ℕ) → slice_get words i ≡ Some word → is_taken given word ≡ false → is_end word ≡ false → place ≡ i + 1 → pushed ≡ operands ++ (operand_at place word ∷ []) → all ≡ behind operands (reading_of entries given (i + 1) (drop i words)) → all ≡ behind pushed (reading_of entries given (i + 1 + 1) (drop (i + 1) words))
-reading_push all entries given operands pushed words i word place at t e p d kept =
-    kept ∙ (ap (behind operands) (reading_operand entries given words i word at t e)
-    ∙ behind_front operands pushed (reading_of entries given (i + 1 + 1) (drop (i + 1) words)) word place (i + 1) p d)
+pub reading_push : (all : Reading) (options : List OptionSpec) (state : OptionState) (operands pushed : List Operand) (words : List (List ℕ)) (i : ℕ) (word : List ℕ) (place : ℕ) → slice_get words i ≡ Some word → is_option_or_value state word ≡ false → is_end word ≡ false → place ≡ i + 1 → pushed ≡ operands ++ (operand_at place word ∷ []) → all ≡ behind operands (option_reading options state (i + 1) (drop i words)) → all ≡ behind pushed (option_reading options state (i + 1 + 1) (drop (i + 1) words))
+reading_push all options state operands pushed words i word place at t e p d kept =
+    kept ∙ (ap (behind operands) (reading_operand options state words i word at t e)
+    ∙ behind_front operands pushed (option_reading options state (i + 1 + 1) (drop (i + 1) words)) word place (i + 1) p d)
 
 -- the reading ends, as all that is left are operands
-pub reading_rest : (all : Reading) (entries : List Entry) (given : Given) (operands : List Operand) (words : List (List ℕ)) (i : ℕ) (word : List ℕ) → slice_get words i ≡ Some word → is_taken given word ≡ false → is_end word ≡ true → all ≡ behind operands (reading_of entries given (i + 1) (drop i words)) → reading_by given (operands ++ operands_of (i + 1 + 1) (drop (i + 1) words)) None ≡ all
-reading_rest all entries given operands words i word at t e kept =
-    sym (kept ∙ ap (behind operands) (reading_ended entries given words i word at t e))
+pub reading_rest : (all : Reading) (options : List OptionSpec) (state : OptionState) (operands : List Operand) (words : List (List ℕ)) (i : ℕ) (word : List ℕ) → slice_get words i ≡ Some word → is_option_or_value state word ≡ false → is_end word ≡ true → all ≡ behind operands (option_reading options state (i + 1) (drop i words)) → reading_by state (operands ++ operands_of (i + 1 + 1) (drop (i + 1) words)) None ≡ all
+reading_rest all options state operands words i word at t e kept =
+    sym (kept ∙ ap (behind operands) (reading_ended options state words i word at t e))
 
 -- the reading goes on, as the word was taken
-pub reading_taken : (all : Reading) (entries : List Entry) (given more : Given) (operands : List Operand) (words : List (List ℕ)) (i : ℕ) (word : List ℕ) (place : ℕ) → slice_get words i ≡ Some word → is_taken given word ≡ true → place ≡ i + 1 → with_word entries given place word ≡ Some more → all ≡ behind operands (reading_of entries given (i + 1) (drop i words)) → all ≡ behind operands (reading_of entries more (i + 1 + 1) (drop (i + 1) words))
-reading_taken all entries given more operands words i word place at t p m kept =
-    kept ∙ ap (behind operands) (reading_more entries given words i word (Some more) at t (ap (λ n. with_word entries given n word) (sym p) ∙ m))
+pub reading_taken : (all : Reading) (options : List OptionSpec) (state more : OptionState) (operands : List Operand) (words : List (List ℕ)) (i : ℕ) (word : List ℕ) (place : ℕ) → slice_get words i ≡ Some word → is_option_or_value state word ≡ true → place ≡ i + 1 → with_word options state place word ≡ Some more → all ≡ behind operands (option_reading options state (i + 1) (drop i words)) → all ≡ behind operands (option_reading options more (i + 1 + 1) (drop (i + 1) words))
+reading_taken all options state more operands words i word place at t p m kept =
+    kept ∙ ap (behind operands) (reading_more options state words i word (Some more) at t (ap (λ n. with_word options state n word) (sym p) ∙ m))
 
 -- the reading ends, as the word cannot be read
-pub reading_unread : (all : Reading) (entries : List Entry) (given : Given) (operands : List Operand) (words : List (List ℕ)) (i : ℕ) (word : List ℕ) (place at : ℕ) → slice_get words i ≡ Some word → is_taken given word ≡ true → place ≡ i + 1 → at ≡ i + 1 → with_word entries given at word ≡ None → all ≡ behind operands (reading_of entries given (i + 1) (drop i words)) → reading_by given operands (Some place) ≡ all
-reading_unread all entries given operands words i word place at stands t p q m kept =
-    ap (λ n. reading_by given operands (Some n)) p
-    ∙ (ap (λ os. reading_by given os (Some (i + 1))) (sym (append-nil operands))
-    ∙ sym (kept ∙ ap (behind operands) (reading_more entries given words i word None stands t (ap (λ n. with_word entries given n word) (sym q) ∙ m))))
+pub reading_unread : (all : Reading) (options : List OptionSpec) (state : OptionState) (operands : List Operand) (words : List (List ℕ)) (i : ℕ) (word : List ℕ) (place at : ℕ) → slice_get words i ≡ Some word → is_option_or_value state word ≡ true → place ≡ i + 1 → at ≡ i + 1 → with_word options state at word ≡ None → all ≡ behind operands (option_reading options state (i + 1) (drop i words)) → reading_by state operands (Some place) ≡ all
+reading_unread all options state operands words i word place at stands t p q m kept =
+    ap (λ n. reading_by state operands (Some n)) p
+    ∙ (ap (λ os. reading_by state os (Some (i + 1))) (sym (append-nil operands))
+    ∙ sym (kept ∙ ap (behind operands) (reading_more options state words i word None stands t (ap (λ n. with_word options state n word) (sym q) ∙ m))))
 
 -- what a call says that took a word, or refused it
-pub taken_is : (taken : Bool) (old new : Given) (more : Option Given) → taken ≡ true → IsTaken taken old new more → more ≡ Some new
+pub taken_is : (taken : Bool) (old new : OptionState) (more : Option OptionState) → taken ≡ true → IsStep taken old new more → more ≡ Some new
 taken_is true old new more e t = t
 taken_is false old new more e t = absurd (false≢true e)
 
-pub refused_is : (taken : Bool) (old new : Given) (more : Option Given) → taken ≡ false → IsTaken taken old new more → (more ≡ None) × (new ≡ old)
+pub refused_is : (taken : Bool) (old new : OptionState) (more : Option OptionState) → taken ≡ false → IsStep taken old new more → (more ≡ None) × (new ≡ old)
 refused_is true old new more e t = absurd (true≢false e)
 refused_is false old new more e t = t

@@ -1,50 +1,58 @@
 -- Stuck words are no command, whatever follows.
-use Rattle.std.proofs.Common.{◌≡◌, ℕ, ◌+◌, Bool, true, false, not, List, [], ◌∷◌, ◌++◌, drop, Option, Some, None, Ok, Err, refl, sym, ◌∙◌, ap, subst, arith, length, ◌≤◌, if◌then◌else◌, inl, inr}
-use Rattle.std.specs.Prelude.{◌&&◌, ◌||◌, is_some}
-use Rattle.std.specs.List.{list_all, list_any}
+use Rattle.std.proofs.Common.{Bool, Err, IfOk, List, None, Ok, Option, Result, Some, [], ap, arith, cond, drop, false, inl, inr, is_ok, length, not, refl, subst, suc, sym, take, true, zero, ℕ, ◌++◌, ◌+◌, ◌-◌, ◌∙◌, ◌∷◌, ◌≡◌, ◌≤◌, if◌then◌else◌}
+use Rattle.std.specs.List.{find, list_all, list_any}
 use Rattle.std.specs.Option.{option_map, option_or}
+use Rattle.std.specs.Prelude.{is_some, ◌&&◌, ◌||◌}
 use Rattle.std.specs.Str.{bytes_eq}
-use Rattle.std.proofs.lemmas.Bool.{and_parts, and_right, false≢true, not_from_true, or_cases, or_right, true≢false}
+use Rattle.std.proofs.lemmas.Bool.{and_parts, and_right, cases_lt, false≢true, not_from_true, or_cases, or_parts, or_right, true≢false}
+use Rattle.std.proofs.lemmas.Option.{none-some, same_Some}
+use Rattle.std.proofs.lemmas.Result.{IfOk-weaker}
 use Rattle.std.proofs.lemmas.Slice.Eq.{bytes_eq-Decides}
-use Rattle.words_core.specs.declared.applet.Applet.{Applet}
-use Rattle.words_core.specs.declared.given.Given.{Given}
+use Rattle.command_core.specs.declared.command.Applet.{Applet}
+use Rattle.command_core.specs.declared.command.Flags.{Flags}
+use Rattle.command_core.specs.declared.values.OptionValue.{OptionValue}
+use Rattle.command_core.specs.declared.values.ValueKind.{ValueKind}
+use Rattle.command_core.specs.declared.values.ValueKind.TheVariants.{Script}
+use Rattle.command_core.specs.declared.values.ValueRule.{ValueRule}
+use Rattle.command_core.specs.Applets.{needed_option, operand_rule}
+use Rattle.command_core.specs.Command.{CommandLine}
+use Rattle.command_core.specs.Files.{is_file}
+use Rattle.command_core.specs.Flags.{no_flags}
+use Rattle.command_core.specs.Values.{is_excluded, is_value, lacks_value, option_value, script_file, script_type, script_types}
+use Rattle.words_core.specs.declared.reading.AppletSite.{AppletSite}
+use Rattle.words_core.specs.declared.reading.OptionState.{OptionState}
 use Rattle.words_core.specs.declared.reading.Reading.{Reading}
-use Rattle.words_core.specs.declared.start.Start.{Start}
-use Rattle.words_core.specs.declared.value_rule.ValueKind.{ValueKind}
-use Rattle.words_core.specs.declared.value_rule.ValueKind.TheVariants.{Any, File, Nonempty, Output, Script, Uncompressed}
-use Rattle.words_core.specs.declared.value_rule.ValueRule.{ValueRule}
-use Rattle.words_core.specs.declared.values.OptionValue.{OptionValue}
-use Rattle.words_core.specs.Applets.{Entry, row_of}
-use Rattle.words_core.specs.Command.{CommandLine}
-use Rattle.words_core.specs.Flags.{no_flags}
-use Rattle.words_core.specs.Grammar.{command_by, command_of, given_by, is_excluded, judged, lacks, lacks_operand, lacks_value, options_of, reading_from, reading_of, refused_operand, start_of, unless_at, value_at, with_start, with_word_by}
-use Rattle.words_core.specs.Stuck.{are_stuck, are_stuck_by, awaits_none, has_script, have_ended, is_full, is_stuck, lacks_option}
-use Rattle.words_core.specs.Values.{is_file, is_value, script_file, script_type, script_types}
-use Rattle.words_core.proofs.GoneOn.{IsGoing, from_going}
+use Rattle.words_core.specs.declared.reading.Start.{Start}
+use Rattle.words_core.specs.Grammar.{applet_site, command_from, command_of, command_read, early_flags, is_end, is_option, lacks_operand, lacks_word, line_start, option_reading, or_at, reading_behind, refused_operand, site_at, site_behind_end, site_by, start_from, start_with, state_by, unless_at, verdict, with_word_by}
+use Rattle.words_core.specs.Options.{OptionSpec, applet_of, applet_word, applets, is_early, options_of}
+use Rattle.words_core.specs.Stuck.{are_stuck, are_stuck_by, awaits_none, has_script, have_ended, is_full, is_stuck, is_stuck_by, lacks_option, suit}
+use Rattle.words_core.proofs.GoneOn.{IsGoing, from_going, is_not}
 use Rattle.words_core.proofs.KindsKept.{IsPlain, start_known}
 use Rattle.words_core.proofs.LinesRead.{awaited_taken, step_taken}
-use Rattle.words_core.proofs.MoreWords.{IsKnown, from_longer, start_stays}
+use Rattle.words_core.proofs.MoreWords.{from_longer}
+use Rattle.words_core.proofs.OffendingWords.{IsBetween, IsSearched, site_searched}
 use Rattle.words_core.proofs.OneMore.{behind}
+use Rattle.words_core.proofs.Sites.{err_here, IsKnown, flags_offend, seek_early, seek_end, seek_here, seek_late, site_stays, start_stays}
 use Rattle.words_core.proofs.WordsCompleted.{rule_by}
 
 abbrev pub IsBad : Applet → Reading → Type 0
-IsBad applet reading = (end : ℕ) → (place : ℕ) × (judged end applet reading ≡ Err place)
+IsBad applet reading = (end : ℕ) → (place : ℕ) × (verdict end applet reading ≡ Err place)
 
 -- what cannot be read is no command
 pub unread_bad : (applet : Applet) (reading : Reading) (at : ℕ) → reading.unread ≡ Some at → IsBad applet reading
-unfolding judged
+unfolding verdict
 unread_bad applet reading at u end =
-    let rest = if lacks applet ((row_of applet).operands reading.given.flags) reading then Err end else Ok (command_by end applet reading) in
-    elim (refused_operand ((row_of applet).operands reading.given.flags) reading.operands) as (λ o. (place : ℕ) × (unless_at (option_or o reading.unread) rest ≡ Err place)) [
+    let rest = if lacks_word applet (operand_rule applet reading.state.flags) reading then Err end else Ok (command_read end applet reading) in
+    elim (refused_operand (operand_rule applet reading.state.flags) reading.operands) as (λ o. (place : ℕ) × (unless_at (option_or o reading.unread) rest ≡ Err place)) [
       | None ↦ (at, ap (λ x. unless_at x rest) u)
       | Some place ↦ (place, refl)
     ]
 
 -- nor is what lacks an option
-pub lacks_word : (applet : Applet) (reading : Reading) → lacks_option applet reading.given ≡ true → lacks applet ((row_of applet).operands reading.given.flags) reading ≡ true
-lacks_word applet reading h =
-    let needed = lacks_value (row_of applet).needed reading.given.values in
-    elim ((row_of applet).operands reading.given.flags) as (λ r. (not (is_some r) || needed) ≡ true → (lacks_operand r reading.operands || needed) ≡ true) [
+pub lacks_by_option : (applet : Applet) (reading : Reading) → lacks_option applet reading.state ≡ true → lacks_word applet (operand_rule applet reading.state.flags) reading ≡ true
+lacks_by_option applet reading h =
+    let needed = lacks_value (needed_option applet) reading.state.values in
+    elim (operand_rule applet reading.state.flags) as (λ r. (not (is_some r) || needed) ≡ true → (lacks_operand r reading.operands || needed) ≡ true) [
       | None ↦ λ h. refl
       | Some rule ↦ λ h. or_right (lacks_operand (Some rule) reading.operands) needed h
     ] h
@@ -53,10 +61,10 @@ pub bad_by : (o : Option ℕ) (lacking : Bool) (end : ℕ) (command : CommandLin
 bad_by None lacking end command e = (end, ap (λ b. if b then Err end else Ok command) e)
 bad_by (Some at) lacking end command e = (at, refl)
 
-pub lacking_bad : (applet : Applet) (reading : Reading) → lacks_option applet reading.given ≡ true → IsBad applet reading
-unfolding judged
+pub lacking_bad : (applet : Applet) (reading : Reading) → lacks_option applet reading.state ≡ true → IsBad applet reading
+unfolding verdict
 lacking_bad applet reading h end =
-    bad_by (option_or (refused_operand ((row_of applet).operands reading.given.flags) reading.operands) reading.unread) (lacks applet ((row_of applet).operands reading.given.flags) reading) end (command_by end applet reading) (lacks_word applet reading h)
+    bad_by (option_or (refused_operand (operand_rule applet reading.state.flags) reading.operands) reading.unread) (lacks_word applet (operand_rule applet reading.state.flags) reading) end (command_read end applet reading) (lacks_by_option applet reading h)
 
 -- a value of an option that can have no value more
 pub both_at : (p q : List ℕ → Bool) (xs : List (List ℕ)) → list_all p xs ≡ true → list_any q xs ≡ true → (x : List ℕ) × (p x ≡ true) × (q x ≡ true)
@@ -69,11 +77,6 @@ both_at p q (x ∷ xs) a h =
     ]
 
 pub no_fit : (letter : ℕ) (single : Bool) (kind : ValueKind) (values : List OptionValue) (text : List ℕ) → is_full kind letter values ≡ true → (is_value kind text && not (is_excluded (rule_by letter single kind) text values)) ≡ false
-no_fit letter single Any values text h = absurd (false≢true h)
-no_fit letter single Nonempty values text h = absurd (false≢true h)
-no_fit letter single File values text h = absurd (false≢true h)
-no_fit letter single Output values text h = absurd (false≢true h)
-no_fit letter single Uncompressed values text h = absurd (false≢true h)
 no_fit letter single Script values text h =
     let excluded = is_excluded (rule_by letter single Script) text values in
     elim (list_any (λ t. bytes_eq t (script_type text)) script_types) as (λ b. list_any (λ t. bytes_eq t (script_type text)) script_types ≡ b → ((b && is_file (script_file text)) && not excluded) ≡ false) [
@@ -84,26 +87,27 @@ no_fit letter single Script values text h =
           let is : is_excluded (rule_by letter single Script) text values ≡ true = ap (has_script letter values) (sym same) ∙ one.1 in
           and_right (is_file (script_file text)) _ (not_from_true excluded is)
     ] refl
+no_fit letter single kind values text h = absurd (false≢true h)
 
-pub awaited_unread : (entries : List Entry) (given : Given) (end : ℕ) (rule : ValueRule) (more : List (List ℕ)) → given.awaiting ≡ Some rule → is_full rule.kind rule.letter given.values ≡ true → (reading_of entries given end more).unread ≡ Some end
-awaited_unread entries given end rule [] a f = ap (option_map (λ (r : ValueRule). end)) a
-awaited_unread entries given end rule (word ∷ words) a f =
-    let next : Given = given_by given.flags (given.values ++ (value_at end rule.letter word ∷ [])) None in
-    ap (λ (r : Reading). r.unread) (step_taken entries given end word words None (awaited_taken given word rule a)
-    (ap (with_word_by entries given end word) a ∙ ap (λ b. if b then Some next else None) (no_fit rule.letter rule.single rule.kind given.values word f)))
+pub awaited_unread : (options : List OptionSpec) (state : OptionState) (end : ℕ) (rule : ValueRule) (more : List (List ℕ)) → state.awaiting ≡ Some rule → is_full rule.kind rule.letter state.values ≡ true → (option_reading options state end more).unread ≡ Some end
+awaited_unread options state end rule [] a f = ap (option_map (λ (r : ValueRule). end)) a
+awaited_unread options state end rule (word ∷ words) a f =
+    let next : OptionState = state_by state.flags (state.values ++ (option_value end rule.letter word ∷ [])) None in
+    ap (λ (r : Reading). r.unread) (step_taken options state end word words None (awaited_taken state word rule a)
+    (ap (with_word_by options state end word) a ∙ ap (λ b. if b then Some next else None) (no_fit rule.letter rule.single rule.kind state.values word f)))
 
 -- stuck words are no command, whatever follows, where their applet was found
-pub stuck_bad : (words more : List (List ℕ)) (start : Start) → start_of no_flags 1 words ≡ Ok start → is_stuck words start ≡ true → IsBad start.applet (reading_from start (words ++ more))
+pub stuck_bad : (words more : List (List ℕ)) (start : Start) → line_start words ≡ Ok start → is_stuck words start ≡ true → IsBad start.applet (reading_behind start (words ++ more))
 stuck_bad words more start s k = by_going (from_going start words low)
   where
     end : ℕ
     end = length words + 1
 
-    entries : List Entry
-    entries = options_of start.applet
+    options : List OptionSpec
+    options = options_of start.applet
 
     reading : Reading
-    reading = reading_from start words
+    reading = reading_behind start words
 
     ended : Bool
     ended = start.ended || have_ended (options_of start.applet) None (drop start.read words)
@@ -114,29 +118,135 @@ stuck_bad words more start s k = by_going (from_going start words low)
     low : start.read ≤ length words
     low = omega (arith, known.read)
 
-    bad_on : (awaiting : Option ValueRule) → reading.given.awaiting ≡ awaiting → awaits_none awaiting reading.given.values ≡ true → reading_from start (words ++ more) ≡ behind reading.operands (reading_of entries reading.given end more) → IsBad start.applet (reading_from start (words ++ more))
+    bad_on : (awaiting : Option ValueRule) → reading.state.awaiting ≡ awaiting → awaits_none awaiting reading.state.values ≡ true → reading_behind start (words ++ more) ≡ behind reading.operands (option_reading options reading.state end more) → IsBad start.applet (reading_behind start (words ++ more))
     bad_on None a w on = absurd (false≢true w)
-    bad_on (Some rule) a w on = unread_bad start.applet (reading_from start (words ++ more)) end (ap (λ (r : Reading). r.unread) on ∙ awaited_unread entries reading.given end rule more a w)
+    bad_on (Some rule) a w on = unread_bad start.applet (reading_behind start (words ++ more)) end (ap (λ (r : Reading). r.unread) on ∙ awaited_unread options reading.state end rule more a w)
 
-    by_going : IsGoing entries end ended reading (λ m. reading_from start (words ++ m)) → IsBad start.applet (reading_from start (words ++ more))
-    by_going (inl stopped) = unread_bad start.applet (reading_from start (words ++ more)) stopped.0 (ap (λ (r : Reading). r.unread) ((from_longer start words more low).stopped stopped.0 stopped.1 stopped.2) ∙ stopped.1)
+    by_going : IsGoing options end ended reading (λ m. reading_behind start (words ++ m)) → IsBad start.applet (reading_behind start (words ++ more))
+    by_going (inl stopped) = unread_bad start.applet (reading_behind start (words ++ more)) stopped.0 (ap (λ (r : Reading). r.unread) ((from_longer start words more known.settled low).stopped stopped.0 stopped.1 stopped.2) ∙ stopped.1)
     by_going (inr (inl on)) =
-        elim (or_cases (ended && lacks_option start.applet reading.given) (awaits_none reading.given.awaiting reading.given.values) k) as (λ _. IsBad start.applet (reading_from start (words ++ more))) [
-          | inl both ↦ absurd (true≢false (sym (and_parts ended (lacks_option start.applet reading.given) both).0 ∙ on.over))
-          | inr none ↦ bad_on reading.given.awaiting refl none (on.goes_on more)
+        elim (or_cases (ended && lacks_option start.applet reading.state) (awaits_none reading.state.awaiting reading.state.values) k) as (λ _. IsBad start.applet (reading_behind start (words ++ more))) [
+          | inl both ↦ absurd (true≢false (sym (and_parts ended (lacks_option start.applet reading.state) both).0 ∙ on.over))
+          | inr none ↦ bad_on reading.state.awaiting refl none (on.goes_on more)
         ]
     by_going (inr (inr off)) =
-        elim (or_cases (ended && lacks_option start.applet reading.given) (awaits_none reading.given.awaiting reading.given.values) k) as (λ _. IsBad start.applet (reading_from start (words ++ more))) [
-          | inl both ↦ lacking_bad start.applet (reading_from start (words ++ more)) (ap (λ (r : Reading). lacks_option start.applet r.given) (off.goes_on more) ∙ (and_parts ended (lacks_option start.applet reading.given) both).1)
-          | inr none ↦ absurd (false≢true (sym (ap (λ o. awaits_none o reading.given.values) off.awaiting) ∙ none))
+        elim (or_cases (ended && lacks_option start.applet reading.state) (awaits_none reading.state.awaiting reading.state.values) k) as (λ _. IsBad start.applet (reading_behind start (words ++ more))) [
+          | inl both ↦ lacking_bad start.applet (reading_behind start (words ++ more)) (ap (λ (r : Reading). lacks_option start.applet r.state) (off.goes_on more) ∙ (and_parts ended (lacks_option start.applet reading.state) both).1)
+          | inr none ↦ absurd (false≢true (sym (ap (λ o. awaits_none o reading.state.values) off.awaiting) ∙ none))
         ]
+
+-- options before the applet that no applet has are in no command
+not_any : {A : Type 0} (p : A → Bool) (xs : List A) (q : A → Bool) (x : A) → not (list_any p xs) ≡ true → find q xs ≡ Some x → p x ≡ false
+not_any p [] q x n f = absurd (none-some x f)
+not_any p (y ∷ ys) q x n f =
+    let parts = or_parts (p y) (list_any p ys) (is_not (p y || list_any p ys) n) in
+    elim (q y) as (λ b. cond b (Some y) (find q ys) ≡ Some x → p x ≡ false) [
+      | true ↦ λ (same : Some y ≡ Some x). subst (λ z. p z ≡ false) (same_Some y x same) parts.0
+      | false ↦ λ (later : find q ys ≡ Some x). not_any p ys q x (ap not parts.1) later
+    ] f
+
+-- the applet that is found behind words in which none was
+pub record IsLater (words more : List (List ℕ)) (place : ℕ) (site : AppletSite) : Type 0 where
+  pub word : List ℕ
+  pub names : applet_of word ≡ Some site.applet
+  pub late : place + length words ≤ site.read
+
+named_later : (ended : Bool) (place at : ℕ) (words more : List (List ℕ)) (word : List ℕ) → at + length words ≤ place → IfOk (site_at ended place word) (λ s. IsLater words more at s)
+unfolding site_at
+named_later ended place at words more word l =
+    elim (applet_of word) as (λ o. applet_of word ≡ o → IfOk (or_at place (λ applet. Ok (site_by ended place applet)) o) (λ s. IsLater words more at s)) [
+      | None ↦ λ e. tt
+      | Some applet ↦ λ e. record { word = word; names = e; late = l }
+    ] refl
+
+end_later : (place at : ℕ) (words more : List (List ℕ)) (left : List (List ℕ)) → at + length words ≤ place → IfOk (site_behind_end place left) (λ s. IsLater words more at s)
+unfolding site_behind_end
+end_later place at words more [] l = tt
+end_later place at words more (word ∷ left) l = named_later true place at words more word l
+
+any_later : (place at : ℕ) (words more : List (List ℕ)) (left : List (List ℕ)) → at + length words ≤ place → IfOk (applet_site place left) (λ s. IsLater words more at s)
+any_later place at words more [] l = tt
+any_later place at words more (word ∷ left) l =
+    let next : at + length words ≤ place + 1 = omega arith in
+    elim (is_end word) as (λ b. IfOk (if b then site_behind_end (place + 1) left else if is_option word then (if is_early word then applet_site (place + 1) left else Err place) else site_at false place word) (λ s. IsLater words more at s)) [
+      | true ↦ end_later (place + 1) at words more left next
+      | false ↦ elim (is_option word) as (λ b. IfOk (if b then (if is_early word then applet_site (place + 1) left else Err place) else site_at false place word) (λ s. IsLater words more at s)) [
+        | true ↦ elim (is_early word) as (λ b. IfOk (if b then applet_site (place + 1) left else Err place) (λ s. IsLater words more at s)) [
+          | true ↦ any_later (place + 1) at words more left next
+          | false ↦ tt
+        ]
+        | false ↦ named_later false place at words more word l
+      ]
+    ]
+
+end_site_later : (place : ℕ) (word : List ℕ) (words more : List (List ℕ)) → site_behind_end (place + 1) words ≡ Err (place + length (word ∷ words)) → IfOk (site_behind_end (place + 1) (words ++ more)) (λ s. IsLater (word ∷ words) more place s)
+unfolding site_behind_end
+end_site_later place word [] more h = end_later (place + 1) place (word ∷ []) more more (omega arith)
+end_site_later place word (next ∷ words) more h =
+    absurd (let same : place + length (word ∷ (next ∷ words)) ≡ place + 1 = err_here (place + 1) (place + length (word ∷ (next ∷ words))) true next h in omega arith)
+
+site_later : (place : ℕ) (words more : List (List ℕ)) → applet_site place words ≡ Err (place + length words) → IfOk (applet_site place (words ++ more)) (λ s. IsLater words more place s)
+site_later place [] more h = any_later place place [] more more (omega arith)
+site_later place (word ∷ words) more h =
+    let next : place + length (word ∷ words) ≡ place + 1 + length words = omega arith in
+    elim (is_end word) as (λ b. is_end word ≡ b → IfOk (applet_site place (word ∷ (words ++ more))) (λ s. IsLater (word ∷ words) more place s)) [
+      | true ↦ λ e. subst (λ r. IfOk r (λ s. IsLater (word ∷ words) more place s)) (sym (seek_end place word (words ++ more) e))
+          (end_site_later place word words more (sym (seek_end place word words e) ∙ h))
+      | false ↦ λ e. elim (is_option word) as (λ b. is_option word ≡ b → IfOk (applet_site place (word ∷ (words ++ more))) (λ s. IsLater (word ∷ words) more place s)) [
+        | true ↦ λ o. elim (is_early word) as (λ b. is_early word ≡ b → IfOk (applet_site place (word ∷ (words ++ more))) (λ s. IsLater (word ∷ words) more place s)) [
+          | true ↦ λ y. subst (λ r. IfOk r (λ s. IsLater (word ∷ words) more place s)) (sym (seek_early place word (words ++ more) e o y))
+              (IfOk-weaker (applet_site (place + 1) (words ++ more)) (λ s. IsLater words more (place + 1) s) (λ s. IsLater (word ∷ words) more place s)
+              (λ s later. record { word = later.word; names = later.names; late = omega (arith, later.late) })
+              (site_later (place + 1) words more (sym (seek_early place word words e o y) ∙ (h ∙ ap Err next))))
+          | false ↦ λ y. absurd (let same : Err place ≡ Err (place + length (word ∷ words)) = sym (seek_late place word words e o y) ∙ h in let is : place ≡ place + length (word ∷ words) = cc in omega arith)
+        ] refl
+        | false ↦ λ o. absurd (let same : place + length (word ∷ words) ≡ place = err_here place (place + length (word ∷ words)) false word (sym (seek_here place word words e o) ∙ h) in omega arith)
+      ] refl
+    ] refl
+
+take_more : (count : ℕ) (words more : List (List ℕ)) → length words ≤ count → take count (words ++ more) ≡ words ++ take (count - length words) more
+take_more count [] more l = (let same : count ≡ count - 0 = omega arith in ap (λ k. take k more) same)
+take_more zero (word ∷ words) more l = absurd (omega (arith, l))
+take_more (suc count) (word ∷ words) more l =
+    ap (λ ws. word ∷ ws) (take_more count words more (omega (arith, l)) ∙ ap (λ k. words ++ take k more) (let same : count - length words ≡ suc count - length (word ∷ words) = omega arith in same))
+
+no_applet_stays : (words more : List (List ℕ)) (at : ℕ) → applet_site 1 words ≡ Err at → not (list_any (suit words) applets) ≡ true → (place : ℕ) × (command_of (words ++ more) ≡ Err place)
+unfolding command_of
+no_applet_stays words more at s k =
+    elim (cases_lt at (1 + length words)) as (λ _. (place : ℕ) × (command_from (words ++ more) (line_start (words ++ more)) ≡ Err place)) [
+      | inl less ↦ (at, ap (λ r. command_from (words ++ more) (start_from (words ++ more) r)) (site_stays 1 words more (subst (λ r. IsKnown (1 + length words) r) (sym s) less) ∙ s))
+      | inr last ↦
+          (let is : IsBetween 1 (length words + 2) at = subst (λ r. IsSearched 1 (length words + 2) r) s (site_searched 1 1 (length words + 2) words (omega arith) (omega arith)) in
+          let end : at ≡ 1 + length words = omega (arith, is.1) in
+          by_site (applet_site 1 (words ++ more)) refl (site_later 1 words more (s ∙ ap Err end)))
+    ]
+  where
+    by_flags : (site : AppletSite) → applet_site 1 (words ++ more) ≡ Ok site → (f : Result Flags ℕ) → early_flags (options_of site.applet) no_flags 1 words ≡ f → is_ok f ≡ false → length words ≤ site.read - 1 → (place : ℕ) × (command_from (words ++ more) (line_start (words ++ more)) ≡ Err place)
+    by_flags site found (Ok flags) f n l = absurd (true≢false n)
+    by_flags site found (Err place) f n l = (
+      place,
+      ap (λ r. command_from (words ++ more) (start_from (words ++ more) r)) found
+          ∙ (ap (λ ws. command_from (words ++ more) (start_with site (early_flags (options_of site.applet) no_flags 1 ws))) (take_more (site.read - 1) words more l)
+          ∙ ap (λ r. command_from (words ++ more) (start_with site r)) (flags_offend (options_of site.applet) no_flags 1 place words (take (site.read - 1 - length words) more) f)),
+    )
+
+    by_site : (r : Result AppletSite ℕ) → applet_site 1 (words ++ more) ≡ r → IfOk r (λ x. IsLater words more 1 x) → (place : ℕ) × (command_from (words ++ more) (line_start (words ++ more)) ≡ Err place)
+    by_site (Err place) found later = (place, ap (λ r. command_from (words ++ more) (start_from (words ++ more) r)) found)
+    by_site (Ok site) found later =
+        by_flags site found (early_flags (options_of site.applet) no_flags 1 words) refl
+        (not_any (suit words) applets (λ applet. bytes_eq (applet_word applet) later.word) site.applet k later.names)
+        (omega (arith, later.late))
 
 pub stuck_stay : (words more : List (List ℕ)) → are_stuck words ≡ true → (place : ℕ) × (command_of (words ++ more) ≡ Err place)
 unfolding command_of are_stuck
 stuck_stay words more k =
-    elim (start_of no_flags 1 words) as (λ s. start_of no_flags 1 words ≡ s → are_stuck_by words s ≡ true → (place : ℕ) × (command_of (words ++ more) ≡ Err place)) [
-      | Err at ↦ λ s k. absurd (false≢true k)
-      | Ok start ↦ λ s k.
-          (let bad = stuck_bad words more start s k (length (words ++ more) + 1) in
-          (bad.0, ap (with_start (words ++ more)) (start_stays no_flags 1 words more (subst (λ r. IsKnown (1 + length words) r) (sym s) tt) ∙ s) ∙ bad.1))
+    elim (applet_site 1 words) as (λ s. applet_site 1 words ≡ s → are_stuck_by words s ≡ true → (place : ℕ) × (command_of (words ++ more) ≡ Err place)) [
+      | Err at ↦ λ s k. no_applet_stays words more at s k
+      | Ok site ↦ λ s k. by_start (line_start words) refl (ap (λ r. is_stuck_by words (start_from words r)) s ∙ k)
     ] refl k
+  where
+    by_start : (r : Result Start ℕ) → line_start words ≡ r → is_stuck_by words (line_start words) ≡ true → (place : ℕ) × (command_of (words ++ more) ≡ Err place)
+    by_start (Err at) s k = absurd (false≢true (sym (ap (is_stuck_by words) s) ∙ k))
+    by_start (Ok start) s k =
+        let bad = stuck_bad words more start s (sym (ap (is_stuck_by words) s) ∙ k) (length (words ++ more) + 1) in
+        (bad.0, ap (command_from (words ++ more)) (start_stays words more start s) ∙ bad.1)

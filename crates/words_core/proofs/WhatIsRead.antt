@@ -1,34 +1,27 @@
--- What the operands are that a rule takes.
-use Rattle.std.proofs.Common.{◌≡◌, ℕ, ◌+◌, Bool, true, false, List, [], ◌∷◌, Option, Some, None, refl, sym, ◌∙◌, ap, subst, arith, length, ◌<◌, ◌≤◌, if◌then◌else◌}
-use Rattle.std.specs.Prelude.{◌&&◌, ◌==◌, nat_lt, not}
-use Rattle.std.proofs.lemmas.Bool.{and_from, and_parts, eq-eqb, false≢true, lt-ltb, ltb-true}
-use Rattle.std.proofs.lemmas.Option.{none-some, same_Some}
-use Rattle.words_core.specs.declared.applet.Applet.{Applet}
-use Rattle.words_core.specs.declared.applet.Applet.TheVariants.{Adbdump, Mkndx, Mkpkg, Verify, Version}
-use Rattle.words_core.specs.declared.flags.Flags.{Flags}
-use Rattle.words_core.specs.declared.operands.Operand.{Operand}
-use Rattle.words_core.specs.declared.rule.OperandRule.{OperandRule}
-use Rattle.words_core.specs.declared.rule.OperandKind.TheVariants.{File, Any}
-use Rattle.words_core.specs.declared.values.OptionValue.{OptionValue}
-use Rattle.words_core.specs.Applets.{row_of}
-use Rattle.words_core.specs.Command.{are_files, is_plain, is_sound_line, may_have}
-use Rattle.words_core.specs.Grammar.{first_refused, has_room, is_of_kind, lacks_value, takes}
-use Rattle.words_core.specs.Values.{is_file, is_given}
-use Rattle.words_core.proofs.KindsKept.{flags_by}
+-- What is read is a command.
+use Rattle.std.proofs.Common.{List, None, Option, Some, [], ap, arith, false, length, not, refl, sym, true, ℕ, ◌+◌, ◌<◌, ◌∙◌, ◌∷◌, ◌≡◌, ◌≤◌, if◌then◌else◌}
+use Rattle.std.specs.List.{list_all}
+use Rattle.std.specs.Prelude.{nat_le, ◌&&◌}
+use Rattle.std.proofs.lemmas.Bool.{and_from, and_parts, le-leb, ltb-true}
+use Rattle.std.proofs.lemmas.Option.{none-some}
+use Rattle.command_core.specs.declared.command.Applet.{Applet}
+use Rattle.command_core.specs.declared.command.Flags.{Flags}
+use Rattle.command_core.specs.declared.operands.Operand.{Operand}
+use Rattle.command_core.specs.declared.operands.OperandRule.{OperandRule}
+use Rattle.command_core.specs.declared.values.OptionValue.{OptionValue}
+use Rattle.command_core.specs.Applets.{needed_option, operand_rule}
+use Rattle.command_core.specs.Sound.{may_have, value_rules, is_command, are_operands, is_at_most, are_values}
+use Rattle.command_core.specs.Command.{command_by}
+use Rattle.command_core.specs.Operands.{first_refused, has_room, is_of_kind, takes}
+use Rattle.command_core.specs.Values.{is_given, lacks_value}
 
-abbrev pub files : ℕ → Option ℕ → OperandRule
-files least most = record { kind = File; least = least; most = most }
-
-abbrev pub two : OperandRule
-two = record { kind = Any; least = 2; most = Some 2 }
-
--- operands that are taken as files are files
-pub all_files : (least : ℕ) (most : Option ℕ) (before : ℕ) (operands : List Operand) → first_refused (files least most) before operands ≡ None → are_files operands ≡ true
-all_files least most before [] h = refl
-all_files least most before (o ∷ os) h =
-    elim (takes (files least most) before o.text) as (λ b. takes (files least most) before o.text ≡ b → (if b then first_refused (files least most) (before + 1) os else Some o.place) ≡ None → are_files (o ∷ os) ≡ true) [
-      | true ↦ λ t (rest : first_refused (files least most) (before + 1) os ≡ None).
-          and_from (is_file o.text) _ (and_parts (has_room most before) (is_file o.text) t).1 (all_files least most (before + 1) os rest)
+-- operands that are taken are of the rule's kind
+pub all_of_kind : (rule : OperandRule) (before : ℕ) (operands : List Operand) → first_refused rule before operands ≡ None → list_all (λ (o : Operand). is_of_kind rule.kind o.text) operands ≡ true
+all_of_kind rule before [] h = refl
+all_of_kind rule before (o ∷ os) h =
+    elim (takes rule before o.text) as (λ b. takes rule before o.text ≡ b → (if b then first_refused rule (before + 1) os else Some o.place) ≡ None → list_all (λ (x : Operand). is_of_kind rule.kind x.text) (o ∷ os) ≡ true) [
+      | true ↦ λ t (rest : first_refused rule (before + 1) os ≡ None).
+          and_from (is_of_kind rule.kind o.text) _ (and_parts (has_room rule.most before) (is_of_kind rule.kind o.text) t).1 (all_of_kind rule (before + 1) os rest)
       | false ↦ λ t (here : Some o.place ≡ None). absurd (none-some o.place (sym here))
     ] refl h
 
@@ -46,46 +39,30 @@ no_more rule most before (o ∷ os) r l h =
       | false ↦ λ t (here : Some o.place ≡ None). absurd (none-some o.place (sym here))
     ] refl h
 
--- the operands that a rule of files takes
-pub files_taken_by : (rule : OperandRule) (least : ℕ) (most : Option ℕ) (operands : List Operand) → Some (files least most) ≡ Some rule → first_refused rule 0 operands ≡ None → rule.least ≤ length operands → (are_files operands ≡ true) × (least ≤ length operands) × (first_refused (files least most) 0 operands ≡ None)
-files_taken_by rule least most operands r f l =
-    let is : rule ≡ files least most = sym (same_Some (files least most) rule r) in
-    let none : first_refused (files least most) 0 operands ≡ None = subst (λ s. first_refused s 0 operands ≡ None) is f in
-    (all_files least most 0 operands none, subst (λ (s : OperandRule). s.least ≤ length operands) is l, none)
+-- .. as many as may be
+at_most_by : (most : Option ℕ) (count : ℕ) → ((m : ℕ) → most ≡ Some m → count ≤ m) → is_at_most most count ≡ true
+at_most_by None count h = refl
+at_most_by (Some most) count h = le-leb count most (h most refl)
 
-pub given_needed : (letter : ℕ) (values : List OptionValue) → lacks_value (Some letter) values ≡ false → is_given letter values ≡ true
-given_needed letter values h =
+pub read_needed : (letter : ℕ) (values : List OptionValue) → lacks_value (Some letter) values ≡ false → is_given letter values ≡ true
+read_needed letter values h =
     elim (is_given letter values) as (λ b. not b ≡ false → b ≡ true) [
       | true ↦ λ n. refl
       | false ↦ λ n. sym n
     ] h
 
--- flags and operands that the grammar takes are a command's
-pub taken_sound : (applet : Applet) (untrusted no_scripts test check : Bool) (operands : List Operand) (values : List OptionValue) (rule : OperandRule) → (let flags : Flags = record { allow_untrusted = untrusted; no_scripts = no_scripts; test = test; check = check } in may_have applet flags ≡ true → (row_of applet).operands flags ≡ Some rule → first_refused rule 0 operands ≡ None → rule.least ≤ length operands → lacks_value (row_of applet).needed values ≡ false → is_sound_line applet flags operands values ≡ true)
-taken_sound Verify u n t c operands values rule m r f l v =
-    let taken = files_taken_by rule 1 None operands r f l in
-    let enough : 0 < length operands = (let least : 1 ≤ length operands = taken.1 in omega arith) in
-    and_from (is_plain (flags_by u n t c) && nat_lt 0 (length operands)) _ (and_from (is_plain (flags_by u n t c)) _ m (lt-ltb 0 (length operands) enough)) taken.0
-taken_sound Adbdump u n t c operands values rule m r f l v =
-    let taken = files_taken_by rule 1 (Some 1) operands r f l in
-    let least : 1 ≤ length operands = taken.1 in
-    let most : 0 + length operands ≤ 1 = no_more (files 1 (Some 1)) 1 0 operands refl (omega arith) taken.2 in
-    and_from (is_plain (flags_by u n t c) && (length operands == 1)) _ (and_from (is_plain (flags_by u n t c)) _ m (eq-eqb (length operands) 1 (omega arith))) taken.0
-taken_sound Mkpkg u n t c operands values rule m r f l v =
-    let taken = files_taken_by rule 0 (Some 0) operands r f l in
-    let most : 0 + length operands ≤ 0 = no_more (files 0 (Some 0)) 0 0 operands refl (omega arith) taken.2 in
-    and_from (is_plain (flags_by u n t c)) _ m (eq-eqb (length operands) 0 (omega arith))
-taken_sound Mkndx u n t c operands values rule m r f l v =
-    let taken = files_taken_by rule 0 None operands r f l in
-    and_from (is_plain (flags_by u n t c) && are_files operands) _ (and_from (is_plain (flags_by u n t c)) _ m taken.0) (given_needed 111 values v)
-taken_sound Version u n true true operands values rule m r f l v = absurd (false≢true m)
-taken_sound Version u n true false operands values rule m r f l v =
-    let is : two ≡ rule = cc in
-    let enough : 2 ≤ length operands = subst (λ (s : OperandRule). s.least ≤ length operands) (sym is) l in
-    let fits : 0 + length operands ≤ 2 = no_more two 2 0 operands refl (omega arith) (subst (λ s. first_refused s 0 operands ≡ None) (sym is) f) in
-    eq-eqb (length operands) 2 (omega arith)
-taken_sound Version u n false true operands values rule m r f l v =
-    let is : record { kind = Any; least = 1; most = None } ≡ rule = cc in
-    let least : 1 ≤ length operands = subst (λ (s : OperandRule). s.least ≤ length operands) (sym is) l in
-    lt-ltb 0 (length operands) (omega arith)
-taken_sound Version u n false false operands values rule m r f l v = absurd (none-some rule r)
+-- operands that are taken, as many as are wanted, are an applet's
+pub operands_sound : (rule : OperandRule) (operands : List Operand) → first_refused rule 0 operands ≡ None → rule.least ≤ length operands → are_operands (Some rule) operands ≡ true
+operands_sound rule operands f l =
+    and_from (nat_le rule.least (length operands) && is_at_most rule.most (length operands)) _
+    (and_from (nat_le rule.least (length operands)) _ (le-leb rule.least (length operands) l)
+    (at_most_by rule.most (length operands) (λ m is. (let fits : 0 + length operands ≤ m = no_more rule m 0 operands is (omega arith) f in omega arith))))
+    (all_of_kind rule 0 operands f)
+
+-- flags, operands and values that the grammar takes are a command's
+pub taken_sound : (applet : Applet) (flags : Flags) (operands : List Operand) (values : List OptionValue) (behind : ℕ) (rule : OperandRule) → may_have applet flags ≡ true → are_values (value_rules applet) values ≡ true → operand_rule applet flags ≡ Some rule → first_refused rule 0 operands ≡ None → rule.least ≤ length operands → lacks_value (needed_option applet) values ≡ false → is_command (command_by applet flags operands values behind) ≡ true
+taken_sound applet flags operands values behind rule m v r f l n =
+    let are : are_operands (operand_rule applet flags) operands ≡ true = ap (λ o. are_operands o operands) r ∙ operands_sound rule operands f l in
+    and_from (may_have applet flags && are_operands (operand_rule applet flags) operands && are_values (value_rules applet) values) _
+    (and_from (may_have applet flags && are_operands (operand_rule applet flags) operands) _
+    (and_from (may_have applet flags) _ m are) v) (ap not n)

@@ -1,40 +1,50 @@
 -- Words that lack a word can be completed, unless they are stuck: where their applet was found.
-use Rattle.std.proofs.Common.{◌≡◌, ℕ, ◌+◌, Bool, true, false, not, List, [], ◌∷◌, ◌++◌, drop, codes, append-nil, inl, inr, Option, Some, None, Ok, Err, refl, sym, ◌∙◌, ap, subst, arith, length, ◌<◌, ◌≤◌, if◌then◌else◌}
-use Rattle.std.specs.Prelude.{◌&&◌, ◌||◌, ◌==◌, nat_lt}
+use Rattle.std.proofs.Common.{Bool, Err, List, None, Ok, Option, Some, [], ap, append-nil, arith, codes, drop, false, inl, inr, is_some, length, length-append, not, refl, subst, suc, sym, true, zero, ℕ, ◌++◌, ◌+◌, ◌-◌, ◌<◌, ◌∙◌, ◌∷◌, ◌≡◌, ◌≤◌, if◌then◌else◌}
+use Rattle.base_core.specs.Name.{is_name}
+use Rattle.dep_core.specs.Reading.{at_name, at_name_end, dependency_of}
 use Rattle.std.specs.List.{list_all, list_any}
 use Rattle.std.specs.Option.{option_or}
+use Rattle.std.specs.Prelude.{nat_lt, ◌&&◌, ◌==◌, ◌||◌}
 use Rattle.std.specs.Str.{bytes_eq, chars, is_utf8}
-use lib.Utf8.{encode}
-use Rattle.std.proofs.lemmas.Bool.{and_from, and_parts, and_right, false≢true, le-ltb, not_from_false, not_from_true, or_from, or_parts, or_right, true≢false}
+use Rattle.std.proofs.lemmas.Bool.{and_from, and_parts, and_right, false≢true, le-leb, le-ltb, leb-true, not_from_false, not_from_true, or_from, or_parts, or_right, true≢false}
 use Rattle.std.proofs.lemmas.Option.{none-some, same_Some}
 use Rattle.std.proofs.lemmas.Slice.Eq.{bytes_eq-Decides}
-use Rattle.base_core.specs.Name.{is_name}
-use Rattle.words_core.specs.declared.applet.Applet.{Applet}
-use Rattle.words_core.specs.declared.applet.Applet.TheVariants.{Adbdump, Mkndx, Mkpkg, Verify, Version}
-use Rattle.words_core.specs.declared.flags.Flags.{Flags}
-use Rattle.words_core.specs.declared.given.Given.{Given}
-use Rattle.words_core.specs.declared.operands.Operand.{Operand}
+use lib.Utf8.{encode}
+use Rattle.command_core.specs.declared.command.Applet.{Applet}
+use Rattle.command_core.specs.declared.command.Applet.TheVariants.{Adbdump, Add, Del, Demo, Fix, Info, Mkndx, Mkpkg, Upgrade, Verify, Version}
+use Rattle.command_core.specs.declared.command.Flag.{Flag}
+use Rattle.command_core.specs.declared.command.Flag.TheVariants.{Check, Contents, Depends, Installed, WhoOwns}
+use Rattle.command_core.specs.declared.command.Flags.{Flags}
+use Rattle.command_core.specs.declared.operands.Operand.{Operand}
+use Rattle.command_core.specs.declared.operands.OperandKind.{OperandKind}
+use Rattle.command_core.specs.declared.operands.OperandKind.TheVariants.{Any, Dependency, DependencyName, File, Number, PackageName, Path}
+use Rattle.command_core.specs.declared.operands.OperandRule.{OperandRule}
+use Rattle.command_core.specs.declared.values.OptionValue.{OptionValue}
+use Rattle.command_core.specs.declared.values.TheConstants.{OUTPUT}
+use Rattle.command_core.specs.declared.values.ValueKind.{ValueKind}
+use Rattle.command_core.specs.declared.values.ValueKind.TheVariants.{Any as AnyText, File as FileName, Nonempty, Output, Script, Uncompressed}
+use Rattle.command_core.specs.declared.values.ValueRule.{ValueRule}
+use Rattle.command_core.specs.Applets.{info_operands, needed_option, operand_rule, version_operands}
+use Rattle.command_core.specs.Sound.{allowed_flags, may_have, are_within, is_single, is_at_most}
+use Rattle.command_core.specs.Command.{CommandLine}
+use Rattle.command_core.specs.Flags.{has_flag, has_kind, kinds, with_flag}
+use Rattle.command_core.specs.Operands.{at_least, exactly, first_refused, is_of_kind, operand_at, takes}
+use Rattle.command_core.specs.Values.{excludes, is_excluded, is_given, is_script, is_value, lacks_value, option_value, output_rule, script_type, script_types}
+use Rattle.words_core.specs.declared.reading.OptionState.{OptionState}
 use Rattle.words_core.specs.declared.reading.Reading.{Reading}
-use Rattle.words_core.specs.declared.rule.OperandRule.{OperandRule}
-use Rattle.words_core.specs.declared.start.Start.{Start}
-use Rattle.words_core.specs.declared.value_rule.ValueKind.{ValueKind}
-use Rattle.words_core.specs.declared.value_rule.ValueKind.TheVariants.{Any, File, Nonempty, Output, Script, Uncompressed}
-use Rattle.words_core.specs.declared.value_rule.ValueRule.{ValueRule}
-use Rattle.words_core.specs.declared.values.OptionValue.{OptionValue}
-use Rattle.words_core.specs.Applets.{Entry, common, output_rule, row_of}
-use Rattle.words_core.specs.Command.{CommandLine}
-use Rattle.words_core.specs.Flags.{no_flags}
-use Rattle.words_core.specs.Grammar.{command_by, command_of, first_refused, given_by, held_value, is_excluded, judged, lacks, name_of, operand_at, operands_of, options_of, reading_by, reading_from, reading_of, refused_operand, start_of, takes, value_at, with_start, with_word_by}
+use Rattle.words_core.specs.declared.reading.Start.{Start}
+use Rattle.words_core.specs.Grammar.{command_from, command_of, command_read, held_value, lacks_word, line_start, operands_of, option_name, option_reading, reading_behind, reading_by, refused_operand, state_by, verdict, with_operand, with_word_by}
+use Rattle.words_core.specs.Options.{OptionSpec, common_options, options_of}
 use Rattle.words_core.specs.Stuck.{awaits_none, has_script, have_ended, is_full, is_stuck, lacks_option}
-use Rattle.words_core.specs.Values.{excludes, is_given, is_script, is_value, script_type, script_types}
+use Rattle.words_core.proofs.GivenKept.{from_kept}
 use Rattle.words_core.proofs.GoneOn.{IsGoing, from_going, is_not}
-use Rattle.words_core.proofs.KindsKept.{IsPlain, flags_by, start_known}
-use Rattle.words_core.proofs.LinesJudged.{texts_taken}
+use Rattle.words_core.proofs.KindsKept.{IsPlain, start_known, within_at}
+use Rattle.words_core.proofs.LinesJudged.{room_by}
 use Rattle.words_core.proofs.LinesRead.{awaited_taken, step_taken}
-use Rattle.words_core.proofs.MoreWords.{IsKnown, start_stays}
 use Rattle.words_core.proofs.OffendingWords.{AllBetween, IsJudgedAt, from_placed, judged_at, refused_between}
 use Rattle.words_core.proofs.OneMore.{behind}
-use Rattle.words_core.proofs.WhatIsRead.{files, given_needed, no_more, two}
+use Rattle.words_core.proofs.Sites.{start_stays}
+use Rattle.words_core.proofs.WhatIsRead.{no_more}
 
 -- operands that are taken, and more of them
 pub refused_then : (rule : OperandRule) (before : ℕ) (os more : List Operand) → first_refused rule before os ≡ None → first_refused rule before (os ++ more) ≡ first_refused rule (before + length os) more
@@ -50,73 +60,158 @@ pub one_more : (os : List Operand) (o : Operand) → nat_lt (length (os ++ (o �
 one_more [] o = refl
 one_more (p ∷ os) o = le-ltb (length (p ∷ (os ++ (o ∷ [])))) 1 (omega arith)
 
-pub judged_good : (applet : Applet) (reading : Reading) (end : ℕ) → refused_operand ((row_of applet).operands reading.given.flags) reading.operands ≡ None → reading.unread ≡ None → lacks applet ((row_of applet).operands reading.given.flags) reading ≡ false → judged end applet reading ≡ Ok (command_by end applet reading)
-unfolding judged
+pub judged_good : (applet : Applet) (reading : Reading) (end : ℕ) → refused_operand (operand_rule applet reading.state.flags) reading.operands ≡ None → reading.unread ≡ None → lacks_word applet (operand_rule applet reading.state.flags) reading ≡ false → verdict end applet reading ≡ Ok (command_read end applet reading)
+unfolding verdict
 judged_good applet reading end taken u enough = rw taken (rw u (rw enough refl))
 
 abbrev pub IsJudgedGood : Applet → Reading → Type 0
-IsJudgedGood applet reading = (end : ℕ) → judged end applet reading ≡ Ok (command_by end applet reading)
+IsJudgedGood applet reading = (end : ℕ) → verdict end applet reading ≡ Ok (command_read end applet reading)
 
 -- ---- operands that can follow
 
 -- words that are operands wherever they stand
 abbrev pub AreTexts : List (List ℕ) → Type 0
-AreTexts more = (entries : List Entry) (given : Given) (place : ℕ) → given.awaiting ≡ None → reading_of entries given place more ≡ reading_by given (operands_of place more) None
+AreTexts more = (options : List OptionSpec) (state : OptionState) (place : ℕ) → state.awaiting ≡ None → option_reading options state place more ≡ reading_by state (operands_of place more) None
 
 pub no_texts : AreTexts []
-no_texts entries given place a = rw a refl
+no_texts options state place a = rw a refl
 
 pub a_text : AreTexts (codes "a" ∷ [])
-a_text entries given place a = rw a refl
+a_text options state place a = rw a refl
 
 pub two_texts : AreTexts (codes "a" ∷ (codes "a" ∷ []))
-two_texts entries given place a = rw a refl
+two_texts options state place a = rw a refl
 
 -- such words behind what was read
-abbrev pub with_texts : Given → List Operand → ℕ → List (List ℕ) → Reading
-with_texts given os at more = behind os (reading_by given (operands_of at more) None)
+abbrev pub with_texts : OptionState → List Operand → ℕ → List (List ℕ) → Reading
+with_texts state os at more = behind os (reading_by state (operands_of at more) None)
 
-abbrev pub CanHaveTexts : Applet → Given → List Operand → ℕ → Type 0
-CanHaveTexts applet given os at = (more : List (List ℕ)) × AreTexts more × IsJudgedGood applet (with_texts given os at more)
+abbrev pub CanHaveTexts : Applet → OptionState → List Operand → ℕ → Type 0
+CanHaveTexts applet state os at = (more : List (List ℕ)) × AreTexts more × IsJudgedGood applet (with_texts state os at more)
 
-pub files_good : (given : Given) (os : List Operand) (at : ℕ) → first_refused (files 1 None) 0 os ≡ None → IsJudgedGood Verify (with_texts given os at (codes "a" ∷ []))
-unfolding is_name is_utf8 chars encode
-files_good given os at h end = judged_good Verify (with_texts given os at (codes "a" ∷ [])) end
-    (refused_then (files 1 None) 0 os (operand_at at (codes "a") ∷ []) h) refl (rw (one_more os (operand_at at (codes "a"))) refl)
+-- ---- operands of a kind that can follow
 
-pub file_good : (given : Given) (os : List Operand) (at : ℕ) → first_refused (files 1 (Some 1)) 0 os ≡ None → CanHaveTexts Adbdump given os at
-unfolding is_name is_utf8 chars encode
-file_good given [] at h = (codes "a" ∷ [], a_text, λ end. judged_good Adbdump (with_texts given [] at (codes "a" ∷ [])) end refl refl refl)
-file_good given (o ∷ []) at h = ([], no_texts, λ end. judged_good Adbdump (with_texts given (o ∷ []) at []) end h refl refl)
-file_good given (o ∷ (p ∷ os)) at h = absurd (let most : 0 + length (o ∷ (p ∷ os)) ≤ 1 = no_more (files 1 (Some 1)) 1 0 (o ∷ (p ∷ os)) refl (omega arith) h in omega arith)
+-- a text of a kind
+abbrev pub sample : OperandKind → List ℕ
+sample Number = codes "1"
+sample kind = codes "a"
 
-pub package_good : (given : Given) (os : List Operand) (at : ℕ) → first_refused (files 0 (Some 0)) 0 os ≡ None → CanHaveTexts Mkpkg given os at
-package_good given [] at h = ([], no_texts, λ end. judged_good Mkpkg (with_texts given [] at []) end refl refl refl)
-package_good given (o ∷ os) at h = absurd (let most : 0 + length (o ∷ os) ≤ 0 = no_more (files 0 (Some 0)) 0 0 (o ∷ os) refl (omega arith) h in omega arith)
+pub sample_fits : (kind : OperandKind) → is_of_kind kind (sample kind) ≡ true
+unfolding dependency_of at_name at_name_end is_name is_utf8 chars encode
+sample_fits File = refl
+sample_fits Any = refl
+sample_fits Dependency = refl
+sample_fits DependencyName = refl
+sample_fits PackageName = refl
+sample_fits Path = refl
+sample_fits Number = refl
 
-pub index_good : (given : Given) (os : List Operand) → first_refused (files 0 None) 0 os ≡ None → is_given 111 given.values ≡ true → IsJudgedGood Mkndx (behind os (reading_by given [] None))
-index_good given os h g end = judged_good Mkndx (behind os (reading_by given [] None)) end
-    (ap (first_refused (files 0 None) 0) (append-nil os) ∙ h) refl
-    (or_from (nat_lt (length (os ++ [])) 0) (not (is_given 111 given.values)) (le-ltb (length (os ++ [])) 0 (omega arith)) (not_from_true (is_given 111 given.values) g))
+-- so many of them
+abbrev pub samples : OperandKind → ℕ → List (List ℕ)
+samples kind zero = []
+samples kind (suc count) = sample kind ∷ samples kind count
 
-pub compared_good : (u n c : Bool) (values : List OptionValue) (awaiting : Option ValueRule) (os : List Operand) (at : ℕ) → first_refused two 0 os ≡ None → CanHaveTexts Version (given_by (flags_by u n true c) values awaiting) os at
-compared_good u n c values awaiting [] at h = (codes "a" ∷ (codes "a" ∷ []), two_texts, λ end. judged_good Version (with_texts (given_by (flags_by u n true c) values awaiting) [] at (codes "a" ∷ (codes "a" ∷ []))) end refl refl refl)
-compared_good u n c values awaiting (o ∷ []) at h = (codes "a" ∷ [], a_text, λ end. judged_good Version (with_texts (given_by (flags_by u n true c) values awaiting) (o ∷ []) at (codes "a" ∷ [])) end refl refl refl)
-compared_good u n c values awaiting (o ∷ (p ∷ [])) at h = ([], no_texts, λ end. judged_good Version (with_texts (given_by (flags_by u n true c) values awaiting) (o ∷ (p ∷ [])) at []) end refl refl refl)
-compared_good u n c values awaiting (o ∷ (p ∷ (q ∷ os))) at h = absurd (let most : 0 + length (o ∷ (p ∷ (q ∷ os))) ≤ 2 = no_more two 2 0 (o ∷ (p ∷ (q ∷ os))) refl (omega arith) h in omega arith)
+sample_read : (kind : OperandKind) (options : List OptionSpec) (state : OptionState) (place : ℕ) (more : List (List ℕ)) → state.awaiting ≡ None → option_reading options state place (sample kind ∷ more) ≡ with_operand (operand_at place (sample kind)) (option_reading options state (place + 1) more)
+sample_read Number options state place more a = rw a refl
+sample_read File options state place more a = rw a refl
+sample_read Any options state place more a = rw a refl
+sample_read Dependency options state place more a = rw a refl
+sample_read DependencyName options state place more a = rw a refl
+sample_read PackageName options state place more a = rw a refl
+sample_read Path options state place more a = rw a refl
 
-pub version_texts : (u n t c : Bool) (values : List OptionValue) (awaiting : Option ValueRule) (os : List Operand) (at : ℕ) → lacks_option Version (given_by (flags_by u n t c) values awaiting) ≡ false → refused_operand ((row_of Version).operands (flags_by u n t c)) os ≡ None → CanHaveTexts Version (given_by (flags_by u n t c) values awaiting) os at
-version_texts u n true c values awaiting os at k h = compared_good u n c values awaiting os at h
-version_texts u n false true values awaiting os at k h = (codes "a" ∷ [], a_text, λ end. judged_good Version (with_texts (given_by (flags_by u n false true) values awaiting) os at (codes "a" ∷ [])) end (texts_taken 0 (os ++ (operand_at at (codes "a") ∷ []))) refl (rw (one_more os (operand_at at (codes "a"))) refl))
-version_texts u n false false values awaiting os at k h = absurd (true≢false k)
+pub samples_read : (kind : OperandKind) (count : ℕ) → AreTexts (samples kind count)
+samples_read kind zero options state place a = rw a refl
+samples_read kind (suc count) options state place a =
+    sample_read kind options state place (samples kind count) a ∙ ap (with_operand (operand_at place (sample kind))) (samples_read kind count options state (place + 1) a)
+
+-- there is room for so many
+pub samples_taken : (rule : OperandRule) (before place count : ℕ) → is_at_most rule.most (before + count) ≡ true → first_refused rule before (operands_of place (samples rule.kind count)) ≡ None
+samples_taken rule before place zero m = refl
+samples_taken rule before place (suc count) m =
+    let here : before + suc count ≡ before + (count + 1) = omega arith in
+    let next : before + suc count ≡ before + 1 + count = omega arith in
+    rw (room_by rule.most before count (ap (is_at_most rule.most) (sym here) ∙ m))
+    (rw (sample_fits rule.kind) (samples_taken rule (before + 1) (place + 1) count (ap (is_at_most rule.most) (sym next) ∙ m)))
+
+samples_length : (kind : OperandKind) (place count : ℕ) → length (operands_of place (samples kind count)) ≡ count
+samples_length kind place zero = refl
+samples_length kind place (suc count) = (let rest : length (operands_of (place + 1) (samples kind count)) ≡ count = samples_length kind (place + 1) count in omega arith)
+
+-- a rule asks for no more operands than it takes
+abbrev pub IsPossible : OperandRule → Type 0
+IsPossible rule = is_at_most rule.most rule.least ≡ true
+
+info_possible : (flags : Flags) → IsPossible (info_operands flags)
+info_possible flags =
+    elim flags.who_owns as (λ b. IsPossible (if b then exactly 1 Path else if flags.installed || flags.contents || flags.depends then at_least 1 PackageName else at_least 0 PackageName)) [
+      | true ↦ refl
+      | false ↦ elim (flags.installed || flags.contents || flags.depends) as (λ b. IsPossible (if b then at_least 1 PackageName else at_least 0 PackageName)) [
+        | true ↦ refl
+        | false ↦ refl
+      ]
+    ]
+
+version_possible : (flags : Flags) (rule : OperandRule) → version_operands flags ≡ Some rule → IsPossible rule
+version_possible flags rule r =
+    elim flags.test as (λ b. (if b then Some (exactly 2 Any) else if flags.check then Some (at_least 1 Any) else None) ≡ Some rule → IsPossible rule) [
+      | true ↦ λ (e : Some (exactly 2 Any) ≡ Some rule). subst (λ (x : OperandRule). IsPossible x) (same_Some (exactly 2 Any) rule e) refl
+      | false ↦ elim flags.check as (λ b. (if b then Some (at_least 1 Any) else None) ≡ Some rule → IsPossible rule) [
+        | true ↦ λ (e : Some (at_least 1 Any) ≡ Some rule). subst (λ (x : OperandRule). IsPossible x) (same_Some (at_least 1 Any) rule e) refl
+        | false ↦ λ (e : None ≡ Some rule). absurd (none-some rule e)
+      ]
+    ] r
+
+pub rule_possible : (applet : Applet) (flags : Flags) (rule : OperandRule) → operand_rule applet flags ≡ Some rule → IsPossible rule
+rule_possible Info flags rule r = subst (λ (x : OperandRule). IsPossible x) (same_Some (info_operands flags) rule r) (info_possible flags)
+rule_possible Version flags rule r = version_possible flags rule r
+rule_possible Add flags rule r = subst (λ (x : OperandRule). IsPossible x) (same_Some (at_least 0 Dependency) rule r) refl
+rule_possible Del flags rule r = subst (λ (x : OperandRule). IsPossible x) (same_Some (at_least 1 DependencyName) rule r) refl
+rule_possible Upgrade flags rule r = subst (λ (x : OperandRule). IsPossible x) (same_Some (at_least 0 PackageName) rule r) refl
+rule_possible Fix flags rule r = subst (λ (x : OperandRule). IsPossible x) (same_Some (at_least 1 PackageName) rule r) refl
+rule_possible Verify flags rule r = subst (λ (x : OperandRule). IsPossible x) (same_Some (at_least 1 File) rule r) refl
+rule_possible Adbdump flags rule r = subst (λ (x : OperandRule). IsPossible x) (same_Some (exactly 1 File) rule r) refl
+rule_possible Mkpkg flags rule r = subst (λ (x : OperandRule). IsPossible x) (same_Some (exactly 0 File) rule r) refl
+rule_possible Mkndx flags rule r = subst (λ (x : OperandRule). IsPossible x) (same_Some (at_least 0 File) rule r) refl
+rule_possible Demo flags rule r = subst (λ (x : OperandRule). IsPossible x) (same_Some (exactly 1 Number) rule r) refl
+
+-- as many as are still wanted fit behind those that are taken
+wanted_fit : (rule : OperandRule) (os : List Operand) → IsPossible rule → first_refused rule 0 os ≡ None → is_at_most rule.most (length os + (rule.least - length os)) ≡ true
+wanted_fit rule os p h = by_most rule.most refl
+  where
+    by_most : (most : Option ℕ) → rule.most ≡ most → is_at_most most (length os + (rule.least - length os)) ≡ true
+    by_most None e = refl
+    by_most (Some most) e =
+        let least : rule.least ≤ most = leb-true rule.least most (ap (λ m. is_at_most m rule.least) (sym e) ∙ p) in
+        let fits : 0 + length os ≤ most = no_more rule most 0 os e (omega arith) h in
+        le-leb (length os + (rule.least - length os)) most (omega arith)
 
 -- where no option is lacking, operands complete what was read
-pub can_have_texts : (applet : Applet) (given : Given) (os : List Operand) (at : ℕ) → lacks_option applet given ≡ false → refused_operand ((row_of applet).operands given.flags) os ≡ None → CanHaveTexts applet given os at
-can_have_texts Verify given os at k h = (codes "a" ∷ [], a_text, files_good given os at h)
-can_have_texts Adbdump given os at k h = file_good given os at h
-can_have_texts Mkpkg given os at k h = package_good given os at h
-can_have_texts Mkndx given os at k h = ([], no_texts, index_good given os h (given_needed 111 given.values k))
-can_have_texts Version given os at k h = version_texts given.flags.allow_untrusted given.flags.no_scripts given.flags.test given.flags.check given.values given.awaiting os at k h
+pub can_have_texts : (applet : Applet) (state : OptionState) (os : List Operand) (at : ℕ) → lacks_option applet state ≡ false → refused_operand (operand_rule applet state.flags) os ≡ None → CanHaveTexts applet state os at
+can_have_texts applet state os at k h = by_rule (operand_rule applet state.flags) refl k h
+  where
+    wanted_fit_at : (rule : OperandRule) (os : List Operand) → operand_rule applet state.flags ≡ Some rule → first_refused rule 0 os ≡ None → is_at_most rule.most (0 + length os + (rule.least - length os)) ≡ true
+    wanted_fit_at rule os r h =
+        let same : 0 + length os + (rule.least - length os) ≡ length os + (rule.least - length os) = omega arith in
+        ap (is_at_most rule.most) same ∙ wanted_fit rule os (rule_possible applet state.flags rule r) h
+
+    by_rule : (o : Option OperandRule) → operand_rule applet state.flags ≡ o → (not (is_some o) || lacks_value (needed_option applet) state.values) ≡ false → refused_operand o os ≡ None → CanHaveTexts applet state os at
+    by_rule None r k h = absurd (true≢false k)
+    by_rule (Some rule) r k h =
+        let count : ℕ = rule.least - length os in
+        let texts : List (List ℕ) = samples rule.kind count in
+        let reading : Reading = with_texts state os at texts in
+        let taken : first_refused rule 0 reading.operands ≡ None =
+        refused_then rule 0 os (operands_of at texts) h
+        ∙ samples_taken rule (0 + length os) at count (wanted_fit_at rule os r h) in
+        let enough : rule.least ≤ length reading.operands =
+        (let size : length (operands_of at texts) ≡ count = samples_length rule.kind at count in omega (arith, length-append os (operands_of at texts))) in (
+          texts,
+          samples_read rule.kind count,
+          λ end. judged_good applet reading end
+              (ap (λ o. refused_operand o reading.operands) r ∙ taken) refl
+              (ap (λ o. lacks_word applet o reading) r ∙ or_from (nat_lt (length reading.operands) rule.least) (lacks_value (needed_option applet) state.values) (le-ltb (length reading.operands) rule.least enough) k),
+        )
 
 -- ---- values that can follow
 
@@ -159,60 +254,104 @@ script_fits letter single values t is none =
 
 pub fitting : (letter : ℕ) (single : Bool) (kind : ValueKind) (values : List OptionValue) → is_full kind letter values ≡ false → (text : List ℕ) × IsFitting (rule_by letter single kind) values text
 unfolding is_name is_utf8 chars encode
-fitting letter single Any values h = (codes "a", not_from_false _ (none_excluded letter Any (codes "a") values (λ a b. refl)))
+fitting letter single AnyText values h = (codes "a", not_from_false _ (none_excluded letter AnyText (codes "a") values (λ a b. refl)))
 fitting letter single Nonempty values h = (codes "a", not_from_false _ (none_excluded letter Nonempty (codes "a") values (λ a b. refl)))
-fitting letter single File values h = (codes "a", not_from_false _ (none_excluded letter File (codes "a") values (λ a b. refl)))
+fitting letter single FileName values h = (codes "a", not_from_false _ (none_excluded letter FileName (codes "a") values (λ a b. refl)))
 fitting letter single Output values h = (codes "a", not_from_false _ (none_excluded letter Output (codes "a") values (λ a b. refl)))
 fitting letter single Uncompressed values h = (codes "none", not_from_false _ (none_excluded letter Uncompressed (codes "none") values (λ a b. refl)))
 fitting letter single Script values h = (let some = some_fails (has_script letter values) is_its_script script_types all_scripts h in (a_script some.0, script_fits letter single values some.0 some.1 some.2))
 
-pub value_read : (entries : List Entry) (given : Given) (at : ℕ) (text : List ℕ) (rule : ValueRule) (more : List (List ℕ)) → given.awaiting ≡ Some rule → IsFitting rule given.values text → reading_of entries given at (text ∷ more) ≡ reading_of entries (given_by given.flags (given.values ++ (value_at at rule.letter text ∷ [])) None) (at + 1) more
-value_read entries given at text rule more a f =
-    let next : Given = given_by given.flags (given.values ++ (value_at at rule.letter text ∷ [])) None in
-    step_taken entries given at text more (Some next) (awaited_taken given text rule a)
-    (ap (with_word_by entries given at text) a ∙ ap (λ b. if b then Some next else None) f)
+pub value_read : (options : List OptionSpec) (state : OptionState) (at : ℕ) (text : List ℕ) (rule : ValueRule) (more : List (List ℕ)) → state.awaiting ≡ Some rule → IsFitting rule state.values text → option_reading options state at (text ∷ more) ≡ option_reading options (state_by state.flags (state.values ++ (option_value at rule.letter text ∷ [])) None) (at + 1) more
+value_read options state at text rule more a f =
+    let next : OptionState = state_by state.flags (state.values ++ (option_value at rule.letter text ∷ [])) None in
+    step_taken options state at text more (Some next) (awaited_taken state text rule a)
+    (ap (with_word_by options state at text) a ∙ ap (λ b. if b then Some next else None) f)
 
 -- ---- options that can follow
 
 -- what was read of words, and more words behind it
 abbrev pub gone_on : Applet → Flags → List OptionValue → List Operand → ℕ → List (List ℕ) → Reading
-gone_on applet flags values os at more = behind os (reading_of (options_of applet) (given_by flags values None) at more)
+gone_on applet flags values os at more = behind os (option_reading (options_of applet) (state_by flags values None) at more)
 
 abbrev pub CanGoOn : Applet → Flags → List OptionValue → List Operand → ℕ → Type 0
 CanGoOn applet flags values os at = (more : List (List ℕ)) × IsJudgedGood applet (gone_on applet flags values os at more)
 
-pub output_read : (flags : Flags) (values : List OptionValue) (at : ℕ) → is_given 111 values ≡ false → reading_of (options_of Mkndx) (given_by flags values None) at (codes "-o" ∷ (codes "a" ∷ [])) ≡ reading_by (given_by flags (values ++ (value_at (at + 1) 111 (codes "a") ∷ [])) None) [] None
-unfolding common options_of name_of held_value is_name is_utf8 chars encode
+pub output_read : (flags : Flags) (values : List OptionValue) (at : ℕ) → is_given OUTPUT values ≡ false → option_reading (options_of Mkndx) (state_by flags values None) at (codes "-o" ∷ (codes "a" ∷ [])) ≡ reading_by (state_by flags (values ++ (option_value (at + 1) OUTPUT (codes "a") ∷ [])) None) [] None
+unfolding common_options options_of option_name held_value is_name is_utf8 chars encode
 output_read flags values at g =
-    step_taken (options_of Mkndx) (given_by flags values None) at (codes "-o") (codes "a" ∷ []) (Some (given_by flags values (Some output_rule))) refl
-    (ap (λ b. if b then None else Some (given_by flags values (Some output_rule))) g)
-    ∙ value_read (options_of Mkndx) (given_by flags values (Some output_rule)) (at + 1) (codes "a") output_rule [] refl
-    (not_from_false _ (none_excluded 111 Output (codes "a") values (λ a b. refl)))
+    step_taken (options_of Mkndx) (state_by flags values None) at (codes "-o") (codes "a" ∷ []) (Some (state_by flags values (Some output_rule))) refl
+    (ap (λ b. if b then None else Some (state_by flags values (Some output_rule))) g)
+    ∙ value_read (options_of Mkndx) (state_by flags values (Some output_rule)) (at + 1) (codes "a") output_rule [] refl
+    (not_from_false _ (none_excluded OUTPUT Output (codes "a") values (λ a b. refl)))
 
-pub given_last : (place letter : ℕ) (text : List ℕ) (values : List OptionValue) → (letter == letter) ≡ true → is_given letter (values ++ (value_at place letter text ∷ [])) ≡ true
+pub given_last : (place letter : ℕ) (text : List ℕ) (values : List OptionValue) → (letter == letter) ≡ true → is_given letter (values ++ (option_value place letter text ∷ [])) ≡ true
 given_last place letter text [] e = rw e refl
 given_last place letter text (v ∷ vs) e = or_right (v.letter == letter) _ (given_last place letter text vs e)
 
--- where an option is lacking, it completes what was read
-pub options_follow : (applet : Applet) (u n t c : Bool) (values : List OptionValue) (os : List Operand) (at : ℕ) → lacks_option applet (given_by (flags_by u n t c) values None) ≡ true → refused_operand ((row_of applet).operands (flags_by u n t c)) os ≡ None → CanGoOn applet (flags_by u n t c) values os at
-unfolding common options_of name_of held_value
-options_follow Verify u n t c values os at k h = absurd (false≢true k)
-options_follow Adbdump u n t c values os at k h = absurd (false≢true k)
-options_follow Mkpkg u n t c values os at k h = absurd (false≢true k)
-options_follow Mkndx u n t c values os at k h =
-    let flags = flags_by u n t c in
-    let more : List OptionValue = values ++ (value_at (at + 1) 111 (codes "a") ∷ []) in
-    (codes "-o" ∷ (codes "a" ∷ []), subst (λ r. IsJudgedGood Mkndx (behind os r)) (sym (output_read flags values at (is_not (is_given 111 values) k))) (index_good (given_by flags more None) os h (given_last (at + 1) 111 (codes "a") values refl)))
-options_follow Version u n true c values os at k h = absurd (false≢true k)
-options_follow Version u n false true values os at k h = absurd (false≢true k)
-options_follow Version u n false false values os at k h = (codes "-c" ∷ (codes "a" ∷ []), λ end. judged_good Version (gone_on Version (flags_by u n false false) values os at (codes "-c" ∷ (codes "a" ∷ []))) end (texts_taken 0 (os ++ (operand_at (at + 1) (codes "a") ∷ []))) refl (rw (one_more os (operand_at (at + 1) (codes "a"))) refl))
+-- flags of `version` without a kind of its own have none
+version_kinds : (flags : Flags) → may_have Version flags ≡ true → flags.test ≡ false → flags.check ≡ false → has_kind flags ≡ false
+version_kinds flags m t c =
+    let within = (and_parts (are_within (allowed_flags Version) flags) (is_single kinds flags) m).0 in
+    let no : (f : Flag) → has_flag f (allowed_flags Version) ≡ false → has_flag f flags ≡ false = λ f n. absent (has_flag f flags) (has_flag f (allowed_flags Version)) n (within_at (allowed_flags Version) flags f within) in
+    let i : flags.installed ≡ false = no Installed refl in
+    let o : flags.contents ≡ false = no Contents refl in
+    let d : flags.depends ≡ false = no Depends refl in
+    let w : flags.who_owns ≡ false = no WhoOwns refl in
+    rw i (rw o (rw d (rw w (rw t (rw c refl)))))
+  where
+    absent : (b d : Bool) → d ≡ false → (b ≡ true → d ≡ true) → b ≡ false
+    absent true d n h = absurd (true≢false (sym (h refl) ∙ n))
+    absent false d n h = refl
 
-pub can_go_on : (applet : Applet) (flags : Flags) (values : List OptionValue) (os : List Operand) (at : ℕ) → refused_operand ((row_of applet).operands flags) os ≡ None → CanGoOn applet flags values os at
-can_go_on applet flags values os at h =
-    elim (lacks_option applet (given_by flags values None)) as (λ b. lacks_option applet (given_by flags values None) ≡ b → CanGoOn applet flags values os at) [
-      | true ↦ λ k. options_follow applet flags.allow_untrusted flags.no_scripts flags.test flags.check values os at k h
-      | false ↦ λ k. (let can = can_have_texts applet (given_by flags values None) os at k h in
-          (can.0, subst (λ r. IsJudgedGood applet (behind os r)) (sym (can.1 (options_of applet) (given_by flags values None) at refl)) can.2))
+-- no operand is lacking of `mkndx`
+index_good : (state : OptionState) (os : List Operand) → first_refused (at_least 0 File) 0 os ≡ None → is_given OUTPUT state.values ≡ true → IsJudgedGood Mkndx (behind os (reading_by state [] None))
+index_good state os h g end = judged_good Mkndx (behind os (reading_by state [] None)) end
+    (ap (first_refused (at_least 0 File) 0) (append-nil os) ∙ h) refl
+    (or_from (nat_lt (length (os ++ [])) 0) (not (is_given OUTPUT state.values)) (le-ltb (length (os ++ [])) 0 (omega arith)) (not_from_true (is_given OUTPUT state.values) g))
+
+texts_taken : (before : ℕ) (operands : List Operand) → first_refused (at_least 1 Any) before operands ≡ None
+texts_taken before [] = refl
+texts_taken before (o ∷ os) = texts_taken (before + 1) os
+
+-- where an option is lacking, it completes what was read
+pub options_follow : (applet : Applet) (flags : Flags) (values : List OptionValue) (os : List Operand) (at : ℕ) → may_have applet flags ≡ true → lacks_option applet (state_by flags values None) ≡ true → refused_operand (operand_rule applet flags) os ≡ None → CanGoOn applet flags values os at
+unfolding common_options options_of option_name held_value
+options_follow Mkndx flags values os at m k h =
+    let more : List OptionValue = values ++ (option_value (at + 1) OUTPUT (codes "a") ∷ []) in
+    (codes "-o" ∷ (codes "a" ∷ []), subst (λ r. IsJudgedGood Mkndx (behind os r)) (sym (output_read flags values at (is_not (is_given OUTPUT values) k))) (index_good (state_by flags more None) os h (given_last (at + 1) OUTPUT (codes "a") values refl)))
+options_follow Version flags values os at m k h =
+    let none = no_kind flags (lacks_kind flags k) in
+    let now : Flags = with_flag Check flags in
+    let reading : Reading = behind os (reading_by (state_by now values None) (operand_at (at + 1) (codes "a") ∷ []) None) in
+    let stand : has_kind flags ≡ false = version_kinds flags m none.0 none.1 in
+    let read : option_reading (options_of Version) (state_by flags values None) at (codes "-c" ∷ (codes "a" ∷ [])) ≡ reading_by (state_by now values None) (operand_at (at + 1) (codes "a") ∷ []) None = rw stand refl in (
+      codes "-c" ∷ (codes "a" ∷ []),
+      subst (λ r. IsJudgedGood Version (behind os r)) (sym read) (λ end. judged_good Version reading end
+          (rw none.0 (texts_taken 0 (os ++ (operand_at (at + 1) (codes "a") ∷ [])))) refl
+          (rw none.0 (rw (one_more os (operand_at (at + 1) (codes "a"))) refl))),
+    )
+  where
+    lacks_kind : (flags : Flags) → lacks_option Version (state_by flags values None) ≡ true → is_some (version_operands flags) ≡ false
+    lacks_kind flags k = elim (version_operands flags) as (λ o. (not (is_some o) || false) ≡ true → is_some o ≡ false) [
+      | None ↦ λ h. refl
+      | Some rule ↦ λ (h : false ≡ true). absurd (false≢true h)
+    ] k
+
+    by_flags : (t c : Bool) → is_some (if t then Some (exactly 2 Any) else if c then Some (at_least 1 Any) else None) ≡ false → (t ≡ false) × (c ≡ false)
+    by_flags true c h = absurd (true≢false h)
+    by_flags false true h = absurd (true≢false h)
+    by_flags false false h = (refl, refl)
+
+    no_kind : (flags : Flags) → is_some (version_operands flags) ≡ false → (flags.test ≡ false) × (flags.check ≡ false)
+    no_kind flags n = by_flags flags.test flags.check n
+options_follow applet flags values os at m k h = absurd (false≢true k)
+
+pub can_go_on : (applet : Applet) (flags : Flags) (values : List OptionValue) (os : List Operand) (at : ℕ) → may_have applet flags ≡ true → refused_operand (operand_rule applet flags) os ≡ None → CanGoOn applet flags values os at
+can_go_on applet flags values os at m h =
+    elim (lacks_option applet (state_by flags values None)) as (λ b. lacks_option applet (state_by flags values None) ≡ b → CanGoOn applet flags values os at) [
+      | true ↦ λ k. options_follow applet flags values os at m k h
+      | false ↦ λ k. (let can = can_have_texts applet (state_by flags values None) os at k h in
+          (can.0, subst (λ r. IsJudgedGood applet (behind os r)) (sym (can.1 (options_of applet) (state_by flags values None) at refl)) can.2))
     ] refl
 
 -- ---- words that lack a word
@@ -244,18 +383,18 @@ pub both_none : (o unread : Option ℕ) → option_or o unread ≡ None → (o �
 both_none None unread h = (refl, h)
 both_none (Some at) unread h = absurd (none-some at (sym h))
 
-pub completed_from : (words : List (List ℕ)) (start : Start) → is_stuck words start ≡ false → start_of no_flags 1 words ≡ Ok start → judged (length words + 1) start.applet (reading_from start words) ≡ Err (length words + 1) → CanBeCompleted words
+pub completed_from : (words : List (List ℕ)) (start : Start) → is_stuck words start ≡ false → line_start words ≡ Ok start → verdict (length words + 1) start.applet (reading_behind start words) ≡ Err (length words + 1) → CanBeCompleted words
 unfolding command_of
 completed_from words start k s h = by_going (from_going start words low)
   where
     end : ℕ
     end = length words + 1
 
-    entries : List Entry
-    entries = options_of start.applet
+    options : List OptionSpec
+    options = options_of start.applet
 
     reading : Reading
-    reading = reading_from start words
+    reading = reading_behind start words
 
     ended : Bool
     ended = start.ended || have_ended (options_of start.applet) None (drop start.read words)
@@ -266,34 +405,37 @@ completed_from words start k s h = by_going (from_going start words low)
     low : start.read ≤ length words
     low = omega (arith, known.read)
 
-    at_end : IsJudgedAt end (option_or (refused_operand ((row_of start.applet).operands reading.given.flags) reading.operands) reading.unread) end
+    own : may_have start.applet reading.state.flags ≡ true
+    own = (from_kept start (1 + length words) words known).0
+
+    at_end : IsJudgedAt end (option_or (refused_operand (operand_rule start.applet reading.state.flags) reading.operands) reading.unread) end
     at_end = judged_at start.applet reading end end h
 
-    taken : refused_operand ((row_of start.applet).operands reading.given.flags) reading.operands ≡ None
-    taken = none_refused ((row_of start.applet).operands reading.given.flags) (start.read + 1) end reading.operands reading.unread (from_placed start words low).operands at_end
+    taken : refused_operand (operand_rule start.applet reading.state.flags) reading.operands ≡ None
+    taken = none_refused (operand_rule start.applet reading.state.flags) (start.read + 1) end reading.operands reading.unread (from_placed start words low).operands at_end
 
-    free : ((ended && lacks_option start.applet reading.given) ≡ false) × (awaits_none reading.given.awaiting reading.given.values ≡ false)
-    free = or_parts (ended && lacks_option start.applet reading.given) (awaits_none reading.given.awaiting reading.given.values) k
+    free : ((ended && lacks_option start.applet reading.state) ≡ false) × (awaits_none reading.state.awaiting reading.state.values ≡ false)
+    free = or_parts (ended && lacks_option start.applet reading.state) (awaits_none reading.state.awaiting reading.state.values) k
 
-    complete : (more : List (List ℕ)) → IsJudgedGood start.applet (reading_from start (words ++ more)) → CanBeCompleted words
+    complete : (more : List (List ℕ)) → IsJudgedGood start.applet (reading_behind start (words ++ more)) → CanBeCompleted words
     complete more good = (
       more,
-      command_by (length (words ++ more) + 1) start.applet (reading_from start (words ++ more)),
-      ap (with_start (words ++ more)) (start_stays no_flags 1 words more (subst (λ r. IsKnown (1 + length words) r) (sym s) tt) ∙ s) ∙ good (length (words ++ more) + 1),
+      command_read (length (words ++ more) + 1) start.applet (reading_behind start (words ++ more)),
+      ap (command_from (words ++ more)) (start_stays words more start s) ∙ good (length (words ++ more) + 1),
     )
 
-    by_awaiting : (awaiting : Option ValueRule) → reading.given.awaiting ≡ awaiting → ((more : List (List ℕ)) → reading_from start (words ++ more) ≡ behind reading.operands (reading_of entries reading.given end more)) → CanBeCompleted words
+    by_awaiting : (awaiting : Option ValueRule) → reading.state.awaiting ≡ awaiting → ((more : List (List ℕ)) → reading_behind start (words ++ more) ≡ behind reading.operands (option_reading options reading.state end more)) → CanBeCompleted words
     by_awaiting None a on =
-        let can = can_go_on start.applet reading.given.flags reading.given.values reading.operands end taken in
-        complete can.0 (subst (λ r. IsJudgedGood start.applet r) (sym (on can.0 ∙ ap (λ o. behind reading.operands (reading_of entries (given_by reading.given.flags reading.given.values o) end can.0)) a)) can.1)
+        let can = can_go_on start.applet reading.state.flags reading.state.values reading.operands end own taken in
+        complete can.0 (subst (λ r. IsJudgedGood start.applet r) (sym (on can.0 ∙ ap (λ o. behind reading.operands (option_reading options (state_by reading.state.flags reading.state.values o) end can.0)) a)) can.1)
     by_awaiting (Some rule) a on =
-        let text = fitting rule.letter rule.single rule.kind reading.given.values (ap (λ o. awaits_none o reading.given.values) (sym a) ∙ free.1) in
-        let can = can_go_on start.applet reading.given.flags (reading.given.values ++ (value_at end rule.letter text.0 ∷ [])) reading.operands (end + 1) taken in
-        complete (text.0 ∷ can.0) (subst (λ r. IsJudgedGood start.applet r) (sym (on (text.0 ∷ can.0) ∙ ap (behind reading.operands) (value_read entries reading.given end text.0 rule can.0 a text.1))) can.1)
+        let text = fitting rule.letter rule.single rule.kind reading.state.values (ap (λ o. awaits_none o reading.state.values) (sym a) ∙ free.1) in
+        let can = can_go_on start.applet reading.state.flags (reading.state.values ++ (option_value end rule.letter text.0 ∷ [])) reading.operands (end + 1) own taken in
+        complete (text.0 ∷ can.0) (subst (λ r. IsJudgedGood start.applet r) (sym (on (text.0 ∷ can.0) ∙ ap (behind reading.operands) (value_read options reading.state end text.0 rule can.0 a text.1))) can.1)
 
-    by_going : IsGoing entries end ended reading (λ more. reading_from start (words ++ more)) → CanBeCompleted words
-    by_going (inl stopped) = absurd (not_stopped ((row_of start.applet).operands reading.given.flags) end stopped.0 reading.operands reading.unread taken stopped.1 stopped.2 at_end)
-    by_going (inr (inl on)) = by_awaiting reading.given.awaiting refl on.goes_on
+    by_going : IsGoing options end ended reading (λ more. reading_behind start (words ++ more)) → CanBeCompleted words
+    by_going (inl stopped) = absurd (not_stopped (operand_rule start.applet reading.state.flags) end stopped.0 reading.operands reading.unread taken stopped.1 stopped.2 at_end)
+    by_going (inr (inl on)) = by_awaiting reading.state.awaiting refl on.goes_on
     by_going (inr (inr off)) =
-        let can = can_have_texts start.applet reading.given reading.operands end (ap (λ b. b && lacks_option start.applet reading.given) (sym off.over) ∙ free.0) taken in
+        let can = can_have_texts start.applet reading.state reading.operands end (ap (λ b. b && lacks_option start.applet reading.state) (sym off.over) ∙ free.0) taken in
         complete can.0 (subst (λ r. IsJudgedGood start.applet r) (sym (off.goes_on can.0)) can.2)

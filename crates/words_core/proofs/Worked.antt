@@ -1,32 +1,34 @@
 -- Worked words of options with values, of a made-up table, and words that are stuck: what the definitions say of them, by
 -- computation.
-use Rattle.std.proofs.Common.{◌≡◌, ℕ, true, false, List, [], ◌∷◌, ◌++◌, Some, None, codes, refl}
+use Rattle.std.proofs.Common.{List, None, Some, [], codes, false, refl, true, ℕ, ◌++◌, ◌∷◌, ◌≡◌}
+use Rattle.base_core.specs.Name.{is_name}
 use Rattle.std.specs.List.{repeat}
 use Rattle.std.specs.Str.{chars, is_utf8}
 use lib.Utf8.{encode}
-use Rattle.base_core.specs.Name.{is_name}
-use Rattle.words_core.specs.declared.entry.Meaning.TheVariants.{Flag as Plain, Kind, Value}
-use Rattle.words_core.specs.declared.flags.Flag.TheVariants.{NoScripts, Test}
-use Rattle.words_core.specs.declared.given.Given.{Given}
+use Rattle.command_core.specs.declared.command.Flag.TheVariants.{NoScripts, Test}
+use Rattle.command_core.specs.declared.values.OptionValue.{OptionValue}
+use Rattle.command_core.specs.declared.values.TheConstants.{OUTPUT}
+use Rattle.command_core.specs.declared.values.ValueKind.TheVariants.{Any, File, Nonempty, Output, Script, Uncompressed}
+use Rattle.command_core.specs.declared.values.ValueRule.{ValueRule}
+use Rattle.command_core.specs.Flags.{no_flags, with_flag}
+use Rattle.command_core.specs.Operands.{operand_at}
+use Rattle.command_core.specs.Values.{is_value, option_value}
+use Rattle.words_core.specs.declared.options.Meaning.TheVariants.{Flag as Plain, Kind, Value}
+use Rattle.words_core.specs.declared.reading.OptionState.{OptionState}
 use Rattle.words_core.specs.declared.reading.Reading.{Reading}
-use Rattle.words_core.specs.declared.value_rule.ValueKind.TheVariants.{Any, File, Nonempty, Output, Script, Uncompressed}
-use Rattle.words_core.specs.declared.value_rule.ValueRule.{ValueRule}
-use Rattle.words_core.specs.declared.values.OptionValue.{OptionValue}
-use Rattle.words_core.specs.Flags.{no_flags, with_flag}
-use Rattle.words_core.specs.Applets.{Entry, common}
-use Rattle.words_core.specs.Grammar.{given_by, given_first, held_value, name_of, operand_at, options_of, reading_by, reading_from, reading_of, start_at, start_behind_end, value_at}
+use Rattle.words_core.specs.Grammar.{first_state, held_value, option_name, option_reading, reading_behind, reading_by, site_at, site_behind_end, state_by}
+use Rattle.words_core.specs.Options.{OptionSpec, common_options, early_words, options_of}
 use Rattle.words_core.specs.Stuck.{are_stuck}
-use Rattle.words_core.specs.Values.{is_value}
 
 -- `-o` stands once and has any value, `-f` stands once and has a file, `-I` has texts and `-s` has scripts; `-t` and `-n`
 -- have none
 abbrev output : ValueRule
-output = record { letter = 111; single = true; kind = Any }
+output = record { letter = OUTPUT; single = true; kind = Any }
 
 abbrev info : ValueRule
 info = record { letter = 73; single = false; kind = Nonempty }
 
-abbrev table : List Entry
+abbrev table : List OptionSpec
 table =
     record { long = codes "--output"; short = codes "-o"; meaning = Value output } ∷
     (record { long = codes "--file"; short = codes "-f"; meaning = Value (record { letter = 102; single = true; kind = File }) } ∷
@@ -37,11 +39,11 @@ table =
 
 -- words behind an applet that is the first word
 abbrev read : List (List ℕ) → Reading
-read words = reading_of table (given_first no_flags) 2 words
+read words = option_reading table (first_state no_flags) 2 words
 
 -- values that were given, and no flags
-abbrev giving : List OptionValue → Given
-giving values = given_by no_flags values None
+abbrev giving : List OptionValue → OptionState
+giving values = state_by no_flags values None
 
 -- all words were read, and they gave values
 abbrev whole : List OptionValue → Reading
@@ -53,145 +55,145 @@ up_to values place = reading_by (giving values) [] (Some place)
 
 -- ---- where the value of an option is, and whose place it has
 
-behind_short : read (codes "-o" ∷ (codes "a" ∷ [])) ≡ whole (value_at 3 111 (codes "a") ∷ [])
-unfolding name_of held_value
+behind_short : read (codes "-o" ∷ (codes "a" ∷ [])) ≡ whole (option_value 3 OUTPUT (codes "a") ∷ [])
+unfolding option_name held_value
 behind_short = refl
 
-in_short : read (codes "-oa" ∷ []) ≡ whole (value_at 2 111 (codes "a") ∷ [])
-unfolding name_of held_value
+in_short : read (codes "-oa" ∷ []) ≡ whole (option_value 2 OUTPUT (codes "a") ∷ [])
+unfolding option_name held_value
 in_short = refl
 
-behind_long : read (codes "--output" ∷ (codes "a" ∷ [])) ≡ whole (value_at 3 111 (codes "a") ∷ [])
-unfolding name_of held_value
+behind_long : read (codes "--output" ∷ (codes "a" ∷ [])) ≡ whole (option_value 3 OUTPUT (codes "a") ∷ [])
+unfolding option_name held_value
 behind_long = refl
 
-in_long : read (codes "--output=a" ∷ []) ≡ whole (value_at 2 111 (codes "a") ∷ [])
-unfolding name_of held_value
+in_long : read (codes "--output=a" ∷ []) ≡ whole (option_value 2 OUTPUT (codes "a") ∷ [])
+unfolding option_name held_value
 in_long = refl
 
 -- what is behind the first `=` is the value, and behind a letter even the `=` is of it
-empty_in_long : read (codes "--output=" ∷ []) ≡ whole (value_at 2 111 [] ∷ [])
-unfolding name_of held_value
+empty_in_long : read (codes "--output=" ∷ []) ≡ whole (option_value 2 OUTPUT [] ∷ [])
+unfolding option_name held_value
 empty_in_long = refl
 
-equals_in_long : read (codes "--output=a=b" ∷ []) ≡ whole (value_at 2 111 (codes "a=b") ∷ [])
-unfolding name_of held_value
+equals_in_long : read (codes "--output=a=b" ∷ []) ≡ whole (option_value 2 OUTPUT (codes "a=b") ∷ [])
+unfolding option_name held_value
 equals_in_long = refl
 
-equals_in_short : read (codes "-o=a" ∷ []) ≡ whole (value_at 2 111 (codes "=a") ∷ [])
-unfolding name_of held_value
+equals_in_short : read (codes "-o=a" ∷ []) ≡ whole (option_value 2 OUTPUT (codes "=a") ∷ [])
+unfolding option_name held_value
 equals_in_short = refl
 
 -- the word behind an option is its value, whatever it looks like
-end_is_value : read (codes "-o" ∷ (codes "--" ∷ [])) ≡ whole (value_at 3 111 (codes "--") ∷ [])
-unfolding name_of held_value
+end_is_value : read (codes "-o" ∷ (codes "--" ∷ [])) ≡ whole (option_value 3 OUTPUT (codes "--") ∷ [])
+unfolding option_name held_value
 end_is_value = refl
 
-option_is_value : read (codes "-o" ∷ (codes "-o" ∷ [])) ≡ whole (value_at 3 111 (codes "-o") ∷ [])
-unfolding name_of held_value
+option_is_value : read (codes "-o" ∷ (codes "-o" ∷ [])) ≡ whole (option_value 3 OUTPUT (codes "-o") ∷ [])
+unfolding option_name held_value
 option_is_value = refl
 
-empty_is_value : read (codes "-o" ∷ ([] ∷ [])) ≡ whole (value_at 3 111 [] ∷ [])
-unfolding name_of held_value
+empty_is_value : read (codes "-o" ∷ ([] ∷ [])) ≡ whole (option_value 3 OUTPUT [] ∷ [])
+unfolding option_name held_value
 empty_is_value = refl
 
 -- and behind a value that its word holds comes the next word: an operand, or the end of the options
-operands_behind : read (codes "-oa" ∷ (codes "b" ∷ (codes "--" ∷ (codes "-o" ∷ [])))) ≡ reading_by (giving (value_at 2 111 (codes "a") ∷ [])) (operand_at 3 (codes "b") ∷ (operand_at 5 (codes "-o") ∷ [])) None
-unfolding name_of held_value
+operands_behind : read (codes "-oa" ∷ (codes "b" ∷ (codes "--" ∷ (codes "-o" ∷ [])))) ≡ reading_by (giving (option_value 2 OUTPUT (codes "a") ∷ [])) (operand_at 3 (codes "b") ∷ (operand_at 5 (codes "-o") ∷ [])) None
+unfolding option_name held_value
 operands_behind = refl
 
 -- ---- a value that is missing is so behind the last word
 
-missing : read (codes "-o" ∷ []) ≡ reading_by (given_by no_flags [] (Some output)) [] (Some 3)
-unfolding name_of held_value
+missing : read (codes "-o" ∷ []) ≡ reading_by (state_by no_flags [] (Some output)) [] (Some 3)
+unfolding option_name held_value
 missing = refl
 
-missing_behind_others : read (codes "b" ∷ (codes "-oa" ∷ (codes "--info" ∷ []))) ≡ reading_by (given_by no_flags (value_at 3 111 (codes "a") ∷ []) (Some info)) (operand_at 2 (codes "b") ∷ []) (Some 5)
-unfolding name_of held_value
+missing_behind_others : read (codes "b" ∷ (codes "-oa" ∷ (codes "--info" ∷ []))) ≡ reading_by (state_by no_flags (option_value 3 OUTPUT (codes "a") ∷ []) (Some info)) (operand_at 2 (codes "b") ∷ []) (Some 5)
+unfolding option_name held_value
 missing_behind_others = refl
 
 -- ---- which options may stand again
 
-single_twice : read (codes "-o" ∷ (codes "a" ∷ (codes "-o" ∷ (codes "b" ∷ [])))) ≡ up_to (value_at 3 111 (codes "a") ∷ []) 4
-unfolding name_of held_value
+single_twice : read (codes "-o" ∷ (codes "a" ∷ (codes "-o" ∷ (codes "b" ∷ [])))) ≡ up_to (option_value 3 OUTPUT (codes "a") ∷ []) 4
+unfolding option_name held_value
 single_twice = refl
 
-single_twice_at_end : read (codes "-o" ∷ (codes "a" ∷ (codes "-o" ∷ []))) ≡ up_to (value_at 3 111 (codes "a") ∷ []) 4
-unfolding name_of held_value
+single_twice_at_end : read (codes "-o" ∷ (codes "a" ∷ (codes "-o" ∷ []))) ≡ up_to (option_value 3 OUTPUT (codes "a") ∷ []) 4
+unfolding option_name held_value
 single_twice_at_end = refl
 
-single_in_both_words : read (codes "--output=a" ∷ (codes "-oa" ∷ [])) ≡ up_to (value_at 2 111 (codes "a") ∷ []) 3
-unfolding name_of held_value
+single_in_both_words : read (codes "--output=a" ∷ (codes "-oa" ∷ [])) ≡ up_to (option_value 2 OUTPUT (codes "a") ∷ []) 3
+unfolding option_name held_value
 single_in_both_words = refl
 
-repeated : read (codes "-I" ∷ (codes "a" ∷ (codes "-Ia" ∷ (codes "--info=b" ∷ [])))) ≡ whole (value_at 3 73 (codes "a") ∷ (value_at 4 73 (codes "a") ∷ (value_at 5 73 (codes "b") ∷ [])))
-unfolding name_of held_value
+repeated : read (codes "-I" ∷ (codes "a" ∷ (codes "-Ia" ∷ (codes "--info=b" ∷ [])))) ≡ whole (option_value 3 73 (codes "a") ∷ (option_value 4 73 (codes "a") ∷ (option_value 5 73 (codes "b") ∷ [])))
+unfolding option_name held_value
 repeated = refl
 
-two_options : read (codes "-Ia" ∷ (codes "-ob" ∷ [])) ≡ whole (value_at 2 73 (codes "a") ∷ (value_at 3 111 (codes "b") ∷ []))
-unfolding name_of held_value
+two_options : read (codes "-Ia" ∷ (codes "-ob" ∷ [])) ≡ whole (option_value 2 73 (codes "a") ∷ (option_value 3 OUTPUT (codes "b") ∷ []))
+unfolding option_name held_value
 two_options = refl
 
 -- ---- scripts: one of a type
 
-scripts : read (codes "-s" ∷ (codes "trigger:a" ∷ (codes "--script=pre-install:./a" ∷ []))) ≡ whole (value_at 3 115 (codes "trigger:a") ∷ (value_at 4 115 (codes "pre-install:./a") ∷ []))
-unfolding name_of held_value is_name is_utf8 chars encode
+scripts : read (codes "-s" ∷ (codes "trigger:a" ∷ (codes "--script=pre-install:./a" ∷ []))) ≡ whole (option_value 3 115 (codes "trigger:a") ∷ (option_value 4 115 (codes "pre-install:./a") ∷ []))
+unfolding option_name held_value is_name is_utf8 chars encode
 scripts = refl
 
-type_twice : read (codes "-s" ∷ (codes "trigger:a" ∷ (codes "-s" ∷ (codes "trigger:b" ∷ [])))) ≡ reading_by (given_by no_flags (value_at 3 115 (codes "trigger:a") ∷ []) (Some (record { letter = 115; single = false; kind = Script }))) [] (Some 5)
-unfolding name_of held_value is_name is_utf8 chars encode
+type_twice : read (codes "-s" ∷ (codes "trigger:a" ∷ (codes "-s" ∷ (codes "trigger:b" ∷ [])))) ≡ reading_by (state_by no_flags (option_value 3 115 (codes "trigger:a") ∷ []) (Some (record { letter = 115; single = false; kind = Script }))) [] (Some 5)
+unfolding option_name held_value is_name is_utf8 chars encode
 type_twice = refl
 
-type_twice_in_word : read (codes "-strigger:a" ∷ (codes "-strigger:a" ∷ [])) ≡ up_to (value_at 2 115 (codes "trigger:a") ∷ []) 3
-unfolding name_of held_value is_name is_utf8 chars encode
+type_twice_in_word : read (codes "-strigger:a" ∷ (codes "-strigger:a" ∷ [])) ≡ up_to (option_value 2 115 (codes "trigger:a") ∷ []) 3
+unfolding option_name held_value is_name is_utf8 chars encode
 type_twice_in_word = refl
 
 no_type : read (codes "-strigge:a" ∷ []) ≡ up_to [] 2
-unfolding name_of held_value is_name is_utf8 chars encode
+unfolding option_name held_value is_name is_utf8 chars encode
 no_type = refl
 
 no_colon : read (codes "-strigger" ∷ []) ≡ up_to [] 2
-unfolding name_of held_value is_name is_utf8 chars encode
+unfolding option_name held_value is_name is_utf8 chars encode
 no_colon = refl
 
 -- ---- a value that its option does not have is at its own word
 
-bad_behind : read (codes "-f" ∷ (codes "/a" ∷ [])) ≡ reading_by (given_by no_flags [] (Some (record { letter = 102; single = true; kind = File }))) [] (Some 3)
-unfolding name_of held_value is_name is_utf8 chars encode
+bad_behind : read (codes "-f" ∷ (codes "/a" ∷ [])) ≡ reading_by (state_by no_flags [] (Some (record { letter = 102; single = true; kind = File }))) [] (Some 3)
+unfolding option_name held_value is_name is_utf8 chars encode
 bad_behind = refl
 
 bad_in_short : read (codes "-f/a" ∷ []) ≡ up_to [] 2
-unfolding name_of held_value is_name is_utf8 chars encode
+unfolding option_name held_value is_name is_utf8 chars encode
 bad_in_short = refl
 
-empty_behind : read (codes "-I" ∷ ([] ∷ [])) ≡ reading_by (given_by no_flags [] (Some info)) [] (Some 3)
-unfolding name_of held_value
+empty_behind : read (codes "-I" ∷ ([] ∷ [])) ≡ reading_by (state_by no_flags [] (Some info)) [] (Some 3)
+unfolding option_name held_value
 empty_behind = refl
 
-bad_in_long : read (codes "-Ia" ∷ (codes "--info=" ∷ [])) ≡ up_to (value_at 2 73 (codes "a") ∷ []) 3
-unfolding name_of held_value
+bad_in_long : read (codes "-Ia" ∷ (codes "--info=" ∷ [])) ≡ up_to (option_value 2 73 (codes "a") ∷ []) 3
+unfolding option_name held_value
 bad_in_long = refl
 
 -- ---- words that spell no option, and values of options that have none
 
 flag_with_value : read (codes "--test=x" ∷ []) ≡ up_to [] 2
-unfolding name_of held_value
+unfolding option_name held_value
 flag_with_value = refl
 
 flag_with_empty_value : read (codes "--test=" ∷ []) ≡ up_to [] 2
-unfolding name_of held_value
+unfolding option_name held_value
 flag_with_empty_value = refl
 
 flag_with_more : read (codes "-nt" ∷ []) ≡ up_to [] 2
-unfolding name_of held_value
+unfolding option_name held_value
 flag_with_more = refl
 
-flag_alone : read (codes "-t" ∷ (codes "a" ∷ [])) ≡ reading_by (given_by (with_flag Test no_flags) [] None) (operand_at 3 (codes "a") ∷ []) None
-unfolding name_of held_value
+flag_alone : read (codes "-t" ∷ (codes "a" ∷ [])) ≡ reading_by (state_by (with_flag Test no_flags) [] None) (operand_at 3 (codes "a") ∷ []) None
+unfolding option_name held_value
 flag_alone = refl
 
-no_option : read (codes "-oa" ∷ (codes "--outpu=b" ∷ [])) ≡ up_to (value_at 2 111 (codes "a") ∷ []) 3
-unfolding name_of held_value
+no_option : read (codes "-oa" ∷ (codes "--outpu=b" ∷ [])) ≡ up_to (option_value 2 OUTPUT (codes "a") ∷ []) 3
+unfolding option_name held_value
 no_option = refl
 
 -- ---- kinds of values
@@ -218,56 +220,65 @@ file_of_1017 = refl
 
 -- the options have ended, and the kind is lacking
 no_kind_follows : are_stuck (codes "version" ∷ (codes "a" ∷ (codes "--" ∷ []))) ≡ true
-unfolding are_stuck reading_from start_at start_behind_end common options_of name_of held_value is_name is_utf8 chars encode
+unfolding are_stuck reading_behind site_at site_behind_end early_words common_options options_of option_name held_value is_name is_utf8 chars encode
 no_kind_follows = refl
 
 no_kind_follows_early : are_stuck (codes "--" ∷ (codes "version" ∷ [])) ≡ true
-unfolding are_stuck reading_from start_at start_behind_end common options_of name_of held_value is_name is_utf8 chars encode
+unfolding are_stuck reading_behind site_at site_behind_end early_words common_options options_of option_name held_value is_name is_utf8 chars encode
 no_kind_follows_early = refl
 
 kind_is_given : are_stuck (codes "version" ∷ (codes "-t" ∷ (codes "--" ∷ (codes "a" ∷ [])))) ≡ false
-unfolding are_stuck reading_from start_at start_behind_end common options_of name_of held_value is_name is_utf8 chars encode
+unfolding are_stuck reading_behind site_at site_behind_end early_words common_options options_of option_name held_value is_name is_utf8 chars encode
 kind_is_given = refl
 
 kind_follows : are_stuck (codes "version" ∷ (codes "a" ∷ [])) ≡ false
-unfolding are_stuck reading_from start_at start_behind_end common options_of name_of held_value is_name is_utf8 chars encode
+unfolding are_stuck reading_behind site_at site_behind_end early_words common_options options_of option_name held_value is_name is_utf8 chars encode
 kind_follows = refl
 
 no_output_follows : are_stuck (codes "mkndx" ∷ (codes "--" ∷ (codes "a" ∷ []))) ≡ true
-unfolding are_stuck reading_from start_at start_behind_end common options_of name_of held_value is_name is_utf8 chars encode
+unfolding are_stuck reading_behind site_at site_behind_end early_words common_options options_of option_name held_value is_name is_utf8 chars encode
 no_output_follows = refl
 
 output_is_given : are_stuck (codes "mkndx" ∷ (codes "-oi" ∷ (codes "--" ∷ []))) ≡ false
-unfolding are_stuck reading_from start_at start_behind_end common options_of name_of held_value is_name is_utf8 chars encode
+unfolding are_stuck reading_behind site_at site_behind_end early_words common_options options_of option_name held_value is_name is_utf8 chars encode
 output_is_given = refl
 
 -- `--` as a value ends nothing
 end_as_value : are_stuck (codes "mkndx" ∷ (codes "-d" ∷ (codes "--" ∷ []))) ≡ false
-unfolding are_stuck reading_from start_at start_behind_end common options_of name_of held_value is_name is_utf8 chars encode
+unfolding are_stuck reading_behind site_at site_behind_end early_words common_options options_of option_name held_value is_name is_utf8 chars encode
 end_as_value = refl
 
 end_behind_value : are_stuck (codes "mkndx" ∷ (codes "-d" ∷ (codes "--" ∷ (codes "--" ∷ [])))) ≡ true
-unfolding are_stuck reading_from start_at start_behind_end common options_of name_of held_value is_name is_utf8 chars encode
+unfolding are_stuck reading_behind site_at site_behind_end early_words common_options options_of option_name held_value is_name is_utf8 chars encode
 end_behind_value = refl
 
 nothing_is_lacking : are_stuck (codes "--" ∷ (codes "mkpkg" ∷ [])) ≡ false
-unfolding are_stuck reading_from start_at start_behind_end common options_of name_of held_value is_name is_utf8 chars encode
+unfolding are_stuck reading_behind site_at site_behind_end early_words common_options options_of option_name held_value is_name is_utf8 chars encode
 nothing_is_lacking = refl
 
 -- a script is awaited, and there is one of each type
 no_script_follows : are_stuck (codes "mkpkg" ∷ (codes "-strigger:a" ∷ (codes "-spre-install:a" ∷ (codes "-spost-install:a" ∷ (codes "-spre-deinstall:a" ∷ (codes "-spost-deinstall:a" ∷ (codes "-spre-upgrade:a" ∷ (codes "-spost-upgrade:a" ∷ (codes "-s" ∷ []))))))))) ≡ true
-unfolding are_stuck reading_from start_at start_behind_end common options_of name_of held_value is_name is_utf8 chars encode
+unfolding are_stuck reading_behind site_at site_behind_end early_words common_options options_of option_name held_value is_name is_utf8 chars encode
 no_script_follows = refl
 
 script_follows : are_stuck (codes "mkpkg" ∷ (codes "-spre-install:a" ∷ (codes "-spost-install:a" ∷ (codes "-spre-deinstall:a" ∷ (codes "-spost-deinstall:a" ∷ (codes "-spre-upgrade:a" ∷ (codes "-spost-upgrade:a" ∷ (codes "-s" ∷ [])))))))) ≡ false
-unfolding are_stuck reading_from start_at start_behind_end common options_of name_of held_value is_name is_utf8 chars encode
+unfolding are_stuck reading_behind site_at site_behind_end early_words common_options options_of option_name held_value is_name is_utf8 chars encode
 script_follows = refl
 
 scripts_are_given : are_stuck (codes "mkpkg" ∷ (codes "-strigger:a" ∷ (codes "-spre-install:a" ∷ (codes "-spost-install:a" ∷ (codes "-spre-deinstall:a" ∷ (codes "-spost-deinstall:a" ∷ (codes "-spre-upgrade:a" ∷ (codes "-spost-upgrade:a" ∷ [])))))))) ≡ false
-unfolding are_stuck reading_from start_at start_behind_end common options_of name_of held_value is_name is_utf8 chars encode
+unfolding are_stuck reading_behind site_at site_behind_end early_words common_options options_of option_name held_value is_name is_utf8 chars encode
 scripts_are_given = refl
+
+-- options before the applet that no applet of today has
+no_applet_has_them : are_stuck (codes "--initdb" ∷ (codes "--purge" ∷ [])) ≡ true
+unfolding are_stuck reading_behind site_at site_behind_end early_words common_options options_of option_name held_value is_name is_utf8 chars encode
+no_applet_has_them = refl
+
+each_has_them : are_stuck (codes "--no-scripts" ∷ (codes "--allow-untrusted" ∷ [])) ≡ false
+unfolding are_stuck reading_behind site_at site_behind_end early_words common_options options_of option_name held_value is_name is_utf8 chars encode
+each_has_them = refl
 
 -- an applet can follow
 no_applet : are_stuck (codes "--" ∷ []) ≡ false
-unfolding are_stuck reading_from start_at start_behind_end common options_of name_of held_value is_name is_utf8 chars encode
+unfolding are_stuck reading_behind site_at site_behind_end early_words common_options options_of option_name held_value is_name is_utf8 chars encode
 no_applet = refl

@@ -1,10 +1,9 @@
-pub mod Flags
-pub mod Values
-pub mod Applets
-pub mod Command
+-- what the contract of `apk` says
+pub mod Options
 pub mod Grammar
-pub mod Taken
-pub mod Entries
+-- what only inner contracts and proofs use
+pub mod Rows
+pub mod Steps
+pub mod Faults
 pub mod Lines
 pub mod Stuck
-pub mod Faults

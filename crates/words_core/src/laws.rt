@@ -1,5 +1,6 @@
+//! Laws of the grammar of command lines.
 ghost use Rattle.std.specs.Prelude.{◌≡◌, ◌≤◌, ◌<◌, ◌+◌, ◌-◌, ◌++◌, ℕ, List, Ok, Err, IsTrue, length, not, take};
-ghost use Rattle.words_core.specs.Command.{CommandLine};
+ghost use Rattle.command_core.specs.Command.{CommandLine};
 ghost use Rattle.words_core.specs.Grammar.{command_of};
 ghost use Rattle.words_core.specs.Lines.{IsLineOf};
 ghost use Rattle.words_core.specs.Stuck.{are_stuck};
@@ -24,11 +25,14 @@ pub fn words_offend_whatever_follows()
     ensures { (words more : List (List ℕ)) (place : ℕ) → command_of words ≡ Err place → place ≤ length words → command_of (words ++ more) ≡ Err place }
 {}
 
-/// The words before a usage error do not offend: they can be completed to a command, unless they are stuck. They are
-/// where `--`, other than as a value, has ended their options while `version` lacks its kind or `mkndx` its `-o`, and
-/// where `mkpkg` awaits one more script and has one of each of the seven types.
+/// The words before a usage error do not offend: they can be completed to a command, unless they are stuck. They are in
+/// three cases: no applet is named yet, and none has all the options before it; `--`, other than as a value, has ended the
+/// options while `version` lacks its kind or `mkndx` its `-o`; `mkpkg` awaits one more script and has one of each of the
+/// seven types.
 pub fn words_before_a_usage_error_can_be_completed()
-    ensures { (words : List (List ℕ)) (place : ℕ) → IsTrue (not (are_stuck (take (place - 1) words))) → command_of words ≡ Err place → (more : List (List ℕ)) × (command : CommandLine) × (command_of (take (place - 1) words ++ more) ≡ Ok command) }
+    ensures { (words : List (List ℕ)) (place : ℕ) →
+        IsTrue (not (are_stuck (take (place - 1) words))) → command_of words ≡ Err place →
+        (more : List (List ℕ)) × (command : CommandLine) × (command_of (take (place - 1) words ++ more) ≡ Ok command) }
 {}
 
 /// Stuck words are no command, whatever follows.

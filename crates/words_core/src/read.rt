@@ -1,14 +1,13 @@
-ghost use Rattle.std.specs.Prelude.{◌≡◌, IsTrue, IfOk, IfErr};
+//! Reads a command.
+ghost use Rattle.std.specs.Prelude.{◌≡◌, IfOk, IfErr};
 ghost use Rattle.words_core.specs.Faults.{IsBehindApplet, IsWordsFault};
-ghost use Rattle.words_core.specs.Flags.{no_flags};
-ghost use Rattle.words_core.specs.Grammar.{IsSoundReading, command_of, judged, start_of};
+ghost use Rattle.words_core.specs.Grammar.{command_of, line_start, verdict};
+ghost use Rattle.words_core.specs.Steps.{IsSoundReading};
 
-use crate::applet::Applet;
-use crate::command::Command;
-use crate::reading::{Reading, read_behind};
-use crate::start::find_applet;
-use crate::words::place_behind;
+use crate::reading::{Reading, read_behind, read_start};
+use crate::word::place_behind;
 use base_core::Words;
+use command_core::{Applet, Command};
 use std::alloc::{AllocError, Global};
 
 /// Why there is no command.
@@ -31,39 +30,38 @@ impl From<AllocError> for WordsFault {
     }
 }
 
-/// The command of the words of a command line. `Usage` comes exactly outside the grammar, at the first word that
-/// offends once the whole line is known. `Memory` comes only where an applet was found.
+/// The command of the words of a command line (apk(8)).
+///
+/// # Errors
+///
+/// `Usage` comes exactly outside the grammar, at the first word that offends once the whole line is known. `Memory`
+/// comes only where an applet was found, with its own options before it.
 #[tactic(auto, unfolding(crate::specs::Grammar::command_of))]
 pub fn read_words(alloc: Global, words: &Words) -> Result<Command, WordsFault>
     ensures ok { IfOk result (λ command. command_of words.now ≡ Ok command) }
     ensures usage { IfErr result (λ fault. IsWordsFault fault (command_of words.now)) }
-    ensures memory { IfErr result (λ fault. IsBehindApplet fault (start_of no_flags 1 words.now)) }
+    ensures memory { IfErr result (λ fault. IsBehindApplet fault (line_start words.now)) }
 {
-    let start = match find_applet(words) {
+    let start = match read_start(words) {
         Ok(start) => start,
         Err(place) => return Err(WordsFault::Usage { place }),
     };
     let reading = read_behind(alloc, words, &start)?;
-    judge(alloc, start.applet, reading, place_behind(words.len()))
+    judge(start.applet, reading, place_behind(words.len()))
 }
 
 // The command that was read, or the first place that offends; one place is behind the last word.
-#[tactic(auto, unfolding(crate::specs::Grammar::judged))]
-fn judge(
-    alloc: Global,
-    applet: Applet,
-    reading: Reading,
-    behind: u32,
-) -> Result<Command, WordsFault>
+#[tactic(auto, unfolding(crate::specs::Grammar::verdict))]
+fn judge(applet: Applet, reading: Reading, behind: u32) -> Result<Command, WordsFault>
     requires { IsSoundReading applet reading }
-    ensures ok { IfOk result (λ command. judged behind applet reading ≡ Ok command) }
-    ensures usage { IfErr result (λ fault. IsWordsFault fault (judged behind applet reading)) }
+    ensures ok { IfOk result (λ command. verdict behind applet reading ≡ Ok command) }
+    ensures usage { IfErr result (λ fault. IsWordsFault fault (verdict behind applet reading)) }
 {
-    let Some(rule) = applet.operands(reading.given.flags) else {
+    let Some(rule) = applet.operands(reading.state.flags) else {
         let place = reading.unread.unwrap_or(behind);
         return Err(WordsFault::Usage { place });
     };
-    if let Some(place) = rule.first_refused(alloc, &reading.operands)? {
+    if let Some(place) = rule.first_refused(&reading.operands) {
         return Err(WordsFault::Usage { place });
     }
     if let Some(place) = reading.unread {
@@ -72,14 +70,14 @@ fn judge(
     if reading.operands.len() < rule.least {
         return Err(WordsFault::Usage { place: behind });
     }
-    if !reading.given.has_needed(applet) {
+    if !reading.state.has_needed(applet) {
         return Err(WordsFault::Usage { place: behind });
     }
     Ok(Command::of(
         applet,
-        reading.given.flags,
+        reading.state.flags,
         reading.operands,
-        reading.given.values,
+        reading.state.values,
         behind,
     ))
 }

@@ -1,18 +1,257 @@
-ghost use Rattle.std.specs.Prelude.{◌≡◌, ◌+◌, ◌++◌, ◌≤◌, Some, None, IfOk, OnOk, length, drop};
-ghost use Rattle.words_core.specs.Grammar.{given_first, operands_of, options_of, reading_by, reading_end, reading_from, reading_of};
+//! Reads the words from left to right: up to the applet, and then options, their values and operands.
+ghost use Rattle.std.specs.Prelude.{◌≡◌, ◌+◌, ◌-◌, ◌++◌, ◌≤◌, ◌<◌, Some, None, IfOk, IsTrue, OnOk, length, drop, take, not};
+ghost use Rattle.std.specs.Option.{option_map};
+ghost use Rattle.command_core.specs.Applets.{needed_option};
+ghost use Rattle.command_core.specs.Flags.{no_flags};
+ghost use Rattle.command_core.specs.Values.{lacks_value};
+ghost use Rattle.words_core.specs.Grammar.{applet_site, early_flags, first_state, is_option, is_option_or_value, line_start, operands_of, option_reading, reading_behind, reading_by, reading_end, site_at, site_behind_end, with_flags, with_meaning, with_meaning_at, with_rule, with_spelled, with_value, with_word};
+ghost use Rattle.words_core.specs.Options.{options_of};
+ghost use Rattle.words_core.specs.Steps.{IsStep};
 
-use crate::given::Given;
-use crate::operands::Operands;
-use crate::start::Start;
-use crate::words::{is_end, place_behind};
+use crate::options::{Meaning, applet_of, is_early, option_spelled, with_option};
+use crate::word::{MOST_PLACES, held_value, is_end, is_option, option_name, place_behind};
 use base_core::Words;
+use command_core::{Applet, Flags, Operands, ValueRule, Values};
 use std::alloc::{AllocError, Global};
+
+// ---- up to the applet
+
+/// Where the applet stands.
+#[derive(Clone, Copy)]
+pub(crate) struct AppletSite {
+    pub applet: Applet,
+    /// Whether the options have ended before it.
+    pub ended: bool,
+    /// How many words are read, the applet's among them.
+    pub read: usize,
+}
+
+/// The applet, where it stands, and the flags before it.
+#[derive(Clone, Copy)]
+pub(crate) struct Start {
+    pub applet: Applet,
+    pub flags: Flags,
+    pub ended: bool,
+    pub read: usize,
+}
+
+/// Reads the words up to the applet. An error is the place of the first word that offends.
+pub(crate) fn read_start(words: &Words) -> Result<Start, u32>
+    ensures { result ≡ line_start words.now }
+{
+    let site = find_applet(words)?;
+    let flags = read_early(words, &site)?;
+    Ok(Start {
+        applet: site.applet,
+        flags,
+        ended: site.ended,
+        read: site.read,
+    })
+}
+
+// Looks for the applet, which only some options may stand before.
+fn find_applet(words: &Words) -> Result<AppletSite, u32>
+    ensures site { result ≡ applet_site 1 words.now }
+    ensures few { length words.now < MOST_PLACES }
+{
+    for i in 0..words.len() {
+        let word = words.word(i);
+        if is_end(word) {
+            return applet_behind_end(words, i + 1);
+        }
+        if !is_option(word) {
+            return applet_at(word, false, i);
+        }
+        if !is_early(word) {
+            return Err(place_behind(i));
+        }
+    }
+    Err(place_behind(words.len()))
+}
+
+// The applet behind the end of the options.
+#[tactic(auto, unfolding(crate::specs::Grammar::site_behind_end), using(crate::proofs::OneMore::left_at))]
+fn applet_behind_end(words: &Words, before: usize) -> Result<AppletSite, u32>
+    requires { before ≤ length words.now }
+    ensures { result ≡ site_behind_end (before + 1) (drop before words.now) }
+{
+    if before == words.len() {
+        return Err(place_behind(before));
+    }
+    applet_at(words.word(before), true, before)
+}
+
+// The applet that is a word with so many before it.
+#[tactic(auto, unfolding(crate::specs::Grammar::site_at))]
+fn applet_at(word: &[u8], ended: bool, before: usize) -> Result<AppletSite, u32>
+    requires { before < MOST_PLACES }
+    ensures { result ≡ site_at ended (before + 1) word.now }
+{
+    match applet_of(word) {
+        Some(applet) => Ok(AppletSite {
+            applet,
+            ended,
+            read: before + 1,
+        }),
+        None => Err(place_behind(before)),
+    }
+}
+
+// The flags before the applet: each is one of its options.
+fn read_early(words: &Words, site: &AppletSite) -> Result<Flags, u32>
+    requires low { 1 ≤ site.now.read }
+    requires high { site.now.read ≤ length words.now }
+    requires few { length words.now < MOST_PLACES }
+    ensures { result ≡ early_flags (options_of site.now.applet) no_flags 1 (take (site.now.read - 1) words.now) }
+{
+    let mut flags = Flags::none();
+    for i in 0..site.read - 1 {
+        let word = words.word(i);
+        if is_end(word) {
+            return Ok(flags);
+        }
+        match with_option(flags, option_spelled(site.applet, word)) {
+            Some(more) => flags = more,
+            None => return Err(place_behind(i)),
+        }
+    }
+    Ok(flags)
+}
+
+// ---- behind the applet
+
+/// What the options that are read have said.
+#[derive(Drop)]
+pub(crate) struct OptionState {
+    pub flags: Flags,
+    pub values: Values,
+    /// The option whose value is the next word.
+    pub awaiting: Option<ValueRule>,
+}
+
+impl OptionState {
+    // Flags, and no values.
+    fn new(alloc: Global, flags: Flags) -> OptionState
+        ensures { result ≡ first_state flags }
+    {
+        OptionState {
+            flags,
+            values: Values::new(alloc),
+            awaiting: None,
+        }
+    }
+
+    // Whether a word is a value that is awaited, or an option.
+    fn expects(&self, word: &[u8]) -> bool
+        ensures { result ≡ is_option_or_value self.now word.now }
+    {
+        self.awaiting.is_some() || (is_option(word) && !is_end(word))
+    }
+
+    // Reads the word at a place: the value that is awaited, or an option. False comes where the word cannot be read, and
+    // then nothing changes.
+    fn read_word(&mut self, applet: Applet, place: u32, word: &[u8]) -> Result<bool, AllocError>
+        requires { IsTrue (is_option_or_value self.old word.now) }
+        ensures { IfOk result (λ good. IsStep good self.old self.new (with_word (options_of applet) self.old place word.now)) }
+    {
+        match self.awaiting {
+            Some(rule) => self.read_value(place, word, rule),
+            None => self.read_option(applet, place, word),
+        }
+    }
+
+    /// Whether the option that an applet needs was given.
+    pub(crate) fn has_needed(&self, applet: Applet) -> bool
+        ensures { result ≡ not (lacks_value (needed_option applet) self.now.values) }
+    {
+        match applet.needed_option() {
+            Some(letter) => self.values.is_given(letter),
+            None => true,
+        }
+    }
+
+    // Reads the option that the word at a place is.
+    fn read_option(&mut self, applet: Applet, place: u32, word: &[u8]) -> Result<bool, AllocError>
+        requires { IsTrue (is_option word.now) }
+        ensures { IfOk result (λ good. IsStep good self.old self.new (with_spelled (options_of applet) self.old place word.now)) }
+    {
+        match option_spelled(applet, option_name(word)) {
+            Some(option) => self.read_meaning(place, held_value(word), option.meaning),
+            None => Ok(false),
+        }
+    }
+
+    // Reads what an option says whose word holds a value or none.
+    fn read_meaning(
+        &mut self,
+        place: u32,
+        held: Option<&[u8]>,
+        meaning: Meaning,
+    ) -> Result<bool, AllocError>
+        ensures { IfOk result (λ good. IsStep good self.old self.new (with_meaning_at self.old place (option_map (λ text. text.now) held.entry) meaning)) }
+    {
+        match meaning {
+            Meaning::Value(rule) => self.read_rule(place, held, rule),
+            Meaning::Flag(_) | Meaning::Kind(_) if held.is_some() => Ok(false),
+            Meaning::Flag(_) | Meaning::Kind(_) => Ok(self.read_flag(meaning)),
+        }
+    }
+
+    // Reads a flag that an option says.
+    fn read_flag(&mut self, meaning: Meaning) -> bool
+        ensures { IsStep result self.old self.new (with_flags self.old (with_meaning self.old.flags meaning)) }
+    {
+        match meaning.with(self.flags) {
+            Some(flags) => {
+                self.flags = flags;
+                true
+            }
+            None => false,
+        }
+    }
+
+    // Reads an option that has values, whose word holds a value or none.
+    fn read_rule(
+        &mut self,
+        place: u32,
+        held: Option<&[u8]>,
+        rule: ValueRule,
+    ) -> Result<bool, AllocError>
+        ensures { IfOk result (λ good. IsStep good self.old self.new (with_rule self.old place (option_map (λ text. text.now) held.entry) rule)) }
+    {
+        if self.values.are_spent(rule) {
+            return Ok(false);
+        }
+        match held {
+            Some(text) => self.read_value(place, text, rule),
+            None => {
+                self.awaiting = Some(rule);
+                Ok(true)
+            }
+        }
+    }
+
+    // Reads a text as a value of an option.
+    fn read_value(&mut self, place: u32, text: &[u8], rule: ValueRule) -> Result<bool, AllocError>
+        ensures { IfOk result (λ good. IsStep good self.old self.new (with_value self.old place text.now rule)) }
+    {
+        if !rule.kind.has(text) {
+            return Ok(false);
+        }
+        if self.values.exclude(rule, text) {
+            return Ok(false);
+        }
+        self.values.push(place, rule.letter, text)?;
+        self.awaiting = None;
+        Ok(true)
+    }
+}
 
 /// What was read of the words behind the applet.
 #[derive(Drop)]
 pub(crate) struct Reading {
-    /// What the options have given, those before the applet among them.
-    pub given: Given,
+    /// What the options have said, those before the applet among them.
+    pub state: OptionState,
     pub operands: Operands,
     /// The place of the word that cannot be read. Nothing was read behind it.
     pub unread: Option<u32>,
@@ -20,79 +259,79 @@ pub(crate) struct Reading {
 
 impl Reading {
     // All words were read.
-    fn whole(given: Given, operands: Operands) -> Reading
-        ensures { result ≡ reading_by given operands None }
+    fn whole(state: OptionState, operands: Operands) -> Reading
+        ensures { result ≡ reading_by state operands None }
     {
         Reading {
-            given,
+            state,
             operands,
             unread: None,
         }
     }
 
     // The word at a place cannot be read, or is missing.
-    fn up_to(place: u32, given: Given, operands: Operands) -> Reading
-        ensures { result ≡ reading_by given operands (Some place) }
+    fn up_to(place: u32, state: OptionState, operands: Operands) -> Reading
+        ensures { result ≡ reading_by state operands (Some place) }
     {
         Reading {
-            given,
+            state,
             operands,
             unread: Some(place),
         }
     }
 
     // The words end at a place, where a value that is awaited is missing.
-    fn ended(place: u32, given: Given, operands: Operands) -> Reading
-        ensures { result ≡ reading_by given operands (reading_end given place).unread }
+    fn ended(place: u32, state: OptionState, operands: Operands) -> Reading
+        ensures { result ≡ reading_by state operands (reading_end state place).unread }
     {
-        match given.awaiting {
-            Some(_) => Reading::up_to(place, given, operands),
-            None => Reading::whole(given, operands),
+        match state.awaiting {
+            Some(_) => Reading::up_to(place, state, operands),
+            None => Reading::whole(state, operands),
         }
     }
 }
 
 /// Reads the words behind the applet, up to the first that cannot be read.
-#[tactic(auto, unfolding(crate::specs::Grammar::reading_from))]
+#[tactic(auto, unfolding(crate::specs::Grammar::reading_behind))]
 pub(crate) fn read_behind(
     alloc: Global,
     words: &Words,
     start: &Start,
 ) -> Result<Reading, AllocError>
     requires { start.now.read ≤ length words.now }
-    ensures { IfOk result (λ reading. reading ≡ reading_from start.now words.now) }
+    ensures { IfOk result (λ reading. reading ≡ reading_behind start.now words.now) }
 {
     if !start.ended {
         return read_options(alloc, words, start);
     }
     let mut operands = Operands::new(alloc);
     add_operands(&mut operands, words, start.read)?;
-    Ok(Reading::whole(Given::first(alloc, start.flags), operands))
+    Ok(Reading::whole(OptionState::new(alloc, start.flags), operands))
 }
 
 // Reads options, their values and operands.
 fn read_options(alloc: Global, words: &Words, start: &Start) -> Result<Reading, AllocError>
     requires { start.now.read ≤ length words.now }
     ensures { IfOk result (λ reading.
-        reading ≡ reading_of (options_of start.now.applet) (given_first start.now.flags) (start.now.read + 1) (drop start.now.read words.now)) }
+        reading ≡ option_reading (options_of start.now.applet) (first_state start.now.flags) (start.now.read + 1) (drop start.now.read words.now)) }
 {
-    let mut given = Given::first(alloc, start.flags);
+    let mut state = OptionState::new(alloc, start.flags);
     let mut operands = Operands::new(alloc);
     for i in start.read..words.len() {
         let word = words.word(i);
-        if given.takes(word) {
-            if given.take_word(alloc, start.applet, place_behind(i), word)? {
+        if state.expects(word) {
+            if state.read_word(start.applet, place_behind(i), word)? {
                 continue;
             }
-            return Ok(Reading::up_to(place_behind(i), given, operands));
+            return Ok(Reading::up_to(place_behind(i), state, operands));
         }
         if is_end(word) {
             add_operands(&mut operands, words, i + 1)?;
-            return Ok(Reading::whole(given, operands));
+            return Ok(Reading::whole(state, operands));
         }
         operands.push(place_behind(i), word)?;
     }
-    Ok(Reading::ended(place_behind(words.len()), given, operands))
+    Ok(Reading::ended(place_behind(words.len()), state, operands))
 }
 
 // Adds the words behind so many as operands.

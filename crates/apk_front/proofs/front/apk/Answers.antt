@@ -1,7 +1,7 @@
-use Rattle.apk_front.proofs.Carried.{crash_told, orderly_told, settled_told, undone_told, unwritten_told}
+use Rattle.apk_front.proofs.Carried.{crash_by, orderly_by, reads_by, settled_by, undone_by, unwritten_by}
 use Rattle.apk_front.proofs.Judged.{answered, completed, answered_by_reads, answered_by_words, caused}
 use Rattle.apk_front.proofs.Unplanned.{ends_unless_memory}
-use Rattle.apk_front.proofs.Named.{memory_told}
+use Rattle.apk_front.proofs.Named.{memory_named}
 use Rattle.apk_front.proofs.front.apk.Goals as goal
 
 pub returns-clause-stated : goal.returns-clause-stated
@@ -22,19 +22,22 @@ pub returns-clause-found : goal.returns-clause-found
 returns-clause-found g c = answered_by_reads _ _ c.judge-judged.result _ _ _ c.judge-judged.ensures.by_reads c.judge-judged.ensures.disk c.show.ensures.shown
 
 pub returns-clause-undone : goal.returns-clause-undone
-returns-clause-undone g c = undone_told c.judge-judged.result c.show.result _ _ _ c.show.ensures.shown c.judge-judged.ensures.refused c.judge-judged.ensures.undone
+returns-clause-undone g c = undone_by c.judge-judged.result c.show.result _ _ _ c.show.ensures.shown c.judge-judged.ensures.refused c.judge-judged.ensures.undone
 
 pub returns-clause-unwritten : goal.returns-clause-unwritten
-returns-clause-unwritten g c = unwritten_told c.args.words.now c.judge-judged.result _ _ c.judge-judged.ensures.run
+returns-clause-unwritten g c = unwritten_by c.args.words.now c.judge-judged.result _ _ c.judge-judged.ensures.run
+
+pub returns-clause-reads : goal.returns-clause-reads
+returns-clause-reads g c = reads_by c.args.words.now c.judge-judged.result _ _ c.judge-judged.ensures.run
 
 pub returns-clause-crash : goal.returns-clause-crash
-returns-clause-crash g c = crash_told c.args.words.now c.judge-judged.result _ _ c.judge-judged.ensures.run
+returns-clause-crash g c = crash_by c.args.words.now c.judge-judged.result _ _ c.judge-judged.ensures.run
 
 pub returns-clause-orderly : goal.returns-clause-orderly
-returns-clause-orderly g c = orderly_told c.args.words.now c.judge-judged.result _ _ c.judge-judged.ensures.run
+returns-clause-orderly g c = orderly_by c.args.words.now c.judge-judged.result _ _ c.judge-judged.ensures.run
 
 pub returns-clause-settled : goal.returns-clause-settled
-returns-clause-settled g c = settled_told c.args.words.now c.judge-judged.result c.show.result _ _ _ _ c.show.ensures.shown c.judge-judged.ensures.run
+returns-clause-settled g c = settled_by c.args.words.now c.judge-judged.result c.show.result _ _ _ _ c.show.ensures.shown c.judge-judged.ensures.run
 
 pub returns-clause-unless_memory : goal.returns-clause-unless_memory
 returns-clause-unless_memory g c =
@@ -43,4 +46,4 @@ returns-clause-unless_memory g c =
     c.judge-judged.ensures.proper c.show.ensures.out_counts c.show.ensures.err_counts
 
 pub returns-clause-memory : goal.returns-clause-memory
-returns-clause-memory g c = memory_told c.judge-judged.result c.show.result _ _ _ c.show.ensures.shown c.judge-judged.ensures.named
+returns-clause-memory g c = memory_named c.judge-judged.result c.show.result _ _ _ c.show.ensures.shown c.judge-judged.ensures.named

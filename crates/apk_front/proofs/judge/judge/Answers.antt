@@ -1,4 +1,4 @@
-use Rattle.apk_front.proofs.Carried.{proper_by_command, run_by_command, usage_told}
+use Rattle.apk_front.proofs.Carried.{proper_by_command, run_by_command, usage_reported}
 use Rattle.apk_front.proofs.Judged.{usage_found, usage_verdict}
 use Rattle.apk_front.proofs.Named.{command_named}
 use Rattle.apk_front.proofs.judge.judge.Goals as goal
@@ -10,7 +10,7 @@ pub returns-in-Ok-clause-proper : goal.returns-in-Ok-clause-proper
 returns-in-Ok-clause-proper g c = proper_by_command c.args.words.now _ _ _ c.in-Ok.ensures.ok c.run.ensures.proper
 
 pub returns-in-Err-Usage-clause-found : goal.returns-in-Err-Usage-clause-found
-returns-in-Err-Usage-clause-found g c = usage_told c.args.words.now _ c.refused.result (λ v. usage_verdict c.args.words.now _ _ _ c.refused.result c.in-Err-Usage.place-is c.in-Err-Usage.field-0-is c.in-Err-Usage.ensures.usage c.refused.ensures _)
+returns-in-Err-Usage-clause-found g c = usage_reported c.args.words.now _ c.refused.result (λ v. usage_verdict c.args.words.now _ _ _ c.refused.result c.in-Err-Usage.place-is c.in-Err-Usage.field-0-is c.in-Err-Usage.ensures.usage c.refused.ensures _)
 
 pub returns-in-Err-Usage-clause-by_reads : goal.returns-in-Err-Usage-clause-by_reads
 returns-in-Err-Usage-clause-by_reads g c = usage_found c.args.words.now _ _ _ c.refused.result c.in-Err-Usage.place-is c.in-Err-Usage.field-0-is c.in-Err-Usage.ensures.usage c.refused.ensures

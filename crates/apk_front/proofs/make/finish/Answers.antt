@@ -3,8 +3,8 @@ use Rattle.apk_front.proofs.Containers.{refused_made, refused_run}
 use Rattle.make_info.specs.Output.{output_name}
 use Rattle.apk_front.proofs.make.finish.Goals as goal
 
-pub returns-in-Err-clause-told : goal.returns-in-Err-clause-told
-returns-in-Err-clause-told g c = refused_made (output_name c.args.command.now) c.args.container _ c.refuse.result c.in-Err.is c.refuse.ensures.told c.args.report
+pub returns-in-Err-clause-reported : goal.returns-in-Err-clause-reported
+returns-in-Err-clause-reported g c = refused_made (output_name c.args.command.now) c.args.container _ c.refuse.result c.in-Err.is c.refuse.ensures.reported c.args.report
 
 pub returns-in-Err-clause-run : goal.returns-in-Err-clause-run
-returns-in-Err-clause-run g c = refused_run (output_name c.args.command.now) c.args.report c.args.container _ c.refuse.result _ _ c.in-Err.is refl c.refuse.ensures.told c.refuse.ensures.refused
+returns-in-Err-clause-run g c = refused_run (output_name c.args.command.now) c.args.report c.args.container _ c.refuse.result _ _ c.in-Err.is refl c.refuse.ensures.reported c.refuse.ensures.refused

@@ -1,28 +1,31 @@
 use Rattle.std.proofs.Common.{◌∙◌, List, ap, length}
 use Rattle.outcome.specs.Make.{index_line}
-use Rattle.words_core.specs.declared.operands.Operand.{Operand}
-use Rattle.apk_front.proofs.Containers.{index_outcomes, index_read, proper_by, runs, tells_one}
+use Rattle.command_core.specs.declared.operands.Operand.{Operand}
+use Rattle.apk_front.proofs.Containers.{index_outcomes, index_read, proper_by, runs, reports_one}
 use Rattle.apk_front.proofs.NothingFailed.{kept_both, memory_both}
 use Rattle.apk_front.proofs.make.mkndx.Goals as goal
 
 pub returns-clause-found : goal.returns-clause-found
 returns-clause-found g c =
-    tells_one _ _ _ _ (index_outcomes c.args.command.now _ (c.in_ok-report.ensures ∙ ap index_line (c.len.ensures ∙ ap (λ (os : List Operand). length os) c.operands.ensures.value))) c.index-container.result c.finish.result _ c.index-container.ensures.told c.finish.ensures.done c.finish.ensures.told
+    reports_one _ _ _ _ (index_outcomes c.args.command.now _ (c.in_ok-report.ensures ∙ ap index_line (c.len.ensures ∙ ap (λ (os : List Operand). length os) c.operands.ensures.value))) c.index-container.result c.finish.result _ c.index-container.ensures.made c.finish.ensures.done c.finish.ensures.reported
 
 pub returns-clause-by_reads : goal.returns-clause-by_reads
 returns-clause-by_reads g c =
-    index_read c.args.command.now _ c.index-container.result c.finish.result (c.in_ok-report.ensures ∙ ap index_line (c.len.ensures ∙ ap (λ (os : List Operand). length os) c.operands.ensures.value)) c.index-container.ensures.found c.finish.ensures.done c.finish.ensures.told
+    index_read c.args.command.now _ c.index-container.result c.finish.result (c.in_ok-report.ensures ∙ ap index_line (c.len.ensures ∙ ap (λ (os : List Operand). length os) c.operands.ensures.value)) c.index-container.ensures.found c.finish.ensures.done c.finish.ensures.reported
 
 pub returns-clause-run : goal.returns-clause-run
 returns-clause-run g c =
-    runs _ _ _ _ (index_outcomes c.args.command.now _ (c.in_ok-report.ensures ∙ ap index_line (c.len.ensures ∙ ap (λ (os : List Operand). length os) c.operands.ensures.value))) c.index-container.result c.finish.result _ _ _ c.index-container.ensures.same c.index-container.ensures.told c.finish.ensures.done c.finish.ensures.cut c.finish.ensures.run
+    runs _ _ _ _ (index_outcomes c.args.command.now _ (c.in_ok-report.ensures ∙ ap index_line (c.len.ensures ∙ ap (λ (os : List Operand). length os) c.operands.ensures.value))) c.index-container.result c.finish.result _ _ _ c.index-container.ensures.tree.same c.index-container.ensures.made c.finish.ensures.done c.finish.ensures.cut c.finish.ensures.run
 
 pub returns-clause-proper : goal.returns-clause-proper
 returns-clause-proper g c =
-    proper_by _ _ _ _ (index_outcomes c.args.command.now _ (c.in_ok-report.ensures ∙ ap index_line (c.len.ensures ∙ ap (λ (os : List Operand). length os) c.operands.ensures.value))) c.index-container.result _ _ _ _ _ c.index-container.ensures.same c.index-container.ensures.told c.index-container.ensures.proper c.finish.ensures.proper
+    proper_by _ _ _ _ (index_outcomes c.args.command.now _ (c.in_ok-report.ensures ∙ ap index_line (c.len.ensures ∙ ap (λ (os : List Operand). length os) c.operands.ensures.value))) c.index-container.result _ _ _ _ _ c.index-container.ensures.tree.same c.index-container.ensures.made c.index-container.ensures.tree.proper c.finish.ensures.proper
 
 pub returns-clause-kept : goal.returns-clause-kept
-returns-clause-kept g c = kept_both c.index-container.result c.finish.result _ _ _ c.index-container.ensures.kept c.finish.ensures.done c.finish.ensures.kept
+returns-clause-kept g c = kept_both c.counts_of_calls_in_a_row_join.ensures.no_fault c.index-container.result c.finish.result _ _ _ _ _ c.index-container.ensures.tree c.finish.ensures.done c.finish.ensures.kept
 
 pub returns-clause-memory : goal.returns-clause-memory
-returns-clause-memory g c = memory_both c.index-container.result c.finish.result _ _ _ c.index-container.ensures.kept c.finish.ensures.lost c.finish.ensures.memory
+returns-clause-memory g c = memory_both c.counts_of_calls_in_a_row_join.ensures.no_fault c.index-container.result c.finish.result _ _ _ _ _ c.index-container.ensures.tree c.finish.ensures.lost c.finish.ensures.memory
+
+pub returns-clause-goes_on : goal.returns-clause-goes_on
+returns-clause-goes_on g c = c.counts_of_calls_in_a_row_join.ensures.goes_on _ _ _ c.index-container.ensures.tree.goes_on c.finish.ensures.goes_on

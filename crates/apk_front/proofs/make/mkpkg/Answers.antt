@@ -1,5 +1,5 @@
 use Rattle.std.proofs.Common.{◌∙◌}
-use Rattle.apk_front.proofs.Containers.{package_outcomes, package_output, package_read, proper_by, runs, tells_one}
+use Rattle.apk_front.proofs.Containers.{package_outcomes, package_output, package_read, proper_by, runs, reports_one}
 use Rattle.apk_front.proofs.NothingFailed.{kept_both, memory_both}
 use Rattle.apk_front.proofs.make.mkpkg.Goals as goal
 
@@ -8,22 +8,25 @@ finish-requires-clause-output g c = package_output c.args.command.now c.package-
 
 pub returns-clause-found : goal.returns-clause-found
 returns-clause-found g c =
-    tells_one _ _ _ _ (package_outcomes c.files_have_one_list_of_names.ensures.one c.args.command.now _ (c.from_vec-report.ensures ∙ c.new.ensures.items)) c.package-container.result c.finish.result _ c.package-container.ensures.told c.finish.ensures.done c.finish.ensures.told
+    reports_one _ _ _ _ (package_outcomes c.files_have_one_list_of_names.ensures.one c.args.command.now _ (c.from_vec-report.ensures ∙ c.new.ensures.items)) c.package-container.result c.finish.result _ c.package-container.ensures.made c.finish.ensures.done c.finish.ensures.reported
 
 pub returns-clause-by_reads : goal.returns-clause-by_reads
 returns-clause-by_reads g c =
-    package_read c.args.command.now _ c.package-container.result c.finish.result (c.from_vec-report.ensures ∙ c.new.ensures.items) c.package-container.ensures.found c.finish.ensures.done c.finish.ensures.told
+    package_read c.args.command.now _ c.package-container.result c.finish.result (c.from_vec-report.ensures ∙ c.new.ensures.items) c.package-container.ensures.found c.finish.ensures.done c.finish.ensures.reported
 
 pub returns-clause-run : goal.returns-clause-run
 returns-clause-run g c =
-    runs _ _ _ _ (package_outcomes c.files_have_one_list_of_names.ensures.one c.args.command.now _ (c.from_vec-report.ensures ∙ c.new.ensures.items)) c.package-container.result c.finish.result _ _ _ c.package-container.ensures.same c.package-container.ensures.told c.finish.ensures.done c.finish.ensures.cut c.finish.ensures.run
+    runs _ _ _ _ (package_outcomes c.files_have_one_list_of_names.ensures.one c.args.command.now _ (c.from_vec-report.ensures ∙ c.new.ensures.items)) c.package-container.result c.finish.result _ _ _ c.package-container.ensures.tree.same c.package-container.ensures.made c.finish.ensures.done c.finish.ensures.cut c.finish.ensures.run
 
 pub returns-clause-proper : goal.returns-clause-proper
 returns-clause-proper g c =
-    proper_by _ _ _ _ (package_outcomes c.files_have_one_list_of_names.ensures.one c.args.command.now _ (c.from_vec-report.ensures ∙ c.new.ensures.items)) c.package-container.result _ _ _ _ _ c.package-container.ensures.same c.package-container.ensures.told c.package-container.ensures.proper c.finish.ensures.proper
+    proper_by _ _ _ _ (package_outcomes c.files_have_one_list_of_names.ensures.one c.args.command.now _ (c.from_vec-report.ensures ∙ c.new.ensures.items)) c.package-container.result _ _ _ _ _ c.package-container.ensures.tree.same c.package-container.ensures.made c.package-container.ensures.tree.proper c.finish.ensures.proper
 
 pub returns-clause-kept : goal.returns-clause-kept
-returns-clause-kept g c = kept_both c.package-container.result c.finish.result _ _ _ c.package-container.ensures.kept c.finish.ensures.done c.finish.ensures.kept
+returns-clause-kept g c = kept_both c.counts_of_calls_in_a_row_join.ensures.no_fault c.package-container.result c.finish.result _ _ _ _ _ c.package-container.ensures.tree c.finish.ensures.done c.finish.ensures.kept
 
 pub returns-clause-memory : goal.returns-clause-memory
-returns-clause-memory g c = memory_both c.package-container.result c.finish.result _ _ _ c.package-container.ensures.kept c.finish.ensures.lost c.finish.ensures.memory
+returns-clause-memory g c = memory_both c.counts_of_calls_in_a_row_join.ensures.no_fault c.package-container.result c.finish.result _ _ _ _ _ c.package-container.ensures.tree c.finish.ensures.lost c.finish.ensures.memory
+
+pub returns-clause-goes_on : goal.returns-clause-goes_on
+returns-clause-goes_on g c = c.counts_of_calls_in_a_row_join.ensures.goes_on _ _ _ c.package-container.ensures.tree.goes_on c.finish.ensures.goes_on

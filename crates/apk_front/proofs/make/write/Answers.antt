@@ -1,12 +1,12 @@
 use Rattle.std.proofs.Common.{◌∙◌, refl, sym, ap}
 use Rattle.std.proofs.lemmas.Result.{err_from_is_err_and}
 use Rattle.adb_rules.specs.Reserved.{is_reserved}
-use Rattle.apk_front.proofs.Runs.{any_proper, cut_run, free_told, reported_none, reserved_run, reserved_told, room_proper, written_run}
+use Rattle.apk_front.proofs.Runs.{any_proper, cut_run, free_reports, report_no_refusal, reserved_run, reserved_reports, room_proper, written_run}
 use Rattle.apk_front.proofs.make.write.Goals as goal
 
-pub returns-then-is_reserved-clause-told : goal.returns-then-is_reserved-clause-told
-returns-then-is_reserved-clause-told g c =
-    reserved_told _ c.args.report c.args.file.now c.in-Some.output c.refused.result (sym c.in_ok-output.ensures ∙ c.in-Some.is) (ap is_reserved (sym c.as_bytes.ensures.value) ∙ (sym c.is_reserved.ensures ∙ c.if-is_reserved.true)) c.refused.ensures
+pub returns-then-is_reserved-clause-reported : goal.returns-then-is_reserved-clause-reported
+returns-then-is_reserved-clause-reported g c =
+    reserved_reports _ c.args.report c.args.file.now c.in-Some.output c.refused.result (sym c.in_ok-output.ensures ∙ c.in-Some.is) (ap is_reserved (sym c.as_bytes.ensures.value) ∙ (sym c.is_reserved.ensures ∙ c.if-is_reserved.true)) c.refused.ensures
 
 pub returns-then-is_reserved-clause-run : goal.returns-then-is_reserved-clause-run
 returns-then-is_reserved-clause-run g c =
@@ -21,22 +21,22 @@ replace-requires-clause-length g c = c.an_output_is_short.ensures c.args.command
 pub returns-in_err-replace-clause-run : goal.returns-in_err-replace-clause-run
 returns-in_err-replace-clause-run g c =
     let p = err_from_is_err_and c.from_residual-in_err-replace.result c.from_residual-in_err-replace.ensures.1 in
-    cut_run _ c.args.report c.args.file.now c.in-Some.output _ p.0 _ _ p.1 (sym c.in_ok-output.ensures ∙ c.in-Some.is) (ap is_reserved (sym c.as_bytes.ensures.value) ∙ (sym c.is_reserved.ensures ∙ c.if-is_reserved.false)) c.replace.ensures.moments c.replace.ensures.orderly
+    cut_run _ c.args.report c.args.file.now c.in-Some.output _ p.0 _ _ p.1 (sym c.in_ok-output.ensures ∙ c.in-Some.is) (ap is_reserved (sym c.as_bytes.ensures.value) ∙ (sym c.is_reserved.ensures ∙ c.if-is_reserved.false)) c.replace.ensures.moments c.replace.ensures.orderly c.replace.ensures.reads
 
 pub returns-in_err-replace-clause-proper : goal.returns-in_err-replace-clause-proper
 returns-in_err-replace-clause-proper g c =
     room_proper _ c.args.report c.args.file.now c.in-Some.output _ _ (sym c.in_ok-output.ensures ∙ c.in-Some.is) (ap is_reserved (sym c.as_bytes.ensures.value) ∙ (sym c.is_reserved.ensures ∙ c.if-is_reserved.false)) c.replace.ensures.proper
 
-pub returns-clause-told : goal.returns-clause-told
-returns-clause-told g c =
-    free_told _ c.args.report c.args.file.now c.in-Some.output c.reported.result (sym c.in_ok-output.ensures ∙ c.in-Some.is) (ap is_reserved (sym c.as_bytes.ensures.value) ∙ (sym c.is_reserved.ensures ∙ c.if-is_reserved.false)) c.reported.ensures
+pub returns-clause-reported : goal.returns-clause-reported
+returns-clause-reported g c =
+    free_reports _ c.args.report c.args.file.now c.in-Some.output c.reported.result (sym c.in_ok-output.ensures ∙ c.in-Some.is) (ap is_reserved (sym c.as_bytes.ensures.value) ∙ (sym c.is_reserved.ensures ∙ c.if-is_reserved.false)) c.reported.ensures
 
 pub returns-clause-run : goal.returns-clause-run
 returns-clause-run g c =
-    written_run _ c.args.report c.args.file.now c.in-Some.output c.reported.result _ _ (sym c.in_ok-output.ensures ∙ c.in-Some.is) (ap is_reserved (sym c.as_bytes.ensures.value) ∙ (sym c.is_reserved.ensures ∙ c.if-is_reserved.false)) c.in_ok-replace.ensures.moments c.in_ok-replace.ensures.orderly c.in_ok-replace.ensures.settled c.in_ok-replace.ensures.ok
+    written_run _ c.args.report c.args.file.now c.in-Some.output c.reported.result _ _ (sym c.in_ok-output.ensures ∙ c.in-Some.is) (ap is_reserved (sym c.as_bytes.ensures.value) ∙ (sym c.is_reserved.ensures ∙ c.if-is_reserved.false)) c.in_ok-replace.ensures.moments c.in_ok-replace.ensures.orderly c.in_ok-replace.ensures.reads c.in_ok-replace.ensures.settled c.in_ok-replace.ensures.ok
 
 pub returns-clause-refused : goal.returns-clause-refused
-returns-clause-refused g c = reported_none c.reported.result c.args.report _ c.reported.ensures
+returns-clause-refused g c = report_no_refusal c.reported.result c.args.report _ c.reported.ensures
 
 pub returns-clause-proper : goal.returns-clause-proper
 returns-clause-proper g c =

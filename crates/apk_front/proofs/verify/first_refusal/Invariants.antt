@@ -1,19 +1,15 @@
-use Rattle.std.proofs.Common.{◌≡◌, drop, IsTrue}
+use Rattle.std.proofs.Common.{Ok, None, Option}
 use Rattle.base_core.specs.Calls.{IfObservable}
-use Rattle.base_core.specs.Faults.{GoesOn, IsNoFault}
-use Rattle.base_core.specs.Tree.{files_of}
-use Rattle.outcome.specs.Verify.{verify_refusal}
-use Rattle.words_core.specs.Command.{are_files}
-use Rattle.apk_front.proofs.Operands.{IsReadTo}
+use Rattle.base_core.specs.Read.{OnlyReads}
+use Rattle.base_core.specs.declared.tree.TreeFault.{TreeFault}
+use Rattle.base_core.specs.declared.tree.TreeFault.TheVariants.{Disk}
+use Rattle.report_core.specs.declared.refusal.Refusal.{Refusal}
+use Rattle.apk_front.proofs.Operands.{IsFine, IsReadTo}
 use Rattle.apk_front.proofs.verify.first_refusal.Given as goal
 
 abbrev pub invariant-loop-i : goal.invariant-loop-i
 invariant-loop-i g l = record {
-  files : IsTrue (are_files (drop l.i l.operands));
-  found : IfObservable (g.T.Tree.history l.initial.tree) (λ v. verify_refusal (files_of v) l.operands ≡ verify_refusal (files_of v) (drop l.i l.operands));
+  found : IfObservable (g.T.Tree.history l.initial.tree) (IsFine l.operands l.i);
   by_reads : IsReadTo l.operands l.i;
-  same : g.T.Tree.history l.tree ≡ g.T.Tree.history l.initial.tree;
-  goes_on : GoesOn (g.T.Tree.counts l.initial.tree) (g.T.Tree.counts l.tree);
-  kept : IsNoFault (g.T.Tree.counts l.initial.tree) (g.T.Tree.counts l.tree);
-  proper : IfObservable (g.T.Tree.history l.initial.tree) (λ v. (g.T.Tree.counts l.tree).misuses ≡ (g.T.Tree.counts l.initial.tree).misuses);
+  tree : OnlyReads {A = Option Refusal} {E = TreeFault} Disk (g.T.Tree.history l.initial.tree) (g.T.Tree.history l.tree) (g.T.Tree.counts l.initial.tree) (g.T.Tree.counts l.tree) (Ok None);
 }

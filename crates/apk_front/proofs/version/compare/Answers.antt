@@ -1,5 +1,5 @@
 use Rattle.std.proofs.Common.{ap, sym, ◌∙◌}
-use Rattle.outcome.specs.Told.{reported}
+use Rattle.outcome.specs.Outcome.{just_report}
 use Rattle.outcome.specs.Version.{order_line}
 use Rattle.version_core.specs.Order.{is_version}
 use Rattle.apk_front.proofs.Operands.{two_of, first_bad, second_bad, both_good, cmp_same}
@@ -15,6 +15,6 @@ returns-in_default-read c = λ files. c.refused-in_default-read.ensures files �
 
 pub returns : goal.returns
 returns c = λ files. c.reported.ensures files
-    ∙ (ap (reported files) (c.in_ok-of.ensures ∙ (c.order_line-line.ensures ∙ ap order_line (c.compare.ensures ∙ cmp_same _ _ _ _ (c.in-Some.ensures.value ∙ c.as_bytes.ensures) (c.in-Some-read.ensures.value ∙ c.as_bytes-2.ensures))))
+    ∙ (ap (just_report files) (c.in_ok-of.ensures ∙ (c.order_line-line.ensures ∙ ap order_line (c.compare.ensures ∙ cmp_same _ _ _ _ (c.in-Some.ensures.value ∙ c.as_bytes.ensures) (c.in-Some-read.ensures.value ∙ c.as_bytes-2.ensures))))
     ∙ sym (both_good c.args.operands.now _ _ (two_of _ _ _ c.requires c.get-first.ensures c.get-second.ensures)
     (ap is_version (sym c.as_bytes.ensures) ∙ sym c.in-Some.ensures.when) (ap is_version (sym c.as_bytes-2.ensures) ∙ sym c.in-Some-read.ensures.when) files))

@@ -4,5 +4,5 @@ use Rattle.make_core.proofs.laws.a_made_index_is_sound.Goals as goal
 
 pub returns : goal.returns
 returns c =
-    let values : Values = record { normal = c.values_are_normal.ensures; faultless = c.values_of_few_visits_have_no_fault.ensures } in
+    let values : Values = record { normal = c.values_are_normal.ensures; shapes = c.values_have_their_shape.ensures.word; faultless = c.values_of_few_visits_have_no_fault.ensures } in
     made_sound c.a_container_of_a_good_value_is_sound.ensures c.a_value_overflows_exactly_past_a_limit.ensures values

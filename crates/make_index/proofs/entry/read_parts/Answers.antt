@@ -16,5 +16,5 @@ returns-clause-keys c =
 
 pub returns-clause-payload : goal.returns-clause-payload
 returns-clause-payload c =
-    holds_found c.a_canonical_payload_is_read_back.ensures c.a_value_overflows_exactly_past_a_limit.ensures c.values_are_normal.ensures
+    holds_found c.values_have_their_shape.ensures.word c.a_canonical_payload_is_read_back.ensures c.a_value_overflows_exactly_past_a_limit.ensures c.values_are_normal.ensures
     c.args.file.now _ _ c.in_ok-pkg.ensures.value c.in_ok-pkg.ensures.payload (bytes_all c.args.file.now (λ i. (c.type_inv.file i).fits)) c.in_ok-entry_payload.ensures.small c.in_ok-entry_payload.field-0 c.in_ok-entry_payload.ensures.payload

@@ -6,7 +6,7 @@ use Rattle.make_index.proofs.IndexWhole.{files_by, found_made, found_refused, to
 use Rattle.make_index.proofs.index.make.Goals as goal
 
 pub read_entries-requires : goal.read_entries-requires
-read_entries-requires g c = files_by c.args.command.now _ c.operands.ensures.command c.requires c.operands.ensures.value
+read_entries-requires g c = files_by c.file_operands_are_files.ensures c.args.command.now _ c.operands.ensures.command c.requires c.operands.ensures.value
 
 pub returns-in_err-entries-clause-made : goal.returns-in_err-entries-clause-made
 returns-in_err-entries-clause-made g c =

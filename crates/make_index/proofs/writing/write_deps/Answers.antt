@@ -19,4 +19,4 @@ loop-i-preserved c =
     zeros_more c.values_are_written_depth_first.ensures.push _ _ _ _ _ (entries_in (list_value c.args.deps)) (dependency_value c.get.result) c.loop-i.i _ (omega (arith, c.len-i-end.ensures, c.loop-i-test.true)) (c.get.ensures ∙ ap (entry_in (list_value c.args.deps)) n) c.loop-i.invariant c.in_ok-write_dep.ensures c.in_ok-push.ensures.items
 
 pub returns : goal.returns
-returns c = if_ok _ _ c.arr.result (λ word law. list_written _ (list_value c.args.deps) (array_shape (payload_of c.args.deps.adb) (Kinds.Obj Tables.Dep) (array_entries c.args.deps.entries)) _ _ _ _ _ c.loop-i.i word (omega (arith, c.len-i-end.ensures, c.loop-i-test.false, c.loop-i.auto.i-end)) c.loop-i.invariant c.deref.ensures.value law) c.arr.ensures.written
+returns c = if_ok _ _ c.arr.result (λ word law. list_written _ (list_value c.args.deps) (array_shape c.values_have_their_shape.ensures.word (payload_of c.args.deps.adb) (Kinds.Obj Tables.Dep) (array_entries c.args.deps.entries)) _ _ _ _ _ c.loop-i.i word (omega (arith, c.len-i-end.ensures, c.loop-i-test.false, c.loop-i.auto.i-end)) c.loop-i.invariant c.deref.ensures.value law) c.arr.ensures.written

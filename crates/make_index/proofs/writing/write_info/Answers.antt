@@ -21,7 +21,7 @@ returns c =
     let all = c.in_ok-add_ints-3.ensures _ _ (c.in_ok-add_tags.ensures _ _ (c.in_ok-add_ints-2.ensures _ _ lists)) in
     let info = info_value c.args.info.now in
     if_ok _ _ c.obj.result (λ word made. zeros_entry _ _ (entry_value info c.args.id.now c.args.len) _ word
-    (info_written info c.args.id.now c.args.len (value_shape (payload_of c.args.info.now.adb) (Kinds.Obj Tables.PkgInfo) c.args.info.now.word)
+    (info_written info c.args.id.now c.args.len (value_shape c.values_have_their_shape.ensures.word (payload_of c.args.info.now.adb) (Kinds.Obj Tables.PkgInfo) c.args.info.now.word)
     c.name.result.now c.version.result.now c.description.result.now c.arch.result.now c.license.result.now c.origin.result.now c.maintainer.result.now c.url.result.now c.repo_commit.result.now
     c.build_time.result c.installed_size.result c.provider_priority.result
     (list_value c.depends.result) (list_value c.provides.result) (list_value c.replaces.result) (list_value c.install_if.result) (list_value c.recommends.result)

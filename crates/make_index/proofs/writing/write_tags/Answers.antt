@@ -18,4 +18,4 @@ loop-i-preserved c =
     zeros_more c.values_are_written_depth_first.ensures.push _ _ _ _ _ (entries_in (list_value c.args.texts)) (blob_value c.get.result.now) c.loop-i.i _ (omega (arith, c.len-i-end.ensures, c.loop-i-test.true)) (c.get.ensures ∙ ap (entry_in (list_value c.args.texts)) n) c.loop-i.invariant (zeros_entry _ _ _ _ _ (blob_zeros c.get.result.now) c.in_ok-blob.ensures.written) c.in_ok-push.ensures.items
 
 pub returns : goal.returns
-returns c = if_ok _ _ c.arr.result (λ word law. list_written _ (list_value c.args.texts) (array_shape (payload_of c.args.texts.adb) Kinds.Text (array_entries c.args.texts.entries)) _ _ _ _ _ c.loop-i.i word (omega (arith, c.len-i-end.ensures, c.loop-i-test.false, c.loop-i.auto.i-end)) c.loop-i.invariant c.deref.ensures.value law) c.arr.ensures.written
+returns c = if_ok _ _ c.arr.result (λ word law. list_written _ (list_value c.args.texts) (array_shape c.values_have_their_shape.ensures.word (payload_of c.args.texts.adb) Kinds.Text (array_entries c.args.texts.entries)) _ _ _ _ _ c.loop-i.i word (omega (arith, c.len-i-end.ensures, c.loop-i-test.false, c.loop-i.auto.i-end)) c.loop-i.invariant c.deref.ensures.value law) c.arr.ensures.written

@@ -7,11 +7,11 @@ use Rattle.make_info.proofs.Left.{info_here, info_not_here}
 use Rattle.make_info.proofs.Reading.{IsReadTo, one_refused, one_taken, refused_at}
 use Rattle.make_info.proofs.information.read_values.Goals as goal
 
-pub loop-i-preserved-then-value-ne73 : goal.loop-i-preserved-then-value-ne73
-loop-i-preserved-then-value-ne73 c =
+pub loop-i-preserved-then-value-ne-INFO : goal.loop-i-preserved-then-value-ne-INFO
+loop-i-preserved-then-value-ne-INFO c =
     let values = c.args.values.now in
     let v = c.get-value.result.now in
-    let letter = c.if-value-ne73.true in
+    let letter = c.if-value-ne-INFO.true in
     let is : is_info_option v ≡ false = grind (arith, nat_tests) in
     let P : List OptionValue → Type 0 = λ rest. IsReadTo c.is_too_long-too_long.result (info_options values) rest c.loop-i.entries in
     subst P (info_not_here values c.loop-i.i v c.get-value.ensures is) c.loop-i.invariant
@@ -20,7 +20,7 @@ pub returns-then-not-branch-clause-err : goal.returns-then-not-branch-clause-err
 returns-then-not-branch-clause-err c =
     let values = c.args.values.now in
     let v = c.get-value.result.now in
-    let letter = c.if-value-ne73.false in
+    let letter = c.if-value-ne-INFO.false in
     let is : is_info_option v ≡ true = grind (arith, nat_tests) in
     let too_long = c.is_too_long-too_long.result in
     let rest = info_options (drop (c.loop-i.i + 1) values) in
@@ -34,7 +34,7 @@ pub loop-i-preserved : goal.loop-i-preserved
 loop-i-preserved c =
     let values = c.args.values.now in
     let v = c.get-value.result.now in
-    let letter = c.if-value-ne73.false in
+    let letter = c.if-value-ne-INFO.false in
     let is : is_info_option v ≡ true = grind (arith, nat_tests) in
     let too_long = c.is_too_long-too_long.result in
     let rest = info_options (drop (c.loop-i.i + 1) values) in

@@ -8,15 +8,13 @@ use Rattle.make_info.proofs.output.package_output.Goals as goal
 
 pub returns-in-Some : goal.returns-in-Some
 returns-in-Some c =
-    let command = c.args.command.now in
-    let good : is_ok (information command) ≡ true = sym c.in_ok-is_allowed.ensures ∙ c.if-not-branch.false in
-    let named : named_output command.values ≡ Some c.in-Some.file.now = ap named_output (sym c.values.ensures.value) ∙ sym c.in-Some.ensures in
-    named_case c.read.result command c.in-Some.file.now c.values.ensures.command good named c.read.ensures.when c.read.ensures.value
+    let good : is_ok (information c.args.command.now) ≡ true = sym c.in_ok-is_allowed.ensures ∙ c.if-not-branch.false in
+    named_case c.args.command.now c.in_ok-name.field-0 c.in-Some.name good c.in-Some.is c.in_ok-name.ensures
 
 pub returns-in-Some-2 : goal.returns-in-Some-2
 returns-in-Some-2 c =
     let command = c.args.command.now in
     let good : is_ok (information command) ≡ true = sym c.in_ok-is_allowed.ensures ∙ c.if-not-branch.false in
-    let unnamed : named_output command.values ≡ None = ap named_output (sym c.values.ensures.value) ∙ sym (sym (ap (option_map (λ file. file.now)) c.in_default.is) ∙ c.named_output.ensures) in
-    let own : default_output command.values ≡ Some c.deref.result.now = ap default_output (sym c.values-2.ensures.value) ∙ sym (sym (ap (option_map (λ file. file.items)) c.in-Some-2.is) ∙ c.in_ok-file.ensures) ∙ ap Some (sym c.deref.ensures.value) in
-    own_case c.read-in-Some-2.result command c.deref.result.now c.versions_have_version_bytes.ensures.bytes good unnamed own c.read-in-Some-2.ensures.when c.read-in-Some-2.ensures.value
+    let unnamed : named_output command.values ≡ None = sym c.in_ok-name.ensures ∙ c.in_default.is in
+    let own : default_output command.values ≡ Some c.deref.result.now = ap default_output (sym c.values.ensures.value) ∙ sym (sym (ap (option_map (λ file. file.items)) c.in-Some-2.is) ∙ c.in_ok-file.ensures) ∙ ap Some (sym c.deref.ensures.value) in
+    own_case c.read.result command c.deref.result.now c.versions_have_version_bytes.ensures.bytes good unnamed own c.read.ensures.when c.read.ensures.value

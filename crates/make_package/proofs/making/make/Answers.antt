@@ -3,7 +3,7 @@ use Rattle.make_package.proofs.MadeRuns.{below_as, cut_run, named_as, run_as}
 use Rattle.make_package.proofs.making.make.Goals as goal
 
 pub list_names-requires : goal.list_names-requires
-list_names-requires g c = values_allowed c.args.command.now _ c.values.ensures.command c.requires c.values.ensures.value
+list_names-requires g c = values_allowed c.a_command_has_what_its_applet_may_have.ensures.values c.args.command.now _ c.values.ensures.command c.requires c.values.ensures.value
 
 pub returns-in_err-names-clause-made : goal.returns-in_err-names-clause-made
 returns-in_err-names-clause-made g c = cut_run _ c.args.command.now c.from_residual.result c.in_err-names.field-0.0 c.from_residual.ensures.1 c.in_err-names.ensures.cut

@@ -5,7 +5,7 @@ use Rattle.make_package.proofs.ReadLemmas.{explained_as, same_fault}
 use Rattle.make_package.proofs.making.pack.Goals as goal
 
 pub read_scripts-requires : goal.read_scripts-requires
-read_scripts-requires g c = values_allowed c.args.command.now _ c.values-values.ensures.command c.requires c.values-values.ensures.value
+read_scripts-requires g c = values_allowed c.a_command_has_what_its_applet_may_have.ensures.values c.args.command.now _ c.values-values.ensures.command c.requires c.values-values.ensures.value
 
 pub package-requires : goal.package-requires
 package-requires g c = sizes_held c.contents_stand_in_their_container.ensures.blocks _ _ _ (c.in_ok-packing.ensures.read 0).is.2

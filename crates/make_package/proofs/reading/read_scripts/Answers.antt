@@ -15,10 +15,10 @@ loop-i-init g c = record {
   so_far = so_far_none _ one_read script_at script_own (AreScripts c.new-scripts.result) (scripts_none c.new-scripts.result c.new-scripts.ensures.items);
 }
 
-pub loop-i-preserved-then-value-ne115 : goal.loop-i-preserved-then-value-ne115
-loop-i-preserved-then-value-ne115 g c = record {
+pub loop-i-preserved-then-value-ne-SCRIPT : goal.loop-i-preserved-then-value-ne-SCRIPT
+loop-i-preserved-then-value-ne-SCRIPT g c = record {
   tree = c.loop-i.invariant.tree;
-  so_far = scripts_same _ _ _ c.loop-i.scripts (given_other SCRIPT c.args.values.now c.loop-i.i c.get-value.result.now c.get-value.ensures c.if-value-ne115.true) c.loop-i.invariant.so_far;
+  so_far = scripts_same _ _ _ c.loop-i.scripts (given_other SCRIPT c.args.values.now c.loop-i.i c.get-value.result.now c.get-value.ensures c.if-value-ne-SCRIPT.true) c.loop-i.invariant.so_far;
 }
 
 pub script_file-requires-clause-script : goal.script_file-requires-clause-script

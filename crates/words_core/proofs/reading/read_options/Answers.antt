@@ -1,26 +1,27 @@
 use Rattle.std.proofs.Common.{sym, ◌∙◌, ap, Some, None}
-use Rattle.words_core.specs.Grammar.{options_of, reading_by}
+use Rattle.words_core.specs.Grammar.{reading_by}
+use Rattle.words_core.specs.Options.{options_of}
 use Rattle.words_core.proofs.OneMore.{reading_push, reading_rest, reading_taken, reading_unread, refused_is, taken_is}
 use Rattle.words_core.proofs.reading.read_options.Goals as goal
 
 pub loop-i-preserved-then-branch : goal.loop-i-preserved-then-branch
 loop-i-preserved-then-branch c =
-    reading_taken _ (options_of c.args.start.now.applet) c.loop-i.given c.take_word.new.self c.loop-i.operands c.args.words.now c.loop-i.i c.word-word.result.now c.place_behind.result c.word-word.ensures (sym c.takes.ensures ∙ c.if-takes.true) c.place_behind.ensures
-    (taken_is c.in_ok-take_word.field-0 c.loop-i.given c.take_word.new.self _ c.if-branch.true c.in_ok-take_word.ensures) c.loop-i.invariant
+    reading_taken _ (options_of c.args.start.now.applet) c.loop-i.state c.read_word.new.self c.loop-i.operands c.args.words.now c.loop-i.i c.word-word.result.now c.place_behind.result c.word-word.ensures (sym c.expects.ensures ∙ c.if-expects.true) c.place_behind.ensures
+    (taken_is c.in_ok-read_word.field-0 c.loop-i.state c.read_word.new.self _ c.if-branch.true c.in_ok-read_word.ensures) c.loop-i.invariant
 
-pub returns-then-takes : goal.returns-then-takes
-returns-then-takes c =
-    let refused = refused_is c.in_ok-take_word.field-0 c.loop-i.given c.take_word.new.self _ c.if-branch.false c.in_ok-take_word.ensures in
+pub returns-then-expects : goal.returns-then-expects
+returns-then-expects c =
+    let refused = refused_is c.in_ok-read_word.field-0 c.loop-i.state c.read_word.new.self _ c.if-branch.false c.in_ok-read_word.ensures in
     c.up_to.ensures
-    ∙ (ap (λ g. reading_by g c.loop-i.operands (Some c.place_behind-then-takes.result)) refused.1
-    ∙ reading_unread _ (options_of c.args.start.now.applet) c.loop-i.given c.loop-i.operands c.args.words.now c.loop-i.i c.word-word.result.now c.place_behind-then-takes.result c.place_behind.result c.word-word.ensures (sym c.takes.ensures ∙ c.if-takes.true) c.place_behind-then-takes.ensures c.place_behind.ensures refused.0 c.loop-i.invariant)
+    ∙ (ap (λ g. reading_by g c.loop-i.operands (Some c.place_behind-then-expects.result)) refused.1
+    ∙ reading_unread _ (options_of c.args.start.now.applet) c.loop-i.state c.loop-i.operands c.args.words.now c.loop-i.i c.word-word.result.now c.place_behind-then-expects.result c.place_behind.result c.word-word.ensures (sym c.expects.ensures ∙ c.if-expects.true) c.place_behind-then-expects.ensures c.place_behind.ensures refused.0 c.loop-i.invariant)
 
 pub returns-then-is_end : goal.returns-then-is_end
 returns-then-is_end c =
     c.whole.ensures
-    ∙ (ap (λ os. reading_by c.loop-i.given os None) c.in_ok-add_operands.ensures
-    ∙ reading_rest _ (options_of c.args.start.now.applet) c.loop-i.given c.loop-i.operands c.args.words.now c.loop-i.i c.word-word.result.now c.word-word.ensures (sym c.takes.ensures ∙ c.if-takes.false) (sym c.is_end.ensures ∙ c.if-is_end.true) c.loop-i.invariant)
+    ∙ (ap (λ os. reading_by c.loop-i.state os None) c.in_ok-add_operands.ensures
+    ∙ reading_rest _ (options_of c.args.start.now.applet) c.loop-i.state c.loop-i.operands c.args.words.now c.loop-i.i c.word-word.result.now c.word-word.ensures (sym c.expects.ensures ∙ c.if-expects.false) (sym c.is_end.ensures ∙ c.if-is_end.true) c.loop-i.invariant)
 
 pub loop-i-preserved : goal.loop-i-preserved
 loop-i-preserved c =
-    reading_push _ (options_of c.args.start.now.applet) c.loop-i.given c.loop-i.operands c.push.new.self c.args.words.now c.loop-i.i c.word-word.result.now c.place_behind-in-loop-i.result c.word-word.ensures (sym c.takes.ensures ∙ c.if-takes.false) (sym c.is_end.ensures ∙ c.if-is_end.false) c.place_behind-in-loop-i.ensures c.in_ok-push.ensures c.loop-i.invariant
+    reading_push _ (options_of c.args.start.now.applet) c.loop-i.state c.loop-i.operands c.push.new.self c.args.words.now c.loop-i.i c.word-word.result.now c.place_behind-in-loop-i.result c.word-word.ensures (sym c.expects.ensures ∙ c.if-expects.false) (sym c.is_end.ensures ∙ c.if-is_end.false) c.place_behind-in-loop-i.ensures c.in_ok-push.ensures c.loop-i.invariant

@@ -1,10 +1,11 @@
 use Rattle.std.proofs.Common.{◌≡◌, ◌+◌, drop}
-use Rattle.words_core.specs.Grammar.{given_first, options_of, reading_of}
+use Rattle.words_core.specs.Grammar.{first_state, option_reading}
+use Rattle.words_core.specs.Options.{options_of}
 use Rattle.words_core.proofs.OneMore.{behind}
 use Rattle.words_core.proofs.reading.read_options.Given as goal
 
 -- the reading is that of the words that are left, with the operands so far before it
 abbrev pub invariant-loop-i : goal.invariant-loop-i
 invariant-loop-i l =
-    reading_of (options_of l.start.applet) (given_first l.start.flags) (l.start.read + 1) (drop l.start.read l.words)
-    ≡ behind l.operands (reading_of (options_of l.start.applet) l.given (l.i + 1) (drop l.i l.words))
+    option_reading (options_of l.start.applet) (first_state l.start.flags) (l.start.read + 1) (drop l.start.read l.words)
+    ≡ behind l.operands (option_reading (options_of l.start.applet) l.state (l.i + 1) (drop l.i l.words))

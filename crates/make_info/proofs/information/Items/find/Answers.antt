@@ -11,7 +11,7 @@ use Rattle.make_info.proofs.information.Items.find.Goals as goal
 pub returns : goal.returns
 returns c =
     found_seen c.args.field c.self.inside.entries.items c.find.result
-    (find_from_yields_List (λ (e : Entry). is_same e.field c.args.field) _ _ c.find.result c.find.ensures.ran
+    (find_from_yields_List (λ (e : Item). is_same e.field c.args.field) _ _ c.find.result c.find.ensures.ran
     (YieldsList-from_slice c.self.inside.entries.items (c.iter.ensures.rest ∙ c.deref.ensures.value))
     (λ x b q k. search (rules, tests)))
     ∙ ap (find (is_item_for c.args.field)) c.self.view_is

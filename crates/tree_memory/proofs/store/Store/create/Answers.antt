@@ -1,4 +1,4 @@
-use Rattle.std.proofs.Common.{◌≡◌, false, List, [], ◌∷◌, ◌++◌, length, ap, ◌∙◌, refl, rules, ℕ, subst}
+use Rattle.std.proofs.Common.{◌≡◌, false, List, [], ◌∷◌, ◌++◌, length, ap, ◌∙◌, refl, rules, subst}
 use Rattle.base_core.specs.Files.{put_name}
 use Rattle.base_core.specs.Name.{IsName}
 use Rattle.tree_memory.specs.Table.{lookup}

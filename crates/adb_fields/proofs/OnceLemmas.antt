@@ -1,0 +1,269 @@
+-- No pair is reported exactly where each name stands once.
+use Rattle.std.proofs.Common.{◌≡◌, ℕ, suc, zero, ◌+◌, ◌<◌, ◌≤◌, ◌⊎◌, inl, inr, Bool, true, false, cond, List, [], ◌∷◌, ◌++◌, map, Option, Some, None, refl, ap, sym, subst, ◌∙◌, arith, ◌↔◌}
+use Rattle.std.specs.List.{flat_map}
+use Rattle.base_core.specs.declared.cause.Cause.{Cause}
+use Rattle.adb_view.specs.Plain.{Plain}
+use Rattle.adb_tables.specs.Walk.{or_else}
+use Rattle.adb_tables.specs.Values.{text_in}
+use Rattle.adb_tables.specs.declared.tables.Which.{Which}
+use Rattle.adb_tables.specs.declared.tables.Which.TheVariants.{Dep, Acl, PkgInfo, File, Dir, Scripts, Package, Index, Idb, Intent}
+use Rattle.adb_fields.specs.declared.pairs.Pair.{Pair}
+use Rattle.adb_fields.specs.Pairs.{Named, is_before, earlier, earliest, first_pair}
+use Rattle.adb_fields.specs.FirstPair.{IsFirstOf}
+use Rattle.adb_fields.specs.FirstPair.{IsFirst}
+use Rattle.adb_fields.specs.FirstPair.{IsPair}
+use Rattle.adb_fields.specs.FirstPair.{IsIn}
+use Rattle.adb_fields.specs.Repeated.{numbered_from, all_at, by_list_from, twice, twice_in_one, in_two, entries_at, files_in, folders_in, name_of, package_name, paths_in, folder_twice, file_twice, package_twice, path_in_two, name_twice, repeated_at, inside_fault, between_fault, repeated_fault}
+use Rattle.adb_fields.specs.Once.{AreDistinctNames, AllDistinct, IsInOneOf, AreApart, StandOnceInside, StandOnceBetween, NamesStandOnce}
+use Rattle.adb_fields.proofs.Members.{in-front, in-behind, in-either, in-map, from-map}
+use Rattle.adb_fields.proofs.FirstPair.{first_pair-first}
+
+-- ---- one list
+
+abbrev NoPair : List Named → Type 0
+NoPair names = (q : Pair) → ¬ IsPair names q
+
+-- a name behind stands at a later position
+pub record StandsAt (name : List ℕ) (n : ℕ) (names : List Named) : Type 0 where
+  pub one : Named
+  pub inside : IsIn one names
+  pub alike : name ≡ one.name
+  pub later : n ≤ one.position
+
+stands : (name : List ℕ) (n : ℕ) (names : List (List ℕ)) → IsIn name names → StandsAt name n (numbered_from n names)
+stands name n [] h = absurd h
+stands name n (x ∷ xs) (inl e) = record { one = record { name = x; position = n }; inside = inl refl; alike = e; later = omega arith }
+stands name n (x ∷ xs) (inr h) =
+    let r = stands name (n + 1) xs h in
+    let l : n + 1 ≤ r.one.position = r.later in
+    record { one = r.one; inside = inr r.inside; alike = r.alike; later = omega arith }
+
+-- and each numbered name is one of the list, at a position from the first on
+pub record IsOf (one : Named) (n : ℕ) (names : List (List ℕ)) : Type 0 where
+  pub inside : IsIn one.name names
+  pub later : n ≤ one.position
+
+of_numbered : (one : Named) (n : ℕ) (names : List (List ℕ)) → IsIn one (numbered_from n names) → IsOf one n names
+of_numbered one n [] h = absurd h
+of_numbered one n (x ∷ xs) (inl e) =
+    let p : one.position ≡ n = ap (λ m. m.position) e in
+    record { inside = inl (ap (λ m. m.name) e); later = omega arith }
+of_numbered one n (x ∷ xs) (inr h) =
+    let r = of_numbered one (n + 1) xs h in
+    let l : n + 1 ≤ one.position = r.later in
+    record { inside = inr r.inside; later = omega arith }
+
+pair_of_two : (names : List Named) (a b : Named) → IsIn a names → IsIn b names → a.name ≡ b.name → a.position < b.position → IsPair names (record { first = a.position; second = b.position })
+pair_of_two names a b h k e l = record { one = a; other = b; one_in = h; other_in = k; alike = e; first = refl; second = refl; rises = l }
+
+wider : (x : Named) (xs : List Named) (q : Pair) → IsPair xs q → IsPair (x ∷ xs) q
+wider x xs q k = record { one = k.one; other = k.other; one_in = inr k.one_in; other_in = inr k.other_in; alike = k.alike; first = k.first; second = k.second; rises = k.rises }
+
+distinct : (n : ℕ) (names : List (List ℕ)) → NoPair (numbered_from n names) → AreDistinctNames names
+distinct n [] h = tt
+distinct n (x ∷ xs) h = (
+  λ k.
+      let r = stands x (n + 1) xs k in
+      let l : n + 1 ≤ r.one.position = r.later in
+      h _ (pair_of_two (numbered_from n (x ∷ xs)) (record { name = x; position = n }) r.one (inl refl) (inr r.inside) r.alike (omega arith)),
+  distinct (n + 1) xs (λ q k. h q (wider (record { name = x; position = n }) (numbered_from (n + 1) xs) q k)),
+)
+
+no_pair_by : (n : ℕ) (x : List ℕ) (xs : List (List ℕ)) (a b : Named) → ¬ IsIn x xs → NoPair (numbered_from (n + 1) xs) → IsIn a (numbered_from n (x ∷ xs)) → IsIn b (numbered_from n (x ∷ xs)) → a.name ≡ b.name → a.position < b.position → ⊥
+no_pair_by n x xs a b once none (inl e) (inl f) same less =
+    let p : a.position ≡ n = ap (λ m. m.position) e in
+    let q : b.position ≡ n = ap (λ m. m.position) f in
+    omega arith
+no_pair_by n x xs a b once none (inl e) (inr k) same less =
+    let r = of_numbered b (n + 1) xs k in
+    let P : List ℕ → Type 0 = λ m. IsIn m xs in
+    once (subst P (sym same ∙ ap (λ m. m.name) e) r.inside)
+no_pair_by n x xs a b once none (inr h) (inl f) same less =
+    let r = of_numbered a (n + 1) xs h in
+    let l : n + 1 ≤ a.position = r.later in
+    let q : b.position ≡ n = ap (λ m. m.position) f in
+    omega arith
+no_pair_by n x xs a b once none (inr h) (inr k) same less = none _ (pair_of_two (numbered_from (n + 1) xs) a b h k same less)
+
+no_pair : (n : ℕ) (names : List (List ℕ)) → AreDistinctNames names → NoPair (numbered_from n names)
+no_pair n [] d = λ q k. k.one_in
+no_pair n (x ∷ xs) d = λ q k.
+    let e = k.first in let f = k.second in let g = k.rises in
+    no_pair_by n x xs k.one k.other d.0 (no_pair (n + 1) xs d.1) k.one_in k.other_in k.alike (omega arith)
+
+none_of : (IsOne : Pair → Type 0) (o : Option Pair) → IsFirstOf IsOne o → o ≡ None → (q : Pair) → ¬ IsOne q
+none_of IsOne o first e = let P : Option Pair → Type 0 = λ p. IsFirstOf IsOne p in subst P e first
+
+is_none_by : (IsOne : Pair → Type 0) (o : Option Pair) → IsFirstOf IsOne o → ((q : Pair) → ¬ IsOne q) → o ≡ None
+is_none_by IsOne None first h = refl
+is_none_by IsOne (Some p) first h = absurd (h p first.is_one)
+
+pub twice_none : (names : List (List ℕ)) → twice names ≡ None → AreDistinctNames names
+twice_none names e = distinct 1 names (none_of (IsPair (numbered_from 1 names)) (twice names) (first_pair-first (numbered_from 1 names)) e)
+
+pub none_twice : (names : List (List ℕ)) → AreDistinctNames names → twice names ≡ None
+none_twice names d = is_none_by (IsPair (numbered_from 1 names)) (twice names) (first_pair-first (numbered_from 1 names)) (no_pair 1 names d)
+
+-- ---- several lists, each for itself
+
+never_none : (b : Bool) (p q : Pair) → cond b (Some q) (Some p) ≡ None → ⊥
+never_none true p q e = cc
+never_none false p q e = cc
+
+earlier_none : (a b : Option Pair) → earlier a b ≡ None → (a ≡ None) × (b ≡ None)
+earlier_none None b e = (refl, e)
+earlier_none (Some p) None e = absurd (cc)
+earlier_none (Some p) (Some q) e = absurd (never_none (is_before q p) p q e)
+
+none_earlier : (a b : Option Pair) → a ≡ None → b ≡ None → earlier a b ≡ None
+none_earlier None b e f = f
+none_earlier (Some p) b e f = absurd (cc)
+
+each_none : (lists : List (List (List ℕ))) → twice_in_one lists ≡ None → AllDistinct lists
+each_none [] e = tt
+each_none (names ∷ lists) e =
+    let (one, others) = earlier_none (twice names) (twice_in_one lists) e in (twice_none names one, each_none lists others)
+
+none_each : (lists : List (List (List ℕ))) → AllDistinct lists → twice_in_one lists ≡ None
+none_each [] d = refl
+none_each (names ∷ lists) d = none_earlier (twice names) (twice_in_one lists) (none_twice names d.0) (none_each lists d.1)
+
+-- ---- between several lists
+
+stands_in_one : (name : List ℕ) (n : ℕ) (lists : List (List (List ℕ))) → IsInOneOf name lists → StandsAt name n (by_list_from n lists)
+stands_in_one name n [] h = absurd h
+stands_in_one name n (names ∷ lists) (inl h) = record {
+  one = record { name = name; position = n };
+  inside = in-front _ (all_at n names) (by_list_from (n + 1) lists) (in-map (λ m. record { name = m; position = n }) name names h);
+  alike = refl;
+  later = omega arith;
+}
+stands_in_one name n (names ∷ lists) (inr h) =
+    let r = stands_in_one name (n + 1) lists h in
+    let l : n + 1 ≤ r.one.position = r.later in
+    record { one = r.one; inside = in-behind r.one (all_at n names) (by_list_from (n + 1) lists) r.inside; alike = r.alike; later = omega arith }
+
+pub record IsOfOne (one : Named) (n : ℕ) (lists : List (List (List ℕ))) : Type 0 where
+  pub inside : IsInOneOf one.name lists
+  pub later : n ≤ one.position
+
+-- of the first list, or of one behind it
+pub record IsHere (one : Named) (n : ℕ) (names : List (List ℕ)) : Type 0 where
+  pub inside : IsIn one.name names
+  pub at : one.position ≡ n
+
+here : (one : Named) (n : ℕ) (names : List (List ℕ)) → IsIn one (all_at n names) → IsHere one n names
+here one n names h =
+    let r = from-map (λ m. record { name = m; position = n }) one names h in
+    let P : List ℕ → Type 0 = λ m. IsIn m names in
+    record { inside = subst P (sym (ap (λ m. m.name) r.2)) r.1; at = ap (λ m. m.position) r.2 }
+
+of_lists : (one : Named) (n : ℕ) (lists : List (List (List ℕ))) → IsIn one (by_list_from n lists) → IsOfOne one n lists
+of_lists one n [] h = absurd h
+of_lists one n (names ∷ lists) h =
+    elim (in-either one (all_at n names) (by_list_from (n + 1) lists) h) [
+      | inl k ↦ let r = here one n names k in let e = r.at in record { inside = inl r.inside; later = omega arith }
+      | inr k ↦ let r = of_lists one (n + 1) lists k in let l : n + 1 ≤ one.position = r.later in record { inside = inr r.inside; later = omega arith }
+    ]
+
+apart : (n : ℕ) (lists : List (List (List ℕ))) → NoPair (by_list_from n lists) → AreApart lists
+apart n [] h = tt
+apart n (names ∷ lists) h = (
+  λ name k others.
+      let r = stands_in_one name (n + 1) lists others in
+      let l : n + 1 ≤ r.one.position = r.later in
+      h _
+      (pair_of_two (by_list_from n (names ∷ lists)) (record { name = name; position = n }) r.one
+      (in-front _ (all_at n names) (by_list_from (n + 1) lists) (in-map (λ m. record { name = m; position = n }) name names k))
+      (in-behind r.one (all_at n names) (by_list_from (n + 1) lists) r.inside) r.alike (omega arith)),
+  apart (n + 1) lists
+      (λ q k. h q (record {
+        one = k.one;
+        other = k.other;
+        one_in = in-behind k.one (all_at n names) (by_list_from (n + 1) lists) k.one_in;
+        other_in = in-behind k.other (all_at n names) (by_list_from (n + 1) lists) k.other_in;
+        alike = k.alike;
+        first = k.first;
+        second = k.second;
+        rises = k.rises;
+      })),
+)
+
+no_pair_between : (n : ℕ) (names : List (List ℕ)) (lists : List (List (List ℕ))) (a b : Named) → ((name : List ℕ) → IsIn name names → ¬ IsInOneOf name lists) → NoPair (by_list_from (n + 1) lists)
+    → IsIn a (all_at n names) ⊎ IsIn a (by_list_from (n + 1) lists) → IsIn b (all_at n names) ⊎ IsIn b (by_list_from (n + 1) lists) → a.name ≡ b.name → a.position < b.position → ⊥
+no_pair_between n names lists a b once none (inl h) (inl k) same less =
+    let e = (here a n names h).at in let f = (here b n names k).at in omega arith
+no_pair_between n names lists a b once none (inl h) (inr k) same less =
+    let P : List ℕ → Type 0 = λ m. IsInOneOf m lists in
+    once a.name (here a n names h).inside (subst P (sym same) (of_lists b (n + 1) lists k).inside)
+no_pair_between n names lists a b once none (inr h) (inl k) same less =
+    let l : n + 1 ≤ a.position = (of_lists a (n + 1) lists h).later in let f = (here b n names k).at in omega arith
+no_pair_between n names lists a b once none (inr h) (inr k) same less = none _ (pair_of_two (by_list_from (n + 1) lists) a b h k same less)
+
+none_between : (n : ℕ) (lists : List (List (List ℕ))) → AreApart lists → NoPair (by_list_from n lists)
+none_between n [] d = λ q k. k.one_in
+none_between n (names ∷ lists) d = λ q k.
+    let e = k.first in let f = k.second in let g = k.rises in
+    no_pair_between n names lists k.one k.other d.0 (none_between (n + 1) lists d.1)
+    (in-either k.one (all_at n names) (by_list_from (n + 1) lists) k.one_in) (in-either k.other (all_at n names) (by_list_from (n + 1) lists) k.other_in) k.alike (omega arith)
+
+two_none : (lists : List (List (List ℕ))) → in_two lists ≡ None → AreApart lists
+two_none lists e = apart 1 lists (none_of (IsPair (by_list_from 1 lists)) (in_two lists) (first_pair-first (by_list_from 1 lists)) e)
+
+none_two : (lists : List (List (List ℕ))) → AreApart lists → in_two lists ≡ None
+none_two lists d = is_none_by (IsPair (by_list_from 1 lists)) (in_two lists) (first_pair-first (by_list_from 1 lists)) (none_between 1 lists d)
+
+-- ---- kind by kind
+
+at_none : (n : ℕ) (o : Option Pair) → repeated_at n o ≡ None → o ≡ None
+at_none n None e = refl
+at_none n (Some p) e = absurd (cc)
+
+none_at : (n : ℕ) (o : Option Pair) → o ≡ None → repeated_at n o ≡ None
+none_at n None e = refl
+none_at n (Some p) e = absurd (cc)
+
+both_none : (a b : Option Cause) → or_else a b ≡ None → (a ≡ None) × (b ≡ None)
+both_none None b e = (refl, e)
+both_none (Some c) b e = absurd (cc)
+
+none_both : (a b : Option Cause) → a ≡ None → b ≡ None → or_else a b ≡ None
+none_both None b e f = f
+none_both (Some c) b e f = absurd (cc)
+
+inside_once : (packages : List Plain) → inside_fault packages ≡ None → StandOnceInside packages
+inside_once packages e =
+    let (a, b) = both_none (repeated_at 501 (folder_twice packages)) (repeated_at 401 (file_twice packages)) e in
+    record { folders = each_none _ (at_none 501 (folder_twice packages) a); files = each_none _ (at_none 401 (file_twice packages) b) }
+
+once_inside : (packages : List Plain) → StandOnceInside packages → inside_fault packages ≡ None
+once_inside packages d =
+    none_both (repeated_at 501 (folder_twice packages)) (repeated_at 401 (file_twice packages)) (none_at 501 (folder_twice packages) (none_each _ d.folders)) (none_at 401 (file_twice packages) (none_each _ d.files))
+
+between_once : (packages : List Plain) → between_fault packages ≡ None → StandOnceBetween packages
+between_once packages e =
+    let (a, b) = both_none (repeated_at 901 (package_twice packages)) (repeated_at 401 (path_in_two packages)) e in
+    record { packages_once = twice_none _ (at_none 901 (package_twice packages) a); paths_once = two_none _ (at_none 401 (path_in_two packages) b) }
+
+once_between : (packages : List Plain) → StandOnceBetween packages → between_fault packages ≡ None
+once_between packages d =
+    none_both (repeated_at 901 (package_twice packages)) (repeated_at 401 (path_in_two packages)) (none_at 901 (package_twice packages) (none_twice _ d.packages_once)) (none_at 401 (path_in_two packages) (none_two _ d.paths_once))
+
+database_once : (packages : List Plain) → or_else (inside_fault packages) (between_fault packages) ≡ None → StandOnceInside packages × StandOnceBetween packages
+database_once packages e = let (a, b) = both_none (inside_fault packages) (between_fault packages) e in (inside_once packages a, between_once packages b)
+
+pub names_once : (which : Which) (v : Plain) → (repeated_fault which v ≡ None) ↔ NamesStandOnce which v
+unfolding repeated_fault
+names_once Dep v = (λ e. tt, λ d. refl)
+names_once Acl v = (λ e. tt, λ d. refl)
+names_once PkgInfo v = (λ e. tt, λ d. refl)
+names_once File v = (λ e. tt, λ d. refl)
+names_once Dir v = (λ e. tt, λ d. refl)
+names_once Scripts v = (λ e. tt, λ d. refl)
+names_once Package v = (inside_once (v ∷ []), once_inside (v ∷ []))
+names_once Index v = (λ e. tt, λ d. refl)
+names_once Idb v = (
+  database_once (entries_at 0 v),
+  λ d. none_both (inside_fault (entries_at 0 v)) (between_fault (entries_at 0 v)) (once_inside (entries_at 0 v) d.0) (once_between (entries_at 0 v) d.1),
+)
+names_once Intent v = (λ e. twice_none _ (at_none 1002 (name_twice v) e), λ d. none_at 1002 (name_twice v) (none_twice _ d))

@@ -1,0 +1,102 @@
+-- What the parts of `adbdump`, `mkpkg` and `mkndx` hand on.
+use Rattle.std.specs.Prelude.{◌≡◌, ℕ, Bool, true, false, List, Option, Some, None, Result, Ok, Err, Vec}
+use Rattle.std.specs.declared.alloc.Global.{Global}
+use Rattle.adb_block.specs.Reading.{Reading, done, fault, more}
+use Rattle.adb_schema.specs.declared.read.ReadFault.{ReadFault}
+use Rattle.adb_schema.specs.declared.read.ReadFault.TheVariants as ReadFaults
+use Rattle.adb_tables.specs.declared.tables.Which.{Which}
+use Rattle.base_core.specs.Files.{Files}
+use Rattle.base_core.specs.declared.cause.Cause.{Cause}
+use Rattle.command_core.specs.Command.{CommandLine}
+use Rattle.command_core.specs.declared.values.TheConstants.{FILES}
+use Rattle.make_index.specs.Files.{AreFiles}
+use Rattle.make_index.specs.Index.{made_index}
+use Rattle.make_info.specs.Reads.{Reads}
+use Rattle.make_info.specs.declared.fault.MakeFault.{MakeFault}
+use Rattle.make_info.specs.declared.fault.MakeFault.TheVariants.{Disk, Memory}
+use Rattle.make_package.specs.Making.{made_package}
+use Rattle.make_package.specs.Sources.{AreNamesFor, values_with}
+use Rattle.outcome.specs.Commands.{reads_in}
+use Rattle.outcome.specs.Dump.{form_fault}
+use Rattle.outcome.specs.Make.{IsListing, mkndx, mkpkg}
+use Rattle.outcome.specs.Outcome.{Outcome}
+
+-- ---- the text of a container
+
+-- why there is no text; want of memory says nothing of the file
+abbrev pub IsDumpFault : ReadFault → Result (List ℕ) Cause → Type 0
+IsDumpFault (ReadFaults.Bad cause) text = text ≡ Err cause
+IsDumpFault ReadFaults.Memory text = Unit {0}
+
+-- why the first block is refused
+abbrev pub first_form_fault : Which → Reading → Option Cause
+first_form_fault which done = None
+first_form_fault which (fault c) = Some c
+first_form_fault which (more b at r) = form_fault which b.payload
+
+-- the first block passed its tests, and the reader stands behind it
+abbrev pub IsShapedFirst : Which → List ℕ → Reading → Reading → Type 0
+IsShapedFirst which payload done later = ⊥
+IsShapedFirst which payload (fault c) later = ⊥
+IsShapedFirst which payload (more b at r) later =
+    (payload ≡ b.payload) × (form_fault which b.payload ≡ None) × (r ≡ later)
+
+-- ---- a container that is made
+
+-- what was made, without where it lies
+abbrev pub made_in : Result (Vec ℕ Global) MakeFault → Result (List ℕ) MakeFault
+made_in (Ok file) = Ok file.items
+made_in (Err why) = Err why
+
+-- whether the tree failed, or memory ran out
+abbrev pub is_cut : MakeFault → Bool
+is_cut Disk = true
+is_cut Memory = true
+is_cut other = false
+
+abbrev pub is_cut_off : Result (Vec ℕ Global) MakeFault → Bool
+is_cut_off (Ok file) = false
+is_cut_off (Err why) = is_cut why
+
+-- what was made, or why not, has this meaning; a fault of the tree and want of memory have none
+abbrev pub OnMade :
+    Result (Vec ℕ Global) MakeFault → (Result (List ℕ) MakeFault → Type 0) → Type 0
+OnMade (Ok file) Means = Means (Ok file.items)
+OnMade (Err why) Means = is_cut why ≡ false → Means (Err why)
+
+-- ---- over these files
+
+-- what `mkpkg` makes
+pub record IsPackageMade (command : CommandLine) (files : Files)
+    (made : Result (List ℕ) MakeFault) : Type 0 where
+  pub names : List (List ℕ)
+  pub listing : IsListing (values_with FILES command.values) files names
+  pub is : made_package command names (reads_in files) ≡ made
+
+-- what `mkndx` makes
+abbrev pub IsIndexMade : CommandLine → Files → Result (List ℕ) MakeFault → Type 0
+IsIndexMade command files made = made_index command (reads_in files) ≡ made
+
+-- the outcome of `mkpkg`
+abbrev pub IsPackageOutcome : CommandLine → Files → Outcome → Type 0
+IsPackageOutcome command files outcome =
+    (names : List (List ℕ))
+    × IsListing (values_with FILES command.values) files names
+    × (outcome ≡ mkpkg (reads_in files) files command names)
+
+-- the outcome of `mkndx`
+abbrev pub IsIndexOutcome : CommandLine → Files → Outcome → Type 0
+IsIndexOutcome command files outcome = outcome ≡ mkndx (reads_in files) files command
+
+-- ---- by some names below the folder, and some reads
+
+pub record IsPackageFound (command : CommandLine) (made : Result (List ℕ) MakeFault) : Type 0 where
+  pub names : List (List ℕ)
+  pub named : AreNamesFor (values_with FILES command.values) names
+  pub read : Reads
+  pub is : made_package command names read ≡ made
+
+pub record IsIndexFound (command : CommandLine) (made : Result (List ℕ) MakeFault) : Type 0 where
+  pub read : Reads
+  pub files : AreFiles read 0 command.operands
+  pub is : made_index command read ≡ made

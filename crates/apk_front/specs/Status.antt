@@ -1,0 +1,11 @@
+-- The exit status of an answer.
+use Rattle.std.specs.Prelude.{ℕ}
+use Rattle.apk_front.specs.declared.answer.Answer.{Answer}
+use Rattle.apk_front.specs.declared.answer.Answer.TheVariants.{Ok, Refused, TreeFault, OutFault, Memory}
+
+abbrev pub status_of : Answer → ℕ
+status_of Ok = 0
+status_of (Refused refusal) = 1
+status_of TreeFault = 2
+status_of OutFault = 3
+status_of Memory = 4

@@ -1,0 +1,13 @@
+//! Makes an index of packages (apk(8), `mkndx`): a command and a tree come in, the bytes of a
+//! container go out.
+//!
+//! The contracts cite `Entries` (what an index says of a package), `EntryOrder` and `Index` (the
+//! index of a command) of `specs/`.
+#![tactic(auto)]
+
+mod entry;
+mod index;
+mod source;
+mod writing;
+
+pub use index::{an_entry_is_an_info, make};

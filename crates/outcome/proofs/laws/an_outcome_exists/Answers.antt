@@ -1,5 +1,0 @@
-use Rattle.outcome.proofs.Existing.{outcome_exists}
-use Rattle.outcome.proofs.laws.an_outcome_exists.Goals as goal
-
-pub returns : goal.returns
-returns c = outcome_exists c.files_have_one_list_of_names.ensures.exists

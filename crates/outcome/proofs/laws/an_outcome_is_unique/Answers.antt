@@ -1,5 +1,0 @@
-use Rattle.outcome.proofs.Existing.{outcome_unique}
-use Rattle.outcome.proofs.laws.an_outcome_is_unique.Goals as goal
-
-pub returns : goal.returns
-returns c = outcome_unique c.files_have_one_list_of_names.ensures.one

@@ -1,5 +1,0 @@
-use Rattle.outcome.proofs.MadeSound.{made_sound}
-use Rattle.outcome.proofs.laws.what_is_made_is_sound.Goals as goal
-
-pub returns : goal.returns
-returns c = made_sound c.a_made_package_is_sound.ensures c.a_made_index_is_sound.ensures

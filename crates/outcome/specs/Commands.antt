@@ -1,0 +1,74 @@
+-- The outcome of a command line.
+use Rattle.std.specs.Prelude.{◌≡◌, ℕ, List, [], Result, Ok, Err}
+use Rattle.base_core.specs.Files.{Files, no_names}
+use Rattle.command_core.specs.declared.values.TheConstants.{FILES}
+use Rattle.make_info.specs.Reads.{Reads}
+use Rattle.make_package.specs.Sources.{AreNamesFor, values_with}
+use Rattle.report_core.specs.declared.refusal.Refusal.TheVariants.{Usage}
+use Rattle.command_core.specs.Command.{CommandLine}
+use Rattle.words_core.specs.Grammar.{command_of}
+use Rattle.command_core.specs.declared.command.Applet.{Applet}
+use Rattle.command_core.specs.declared.command.Applet.TheVariants.{Adbdump, Mkndx, Mkpkg, Verify, Version}
+use Rattle.outcome.specs.Dump.{adbdump}
+use Rattle.outcome.specs.Make.{IsListing, mkndx, mkpkg}
+use Rattle.outcome.specs.Outcome.{Outcome, just_refusal, just_report}
+use Rattle.outcome.specs.Verify.{verify}
+use Rattle.outcome.specs.Version.{version}
+
+-- ---- the outcome of an applet
+
+-- by the names that it lists, by what its reads find, and by the files, which it may change
+abbrev pub applet_outcome : Applet → CommandLine → List (List ℕ) → Reads → Files → Outcome
+applet_outcome Verify command names read files = verify read files command.operands
+applet_outcome Version command names read files = version files command.flags command.operands
+applet_outcome Adbdump command names read files = adbdump read files command.operands
+applet_outcome Mkpkg command names read files = mkpkg read files command names
+applet_outcome Mkndx command names read files = mkndx read files command
+-- no word names another applet yet
+applet_outcome other command names read files = just_report files []
+
+abbrev pub command_outcome : CommandLine → List (List ℕ) → Reads → Files → Outcome
+command_outcome command names read files = applet_outcome command.applet command names read files
+
+-- ---- over the files of a tree
+
+-- the names that an applet lists: `mkpkg` those below its folder, the others none
+abbrev pub IsListingFor : Applet → CommandLine → Files → List (List ℕ) → Type 0
+IsListingFor Mkpkg command files names = IsListing (values_with FILES command.values) files names
+IsListingFor other command files names = names ≡ []
+
+-- each read finds the file under its name
+abbrev pub reads_in : Files → Reads
+reads_in files n name = files name
+
+abbrev pub IsOutcomeOf : Result CommandLine ℕ → Files → Outcome → Type 0
+IsOutcomeOf (Err place) files outcome = outcome ≡ just_refusal files (Usage place)
+IsOutcomeOf (Ok command) files outcome =
+    (names : List (List ℕ))
+    × IsListingFor command.applet command files names
+    × (outcome ≡ command_outcome command names (reads_in files) files)
+
+-- the outcome of a command line over these files
+abbrev pub IsOutcome : List (List ℕ) → Files → Outcome → Type 0
+IsOutcome words files outcome = IsOutcomeOf (command_of words) files outcome
+
+-- ---- over a tree whose files no contract knows, as a folder of the host
+
+-- names that an applet may list: `mkpkg` some below its folder, in byte order and each once, the
+-- others none
+abbrev pub MayBeListedFor : Applet → CommandLine → List (List ℕ) → Type 0
+MayBeListedFor Mkpkg command names = AreNamesFor (values_with FILES command.values) names
+MayBeListedFor other command names = names ≡ []
+
+abbrev pub IsFoundOutcomeOf : Result CommandLine ℕ → Outcome → Type 0
+IsFoundOutcomeOf (Err place) outcome = outcome ≡ just_refusal no_names (Usage place)
+IsFoundOutcomeOf (Ok command) outcome =
+    (names : List (List ℕ))
+    × MayBeListedFor command.applet command names
+    × (read : Reads)
+    × (outcome ≡ command_outcome command names read no_names)
+
+-- the outcome of a command line for some listing, and for some contents, or none, at each read;
+-- nothing is said of the files afterwards
+abbrev pub IsFoundOutcome : List (List ℕ) → Outcome → Type 0
+IsFoundOutcome words outcome = IsFoundOutcomeOf (command_of words) outcome

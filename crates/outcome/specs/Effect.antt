@@ -1,0 +1,54 @@
+-- What a command looks at, and what it changes.
+use Rattle.std.specs.Prelude.{ℕ, Bool, true, false, List, Option, None, Result, Ok, Err}
+use Rattle.make_info.specs.Output.{output_name}
+use Rattle.command_core.specs.Command.{CommandLine}
+use Rattle.words_core.specs.Grammar.{command_of}
+use Rattle.command_core.specs.declared.command.Applet.{Applet}
+use Rattle.command_core.specs.declared.command.Applet.TheVariants.{Adbdump, Mkndx, Mkpkg, Verify, Version}
+
+pub data Effect : Type 0 where
+  -- it looks at the words alone
+  Computes : Effect
+  -- it reads files, and leaves them as they are
+  Reads : Effect
+  -- it reads files, and writes one
+  Makes : Effect
+
+-- no word names an applet that is not listed here
+abbrev pub effect_of : Applet → Effect
+effect_of Verify = Reads
+effect_of Adbdump = Reads
+effect_of Mkpkg = Makes
+effect_of Mkndx = Makes
+effect_of other = Computes
+
+abbrev pub does_rest_on_words : Effect → Bool
+does_rest_on_words Computes = true
+does_rest_on_words other = false
+
+abbrev pub does_only_read : Effect → Bool
+does_only_read Makes = false
+does_only_read other = true
+
+-- the name under which a command writes a file, if it writes one
+abbrev pub output_if : Effect → CommandLine → Option (List ℕ)
+output_if Makes command = output_name command
+output_if other command = None
+
+-- ---- of a command line; a usage error looks at nothing, and changes nothing
+
+abbrev pub rests_on_words : Result CommandLine ℕ → Bool
+rests_on_words (Ok command) = does_rest_on_words (effect_of command.applet)
+rests_on_words (Err place) = true
+
+abbrev pub reads_only : Result CommandLine ℕ → Bool
+reads_only (Ok command) = does_only_read (effect_of command.applet)
+reads_only (Err place) = true
+
+abbrev pub output_by : Result CommandLine ℕ → Option (List ℕ)
+output_by (Ok command) = output_if (effect_of command.applet) command
+output_by (Err place) = None
+
+-- the output of a command line
+abbrev pub output : List (List ℕ) → Option (List ℕ)
+output words = output_by (command_of words)

@@ -1,0 +1,146 @@
+-- The words up to the applet, one word at a time, and with more words behind them.
+use Rattle.std.proofs.Common.{Bool, Err, List, None, Ok, Option, Result, Some, [], ap, arith, false, inl, inr, length, refl, subst, suc, sym, take, true, zero, ℕ, ◌++◌, ◌+◌, ◌-◌, ◌<◌, ◌∙◌, ◌∷◌, ◌≡◌, ◌≤◌, ◌⊎◌, if◌then◌else◌}
+use Rattle.std.proofs.lemmas.List.{length-take-le}
+use Rattle.std.proofs.lemmas.Result.{IfOk-at_ok}
+use Rattle.command_core.specs.declared.command.Flags.{Flags}
+use Rattle.command_core.specs.Flags.{no_flags}
+use Rattle.words_core.specs.declared.reading.AppletSite.{AppletSite}
+use Rattle.words_core.specs.declared.reading.Start.{Start}
+use Rattle.words_core.specs.Grammar.{applet_site, early_flags, is_end, is_option, line_start, or_at, site_at, site_behind_end, site_by, start_from, start_with, with_option}
+use Rattle.words_core.specs.Options.{applet_of, OptionSpec, is_early, options_of}
+use Rattle.words_core.proofs.KindsKept.{IsSite, site_known, start_parts}
+
+pub seek_end : (place : ℕ) (word : List ℕ) (words : List (List ℕ)) → is_end word ≡ true → applet_site place (word ∷ words) ≡ site_behind_end (place + 1) words
+seek_end place word words e = rw e refl
+
+pub seek_here : (place : ℕ) (word : List ℕ) (words : List (List ℕ)) → is_end word ≡ false → is_option word ≡ false → applet_site place (word ∷ words) ≡ site_at false place word
+seek_here place word words e o = rw e (rw o refl)
+
+pub seek_early : (place : ℕ) (word : List ℕ) (words : List (List ℕ)) → is_end word ≡ false → is_option word ≡ true → is_early word ≡ true → applet_site place (word ∷ words) ≡ applet_site (place + 1) words
+seek_early place word words e o y = rw e (rw o (rw y refl))
+
+pub seek_late : (place : ℕ) (word : List ℕ) (words : List (List ℕ)) → is_end word ≡ false → is_option word ≡ true → is_early word ≡ false → applet_site place (word ∷ words) ≡ Err place
+seek_late place word words e o y = rw e (rw o (rw y refl))
+
+pub flags_end : (options : List OptionSpec) (flags : Flags) (place : ℕ) (word : List ℕ) (words : List (List ℕ)) → is_end word ≡ true → early_flags options flags place (word ∷ words) ≡ Ok flags
+flags_end options flags place word words e = rw e refl
+
+pub flags_step : (options : List OptionSpec) (flags : Flags) (place : ℕ) (word : List ℕ) (words : List (List ℕ)) (more : Option Flags) → is_end word ≡ false → with_option options flags word ≡ more → early_flags options flags place (word ∷ words) ≡ or_at place (λ m. early_flags options m (place + 1) words) more
+flags_step options flags place word words more e m = rw e (rw m refl)
+
+-- a word that names no applet offends itself
+pub err_here : (place at : ℕ) (ended : Bool) (word : List ℕ) → site_at ended place word ≡ Err at → at ≡ place
+unfolding site_at
+err_here place at ended word h =
+    elim (applet_of word) as (λ o. or_at place (λ applet. Ok (site_by ended place applet)) o ≡ Err at → at ≡ place) [
+      | None ↦ λ (e : Err place ≡ Err at). cc
+      | Some applet ↦ λ (e : Ok (site_by ended place applet) ≡ Err at). absurd (cc)
+    ] h
+
+-- ---- more words behind
+
+-- the applet was found, or a word offends before it
+abbrev pub IsKnown : ℕ → Result AppletSite ℕ → Type 0
+IsKnown behind (Ok site) = Unit {0}
+IsKnown behind (Err place) = place < behind
+
+pub end_stays : (place : ℕ) (words more : List (List ℕ)) → IsKnown (place + length words) (site_behind_end place words) → site_behind_end place (words ++ more) ≡ site_behind_end place words
+unfolding site_behind_end
+end_stays place [] more k = absurd (omega (arith, k))
+end_stays place (word ∷ words) more k = refl
+
+pub site_stays : (place : ℕ) (words more : List (List ℕ)) → IsKnown (place + length words) (applet_site place words) → applet_site place (words ++ more) ≡ applet_site place words
+site_stays place [] more k = absurd (omega (arith, k))
+site_stays place (word ∷ words) more k =
+    let next : place + length (word ∷ words) ≡ place + 1 + length words = omega arith in
+    elim (is_end word) as (λ b. is_end word ≡ b → IsKnown (place + length (word ∷ words)) (if b then site_behind_end (place + 1) words else if is_option word then (if is_early word then applet_site (place + 1) words else Err place) else site_at false place word) → applet_site place (word ∷ (words ++ more)) ≡ (if b then site_behind_end (place + 1) words else if is_option word then (if is_early word then applet_site (place + 1) words else Err place) else site_at false place word)) [
+      | true ↦ λ e h. seek_end place word (words ++ more) e ∙ end_stays (place + 1) words more (subst (λ n. IsKnown n (site_behind_end (place + 1) words)) next h)
+      | false ↦ λ e. elim (is_option word) as (λ b. is_option word ≡ b → IsKnown (place + length (word ∷ words)) (if b then (if is_early word then applet_site (place + 1) words else Err place) else site_at false place word) → applet_site place (word ∷ (words ++ more)) ≡ (if b then (if is_early word then applet_site (place + 1) words else Err place) else site_at false place word)) [
+        | true ↦ λ o. elim (is_early word) as (λ b. is_early word ≡ b → IsKnown (place + length (word ∷ words)) (if b then applet_site (place + 1) words else Err place) → applet_site place (word ∷ (words ++ more)) ≡ (if b then applet_site (place + 1) words else Err place)) [
+          | true ↦ λ y h. seek_early place word (words ++ more) e o y ∙ site_stays (place + 1) words more (subst (λ n. IsKnown n (applet_site (place + 1) words)) next h)
+          | false ↦ λ y h. seek_late place word (words ++ more) e o y
+        ] refl
+        | false ↦ λ o h. seek_here place word (words ++ more) e o
+      ] refl
+    ] refl k
+
+pub take_stays : (count : ℕ) (words more : List (List ℕ)) → count ≤ length words → take count (words ++ more) ≡ take count words
+take_stays zero words more l = refl
+take_stays (suc count) [] more l = absurd (omega (arith, l))
+take_stays (suc count) (word ∷ words) more l = ap (λ ws. word ∷ ws) (take_stays count words more (omega (arith, l)))
+
+-- flags that offend do so whatever follows
+pub flags_offend : (options : List OptionSpec) (flags : Flags) (place at : ℕ) (words more : List (List ℕ)) → early_flags options flags place words ≡ Err at → early_flags options flags place (words ++ more) ≡ Err at
+flags_offend options flags place at [] more h = absurd (cc)
+flags_offend options flags place at (word ∷ words) more h =
+    elim (is_end word) as (λ b. is_end word ≡ b → early_flags options flags place (word ∷ (words ++ more)) ≡ Err at) [
+      | true ↦ λ e. absurd (let same : Ok flags ≡ Err at = sym (flags_end options flags place word words e) ∙ h in cc)
+      | false ↦ λ e. elim (with_option options flags word) as (λ m. with_option options flags word ≡ m → early_flags options flags place (word ∷ (words ++ more)) ≡ Err at) [
+        | None ↦ λ m. flags_step options flags place word (words ++ more) None e m ∙ (sym (flags_step options flags place word words None e m) ∙ h)
+        | Some g ↦ λ m. flags_step options flags place word (words ++ more) (Some g) e m
+            ∙ flags_offend options g (place + 1) at words more (sym (flags_step options flags place word words (Some g) e m) ∙ h)
+      ] refl
+    ] refl
+
+pub flags_between : (options : List OptionSpec) (flags : Flags) (place at : ℕ) (words : List (List ℕ)) → early_flags options flags place words ≡ Err at → (place ≤ at) × (at < place + length words)
+flags_between options flags place at [] h = absurd (cc)
+flags_between options flags place at (word ∷ words) h =
+    elim (is_end word) as (λ b. is_end word ≡ b → (place ≤ at) × (at < place + length (word ∷ words))) [
+      | true ↦ λ e. absurd (let same : Ok flags ≡ Err at = sym (flags_end options flags place word words e) ∙ h in cc)
+      | false ↦ λ e. elim (with_option options flags word) as (λ m. with_option options flags word ≡ m → (place ≤ at) × (at < place + length (word ∷ words))) [
+        | None ↦ λ m. (let same : Err place ≡ Err at = sym (flags_step options flags place word words None e m) ∙ h in let is : place ≡ at = cc in (omega arith, omega arith))
+        | Some g ↦ λ m. (let rest = flags_between options g (place + 1) at words (sym (flags_step options flags place word words (Some g) e m) ∙ h) in (omega (arith, rest.0), omega (arith, rest.1)))
+      ] refl
+    ] refl
+
+-- ---- the start of a line
+
+pub start_stays : (words more : List (List ℕ)) (start : Start) → line_start words ≡ Ok start → line_start (words ++ more) ≡ Ok start
+start_stays words more start s =
+    let parts = start_parts words start s in
+    let site : IsSite parts.site (1 + length words) = IfOk-at_ok (λ x. IsSite x (1 + length words)) parts.found (site_known 1 (1 + length words) words (omega arith) (omega arith)) in
+    let less : parts.site.read - 1 ≤ length words = omega (arith, site.read) in
+    let found : applet_site 1 (words ++ more) ≡ Ok parts.site = site_stays 1 words more (subst (λ r. IsKnown (1 + length words) r) (sym parts.found) tt) ∙ parts.found in
+    ap (start_from (words ++ more)) found
+    ∙ (ap (λ ws. start_with parts.site (early_flags (options_of parts.site.applet) no_flags 1 ws)) (take_stays (parts.site.read - 1) words more less)
+    ∙ (ap (start_with parts.site) parts.early ∙ ap Ok parts.same))
+
+-- why there is no start: the search for the applet ends, or an option before it is not its own
+pub record IsForeign (words : List (List ℕ)) (at : ℕ) : Type 0 where
+  pub site : AppletSite
+  pub found : applet_site 1 words ≡ Ok site
+  pub early : early_flags (options_of site.applet) no_flags 1 (take (site.read - 1) words) ≡ Err at
+
+pub no_start : (words : List (List ℕ)) (at : ℕ) → line_start words ≡ Err at → (applet_site 1 words ≡ Err at) ⊎ IsForeign words at
+no_start words at e =
+    elim (applet_site 1 words) as (λ s. applet_site 1 words ≡ s → start_from words s ≡ Err at → (applet_site 1 words ≡ Err at) ⊎ IsForeign words at) [
+      | Err place ↦ λ s (h : Err place ≡ Err at). (let is : place ≡ at = cc in inl (s ∙ ap Err is))
+      | Ok site ↦ λ s h. by_flags site s (early_flags (options_of site.applet) no_flags 1 (take (site.read - 1) words)) refl h
+    ] refl e
+  where
+    by_flags : (site : AppletSite) → applet_site 1 words ≡ Ok site → (f : Result Flags ℕ) → early_flags (options_of site.applet) no_flags 1 (take (site.read - 1) words) ≡ f → start_with site f ≡ Err at → (applet_site 1 words ≡ Err at) ⊎ IsForeign words at
+    by_flags site s (Ok flags) f h = absurd (cc)
+    by_flags site s (Err place) f h = (let same : Err place ≡ Err at = cc in inr (record { site = site; found = s; early = f ∙ same }))
+
+-- an option that is not the applet's offends before the applet
+pub foreign_between : (words : List (List ℕ)) (at : ℕ) (f : IsForeign words at) → (1 ≤ at) × (at ≤ length words) × (f.site.read - 1 ≤ length words)
+foreign_between words at f =
+    let site : IsSite f.site (1 + length words) = IfOk-at_ok (λ x. IsSite x (1 + length words)) f.found (site_known 1 (1 + length words) words (omega arith) (omega arith)) in
+    let less : f.site.read - 1 ≤ length words = omega (arith, site.read) in
+    let is = flags_between (options_of f.site.applet) no_flags 1 at (take (f.site.read - 1) words) f.early in
+    let size : length (take (f.site.read - 1) words) ≡ f.site.read - 1 = length-take-le (f.site.read - 1) words less in
+    (is.0, omega (arith, is.1, size), less)
+
+pub no_start_stays : (words more : List (List ℕ)) (at : ℕ) → line_start words ≡ Err at → at ≤ length words → line_start (words ++ more) ≡ Err at
+no_start_stays words more at e l =
+    elim (no_start words at e) as (λ _. line_start (words ++ more) ≡ Err at) [
+      | inl s ↦
+          (let known : at < 1 + length words = omega arith in
+          ap (start_from (words ++ more)) (site_stays 1 words more (subst (λ r. IsKnown (1 + length words) r) (sym s) known) ∙ s))
+      | inr f ↦
+          (let between = foreign_between words at f in
+          let found : applet_site 1 (words ++ more) ≡ Ok f.site = site_stays 1 words more (subst (λ r. IsKnown (1 + length words) r) (sym f.found) tt) ∙ f.found in
+          ap (start_from (words ++ more)) found
+          ∙ (ap (λ ws. start_with f.site (early_flags (options_of f.site.applet) no_flags 1 ws)) (take_stays (f.site.read - 1) words more between.2)
+          ∙ ap (start_with f.site) f.early))
+    ]

@@ -1,0 +1,121 @@
+-- The applets that exist, and the words that spell them and their options, after apk(8).
+use Rattle.std.specs.Prelude.{ℕ, Bool, ◌||◌, List, [], ◌∷◌, ◌++◌, codes, Option}
+use Rattle.std.specs.List.{find, list_any}
+use Rattle.std.specs.Str.{bytes_eq}
+use Rattle.command_core.specs.declared.command.Applet.{Applet}
+use Rattle.command_core.specs.declared.command.Applet.TheVariants.{Add, Del, Upgrade, Fix, Info, Verify, Adbdump, Mkpkg, Mkndx, Version, Demo}
+use Rattle.command_core.specs.declared.command.Flag.{Flag}
+use Rattle.command_core.specs.declared.command.Flag.TheVariants.{AllowUntrusted, NoScripts, Initdb, Simulate, Purge, Installed, Contents, Depends, WhoOwns, Test, Check}
+use Rattle.command_core.specs.declared.values.ValueRule.{ValueRule}
+use Rattle.command_core.specs.Values.{compression_rule, description_rule, files_rule, info_rule, output_rule, script_rule, trigger_rule}
+use Rattle.words_core.specs.declared.options.Meaning.{Meaning}
+use Rattle.words_core.specs.declared.options.Meaning.TheVariants.{Flag as Plain, Kind, Value}
+
+-- an option: its long word, its short word or nothing, and what it says
+pub record OptionSpec : Type 0 where
+  pub long : List ℕ
+  pub short : List ℕ
+  pub meaning : Meaning
+
+-- an option without a value
+abbrev pub flag_spec : List ℕ → List ℕ → Flag → OptionSpec
+flag_spec long short flag = record { long = long; short = short; meaning = Plain flag }
+
+-- an option without a value that says of which kind the command is
+abbrev pub kind_spec : List ℕ → List ℕ → Flag → OptionSpec
+kind_spec long short flag = record { long = long; short = short; meaning = Kind flag }
+
+-- an option with values
+abbrev pub value_spec : List ℕ → List ℕ → ValueRule → OptionSpec
+value_spec long short rule = record { long = long; short = short; meaning = Value rule }
+
+-- the options of every applet
+unfoldable pub common_options : List OptionSpec
+common_options =
+    flag_spec (codes "--allow-untrusted") [] AllowUntrusted ∷
+    (flag_spec (codes "--no-scripts") [] NoScripts ∷ [])
+
+abbrev pub initdb_option : OptionSpec
+initdb_option = flag_spec (codes "--initdb") [] Initdb
+
+abbrev pub simulate_option : OptionSpec
+simulate_option = flag_spec (codes "--simulate") (codes "-s") Simulate
+
+abbrev pub purge_option : OptionSpec
+purge_option = flag_spec (codes "--purge") [] Purge
+
+abbrev pub info_options : List OptionSpec
+info_options =
+    kind_spec (codes "--installed") (codes "-e") Installed ∷
+    (kind_spec (codes "--contents") (codes "-L") Contents ∷
+    (kind_spec (codes "--depends") (codes "-R") Depends ∷
+    (kind_spec (codes "--who-owns") (codes "-W") WhoOwns ∷ [])))
+
+abbrev pub version_options : List OptionSpec
+version_options =
+    kind_spec (codes "--test") (codes "-t") Test ∷ (kind_spec (codes "--check") (codes "-c") Check ∷ [])
+
+-- the options of `mkpkg` and `mkndx` that say where and how what they make is written
+abbrev pub output_options : List OptionSpec
+output_options =
+    value_spec (codes "--output") (codes "-o") output_rule ∷
+    (value_spec (codes "--compression") (codes "-c") compression_rule ∷ [])
+
+abbrev pub mkpkg_options : List OptionSpec
+mkpkg_options =
+    value_spec (codes "--info") (codes "-I") info_rule ∷
+    (value_spec (codes "--script") (codes "-s") script_rule ∷
+    (value_spec (codes "--trigger") (codes "-t") trigger_rule ∷
+    (value_spec (codes "--files") (codes "-F") files_rule ∷ output_options)))
+
+abbrev pub mkndx_options : List OptionSpec
+mkndx_options = value_spec (codes "--description") (codes "-d") description_rule ∷ output_options
+
+-- the options that are an applet's own
+abbrev pub own_options : Applet → List OptionSpec
+own_options Add = initdb_option ∷ (simulate_option ∷ [])
+own_options Del = simulate_option ∷ (purge_option ∷ [])
+own_options Upgrade = simulate_option ∷ []
+own_options Fix = simulate_option ∷ []
+own_options Info = info_options
+own_options Mkpkg = mkpkg_options
+own_options Mkndx = mkndx_options
+own_options Version = version_options
+own_options applet = []
+
+-- the options of an applet, with those of every applet
+unfoldable pub options_of : Applet → List OptionSpec
+options_of applet = common_options ++ own_options applet
+
+-- the option that a word spells, among some
+abbrev pub option_spelled : List OptionSpec → List ℕ → Option OptionSpec
+option_spelled options word = find (λ (o : OptionSpec). bytes_eq o.long word || bytes_eq o.short word) options
+
+-- the words of the options that may stand before the applet
+unfoldable pub early_words : List (List ℕ)
+early_words =
+    codes "--allow-untrusted" ∷ (codes "--no-scripts" ∷ (codes "--initdb" ∷ (codes "--simulate" ∷ (codes "--purge" ∷ []))))
+
+abbrev pub is_early : List ℕ → Bool
+is_early word = list_any (λ early. bytes_eq early word) early_words
+
+abbrev pub applet_word : Applet → List ℕ
+applet_word Add = codes "add"
+applet_word Del = codes "del"
+applet_word Upgrade = codes "upgrade"
+applet_word Fix = codes "fix"
+applet_word Info = codes "info"
+applet_word Verify = codes "verify"
+applet_word Adbdump = codes "adbdump"
+applet_word Mkpkg = codes "mkpkg"
+applet_word Mkndx = codes "mkndx"
+applet_word Version = codes "version"
+applet_word Demo = codes "demo"
+
+-- the applets that exist
+abbrev pub applets : List Applet
+applets = Verify ∷ (Version ∷ (Adbdump ∷ (Mkpkg ∷ (Mkndx ∷ []))))
+
+-- the applet that a word names, among those that exist
+abbrev pub applet_of : List ℕ → Option Applet
+applet_of word = find (λ applet. bytes_eq (applet_word applet) word) applets

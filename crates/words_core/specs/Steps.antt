@@ -1,0 +1,16 @@
+-- What a step of the reader says.
+use Rattle.std.specs.Prelude.{◌≡◌, Bool, true, false, Option, Some, None, IsTrue}
+use Rattle.command_core.specs.declared.command.Applet.{Applet}
+use Rattle.command_core.specs.Sound.{may_have, value_rules, are_values}
+use Rattle.words_core.specs.declared.reading.OptionState.{OptionState}
+use Rattle.words_core.specs.declared.reading.Reading.{Reading}
+
+-- a word that is read gives the new state, and one that cannot be read changes nothing
+abbrev pub IsStep : Bool → OptionState → OptionState → Option OptionState → Type 0
+IsStep true old new more = more ≡ Some new
+IsStep false old new more = (more ≡ None) × (new ≡ old)
+
+-- what was read behind an applet is its own: at most one kind, and values that may stand together
+abbrev pub IsSoundReading : Applet → Reading → Type 0
+IsSoundReading applet reading =
+    IsTrue (may_have applet reading.state.flags) × IsTrue (are_values (value_rules applet) reading.state.values)

@@ -1,0 +1,295 @@
+//! The applets that exist, and the words that spell them and their options (apk(8)).
+ghost use Rattle.std.specs.Prelude.{◌≡◌, ◌||◌, map};
+ghost use Rattle.std.specs.List.{list_any};
+ghost use Rattle.std.specs.Option.{option_and_then, option_map};
+ghost use Rattle.std.specs.Str.{bytes_eq};
+ghost use Rattle.words_core.specs.Grammar.{with_meaning, with_spec};
+ghost use Rattle.words_core.specs.Options.{applet_of, applet_word, common_options, is_early, option_spelled, options_of, own_options};
+ghost use Rattle.words_core.specs.Rows.{option_spec};
+
+use command_core::{
+    Applet, COMPRESSION, DESCRIPTION, FILES, Flag, Flags, INFO, OUTPUT, SCRIPT, TRIGGER, ValueKind,
+    ValueRule,
+};
+
+/// An option.
+#[derive(Clone, Copy)]
+pub(crate) struct OptionRow {
+    /// The word that spells it.
+    pub long: &'static [u8],
+    /// The short word that spells it, or nothing.
+    pub short: &'static [u8],
+    /// What it says.
+    pub meaning: Meaning,
+}
+
+/// What an option says.
+#[derive(Clone, Copy)]
+pub(crate) enum Meaning {
+    /// A flag, which may stand any number of times.
+    Flag(Flag),
+    /// A flag that says of which kind the command is: no other kind may stand beside it.
+    Kind(Flag),
+    /// A value, which stands in the option's word or is the next word.
+    Value(ValueRule),
+}
+
+// The applets that exist.
+const APPLETS: [Applet; 5] = [
+    Applet::Verify,
+    Applet::Version,
+    Applet::Adbdump,
+    Applet::Mkpkg,
+    Applet::Mkndx,
+];
+
+// The words of the options that may stand before the applet.
+static EARLY_WORDS: [&[u8]; 5] = [
+    b"--allow-untrusted",
+    b"--no-scripts",
+    b"--initdb",
+    b"--simulate",
+    b"--purge",
+];
+
+// The options of every applet.
+#[rattlefmt::skip]
+static COMMON: [OptionRow; 2] = [
+    OptionRow { long: b"--allow-untrusted", short: b"", meaning: Meaning::Flag(Flag::AllowUntrusted) },
+    OptionRow { long: b"--no-scripts", short: b"", meaning: Meaning::Flag(Flag::NoScripts) },
+];
+
+const INITDB_ROW: OptionRow = OptionRow {
+    long: b"--initdb",
+    short: b"",
+    meaning: Meaning::Flag(Flag::Initdb),
+};
+
+const SIMULATE_ROW: OptionRow = OptionRow {
+    long: b"--simulate",
+    short: b"-s",
+    meaning: Meaning::Flag(Flag::Simulate),
+};
+
+const PURGE_ROW: OptionRow = OptionRow {
+    long: b"--purge",
+    short: b"",
+    meaning: Meaning::Flag(Flag::Purge),
+};
+
+// The option of `mkpkg` and `mkndx` that names what they write.
+const OUTPUT_ROW: OptionRow = OptionRow {
+    long: b"--output",
+    short: b"-o",
+    meaning: Meaning::Value(ValueRule {
+        letter: OUTPUT,
+        single: true,
+        kind: ValueKind::Output,
+    }),
+};
+
+// The option of `mkpkg` and `mkndx` that says how what they write is compressed.
+const COMPRESSION_ROW: OptionRow = OptionRow {
+    long: b"--compression",
+    short: b"-c",
+    meaning: Meaning::Value(ValueRule {
+        letter: COMPRESSION,
+        single: true,
+        kind: ValueKind::Uncompressed,
+    }),
+};
+
+// The options that are an applet's own.
+static ADD: [OptionRow; 2] = [INITDB_ROW, SIMULATE_ROW];
+
+static DEL: [OptionRow; 2] = [SIMULATE_ROW, PURGE_ROW];
+
+static SIMULATE: [OptionRow; 1] = [SIMULATE_ROW];
+
+#[rattlefmt::skip]
+static INFO_KINDS: [OptionRow; 4] = [
+    OptionRow { long: b"--installed", short: b"-e", meaning: Meaning::Kind(Flag::Installed) },
+    OptionRow { long: b"--contents", short: b"-L", meaning: Meaning::Kind(Flag::Contents) },
+    OptionRow { long: b"--depends", short: b"-R", meaning: Meaning::Kind(Flag::Depends) },
+    OptionRow { long: b"--who-owns", short: b"-W", meaning: Meaning::Kind(Flag::WhoOwns) },
+];
+
+#[rattlefmt::skip]
+static VERSION_KINDS: [OptionRow; 2] = [
+    OptionRow { long: b"--test", short: b"-t", meaning: Meaning::Kind(Flag::Test) },
+    OptionRow { long: b"--check", short: b"-c", meaning: Meaning::Kind(Flag::Check) },
+];
+
+static MKPKG: [OptionRow; 6] = [
+    OptionRow {
+        long: b"--info",
+        short: b"-I",
+        meaning: Meaning::Value(ValueRule {
+            letter: INFO,
+            single: false,
+            kind: ValueKind::Any,
+        }),
+    },
+    OptionRow {
+        long: b"--script",
+        short: b"-s",
+        meaning: Meaning::Value(ValueRule {
+            letter: SCRIPT,
+            single: false,
+            kind: ValueKind::Script,
+        }),
+    },
+    OptionRow {
+        long: b"--trigger",
+        short: b"-t",
+        meaning: Meaning::Value(ValueRule {
+            letter: TRIGGER,
+            single: false,
+            kind: ValueKind::Nonempty,
+        }),
+    },
+    OptionRow {
+        long: b"--files",
+        short: b"-F",
+        meaning: Meaning::Value(ValueRule {
+            letter: FILES,
+            single: true,
+            kind: ValueKind::File,
+        }),
+    },
+    OUTPUT_ROW,
+    COMPRESSION_ROW,
+];
+
+static MKNDX: [OptionRow; 3] = [
+    OptionRow {
+        long: b"--description",
+        short: b"-d",
+        meaning: Meaning::Value(ValueRule {
+            letter: DESCRIPTION,
+            single: true,
+            kind: ValueKind::Any,
+        }),
+    },
+    OUTPUT_ROW,
+    COMPRESSION_ROW,
+];
+
+// The word of an applet.
+fn applet_word(applet: Applet) -> &'static [u8]
+    ensures { result.now ≡ applet_word applet }
+{
+    match applet {
+        Applet::Add => b"add",
+        Applet::Del => b"del",
+        Applet::Upgrade => b"upgrade",
+        Applet::Fix => b"fix",
+        Applet::Info => b"info",
+        Applet::Verify => b"verify",
+        Applet::Adbdump => b"adbdump",
+        Applet::Mkpkg => b"mkpkg",
+        Applet::Mkndx => b"mkndx",
+        Applet::Version => b"version",
+        Applet::Demo => b"demo",
+    }
+}
+
+// The options that are an applet's own.
+fn own_options(applet: Applet) -> &'static [OptionRow]
+    ensures { map option_spec result.now ≡ own_options applet }
+{
+    match applet {
+        Applet::Add => &ADD,
+        Applet::Del => &DEL,
+        Applet::Upgrade | Applet::Fix => &SIMULATE,
+        Applet::Info => &INFO_KINDS,
+        Applet::Mkpkg => &MKPKG,
+        Applet::Mkndx => &MKNDX,
+        Applet::Version => &VERSION_KINDS,
+        Applet::Verify | Applet::Adbdump | Applet::Demo => &[],
+    }
+}
+
+/// The applet that a word names, among those that exist.
+pub(crate) fn applet_of(word: &[u8]) -> Option<Applet>
+    ensures { result ≡ applet_of word.now }
+{
+    APPLETS
+        .iter()
+        .copied()
+        .find(|applet| applet_word(*applet) == word)
+}
+
+/// Whether a word is an option that may stand before the applet.
+#[tactic(auto, unfolding(crate::specs::Options::early_words))]
+pub(crate) fn is_early(word: &[u8]) -> bool
+    ensures { result ≡ is_early word.now }
+{
+    is_among(&EARLY_WORDS, word)
+}
+
+// Whether a word is among some.
+fn is_among(words: &[&[u8]], word: &[u8]) -> bool
+    ensures { result ≡ list_any (λ one. bytes_eq one.now word.now) words.now }
+{
+    words.iter().any(|one| *one == word)
+}
+
+/// The option that a word spells, among those of an applet and those of every applet.
+#[tactic(auto, unfolding(crate::specs::Options::options_of))]
+pub(crate) fn option_spelled(applet: Applet, word: &[u8]) -> Option<OptionRow>
+    ensures { option_map option_spec result ≡ option_spelled (options_of applet) word.now }
+{
+    match common_option(word) {
+        Some(option) => Some(option),
+        None => find_option(own_options(applet), word),
+    }
+}
+
+// The option that a word spells, among those of every applet.
+#[tactic(auto, unfolding(crate::specs::Options::common_options))]
+fn common_option(word: &[u8]) -> Option<OptionRow>
+    ensures { option_map option_spec result ≡ option_spelled common_options word.now }
+{
+    find_option(&COMMON, word)
+}
+
+// The option that a word spells, among some.
+fn find_option(options: &[OptionRow], word: &[u8]) -> Option<OptionRow>
+    ensures { option_map option_spec result ≡ option_spelled (map option_spec options.now) word.now }
+{
+    options
+        .iter()
+        .copied()
+        .find(|option| option.is_spelled(word))
+}
+
+/// Flags with an option behind them. None comes where there is no option, or where it says no flag or a second kind.
+pub(crate) fn with_option(flags: Flags, option: Option<OptionRow>) -> Option<Flags>
+    ensures { result ≡ option_and_then (with_spec flags) (option_map option_spec option) }
+{
+    option?.meaning.with(flags)
+}
+
+impl OptionRow {
+    // Whether a word spells the option.
+    fn is_spelled(&self, word: &[u8]) -> bool
+        ensures { result ≡ (bytes_eq self.now.long.now word.now || bytes_eq self.now.short.now word.now) }
+    {
+        self.long == word || self.short == word
+    }
+}
+
+impl Meaning {
+    /// These flags and what the option says. None comes where it says no flag, or a second kind.
+    pub(crate) fn with(self, flags: Flags) -> Option<Flags>
+        ensures { result ≡ with_meaning flags self }
+    {
+        match self {
+            Meaning::Flag(flag) => Some(flags.with(flag)),
+            Meaning::Kind(flag) if flags.has_kind() && !flags.has(flag) => None,
+            Meaning::Kind(flag) => Some(flags.with(flag)),
+            Meaning::Value(_) => None,
+        }
+    }
+}
