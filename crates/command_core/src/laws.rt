@@ -1,11 +1,12 @@
 //! What every command keeps: its operands and values that are files, and the option that it needs.
 ghost use Rattle.std.specs.Prelude.{◌≡◌, ℕ, Some, IsTrue};
 ghost use Rattle.std.specs.List.{slice_get};
-ghost use Rattle.command_core.specs.Applets.{needed_option, operand_rule, value_rules};
-ghost use Rattle.command_core.specs.Command.{CommandLine, IsCommand};
+ghost use Rattle.command_core.specs.Applets.{needed_option, operand_rule};
+ghost use Rattle.command_core.specs.Sound.{value_rules, IsCommand, are_operands, are_values, is_value_by, rule_for};
+ghost use Rattle.command_core.specs.Command.{CommandLine};
 ghost use Rattle.command_core.specs.Files.{is_file, is_output};
-ghost use Rattle.command_core.specs.Operands.{are_files, are_operands};
-ghost use Rattle.command_core.specs.Values.{are_values, first_value, is_given, is_script, is_value_by, rule_for};
+ghost use Rattle.command_core.specs.Named.{are_files};
+ghost use Rattle.command_core.specs.Values.{first_value, is_given, is_script};
 ghost use Rattle.command_core.specs.declared.operands.OperandRule.{OperandRule};
 ghost use Rattle.command_core.specs.declared.values.OptionValue.{OptionValue};
 

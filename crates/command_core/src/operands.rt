@@ -1,8 +1,9 @@
 //! Operands: which an applet takes, and those that a command has.
 ghost use Rattle.std.specs.Prelude.{◌≡◌, ◌<◌, ◌==◌, ◌++◌, ◌∷◌, [], IfOk, IsTrue, None, OnOk, Some, length, slice_get};
 ghost use Rattle.std.specs.Option.{option_map};
-ghost use Rattle.command_core.specs.Files.{file_name, without_dot};
-ghost use Rattle.command_core.specs.Operands.{are_files, at_least, exactly, operand_file, first_refused, has_room, is_of_kind, operand_at, takes};
+ghost use Rattle.command_core.specs.Files.{without_dot};
+ghost use Rattle.command_core.specs.Named.{file_name, are_files, operand_file};
+ghost use Rattle.command_core.specs.Operands.{at_least, exactly, first_refused, has_room, is_of_kind, operand_at, takes};
 
 use crate::texts::{is_demo_number, is_file, is_path, read_file, without_dot};
 use base_core::{Name, Text};
@@ -148,7 +149,7 @@ pub struct Operands {
 
 impl Model for Operands {
     ghost use Rattle.std.specs.Prelude.{◌≡◌, List, map};
-    ghost use Rattle.command_core.specs.Files.{file_name};
+    ghost use Rattle.command_core.specs.Named.{file_name};
     ghost use Rattle.command_core.specs.declared.operands.Operand.{Operand};
     ghost use Rattle.command_core.specs.declared.operands.OperandEntry.{OperandEntry};
 

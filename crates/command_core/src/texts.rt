@@ -4,7 +4,8 @@ ghost use Rattle.std.specs.Char.{is_ascii_digit};
 ghost use Rattle.std.specs.List.{list_all, list_any, position};
 ghost use Rattle.std.specs.Str.{bytes_eq};
 ghost use Rattle.dep_core.specs.Repositories.{without_slash};
-ghost use Rattle.command_core.specs.Files.{file_name, is_file, is_output, is_path, without_dot};
+ghost use Rattle.command_core.specs.Files.{is_file, is_output, is_path, without_dot};
+ghost use Rattle.command_core.specs.Named.{file_name};
 ghost use Rattle.command_core.specs.Operands.{has_zero_in_front, is_decimal, is_demo_number};
 ghost use Rattle.command_core.specs.Values.{is_script, script_file, script_type, script_types};
 

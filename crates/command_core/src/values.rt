@@ -1,8 +1,9 @@
 //! Options with values: which values each may have, and those that a command was given.
 ghost use Rattle.std.specs.Prelude.{◌≡◌, ◌<◌, ◌==◌, ◌++◌, ◌∷◌, [], IfOk, IfSome, IsTrue, OnOk, Some, length, not, slice_get};
 ghost use Rattle.std.specs.Option.{option_map};
-ghost use Rattle.command_core.specs.Files.{file_name, is_file, without_dot};
-ghost use Rattle.command_core.specs.Values.{excludes, file_in, file_part, is_excluded, is_given, is_spent, is_value, script_file, script_type, option_value, first_value};
+ghost use Rattle.command_core.specs.Files.{is_file, without_dot};
+ghost use Rattle.command_core.specs.Named.{file_name, file_in, file_part};
+ghost use Rattle.command_core.specs.Values.{excludes, is_excluded, is_given, is_spent, is_value, script_file, script_type, option_value, first_value};
 ghost use Rattle.command_core.specs.declared.values.OptionValue.{OptionValue};
 
 use crate::texts::{
@@ -131,7 +132,7 @@ pub struct Values {
 
 impl Model for Values {
     ghost use Rattle.std.specs.Prelude.{◌≡◌, List, map};
-    ghost use Rattle.command_core.specs.Values.{file_in};
+    ghost use Rattle.command_core.specs.Named.{file_in};
     ghost use Rattle.command_core.specs.declared.values.OptionValue.{OptionValue};
     ghost use Rattle.command_core.specs.declared.values.ValueEntry.{ValueEntry};
 

@@ -26,8 +26,8 @@ unfoldable mutual
 
 -- ---- an entry
 
--- the values with another one at an index, which counts from 0; where there are too few, Nulls stand
--- in front of it
+-- the values with another one at an index, which counts from 0; where there are too few, Nulls
+-- stand in front of it
 abbrev pub with_at : ℕ → Plain → Plains → Plains
 with_at zero v none = more v none
 with_at zero v (more u us) = more v us

@@ -82,7 +82,8 @@ impl Entry {
 
     /// Writes the entry.
     pub(crate) fn write(&self, alloc: Global, writer: &mut Writer) -> Result<Val, AllocError>
-        ensures { IfOk result (λ word. WritesValue writer.old (entry_view self.now) word writer.new) }
+        ensures { IfOk result (λ word. WritesValue writer.old
+            (entry_view self.now) word writer.new) }
     {
         self.source.write(alloc, writer)
     }

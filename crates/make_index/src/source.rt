@@ -49,7 +49,8 @@ impl EntrySource {
 
     /// Writes the entry.
     pub(crate) fn write(&self, alloc: Global, writer: &mut Writer) -> Result<Val, AllocError>
-        ensures { IfOk result (λ word. WritesValue writer.old (kept_value self.now) word writer.new) }
+        ensures { IfOk result (λ word. WritesValue writer.old
+            (kept_value self.now) word writer.new) }
     {
         match self {
             EntrySource::Payload(own) => own.write(alloc, writer),

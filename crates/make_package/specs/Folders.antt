@@ -41,7 +41,8 @@ with_folder_by Greater name x xs further = x ∷ further
 
 abbrev pub with_folder : List ℕ → List (List ℕ) → List (List ℕ)
 with_folder name [] = name ∷ []
-with_folder name (x ∷ xs) = with_folder_by (slice_cmp nat_cmp name x) name x xs (with_folder name xs)
+with_folder name (x ∷ xs) =
+    with_folder_by (slice_cmp nat_cmp name x) name x xs (with_folder name xs)
 
 abbrev pub with_folders : List (List ℕ) → List (List ℕ) → List (List ℕ)
 with_folders so_far [] = so_far

@@ -17,7 +17,8 @@ use Rattle.make_package.specs.Sources.{on_success, values_with, texts_of, script
 
 -- ---- the file
 
-abbrev pub container_unless : Option PayloadCounts → Plain → List Contents → Result (List ℕ) MakeFault
+abbrev pub container_unless :
+    Option PayloadCounts → Plain → List Contents → Result (List ℕ) MakeFault
 container_unless None v contents = Ok (container_of PACKAGE_WORD v contents)
 container_unless (Some counts) v contents = Err (TooLarge counts.0 counts.1)
 

@@ -44,7 +44,8 @@ fn write_paths(
 
 /// Writes a folder with its files.
 fn write_folder(alloc: Global, writer: &mut Writer, folder: &Folder<'_>) -> Result<Val, AllocError>
-    ensures { IfOk result (λ word. WritesValue writer.old (packed_folder folder.now) word writer.new) }
+    ensures { IfOk result (λ word. WritesValue writer.old
+        (packed_folder folder.now) word writer.new) }
 {
     values_are_written_depth_first();
     let name = writer.blob(folder.name)?;

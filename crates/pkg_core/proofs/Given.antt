@@ -28,9 +28,9 @@ size_right : (b : Bool) (d : Cause) (o : Option Cause) → (if not b then Some d
 size_right true d o h = (refl, h)
 size_right false d o h = (cc)
 
-file_right : (payload : List ℕ) (e : Expected) → C.file_fault payload e ≡ None → IsContentsOf e (contents_by payload e)
+file_right : (payload : List ℕ) (e : Expected) → C.expected_fault payload e ≡ None → IsContentsOf e (contents_by payload e)
 file_right payload e h =
-    let (order, after) = size_right (C.is_of payload e) (DataOrder (e.folder, e.file) (file_pair payload)) _ h in
+    let (order, after) = size_right (C.has_positions_of payload e) (DataOrder (e.folder, e.file) (file_pair payload)) _ h in
     let (size, digest) = size_right (length (contents_bytes payload) == e.size) (DataSize e.size (length (contents_bytes payload))) _ after in
     record { folder = refl; file = refl; size = eqb-true (length (contents_bytes payload)) e.size size; hash = digest }
 
@@ -43,9 +43,9 @@ block_whole false c o h = h
 record Passed (o : Option Cause) (files : Files) : Type 0 where
   passes : o ≡ None
   further : fault_in files ≡ None
-  same : C.unless o files ≡ files
+  same : C.unless_fault o files ≡ files
 
-passed : (o : Option Cause) (files : Files) → fault_in (C.unless o files) ≡ None → Passed o files
+passed : (o : Option Cause) (files : Files) → fault_in (C.unless_fault o files) ≡ None → Passed o files
 passed None files h = record { passes = refl; further = h; same = refl }
 passed (Some c) files h = (cc)
 
@@ -54,7 +54,7 @@ block_given payload at further ih [] p = absurd (let e = block_whole (nat_lt (le
 block_given payload at further ih (e ∷ es) p =
     (file_right payload e (block_whole (nat_lt (length payload) 8) (Truncated at) (C.next_fault payload (e ∷ es)) p.passes), ih es p.further)
 
-block_right : (kind : BlockKind) (payload : List ℕ) (at : ℕ) (further : List Expected → Files) → ((left : List Expected) → fault_in (further left) ≡ None → AreContentsOf left (contents_in (further left))) → (es : List Expected) → fault_in (C.at_block kind payload at further es) ≡ None → AreContentsOf es (contents_in (C.at_block kind payload at further es))
+block_right : (kind : BlockKind) (payload : List ℕ) (at : ℕ) (further : List Expected → Files) → ((left : List Expected) → fault_in (further left) ≡ None → AreContentsOf left (contents_in (further left))) → (es : List Expected) → fault_in (C.files_at_block kind payload at further es) ≡ None → AreContentsOf es (contents_in (C.files_at_block kind payload at further es))
 block_right Kinds.Adb payload at further ih es h = ih es h
 block_right Kinds.Signature payload at further ih es h = ih es h
 block_right Kinds.Contents payload at further ih es h =
@@ -62,7 +62,7 @@ block_right Kinds.Contents payload at further ih es h =
     let A : Files → Type 0 = λ files. AreContentsOf es (contents_in files) in
     subst A (sym p.same) (block_given payload at further ih es p)
 
-none_expected : (es : List Expected) → fault_in (C.unless (C.missing_fault es) C.no_more) ≡ None → AreContentsOf es (contents_in (C.unless (C.missing_fault es) C.no_more))
+none_expected : (es : List Expected) → fault_in (C.unless_fault (C.missing_fault es) C.no_more) ≡ None → AreContentsOf es (contents_in (C.unless_fault (C.missing_fault es) C.no_more))
 none_expected [] h = tt
 none_expected (e ∷ es) h = (cc)
 

@@ -1,7 +1,8 @@
+//! Why a command is refused.
 use base_core::{Cause, Name, Text};
 
-/// Why a command is refused, in the order in which the kinds are tested; file operands are tested one by one. `place` counts the words of the command line from 1,
-/// without the program's name. `line` and `repository` count from 1 too.
+/// Why a command is refused, in the order in which the kinds are tested; file operands are tested one by one. `place`
+/// counts the words of the command line from 1, without the program's name. `line` and `repository` count from 1 too.
 #[derive(Drop)]
 pub enum Refusal {
     /// The words are outside the grammar (apk(8)): the first wrong word, or the place behind the last where one is

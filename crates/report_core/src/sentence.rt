@@ -1,10 +1,10 @@
-// The texts of refusals and causes, as pieces.
+//! The texts of refusals and causes, as pieces.
 ghost use Rattle.std.specs.Prelude.{◌≡◌, ◌++◌};
 ghost use Rattle.report_core.specs.Pieces.{piece_text, pieces_text, sentence_text};
 ghost use Rattle.report_core.specs.Texts.{cause_text, field_text, word_text, refusal_text, script_name};
 
-use crate::piece::Piece::{Bytes, Digest, Hex, Nothing, Number, Position, Word};
-use crate::piece::{Piece, Pieces};
+use crate::lines::Piece::{Bytes, Digest, Hex, Nothing, Number, Position, Word};
+use crate::lines::{Piece, Pieces};
 use crate::refusal::Refusal;
 use base_core::Cause;
 

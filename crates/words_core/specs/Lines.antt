@@ -1,12 +1,13 @@
 -- What the words of a command are, apart from how they are read: options with their values, an applet, operands.
-use Rattle.std.specs.Prelude.{◌≡◌, ℕ, ◌+◌, ◌-◌, Bool, ◌||◌, if◌then◌else◌, List, [], ◌∷◌, ◌++◌, length, take, Option, Some, None, option_and_then, IsTrue}
+use Rattle.std.specs.Prelude.{◌≡◌, ℕ, ◌+◌, ◌-◌, Bool, ◌||◌, List, [], ◌∷◌, ◌++◌, length, take, Option, Some, None, option_and_then, IsTrue, if◌then◌else◌}
 use Rattle.std.specs.List.{list_all}
 use Rattle.std.specs.Option.{option_map}
 use Rattle.command_core.specs.declared.command.Flags.{Flags}
 use Rattle.command_core.specs.declared.operands.Operand.{Operand}
 use Rattle.command_core.specs.declared.values.OptionValue.{OptionValue}
 use Rattle.command_core.specs.declared.values.ValueRule.{ValueRule}
-use Rattle.command_core.specs.Command.{CommandLine, IsCommand}
+use Rattle.command_core.specs.Command.{CommandLine}
+use Rattle.command_core.specs.Sound.{IsCommand}
 use Rattle.command_core.specs.Flags.{no_flags, with_flag}
 use Rattle.command_core.specs.Operands.{operand_at}
 use Rattle.command_core.specs.Values.{option_value}

@@ -1,8 +1,7 @@
 -- What a step of the reader says.
 use Rattle.std.specs.Prelude.{◌≡◌, Bool, true, false, Option, Some, None, IsTrue}
 use Rattle.command_core.specs.declared.command.Applet.{Applet}
-use Rattle.command_core.specs.Applets.{may_have, value_rules}
-use Rattle.command_core.specs.Values.{are_values}
+use Rattle.command_core.specs.Sound.{may_have, value_rules, are_values}
 use Rattle.words_core.specs.declared.reading.OptionState.{OptionState}
 use Rattle.words_core.specs.declared.reading.Reading.{Reading}
 
