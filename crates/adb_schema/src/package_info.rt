@@ -6,7 +6,9 @@ ghost use Rattle.adb_tables.specs.Values.{is_sound, value_at};
 ghost use Rattle.adb_tables.specs.declared.tables.Kind.TheVariants as Kinds;
 ghost use Rattle.adb_tables.specs.declared.tables.Which.TheVariants as Tables;
 
-use adb_fields::{Kinded, List, View, hash_field, int_field, objects_field, text_field, texts_field};
+use adb_fields::{
+    Kinded, List, View, hash_field, int_field, objects_field, text_field, texts_field,
+};
 use adb_tables::Which;
 use adb_view::{Adb, Val};
 
@@ -95,7 +97,8 @@ impl<'a> PkgInfo<'a> {
         text_field(self.adb, Which::PkgInfo, self.word, 1)
     }
 
-    /// A digest: in an index the package's id or the first 20 bytes of it; empty where none is known.
+    /// A digest: in an index the package's id or the first 20 bytes of it; empty where none is
+    /// known.
     pub fn hashes(&self) -> &'a [u8]
         ensures { result.now ≡ text_in (entry_in (info_value self.now) 2) }
     {
@@ -183,8 +186,7 @@ impl<'a> PkgInfo<'a> {
     pub fn depends(&self) -> List<'a, DepView<'a>>
         ensures { list_value result ≡ entry_in (info_value self.now) 14 }
     {
-        let entries =
-            objects_field(self.adb, Which::PkgInfo, self.word, 14, Which::Dep);
+        let entries = objects_field(self.adb, Which::PkgInfo, self.word, 14, Which::Dep);
         List::of(self.adb, entries)
     }
 
@@ -192,8 +194,7 @@ impl<'a> PkgInfo<'a> {
     pub fn provides(&self) -> List<'a, DepView<'a>>
         ensures { list_value result ≡ entry_in (info_value self.now) 15 }
     {
-        let entries =
-            objects_field(self.adb, Which::PkgInfo, self.word, 15, Which::Dep);
+        let entries = objects_field(self.adb, Which::PkgInfo, self.word, 15, Which::Dep);
         List::of(self.adb, entries)
     }
 
@@ -201,8 +202,7 @@ impl<'a> PkgInfo<'a> {
     pub fn replaces(&self) -> List<'a, DepView<'a>>
         ensures { list_value result ≡ entry_in (info_value self.now) 16 }
     {
-        let entries =
-            objects_field(self.adb, Which::PkgInfo, self.word, 16, Which::Dep);
+        let entries = objects_field(self.adb, Which::PkgInfo, self.word, 16, Which::Dep);
         List::of(self.adb, entries)
     }
 
@@ -210,8 +210,7 @@ impl<'a> PkgInfo<'a> {
     pub fn install_if(&self) -> List<'a, DepView<'a>>
         ensures { list_value result ≡ entry_in (info_value self.now) 17 }
     {
-        let entries =
-            objects_field(self.adb, Which::PkgInfo, self.word, 17, Which::Dep);
+        let entries = objects_field(self.adb, Which::PkgInfo, self.word, 17, Which::Dep);
         List::of(self.adb, entries)
     }
 
@@ -219,8 +218,7 @@ impl<'a> PkgInfo<'a> {
     pub fn recommends(&self) -> List<'a, DepView<'a>>
         ensures { list_value result ≡ entry_in (info_value self.now) 18 }
     {
-        let entries =
-            objects_field(self.adb, Which::PkgInfo, self.word, 18, Which::Dep);
+        let entries = objects_field(self.adb, Which::PkgInfo, self.word, 18, Which::Dep);
         List::of(self.adb, entries)
     }
 
@@ -235,7 +233,10 @@ impl<'a> PkgInfo<'a> {
     pub fn tags(&self) -> List<'a, &'a [u8]>
         ensures { list_value result ≡ entry_in (info_value self.now) 20 }
     {
-        List::of(self.adb, texts_field(self.adb, Which::PkgInfo, self.word, 20))
+        List::of(
+            self.adb,
+            texts_field(self.adb, Which::PkgInfo, self.word, 20),
+        )
     }
 
     /// A place that is held.
