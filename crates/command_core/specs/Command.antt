@@ -5,8 +5,8 @@ use Rattle.command_core.specs.declared.command.Flags.{Flags}
 use Rattle.command_core.specs.declared.operands.Operand.{Operand}
 use Rattle.command_core.specs.declared.values.OptionValue.{OptionValue}
 
--- an applet, the flags given, the operands, each with its place and its text as given, the values of options, and the
--- place behind the last word
+-- an applet, the flags given, the operands, each with its place and its text as given, the values
+-- of options, and the place behind the last word
 pub record CommandLine : Type 0 where
   pub applet : Applet
   pub flags : Flags

@@ -25,8 +25,8 @@ is_given letter values = list_any (λ (v : OptionValue). v.letter == letter) val
 -- the types of a package's scripts
 abbrev pub script_types : List (List ℕ)
 script_types =
-    codes "trigger" ∷ (codes "pre-install" ∷ (codes "post-install" ∷ (codes "pre-deinstall" ∷ (codes "post-deinstall" ∷
-    (codes "pre-upgrade" ∷ (codes "post-upgrade" ∷ []))))))
+    codes "trigger" ∷ (codes "pre-install" ∷ (codes "post-install" ∷ (codes "pre-deinstall" ∷
+    (codes "post-deinstall" ∷ (codes "pre-upgrade" ∷ (codes "post-upgrade" ∷ []))))))
 
 abbrev pub colon : ℕ
 colon = 58
@@ -40,7 +40,8 @@ script_file text = after_first (λ b. b == colon) text
 
 -- whether a text is TYPE:FILE
 abbrev pub is_script : List ℕ → Bool
-is_script text = list_any (λ t. bytes_eq t (script_type text)) script_types && is_file (script_file text)
+is_script text =
+    list_any (λ t. bytes_eq t (script_type text)) script_types && is_file (script_file text)
 
 -- ---- kinds
 
@@ -88,7 +89,8 @@ is_spent rule values = rule.single && is_given rule.letter values
 -- whether a text is excluded by values that the option was given before
 abbrev pub is_excluded : ValueRule → List ℕ → List OptionValue → Bool
 is_excluded rule text values =
-    list_any (λ (v : OptionValue). (v.letter == rule.letter) && excludes rule.kind v.text text) values
+    list_any (λ (v : OptionValue). (v.letter == rule.letter) && excludes rule.kind v.text text)
+    values
 
 -- whether the option that has to be given a value is lacking
 abbrev pub lacks_value : Option ℕ → List OptionValue → Bool

@@ -1,9 +1,9 @@
-//! What a command is, after apk(8): its applet, the options that it was given, its operands, and which of them may stand
-//! together.
+//! What a command is, after apk(8): its applet, the options that it was given, its operands, and
+//! which of them may stand together.
 //!
-//! `words_core` reads a `Command` from the words of a command line; what is done with it needs this crate alone. The
-//! contracts cite `Command` and `Sound` (what a command is), `Applets` (which operands each applet takes), `Flags`,
-//! `Operands`, `Values`, `Files` and `Named` of `specs/`.
+//! `words_core` reads a `Command` from the words of a command line; what is done with it needs this
+//! crate alone. The contracts cite `Command` and `Sound` (what a command is), `Applets` (which
+//! operands each applet takes), `Flags`, `Operands`, `Values`, `Files` and `Named` of `specs/`.
 #![tactic(auto)]
 
 mod command;

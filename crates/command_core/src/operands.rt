@@ -199,7 +199,8 @@ impl Operands {
         &self.entries[i].operand
     }
 
-    /// The name that the operand with this index is, without one leading `./`. The operands are files.
+    /// The name that the operand with this index is, without one leading `./`. The operands are
+    /// files.
     pub fn file(&self, i: usize) -> &Name
         requires here { i < length self.now }
         requires files { IsTrue (are_files self.now) }

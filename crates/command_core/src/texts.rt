@@ -133,7 +133,8 @@ fn colon(text: &[u8]) -> Option<usize>
     text.iter().position(|byte| *byte == b':')
 }
 
-/// Whether a text is a number of packages for `demo`: decimal, from 1 to 20,000, without leading zeros.
+/// Whether a text is a number of packages for `demo`: decimal, from 1 to 20,000, without leading
+/// zeros.
 pub(crate) fn is_demo_number(text: &[u8]) -> bool
     ensures { result ≡ is_demo_number text.now }
 {

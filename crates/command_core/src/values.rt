@@ -46,7 +46,8 @@ pub enum ValueKind {
     Nonempty,
     /// A file or a folder, as a path below the root.
     File,
-    /// A file to be written: its path has at most 1,016 bytes, so that a scratch name beside it is a path too.
+    /// A file to be written: its path has at most 1,016 bytes, so that a scratch name beside it is
+    /// a path too.
     Output,
     /// The word `none`: what is written is not compressed.
     Uncompressed,
@@ -213,12 +214,14 @@ impl Values {
         }
     }
 
-    /// The name of the first file that the option with a letter was given, without one leading `./`, if there is one. The
-    /// option's values are files.
+    /// The name of the first file that the option with a letter was given, without one leading
+    /// `./`, if there is one. The option's values are files.
     pub fn first_file(&self, letter: u8) -> Option<&Name>
         requires letter { IsTrue (not (letter == SCRIPT)) }
-        requires file { IfSome (first_value letter self.now) (λ value. IsTrue (is_file value.text)) }
-        ensures { option_map (λ name. name.now) result ≡ option_map (λ value. without_dot value.text) (first_value letter self.entry.now) }
+        requires file { IfSome (first_value letter self.now)
+            (λ value. IsTrue (is_file value.text)) }
+        ensures { option_map (λ name. name.now) result
+            ≡ option_map (λ value. without_dot value.text) (first_value letter self.entry.now) }
     {
         match self.first_entry(letter) {
             Some(entry) => entry.file.as_ref(),
@@ -226,11 +229,14 @@ impl Values {
         }
     }
 
-    /// The name of the file that `--script` was given by the value with this index, without one leading `./`.
+    /// The name of the file that `--script` was given by the value with this index, without one
+    /// leading `./`.
     pub fn script_file(&self, i: usize) -> &Name
         requires here { i < length self.now }
-        requires script { IfSome (slice_get self.now i) (λ value. value.letter ≡ SCRIPT × IsTrue (is_file (script_file value.text))) }
-        ensures { option_map (λ value. without_dot (script_file value.text)) (slice_get self.now i) ≡ Some result.now }
+        requires script { IfSome (slice_get self.now i)
+            (λ value. value.letter ≡ SCRIPT × IsTrue (is_file (script_file value.text))) }
+        ensures { option_map (λ value. without_dot (script_file value.text))
+            (slice_get self.now i) ≡ Some result.now }
     {
         match &self.entries[i].file {
             Some(file) => file,
@@ -240,7 +246,8 @@ impl Values {
 
     // The first value that the option with a letter was given, and the file in it.
     fn first_entry(&self, letter: u8) -> Option<&ValueEntry>
-        ensures value { option_map (λ entry. entry.now.value) result ≡ first_value letter self.entry.now }
+        ensures value { option_map (λ entry. entry.now.value) result
+            ≡ first_value letter self.entry.now }
         ensures file { IfSome result (λ entry. entry.now.file ≡ file_in entry.now.value) }
     {
         self.entries

@@ -1,5 +1,5 @@
-//! Tests of `command_core`, `words_core` and `report_core`, one row a line: command lines, kinds of operands and values,
-//! the lines of refusals, and reports.
+//! Tests of `command_core`, `words_core` and `report_core`, one row a line: command lines, kinds of
+//! operands and values, the lines of refusals, and reports.
 #![tactic(auto)]
 
 #[cfg(test)]
