@@ -1,5 +1,5 @@
 -- What a command line asks for, and when it is a command.
-use Rattle.std.specs.Prelude.{ℕ, ◌&&◌, List}
+use Rattle.std.specs.Prelude.{ℕ, List}
 use Rattle.command_core.specs.declared.command.Applet.{Applet}
 use Rattle.command_core.specs.declared.command.Flags.{Flags}
 use Rattle.command_core.specs.declared.operands.Operand.{Operand}

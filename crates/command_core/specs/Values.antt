@@ -1,5 +1,5 @@
 -- Options with values: what the values may be, and which may stand together.
-use Rattle.std.specs.Prelude.{ℕ, ◌==◌, nat_lt, Bool, true, false, not, ◌&&◌, ◌||◌, List, [], ◌∷◌, length, codes, Option, Some, None}
+use Rattle.std.specs.Prelude.{ℕ, ◌==◌, nat_lt, Bool, true, false, not, ◌&&◌, List, [], ◌∷◌, length, codes, Option, Some, None}
 use Rattle.std.specs.List.{after_first, before_first, find, list_any}
 use Rattle.std.specs.Str.{bytes_eq}
 use Rattle.command_core.specs.declared.values.OptionValue.{OptionValue}
@@ -28,12 +28,15 @@ script_types =
     codes "trigger" ∷ (codes "pre-install" ∷ (codes "post-install" ∷ (codes "pre-deinstall" ∷ (codes "post-deinstall" ∷
     (codes "pre-upgrade" ∷ (codes "post-upgrade" ∷ []))))))
 
+abbrev pub colon : ℕ
+colon = 58
+
 -- of TYPE:FILE the part before the first `:`, and the part behind it
 abbrev pub script_type : List ℕ → List ℕ
-script_type text = before_first (λ b. b == 58) text
+script_type text = before_first (λ b. b == colon) text
 
 abbrev pub script_file : List ℕ → List ℕ
-script_file text = after_first (λ b. b == 58) text
+script_file text = after_first (λ b. b == colon) text
 
 -- whether a text is TYPE:FILE
 abbrev pub is_script : List ℕ → Bool

@@ -6,9 +6,7 @@ ghost use Rattle.command_core.specs.Named.{file_name, file_in, file_part};
 ghost use Rattle.command_core.specs.Values.{excludes, is_excluded, is_given, is_spent, is_value, script_file, script_type, option_value, first_value};
 ghost use Rattle.command_core.specs.declared.values.OptionValue.{OptionValue};
 
-use crate::texts::{
-    is_file, is_output, is_script, read_file, script_file, script_type, without_dot,
-};
+use crate::texts::{is_file, is_output, is_script, read_file, script_file, script_type};
 use base_core::{Name, Text};
 use std::alloc::{AllocError, Global};
 use std::marker::Model;
@@ -94,20 +92,6 @@ pub struct OptionValue {
 }
 
 impl OptionValue {
-    /// The path that the value names where it is a file: the value without one leading `./`.
-    pub fn file(&self) -> &[u8]
-        ensures { result.now ≡ without_dot self.now.text }
-    {
-        without_dot(self.text.as_bytes())
-    }
-
-    /// Of a value TYPE:FILE the path that the part behind the first `:` names.
-    pub fn script_file(&self) -> &[u8]
-        ensures { result.now ≡ without_dot (script_file self.now.text) }
-    {
-        without_dot(script_file(self.text.as_bytes()))
-    }
-
     /// Of a value TYPE:FILE, as `--script` has, the part before the first `:`.
     pub fn script_type(&self) -> &[u8]
         ensures { result.now ≡ script_type self.now.text }
