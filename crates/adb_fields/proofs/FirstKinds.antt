@@ -5,8 +5,12 @@ use Rattle.adb_view.specs.Plain.{Plain, null}
 use Rattle.adb_tables.specs.Values.{value_at}
 use Rattle.adb_fields.specs.Fields.{are_all_sound}
 use Rattle.adb_fields.specs.declared.pairs.Pair.{Pair}
-use Rattle.adb_fields.specs.Pairs.{Named, IsIn, IsPair, IsFirstOf, earlier, earliest}
-use Rattle.adb_fields.specs.Repeated.{IsPairInOne, numbered_from, twice, twice_in_one, repeated_at, name_of, folders_in, files_in, inside_fault}
+use Rattle.adb_fields.specs.Pairs.{Named, earlier, earliest}
+use Rattle.adb_fields.specs.FirstPair.{IsFirstOf}
+use Rattle.adb_fields.specs.FirstPair.{IsPair}
+use Rattle.adb_fields.specs.FirstPair.{IsIn}
+use Rattle.adb_fields.specs.Repeated.{numbered_from, twice, twice_in_one, repeated_at, name_of, folders_in, files_in, inside_fault}
+use Rattle.adb_fields.specs.FirstPair.{IsPairInOne}
 use Rattle.adb_tables.specs.Walk.{or_else}
 use Rattle.adb_fields.specs.NamedTexts.{plains_at}
 use Rattle.adb_tables.specs.declared.tables.Kind.{Kind}

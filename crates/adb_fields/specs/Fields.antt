@@ -7,9 +7,11 @@ use Rattle.adb_tables.specs.declared.tables.Which.{Which}
 use Rattle.adb_tables.specs.declared.tables.Kind.{Kind}
 use Rattle.adb_tables.specs.declared.tables.Kind.TheVariants.{Obj}
 
--- whatever the field's kind, the word is sound under it, and its value is the field of the object's value
+-- whatever the field's kind, the word is sound under it, and its value is the field of the object's
+-- value
 abbrev pub IsFieldOf : List ℕ → Which → ℕ → ℕ → ℕ → Type 0
-IsFieldOf p which w i word = (k : Kind) → kind_at which i ≡ Some k → (is_sound p k word ≡ true) × (value_at p k word ≡ entry_in (value_at p (Obj which) w) i)
+IsFieldOf p which w i word = (k : Kind) → kind_at which i ≡ Some k → (is_sound p k word ≡ true)
+    × (value_at p k word ≡ entry_in (value_at p (Obj which) w) i)
 
 -- whether each of an array's words has a plain value under the kind
 unfoldable pub are_all_sound : List ℕ → Kind → List ℕ → Bool

@@ -44,7 +44,8 @@ impl<'a, V: View<'a>> List<'a, V> {
     /// The entries with these words.
     pub fn of(adb: Adb<'a>, entries: Arr<'a>) -> List<'a, V>
         requires { are_all_sound (payload_of adb) V.kind (array_entries entries) ≡ true }
-        ensures { list_value result ≡ array_at (payload_of adb.entry) V.kind (array_entries entries.entry) }
+        ensures { list_value result
+            ≡ array_at (payload_of adb.entry) V.kind (array_entries entries.entry) }
     {
         List {
             adb,

@@ -9,7 +9,14 @@ use Rattle.adb_view.specs.Gives.{cause_of}
 use Rattle.adb_tables.specs.Schema.{shape_of}
 use Rattle.adb_tables.specs.Values.{is_sound}
 use Rattle.adb_tables.specs.declared.tables.Kind.{Kind}
-use Rattle.adb_tables.specs.Walk.{visit_fault, or_else, first_fault_from, shape_fault, LIMIT, IsFirstFault, ◌>>=◌, ok_unless, walk_visit, each_walk, walk, fields_walk}
+use Rattle.adb_tables.specs.Walk.{visit_fault, or_else, first_fault_from, shape_fault, LIMIT}
+use Rattle.adb_tables.specs.CountedWalk.{fields_walk}
+use Rattle.adb_tables.specs.CountedWalk.{walk}
+use Rattle.adb_tables.specs.CountedWalk.{each_walk}
+use Rattle.adb_tables.specs.CountedWalk.{walk_visit}
+use Rattle.adb_tables.specs.CountedWalk.{ok_unless}
+use Rattle.adb_tables.specs.CountedWalk.{◌>>=◌}
+use Rattle.adb_tables.specs.FirstFault.{IsFirstFault}
 use Rattle.std.specs.List.{list_all}
 use Rattle.base_core.specs.declared.cause.Cause.{Cause}
 
