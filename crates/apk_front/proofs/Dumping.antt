@@ -24,14 +24,13 @@ use Rattle.adb_tables.specs.declared.tables.Which.{Which}
 use Rattle.adb_tables.specs.declared.tables.Which.TheVariants.{Package, Index, Idb, Intent}
 use Rattle.adb_view.specs.Adb.{payload_of}
 use Rattle.std.specs.Option.{option_map}
-use Rattle.command_core.specs.Operands.{operand_file}
+use Rattle.command_core.specs.Named.{operand_file, are_files}
 use Rattle.make_info.specs.Reads.{Reads}
 use Rattle.outcome.specs.Commands.{reads_in}
 use Rattle.outcome.specs.Dump.{adbdump, dump_outcome, text_outcome, dump_of, dump_with_root, dump_of_blocks, dump_with_schema, form_fault, framing_fault, or_text}
 use Rattle.outcome.specs.Outcome.{just_refusal, just_report}
 use Rattle.pkg_core.specs.Whole.{root_of_schema}
 use Rattle.report_core.specs.declared.refusal.Refusal.TheVariants.{FileMissing, FileBad}
-use Rattle.command_core.specs.Operands.{are_files}
 use Rattle.command_core.specs.Files.{without_dot}
 use Rattle.command_core.specs.declared.operands.Operand.{Operand}
 use Rattle.apk_front.specs.Containers.{IsDumpFault, IsShapedFirst, first_form_fault}

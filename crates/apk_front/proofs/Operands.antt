@@ -10,11 +10,13 @@ use Rattle.base_core.specs.Faults.{Counts}
 use Rattle.base_core.specs.Files.{Files, no_names}
 use Rattle.base_core.specs.Read.{OnlyReads}
 use Rattle.base_core.specs.Tree.{TreeState, files_of}
-use Rattle.command_core.specs.Applets.{may_have, needed_option, operand_rule, value_rules, version_operands as version_rule}
-use Rattle.command_core.specs.Command.{CommandLine, IsCommand}
+use Rattle.command_core.specs.Applets.{needed_option, operand_rule, version_operands as version_rule}
+use Rattle.command_core.specs.Sound.{may_have, value_rules, IsCommand, are_operands, are_values}
+use Rattle.command_core.specs.Command.{CommandLine}
 use Rattle.command_core.specs.Files.{is_file, without_dot}
-use Rattle.command_core.specs.Operands.{are_files, are_operands, at_least, exactly, is_of_kind, operand_file}
-use Rattle.command_core.specs.Values.{are_values, lacks_value}
+use Rattle.command_core.specs.Named.{are_files, operand_file}
+use Rattle.command_core.specs.Operands.{at_least, exactly, is_of_kind}
+use Rattle.command_core.specs.Values.{lacks_value}
 use Rattle.command_core.specs.declared.command.Applet.{Applet}
 use Rattle.command_core.specs.declared.command.Applet.TheVariants.{Adbdump, Verify, Version}
 use Rattle.command_core.specs.declared.command.Flags.{Flags}

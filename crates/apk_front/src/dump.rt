@@ -11,7 +11,7 @@ ghost use Rattle.base_core.specs.Calls.{IfObservable};
 ghost use Rattle.base_core.specs.Files.{Files, no_names};
 ghost use Rattle.base_core.specs.Read.{OnlyReads, bytes_in};
 ghost use Rattle.base_core.specs.Tree.{files_of};
-ghost use Rattle.command_core.specs.Operands.{are_files};
+ghost use Rattle.command_core.specs.Named.{are_files};
 ghost use Rattle.make_info.specs.Reads.{Reads};
 ghost use Rattle.outcome.specs.Commands.{reads_in};
 ghost use Rattle.outcome.specs.Dump.{adbdump, dump_of, dump_of_blocks, dump_outcome, form_fault, framing_fault};

@@ -9,7 +9,7 @@ ghost use Rattle.base_core.specs.Faults.{GoesOn, HasCause, IsNoFault};
 ghost use Rattle.base_core.specs.Files.{Files, no_names};
 ghost use Rattle.base_core.specs.Read.{OnlyReads};
 ghost use Rattle.base_core.specs.Tree.{files_of};
-ghost use Rattle.command_core.specs.Command.{IsCommand};
+ghost use Rattle.command_core.specs.Sound.{IsCommand};
 ghost use Rattle.command_core.specs.declared.command.Applet.TheVariants.{Mkndx, Mkpkg};
 ghost use Rattle.command_core.specs.declared.values.TheConstants.{FILES};
 ghost use Rattle.make_index.specs.Files.{AreFiles};

@@ -1,20 +1,21 @@
 -- Operands and values that are files have names.
-use Rattle.std.proofs.Common.{◌≡◌, ℕ, zero, suc, ◌+◌, ◌<◌, Bool, true, false, cond, List, [], ◌∷◌, map, drop, length, Option, Some, None, IfSome, refl, sym, ◌∙◌, ap, subst, arith, if◌then◌else◌}
+use Rattle.std.proofs.Common.{◌≡◌, ℕ, zero, suc, ◌+◌, ◌<◌, Bool, true, false, List, [], ◌∷◌, map, drop, length, Option, Some, None, IfSome, refl, sym, ◌∙◌, ap, subst, arith, if◌then◌else◌}
 use Rattle.std.specs.Prelude.{◌==◌, not, IsTrue}
 use Rattle.std.specs.List.{find, list_all, slice_get}
 use Rattle.std.specs.Option.{option_map}
-use Rattle.std.proofs.lemmas.Bool.{and_parts, eqb-true, not-true}
+use Rattle.std.proofs.lemmas.Bool.{and_parts, eqb-true}
 use Rattle.std.proofs.lemmas.List.{length-map}
-use Rattle.std.proofs.lemmas.Option.{none-some, same_Some, slice_get-map}
+use Rattle.std.proofs.lemmas.Option.{slice_get-map}
 use Rattle.command_core.specs.declared.operands.Operand.{Operand}
 use Rattle.command_core.specs.declared.operands.OperandEntry.{OperandEntry}
 use Rattle.command_core.specs.declared.operands.OperandRule.{OperandRule}
 use Rattle.command_core.specs.declared.values.OptionValue.{OptionValue}
 use Rattle.command_core.specs.declared.values.TheConstants.{SCRIPT}
 use Rattle.command_core.specs.declared.values.ValueEntry.{ValueEntry}
-use Rattle.command_core.specs.Files.{file_name, is_file, without_dot}
-use Rattle.command_core.specs.Operands.{are_files, operand_file, first_refused, takes}
-use Rattle.command_core.specs.Values.{file_in, file_part, script_file, first_value}
+use Rattle.command_core.specs.Files.{is_file, without_dot}
+use Rattle.command_core.specs.Named.{file_name, are_files, operand_file, file_in, file_part}
+use Rattle.command_core.specs.Operands.{first_refused, takes}
+use Rattle.command_core.specs.Values.{script_file, first_value}
 use Rattle.command_core.proofs.Entries.{agree_at, agree_found, find-map, found_passes, left_at, option_map-twice}
 
 -- a text that is a file has its name

@@ -1,5 +1,5 @@
 -- The parts of a command.
-use Rattle.std.proofs.Common.{◌≡◌, ℕ, zero, suc, Bool, true, false, cond, List, [], ◌∷◌, length, Option, Some, None, refl, sym, ◌∙◌, ap, subst}
+use Rattle.std.proofs.Common.{◌≡◌, ℕ, zero, suc, true, false, cond, List, [], ◌∷◌, length, Some, refl, subst}
 use Rattle.std.specs.Prelude.{◌&&◌, ◌==◌, not, nat_le}
 use Rattle.std.specs.List.{find, list_all, slice_get}
 use Rattle.std.proofs.lemmas.Bool.{and_parts, eqb-true}
@@ -13,11 +13,13 @@ use Rattle.command_core.specs.declared.operands.OperandRule.{OperandRule}
 use Rattle.command_core.specs.declared.values.OptionValue.{OptionValue}
 use Rattle.command_core.specs.declared.values.TheConstants.{FILES, OUTPUT, SCRIPT}
 use Rattle.command_core.specs.declared.values.ValueRule.{ValueRule}
-use Rattle.command_core.specs.Applets.{may_have, needed_option, operand_rule, value_rules}
-use Rattle.command_core.specs.Command.{CommandLine, IsCommand}
+use Rattle.command_core.specs.Applets.{needed_option, operand_rule}
+use Rattle.command_core.specs.Sound.{may_have, value_rules, IsCommand, are_operands, is_at_most, are_apart, are_values, is_value_by, rule_for}
+use Rattle.command_core.specs.Command.{CommandLine}
 use Rattle.command_core.specs.Files.{is_file, is_output}
-use Rattle.command_core.specs.Operands.{are_files, are_operands, is_at_most, is_of_kind}
-use Rattle.command_core.specs.Values.{are_apart, are_values, first_value, is_given, is_script, is_value_by, lacks_value, rule_for}
+use Rattle.command_core.specs.Named.{are_files}
+use Rattle.command_core.specs.Operands.{is_of_kind}
+use Rattle.command_core.specs.Values.{first_value, is_given, is_script, lacks_value}
 use Rattle.command_core.proofs.Entries.{found_passes}
 
 pub record HasParts (c : CommandLine) : Type 0 where

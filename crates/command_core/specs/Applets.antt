@@ -1,45 +1,12 @@
 -- What each applet may have, after apk(8): flags, options with values, operands.
-use Rattle.std.specs.Prelude.{ℕ, Bool, ◌&&◌, ◌||◌, if◌then◌else◌, List, [], ◌∷◌, Option, Some, None}
+use Rattle.std.specs.Prelude.{ℕ, ◌||◌, Option, Some, None, if◌then◌else◌}
 use Rattle.command_core.specs.declared.command.Applet.{Applet}
 use Rattle.command_core.specs.declared.command.Applet.TheVariants.{Add, Del, Upgrade, Fix, Info, Verify, Adbdump, Mkpkg, Mkndx, Version, Demo}
-use Rattle.command_core.specs.declared.command.Flag.TheVariants.{AllowUntrusted, NoScripts, Initdb, Simulate, Purge, Installed, Contents, Depends, WhoOwns, Test, Check}
 use Rattle.command_core.specs.declared.command.Flags.{Flags}
 use Rattle.command_core.specs.declared.operands.OperandKind.TheVariants.{File, Any, Dependency, DependencyName, PackageName, Path, Number}
 use Rattle.command_core.specs.declared.operands.OperandRule.{OperandRule}
 use Rattle.command_core.specs.declared.values.TheConstants.{OUTPUT}
-use Rattle.command_core.specs.declared.values.ValueRule.{ValueRule}
-use Rattle.command_core.specs.Flags.{are_within, is_single, kinds, no_flags, with_flag}
 use Rattle.command_core.specs.Operands.{at_least, exactly}
-use Rattle.command_core.specs.Values.{compression_rule, description_rule, files_rule, info_rule, output_rule, script_rule, trigger_rule}
-
--- ---- flags
-
--- the flags of every applet
-abbrev pub common_flags : Flags
-common_flags = with_flag AllowUntrusted (with_flag NoScripts no_flags)
-
--- the flags that an applet may have
-abbrev pub allowed_flags : Applet → Flags
-allowed_flags Add = with_flag Initdb (with_flag Simulate common_flags)
-allowed_flags Del = with_flag Simulate (with_flag Purge common_flags)
-allowed_flags Upgrade = with_flag Simulate common_flags
-allowed_flags Fix = with_flag Simulate common_flags
-allowed_flags Info = with_flag Installed (with_flag Contents (with_flag Depends (with_flag WhoOwns common_flags)))
-allowed_flags Version = with_flag Test (with_flag Check common_flags)
-allowed_flags applet = common_flags
-
--- whether an applet may have some flags: each is one of its own, and at most one says of which kind the command is
-abbrev pub may_have : Applet → Flags → Bool
-may_have applet flags = are_within (allowed_flags applet) flags && is_single kinds flags
-
--- ---- options with values
-
--- those of an applet
-abbrev pub value_rules : Applet → List ValueRule
-value_rules Mkpkg =
-    info_rule ∷ (script_rule ∷ (trigger_rule ∷ (files_rule ∷ (output_rule ∷ (compression_rule ∷ [])))))
-value_rules Mkndx = description_rule ∷ (output_rule ∷ (compression_rule ∷ []))
-value_rules applet = []
 
 -- the letter of the option that has to be given a value, if there is one
 abbrev pub needed_option : Applet → Option ℕ

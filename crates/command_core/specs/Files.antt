@@ -1,5 +1,5 @@
 -- Files and paths, as operands and values name them.
-use Rattle.std.specs.Prelude.{ℕ, nat_le, Bool, ◌&&◌, if◌then◌else◌, List, length, take, drop, codes, Option, Some, None}
+use Rattle.std.specs.Prelude.{ℕ, nat_le, Bool, ◌&&◌, List, length, take, drop, codes, if◌then◌else◌}
 use Rattle.std.specs.Str.{bytes_eq}
 use Rattle.base_core.specs.Name.{is_name}
 use Rattle.dep_core.specs.Repositories.{without_slash}
@@ -12,13 +12,13 @@ without_dot text = if bytes_eq (take 2 text) (codes "./") then drop 2 text else 
 abbrev pub is_file : List ℕ → Bool
 is_file text = is_name (without_dot text)
 
--- the name of the file that a text names; None where it names none
-abbrev pub file_name : List ℕ → Option (List ℕ)
-file_name text = if is_file text then Some (without_dot text) else None
+-- how long a file's path may be, so that its scratch name, eight bytes longer, is a name too
+abbrev pub longest_output : ℕ
+longest_output = 1016
 
--- whether a text names a file that may be written: its scratch name, eight bytes longer, is a name too
+-- whether a text names a file that may be written
 abbrev pub is_output : List ℕ → Bool
-is_output text = is_file text && nat_le (length (without_dot text)) 1016
+is_output text = is_file text && nat_le (length (without_dot text)) longest_output
 
 -- whether a text is a path, as `info --who-owns` takes it: one leading `/` is dropped
 abbrev pub is_path : List ℕ → Bool

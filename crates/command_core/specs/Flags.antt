@@ -1,6 +1,6 @@
 -- The options of a command line that take no value.
-use Rattle.std.specs.Prelude.{Bool, true, false, not, ◌&&◌, ◌||◌, List, [], ◌∷◌}
-use Rattle.std.specs.List.{list_all, list_any}
+use Rattle.std.specs.Prelude.{Bool, true, false, List, [], ◌∷◌}
+use Rattle.std.specs.List.{list_any}
 use Rattle.command_core.specs.declared.command.Flag.{Flag}
 use Rattle.command_core.specs.declared.command.Flag.TheVariants.{AllowUntrusted, NoScripts, Initdb, Simulate, Purge, Installed, Contents, Depends, WhoOwns, Test, Check}
 use Rattle.command_core.specs.declared.command.Flags.{Flags}
@@ -46,11 +46,6 @@ with_flag WhoOwns flags = record flags { who_owns = true }
 with_flag Test flags = record flags { test = true }
 with_flag Check flags = record flags { check = true }
 
-abbrev pub all_flags : List Flag
-all_flags =
-    AllowUntrusted ∷ (NoScripts ∷ (Initdb ∷ (Simulate ∷ (Purge ∷
-    (Installed ∷ (Contents ∷ (Depends ∷ (WhoOwns ∷ (Test ∷ (Check ∷ []))))))))))
-
 -- the flags that say of which kind a command is: those of `info`, and those of `version`
 abbrev pub kinds : List Flag
 kinds = Installed ∷ (Contents ∷ (Depends ∷ (WhoOwns ∷ (Test ∷ (Check ∷ [])))))
@@ -58,13 +53,3 @@ kinds = Installed ∷ (Contents ∷ (Depends ∷ (WhoOwns ∷ (Test ∷ (Check �
 -- whether a flag that says of which kind the command is was given
 abbrev pub has_kind : Flags → Bool
 has_kind flags = list_any (λ flag. has_flag flag flags) kinds
-
--- whether of some flags at most one was given
-abbrev pub is_single : List Flag → Flags → Bool
-is_single [] flags = true
-is_single (flag ∷ others) flags =
-    not (has_flag flag flags && list_any (λ other. has_flag other flags) others) && is_single others flags
-
--- whether each flag that was given is among those that are allowed
-abbrev pub are_within : Flags → Flags → Bool
-are_within allowed flags = list_all (λ flag. not (has_flag flag flags) || has_flag flag allowed) all_flags

@@ -1,5 +1,5 @@
 -- Operands: of which kind a text is, and which operands a rule takes.
-use Rattle.std.specs.Prelude.{ℕ, ◌+◌, ◌==◌, nat_lt, nat_le, Bool, true, false, not, ◌&&◌, if◌then◌else◌, List, [], ◌∷◌, length, Option, Some, None, is_some}
+use Rattle.std.specs.Prelude.{ℕ, ◌+◌, ◌==◌, nat_lt, nat_le, Bool, true, false, not, ◌&&◌, List, [], ◌∷◌, length, Option, Some, None, is_some, if◌then◌else◌}
 use Rattle.std.specs.Char.{is_ascii_digit}
 use Rattle.std.specs.List.{list_all}
 use Rattle.std.specs.Str.Parse.{digits_value}
@@ -9,17 +9,10 @@ use Rattle.command_core.specs.declared.operands.Operand.{Operand}
 use Rattle.command_core.specs.declared.operands.OperandKind.{OperandKind}
 use Rattle.command_core.specs.declared.operands.OperandKind.TheVariants.{File, Any, Dependency, DependencyName, PackageName, Path, Number}
 use Rattle.command_core.specs.declared.operands.OperandRule.{OperandRule}
-use Rattle.command_core.specs.Files.{is_file, is_path, without_dot}
+use Rattle.command_core.specs.Files.{is_file, is_path}
 
 abbrev pub operand_at : ℕ → List ℕ → Operand
 operand_at place word = record { place = place; text = word }
-
--- the name of the file that an operand is
-abbrev pub operand_file : Operand → List ℕ
-operand_file operand = without_dot operand.text
-
-abbrev pub are_files : List Operand → Bool
-are_files operands = list_all (λ (o : Operand). is_file o.text) operands
 
 -- ---- kinds
 
@@ -30,11 +23,17 @@ has_zero_in_front (d ∷ ds) = (d == 48) && nat_lt 0 (length ds)
 
 -- whether a text is a decimal number without leading zeros
 abbrev pub is_decimal : List ℕ → Bool
-is_decimal text = nat_lt 0 (length text) && not (has_zero_in_front text) && list_all is_ascii_digit text
+is_decimal text =
+    nat_lt 0 (length text) && not (has_zero_in_front text) && list_all is_ascii_digit text
+
+-- the largest number of packages of `demo`
+abbrev pub largest_demo : ℕ
+largest_demo = 20000
 
 -- whether a text is a number of packages for `demo`
 abbrev pub is_demo_number : List ℕ → Bool
-is_demo_number text = is_decimal text && nat_lt 0 (digits_value 10 text) && nat_le (digits_value 10 text) 20000
+is_demo_number text =
+    is_decimal text && nat_lt 0 (digits_value 10 text) && nat_le (digits_value 10 text) largest_demo
 
 abbrev pub is_of_kind : OperandKind → List ℕ → Bool
 is_of_kind File text = is_file text
@@ -68,17 +67,5 @@ takes rule before text = has_room rule.most before && is_of_kind rule.kind text
 abbrev pub first_refused : OperandRule → ℕ → List Operand → Option ℕ
 first_refused rule before [] = None
 first_refused rule before (operand ∷ operands) =
-    if takes rule before operand.text then first_refused rule (before + 1) operands else Some operand.place
-
--- whether there are no more operands than a rule takes
-abbrev pub is_at_most : Option ℕ → ℕ → Bool
-is_at_most None count = true
-is_at_most (Some most) count = nat_le count most
-
--- whether operands are those of an applet: each of its kind, and as many as it takes. There are none of an applet that
--- lacks its kind
-abbrev pub are_operands : Option OperandRule → List Operand → Bool
-are_operands None operands = false
-are_operands (Some rule) operands =
-    nat_le rule.least (length operands) && is_at_most rule.most (length operands)
-    && list_all (λ (o : Operand). is_of_kind rule.kind o.text) operands
+    if takes rule before operand.text then first_refused rule (before + 1) operands else
+    Some operand.place

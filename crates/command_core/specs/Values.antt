@@ -1,13 +1,13 @@
 -- Options with values: what the values may be, and which may stand together.
-use Rattle.std.specs.Prelude.{ℕ, ◌==◌, nat_lt, Bool, true, false, not, ◌&&◌, ◌||◌, if◌then◌else◌, List, [], ◌∷◌, length, codes, Option, Some, None}
-use Rattle.std.specs.List.{after_first, before_first, find, list_all, list_any}
+use Rattle.std.specs.Prelude.{ℕ, ◌==◌, nat_lt, Bool, true, false, not, ◌&&◌, List, [], ◌∷◌, length, codes, Option, Some, None}
+use Rattle.std.specs.List.{after_first, before_first, find, list_any}
 use Rattle.std.specs.Str.{bytes_eq}
 use Rattle.command_core.specs.declared.values.OptionValue.{OptionValue}
 use Rattle.command_core.specs.declared.values.TheConstants.{COMPRESSION, DESCRIPTION, FILES, INFO, OUTPUT, SCRIPT, TRIGGER}
 use Rattle.command_core.specs.declared.values.ValueKind.{ValueKind}
 use Rattle.command_core.specs.declared.values.ValueKind.TheVariants.{Any, Nonempty, File, Output, Uncompressed, Script}
 use Rattle.command_core.specs.declared.values.ValueRule.{ValueRule}
-use Rattle.command_core.specs.Files.{file_name, is_file, is_output}
+use Rattle.command_core.specs.Files.{is_file, is_output}
 
 abbrev pub option_value : ℕ → ℕ → List ℕ → OptionValue
 option_value place letter text = record { place = place; letter = letter; text = text }
@@ -25,27 +25,23 @@ is_given letter values = list_any (λ (v : OptionValue). v.letter == letter) val
 -- the types of a package's scripts
 abbrev pub script_types : List (List ℕ)
 script_types =
-    codes "trigger" ∷ (codes "pre-install" ∷ (codes "post-install" ∷ (codes "pre-deinstall" ∷ (codes "post-deinstall" ∷
-    (codes "pre-upgrade" ∷ (codes "post-upgrade" ∷ []))))))
+    codes "trigger" ∷ (codes "pre-install" ∷ (codes "post-install" ∷ (codes "pre-deinstall" ∷
+    (codes "post-deinstall" ∷ (codes "pre-upgrade" ∷ (codes "post-upgrade" ∷ []))))))
+
+abbrev pub colon : ℕ
+colon = 58
 
 -- of TYPE:FILE the part before the first `:`, and the part behind it
 abbrev pub script_type : List ℕ → List ℕ
-script_type text = before_first (λ b. b == 58) text
+script_type text = before_first (λ b. b == colon) text
 
 abbrev pub script_file : List ℕ → List ℕ
-script_file text = after_first (λ b. b == 58) text
+script_file text = after_first (λ b. b == colon) text
 
 -- whether a text is TYPE:FILE
 abbrev pub is_script : List ℕ → Bool
-is_script text = list_any (λ t. bytes_eq t (script_type text)) script_types && is_file (script_file text)
-
--- the part of a value of the option with a letter that may name a file: of a script the part behind the first `:`
-abbrev pub file_part : ℕ → List ℕ → List ℕ
-file_part letter text = if letter == SCRIPT then script_file text else text
-
--- the name of the file in a value; None where there is none
-abbrev pub file_in : OptionValue → Option (List ℕ)
-file_in v = file_name (file_part v.letter v.text)
+is_script text =
+    list_any (λ t. bytes_eq t (script_type text)) script_types && is_file (script_file text)
 
 -- ---- kinds
 
@@ -86,10 +82,6 @@ compression_rule = record { letter = COMPRESSION; single = true; kind = Uncompre
 abbrev pub description_rule : ValueRule
 description_rule = record { letter = DESCRIPTION; single = true; kind = Any }
 
--- the rule of the option with a letter, among some
-abbrev pub rule_for : List ValueRule → ℕ → Option ValueRule
-rule_for rules letter = find (λ (rule : ValueRule). rule.letter == letter) rules
-
 -- whether an option may not stand again
 abbrev pub is_spent : ValueRule → List OptionValue → Bool
 is_spent rule values = rule.single && is_given rule.letter values
@@ -97,26 +89,8 @@ is_spent rule values = rule.single && is_given rule.letter values
 -- whether a text is excluded by values that the option was given before
 abbrev pub is_excluded : ValueRule → List ℕ → List OptionValue → Bool
 is_excluded rule text values =
-    list_any (λ (v : OptionValue). (v.letter == rule.letter) && excludes rule.kind v.text text) values
-
--- whether a value is one of its option; None: there is no such option
-abbrev pub is_value_by : Option ValueRule → List ℕ → Bool
-is_value_by None text = false
-is_value_by (Some rule) text = is_value rule.kind text
-
--- whether two values of one option exclude each other
-abbrev pub excludes_by : Option ValueRule → List ℕ → List ℕ → Bool
-excludes_by None a b = false
-excludes_by (Some rule) a b = rule.single || excludes rule.kind a b
-
-abbrev pub are_apart : List ValueRule → OptionValue → OptionValue → Bool
-are_apart rules a b = not ((a.letter == b.letter) && excludes_by (rule_for rules a.letter) a.text b.text)
-
--- whether values are ones of options with these rules, and no two of them exclude each other
-abbrev pub are_values : List ValueRule → List OptionValue → Bool
-are_values rules [] = true
-are_values rules (v ∷ vs) =
-    is_value_by (rule_for rules v.letter) v.text && list_all (are_apart rules v) vs && are_values rules vs
+    list_any (λ (v : OptionValue). (v.letter == rule.letter) && excludes rule.kind v.text text)
+    values
 
 -- whether the option that has to be given a value is lacking
 abbrev pub lacks_value : Option ℕ → List OptionValue → Bool

@@ -1,7 +1,8 @@
 //! Applets, the options without a value, and what a command line asks for.
 ghost use Rattle.std.specs.Prelude.{◌≡◌, IsTrue};
 ghost use Rattle.command_core.specs.Applets.{info_operands, needed_option, operand_rule, version_operands};
-ghost use Rattle.command_core.specs.Command.{IsCommand, command_by, is_command};
+ghost use Rattle.command_core.specs.Command.{command_by};
+ghost use Rattle.command_core.specs.Sound.{IsCommand, is_command};
 ghost use Rattle.command_core.specs.Flags.{has_flag, has_kind, no_flags, with_flag};
 
 use crate::operands::{OperandKind, OperandRule, Operands};
@@ -9,7 +10,7 @@ use crate::values::{OUTPUT, Values};
 use std::marker::Model;
 
 /// What a command does (apk(8)).
-#[derive(Clone, Copy, Debug, PartialEq, Eq)]
+#[derive(Clone, Copy, PartialEq, Eq)]
 pub enum Applet {
     /// Put packages into the world, and install what it then needs.
     Add,
@@ -52,7 +53,7 @@ pub enum Flag {
 }
 
 /// The options without a value that were given.
-#[derive(Clone, Copy, Debug, PartialEq, Eq)]
+#[derive(Clone, Copy)]
 pub struct Flags {
     /// `--allow-untrusted`: repositories are read though nobody checks who signed them.
     pub allow_untrusted: bool,
@@ -117,7 +118,8 @@ impl Flags {
         }
     }
 
-    /// Whether a flag was given that says of which kind the command is: one of `info`, or one of `version`.
+    /// Whether a flag was given that says of which kind the command is: one of `info`, or one of
+    /// `version`.
     pub fn has_kind(&self) -> bool
         ensures { result ≡ has_kind self.now }
     {
@@ -216,7 +218,8 @@ pub struct Command {
 }
 
 impl Model for Command {
-    ghost use Rattle.command_core.specs.Command.{CommandLine, command_by, is_command};
+    ghost use Rattle.command_core.specs.Command.{CommandLine, command_by};
+    ghost use Rattle.command_core.specs.Sound.{is_command};
     ghost use Rattle.std.specs.Prelude.{IsTrue};
 
     ghost Value = { CommandLine };

@@ -3,9 +3,11 @@ use Rattle.std.proofs.Common.{◌≡◌, ℕ, true, List, [], ◌∷◌, Option,
 use Rattle.base_core.specs.Calls.{IfObservable}
 use Rattle.base_core.specs.Tree.{TreeState}
 use Rattle.adb_view.specs.Plain.{Plain}
-use Rattle.command_core.specs.Command.{CommandLine, IsCommand}
+use Rattle.command_core.specs.Command.{CommandLine}
+use Rattle.command_core.specs.Sound.{IsCommand}
 use Rattle.command_core.specs.Applets.{operand_rule}
-use Rattle.command_core.specs.Operands.{are_files, at_least}
+use Rattle.command_core.specs.Named.{are_files}
+use Rattle.command_core.specs.Operands.{at_least}
 use Rattle.command_core.specs.declared.operands.OperandKind.TheVariants.{File}
 use Rattle.command_core.specs.declared.operands.OperandRule.{OperandRule}
 use Rattle.command_core.specs.declared.operands.Operand.{Operand}

@@ -23,7 +23,7 @@ ghost use Rattle.make_info.specs.Reads.{Reads};
 ghost use Rattle.make_info.specs.Values.{plains_of};
 ghost use Rattle.std.specs.Prelude.{◌≡◌, ◌≤◌, Ok, IfOk, IfErr, length, map, ◌<◌, ◌^◌, ℕ, List, All, true, None, ◌++◌, ◌∷◌, [], Option, IfSome, IsTrue};
 ghost use Rattle.version_core.specs.Order.{is_version};
-ghost use Rattle.command_core.specs.Operands.{are_files};
+ghost use Rattle.command_core.specs.Named.{are_files};
 
 use crate::entry::Entry;
 use adb_schema::INDEX_WORD;

@@ -9,7 +9,8 @@ use Rattle.std.proofs.lemmas.Option.{none-some}
 use Rattle.version_core.specs.Order.{is_version}
 use Rattle.dep_core.specs.Dependency.{is_package_name}
 use Rattle.command_core.specs.Applets.{needed_option}
-use Rattle.command_core.specs.Command.{CommandLine, IsCommand}
+use Rattle.command_core.specs.Command.{CommandLine}
+use Rattle.command_core.specs.Sound.{IsCommand}
 use Rattle.command_core.specs.Values.{first_value, is_given}
 use Rattle.command_core.specs.declared.command.Applet.TheVariants.{Mkndx, Mkpkg}
 use Rattle.command_core.specs.declared.values.OptionValue.{OptionValue}

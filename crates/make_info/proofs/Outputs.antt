@@ -6,7 +6,8 @@ use Rattle.std.specs.Option.{option_and_then, option_map, option_or}
 use Rattle.std.proofs.lemmas.Bool.{and_parts, leb-true, ltb-false}
 use Rattle.base_core.specs.Name.{is_name}
 use Rattle.version_core.specs.Order.{is_version}
-use Rattle.command_core.specs.Command.{CommandLine, IsCommand}
+use Rattle.command_core.specs.Command.{CommandLine}
+use Rattle.command_core.specs.Sound.{IsCommand}
 use Rattle.command_core.specs.Values.{first_value}
 use Rattle.command_core.specs.Files.{is_file, is_output, without_dot}
 use Rattle.command_core.specs.declared.values.OptionValue.{OptionValue}

@@ -5,7 +5,8 @@ ghost use Rattle.make_info.specs.Output.{is_mkpkg, output_name, package_output};
 ghost use Rattle.std.specs.Option.{option_map};
 ghost use Rattle.make_info.specs.declared.output.TheConstants.{LONGEST_OUTPUT};
 ghost use Rattle.std.specs.Prelude.{is_some, ◌≡◌, ◌||◌, IfOk, is_ok, ◌≤◌, List, ℕ, Some, IsSome, IsTrue, length};
-ghost use Rattle.command_core.specs.Command.{CommandLine, IsCommand};
+ghost use Rattle.command_core.specs.Command.{CommandLine};
+ghost use Rattle.command_core.specs.Sound.{IsCommand};
 ghost use Rattle.command_core.specs.declared.command.Applet.TheVariants.{Mkndx, Mkpkg};
 
 use crate::fault::MakeFault;

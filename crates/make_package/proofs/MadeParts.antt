@@ -19,10 +19,10 @@ use Rattle.adb_schema.specs.declared.read.TheConstants.{PACKAGE_WORD}
 use Rattle.adb_write.specs.Canonical.{PayloadCounts, canonical, or_overflow, overflow_of, written_of}
 use Rattle.adb_write.specs.File.{adb_piece, file_of}
 use Rattle.pkg_core.specs.Contents.{Contents}
-use Rattle.command_core.specs.Applets.{value_rules}
+use Rattle.command_core.specs.Sound.{value_rules, IsCommand, are_apart, rule_for, is_value_by, are_values}
 use Rattle.command_core.specs.declared.values.ValueRule.{ValueRule}
-use Rattle.command_core.specs.Command.{CommandLine, IsCommand}
-use Rattle.command_core.specs.Values.{first_value, are_apart, rule_for, is_value_by, are_values, script_file, script_type, script_types}
+use Rattle.command_core.specs.Command.{CommandLine}
+use Rattle.command_core.specs.Values.{first_value, script_file, script_type, script_types}
 use Rattle.command_core.specs.Files.{is_file, without_dot}
 use Rattle.command_core.specs.declared.command.Applet.{Applet}
 use Rattle.command_core.specs.declared.command.Applet.TheVariants.{Mkpkg}

@@ -2,9 +2,9 @@
 //! and the files of its scripts.
 ghost use Rattle.base_core.specs.Calls.{IfObservable};
 ghost use Rattle.base_core.specs.Read.{OnlyReads};
-ghost use Rattle.command_core.specs.Applets.{value_rules};
+ghost use Rattle.command_core.specs.Sound.{value_rules, are_values};
 ghost use Rattle.command_core.specs.Files.{without_dot};
-ghost use Rattle.command_core.specs.Values.{are_values, script_file};
+ghost use Rattle.command_core.specs.Values.{script_file};
 ghost use Rattle.command_core.specs.declared.command.Applet.TheVariants.{Mkpkg};
 ghost use Rattle.command_core.specs.declared.values.TheConstants.{FILES, SCRIPT};
 ghost use Rattle.make_package.specs.Answers.{IsCutOff, IsFirstValue, AreBelow};

@@ -5,7 +5,7 @@ use Rattle.std.specs.Option.{option_map}
 use Rattle.base_core.specs.Sink.{Adds, AddsSome}
 use Rattle.hex.specs.Hex.{encode_with, encode_lower, lower_digits}
 use Rattle.report_core.specs.Pieces.{piece_text, pieces_text}
-use Rattle.report_core.specs.declared.piece.Piece.{Piece}
+use Rattle.report_core.specs.declared.lines.Piece.{Piece}
 
 pub Adds-then : (old mid new : Option (List ℕ)) (a b : List ℕ) → Adds old mid a → Adds mid new b → Adds old new (a ++ b)
 Adds-then None mid new a b h k = k ∙ ap (option_map (λ x. x ++ b)) h

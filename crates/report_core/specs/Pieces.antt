@@ -5,8 +5,8 @@ use Rattle.hex.specs.Hex.{encode_lower}
 use Rattle.report_core.specs.Texts.{hex_word, digest_bytes, position_text, cause_text}
 use Rattle.report_core.specs.declared.sentence.Sentence.{Sentence}
 use Rattle.base_core.specs.declared.cause.Cause.{Cause}
-use Rattle.report_core.specs.declared.piece.Piece.{Piece}
-use Rattle.report_core.specs.declared.piece.Piece.TheVariants.{Bytes, Number, Word, Hex, Digest, Position, Nothing}
+use Rattle.report_core.specs.declared.lines.Piece.{Piece}
+use Rattle.report_core.specs.declared.lines.Piece.TheVariants.{Bytes, Number, Word, Hex, Digest, Position, Nothing}
 
 abbrev pub piece_text : Piece → List ℕ
 piece_text (Bytes bytes) = bytes.now

@@ -36,31 +36,40 @@ cause_text (Outside word) = codes "value " ++ hex_word word ++ codes " points ou
 cause_text (WrongKind word) = codes "value " ++ hex_word word ++ codes " has the wrong kind"
 cause_text (TooLarge count) = decimal count ++ codes " values are too many"
 cause_text (BadText place) = codes "bad field " ++ decimal place
-cause_text (Repeated place first second) = codes "field " ++ decimal place ++ codes " repeated at " ++ decimal first ++ codes " and " ++ decimal second
-cause_text (DataOrder expected found) = codes "contents " ++ position_text found.0 found.1 ++ codes " where " ++ position_text expected.0 expected.1 ++ codes " was expected"
-cause_text (DataSize wanted found) = codes "contents of " ++ decimal found ++ codes " bytes where " ++ decimal wanted ++ codes " were expected"
-cause_text (HashDiffers wanted found) = codes "hash " ++ encode_lower (digest_bytes found) ++ codes " where " ++ encode_lower (digest_bytes wanted) ++ codes " was expected"
+cause_text (Repeated place first second) =
+    codes "field " ++ decimal place ++ codes " repeated at " ++ decimal first ++ codes " and "
+    ++ decimal second
+cause_text (DataOrder expected found) =
+    codes "contents " ++ position_text found.0 found.1
+    ++ codes " where " ++ position_text expected.0 expected.1 ++ codes " was expected"
+cause_text (DataSize wanted found) =
+    codes "contents of " ++ decimal found ++ codes " bytes where " ++ decimal wanted
+    ++ codes " were expected"
+cause_text (HashDiffers wanted found) =
+    codes "hash " ++ encode_lower (digest_bytes found)
+    ++ codes " where " ++ encode_lower (digest_bytes wanted) ++ codes " was expected"
 cause_text (TextLine line) = codes "bad line " ++ decimal line
 
 -- ---- refusals
 
--- what is told of a word
+-- what is printed of a word
 abbrev pub word_text : ℕ → List ℕ → List ℕ
 word_text place text = codes "word " ++ decimal place ++ codes ": " ++ text
 
--- what is told of a repository
+-- what is printed of a repository
 abbrev pub repository_text : ℕ → List ℕ → List ℕ
 repository_text number text = codes "repository " ++ decimal number ++ codes ": " ++ text
 
--- what is told of a version of a package
+-- what is printed of a version of a package
 abbrev pub package_text : List ℕ → List ℕ → List ℕ → List ℕ
 package_text name version text = name ++ codes "-" ++ version ++ codes ": " ++ text
 
--- what a package says of itself in a field: its id is told in hexadecimal digits, its name and its version as they are
+-- what a package says of itself in a field: its id is printed in hexadecimal digits, its name and
+-- its version as they are
 abbrev pub field_text : ℕ → List ℕ → List ℕ
 field_text field bytes = if field == 3 then encode_lower bytes else bytes
 
--- a script by its number; a number that is no script's is told as such
+-- a script by its number; a number that is no script's is printed as such
 abbrev pub script_name : ℕ → List ℕ
 script_name script =
     if script == 1 then codes "trigger" else
@@ -88,15 +97,23 @@ refusal_text (IndexBad repository cause) = repository_text repository (cause_tex
 refusal_text (TooMany count) = decimal count ++ codes " candidates are too many"
 refusal_text (NotInstalled place) = word_text place (codes "not installed")
 refusal_text Unsatisfied = codes "unable to select packages"
-refusal_text (PackageMissing name version) = package_text name version (codes "no such package file")
+refusal_text (PackageMissing name version) =
+    package_text name version (codes "no such package file")
 refusal_text (PackageBad name version cause) = package_text name version (cause_text cause)
-refusal_text (PackageDiffers name version field wanted found) = package_text name version (codes "differs from its index: " ++ field_text field wanted ++ codes ", " ++ field_text field found)
-refusal_text (ScriptNeeded name script) = name ++ codes ": script " ++ script_name script ++ codes " needs --no-scripts"
+refusal_text (PackageDiffers name version field wanted found) =
+    package_text name version
+    (codes "differs from its index: " ++ field_text field wanted ++ codes ", "
+    ++ field_text field found)
+refusal_text (ScriptNeeded name script) =
+    name ++ codes ": script " ++ script_name script ++ codes " needs --no-scripts"
 refusal_text (Reserved path) = path ++ codes ": reserved name"
 refusal_text (PathClash path other) = path ++ codes ": is a folder of " ++ other
-refusal_text (Owned path first second) = path ++ codes ": " ++ first ++ codes " and " ++ second ++ codes " both have it"
+refusal_text (Owned path first second) =
+    path ++ codes ": " ++ first ++ codes " and " ++ second ++ codes " both have it"
 refusal_text (TriggerNeeded name) = name ++ codes ": its trigger needs --no-scripts"
-refusal_text (ResultTooLarge bytes values) = codes "result too large: " ++ decimal bytes ++ codes " bytes, " ++ decimal values ++ codes " values"
+refusal_text (ResultTooLarge bytes values) =
+    codes "result too large: " ++ decimal bytes ++ codes " bytes, " ++ decimal values
+    ++ codes " values"
 
 -- ---- lines
 

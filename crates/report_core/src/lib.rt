@@ -1,16 +1,15 @@
-//! What the package keeper tells a person: the refusals of commands, and a line of text for each, written to a sink
-//! without memory.
+//! What the package keeper tells a person: the refusals of commands, a line of text for each,
+//! written to a sink without memory, and the report of a command that was done.
 //!
-//! The contracts cite `Texts` (the lines of refusals and of faults) of `specs/`.
+//! The contracts cite `Texts` (the lines of refusals and of faults) of `specs/`. `Reports` says
+//! what the reports of commands say.
 #![tactic(auto)]
 
-mod error;
-mod piece;
+mod lines;
 mod refusal;
+mod report;
 mod sentence;
 
-pub use error::write_error;
+pub use lines::write_error;
 pub use refusal::Refusal;
-
-#[cfg(test)]
-mod tests;
+pub use report::Report;

@@ -1,7 +1,7 @@
 //! Makes containers of dump texts, for rows: the other way round of what `adbdump` prints.
 //!
-//! A dump text comes in, and the container goes out that has one block with the values of the text in the writer's
-//! layout, and neither signatures nor contents; or the number of the first line that belongs to no dump text.
+//! A dump text comes in. The container goes out that has one block, with the values of the text in
+//! the writer's layout, and neither signatures nor contents.
 #![tactic(auto)]
 
 mod text;

@@ -1,4 +1,5 @@
-//! Reads the lines of a dump text into a writer. Each value is written as soon as its last line is read.
+//! Reads the lines of a dump text into a writer. Each value is written as soon as its last line is
+//! read.
 use crate::text::{hash, number, text_bytes};
 use adb_tables::{Field, Kind, Which, fields_of};
 use adb_view::Val;

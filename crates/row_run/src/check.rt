@@ -1,7 +1,6 @@
 //! What is seen of a run, beside what is wanted.
-use crate::program::Program;
 use crate::report::{RowFault, compare, compare_numbers, differs};
-use crate::run::Run;
+use crate::run::{Program, Run};
 use crate::start::{are_alike, bytes_of};
 use base_core::Name;
 use row_text::{NamedFile, Step};

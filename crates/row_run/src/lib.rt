@@ -1,16 +1,16 @@
-//! Runs rows: each command line over a tree and two sinks in memory, and compares what is seen with what is wanted.
+//! Runs rows: each command line over a tree and two sinks in memory, and compares what is seen with
+//! what is wanted.
 //!
-//! A program and a text of rows come in. A line for each row goes out, and for a row that fails what differs and where, and last the
-//! count; or the first fault of the text, with its line. Nothing is proved of what is compared: these are tests.
+//! A program and a text of rows come in. A line for each row goes out, and for a row that fails
+//! what differs and where, and last the count; or the first fault of the text, with its line.
+//! Nothing is proved of what is compared: these are tests.
 #![tactic(auto)]
 
 mod check;
-mod program;
 mod report;
 mod run;
 mod start;
 mod sweep;
-mod text;
 
-pub use program::Program;
-pub use text::run_text;
+pub use report::run_text;
+pub use run::Program;

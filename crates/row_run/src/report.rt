@@ -1,5 +1,75 @@
-//! What is printed of a row that fails.
+//! A whole text of rows, and what is printed of each: that it passed, or what differs and where.
+use crate::run::{Program, run_row};
+use row_text::{Fault, read_rows};
 use std::alloc::{AllocError, AllocFailed, Global};
+
+/// Runs all rows of a text, and adds a line for each. Answers whether the text is one of rows and
+/// none failed.
+pub fn run_text<P: Program>(
+    alloc: Global,
+    program: &P,
+    text: &[u8],
+    report: &mut Vec<u8>,
+) -> Result<bool, AllocError> {
+    let rows = match read_rows(alloc, text) {
+        Ok(rows) => rows,
+        Err(fault) => {
+            add_fault(alloc, report, fault)?;
+            return Ok(false);
+        }
+    };
+    let mut left = Vec::new(alloc);
+    let mut failed = 0u64;
+    for row in &rows {
+        let end = match run_row(alloc, program, row, &left) {
+            Ok(tree) => {
+                add_line(report, b"ok ", &row.name, b"")?;
+                Some(tree)
+            }
+            Err(fault) => {
+                failed = failed.saturating_add(1);
+                add_failure(report, &row.name, &fault)?;
+                None
+            }
+        };
+        left.push(end)?;
+    }
+    add_counts(alloc, report, rows.len() as u64, failed)?;
+    Ok(failed == 0)
+}
+
+fn add_fault(alloc: Global, report: &mut Vec<u8>, fault: Fault) -> Result<(), AllocError> {
+    report.extend_from_slice(b"line ")?;
+    add_number(alloc, report, fault.line)?;
+    add_line(report, b": ", fault.trouble.text().as_bytes(), b"")
+}
+
+fn add_failure(report: &mut Vec<u8>, name: &[u8], fault: &RowFault) -> Result<(), AllocError> {
+    report.extend_from_slice(b"FAILED ")?;
+    match fault {
+        RowFault::Differs(text) => add_line(report, name, b": ", text),
+        RowFault::Memory => add_line(report, name, b": ", b"out of memory"),
+    }
+}
+
+fn add_line(report: &mut Vec<u8>, one: &[u8], two: &[u8], three: &[u8]) -> Result<(), AllocError> {
+    report.extend_from_slice(one)?;
+    report.extend_from_slice(two)?;
+    report.extend_from_slice(three)?;
+    report.extend_from_slice(b"\n")
+}
+
+fn add_counts(
+    alloc: Global,
+    report: &mut Vec<u8>,
+    rows: u64,
+    failed: u64,
+) -> Result<(), AllocError> {
+    add_number(alloc, report, rows)?;
+    report.extend_from_slice(b" rows, ")?;
+    add_number(alloc, report, failed)?;
+    report.extend_from_slice(b" failed\n")
+}
 
 /// How many bytes are shown of a text, and how many of them stand before the first that differs.
 const SHOWN: usize = 60;

@@ -1,12 +1,28 @@
-//! One command line over a tree and two sinks.
+//! What rows run, and one command line over a tree and two sinks.
 use crate::check::{check_images, check_run};
-use crate::program::Program;
 use crate::report::RowFault;
 use crate::start::{copy_of, tree_of};
 use crate::sweep::{fail_each, stop_each};
+use base_core::Words;
 use row_text::{Row, SinkPlan, Step, TreePlan};
-use std::alloc::Global;
+use std::alloc::{AllocError, Global};
 use tree_memory::{MemorySink, MemoryTree};
+
+/// A program that rows can run, over a tree and two sinks in memory.
+pub trait Program {
+    /// Runs the words of a command line, without the program's name, and answers the exit status.
+    fn run(
+        &self,
+        alloc: Global,
+        words: &Words,
+        tree: &mut MemoryTree,
+        out: &mut MemorySink,
+        err: &mut MemorySink,
+    ) -> u8;
+
+    /// The container of a dump text, or None where the text is none.
+    fn container_of(&self, alloc: Global, text: &[u8]) -> Result<Option<Vec<u8>>, AllocError>;
+}
 
 /// A run that ended: what it left and what it printed.
 #[derive(Drop)]

@@ -1,6 +1,6 @@
 //! Trees in memory: what a row begins with, and copies.
-use crate::program::Program;
 use crate::report::{RowFault, differs};
+use crate::run::Program;
 use base_core::Name;
 use row_text::{Content, NamedFile, Row};
 use std::alloc::{AllocError, Global};

@@ -1,8 +1,7 @@
 //! A command line with each of its calls failing in turn, and cut off behind each of them.
 use crate::check::{check_images, check_run, check_streams};
-use crate::program::Program;
 use crate::report::{RowFault, compare, compare_numbers, differs, digits};
-use crate::run::{Run, run_once};
+use crate::run::{Program, Run, run_once};
 use crate::start::{are_alike, copy_of};
 use row_text::Step;
 use std::alloc::Global;
@@ -16,8 +15,8 @@ const TREE_FAULT: u64 = 2;
 
 const TREE_FAULT_TEXT: &[u8] = b"ERROR: the tree failed\n";
 
-/// Lets each call fail in turn. A crash then leaves the files of before or of after, and the same command line ends well
-/// when it is run once more.
+/// Lets each call fail in turn. A crash then leaves the files of before or of after, and the same
+/// command line ends well when it is run once more.
 pub(crate) fn fail_each<P: Program>(
     alloc: Global,
     program: &P,
@@ -41,8 +40,8 @@ pub(crate) fn fail_each<P: Program>(
     Err(too_many(alloc, step))
 }
 
-/// Stops behind each call in turn. A crash then leaves the files of before or of after, both are seen, and the same
-/// command line ends well when it is run on what is left.
+/// Stops behind each call in turn. A crash then leaves the files of before or of after, both are
+/// seen, and the same command line ends well when it is run on what is left.
 pub(crate) fn stop_each<P: Program>(
     alloc: Global,
     program: &P,
@@ -86,8 +85,8 @@ fn check_fault(alloc: Global, step: &Step, call: u64, run: &Run) -> Result<(), R
     compare(alloc, line, &what, run.err.bytes(), TREE_FAULT_TEXT)
 }
 
-/// Each image that a crash may leave has the files of before or of after, and a second crash changes nothing. Answers
-/// whether one has those of after.
+/// Each image that a crash may leave has the files of before or of after, and a second crash
+/// changes nothing. Answers whether one has those of after.
 fn look(
     alloc: Global,
     step: &Step,

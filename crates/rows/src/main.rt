@@ -1,5 +1,5 @@
-//! Runs the rows that stand on standard input through `apk`, and prints a line for each. `tests/rows.md` describes their
-//! form.
+//! Runs the rows that stand on standard input through `apk`, and prints a line for each.
+//! `tests/rows.md` describes their form.
 //!
 //! Its stored run has all rows. It ends with 0 where no row failed, else with 1.
 #![tactic(auto)]

@@ -1,11 +1,11 @@
 //! Shows what is reported of texts that are no rows, and of rows that fail.
 //!
-//! Standard input has texts of rows, each behind a line `==== NAME`. Each is run with a program that only echoes: it
-//! prints each word on a line, and is refused where there is none. A text whose last line is `\` has no end of its line
-//! before that.
+//! Standard input has texts of rows, each behind a line `==== NAME`. Each is run with a program
+//! that only echoes: it prints each word on a line, and is refused where there is none. A text
+//! whose last line is `\` has no end of its line before that.
 #![tactic(auto)]
 
-use base_core::{Sink, Words};
+use base_core::{Words, write_all};
 use row_run::{Program, run_text};
 use std::alloc::{AllocError, Global};
 use std::io;
@@ -25,8 +25,8 @@ impl Program for Echo {
         _err: &mut MemorySink,
     ) -> u8 {
         for i in 0..words.len() {
-            let _ = out.write(words.word(i));
-            let _ = out.write(b"\n");
+            let _ = write_all(out, words.word(i));
+            let _ = write_all(out, b"\n");
         }
         if words.is_empty() { 1 } else { 0 }
     }

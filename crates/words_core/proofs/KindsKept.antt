@@ -1,5 +1,5 @@
 -- The flags of a line that is read: each is one of the applet's, and at most one says of which kind the command is.
-use Rattle.std.proofs.Common.{Bool, Err, IfOk, List, None, Ok, Option, Result, Some, [], ap, arith, cond, false, if◌then◌else◌, inl, inr, length, not, refl, subst, suc, sym, take, true, zero, ℕ, ◌+◌, ◌-◌, ◌<◌, ◌∙◌, ◌∷◌, ◌≡◌, ◌≤◌, ◌⊎◌}
+use Rattle.std.proofs.Common.{Bool, Err, IfOk, List, None, Ok, Option, Result, Some, [], ap, arith, cond, false, inl, inr, length, not, refl, subst, suc, sym, take, true, zero, ℕ, ◌+◌, ◌-◌, ◌<◌, ◌∙◌, ◌∷◌, ◌≡◌, ◌≤◌, ◌⊎◌, if◌then◌else◌}
 use Rattle.std.specs.List.{find, list_all, list_any, slice_get}
 use Rattle.std.specs.Prelude.{◌&&◌, ◌||◌}
 use Rattle.std.specs.Str.{bytes_eq}
@@ -11,8 +11,8 @@ use Rattle.command_core.specs.declared.command.Applet.TheVariants.{Adbdump, Add,
 use Rattle.command_core.specs.declared.command.Flag.{Flag}
 use Rattle.command_core.specs.declared.command.Flag.TheVariants.{AllowUntrusted, Check, Contents, Depends, Initdb, Installed, NoScripts, Purge, Simulate, Test, WhoOwns}
 use Rattle.command_core.specs.declared.command.Flags.{Flags}
-use Rattle.command_core.specs.Applets.{allowed_flags, may_have}
-use Rattle.command_core.specs.Flags.{all_flags, are_within, has_flag, has_kind, is_single, kinds, no_flags, with_flag}
+use Rattle.command_core.specs.Sound.{allowed_flags, may_have, all_flags, are_within, is_single}
+use Rattle.command_core.specs.Flags.{has_flag, has_kind, kinds, no_flags, with_flag}
 use Rattle.words_core.specs.declared.options.Meaning.{Meaning}
 use Rattle.words_core.specs.declared.options.Meaning.TheVariants.{Flag as Plain, Kind, Value}
 use Rattle.words_core.specs.declared.reading.AppletSite.{AppletSite}

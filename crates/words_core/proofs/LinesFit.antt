@@ -1,5 +1,5 @@
 -- Flags and values of options that fit together, one more at a time.
-use Rattle.std.proofs.Common.{Bool, List, None, Option, Some, [], ap, false, if◌then◌else◌, not, option_and_then, refl, rules, subst, sym, true, ℕ, ◌++◌, ◌∙◌, ◌∷◌, ◌≡◌}
+use Rattle.std.proofs.Common.{Bool, List, None, Option, Some, [], ap, false, not, option_and_then, refl, rules, subst, sym, true, ℕ, ◌++◌, ◌∙◌, ◌∷◌, ◌≡◌, if◌then◌else◌}
 use Rattle.std.specs.List.{list_all}
 use Rattle.std.specs.Option.{option_map}
 use Rattle.std.specs.Prelude.{is_some, ◌&&◌, ◌==◌, ◌||◌}
@@ -11,9 +11,9 @@ use Rattle.command_core.specs.declared.command.Flag.{Flag}
 use Rattle.command_core.specs.declared.command.Flags.{Flags}
 use Rattle.command_core.specs.declared.values.OptionValue.{OptionValue}
 use Rattle.command_core.specs.declared.values.ValueRule.{ValueRule}
-use Rattle.command_core.specs.Applets.{allowed_flags, may_have}
-use Rattle.command_core.specs.Flags.{are_within, has_flag, has_kind, is_single, kinds, with_flag}
-use Rattle.command_core.specs.Values.{are_apart, are_values, excludes, excludes_by, is_excluded, is_given, is_spent, is_value, is_value_by, option_value, rule_for}
+use Rattle.command_core.specs.Sound.{allowed_flags, may_have, are_within, is_single, are_apart, are_values, excludes_by, is_value_by, rule_for}
+use Rattle.command_core.specs.Flags.{has_flag, has_kind, kinds, with_flag}
+use Rattle.command_core.specs.Values.{excludes, is_excluded, is_given, is_spent, is_value, option_value}
 use Rattle.words_core.specs.declared.options.Meaning.{Meaning}
 use Rattle.words_core.specs.declared.options.Meaning.TheVariants.{Flag as Plain, Kind, Value}
 use Rattle.words_core.specs.declared.reading.OptionState.{OptionState}

@@ -6,10 +6,11 @@ use Rattle.std.proofs.lemmas.Bool.{and_parts, false≢true, le-ltb, leb-true, lt
 use Rattle.command_core.specs.declared.command.Applet.{Applet}
 use Rattle.command_core.specs.declared.operands.Operand.{Operand}
 use Rattle.command_core.specs.declared.operands.OperandRule.{OperandRule}
-use Rattle.command_core.specs.Applets.{may_have, needed_option, operand_rule, value_rules}
-use Rattle.command_core.specs.Command.{CommandLine, is_command}
-use Rattle.command_core.specs.Operands.{are_operands, first_refused, has_room, is_at_most, is_of_kind}
-use Rattle.command_core.specs.Values.{are_values, lacks_value}
+use Rattle.command_core.specs.Applets.{needed_option, operand_rule}
+use Rattle.command_core.specs.Sound.{may_have, value_rules, is_command, are_operands, is_at_most, are_values}
+use Rattle.command_core.specs.Command.{CommandLine}
+use Rattle.command_core.specs.Operands.{first_refused, has_room, is_of_kind}
+use Rattle.command_core.specs.Values.{lacks_value}
 use Rattle.words_core.specs.declared.reading.Reading.{Reading}
 use Rattle.words_core.specs.Grammar.{command_read, lacks_operand, refused_operand, verdict}
 

@@ -1,5 +1,5 @@
 -- Words that are a command are read as it.
-use Rattle.std.proofs.Common.{Bool, List, None, Ok, Option, Result, Some, [], ap, append-nil, arith, drop, false, if◌then◌else◌, length, option_and_then, refl, subst, suc, sym, take, true, ℕ, ◌++◌, ◌+◌, ◌-◌, ◌∙◌, ◌∷◌, ◌≡◌, ◌≤◌}
+use Rattle.std.proofs.Common.{Bool, List, None, Ok, Option, Result, Some, [], ap, append-nil, arith, drop, false, length, option_and_then, refl, subst, suc, sym, take, true, ℕ, ◌++◌, ◌+◌, ◌-◌, ◌∙◌, ◌∷◌, ◌≡◌, ◌≤◌, if◌then◌else◌}
 use Rattle.std.specs.List.{list_all}
 use Rattle.std.specs.Option.{option_map}
 use Rattle.std.specs.Prelude.{◌||◌}
@@ -12,11 +12,11 @@ use Rattle.command_core.specs.declared.command.Flags.{Flags}
 use Rattle.command_core.specs.declared.operands.Operand.{Operand}
 use Rattle.command_core.specs.declared.values.OptionValue.{OptionValue}
 use Rattle.command_core.specs.declared.values.ValueRule.{ValueRule}
-use Rattle.command_core.specs.Applets.{may_have, value_rules}
-use Rattle.command_core.specs.Command.{CommandLine, command_by, is_command}
+use Rattle.command_core.specs.Sound.{may_have, value_rules, is_command, are_values, rule_for}
+use Rattle.command_core.specs.Command.{CommandLine, command_by}
 use Rattle.command_core.specs.Flags.{no_flags}
 use Rattle.command_core.specs.Operands.{operand_at}
-use Rattle.command_core.specs.Values.{are_values, is_spent, option_value, rule_for}
+use Rattle.command_core.specs.Values.{is_spent, option_value}
 use Rattle.words_core.specs.declared.options.Meaning.{Meaning}
 use Rattle.words_core.specs.declared.options.Meaning.TheVariants.{Flag as Plain, Kind, Value}
 use Rattle.words_core.specs.declared.reading.AppletSite.{AppletSite}

@@ -1,5 +1,5 @@
 -- Words of which a command is read are that command.
-use Rattle.std.proofs.Common.{Bool, Err, IfOk, List, None, Ok, Option, Result, Some, [], ap, append-nil, append_assoc, arith, drop, false, if◌then◌else◌, inl, inr, length, not, option_and_then, refl, subst, suc, sym, take, true, ℕ, ◌++◌, ◌+◌, ◌-◌, ◌∙◌, ◌∷◌, ◌≡◌, ◌≤◌}
+use Rattle.std.proofs.Common.{Bool, Err, IfOk, List, None, Ok, Option, Result, Some, [], ap, append-nil, append_assoc, arith, drop, false, inl, inr, length, not, option_and_then, refl, subst, suc, sym, take, true, ℕ, ◌++◌, ◌+◌, ◌-◌, ◌∙◌, ◌∷◌, ◌≡◌, ◌≤◌, if◌then◌else◌}
 use Rattle.std.specs.List.{list_all, list_any}
 use Rattle.std.specs.Option.{option_map, option_or}
 use Rattle.std.specs.Prelude.{is_some, ◌&&◌, ◌||◌}
@@ -15,7 +15,8 @@ use Rattle.command_core.specs.declared.operands.OperandRule.{OperandRule}
 use Rattle.command_core.specs.declared.values.OptionValue.{OptionValue}
 use Rattle.command_core.specs.declared.values.ValueRule.{ValueRule}
 use Rattle.command_core.specs.Applets.{needed_option, operand_rule}
-use Rattle.command_core.specs.Command.{CommandLine, is_command}
+use Rattle.command_core.specs.Command.{CommandLine}
+use Rattle.command_core.specs.Sound.{is_command}
 use Rattle.command_core.specs.Flags.{has_flag, has_kind, no_flags, with_flag}
 use Rattle.command_core.specs.Operands.{operand_at}
 use Rattle.command_core.specs.Values.{is_excluded, is_spent, is_value, lacks_value, option_value}

@@ -1,5 +1,5 @@
 -- What follows a command offends behind it.
-use Rattle.std.proofs.Common.{Err, List, None, Ok, Some, [], ap, arith, drop, false, if◌then◌else◌, inl, inr, length, length-append, length-drop, refl, subst, sym, true, ℕ, ◌++◌, ◌+◌, ◌<◌, ◌∙◌, ◌∷◌, ◌≡◌, ◌≤◌}
+use Rattle.std.proofs.Common.{Err, List, None, Ok, Some, [], ap, arith, drop, false, inl, inr, length, length-append, length-drop, refl, subst, sym, true, ℕ, ◌++◌, ◌+◌, ◌<◌, ◌∙◌, ◌∷◌, ◌≡◌, ◌≤◌, if◌then◌else◌}
 use Rattle.std.specs.Option.{option_or}
 use Rattle.std.proofs.lemmas.Option.{none-some}
 use Rattle.command_core.specs.declared.command.Applet.{Applet}

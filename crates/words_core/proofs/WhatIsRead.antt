@@ -1,5 +1,5 @@
 -- What is read is a command.
-use Rattle.std.proofs.Common.{List, None, Option, Some, [], ap, arith, false, if◌then◌else◌, length, not, refl, sym, true, ℕ, ◌+◌, ◌<◌, ◌∙◌, ◌∷◌, ◌≡◌, ◌≤◌}
+use Rattle.std.proofs.Common.{List, None, Option, Some, [], ap, arith, false, length, not, refl, sym, true, ℕ, ◌+◌, ◌<◌, ◌∙◌, ◌∷◌, ◌≡◌, ◌≤◌, if◌then◌else◌}
 use Rattle.std.specs.List.{list_all}
 use Rattle.std.specs.Prelude.{nat_le, ◌&&◌}
 use Rattle.std.proofs.lemmas.Bool.{and_from, and_parts, le-leb, ltb-true}
@@ -9,10 +9,11 @@ use Rattle.command_core.specs.declared.command.Flags.{Flags}
 use Rattle.command_core.specs.declared.operands.Operand.{Operand}
 use Rattle.command_core.specs.declared.operands.OperandRule.{OperandRule}
 use Rattle.command_core.specs.declared.values.OptionValue.{OptionValue}
-use Rattle.command_core.specs.Applets.{may_have, needed_option, operand_rule, value_rules}
-use Rattle.command_core.specs.Command.{command_by, is_command}
-use Rattle.command_core.specs.Operands.{are_operands, first_refused, has_room, is_at_most, is_of_kind, takes}
-use Rattle.command_core.specs.Values.{are_values, is_given, lacks_value}
+use Rattle.command_core.specs.Applets.{needed_option, operand_rule}
+use Rattle.command_core.specs.Sound.{may_have, value_rules, is_command, are_operands, is_at_most, are_values}
+use Rattle.command_core.specs.Command.{command_by}
+use Rattle.command_core.specs.Operands.{first_refused, has_room, is_of_kind, takes}
+use Rattle.command_core.specs.Values.{is_given, lacks_value}
 
 -- operands that are taken are of the rule's kind
 pub all_of_kind : (rule : OperandRule) (before : ℕ) (operands : List Operand) → first_refused rule before operands ≡ None → list_all (λ (o : Operand). is_of_kind rule.kind o.text) operands ≡ true

@@ -1,5 +1,5 @@
 -- Words that lack a word can be completed, unless they are stuck: where their applet was found.
-use Rattle.std.proofs.Common.{Bool, Err, List, None, Ok, Option, Some, [], ap, append-nil, arith, codes, drop, false, if◌then◌else◌, inl, inr, is_some, length, length-append, not, refl, subst, suc, sym, true, zero, ℕ, ◌++◌, ◌+◌, ◌-◌, ◌<◌, ◌∙◌, ◌∷◌, ◌≡◌, ◌≤◌}
+use Rattle.std.proofs.Common.{Bool, Err, List, None, Ok, Option, Some, [], ap, append-nil, arith, codes, drop, false, inl, inr, is_some, length, length-append, not, refl, subst, suc, sym, true, zero, ℕ, ◌++◌, ◌+◌, ◌-◌, ◌<◌, ◌∙◌, ◌∷◌, ◌≡◌, ◌≤◌, if◌then◌else◌}
 use Rattle.base_core.specs.Name.{is_name}
 use Rattle.dep_core.specs.Reading.{at_name, at_name_end, dependency_of}
 use Rattle.std.specs.List.{list_all, list_any}
@@ -24,10 +24,11 @@ use Rattle.command_core.specs.declared.values.TheConstants.{OUTPUT}
 use Rattle.command_core.specs.declared.values.ValueKind.{ValueKind}
 use Rattle.command_core.specs.declared.values.ValueKind.TheVariants.{Any as AnyText, File as FileName, Nonempty, Output, Script, Uncompressed}
 use Rattle.command_core.specs.declared.values.ValueRule.{ValueRule}
-use Rattle.command_core.specs.Applets.{allowed_flags, info_operands, may_have, needed_option, operand_rule, version_operands}
+use Rattle.command_core.specs.Applets.{info_operands, needed_option, operand_rule, version_operands}
+use Rattle.command_core.specs.Sound.{allowed_flags, may_have, are_within, is_single, is_at_most}
 use Rattle.command_core.specs.Command.{CommandLine}
-use Rattle.command_core.specs.Flags.{are_within, has_flag, has_kind, is_single, kinds, with_flag}
-use Rattle.command_core.specs.Operands.{at_least, exactly, first_refused, is_at_most, is_of_kind, operand_at, takes}
+use Rattle.command_core.specs.Flags.{has_flag, has_kind, kinds, with_flag}
+use Rattle.command_core.specs.Operands.{at_least, exactly, first_refused, is_of_kind, operand_at, takes}
 use Rattle.command_core.specs.Values.{excludes, is_excluded, is_given, is_script, is_value, lacks_value, option_value, output_rule, script_type, script_types}
 use Rattle.words_core.specs.declared.reading.OptionState.{OptionState}
 use Rattle.words_core.specs.declared.reading.Reading.{Reading}

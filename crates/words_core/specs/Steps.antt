@@ -1,8 +1,7 @@
 -- What a step of the reader says.
 use Rattle.std.specs.Prelude.{◌≡◌, Bool, true, false, Option, Some, None, IsTrue}
 use Rattle.command_core.specs.declared.command.Applet.{Applet}
-use Rattle.command_core.specs.Applets.{may_have, value_rules}
-use Rattle.command_core.specs.Values.{are_values}
+use Rattle.command_core.specs.Sound.{may_have, value_rules, are_values}
 use Rattle.words_core.specs.declared.reading.OptionState.{OptionState}
 use Rattle.words_core.specs.declared.reading.Reading.{Reading}
 
@@ -14,4 +13,5 @@ IsStep false old new more = (more ≡ None) × (new ≡ old)
 -- what was read behind an applet is its own: at most one kind, and values that may stand together
 abbrev pub IsSoundReading : Applet → Reading → Type 0
 IsSoundReading applet reading =
-    IsTrue (may_have applet reading.state.flags) × IsTrue (are_values (value_rules applet) reading.state.values)
+    IsTrue (may_have applet reading.state.flags)
+    × IsTrue (are_values (value_rules applet) reading.state.values)

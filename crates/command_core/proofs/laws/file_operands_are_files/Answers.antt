@@ -1,5 +1,5 @@
 use Rattle.std.proofs.Common.{◌≡◌, true, subst}
-use Rattle.command_core.specs.Operands.{are_operands}
+use Rattle.command_core.specs.Sound.{are_operands}
 use Rattle.command_core.proofs.Parts.{files_of_kind, has_parts}
 use Rattle.command_core.proofs.laws.file_operands_are_files.Goals as goal
 

@@ -1,7 +1,6 @@
 use Rattle.std.proofs.Common.{◌≡◌, true, subst}
-use Rattle.command_core.specs.declared.values.TheConstants.{FILES, OUTPUT, SCRIPT}
-use Rattle.command_core.specs.Applets.{value_rules}
-use Rattle.command_core.specs.Values.{is_value_by, rule_for}
+use Rattle.command_core.specs.declared.values.TheConstants.{FILES, OUTPUT}
+use Rattle.command_core.specs.Sound.{value_rules, is_value_by, rule_for}
 use Rattle.command_core.proofs.Parts.{folder_by, has_parts, output_by, script_by, value_at, value_found}
 use Rattle.command_core.proofs.laws.values_are_of_their_kind.Goals as goal
 

@@ -1,7 +1,7 @@
-use Rattle.std.proofs.Common.{◌≡◌, Some, None, refl, sym, ◌∙◌, ap}
+use Rattle.std.proofs.Common.{refl, sym, ◌∙◌, ap}
 use Rattle.std.specs.Option.{option_map}
 use Rattle.std.proofs.lemmas.Option.{none-some, slice_get_read}
-use Rattle.command_core.specs.Operands.{operand_file}
+use Rattle.command_core.specs.Named.{operand_file}
 use Rattle.command_core.specs.declared.operands.OperandEntry.{OperandEntry}
 use Rattle.command_core.proofs.Named.{inside, operand_named}
 use Rattle.command_core.proofs.operands.Operands.file.Goals as goal

@@ -1,0 +1,28 @@
+-- The names of operands and values that are files.
+use Rattle.std.specs.Prelude.{ℕ, ◌==◌, Bool, List, Option, Some, None, if◌then◌else◌}
+use Rattle.std.specs.List.{list_all}
+use Rattle.command_core.specs.declared.operands.Operand.{Operand}
+use Rattle.command_core.specs.declared.values.OptionValue.{OptionValue}
+use Rattle.command_core.specs.declared.values.TheConstants.{SCRIPT}
+use Rattle.command_core.specs.Files.{is_file, without_dot}
+use Rattle.command_core.specs.Values.{script_file}
+
+-- the name of the file that a text names; None where it names none
+abbrev pub file_name : List ℕ → Option (List ℕ)
+file_name text = if is_file text then Some (without_dot text) else None
+
+-- the name of the file that an operand is
+abbrev pub operand_file : Operand → List ℕ
+operand_file operand = without_dot operand.text
+
+abbrev pub are_files : List Operand → Bool
+are_files operands = list_all (λ (o : Operand). is_file o.text) operands
+
+-- the part of a value of the option with a letter that may name a file: of a script the part behind
+-- the first `:`
+abbrev pub file_part : ℕ → List ℕ → List ℕ
+file_part letter text = if letter == SCRIPT then script_file text else text
+
+-- the name of the file in a value; None where there is none
+abbrev pub file_in : OptionValue → Option (List ℕ)
+file_in v = file_name (file_part v.letter v.text)

@@ -1,0 +1,120 @@
+-- When flags, operands and values are a command's: each is one that its applet may have, and none
+-- is lacking.
+use Rattle.std.specs.Prelude.{ℕ, ◌==◌, nat_le, Bool, true, false, not, ◌&&◌, ◌||◌, List, [], ◌∷◌, length, Option, Some, None, IsTrue}
+use Rattle.std.specs.List.{find, list_all, list_any}
+use Rattle.command_core.specs.declared.command.Applet.{Applet}
+use Rattle.command_core.specs.declared.command.Applet.TheVariants.{Add, Del, Upgrade, Fix, Info, Mkpkg, Mkndx, Version}
+use Rattle.command_core.specs.declared.command.Flag.{Flag}
+use Rattle.command_core.specs.declared.command.Flag.TheVariants.{AllowUntrusted, NoScripts, Initdb, Simulate, Purge, Installed, Contents, Depends, WhoOwns, Test, Check}
+use Rattle.command_core.specs.declared.command.Flags.{Flags}
+use Rattle.command_core.specs.declared.operands.Operand.{Operand}
+use Rattle.command_core.specs.declared.operands.OperandRule.{OperandRule}
+use Rattle.command_core.specs.declared.values.OptionValue.{OptionValue}
+use Rattle.command_core.specs.declared.values.ValueRule.{ValueRule}
+use Rattle.command_core.specs.Applets.{needed_option, operand_rule}
+use Rattle.command_core.specs.Command.{CommandLine}
+use Rattle.command_core.specs.Flags.{has_flag, kinds, no_flags, with_flag}
+use Rattle.command_core.specs.Operands.{is_of_kind}
+use Rattle.command_core.specs.Values.{compression_rule, description_rule, excludes, files_rule, info_rule, is_value, lacks_value, output_rule, script_rule, trigger_rule}
+
+-- ---- flags
+
+abbrev pub all_flags : List Flag
+all_flags =
+    AllowUntrusted ∷ (NoScripts ∷ (Initdb ∷ (Simulate ∷ (Purge ∷
+    (Installed ∷ (Contents ∷ (Depends ∷ (WhoOwns ∷ (Test ∷ (Check ∷ []))))))))))
+
+-- whether of some flags at most one was given
+abbrev pub is_single : List Flag → Flags → Bool
+is_single [] flags = true
+is_single (flag ∷ others) flags =
+    not (has_flag flag flags && list_any (λ other. has_flag other flags) others)
+    && is_single others flags
+
+-- whether each flag that was given is among those that are allowed
+abbrev pub are_within : Flags → Flags → Bool
+are_within allowed flags =
+    list_all (λ flag. not (has_flag flag flags) || has_flag flag allowed) all_flags
+
+-- the flags of every applet
+abbrev pub common_flags : Flags
+common_flags = with_flag AllowUntrusted (with_flag NoScripts no_flags)
+
+-- the flags that an applet may have
+abbrev pub allowed_flags : Applet → Flags
+allowed_flags Add = with_flag Initdb (with_flag Simulate common_flags)
+allowed_flags Del = with_flag Simulate (with_flag Purge common_flags)
+allowed_flags Upgrade = with_flag Simulate common_flags
+allowed_flags Fix = with_flag Simulate common_flags
+allowed_flags Info =
+    with_flag Installed (with_flag Contents (with_flag Depends (with_flag WhoOwns common_flags)))
+allowed_flags Version = with_flag Test (with_flag Check common_flags)
+allowed_flags applet = common_flags
+
+-- whether an applet may have some flags: each is one of its own, and at most one says of which kind
+-- the command is
+abbrev pub may_have : Applet → Flags → Bool
+may_have applet flags = are_within (allowed_flags applet) flags && is_single kinds flags
+
+-- ---- operands
+
+-- whether there are no more operands than a rule takes
+abbrev pub is_at_most : Option ℕ → ℕ → Bool
+is_at_most None count = true
+is_at_most (Some most) count = nat_le count most
+
+-- whether operands are those of an applet: each of its kind, and as many as it takes. There are
+-- none of an applet that lacks its kind
+abbrev pub are_operands : Option OperandRule → List Operand → Bool
+are_operands None operands = false
+are_operands (Some rule) operands =
+    nat_le rule.least (length operands) && is_at_most rule.most (length operands)
+    && list_all (λ (o : Operand). is_of_kind rule.kind o.text) operands
+
+-- ---- options with values
+
+-- the rules of the options of an applet that have values
+abbrev pub value_rules : Applet → List ValueRule
+value_rules Mkpkg =
+    info_rule ∷ (script_rule ∷ (trigger_rule ∷
+    (files_rule ∷ (output_rule ∷ (compression_rule ∷ [])))))
+value_rules Mkndx = description_rule ∷ (output_rule ∷ (compression_rule ∷ []))
+value_rules applet = []
+
+-- the rule of the option with a letter, among some
+abbrev pub rule_for : List ValueRule → ℕ → Option ValueRule
+rule_for rules letter = find (λ (rule : ValueRule). rule.letter == letter) rules
+
+-- whether a value is one of its option; None: there is no such option
+abbrev pub is_value_by : Option ValueRule → List ℕ → Bool
+is_value_by None text = false
+is_value_by (Some rule) text = is_value rule.kind text
+
+-- whether two values of one option exclude each other
+abbrev pub excludes_by : Option ValueRule → List ℕ → List ℕ → Bool
+excludes_by None a b = false
+excludes_by (Some rule) a b = rule.single || excludes rule.kind a b
+
+abbrev pub are_apart : List ValueRule → OptionValue → OptionValue → Bool
+are_apart rules a b =
+    not ((a.letter == b.letter) && excludes_by (rule_for rules a.letter) a.text b.text)
+
+-- whether values are ones of options with these rules, and no two of them exclude each other
+abbrev pub are_values : List ValueRule → List OptionValue → Bool
+are_values rules [] = true
+are_values rules (v ∷ vs) =
+    is_value_by (rule_for rules v.letter) v.text && list_all (are_apart rules v) vs
+    && are_values rules vs
+
+-- ---- the command
+
+-- whether flags, operands and values are ones that the applet may have together, and none is
+-- lacking
+abbrev pub is_command : CommandLine → Bool
+is_command c =
+    may_have c.applet c.flags && are_operands (operand_rule c.applet c.flags) c.operands
+    && are_values (value_rules c.applet) c.values
+    && not (lacks_value (needed_option c.applet) c.values)
+
+abbrev pub IsCommand : CommandLine → Type 0
+IsCommand command = IsTrue (is_command command)

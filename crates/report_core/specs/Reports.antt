@@ -1,0 +1,106 @@
+-- What the reports of commands say (apk(8)). Each line ends with a line end.
+use Rattle.std.specs.Prelude.{ℕ, ◌+◌, List, [], ◌∷◌, ◌++◌, codes, length}
+use Rattle.std.specs.Fmt.{decimal}
+use Rattle.std.specs.List.{flat_map}
+
+abbrev pub report_line : List ℕ → List ℕ
+report_line text = text ++ codes "\n"
+
+-- lines, one behind another
+abbrev pub report_lines : List (List ℕ) → List ℕ
+report_lines texts = flat_map report_line texts
+
+-- NAME-VERSION
+abbrev pub name_version : List ℕ → List ℕ → List ℕ
+name_version name version = name ++ codes "-" ++ version
+
+-- ---- changes
+
+-- what becomes of a package: it gets a version, gets it again, or goes; or its version is replaced
+-- by a greater one, a smaller one, or one that is equal in order
+pub data Change : Type 0 where
+  Install : List ℕ → List ℕ → Change
+  Reinstall : List ℕ → List ℕ → Change
+  Purge : List ℕ → List ℕ → Change
+  Upgrade : List ℕ → List ℕ → List ℕ → Change
+  Downgrade : List ℕ → List ℕ → List ℕ → Change
+  Replace : List ℕ → List ℕ → List ℕ → Change
+
+-- a package at a version
+abbrev pub at_version : List ℕ → List ℕ → List ℕ
+at_version name version = name ++ codes " (" ++ version ++ codes ")"
+
+-- a package from one version to another
+abbrev pub from_version_to : List ℕ → List ℕ → List ℕ → List ℕ
+from_version_to name old new = name ++ codes " (" ++ old ++ codes " -> " ++ new ++ codes ")"
+
+abbrev pub change_text : Change → List ℕ
+change_text (Install name version) = codes "Installing " ++ at_version name version
+change_text (Reinstall name version) = codes "Reinstalling " ++ at_version name version
+change_text (Purge name version) = codes "Purging " ++ at_version name version
+change_text (Upgrade name old new) = codes "Upgrading " ++ from_version_to name old new
+change_text (Downgrade name old new) = codes "Downgrading " ++ from_version_to name old new
+change_text (Replace name old new) = codes "Replacing " ++ from_version_to name old new
+
+-- a change with its number and how many there are
+abbrev pub numbered_change : ℕ → ℕ → Change → List ℕ
+numbered_change number count change =
+    codes "(" ++ decimal number ++ codes "/" ++ decimal count ++ codes ") " ++ change_text change
+
+-- the lines of changes, the first of which has a number
+abbrev pub change_lines_from : ℕ → ℕ → List Change → List ℕ
+change_lines_from number count [] = []
+change_lines_from number count (change ∷ changes) =
+    report_line (numbered_change number count change)
+    ++ change_lines_from (number + 1) count changes
+
+abbrev pub change_lines : List Change → List ℕ
+change_lines changes = change_lines_from 1 (length changes) changes
+
+-- ---- what else is told of a change
+
+-- texts with a space between
+abbrev pub spaced_behind : List (List ℕ) → List ℕ
+spaced_behind [] = []
+spaced_behind (text ∷ texts) = codes " " ++ text ++ spaced_behind texts
+
+-- a package that was to go and stays, with the names of those that need it, if there are any
+abbrev pub stays_text : List ℕ → List (List ℕ) → List ℕ
+stays_text name [] = name ++ codes " stays"
+stays_text name (first ∷ others) =
+    name ++ codes " stays; required by:" ++ spaced_behind (first ∷ others)
+
+-- the folder of a due trigger; the root folder is printed as `/`
+abbrev pub folder_text : List ℕ → List ℕ
+folder_text [] = codes "/"
+folder_text (b ∷ bytes) = b ∷ bytes
+
+abbrev pub trigger_text : List ℕ → List ℕ → List ℕ
+trigger_text name folder = name ++ codes ": trigger due for " ++ folder_text folder
+
+-- the sum of the installed sizes, and how many packages there are
+abbrev pub sum_text : ℕ → ℕ → List ℕ
+sum_text bytes packages =
+    codes "OK: " ++ decimal bytes ++ codes " bytes in " ++ decimal packages ++ codes " packages"
+
+-- ---- `info`: a heading, what it heads, and an empty line
+
+abbrev pub section : List ℕ → List (List ℕ) → List ℕ
+section heading texts = report_line heading ++ report_lines texts ++ codes "\n"
+
+abbrev pub description_section : List ℕ → List ℕ → List ℕ → List ℕ
+description_section name version description =
+    section (name_version name version ++ codes " description:") (description ∷ [])
+
+abbrev pub contents_section : List ℕ → List ℕ → List (List ℕ) → List ℕ
+contents_section name version paths =
+    section (name_version name version ++ codes " contains:") paths
+
+abbrev pub depends_section : List ℕ → List ℕ → List (List ℕ) → List ℕ
+depends_section name version dependencies =
+    section (name_version name version ++ codes " depends on:") dependencies
+
+-- the package that a path is of
+abbrev pub owner_text : List ℕ → List ℕ → List ℕ → List ℕ
+owner_text path name version =
+    codes "/" ++ path ++ codes " is owned by " ++ name_version name version

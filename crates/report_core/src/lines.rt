@@ -1,0 +1,133 @@
+//! The lines of refusals: texts put together from pieces, and written to a sink without memory.
+ghost use Rattle.std.specs.Prelude.{◌≡◌, [], ◌∷◌, decimal};
+ghost use Rattle.base_core.specs.Sink.{sink_change};
+ghost use Rattle.base_core.specs.Write.{Writes};
+ghost use Rattle.hex.specs.Hex.{encode_lower};
+ghost use Rattle.report_core.specs.Pieces.{cause_part, piece_text, pieces_text, sentence_text};
+ghost use Rattle.report_core.specs.Texts.{digest_bytes, position_text, refusal_line};
+
+use crate::refusal::Refusal;
+use crate::sentence::{Sentence, cause_pieces, sentence_of};
+use base_core::{Cause, Digest, Sink, SinkFault, write_all};
+use itoa::Buffer;
+
+/// Writes the line of a refusal. After a fault a front of it was written.
+pub fn write_error<E: Sink>(refusal: &Refusal, err: &mut E) -> Result<(), SinkFault>
+    ensures { Writes (refusal_line refusal.now)
+        (sink_change E.bytes E.counts err.old err.new) result }
+{
+    let sentence = sentence_of(refusal);
+    write_all(err, b"ERROR: ")?;
+    write_sentence(&sentence, err)?;
+    write_all(err, b"\n")
+}
+
+fn write_sentence<E: Sink>(sentence: &Sentence<'_>, err: &mut E) -> Result<(), SinkFault>
+    ensures { Writes (sentence_text sentence.now)
+        (sink_change E.bytes E.counts err.old err.new) result }
+{
+    write_pieces(&sentence.pieces, err)?;
+    write_cause(sentence.cause, err)
+}
+
+fn write_cause<E: Sink>(cause: Option<Cause>, err: &mut E) -> Result<(), SinkFault>
+    ensures { Writes (cause_part cause) (sink_change E.bytes E.counts err.old err.new) result }
+{
+    match cause {
+        Some(cause) => write_pieces(&cause_pieces(cause), err),
+        None => Ok(()),
+    }
+}
+
+/// A piece of a text.
+#[derive(Clone, Copy)]
+pub(crate) enum Piece<'a> {
+    /// Bytes as they stand.
+    Bytes(&'a [u8]),
+    /// A number, in decimal digits.
+    Number(u64),
+    /// A value's word, in eight hexadecimal digits.
+    Word(u32),
+    /// Bytes, in two hexadecimal digits each.
+    Hex(&'a [u8]),
+    /// A digest, in hexadecimal digits.
+    Digest(Digest),
+    /// The positions of a folder and of a file in it.
+    Position(u64, u64),
+    /// No text.
+    Nothing,
+}
+
+/// The pieces of a text.
+pub(crate) type Pieces<'a> = [Piece<'a>; 7];
+
+/// Adds all the pieces, in order. After a fault a front of their text was added.
+pub(crate) fn write_pieces<S: Sink>(pieces: &[Piece<'_>], sink: &mut S) -> Result<(), SinkFault>
+    ensures { Writes (pieces_text pieces.now)
+        (sink_change S.bytes S.counts sink.old sink.new) result }
+{
+    for piece in pieces {
+        write_piece(piece, sink)?;
+    }
+    Ok(())
+}
+
+fn write_piece<S: Sink>(piece: &Piece<'_>, sink: &mut S) -> Result<(), SinkFault>
+    ensures { Writes (piece_text piece.now)
+        (sink_change S.bytes S.counts sink.old sink.new) result }
+{
+    match *piece {
+        Piece::Bytes(bytes) => write_all(sink, bytes),
+        Piece::Number(number) => write_number(number, sink),
+        Piece::Word(word) => write_hex(&word.to_be_bytes(), sink),
+        Piece::Hex(bytes) => write_hex(bytes, sink),
+        Piece::Digest(digest) => write_hex(digest_bytes(&digest), sink),
+        Piece::Position(folder, file) => write_position(folder, file, sink),
+        Piece::Nothing => Ok(()),
+    }
+}
+
+fn write_position<S: Sink>(folder: u64, file: u64, sink: &mut S) -> Result<(), SinkFault>
+    ensures { Writes (position_text folder file)
+        (sink_change S.bytes S.counts sink.old sink.new) result }
+{
+    write_number(folder, sink)?;
+    write_all(sink, b".")?;
+    write_number(file, sink)
+}
+
+fn write_number<S: Sink>(number: u64, sink: &mut S) -> Result<(), SinkFault>
+    ensures { Writes (decimal number) (sink_change S.bytes S.counts sink.old sink.new) result }
+{
+    let mut digits = Buffer::new();
+    write_all(sink, digits.format(number).as_bytes())
+}
+
+fn write_hex<S: Sink>(bytes: &[u8], sink: &mut S) -> Result<(), SinkFault>
+    ensures { Writes (encode_lower bytes.now)
+        (sink_change S.bytes S.counts sink.old sink.new) result }
+{
+    for byte in bytes {
+        write_all(sink, &hex_digits(*byte))?;
+    }
+    Ok(())
+}
+
+fn hex_digits(byte: u8) -> [u8; 2]
+    ensures { result ≡ encode_lower (byte ∷ []) }
+{
+    let mut digits = [0; 2];
+    let _ = hex::encode_to_slice([byte], &mut digits);
+    digits
+}
+
+// The bytes of a digest.
+fn digest_bytes(digest: &Digest) -> &[u8]
+    ensures { result.now ≡ digest_bytes digest.now }
+{
+    match digest {
+        Digest::Sha1(bytes) => bytes,
+        Digest::Sha256(bytes) => bytes,
+        Digest::Sha512(bytes) => bytes,
+    }
+}

@@ -1,0 +1,251 @@
+//! Parts of a row: the files that stand there before and behind a command line, and what goes wrong
+//! while it runs.
+use crate::reader::{Form, Reader, Target, first_word};
+use crate::row::{Content, NamedFile, SinkPlan, TreePlan, Trouble};
+use crate::words::{add_hex, number};
+use base_core::Name;
+use std::alloc::Global;
+
+/// Files.
+impl Reader {
+    /// A row that a host's folder may not carry. Here all rows run in memory, so nothing else is to
+    /// be kept of it.
+    pub(crate) fn keep_in_memory(&mut self, rest: &[u8]) -> Result<(), Trouble> {
+        if rest != b"memory".as_slice() {
+            return Err(Trouble::BadShape);
+        }
+        match &self.row {
+            Some(_) => Ok(()),
+            None => Err(Trouble::NoRow),
+        }
+    }
+
+    /// A file that stands there before the first command line.
+    pub(crate) fn add_given(&mut self, rest: &[u8]) -> Result<(), Trouble> {
+        if self.step.is_some() {
+            return Err(Trouble::OutOfPlace);
+        }
+        let (path, kind) = first_word(rest);
+        let form = form_of(kind)?;
+        let file = NamedFile {
+            name: name_of(self.alloc, path)?,
+            content: content(self.alloc, form, self.line),
+        };
+        let Some(row) = &mut self.row else {
+            return Err(Trouble::NoRow);
+        };
+        row.files.push(file)?;
+        self.target = Target::Given(form);
+        Ok(())
+    }
+
+    /// What stands at a path behind the command line.
+    pub(crate) fn add_wanted(&mut self, rest: &[u8]) -> Result<(), Trouble> {
+        let (path, kind) = first_word(rest);
+        let name = name_of(self.alloc, path)?;
+        if kind == b"absent".as_slice() {
+            let content = Content::Absent;
+            return self.push_wanted(NamedFile { name, content });
+        }
+        let form = form_of(kind)?;
+        let content = content(self.alloc, form, self.line);
+        self.push_wanted(NamedFile { name, content })?;
+        self.target = Target::Wanted(form);
+        Ok(())
+    }
+
+    fn push_wanted(&mut self, file: NamedFile) -> Result<(), Trouble> {
+        let Some(step) = &mut self.step else {
+            return Err(Trouble::NoCommand);
+        };
+        step.files.push(file)?;
+        Ok(())
+    }
+
+    /// A line of the file that was named last.
+    pub(crate) fn add_piece(&mut self, piece: &[u8]) -> Result<(), Trouble> {
+        match self.target {
+            Target::Given(form) => {
+                let Some(row) = &mut self.row else {
+                    return Err(Trouble::OutOfPlace);
+                };
+                add_to_last(&mut row.files, form, piece)
+            }
+            Target::Wanted(form) => {
+                let Some(step) = &mut self.step else {
+                    return Err(Trouble::OutOfPlace);
+                };
+                add_to_last(&mut step.files, form, piece)
+            }
+            _ => Err(Trouble::OutOfPlace),
+        }
+    }
+
+    /// The last line of a text has no end.
+    pub(crate) fn cut_line_end(&mut self, rest: &[u8]) -> Result<(), Trouble> {
+        if !rest.is_empty() {
+            return Err(Trouble::BadShape);
+        }
+        let target = self.target;
+        self.target = Target::Nothing;
+        match target {
+            Target::Given(Form::Text) => match &mut self.row {
+                Some(row) => cut_last(&mut row.files),
+                None => Err(Trouble::OutOfPlace),
+            },
+            Target::Wanted(Form::Text) => match &mut self.step {
+                Some(step) => cut_last(&mut step.files),
+                None => Err(Trouble::OutOfPlace),
+            },
+            Target::Out => match &mut self.step {
+                Some(step) => cut(&mut step.out),
+                None => Err(Trouble::OutOfPlace),
+            },
+            Target::Err => match &mut self.step {
+                Some(step) => cut(&mut step.err),
+                None => Err(Trouble::OutOfPlace),
+            },
+            _ => Err(Trouble::OutOfPlace),
+        }
+    }
+}
+
+pub(crate) fn name_of(alloc: Global, path: &[u8]) -> Result<Name, Trouble> {
+    match Name::read(alloc, path)? {
+        Some(name) => Ok(name),
+        None => Err(Trouble::BadPath),
+    }
+}
+
+fn form_of(word: &[u8]) -> Result<Form, Trouble> {
+    match word {
+        b"text" => Ok(Form::Text),
+        b"hex" => Ok(Form::Hex),
+        b"dump" => Ok(Form::Dump),
+        _ => Err(Trouble::UnknownWord),
+    }
+}
+
+/// A file of a form before its first line.
+fn content(alloc: Global, form: Form, line: u64) -> Content {
+    match form {
+        Form::Text | Form::Hex => Content::Bytes(Vec::new(alloc)),
+        Form::Dump => Content::Dump {
+            text: Vec::new(alloc),
+            line,
+        },
+    }
+}
+
+fn add_to_last(files: &mut Vec<NamedFile>, form: Form, piece: &[u8]) -> Result<(), Trouble> {
+    let Some(file) = files.last_mut() else {
+        return Err(Trouble::OutOfPlace);
+    };
+    match (&mut file.content, form) {
+        (Content::Bytes(bytes), Form::Hex) => add_hex(bytes, piece),
+        (Content::Bytes(bytes), _) => add_line(bytes, piece),
+        (Content::Dump { text, .. }, _) => add_line(text, piece),
+        (Content::Absent, _) => Err(Trouble::OutOfPlace),
+    }
+}
+
+pub(crate) fn add_line(text: &mut Vec<u8>, piece: &[u8]) -> Result<(), Trouble> {
+    text.extend_from_slice(piece)?;
+    text.push(b'\n')?;
+    Ok(())
+}
+
+fn cut_last(files: &mut Vec<NamedFile>) -> Result<(), Trouble> {
+    let Some(file) = files.last_mut() else {
+        return Err(Trouble::OutOfPlace);
+    };
+    match &mut file.content {
+        Content::Bytes(bytes) => cut(bytes),
+        _ => Err(Trouble::OutOfPlace),
+    }
+}
+
+/// Takes the last line end away.
+fn cut(text: &mut Vec<u8>) -> Result<(), Trouble> {
+    match text.pop() {
+        Some(_) => Ok(()),
+        None => Err(Trouble::OutOfPlace),
+    }
+}
+
+/// What goes wrong in the next command line.
+impl Reader {
+    /// The calls of the tree that fail: their numbers, or `each`.
+    pub(crate) fn plan_failures(&mut self, rest: &[u8]) -> Result<(), Trouble> {
+        let plan = if rest == b"each".as_slice() {
+            TreePlan::FailEach
+        } else {
+            let mut calls = Vec::new(self.alloc);
+            for call in rest.split(|byte| *byte == b' ') {
+                calls.push(number(call)?)?;
+            }
+            TreePlan::Fail(calls)
+        };
+        self.plan_tree(plan)
+    }
+
+    /// Behind which calls the tree stops.
+    pub(crate) fn plan_stops(&mut self, rest: &[u8]) -> Result<(), Trouble> {
+        if rest != b"each".as_slice() {
+            return Err(Trouble::BadShape);
+        }
+        self.plan_tree(TreePlan::StopEach)
+    }
+
+    fn plan_tree(&mut self, plan: TreePlan) -> Result<(), Trouble> {
+        if self.row.is_none() {
+            return Err(Trouble::NoRow);
+        }
+        match self.plan.tree {
+            TreePlan::Whole => {
+                self.plan.tree = plan;
+                Ok(())
+            }
+            _ => Err(Trouble::SaidTwice),
+        }
+    }
+
+    pub(crate) fn plan_out(&mut self, rest: &[u8]) -> Result<(), Trouble> {
+        self.plan.out = sink_plan(self.plan.out, rest)?;
+        Ok(())
+    }
+
+    pub(crate) fn plan_err(&mut self, rest: &[u8]) -> Result<(), Trouble> {
+        self.plan.err = sink_plan(self.plan.err, rest)?;
+        Ok(())
+    }
+}
+
+/// What a stream takes: `ends after N` bytes, or `takes N at most` of a piece.
+fn sink_plan(before: SinkPlan, rest: &[u8]) -> Result<SinkPlan, Trouble> {
+    if let Some(count) = rest.strip_prefix(b"ends after ") {
+        let end = Some(size(count)?);
+        return Ok(SinkPlan {
+            end,
+            most: before.most,
+        });
+    }
+    let Some(count) = rest.strip_prefix(b"takes ") else {
+        return Err(Trouble::BadShape);
+    };
+    let Some(count) = count.strip_suffix(b" at most") else {
+        return Err(Trouble::BadShape);
+    };
+    let most = size(count)?;
+    if most == 0 {
+        return Err(Trouble::BadNumber);
+    }
+    Ok(SinkPlan {
+        end: before.end,
+        most: Some(most),
+    })
+}
+
+fn size(text: &[u8]) -> Result<usize, Trouble> {
+    Ok(number(text)? as usize)
+}

@@ -1,0 +1,161 @@
+//! The words of a command line, as a shell reads them; bytes in hexadecimal digits, in groups that
+//! may be repeated, as `4144422e 2049*00000000`; and numbers.
+use crate::row::Trouble;
+use base_core::Words;
+use std::alloc::Global;
+
+/// The most words that a command line may have.
+const MOST_WORDS: usize = 4294967294;
+
+/// Where a byte of a command line stands.
+#[derive(Clone, Copy)]
+enum Place {
+    Between,
+    Word,
+    Quotation,
+}
+
+/// The words of a command line so far.
+#[derive(Drop)]
+struct Line {
+    words: Words,
+    word: Vec<u8>,
+    place: Place,
+}
+
+/// The words of a command line behind the program's name, which is `apk`. A blank ends a word, and
+/// what stands between two `'` is taken as it is.
+pub(crate) fn words_of(alloc: Global, text: &[u8]) -> Result<Words, Trouble> {
+    let Some(rest) = text.strip_prefix(b"apk") else {
+        return Err(Trouble::UnknownWord);
+    };
+    if !rest.is_empty() && !rest.starts_with(b" ") {
+        return Err(Trouble::UnknownWord);
+    }
+    let mut line = Line {
+        words: Words::new(alloc),
+        word: Vec::new(alloc),
+        place: Place::Between,
+    };
+    for byte in rest {
+        line.add(*byte)?;
+    }
+    line.finish()
+}
+
+impl Line {
+    fn add(&mut self, byte: u8) -> Result<(), Trouble> {
+        match (self.place, byte) {
+            (Place::Quotation, b'\'') => self.place = Place::Word,
+            (_, b'\'') => self.place = Place::Quotation,
+            (Place::Between, b' ') => {}
+            (Place::Word, b' ') => self.end_word()?,
+            (Place::Quotation, _) => self.word.push(byte)?,
+            (_, _) => {
+                self.place = Place::Word;
+                self.word.push(byte)?;
+            }
+        }
+        Ok(())
+    }
+
+    fn end_word(&mut self) -> Result<(), Trouble> {
+        if self.words.len() >= MOST_WORDS {
+            return Err(Trouble::Memory);
+        }
+        self.words.push(&self.word)?;
+        self.word.clear();
+        self.place = Place::Between;
+        Ok(())
+    }
+
+    fn finish(self) -> Result<Words, Trouble> {
+        let mut line = self;
+        match line.place {
+            Place::Between => {}
+            Place::Word => line.end_word()?,
+            Place::Quotation => return Err(Trouble::BadQuotation),
+        }
+        Ok(line.words)
+    }
+}
+
+/// Adds the bytes of a line.
+pub(crate) fn add_hex(out: &mut Vec<u8>, line: &[u8]) -> Result<(), Trouble> {
+    for group in line.split(|byte| *byte == b' ') {
+        add_group(out, group)?;
+    }
+    Ok(())
+}
+
+/// Adds the bytes of a group: an even number of digits, behind a count and `*` as often as that
+/// says.
+fn add_group(out: &mut Vec<u8>, group: &[u8]) -> Result<(), Trouble> {
+    match group.iter().position(|byte| *byte == b'*') {
+        None => add_digits(out, group),
+        Some(at) => {
+            let (count, digits) = (&group[..at], &group[at + 1..]);
+            for _ in 0..number(count)? {
+                add_digits(out, digits)?;
+            }
+            Ok(())
+        }
+    }
+}
+
+/// Adds a byte for each two digits.
+fn add_digits(out: &mut Vec<u8>, digits: &[u8]) -> Result<(), Trouble> {
+    let mut high = None;
+    for digit in digits {
+        let value = digit_value(*digit)?;
+        match high {
+            None => high = Some(value),
+            Some(first) => {
+                out.push(byte_of(first, value))?;
+                high = None;
+            }
+        }
+    }
+    match high {
+        None => Ok(()),
+        Some(_) => Err(Trouble::BadHex),
+    }
+}
+
+fn byte_of(high: u8, low: u8) -> u8 {
+    (high << 4) | low
+}
+
+/// The value of a hexadecimal digit.
+fn digit_value(digit: u8) -> Result<u8, Trouble> {
+    match digit {
+        b'0'..=b'9' => Ok(digit - b'0'),
+        b'a'..=b'f' => Ok(digit - b'a' + 10),
+        _ => Err(Trouble::BadHex),
+    }
+}
+
+/// The decimal number that a text is.
+pub(crate) fn number(text: &[u8]) -> Result<u64, Trouble> {
+    if text.is_empty() {
+        return Err(Trouble::BadNumber);
+    }
+    let mut number = 0u64;
+    for digit in text {
+        if !digit.is_ascii_digit() {
+            return Err(Trouble::BadNumber);
+        }
+        number = next_number(number, *digit - b'0')?;
+    }
+    Ok(number)
+}
+
+fn next_number(number: u64, digit: u8) -> Result<u64, Trouble> {
+    let Some(tens) = number.checked_mul(10) else {
+        return Err(Trouble::BadNumber);
+    };
+    match tens.checked_add(u64::from(digit)) {
+        Some(next) => Ok(next),
+        None => Err(Trouble::BadNumber),
+    }
+}
