@@ -19,7 +19,7 @@ pub record IsDependency (v : Plain) : Type 0 where
   pub version : is_version_or_empty (text_in (entry_in v 1)) ≡ true
   pub matching : is_matching (int_in (entry_in v 2)) ≡ true
 
--- what is told of a package, in a container with this table at its root: in an index it has its
+-- the information of a package, in a container with this table at its root: in an index it has its
 -- hash
 pub record IsInformation (root : Which) (v : Plain) : Type 0 where
   pub name : is_package_name (text_in (entry_in v 0)) ≡ true

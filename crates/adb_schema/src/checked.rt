@@ -104,7 +104,7 @@ impl<'a> Checked<'a> {
 #[derive(Clone, Copy)]
 pub struct IndexView<'a> {
     adb: Adb<'a>,
-    word: Val,
+    word: u32,
     ghost sound: { is_sound (payload_of adb) (Kinds.Obj Tables.Index) word ≡ true },
 }
 
@@ -116,7 +116,10 @@ impl<'a> View<'a> for IndexView<'a> {
     ghost shows = { λ view. value_at (payload_of view.adb) (Kinds.Obj Tables.Index) view.word };
 
     fn of(adb: Adb<'a>, word: Val) -> IndexView<'a> {
-        IndexView { adb, word }
+        IndexView {
+            adb,
+            word: word.word(),
+        }
     }
 }
 
@@ -129,14 +132,20 @@ impl<'a> IndexView<'a> {
     pub fn description(&self) -> &'a [u8]
         ensures { result.now ≡ text_in (entry_in (index_value self.now) 0) }
     {
-        text_field(self.adb, Which::Index, self.word, 0)
+        text_field(self.adb, Which::Index, Val::of(self.word), 0)
     }
 
     /// Its packages.
     pub fn packages(&self) -> List<'a, PkgInfo<'a>>
         ensures { list_value result ≡ entry_in (index_value self.now) 1 }
     {
-        let entries = objects_field(self.adb, Which::Index, self.word, 1, Which::PkgInfo);
+        let entries = objects_field(
+            self.adb,
+            Which::Index,
+            Val::of(self.word),
+            1,
+            Which::PkgInfo,
+        );
         List::of(self.adb, entries)
     }
 
@@ -144,7 +153,7 @@ impl<'a> IndexView<'a> {
     pub fn pkgname_spec(&self) -> &'a [u8]
         ensures { result.now ≡ text_in (entry_in (index_value self.now) 2) }
     {
-        text_field(self.adb, Which::Index, self.word, 2)
+        text_field(self.adb, Which::Index, Val::of(self.word), 2)
     }
 }
 
