@@ -5,8 +5,12 @@ use Rattle.adb_view.specs.Plain.{Plain, null}
 use Rattle.adb_tables.specs.Values.{value_at}
 use Rattle.adb_fields.specs.Fields.{are_all_sound}
 use Rattle.adb_fields.specs.declared.pairs.Pair.{Pair}
-use Rattle.adb_fields.specs.Pairs.{Named, IsIn, IsPair, IsFirstOf, earlier, earliest}
-use Rattle.adb_fields.specs.Repeated.{IsPairInOne, numbered_from, twice, twice_in_one, repeated_at, name_of, folders_in, files_in, inside_fault}
+use Rattle.adb_fields.specs.Pairs.{Named, earlier, earliest}
+use Rattle.adb_fields.specs.FirstPair.{IsFirstOf}
+use Rattle.adb_fields.specs.FirstPair.{IsPair}
+use Rattle.adb_fields.specs.FirstPair.{IsIn}
+use Rattle.adb_fields.specs.Repeated.{numbered_from, twice, twice_in_one, repeated_at, name_of, folders_in, files_in, inside_fault}
+use Rattle.adb_fields.specs.FirstPair.{IsPairInOne}
 use Rattle.adb_tables.specs.Walk.{or_else}
 use Rattle.adb_fields.specs.NamedTexts.{plains_at}
 use Rattle.adb_tables.specs.declared.tables.Kind.{Kind}
@@ -85,7 +89,7 @@ texts_behind a b one two m e l h =
 pub one_package : (pkg : Plain) → or_else (repeated_at 501 (twice (map name_of (folders_in pkg)))) (repeated_at 401 (twice_in_one (map (λ folder. map name_of (files_in folder)) (folders_in pkg)))) ≡ inside_fault (pkg ∷ [])
 one_package pkg = λ i. or_else (repeated_at 501 (alone (map name_of (folders_in pkg)) i)) (repeated_at 401 (alone_several (map (λ folder. map name_of (files_in folder)) (folders_in pkg)) i))
 
--- ---- what is told of several lists is the first pair of all
+-- ---- what is reported of several lists is the first pair of all
 
 from-here : (names : List (List ℕ)) (others : List (List (List ℕ))) (p : Pair) → Either (IsPair (numbered_from 1 names)) (IsPairInOne others) p → IsPairInOne (names ∷ others) p
 from-here names others p (inl k) = record { names = names; names_in = inl refl; is_pair = k }

@@ -4,7 +4,11 @@ use Rattle.std.specs.Prelude.{bytes_eq, ◌&&◌, nat_lt}
 use Rattle.std.specs.List.{flat_map}
 use Rattle.std.specs.List.Sorted.{IsPermutation, IsSortedBy}
 use Rattle.adb_fields.specs.declared.pairs.Pair.{Pair}
-use Rattle.adb_fields.specs.Pairs.{Named, IsIn, IsPair, IsFirst, IsFirstOf, is_before, earlier, earliest, pair_of, first_pair}
+use Rattle.adb_fields.specs.Pairs.{Named, is_before, earlier, earliest, pair_of, first_pair}
+use Rattle.adb_fields.specs.FirstPair.{IsFirstOf}
+use Rattle.adb_fields.specs.FirstPair.{IsFirst}
+use Rattle.adb_fields.specs.FirstPair.{IsPair}
+use Rattle.adb_fields.specs.FirstPair.{IsIn}
 use Rattle.adb_fields.proofs.Members.{in-map, from-map, in-flat_map, from-flat_map, in-permuted}
 use borrow.Author.Tests.{ltb-true, ltb-false, eqb-true, eqb-false, lt-ltb}
 use Rattle.std.specs.Cmp.Lexicographic.{bytes_decides, slice_cmp, texts_ties}

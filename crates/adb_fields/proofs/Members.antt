@@ -3,7 +3,7 @@ use Rattle.std.proofs.Common.{◌≡◌, ℕ, suc, zero, ◌<◌, ◌⊎◌, Lis
 use Rattle.std.specs.List.{flat_map, Contains}
 use Rattle.std.specs.List.Sorted.{IsPermutation}
 use Rattle.std.proofs.lemmas.List.Sorted.{Contains-permutation}
-use Rattle.adb_fields.specs.Pairs.{IsIn}
+use Rattle.adb_fields.specs.FirstPair.{IsIn}
 
 pub in-front : {A : Type 0} (z : A) (xs ys : List A) → IsIn z xs → IsIn z (xs ++ ys)
 in-front z [] ys h = absurd h

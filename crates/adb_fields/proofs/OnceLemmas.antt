@@ -8,7 +8,11 @@ use Rattle.adb_tables.specs.Values.{text_in}
 use Rattle.adb_tables.specs.declared.tables.Which.{Which}
 use Rattle.adb_tables.specs.declared.tables.Which.TheVariants.{Dep, Acl, PkgInfo, File, Dir, Scripts, Package, Index, Idb, Intent}
 use Rattle.adb_fields.specs.declared.pairs.Pair.{Pair}
-use Rattle.adb_fields.specs.Pairs.{Named, IsIn, IsPair, IsFirst, IsFirstOf, is_before, earlier, earliest, first_pair}
+use Rattle.adb_fields.specs.Pairs.{Named, is_before, earlier, earliest, first_pair}
+use Rattle.adb_fields.specs.FirstPair.{IsFirstOf}
+use Rattle.adb_fields.specs.FirstPair.{IsFirst}
+use Rattle.adb_fields.specs.FirstPair.{IsPair}
+use Rattle.adb_fields.specs.FirstPair.{IsIn}
 use Rattle.adb_fields.specs.Repeated.{numbered_from, all_at, by_list_from, twice, twice_in_one, in_two, entries_at, files_in, folders_in, name_of, package_name, paths_in, folder_twice, file_twice, package_twice, path_in_two, name_twice, repeated_at, inside_fault, between_fault, repeated_fault}
 use Rattle.adb_fields.specs.Once.{AreDistinctNames, AllDistinct, IsInOneOf, AreApart, StandOnceInside, StandOnceBetween, NamesStandOnce}
 use Rattle.adb_fields.proofs.Members.{in-front, in-behind, in-either, in-map, from-map}
@@ -173,12 +177,16 @@ apart n (names ∷ lists) h = (
       (in-front _ (all_at n names) (by_list_from (n + 1) lists) (in-map (λ m. record { name = m; position = n }) name names k))
       (in-behind r.one (all_at n names) (by_list_from (n + 1) lists) r.inside) r.alike (omega arith)),
   apart (n + 1) lists
-  (λ q k. h q (record {
-    one = k.one; other = k.other;
-    one_in = in-behind k.one (all_at n names) (by_list_from (n + 1) lists) k.one_in;
-    other_in = in-behind k.other (all_at n names) (by_list_from (n + 1) lists) k.other_in;
-    alike = k.alike; first = k.first; second = k.second; rises = k.rises;
-  })),
+      (λ q k. h q (record {
+        one = k.one;
+        other = k.other;
+        one_in = in-behind k.one (all_at n names) (by_list_from (n + 1) lists) k.one_in;
+        other_in = in-behind k.other (all_at n names) (by_list_from (n + 1) lists) k.other_in;
+        alike = k.alike;
+        first = k.first;
+        second = k.second;
+        rises = k.rises;
+      })),
 )
 
 no_pair_between : (n : ℕ) (names : List (List ℕ)) (lists : List (List (List ℕ))) (a b : Named) → ((name : List ℕ) → IsIn name names → ¬ IsInOneOf name lists) → NoPair (by_list_from (n + 1) lists)

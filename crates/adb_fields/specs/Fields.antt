@@ -1,4 +1,4 @@
--- Words that stand in the place of a field or of an entry.
+-- Words that stand for a field or for an entry.
 use Rattle.std.specs.Prelude.{◌≡◌, ℕ, true, Bool, List, is_some, unwrap_or, Some}
 use Rattle.adb_view.specs.Plain.{Plain, Plains, none, arr_value, each_plain, plain_of}
 use Rattle.adb_tables.specs.Schema.{shape_of}
@@ -7,9 +7,11 @@ use Rattle.adb_tables.specs.declared.tables.Which.{Which}
 use Rattle.adb_tables.specs.declared.tables.Kind.{Kind}
 use Rattle.adb_tables.specs.declared.tables.Kind.TheVariants.{Obj}
 
--- whatever the field's kind, the word is sound under it, and its value is the field of the object's value
+-- whatever the field's kind, the word is sound under it, and its value is the field of the object's
+-- value
 abbrev pub IsFieldOf : List ℕ → Which → ℕ → ℕ → ℕ → Type 0
-IsFieldOf p which w i word = (k : Kind) → kind_at which i ≡ Some k → (is_sound p k word ≡ true) × (value_at p k word ≡ entry_in (value_at p (Obj which) w) i)
+IsFieldOf p which w i word = (k : Kind) → kind_at which i ≡ Some k → (is_sound p k word ≡ true)
+    × (value_at p k word ≡ entry_in (value_at p (Obj which) w) i)
 
 -- whether each of an array's words has a plain value under the kind
 unfoldable pub are_all_sound : List ℕ → Kind → List ℕ → Bool

@@ -5,7 +5,7 @@ use Rattle.adb_view.specs.Plain.{Plain}
 use Rattle.adb_tables.specs.Values.{text_in}
 use Rattle.adb_tables.specs.declared.tables.Which.{Which}
 use Rattle.adb_tables.specs.declared.tables.Which.TheVariants.{Package, Idb, Intent}
-use Rattle.adb_fields.specs.Pairs.{IsIn}
+use Rattle.adb_fields.specs.FirstPair.{IsIn}
 use Rattle.adb_fields.specs.Repeated.{entries_at, files_in, folders_in, name_of, package_name, paths_in}
 
 -- each name of the list once
@@ -25,12 +25,14 @@ IsInOneOf name (names ∷ lists) = IsIn name names ⊎ IsInOneOf name lists
 -- no name in two of the lists
 abbrev pub AreApart : List (List (List ℕ)) → Type 0
 AreApart [] = Unit {0}
-AreApart (names ∷ lists) = ((name : List ℕ) → IsIn name names → ¬ IsInOneOf name lists) × AreApart lists
+AreApart (names ∷ lists) = ((name : List ℕ) → IsIn name names → ¬ IsInOneOf name lists)
+    × AreApart lists
 
 -- of each package no folder twice, and of each folder no file
 pub record StandOnceInside (packages : List Plain) : Type 0 where
   pub folders : AllDistinct (map (λ pkg. map name_of (folders_in pkg)) packages)
-  pub files : AllDistinct (flat_map (λ pkg. map (λ folder. map name_of (files_in folder)) (folders_in pkg)) packages)
+  pub files : AllDistinct
+      (flat_map (λ pkg. map (λ folder. map name_of (files_in folder)) (folders_in pkg)) packages)
 
 -- no package twice, and no path in two packages
 pub record StandOnceBetween (packages : List Plain) : Type 0 where
@@ -40,5 +42,6 @@ pub record StandOnceBetween (packages : List Plain) : Type 0 where
 abbrev pub NamesStandOnce : Which → Plain → Type 0
 NamesStandOnce Package v = StandOnceInside (v ∷ [])
 NamesStandOnce Idb v = StandOnceInside (entries_at 0 v) × StandOnceBetween (entries_at 0 v)
-NamesStandOnce Intent v = AreDistinctNames (map text_in (entries_at 0 v) ++ map text_in (entries_at 1 v))
+NamesStandOnce Intent v = AreDistinctNames (map text_in (entries_at 0 v)
+    ++ map text_in (entries_at 1 v))
 NamesStandOnce which v = Unit {0}

@@ -7,7 +7,7 @@ use Rattle.adb_view.specs.Plain.{Plain, Plains, none, more}
 use Rattle.adb_tables.specs.Values.{entries_in, entry_in, text_in}
 use Rattle.adb_tables.specs.Walk.{or_else}
 use Rattle.adb_fields.specs.Paths.{path_of}
-use Rattle.adb_fields.specs.Pairs.{Named, IsIn, IsPair, first_pair, earliest}
+use Rattle.adb_fields.specs.Pairs.{Named, first_pair, earliest}
 use Rattle.adb_fields.specs.declared.pairs.Pair.{Pair}
 use Rattle.adb_tables.specs.declared.tables.Which.{Which}
 use Rattle.adb_tables.specs.declared.tables.Which.TheVariants.{Package, Idb, Intent}
@@ -25,12 +25,6 @@ twice names = first_pair (numbered_from 1 names)
 -- a name that stands twice in one of several lists
 abbrev pub twice_in_one : List (List (List ℕ)) → Option Pair
 twice_in_one lists = earliest (map twice lists)
-
--- one of the lists has the name at both positions
-pub record IsPairInOne (lists : List (List (List ℕ))) (p : Pair) : Type 0 where
-  pub names : List (List ℕ)
-  pub names_in : IsIn names lists
-  pub is_pair : IsPair (numbered_from 1 names) p
 
 abbrev pub all_at : ℕ → List (List ℕ) → List Named
 all_at n names = map (λ name. record { name = name; position = n }) names
@@ -79,7 +73,8 @@ abbrev pub folder_twice : List Plain → Option Pair
 folder_twice packages = twice_in_one (map (λ pkg. map name_of (folders_in pkg)) packages)
 
 abbrev pub file_twice : List Plain → Option Pair
-file_twice packages = twice_in_one (flat_map (λ pkg. map (λ folder. map name_of (files_in folder)) (folders_in pkg)) packages)
+file_twice packages = twice_in_one
+    (flat_map (λ pkg. map (λ folder. map name_of (files_in folder)) (folders_in pkg)) packages)
 
 abbrev pub package_twice : List Plain → Option Pair
 package_twice packages = twice (map package_name packages)
@@ -98,10 +93,12 @@ abbrev pub repeated_at : ℕ → Option Pair → Option Cause
 repeated_at field_number pair = option_map (λ p. Repeated field_number p.first p.second) pair
 
 abbrev pub inside_fault : List Plain → Option Cause
-inside_fault packages = or_else (repeated_at 501 (folder_twice packages)) (repeated_at 401 (file_twice packages))
+inside_fault packages = or_else (repeated_at 501 (folder_twice packages))
+    (repeated_at 401 (file_twice packages))
 
 abbrev pub between_fault : List Plain → Option Cause
-between_fault packages = or_else (repeated_at 901 (package_twice packages)) (repeated_at 401 (path_in_two packages))
+between_fault packages = or_else (repeated_at 901 (package_twice packages))
+    (repeated_at 401 (path_in_two packages))
 
 -- the first kind that stands
 unfoldable pub repeated_fault : Which → Plain → Option Cause

@@ -1,10 +1,11 @@
-//! What stands in the fields of a walked payload: reads of words and fields, which cannot fail, arrays as lists of views,
-//! and names that stand twice.
+//! What stands in the fields of a walked payload: reads of words and fields, which cannot fail,
+//! arrays as lists of views, and names that stand twice.
 //!
-//! A word that has a plain value under a kind is *sound*, and each read says which plain value it gives. `repeated_names`
-//! answers which name of a package, a database or an intent stands twice. The contracts cite `Fields` (the words of
-//! fields and arrays), `ListValue`, `Pairs` (of the names that stand twice, which two positions are reported),
-//! `Repeated` (the names of a container, kind by kind) and `Paths`.
+//! A word that has a plain value under a kind is *sound*, and each read says which plain value it
+//! gives. `repeated_names` answers which name of a package, a database or an intent stands twice.
+//! The contracts cite `Fields` (the words of fields and arrays), `ListValue`, `Pairs` (of the names
+//! that stand twice, which two positions are reported), `Repeated` (the names of a container, kind
+//! by kind) and `Paths`.
 #![tactic(auto)]
 
 mod list;
@@ -19,6 +20,7 @@ pub use pairs::{
     the_first_pair_of_two_lists_is_reported,
 };
 pub use reads::{
-    field_word, hash_field, hash_word, int_field, int_word, objects_field, objects_word, text_field, text_word, texts_field, texts_word,
+    field_word, hash_field, hash_word, int_field, int_word, objects_field, objects_word,
+    text_field, text_word, texts_field, texts_word,
 };
 pub use repeated::{no_name_is_repeated_where_each_stands_once, repeated_names};

@@ -44,7 +44,8 @@ impl<'a, V: View<'a>> List<'a, V> {
     /// The entries with these words.
     pub fn of(adb: Adb<'a>, entries: Arr<'a>) -> List<'a, V>
         requires { are_all_sound (payload_of adb) V.kind (array_entries entries) ≡ true }
-        ensures { list_value result ≡ array_at (payload_of adb.entry) V.kind (array_entries entries.entry) }
+        ensures { list_value result
+            ≡ array_at (payload_of adb.entry) V.kind (array_entries entries.entry) }
     {
         List {
             adb,
@@ -62,7 +63,7 @@ impl<'a, V: View<'a>> List<'a, V> {
         self.entries.len()
     }
 
-    /// The entry at a place, counted from 1.
+    /// The entry with this index, counted from 1.
     #[tactic(auto, using(crate::proofs::FieldReads::entry_count, crate::proofs::FieldReads::entry_sound, crate::proofs::FieldReads::entry_value))]
     pub fn get(&self, i: usize) -> V
         requires from { 1 ≤ i }

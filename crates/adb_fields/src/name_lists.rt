@@ -21,7 +21,8 @@ use std::alloc::{AllocError, Global};
 /// Adds a name at the next position.
 fn add<'a>(names: &mut Vec<Entry<'a>>, name: &'a [u8]) -> Result<(), AllocError>
     requires { vec_len names.old + 1 < 2 ^ 32 }
-    ensures added { IfOk result (λ _. map named_by names.new.items ≡ map named_by names.old.items ++ (named_at name.now (vec_len names.old + 1) ∷ [])) }
+    ensures added { IfOk result (λ _. map named_by names.new.items ≡ map named_by names.old.items
+        ++ (named_at name.now (vec_len names.old + 1) ∷ [])) }
     ensures len { IfOk result (λ _. vec_len names.new ≡ vec_len names.old + 1) }
 {
     let position = names.len() as u32 + 1;
@@ -41,9 +42,13 @@ pub(crate) fn object_names<'a>(
     which: Which,
     objects: Arr<'a>,
 ) -> Result<Vec<Entry<'a>>, AllocError>
-    requires sound { are_all_sound (payload_of adb) (Kinds.Obj which) (array_entries objects) ≡ true }
+    requires sound { are_all_sound (payload_of adb) (Kinds.Obj which) (array_entries objects)
+        ≡ true }
     requires kind { kind_at which 0 ≡ Some Kinds.Text }
-    ensures { IfOk result (λ names. map named_by names.items ≡ numbered_from 1 (map name_of (plains_at (payload_of adb.entry) (Kinds.Obj which) (array_entries objects.entry)))) }
+    ensures { IfOk result (λ names. map named_by names.items
+        ≡ numbered_from 1
+        (map name_of (plains_at (payload_of adb.entry) (Kinds.Obj which)
+        (array_entries objects.entry)))) }
 {
     let mut names = Vec::new(alloc);
     for i in 0..objects.len() {
@@ -62,8 +67,12 @@ pub(crate) fn package_names<'a>(
     adb: Adb<'a>,
     packages: Arr<'a>,
 ) -> Result<Vec<Entry<'a>>, AllocError>
-    requires { are_all_sound (payload_of adb) (Kinds.Obj Tables.Package) (array_entries packages) ≡ true }
-    ensures { IfOk result (λ names. map named_by names.items ≡ numbered_from 1 (map package_name (plains_at (payload_of adb.entry) (Kinds.Obj Tables.Package) (array_entries packages.entry)))) }
+    requires { are_all_sound (payload_of adb) (Kinds.Obj Tables.Package) (array_entries packages)
+        ≡ true }
+    ensures { IfOk result (λ names. map named_by names.items
+        ≡ numbered_from 1
+        (map package_name (plains_at (payload_of adb.entry) (Kinds.Obj Tables.Package)
+        (array_entries packages.entry)))) }
 {
     let mut names = Vec::new(alloc);
     for i in 0..packages.len() {
@@ -75,7 +84,8 @@ pub(crate) fn package_names<'a>(
 /// The name in a package's information.
 fn package_name<'a>(adb: Adb<'a>, pkg: Val) -> &'a [u8]
     requires { is_sound (payload_of adb) (Kinds.Obj Tables.Package) pkg ≡ true }
-    ensures { result.now ≡ package_name (value_at (payload_of adb.entry) (Kinds.Obj Tables.Package) pkg) }
+    ensures { result.now
+        ≡ package_name (value_at (payload_of adb.entry) (Kinds.Obj Tables.Package) pkg) }
 {
     let info = field_word(adb, Which::Package, pkg, 0);
     text_field(adb, Which::PkgInfo, info, 0)
@@ -90,8 +100,11 @@ pub(crate) fn add_texts<'a>(
 ) -> Result<(), AllocError>
     requires sound { are_all_sound (payload_of adb) Kinds.Text (array_entries texts) ≡ true }
     requires few { vec_len names.old + length (array_entries texts) < 2 ^ 32 }
-    ensures added { IfOk result (λ _. map named_by names.new.items ≡ map named_by names.old.items ++ numbered_from (vec_len names.old + 1) (map text_in (plains_at (payload_of adb.entry) Kinds.Text (array_entries texts.entry)))) }
-    ensures len { IfOk result (λ _. vec_len names.new ≡ vec_len names.old + length (array_entries texts.entry)) }
+    ensures added { IfOk result (λ _. map named_by names.new.items ≡ map named_by names.old.items
+        ++ numbered_from (vec_len names.old + 1)
+        (map text_in (plains_at (payload_of adb.entry) Kinds.Text (array_entries texts.entry)))) }
+    ensures len { IfOk result (λ _. vec_len names.new
+        ≡ vec_len names.old + length (array_entries texts.entry)) }
 {
     for i in 0..texts.len() {
         add(names, text_word(adb, entry_word(texts, i)))?;
@@ -106,7 +119,8 @@ fn add_path<'a>(
     name: &'a [u8],
     position: u32,
 ) -> Result<(), AllocError>
-    ensures { IfOk result (λ _. map named_by paths.new.items ≡ map named_by paths.old.items ++ (named_at (path_of folder.now name.now) position ∷ [])) }
+    ensures { IfOk result (λ _. map named_by paths.new.items ≡ map named_by paths.old.items
+        ++ (named_at (path_of folder.now name.now) position ∷ [])) }
 {
     paths.push(Entry {
         folder,
@@ -125,7 +139,9 @@ fn add_paths_under<'a>(
     position: u32,
 ) -> Result<(), AllocError>
     requires { is_sound (payload_of adb) (Kinds.Obj Tables.Dir) folder ≡ true }
-    ensures { IfOk result (λ _. map named_by paths.new.items ≡ map named_by paths.old.items ++ all_at position (paths_under (value_at (payload_of adb.entry) (Kinds.Obj Tables.Dir) folder))) }
+    ensures { IfOk result (λ _. map named_by paths.new.items ≡ map named_by paths.old.items
+        ++ all_at position
+        (paths_under (value_at (payload_of adb.entry) (Kinds.Obj Tables.Dir) folder))) }
 {
     let name = text_field(adb, Which::Dir, folder, 0);
     let files = objects_field(adb, Which::Dir, folder, 2, Which::File);
@@ -145,7 +161,9 @@ fn add_paths<'a>(
     position: u32,
 ) -> Result<(), AllocError>
     requires { is_sound (payload_of adb) (Kinds.Obj Tables.Package) pkg ≡ true }
-    ensures { IfOk result (λ _. map named_by paths.new.items ≡ map named_by paths.old.items ++ all_at position (paths_in (value_at (payload_of adb.entry) (Kinds.Obj Tables.Package) pkg))) }
+    ensures { IfOk result (λ _. map named_by paths.new.items ≡ map named_by paths.old.items
+        ++ all_at position
+        (paths_in (value_at (payload_of adb.entry) (Kinds.Obj Tables.Package) pkg))) }
 {
     let folders = objects_field(adb, Which::Package, pkg, 1, Which::Dir);
     for i in 0..folders.len() {
@@ -161,8 +179,12 @@ pub(crate) fn all_paths<'a>(
     adb: Adb<'a>,
     packages: Arr<'a>,
 ) -> Result<Vec<Entry<'a>>, AllocError>
-    requires { are_all_sound (payload_of adb) (Kinds.Obj Tables.Package) (array_entries packages) ≡ true }
-    ensures { IfOk result (λ paths. map named_by paths.items ≡ by_list_from 1 (map paths_in (plains_at (payload_of adb.entry) (Kinds.Obj Tables.Package) (array_entries packages.entry)))) }
+    requires { are_all_sound (payload_of adb) (Kinds.Obj Tables.Package) (array_entries packages)
+        ≡ true }
+    ensures { IfOk result (λ paths. map named_by paths.items
+        ≡ by_list_from 1
+        (map paths_in (plains_at (payload_of adb.entry) (Kinds.Obj Tables.Package)
+        (array_entries packages.entry)))) }
 {
     let mut paths = Vec::new(alloc);
     for i in 0..packages.len() {

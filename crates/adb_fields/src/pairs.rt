@@ -3,9 +3,12 @@
 ghost use Rattle.std.specs.Prelude.{◌≡◌, ◌<◌, ◌^◌, ◌+◌, ◌≤◌, length, map, take, drop, slice_get, IfSome, ℕ, List};
 ghost use Rattle.std.specs.Cmp.Lexicographic.{slice_cmp};
 ghost use Rattle.std.specs.Ordering.{nat_cmp};
-ghost use Rattle.adb_fields.specs.Pairs.{first_pair, pair_of, earlier, earliest, is_before, IsFirstOf, IsPair};
+ghost use Rattle.adb_fields.specs.Pairs.{first_pair, pair_of, earlier, earliest, is_before};
+ghost use Rattle.adb_fields.specs.FirstPair.{IsFirstOf};
+ghost use Rattle.adb_fields.specs.FirstPair.{IsPair};
 ghost use Rattle.adb_fields.specs.NamedTexts.{named_by, named_cmp, neighbours};
-ghost use Rattle.adb_fields.specs.Repeated.{by_list_from, in_two, numbered_from, twice, twice_in_one, IsPairInOne};
+ghost use Rattle.adb_fields.specs.Repeated.{by_list_from, in_two, numbered_from, twice, twice_in_one};
+ghost use Rattle.adb_fields.specs.FirstPair.{IsPairInOne};
 
 use std::cmp::Ordering;
 
@@ -16,8 +19,8 @@ pub(crate) struct Pair {
     pub second: u32,
 }
 
-/// A name and its position, which counts from 1. Where there is a folder, the name is a path: the folder's, `/`, and the
-/// file's.
+/// A name and its position, which counts from 1. Where there is a folder, the name is a path: the
+/// folder's, `/`, and the file's.
 #[derive(Clone, Copy)]
 pub(crate) struct Entry<'a> {
     pub folder: &'a [u8],
@@ -26,7 +29,8 @@ pub(crate) struct Entry<'a> {
 }
 
 impl Pair {
-    /// Whether it is told rather than another: it has the smaller second position, or the same and the smaller first one.
+    /// Whether it is reported rather than another: it has the smaller second position, or the same and
+    /// the smaller first one.
     fn is_before(&self, other: &Pair) -> bool
         ensures { result ≡ is_before self.now other.now }
     {
@@ -37,7 +41,7 @@ impl Pair {
     }
 }
 
-/// The one of two pairs that is told.
+/// The one of two pairs that is reported.
 pub(crate) fn earlier(one: Option<Pair>, other: Option<Pair>) -> Option<Pair>
     ensures { result ≡ earlier one other }
 {
@@ -48,8 +52,9 @@ pub(crate) fn earlier(one: Option<Pair>, other: Option<Pair>) -> Option<Pair>
     }
 }
 
-/// Of all pairs of positions at which one name stands, the first: the one with the smallest second position, and of
-/// several such the one with the smallest first position. It leaves the names sorted.
+/// Of all pairs of positions at which one name stands, the first: the one with the smallest second
+/// position, and of several such the one with the smallest first position. It leaves the names
+/// sorted.
 pub(crate) fn first_pair(entries: &mut [Entry<'_>]) -> Option<Pair>
     ensures { result ≡ first_pair (map named_by entries.old) }
 {
@@ -118,9 +123,11 @@ fn compared_fronts(one: &[u8], other: &[u8], len: usize) -> Ordering
     front.cmp(&&other[..len])
 }
 
-/// The order of what is left of two names from a place on.
+/// The order of what is left of two names from this index on.
 fn compared_from(one: &Entry<'_>, other: &Entry<'_>, from: usize) -> Ordering
-    ensures { result ≡ slice_cmp nat_cmp (drop from (named_by one.now).name) (drop from (named_by other.now).name) }
+    ensures { result
+        ≡ slice_cmp nat_cmp (drop from (named_by one.now).name)
+        (drop from (named_by other.now).name) }
 {
     let mut i = from;
     loop {
@@ -181,5 +188,6 @@ pub fn the_first_pair_in_one_of_several_lists_is_reported()
 
 /// Of the names that two of several lists have, at the positions of the lists.
 pub fn the_first_pair_of_two_lists_is_reported()
-    ensures { (lists : List (List (List ℕ))) → IsFirstOf (IsPair (by_list_from 1 lists)) (in_two lists) }
+    ensures { (lists : List (List (List ℕ)))
+        → IsFirstOf (IsPair (by_list_from 1 lists)) (in_two lists) }
 {}

@@ -1,5 +1,5 @@
-//! Reads of sound words, and of the fields of sound objects: they cannot fail. Fields count from 0, and a field that is missing
-//! is Null.
+//! Reads of sound words, and of the fields of sound objects: they cannot fail. Fields count from 0,
+//! and a field that is missing is Null.
 
 ghost use Rattle.std.specs.Prelude.{◌≡◌, ◌<◌, true, Some, length, slice_index};
 ghost use Rattle.adb_view.specs.Adb.{payload_of};
@@ -72,7 +72,8 @@ pub fn hash_word<'a>(adb: Adb<'a>, word: Val) -> &'a [u8]
 pub fn texts_word<'a>(adb: Adb<'a>, word: Val) -> Arr<'a>
     requires { is_sound (payload_of adb) Kinds.TextArr word ≡ true }
     ensures sound { are_all_sound (payload_of adb.entry) Kinds.Text (array_entries result) ≡ true }
-    ensures value { array_at (payload_of adb.entry) Kinds.Text (array_entries result) ≡ value_at (payload_of adb.entry) Kinds.TextArr word }
+    ensures value { array_at (payload_of adb.entry) Kinds.Text (array_entries result)
+        ≡ value_at (payload_of adb.entry) Kinds.TextArr word }
 {
     match adb.arr(word) {
         Ok(entries) => entries,
@@ -84,8 +85,10 @@ pub fn texts_word<'a>(adb: Adb<'a>, word: Val) -> Arr<'a>
 #[tactic(auto, using(crate::proofs::FieldReads::objects_sound, crate::proofs::FieldReads::objects_value, crate::proofs::FieldReads::objects_run))]
 pub fn objects_word<'a>(adb: Adb<'a>, which: Which, word: Val) -> Arr<'a>
     requires { is_sound (payload_of adb) (Kinds.ObjArr which) word ≡ true }
-    ensures sound { are_all_sound (payload_of adb.entry) (Kinds.Obj which) (array_entries result) ≡ true }
-    ensures value { array_at (payload_of adb.entry) (Kinds.Obj which) (array_entries result) ≡ value_at (payload_of adb.entry) (Kinds.ObjArr which) word }
+    ensures sound { are_all_sound (payload_of adb.entry) (Kinds.Obj which) (array_entries result)
+        ≡ true }
+    ensures value { array_at (payload_of adb.entry) (Kinds.Obj which) (array_entries result)
+        ≡ value_at (payload_of adb.entry) (Kinds.ObjArr which) word }
 {
     match adb.arr(word) {
         Ok(entries) => entries,
@@ -97,7 +100,8 @@ pub fn objects_word<'a>(adb: Adb<'a>, which: Which, word: Val) -> Arr<'a>
 pub fn int_field(adb: Adb<'_>, which: Which, object: Val, i: usize) -> u64
     requires sound { is_sound (payload_of adb) (Kinds.Obj which) object ≡ true }
     requires kind { kind_at which i ≡ Some Kinds.Int }
-    ensures { result ≡ int_in (entry_in (value_at (payload_of adb.entry) (Kinds.Obj which) object) i) }
+    ensures { result
+        ≡ int_in (entry_in (value_at (payload_of adb.entry) (Kinds.Obj which) object) i) }
 {
     int_word(adb, field_word(adb, which, object, i))
 }
@@ -106,7 +110,8 @@ pub fn int_field(adb: Adb<'_>, which: Which, object: Val, i: usize) -> u64
 pub fn text_field<'a>(adb: Adb<'a>, which: Which, object: Val, i: usize) -> &'a [u8]
     requires sound { is_sound (payload_of adb) (Kinds.Obj which) object ≡ true }
     requires kind { kind_at which i ≡ Some Kinds.Text }
-    ensures { result.now ≡ text_in (entry_in (value_at (payload_of adb.entry) (Kinds.Obj which) object) i) }
+    ensures { result.now
+        ≡ text_in (entry_in (value_at (payload_of adb.entry) (Kinds.Obj which) object) i) }
 {
     text_word(adb, field_word(adb, which, object, i))
 }
@@ -115,7 +120,8 @@ pub fn text_field<'a>(adb: Adb<'a>, which: Which, object: Val, i: usize) -> &'a 
 pub fn hash_field<'a>(adb: Adb<'a>, which: Which, object: Val, i: usize) -> &'a [u8]
     requires sound { is_sound (payload_of adb) (Kinds.Obj which) object ≡ true }
     requires kind { kind_at which i ≡ Some Kinds.Hash }
-    ensures { result.now ≡ text_in (entry_in (value_at (payload_of adb.entry) (Kinds.Obj which) object) i) }
+    ensures { result.now
+        ≡ text_in (entry_in (value_at (payload_of adb.entry) (Kinds.Obj which) object) i) }
 {
     hash_word(adb, field_word(adb, which, object, i))
 }
@@ -125,23 +131,20 @@ pub fn texts_field<'a>(adb: Adb<'a>, which: Which, object: Val, i: usize) -> Arr
     requires sound { is_sound (payload_of adb) (Kinds.Obj which) object ≡ true }
     requires kind { kind_at which i ≡ Some Kinds.TextArr }
     ensures sound { are_all_sound (payload_of adb.entry) Kinds.Text (array_entries result) ≡ true }
-    ensures value { array_at (payload_of adb.entry) Kinds.Text (array_entries result) ≡ entry_in (value_at (payload_of adb.entry) (Kinds.Obj which) object) i }
+    ensures value { array_at (payload_of adb.entry) Kinds.Text (array_entries result)
+        ≡ entry_in (value_at (payload_of adb.entry) (Kinds.Obj which) object) i }
 {
     texts_word(adb, field_word(adb, which, object, i))
 }
 
 /// The words of an array of objects of a table.
-pub fn objects_field<'a>(
-    adb: Adb<'a>,
-    which: Which,
-    object: Val,
-    i: usize,
-    inner: Which,
-) -> Arr<'a>
+pub fn objects_field<'a>(adb: Adb<'a>, which: Which, object: Val, i: usize, inner: Which) -> Arr<'a>
     requires sound { is_sound (payload_of adb) (Kinds.Obj which) object ≡ true }
     requires kind { kind_at which i ≡ Some (Kinds.ObjArr inner) }
-    ensures sound { are_all_sound (payload_of adb.entry) (Kinds.Obj inner) (array_entries result) ≡ true }
-    ensures value { array_at (payload_of adb.entry) (Kinds.Obj inner) (array_entries result) ≡ entry_in (value_at (payload_of adb.entry) (Kinds.Obj which) object) i }
+    ensures sound { are_all_sound (payload_of adb.entry) (Kinds.Obj inner) (array_entries result)
+        ≡ true }
+    ensures value { array_at (payload_of adb.entry) (Kinds.Obj inner) (array_entries result)
+        ≡ entry_in (value_at (payload_of adb.entry) (Kinds.Obj which) object) i }
 {
     objects_word(adb, inner, field_word(adb, which, object, i))
 }

@@ -23,14 +23,16 @@ use adb_view::{Adb, Arr, Val};
 use base_core::Cause;
 use std::alloc::{AllocError, Global};
 
-/// Looks for a name that stands twice in a walked container, and answers the cause `Repeated`, or None exactly where
-/// there is none. The kinds are looked at in this order: in a package and in a database two folders of a package, over all
-/// packages, and two files of a folder; in a database also two packages, and one path in two packages, at the positions
-/// of the packages; in an intent two names, of the removals followed by the writes. Of the first kind that stands, the
-/// pair with the smallest second position is reported, and of those the one with the smallest first.
+/// Looks for a name that stands twice in a walked container, and answers the cause `Repeated`, or
+/// None exactly where there is none. The kinds are looked at in this order: in a package and in a
+/// database two folders of a package, over all packages, and two files of a folder; in a database
+/// also two packages, and one path in two packages, at the positions of the packages; in an intent
+/// two names, of the removals followed by the writes. Of the first kind that stands, the pair with
+/// the smallest second position is reported, and of those the one with the smallest first.
 #[tactic(auto, unfolding(crate::specs::Repeated::repeated_fault))]
 pub fn repeated_names(alloc: Global, shaped: &Shaped<'_>) -> Result<Option<Cause>, AllocError>
-    ensures { IfOk result (λ cause. cause ≡ repeated_fault (table_of shaped.now) (shaped_value shaped.now)) }
+    ensures { IfOk result (λ cause. cause
+        ≡ repeated_fault (table_of shaped.now) (shaped_value shaped.now)) }
 {
     values_of_few_visits_have_no_fault();
     let adb = shaped.adb();
@@ -63,7 +65,8 @@ fn repeated_at(field_number: u16, pair: Option<Pair>) -> Option<Cause>
 /// Names that stand twice in a package.
 fn in_package(alloc: Global, adb: Adb<'_>, pkg: Val) -> Result<Option<Cause>, AllocError>
     requires { is_sound (payload_of adb) (Kinds.Obj Tables.Package) pkg ≡ true }
-    ensures { IfOk result (λ cause. cause ≡ inside_fault (value_at (payload_of adb.entry) (Kinds.Obj Tables.Package) pkg ∷ [])) }
+    ensures { IfOk result (λ cause. cause
+        ≡ inside_fault (value_at (payload_of adb.entry) (Kinds.Obj Tables.Package) pkg ∷ [])) }
 {
     match repeated_at(501, folder_twice(alloc, adb, pkg)?) {
         Some(cause) => Ok(Some(cause)),
@@ -73,8 +76,14 @@ fn in_package(alloc: Global, adb: Adb<'_>, pkg: Val) -> Result<Option<Cause>, Al
 
 /// Names that stand twice in the packages of a database, or in two of them.
 fn in_database(alloc: Global, adb: Adb<'_>, packages: Arr<'_>) -> Result<Option<Cause>, AllocError>
-    requires { are_all_sound (payload_of adb) (Kinds.Obj Tables.Package) (array_entries packages) ≡ true }
-    ensures { IfOk result (λ cause. cause ≡ or_else (inside_fault (plains_at (payload_of adb.entry) (Kinds.Obj Tables.Package) (array_entries packages.entry))) (between_fault (plains_at (payload_of adb.entry) (Kinds.Obj Tables.Package) (array_entries packages.entry)))) }
+    requires { are_all_sound (payload_of adb) (Kinds.Obj Tables.Package) (array_entries packages)
+        ≡ true }
+    ensures { IfOk result (λ cause. cause
+        ≡ or_else
+        (inside_fault (plains_at (payload_of adb.entry) (Kinds.Obj Tables.Package)
+        (array_entries packages.entry)))
+        (between_fault (plains_at (payload_of adb.entry) (Kinds.Obj Tables.Package)
+        (array_entries packages.entry)))) }
 {
     match inside_packages(alloc, adb, packages)? {
         Some(cause) => Ok(Some(cause)),
@@ -88,8 +97,11 @@ fn inside_packages(
     adb: Adb<'_>,
     packages: Arr<'_>,
 ) -> Result<Option<Cause>, AllocError>
-    requires { are_all_sound (payload_of adb) (Kinds.Obj Tables.Package) (array_entries packages) ≡ true }
-    ensures { IfOk result (λ cause. cause ≡ inside_fault (plains_at (payload_of adb.entry) (Kinds.Obj Tables.Package) (array_entries packages.entry))) }
+    requires { are_all_sound (payload_of adb) (Kinds.Obj Tables.Package) (array_entries packages)
+        ≡ true }
+    ensures { IfOk result (λ cause. cause
+        ≡ inside_fault (plains_at (payload_of adb.entry) (Kinds.Obj Tables.Package)
+        (array_entries packages.entry))) }
 {
     match repeated_at(501, folders_twice(alloc, adb, packages)?) {
         Some(cause) => Ok(Some(cause)),
@@ -103,8 +115,11 @@ fn between_packages(
     adb: Adb<'_>,
     packages: Arr<'_>,
 ) -> Result<Option<Cause>, AllocError>
-    requires { are_all_sound (payload_of adb) (Kinds.Obj Tables.Package) (array_entries packages) ≡ true }
-    ensures { IfOk result (λ cause. cause ≡ between_fault (plains_at (payload_of adb.entry) (Kinds.Obj Tables.Package) (array_entries packages.entry))) }
+    requires { are_all_sound (payload_of adb) (Kinds.Obj Tables.Package) (array_entries packages)
+        ≡ true }
+    ensures { IfOk result (λ cause. cause
+        ≡ between_fault (plains_at (payload_of adb.entry) (Kinds.Obj Tables.Package)
+        (array_entries packages.entry))) }
 {
     let mut names = package_names(alloc, adb, packages)?;
     match repeated_at(901, first_pair(&mut names)) {
@@ -119,8 +134,13 @@ fn between_packages(
 /// Names that stand twice in an intent.
 fn in_intent(alloc: Global, adb: Adb<'_>, intent: Val) -> Result<Option<Cause>, AllocError>
     requires sound { is_sound (payload_of adb) (Kinds.Obj Tables.Intent) intent ≡ true }
-    requires few { count_of (entries_in (entry_in (value_at (payload_of adb) (Kinds.Obj Tables.Intent) intent) 0)) + count_of (entries_in (entry_in (value_at (payload_of adb) (Kinds.Obj Tables.Intent) intent) 1)) < 2 ^ 32 }
-    ensures { IfOk result (λ cause. cause ≡ repeated_at 1002 (name_twice (value_at (payload_of adb.entry) (Kinds.Obj Tables.Intent) intent))) }
+    requires few { count_of (entries_in
+        (entry_in (value_at (payload_of adb) (Kinds.Obj Tables.Intent) intent) 0)) +
+        count_of (entries_in
+        (entry_in (value_at (payload_of adb) (Kinds.Obj Tables.Intent) intent) 1)) < 2 ^ 32 }
+    ensures { IfOk result (λ cause. cause
+        ≡ repeated_at 1002
+        (name_twice (value_at (payload_of adb.entry) (Kinds.Obj Tables.Intent) intent))) }
 {
     let removals = texts_field(adb, Which::Intent, intent, 0);
     let writes = texts_field(adb, Which::Intent, intent, 1);
@@ -137,9 +157,12 @@ fn name_twice(
     which: Which,
     objects: Arr<'_>,
 ) -> Result<Option<Pair>, AllocError>
-    requires sound { are_all_sound (payload_of adb) (Kinds.Obj which) (array_entries objects) ≡ true }
+    requires sound { are_all_sound (payload_of adb) (Kinds.Obj which) (array_entries objects)
+        ≡ true }
     requires kind { kind_at which 0 ≡ Some Kinds.Text }
-    ensures { IfOk result (λ pair. pair ≡ twice (map name_of (plains_at (payload_of adb.entry) (Kinds.Obj which) (array_entries objects.entry)))) }
+    ensures { IfOk result (λ pair. pair
+        ≡ twice (map name_of (plains_at (payload_of adb.entry) (Kinds.Obj which)
+        (array_entries objects.entry)))) }
 {
     let mut names = object_names(alloc, adb, which, objects)?;
     Ok(first_pair(&mut names))
@@ -148,7 +171,9 @@ fn name_twice(
 /// A folder that stands twice in a package.
 fn folder_twice(alloc: Global, adb: Adb<'_>, pkg: Val) -> Result<Option<Pair>, AllocError>
     requires { is_sound (payload_of adb) (Kinds.Obj Tables.Package) pkg ≡ true }
-    ensures { IfOk result (λ pair. pair ≡ twice (map name_of (folders_in (value_at (payload_of adb.entry) (Kinds.Obj Tables.Package) pkg)))) }
+    ensures { IfOk result (λ pair. pair
+        ≡ twice (map name_of (folders_in
+        (value_at (payload_of adb.entry) (Kinds.Obj Tables.Package) pkg)))) }
 {
     let folders = objects_field(adb, Which::Package, pkg, 1, Which::Dir);
     name_twice(alloc, adb, Which::Dir, folders)
@@ -158,7 +183,9 @@ fn folder_twice(alloc: Global, adb: Adb<'_>, pkg: Val) -> Result<Option<Pair>, A
 #[tactic(auto, using(crate::proofs::FieldReads::entry_sound))]
 fn file_twice(alloc: Global, adb: Adb<'_>, pkg: Val) -> Result<Option<Pair>, AllocError>
     requires { is_sound (payload_of adb) (Kinds.Obj Tables.Package) pkg ≡ true }
-    ensures { IfOk result (λ pair. pair ≡ twice_in_one (map (λ folder. map name_of (files_in folder)) (folders_in (value_at (payload_of adb.entry) (Kinds.Obj Tables.Package) pkg)))) }
+    ensures { IfOk result (λ pair. pair
+        ≡ twice_in_one (map (λ folder. map name_of (files_in folder))
+        (folders_in (value_at (payload_of adb.entry) (Kinds.Obj Tables.Package) pkg)))) }
 {
     let folders = objects_field(adb, Which::Package, pkg, 1, Which::Dir);
     let mut first = None;
@@ -171,7 +198,9 @@ fn file_twice(alloc: Global, adb: Adb<'_>, pkg: Val) -> Result<Option<Pair>, All
 /// A file that stands twice in a folder.
 fn file_twice_in(alloc: Global, adb: Adb<'_>, folder: Val) -> Result<Option<Pair>, AllocError>
     requires { is_sound (payload_of adb) (Kinds.Obj Tables.Dir) folder ≡ true }
-    ensures { IfOk result (λ pair. pair ≡ twice (map name_of (files_in (value_at (payload_of adb.entry) (Kinds.Obj Tables.Dir) folder)))) }
+    ensures { IfOk result (λ pair. pair
+        ≡ twice (map name_of (files_in
+        (value_at (payload_of adb.entry) (Kinds.Obj Tables.Dir) folder)))) }
 {
     let files = objects_field(adb, Which::Dir, folder, 2, Which::File);
     name_twice(alloc, adb, Which::File, files)
@@ -180,8 +209,11 @@ fn file_twice_in(alloc: Global, adb: Adb<'_>, folder: Val) -> Result<Option<Pair
 /// A folder that stands twice in one of the packages.
 #[tactic(auto, using(crate::proofs::FieldReads::entry_sound))]
 fn folders_twice(alloc: Global, adb: Adb<'_>, packages: Arr<'_>) -> Result<Option<Pair>, AllocError>
-    requires { are_all_sound (payload_of adb) (Kinds.Obj Tables.Package) (array_entries packages) ≡ true }
-    ensures { IfOk result (λ pair. pair ≡ folder_twice (plains_at (payload_of adb.entry) (Kinds.Obj Tables.Package) (array_entries packages.entry))) }
+    requires { are_all_sound (payload_of adb) (Kinds.Obj Tables.Package) (array_entries packages)
+        ≡ true }
+    ensures { IfOk result (λ pair. pair
+        ≡ folder_twice (plains_at (payload_of adb.entry) (Kinds.Obj Tables.Package)
+        (array_entries packages.entry))) }
 {
     let mut first = None;
     for i in 0..packages.len() {
@@ -193,8 +225,11 @@ fn folders_twice(alloc: Global, adb: Adb<'_>, packages: Arr<'_>) -> Result<Optio
 /// A file that stands twice in one of the packages' folders.
 #[tactic(auto, using(crate::proofs::FieldReads::entry_sound))]
 fn files_twice(alloc: Global, adb: Adb<'_>, packages: Arr<'_>) -> Result<Option<Pair>, AllocError>
-    requires { are_all_sound (payload_of adb) (Kinds.Obj Tables.Package) (array_entries packages) ≡ true }
-    ensures { IfOk result (λ pair. pair ≡ file_twice (plains_at (payload_of adb.entry) (Kinds.Obj Tables.Package) (array_entries packages.entry))) }
+    requires { are_all_sound (payload_of adb) (Kinds.Obj Tables.Package) (array_entries packages)
+        ≡ true }
+    ensures { IfOk result (λ pair. pair
+        ≡ file_twice (plains_at (payload_of adb.entry) (Kinds.Obj Tables.Package)
+        (array_entries packages.entry))) }
 {
     let mut first = None;
     for i in 0..packages.len() {
@@ -205,5 +240,6 @@ fn files_twice(alloc: Global, adb: Adb<'_>, packages: Arr<'_>) -> Result<Option<
 
 /// No repeated name is reported of a value exactly where each stands once.
 pub fn no_name_is_repeated_where_each_stands_once()
-    ensures { (which : Which) (value : Plain) → (repeated_fault which value ≡ None) ↔ NamesStandOnce which value }
+    ensures { (which : Which) (value : Plain) → (repeated_fault which value ≡ None)
+        ↔ NamesStandOnce which value }
 {}

@@ -3,7 +3,9 @@ use Rattle.std.proofs.Common.{◌≡◌, ℕ, zero, suc, ◌<◌, Bool, true, fa
 use Rattle.std.specs.Prelude.{slice_get, if◌then◌else◌}
 use Rattle.base_core.specs.declared.cause.Cause.{Cause}
 use Rattle.base_core.specs.declared.cause.Cause.TheVariants.{BadText}
-use Rattle.adb_rules.specs.Texts.{Leaf, keeps_rule, number_of_leaf, first_bad, IsFirstBad, IsFirstBadOf}
+use Rattle.adb_rules.specs.Texts.{Leaf, keeps_rule, number_of_leaf, first_bad}
+use Rattle.adb_rules.specs.FirstBad.{IsFirstBadOf}
+use Rattle.adb_rules.specs.FirstBad.{IsFirstBad}
 
 -- one leaf more in front
 behind_kept : (x : Leaf) (xs : List Leaf) (c : Cause) → keeps_rule x ≡ true → IsFirstBad xs c → IsFirstBad (x ∷ xs) c

@@ -1,12 +1,12 @@
 -- No text is bad exactly where each keeps the rule of its field.
-use Rattle.std.proofs.Common.{◌≡◌, ℕ, zero, suc, ◌+◌, Bool, true, false, ◌&&◌, List, [], ◌∷◌, ◌++◌, length, Option, Some, None, refl, sym, ap, ◌∙◌, ◌↔◌}
+use Rattle.std.proofs.Common.{◌≡◌, ℕ, zero, suc, ◌+◌, Bool, true, false, ◌&&◌, List, [], ◌∷◌, ◌++◌, length, Option, Some, None, refl, sym, ap, ◌∙◌, ◌↔◌, ◌<◌, arith}
 use Rattle.std.specs.Prelude.{if◌then◌else◌}
 use Rattle.base_core.specs.declared.cause.Cause.{Cause}
 use Rattle.base_core.specs.declared.cause.Cause.TheVariants.{BadText}
 use Rattle.adb_view.specs.Plain.{Plain, null, Plains, none, more, Shape, number, text, hash, array, object, Fields, no_fields, field}
 use Rattle.adb_view.specs.Shaped.{Each}
 use Rattle.adb_tables.specs.Walk.{or_else}
-use Rattle.adb_tables.specs.Values.{nth, entries_in, entry_in, int_in, text_in}
+use Rattle.adb_tables.specs.Values.{nth, count_of, entries_in, entry_in, int_in, text_in}
 use Rattle.adb_tables.specs.Schema.{shape_of, shapes_of, table}
 use Rattle.adb_tables.specs.declared.tables.Which.{Which}
 use Rattle.adb_tables.specs.declared.tables.Which.TheVariants as Tables
@@ -301,3 +301,10 @@ rules_kept Tables.Package v = (package_of 0 (at_root Tables.Package) v, of_packa
 rules_kept Tables.Index v = (index_of v, of_index v)
 rules_kept Tables.Idb v = (database_of v, of_database v)
 rules_kept Tables.Intent v = (intent_of v, of_intent v)
+
+-- ---- the entries of a list
+
+pub each_at : (P : Plain → Type 0) (vs : Plains) (i : ℕ) → Each P vs → i < count_of vs → P (nth vs i)
+each_at P none i e lt = absurd (omega arith)
+each_at P (more v vs) zero e lt = e.0
+each_at P (more v vs) (suc i) e lt = each_at P vs i e.1 (omega arith)

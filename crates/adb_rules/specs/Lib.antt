@@ -3,5 +3,6 @@ pub mod Reserved
 pub mod Rules
 pub mod Texts
 -- what only inner contracts and proofs use
-pub mod Surroundings
 pub mod SoundValues
+pub mod FirstBad
+pub mod Surroundings

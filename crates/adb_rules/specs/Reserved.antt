@@ -16,7 +16,8 @@ stage_names = codes "lib/apk/intent" ∷ codes "lib/apk/stage" ∷ []
 
 -- those, the world and the database
 abbrev pub reserved_names : List (List ℕ)
-reserved_names = codes "etc/apk/world" ∷ codes "lib/apk/intent" ∷ codes "lib/apk/stage" ∷ codes "lib/apk/db" ∷ []
+reserved_names = codes "etc/apk/world" ∷ codes "lib/apk/intent" ∷ codes "lib/apk/stage" ∷
+    codes "lib/apk/db" ∷ []
 
 abbrev pub is_stage_name : List ℕ → Bool
 is_stage_name path = is_below_any stage_names path

@@ -1,5 +1,5 @@
--- What the value of a sound container is, table by table: each text and number keeps the rule of its field. Fields count
--- from 0.
+-- What the value of a sound container is, table by table: each text and number keeps the rule of
+-- its field. Fields count from 0.
 use Rattle.std.specs.Prelude.{◌≡◌, ℕ, true, Bool, if◌then◌else◌, List, [], length}
 use Rattle.version_core.specs.Order.{is_version}
 use Rattle.dep_core.specs.Dependency.{is_dep_name, is_package_name}
@@ -19,7 +19,8 @@ pub record IsDependency (v : Plain) : Type 0 where
   pub version : is_version_or_empty (text_in (entry_in v 1)) ≡ true
   pub matching : is_matching (int_in (entry_in v 2)) ≡ true
 
--- what is told of a package, in a container with this table at its root: in an index it has its hash
+-- the information of a package, in a container with this table at its root: in an index it has its
+-- hash
 pub record IsInformation (root : Which) (v : Plain) : Type 0 where
   pub name : is_package_name (text_in (entry_in v 0)) ≡ true
   pub version : is_version (text_in (entry_in v 1)) ≡ true

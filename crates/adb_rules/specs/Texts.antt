@@ -1,5 +1,6 @@
--- The rules of the texts and numbers of a container, each under the number of its
--- field, and the first that is broken. The number of a field is 100 times that of its table plus its own in the table.
+-- The rules of the texts and numbers of a container, each under the number of its field, and the
+-- first that is broken. The number of a field is 100 times that of its table plus its own in the
+-- table.
 use Rattle.std.specs.Prelude.{◌≡◌, ℕ, ◌+◌, ◌*◌, ◌<◌, ◌==◌, nat_lt, Bool, true, false, not, ◌&&◌, if◌then◌else◌, List, [], ◌∷◌, ◌++◌, length, slice_get, Option, Some, None}
 use Rattle.std.specs.List.{list_all}
 use Rattle.version_core.specs.Order.{is_version}
@@ -17,8 +18,8 @@ use Rattle.adb_tables.specs.declared.tables.Which.{Which}
 use Rattle.adb_tables.specs.declared.tables.Which.TheVariants.{File, Dir, Index, Idb}
 use Rattle.adb_tables.specs.declared.tables.Kind.TheVariants.{Obj}
 
--- what stands around a value, as far as a rule looks at it: the table of the container's root, the name of the folder, and
--- whether the file has contents
+-- what stands around a value, as far as a rule looks at it: the table of the container's root, the
+-- name of the folder, and whether the file has contents
 pub record Surroundings : Type 0 where
   pub root : Which
   pub folder : List ℕ
@@ -31,13 +32,15 @@ abbrev pub is_package_hash : Which → ℕ → Bool
 is_package_hash Index len = is_id_length len
 is_package_hash root len = is_digest_length_or_none len
 
--- no database lists a file under a reserved name, since no change may remove one as a package's file
+-- no database lists a file under a reserved name, since no change may remove one as a package's
+-- file
 abbrev pub may_list : Which → List ℕ → Bool
 may_list Idb path = not (is_reserved path)
 may_list root path = true
 
 abbrev pub is_listed_file : Surroundings → List ℕ → Bool
-is_listed_file around name = is_file_name around.folder name && may_list around.root (path_of around.folder name)
+is_listed_file around name = is_file_name around.folder name
+    && may_list around.root (path_of around.folder name)
 
 -- a database may lack the hash of a file that has contents
 abbrev pub needs_hash : Which → Bool → Bool
@@ -45,7 +48,8 @@ needs_hash Idb has_contents = false
 needs_hash root has_contents = has_contents
 
 abbrev pub is_file_hash : Surroundings → ℕ → Bool
-is_file_hash around len = if needs_hash around.root around.has_contents then is_digest_length len else is_digest_length_or_none len
+is_file_hash around len = if needs_hash around.root around.has_contents then is_digest_length len
+    else is_digest_length_or_none len
 
 -- ---- the rule of each field
 
@@ -85,7 +89,8 @@ number_of_leaf (text_leaf field_number around bytes) = field_number
 
 -- a file without target and with a size above 0
 abbrev pub is_with_contents : Plain → Bool
-is_with_contents file = (length (text_in (entry_in file 5)) == 0) && nat_lt 0 (int_in (entry_in file 2))
+is_with_contents file = (length (text_in (entry_in file 5)) == 0)
+    && nat_lt 0 (int_in (entry_in file 2))
 
 -- what stands around the fields of an object, whose table has this number
 abbrev pub inside_of : ℕ → Surroundings → Plain → Surroundings
@@ -106,12 +111,15 @@ unfoldable mutual
   leaves text field_number around v = text_leaf field_number around (text_in v) ∷ []
   leaves hash field_number around v = text_leaf field_number around (text_in v) ∷ []
   leaves (array s) field_number around v = each_leaf (leaves s field_number around) (entries_in v)
-  leaves (object schema fs) field_number around v = field_leaves fs (100 * schema + 1) (inside_of schema around v) (entries_in v)
+  leaves (object schema fs) field_number around v = field_leaves fs (100 * schema + 1)
+      (inside_of schema around v) (entries_in v)
 
   pub field_leaves : Fields → ℕ → Surroundings → Plains → List Leaf
   field_leaves no_fields field_number around vs = []
-  field_leaves (field name s fs) field_number around none = leaves s field_number around null ++ field_leaves fs (field_number + 1) around none
-  field_leaves (field name s fs) field_number around (more v vs) = leaves s field_number around v ++ field_leaves fs (field_number + 1) around vs
+  field_leaves (field name s fs) field_number around none = leaves s field_number around null
+      ++ field_leaves fs (field_number + 1) around none
+  field_leaves (field name s fs) field_number around (more v vs) = leaves s field_number around v
+      ++ field_leaves fs (field_number + 1) around vs
 
 abbrev pub at_root : Which → Surroundings
 at_root which = record { root = which; folder = []; has_contents = false }
@@ -124,21 +132,8 @@ leaves_of which v = leaves (shape_of (Obj which)) 0 (at_root which) v
 
 abbrev pub first_bad : List Leaf → Option Cause
 first_bad [] = None
-first_bad (leaf ∷ others) = if keeps_rule leaf then first_bad others else Some (BadText (number_of_leaf leaf))
+first_bad (leaf ∷ others) = if keeps_rule leaf then first_bad others
+    else Some (BadText (number_of_leaf leaf))
 
 abbrev pub text_fault : Which → Plain → Option Cause
 text_fault which v = first_bad (leaves_of which v)
-
--- a leaf breaks its rule, and none before it does
-pub record IsFirstBad (all : List Leaf) (c : Cause) : Type 0 where
-  pub i : ℕ
-  pub leaf : Leaf
-  pub at : slice_get all i ≡ Some leaf
-  pub broken : keeps_rule leaf ≡ false
-  pub cause : c ≡ BadText (number_of_leaf leaf)
-  pub before : (j : ℕ) → (other : Leaf) → j < i → slice_get all j ≡ Some other → keeps_rule other ≡ true
-
--- the cause is that of the first leaf that breaks its rule; without one each keeps its own
-abbrev pub IsFirstBadOf : List Leaf → Option Cause → Type 0
-IsFirstBadOf all None = list_all keeps_rule all ≡ true
-IsFirstBadOf all (Some c) = IsFirstBad all c

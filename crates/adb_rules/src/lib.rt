@@ -1,8 +1,10 @@
-//! The rules that single texts and numbers of a container keep (apk-v3(5), apk-package(5)), and the walk that tests them.
+//! The rules that single texts and numbers of a container keep (apk-v3(5), apk-package(5)), and the
+//! walk that tests them.
 //!
-//! `check_texts` tests each text and number of a walked payload against the rule of its field. `is_reserved` and its like
-//! say which names below a root no package may hold. The contracts cite `Rules` and `Reserved` (what a text has to be) and
-//! `Texts` (the rule of each field, and the first that is broken).
+//! `check_texts` tests each text and number of a walked payload against the rule of its field.
+//! `is_reserved` and its like say which names below a root no package may hold. The contracts cite
+//! `Rules` and `Reserved` (what a text has to be) and `Texts` (the rule of each field, and the
+//! first that is broken).
 #![tactic(auto)]
 
 mod rules;
@@ -10,5 +12,6 @@ mod text_walk;
 
 pub use rules::{is_reserved, is_reserved_file, is_stage_name};
 pub use text_walk::{
-    check_texts, no_text_is_bad_where_each_keeps_its_rule, the_first_bad_text_is_reported,
+    check_texts, entries_keep_the_rule_of_their_list, no_text_is_bad_where_each_keeps_its_rule,
+    the_first_bad_text_is_reported,
 };

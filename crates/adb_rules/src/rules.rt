@@ -1,4 +1,5 @@
-//! What single texts of a container have to be (apk-v3(5), apk-package(5)), and the names below a root that no package may hold.
+//! What single texts of a container have to be (apk-v3(5), apk-package(5)), and the names below a
+//! root that no package may hold.
 
 ghost use Rattle.std.specs.Prelude.{◌≡◌, ◌==◌, nat_le, length, ◌∷◌};
 ghost use Rattle.std.specs.Str.{is_utf8};
@@ -35,7 +36,8 @@ pub(crate) fn is_digest_length_or_none(len: usize) -> bool
     len == 0 || is_digest_length(len)
 }
 
-/// Whether so many bytes are what an index tells of a package: a SHA-256, or the first 20 bytes of one.
+/// Whether so many bytes are what an index says of a package: a SHA-256, or the first 20 bytes of
+/// one.
 pub(crate) fn is_id_length(len: usize) -> bool
     ensures { result ≡ is_id_length len }
 {
@@ -58,7 +60,8 @@ pub(crate) fn is_version_or_empty(text: &[u8]) -> bool
     text.is_empty() || is_version(text)
 }
 
-/// Whether the number is a dependency's match number: below 32, and its low four bits are an operator.
+/// Whether the number is a dependency's match number: below 32, and its low four bits are an
+/// operator.
 pub(crate) fn is_matching(number: u64) -> bool
     ensures { result ≡ is_matching number }
 {
@@ -91,7 +94,8 @@ fn has_slash(name: &[u8]) -> bool
     name.contains(&b'/')
 }
 
-/// Whether the bytes are one part of a path, with which a file of this folder has a path of at most 1,024 bytes.
+/// Whether the bytes are one part of a path, with which a file of this folder has a path of at most
+/// 1,024 bytes.
 pub(crate) fn is_file_name(folder: &[u8], name: &[u8]) -> bool
     ensures { result ≡ is_file_name folder.now name.now }
 {
@@ -107,7 +111,8 @@ fn fits_in(folder: &[u8], name: &[u8]) -> bool
     name.len() < MOST && folder.len() < MOST - name.len()
 }
 
-/// Whether the bytes are what a change may remove or write: a path, but none that the change itself is kept in.
+/// Whether the bytes are what a change may remove or write: a path, but none that the change itself
+/// is kept in.
 pub(crate) fn is_change_name(path: &[u8]) -> bool
     ensures { result ≡ is_change_name path.now }
 {
@@ -146,16 +151,16 @@ pub(crate) fn is_name_pattern(pattern: &[u8]) -> bool
     pattern.is_empty() || pattern == NAME_PATTERN
 }
 
-/// Whether a path is one where a change is prepared, or what is left to do of it is kept: `lib/apk/intent`,
-/// `lib/apk/stage`, or a name below one of them.
+/// Whether a path is one where a change is prepared, or what is left to do of it is kept:
+/// `lib/apk/intent`, `lib/apk/stage`, or a name below one of them.
 pub fn is_stage_name(path: &[u8]) -> bool
     ensures { result ≡ is_stage_name path.now }
 {
     is_at_or_below(b"lib/apk/intent", path) || is_at_or_below(b"lib/apk/stage", path)
 }
 
-/// Whether a path is reserved: `etc/apk/world`, `lib/apk/intent`, `lib/apk/stage`, `lib/apk/db`, or a name below one of
-/// them.
+/// Whether a path is reserved: `etc/apk/world`, `lib/apk/intent`, `lib/apk/stage`, `lib/apk/db`, or
+/// a name below one of them.
 pub fn is_reserved(path: &[u8]) -> bool
     ensures { result ≡ is_reserved path.now }
 {

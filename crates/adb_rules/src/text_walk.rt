@@ -1,14 +1,16 @@
 //! The text walk: each number and text of a walked payload, against the rule of its field.
 
-ghost use Rattle.std.specs.Prelude.{◌↔◌, None, ◌≡◌, ◌==◌, ◌*◌, true, length, ◌+◌, ◌<◌, ◌≤◌, ◌^◌, IfOk, [], ◌∷◌};
+ghost use Rattle.std.specs.Prelude.{ℕ, List, ◌↔◌, None, ◌≡◌, ◌==◌, ◌*◌, true, length, ◌+◌, ◌<◌, ◌≤◌, ◌^◌, IfOk, [], ◌∷◌};
 ghost use Rattle.adb_view.specs.Adb.{payload_of};
 ghost use Rattle.adb_tables.specs.Schema.{schema_number, shape_of, shapes_of, table};
-ghost use Rattle.adb_tables.specs.Values.{is_sound, value_at, entries_in};
+ghost use Rattle.adb_tables.specs.Values.{is_sound, value_at, entries_in, entry_in, count_of};
 ghost use Rattle.adb_fields.specs.Paths.{path_of};
 ghost use Rattle.adb_rules.specs.Surroundings.{surroundings_of};
 ghost use Rattle.adb_tables.specs.Shaped.{shaped_value, table_of};
-ghost use Rattle.adb_rules.specs.SoundValues.{KeepsRules};
-ghost use Rattle.adb_rules.specs.Texts.{at_root, inside_of, is_file_hash, is_listed_file, is_package_hash, is_with_contents, may_list, needs_hash, number_rule, text_rule, each_leaf, field_leaves, first_bad, leaves, number_leaf, text_leaf, leaves_of, text_fault, IsFirstBadOf};
+ghost use Rattle.adb_view.specs.Shaped.{Each};
+ghost use Rattle.adb_rules.specs.SoundValues.{IsChangeName, IsDependency, IsFileOf, IsFolder, IsInformation, IsPackage, KeepsRules};
+ghost use Rattle.adb_rules.specs.Texts.{at_root, inside_of, is_file_hash, is_listed_file, is_package_hash, is_with_contents, may_list, needs_hash, number_rule, text_rule, each_leaf, field_leaves, first_bad, leaves, number_leaf, text_leaf, leaves_of, text_fault};
+ghost use Rattle.adb_rules.specs.FirstBad.{IsFirstBadOf};
 ghost use Rattle.adb_view.specs.Entries.{array_entries};
 ghost use Rattle.adb_view.specs.Gives.{cause_of};
 ghost use Rattle.adb_fields.specs.Fields.{are_all_sound, values_at};
@@ -18,13 +20,16 @@ ghost use Rattle.adb_tables.specs.declared.tables.Kind.TheVariants as Kinds;
 ghost use Rattle.adb_tables.specs.declared.tables.Which.TheVariants as Tables;
 
 use crate::rules::*;
-use adb_fields::{field_word, hash_word, int_field, int_word, objects_word, text_field, text_word, texts_word};
+use adb_fields::{
+    field_word, hash_word, int_field, int_word, objects_word, text_field, text_word, texts_word,
+};
 use adb_tables::{Kind, Shaped, Which, entry_word, fields_of, number_of};
 use adb_view::{Adb, Arr, Val};
 use base_core::Cause;
 use dep_core::{is_dep_name, is_package_name};
 
-/// The numbers of the fields that have a rule: 100 times the number of the table plus that of the field.
+/// The numbers of the fields that have a rule: 100 times the number of the table plus that of the
+/// field.
 mod field_number {
     pub(crate) const DEP_NAME: u16 = 101;
 
@@ -79,7 +84,9 @@ impl<'a> Surroundings<'a> {
     /// What stands around the fields of an object.
     pub(crate) fn inside(self, adb: Adb<'a>, which: Which, object: Val) -> Surroundings<'a>
         requires { is_sound (payload_of adb) (Kinds.Obj which) object ≡ true }
-        ensures { surroundings_of result ≡ inside_of (schema_number which) (surroundings_of self.entry) (value_at (payload_of adb.entry) (Kinds.Obj which) object) }
+        ensures { surroundings_of result
+            ≡ inside_of (schema_number which) (surroundings_of self.entry)
+            (value_at (payload_of adb.entry) (Kinds.Obj which) object) }
     {
         match which {
             Which::Dir => Surroundings {
@@ -103,7 +110,8 @@ impl<'a> Surroundings<'a> {
         is_file_name(self.folder, name) && self.may_list(name)
     }
 
-    /// Whether the container may list a file of this name in the folder: a database none under a reserved name.
+    /// Whether the container may list a file of this name in the folder: a database none under a
+    /// reserved name.
     fn may_list(&self, name: &[u8]) -> bool
         ensures { result ≡ may_list self.now.root (path_of self.now.folder.now name.now) }
     {
@@ -138,7 +146,8 @@ impl<'a> Surroundings<'a> {
 /// Whether a file has contents: no target, and a size above 0.
 fn has_contents(adb: Adb<'_>, file: Val) -> bool
     requires { is_sound (payload_of adb) (Kinds.Obj Tables.File) file ≡ true }
-    ensures { result ≡ is_with_contents (value_at (payload_of adb.entry) (Kinds.Obj Tables.File) file) }
+    ensures { result
+        ≡ is_with_contents (value_at (payload_of adb.entry) (Kinds.Obj Tables.File) file) }
 {
     let target = text_field(adb, Which::File, file, 5);
     target.is_empty() && int_field(adb, Which::File, file, 2) > 0
@@ -175,18 +184,25 @@ pub(crate) fn keeps_text_rule(field_number: u16, around: &Surroundings<'_>, byte
     }
 }
 
-/// Tests each text and number of a walked payload against the rule of its field. It takes no memory.
+/// Tests each text and number of a walked payload against the rule of its field. It takes no
+/// memory.
 ///
 /// # Errors
 ///
-/// `BadText` with the number of the first field that breaks its rule, depth first and field by field; a missing field
-/// counts as Null.
+/// `BadText` with the number of the first field that breaks its rule, depth first and field by
+/// field; a missing field counts as Null.
 pub fn check_texts(shaped: Shaped<'_>) -> Result<(), Cause>
     ensures { cause_of result ≡ text_fault (table_of shaped.entry) (shaped_value shaped.entry) }
 {
     let adb = shaped.adb();
     let which = shaped.which();
-    check_value(adb, Kind::Obj(which), 0, Surroundings::at_root(which), adb.root())
+    check_value(
+        adb,
+        Kind::Obj(which),
+        0,
+        Surroundings::at_root(which),
+        adb.root(),
+    )
 }
 
 /// Checks a value, and what lies below it.
@@ -199,7 +215,9 @@ fn check_value<'a>(
     word: Val,
 ) -> Result<(), Cause>
     requires { is_sound (payload_of adb) kind word ≡ true }
-    ensures { cause_of result ≡ first_bad (leaves (shape_of kind) field_number (surroundings_of around.entry) (value_at (payload_of adb.entry) kind word)) }
+    ensures { cause_of result
+        ≡ first_bad (leaves (shape_of kind) field_number (surroundings_of around.entry)
+        (value_at (payload_of adb.entry) kind word)) }
 {
     match kind {
         Kind::Int => check_number(field_number, int_word(adb, word)),
@@ -230,7 +248,9 @@ fn check_entries<'a>(
     entries: Arr<'a>,
 ) -> Result<(), Cause>
     requires { are_all_sound (payload_of adb) kind (array_entries entries) ≡ true }
-    ensures { cause_of result ≡ first_bad (each_leaf (leaves (shape_of kind) field_number (surroundings_of around.entry)) (values_at (payload_of adb.entry) kind (array_entries entries.entry))) }
+    ensures { cause_of result
+        ≡ first_bad (each_leaf (leaves (shape_of kind) field_number (surroundings_of around.entry))
+        (values_at (payload_of adb.entry) kind (array_entries entries.entry))) }
 {
     for i in 0..entries.len() {
         check_value(adb, kind, field_number, around, entry_word(entries, i))?;
@@ -247,7 +267,10 @@ fn check_fields<'a>(
     object: Val,
 ) -> Result<(), Cause>
     requires { is_sound (payload_of adb) (Kinds.Obj which) object ≡ true }
-    ensures { cause_of result ≡ first_bad (field_leaves (shapes_of (table which)) (100 * schema_number which + 1) (surroundings_of around.entry) (entries_in (value_at (payload_of adb.entry) (Kinds.Obj which) object))) }
+    ensures { cause_of result
+        ≡ first_bad (field_leaves (shapes_of (table which)) (100 * schema_number which + 1)
+        (surroundings_of around.entry)
+        (entries_in (value_at (payload_of adb.entry) (Kinds.Obj which) object))) }
 {
     let mut field_number = 100 * number_of(which);
     for (i, field) in fields_of(which).iter().enumerate() {
@@ -271,7 +294,8 @@ fn check_number(field_number: u16, n: u64) -> Result<(), Cause>
 }
 
 fn check_text(field_number: u16, around: &Surroundings<'_>, bytes: &[u8]) -> Result<(), Cause>
-    ensures { cause_of result ≡ first_bad (text_leaf field_number (surroundings_of around.now) bytes.now ∷ []) }
+    ensures { cause_of result
+        ≡ first_bad (text_leaf field_number (surroundings_of around.now) bytes.now ∷ []) }
 {
     if keeps_text_rule(field_number, around, bytes) {
         Ok(())
@@ -282,13 +306,38 @@ fn check_text(field_number: u16, around: &Surroundings<'_>, bytes: &[u8]) -> Res
     }
 }
 
-/// The cause that the text walk reports is that of the first text or number that breaks the rule of its field, depth first
-/// and field by field; none is reported exactly where each keeps its rule.
+/// The cause that the text walk reports is that of the first text or number that breaks the rule of
+/// its field, depth first and field by field; none is reported exactly where each keeps its rule.
 pub fn the_first_bad_text_is_reported()
-    ensures { (which : Which) (value : Plain) → IsFirstBadOf (leaves_of which value) (text_fault which value) }
+    ensures { (which : Which) (value : Plain)
+        → IsFirstBadOf (leaves_of which value) (text_fault which value) }
 {}
 
-/// No text or number of a value is bad exactly where each keeps the rule of its field, table by table.
+/// No text or number of a value is bad exactly where each keeps the rule of its field, table by
+/// table.
 pub fn no_text_is_bad_where_each_keeps_its_rule()
-    ensures { (which : Which) (value : Plain) → (text_fault which value ≡ None) ↔ KeepsRules which value }
+    ensures { (which : Which) (value : Plain) → (text_fault which value ≡ None)
+        ↔ KeepsRules which value }
+{}
+
+/// Each entry of a list keeps the rule that the list keeps. Entries count from 0.
+pub fn entries_keep_the_rule_of_their_list()
+    ensures dependency { (list : Plain) (i : ℕ)
+        → Each IsDependency (entries_in list) → i < count_of (entries_in list)
+        → IsDependency (entry_in list i) }
+    ensures information { (root : Which) (list : Plain) (i : ℕ)
+        → Each (IsInformation root) (entries_in list) → i < count_of (entries_in list)
+        → IsInformation root (entry_in list i) }
+    ensures file { (root : Which) (folder : List ℕ) (list : Plain) (i : ℕ)
+        → Each (IsFileOf root folder) (entries_in list) → i < count_of (entries_in list)
+        → IsFileOf root folder (entry_in list i) }
+    ensures folder { (root : Which) (list : Plain) (i : ℕ)
+        → Each (IsFolder root) (entries_in list) → i < count_of (entries_in list)
+        → IsFolder root (entry_in list i) }
+    ensures package { (root : Which) (list : Plain) (i : ℕ)
+        → Each (IsPackage root) (entries_in list) → i < count_of (entries_in list)
+        → IsPackage root (entry_in list i) }
+    ensures change_name { (list : Plain) (i : ℕ)
+        → Each IsChangeName (entries_in list) → i < count_of (entries_in list)
+        → IsChangeName (entry_in list i) }
 {}

@@ -1,5 +1,7 @@
 -- what the contract of `apk` says
 pub mod Soundness
-pub mod Checked
 -- what only inner contracts and proofs use
+pub mod SoundContainers
+pub mod ReadFaults
+pub mod Checked
 pub mod Views

@@ -1,5 +1,5 @@
 -- The first failed test of a whole container, in the order of the tests.
-use Rattle.std.specs.Prelude.{◌≡◌, ℕ, List, [], take, drop, length, Bool, false, nat_lt, ◌==◌, if◌then◌else◌, Option, Some, None, Result, Ok, Err}
+use Rattle.std.specs.Prelude.{ℕ, List, [], take, drop, length, Bool, false, nat_lt, ◌==◌, if◌then◌else◌, Option, Some, None, Result, Ok, Err}
 use Rattle.std.specs.Int.{w32, from_le_bytes}
 use Rattle.base_core.specs.declared.cause.Cause.{Cause}
 use Rattle.base_core.specs.declared.cause.Cause.TheVariants.{Truncated, WrongSchema, DataOrder}
@@ -19,8 +19,6 @@ use Rattle.adb_tables.specs.declared.tables.Which.{Which}
 use Rattle.adb_tables.specs.declared.tables.Which.TheVariants.{Package, Index, Idb, Intent}
 use Rattle.adb_tables.specs.declared.tables.Kind.TheVariants.{Obj}
 use Rattle.adb_schema.specs.declared.read.TheConstants.{PACKAGE_WORD, INDEX_WORD, IDB_WORD, INTENT_WORD}
-use Rattle.adb_schema.specs.declared.read.ReadFault.{ReadFault}
-use Rattle.adb_schema.specs.declared.read.ReadFault.TheVariants.{Bad, Memory}
 
 -- the schema in the header of a container with this table at its root; other tables are none's root
 abbrev pub schema_word : Which → Option ℕ
@@ -47,11 +45,15 @@ payload_fault which payload =
 
 -- the two numbers that contents begin with: the positions of the folder and of the file in it
 abbrev pub file_pair : List ℕ → ℕ × ℕ
-file_pair payload = (from_le_bytes w32 (take 4 payload), from_le_bytes w32 (take 4 (drop 4 payload)))
+file_pair payload = (
+  from_le_bytes w32 (take 4 payload),
+  from_le_bytes w32 (take 4 (drop 4 payload)),
+)
 
 -- contents where none are due
 abbrev pub undue_contents : List ℕ → ℕ → Cause
-undue_contents payload at = if nat_lt (length payload) 8 then Truncated at else DataOrder (0, 0) (file_pair payload)
+undue_contents payload at = if nat_lt (length payload) 8 then Truncated at
+    else DataOrder (0, 0) (file_pair payload)
 
 abbrev pub block_fault : BlockKind → List ℕ → ℕ → Option Cause
 block_fault Contents payload at = Some (undue_contents payload at)
@@ -75,28 +77,30 @@ is_schema_wanted (Some word) schema = word == schema
 is_schema_wanted None schema = false
 
 abbrev pub schema_fault : Which → ℕ → Option Cause
-schema_fault which schema = if is_schema_wanted (schema_word which) schema then None else Some (WrongSchema schema)
+schema_fault which schema = if is_schema_wanted (schema_word which) schema then None
+    else Some (WrongSchema schema)
 
 -- the first block, and by its value what stands behind it
 abbrev pub blocks_fault : (Plain → Reading → Option Cause) → Which → Reading → Option Cause
 blocks_fault rest which done = None
 blocks_fault rest which (fault c) = Some c
-blocks_fault rest which (more b at r) = or_else (payload_fault which b.payload) (rest (root_value which b.payload) r)
+blocks_fault rest which (more b at r) = or_else (payload_fault which b.payload)
+    (rest (root_value which b.payload) r)
 
-abbrev pub file_fault : (Plain → Reading → Option Cause) → Which → List ℕ → Result ℕ Cause → Option Cause
+abbrev pub file_fault : (Plain → Reading → Option Cause) → Which → List ℕ → Result ℕ Cause
+    → Option Cause
 file_fault rest which file (Err c) = Some c
-file_fault rest which file (Ok schema) = or_else (schema_fault which schema) (blocks_fault rest which (reading_of (start_of schema file)))
+file_fault rest which file (Ok schema) = or_else (schema_fault which schema)
+    (blocks_fault rest which (reading_of (start_of schema file)))
 
 -- with a test of what stands behind the first block
 abbrev pub fault_with : (Plain → Reading → Option Cause) → Which → List ℕ → Option Cause
 fault_with rest which file = file_fault rest which file (header_of file)
 
--- the first failed test of a file that is to be a container of this table; of a package, but for the contents behind its first block
+-- the first failed test of a file that is to be a container of this table; of a package, but for
+-- the contents behind its first block
 unfoldable pub first_fault : Which → List ℕ → Option Cause
 first_fault which file = fault_with (λ v r. rest_fault which r) which file
-
-abbrev pub IsSound : Which → List ℕ → Type 0
-IsSound which file = first_fault which file ≡ None
 
 -- ---- what is read
 
@@ -112,20 +116,3 @@ payload_behind file (Err c) = []
 -- the payload of a file's first block
 unfoldable pub payload_in : List ℕ → List ℕ
 payload_in file = payload_behind file (header_of file)
-
--- a refusal tells what there is to tell
-abbrev pub IsReadFault : ReadFault → Option Cause → Type 0
-IsReadFault (Bad cause) told = told ≡ Some cause
-IsReadFault Memory told = Unit {0}
-
--- the first block passed its tests, and the reader stands behind it
-abbrev pub IsBehindFirst : Which → List ℕ → Reading → Reading → Type 0
-IsBehindFirst which payload done later = ⊥
-IsBehindFirst which payload (fault c) later = ⊥
-IsBehindFirst which payload (more b at r) later = (payload ≡ b.payload) × (payload_fault which b.payload ≡ None) × (r ≡ later)
-
--- why the first block is refused
-abbrev pub first_block_fault : Which → Reading → Option Cause
-first_block_fault which done = None
-first_block_fault which (fault c) = Some c
-first_block_fault which (more b at r) = payload_fault which b.payload

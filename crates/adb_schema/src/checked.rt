@@ -12,7 +12,7 @@ ghost use Rattle.adb_rules.specs.Texts.{text_fault};
 use crate::package::PackageView;
 use crate::package_info::PkgInfo;
 use adb_fields::{Kinded, List, View, objects_field, text_field, texts_field};
-use adb_rules::check_texts;
+use adb_rules::{check_texts, no_text_is_bad_where_each_keeps_its_rule};
 use adb_tables::{Shaped, Which};
 use adb_view::{Adb, Val};
 use base_core::Cause;
@@ -26,17 +26,20 @@ pub struct Checked<'a> {
 
 impl<'a> Checked<'a> {
     ghost use Rattle.adb_tables.specs.Shaped.{adb_of};
+    ghost use Rattle.adb_rules.specs.SoundValues.{KeepsRules};
     ghost use Rattle.adb_schema.specs.Checked.{which_of, checked_value};
     ghost use Rattle.adb_schema.specs.Views.{package_value, index_value, idb_value, intent_value};
 
-    /// Tests each text and number of a walked payload against the rule of its field. It takes no memory.
+    /// Tests each text and number of a walked payload against the rule of its field. It takes no
+    /// memory.
     ///
     /// # Errors
     ///
-    /// `BadText` with the number of the first field that breaks its rule, depth first and field by field; a missing
-    /// field counts as Null.
+    /// `BadText` with the number of the first field that breaks its rule, depth first and field by
+    /// field; a missing field counts as Null.
     pub fn new(shaped: Shaped<'a>) -> Result<Checked<'a>, Cause>
-        ensures exact { cause_of result ≡ text_fault (table_of shaped.entry) (shaped_value shaped.entry) }
+        ensures exact { cause_of result
+            ≡ text_fault (table_of shaped.entry) (shaped_value shaped.entry) }
         ensures which { IfOk result (λ checked. which_of checked ≡ table_of shaped.entry) }
         ensures value { IfOk result (λ checked. checked_value checked ≡ shaped_value shaped.entry) }
         ensures payload { IfOk result (λ checked. adb_of checked.shaped ≡ adb_of shaped.entry) }
@@ -50,6 +53,14 @@ impl<'a> Checked<'a> {
         ensures { result ≡ self.now.shaped }
     {
         self.shaped
+    }
+
+    /// Each text and number of a checked payload keeps the rule of its field: a name is a
+    /// package's, a version a version.
+    pub fn values_keep_their_rules(&self)
+        ensures { KeepsRules (which_of self.now) (checked_value self.now) }
+    {
+        no_text_is_bad_where_each_keeps_its_rule();
     }
 
     /// The package that the payload holds.
@@ -93,7 +104,7 @@ impl<'a> Checked<'a> {
 #[derive(Clone, Copy)]
 pub struct IndexView<'a> {
     adb: Adb<'a>,
-    word: Val,
+    word: u32,
     ghost sound: { is_sound (payload_of adb) (Kinds.Obj Tables.Index) word ≡ true },
 }
 
@@ -105,7 +116,10 @@ impl<'a> View<'a> for IndexView<'a> {
     ghost shows = { λ view. value_at (payload_of view.adb) (Kinds.Obj Tables.Index) view.word };
 
     fn of(adb: Adb<'a>, word: Val) -> IndexView<'a> {
-        IndexView { adb, word }
+        IndexView {
+            adb,
+            word: word.word(),
+        }
     }
 }
 
@@ -118,15 +132,20 @@ impl<'a> IndexView<'a> {
     pub fn description(&self) -> &'a [u8]
         ensures { result.now ≡ text_in (entry_in (index_value self.now) 0) }
     {
-        text_field(self.adb, Which::Index, self.word, 0)
+        text_field(self.adb, Which::Index, Val::of(self.word), 0)
     }
 
     /// Its packages.
     pub fn packages(&self) -> List<'a, PkgInfo<'a>>
         ensures { list_value result ≡ entry_in (index_value self.now) 1 }
     {
-        let entries =
-            objects_field(self.adb, Which::Index, self.word, 1, Which::PkgInfo);
+        let entries = objects_field(
+            self.adb,
+            Which::Index,
+            Val::of(self.word),
+            1,
+            Which::PkgInfo,
+        );
         List::of(self.adb, entries)
     }
 
@@ -134,7 +153,7 @@ impl<'a> IndexView<'a> {
     pub fn pkgname_spec(&self) -> &'a [u8]
         ensures { result.now ≡ text_in (entry_in (index_value self.now) 2) }
     {
-        text_field(self.adb, Which::Index, self.word, 2)
+        text_field(self.adb, Which::Index, Val::of(self.word), 2)
     }
 }
 
@@ -167,8 +186,7 @@ impl<'a> IdbView<'a> {
     pub fn packages(&self) -> List<'a, PackageView<'a>>
         ensures { list_value result ≡ entry_in (idb_value self.now) 0 }
     {
-        let entries =
-            objects_field(self.adb, Which::Idb, self.word, 0, Which::Package);
+        let entries = objects_field(self.adb, Which::Idb, self.word, 0, Which::Package);
         List::of(self.adb, entries)
     }
 }

@@ -1,9 +1,10 @@
 //! The containers (apk-v3(5)): reading and testing a whole one, and views of what was tested.
 //!
-//! `shape` makes a `Shaped` of a payload, `Checked::new` a `Checked` of that, and its four views lend from the payload,
-//! one method a field, which cannot fail. `repeated` looks for names that stand twice, and `read_adb` reads a file
-//! through all of them. The contracts cite `Soundness` (the first failed test of a file), `Views` (the plain value that
-//! a view shows) and `Checked`, and the definitions of `adb_tables`, `adb_fields` and `adb_rules` below.
+//! `shape` makes a `Shaped` of a payload, `Checked::new` a `Checked` of that, and its four views
+//! lend from the payload, one method a field, which cannot fail. `repeated` looks for names that
+//! stand twice, and `read_adb` reads a file through all of them. The contracts cite `Soundness`
+//! (the first failed test of a file), `Views` (the plain value that a view shows) and `Checked`,
+//! and the definitions of `adb_tables`, `adb_fields` and `adb_rules` below.
 #![tactic(auto)]
 
 mod checked;
@@ -22,5 +23,5 @@ pub use package::{AclView, DirInfo, FileInfo, PackageView, ScriptsView};
 pub use package_info::{DepView, PkgInfo};
 pub use read::{
     IDB_WORD, INDEX_WORD, INTENT_WORD, PACKAGE_WORD, ReadFault, file_pair, read_adb, repeated,
-    schema_word, schema_words_are_as_listed,
+    schema_word, schema_words_are_as_listed, sound_containers_hold_sound_values,
 };

@@ -7,7 +7,9 @@ ghost use Rattle.adb_tables.specs.declared.tables.Kind.TheVariants as Kinds;
 ghost use Rattle.adb_tables.specs.declared.tables.Which.TheVariants as Tables;
 
 use crate::package_info::PkgInfo;
-use adb_fields::{Kinded, List, View, field_word, hash_field, int_field, objects_field, text_field, texts_field};
+use adb_fields::{
+    Kinded, List, View, field_word, hash_field, int_field, objects_field, text_field, texts_field,
+};
 use adb_tables::Which;
 use adb_view::{Adb, Val};
 
@@ -131,7 +133,7 @@ impl<'a> FileInfo<'a> {
         text_field(self.adb, Which::File, self.word, 5)
     }
 
-    /// A place that is held.
+    /// A field that is kept free.
     pub fn unused(&self) -> u64
         ensures { result ≡ int_in (entry_in (file_value self.now) 6) }
     {
@@ -182,8 +184,7 @@ impl<'a> DirInfo<'a> {
     pub fn files(&self) -> List<'a, FileInfo<'a>>
         ensures { list_value result ≡ entry_in (dir_value self.now) 2 }
     {
-        let entries =
-            objects_field(self.adb, Which::Dir, self.word, 2, Which::File);
+        let entries = objects_field(self.adb, Which::Dir, self.word, 2, Which::File);
         List::of(self.adb, entries)
     }
 }
@@ -287,7 +288,7 @@ impl<'a> PackageView<'a> {
     ghost use Rattle.adb_schema.specs.Views.{info_value, package_value, scripts_value};
     ghost use Rattle.adb_fields.specs.ListValue.{list_value};
 
-    /// What is told of it.
+    /// Its information.
     pub fn info(&self) -> PkgInfo<'a>
         ensures { info_value result ≡ entry_in (package_value self.now) 0 }
     {
@@ -298,8 +299,7 @@ impl<'a> PackageView<'a> {
     pub fn paths(&self) -> List<'a, DirInfo<'a>>
         ensures { list_value result ≡ entry_in (package_value self.now) 1 }
     {
-        let entries =
-            objects_field(self.adb, Which::Package, self.word, 1, Which::Dir);
+        let entries = objects_field(self.adb, Which::Package, self.word, 1, Which::Dir);
         List::of(self.adb, entries)
     }
 
@@ -314,7 +314,10 @@ impl<'a> PackageView<'a> {
     pub fn triggers(&self) -> List<'a, &'a [u8]>
         ensures { list_value result ≡ entry_in (package_value self.now) 3 }
     {
-        List::of(self.adb, texts_field(self.adb, Which::Package, self.word, 3))
+        List::of(
+            self.adb,
+            texts_field(self.adb, Which::Package, self.word, 3),
+        )
     }
 
     /// How much it is preferred where packages own one file.

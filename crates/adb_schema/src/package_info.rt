@@ -1,4 +1,4 @@
-//! Views of what is told of a package: its information and its dependencies.
+//! Views of a package's information and of dependencies.
 
 ghost use Rattle.std.specs.Prelude.{◌≡◌, true};
 ghost use Rattle.adb_view.specs.Adb.{payload_of};
@@ -6,7 +6,9 @@ ghost use Rattle.adb_tables.specs.Values.{is_sound, value_at};
 ghost use Rattle.adb_tables.specs.declared.tables.Kind.TheVariants as Kinds;
 ghost use Rattle.adb_tables.specs.declared.tables.Which.TheVariants as Tables;
 
-use adb_fields::{Kinded, List, View, hash_field, int_field, objects_field, text_field, texts_field};
+use adb_fields::{
+    Kinded, List, View, hash_field, int_field, objects_field, text_field, texts_field,
+};
 use adb_tables::Which;
 use adb_view::{Adb, Val};
 
@@ -56,11 +58,11 @@ impl<'a> DepView<'a> {
     }
 }
 
-/// What is told of a package.
+/// The information of a package.
 #[derive(Clone, Copy)]
 pub struct PkgInfo<'a> {
     adb: Adb<'a>,
-    word: Val,
+    word: u32,
     ghost sound: { is_sound (payload_of adb) (Kinds.Obj Tables.PkgInfo) word ≡ true },
 }
 
@@ -72,7 +74,10 @@ impl<'a> View<'a> for PkgInfo<'a> {
     ghost shows = { λ view. value_at (payload_of view.adb) (Kinds.Obj Tables.PkgInfo) view.word };
 
     fn of(adb: Adb<'a>, word: Val) -> PkgInfo<'a> {
-        PkgInfo { adb, word }
+        PkgInfo {
+            adb,
+            word: word.word(),
+        }
     }
 }
 
@@ -85,106 +90,106 @@ impl<'a> PkgInfo<'a> {
     pub fn name(&self) -> &'a [u8]
         ensures { result.now ≡ text_in (entry_in (info_value self.now) 0) }
     {
-        text_field(self.adb, Which::PkgInfo, self.word, 0)
+        text_field(self.adb, Which::PkgInfo, Val::of(self.word), 0)
     }
 
     /// The package's version.
     pub fn version(&self) -> &'a [u8]
         ensures { result.now ≡ text_in (entry_in (info_value self.now) 1) }
     {
-        text_field(self.adb, Which::PkgInfo, self.word, 1)
+        text_field(self.adb, Which::PkgInfo, Val::of(self.word), 1)
     }
 
-    /// A digest: in an index the package's id or the first 20 bytes of it; empty where none is known.
+    /// A digest: in an index the package's id or the first 20 bytes of it; empty where none is
+    /// known.
     pub fn hashes(&self) -> &'a [u8]
         ensures { result.now ≡ text_in (entry_in (info_value self.now) 2) }
     {
-        hash_field(self.adb, Which::PkgInfo, self.word, 2)
+        hash_field(self.adb, Which::PkgInfo, Val::of(self.word), 2)
     }
 
     /// What the package is, in a line.
     pub fn description(&self) -> &'a [u8]
         ensures { result.now ≡ text_in (entry_in (info_value self.now) 3) }
     {
-        text_field(self.adb, Which::PkgInfo, self.word, 3)
+        text_field(self.adb, Which::PkgInfo, Val::of(self.word), 3)
     }
 
     /// The architecture.
     pub fn arch(&self) -> &'a [u8]
         ensures { result.now ≡ text_in (entry_in (info_value self.now) 4) }
     {
-        text_field(self.adb, Which::PkgInfo, self.word, 4)
+        text_field(self.adb, Which::PkgInfo, Val::of(self.word), 4)
     }
 
     /// The license.
     pub fn license(&self) -> &'a [u8]
         ensures { result.now ≡ text_in (entry_in (info_value self.now) 5) }
     {
-        text_field(self.adb, Which::PkgInfo, self.word, 5)
+        text_field(self.adb, Which::PkgInfo, Val::of(self.word), 5)
     }
 
     /// The package that it was built from.
     pub fn origin(&self) -> &'a [u8]
         ensures { result.now ≡ text_in (entry_in (info_value self.now) 6) }
     {
-        text_field(self.adb, Which::PkgInfo, self.word, 6)
+        text_field(self.adb, Which::PkgInfo, Val::of(self.word), 6)
     }
 
     /// Who maintains it.
     pub fn maintainer(&self) -> &'a [u8]
         ensures { result.now ≡ text_in (entry_in (info_value self.now) 7) }
     {
-        text_field(self.adb, Which::PkgInfo, self.word, 7)
+        text_field(self.adb, Which::PkgInfo, Val::of(self.word), 7)
     }
 
     /// Where to read of it.
     pub fn url(&self) -> &'a [u8]
         ensures { result.now ≡ text_in (entry_in (info_value self.now) 8) }
     {
-        text_field(self.adb, Which::PkgInfo, self.word, 8)
+        text_field(self.adb, Which::PkgInfo, Val::of(self.word), 8)
     }
 
     /// The commit of the recipe, as bytes.
     pub fn repo_commit(&self) -> &'a [u8]
         ensures { result.now ≡ text_in (entry_in (info_value self.now) 9) }
     {
-        hash_field(self.adb, Which::PkgInfo, self.word, 9)
+        hash_field(self.adb, Which::PkgInfo, Val::of(self.word), 9)
     }
 
     /// When it was built, in seconds since 1970.
     pub fn build_time(&self) -> u64
         ensures { result ≡ int_in (entry_in (info_value self.now) 10) }
     {
-        int_field(self.adb, Which::PkgInfo, self.word, 10)
+        int_field(self.adb, Which::PkgInfo, Val::of(self.word), 10)
     }
 
     /// The size of its installed files in bytes.
     pub fn installed_size(&self) -> u64
         ensures { result ≡ int_in (entry_in (info_value self.now) 11) }
     {
-        int_field(self.adb, Which::PkgInfo, self.word, 11)
+        int_field(self.adb, Which::PkgInfo, Val::of(self.word), 11)
     }
 
     /// The size of the package's file in bytes.
     pub fn file_size(&self) -> u64
         ensures { result ≡ int_in (entry_in (info_value self.now) 12) }
     {
-        int_field(self.adb, Which::PkgInfo, self.word, 12)
+        int_field(self.adb, Which::PkgInfo, Val::of(self.word), 12)
     }
 
     /// How much it is preferred among providers of one name.
     pub fn provider_priority(&self) -> u64
         ensures { result ≡ int_in (entry_in (info_value self.now) 13) }
     {
-        int_field(self.adb, Which::PkgInfo, self.word, 13)
+        int_field(self.adb, Which::PkgInfo, Val::of(self.word), 13)
     }
 
     /// What it needs.
     pub fn depends(&self) -> List<'a, DepView<'a>>
         ensures { list_value result ≡ entry_in (info_value self.now) 14 }
     {
-        let entries =
-            objects_field(self.adb, Which::PkgInfo, self.word, 14, Which::Dep);
+        let entries = objects_field(self.adb, Which::PkgInfo, Val::of(self.word), 14, Which::Dep);
         List::of(self.adb, entries)
     }
 
@@ -192,8 +197,7 @@ impl<'a> PkgInfo<'a> {
     pub fn provides(&self) -> List<'a, DepView<'a>>
         ensures { list_value result ≡ entry_in (info_value self.now) 15 }
     {
-        let entries =
-            objects_field(self.adb, Which::PkgInfo, self.word, 15, Which::Dep);
+        let entries = objects_field(self.adb, Which::PkgInfo, Val::of(self.word), 15, Which::Dep);
         List::of(self.adb, entries)
     }
 
@@ -201,8 +205,7 @@ impl<'a> PkgInfo<'a> {
     pub fn replaces(&self) -> List<'a, DepView<'a>>
         ensures { list_value result ≡ entry_in (info_value self.now) 16 }
     {
-        let entries =
-            objects_field(self.adb, Which::PkgInfo, self.word, 16, Which::Dep);
+        let entries = objects_field(self.adb, Which::PkgInfo, Val::of(self.word), 16, Which::Dep);
         List::of(self.adb, entries)
     }
 
@@ -210,8 +213,7 @@ impl<'a> PkgInfo<'a> {
     pub fn install_if(&self) -> List<'a, DepView<'a>>
         ensures { list_value result ≡ entry_in (info_value self.now) 17 }
     {
-        let entries =
-            objects_field(self.adb, Which::PkgInfo, self.word, 17, Which::Dep);
+        let entries = objects_field(self.adb, Which::PkgInfo, Val::of(self.word), 17, Which::Dep);
         List::of(self.adb, entries)
     }
 
@@ -219,8 +221,7 @@ impl<'a> PkgInfo<'a> {
     pub fn recommends(&self) -> List<'a, DepView<'a>>
         ensures { list_value result ≡ entry_in (info_value self.now) 18 }
     {
-        let entries =
-            objects_field(self.adb, Which::PkgInfo, self.word, 18, Which::Dep);
+        let entries = objects_field(self.adb, Which::PkgInfo, Val::of(self.word), 18, Which::Dep);
         List::of(self.adb, entries)
     }
 
@@ -228,20 +229,23 @@ impl<'a> PkgInfo<'a> {
     pub fn layer(&self) -> u64
         ensures { result ≡ int_in (entry_in (info_value self.now) 19) }
     {
-        int_field(self.adb, Which::PkgInfo, self.word, 19)
+        int_field(self.adb, Which::PkgInfo, Val::of(self.word), 19)
     }
 
     /// Its tags.
     pub fn tags(&self) -> List<'a, &'a [u8]>
         ensures { list_value result ≡ entry_in (info_value self.now) 20 }
     {
-        List::of(self.adb, texts_field(self.adb, Which::PkgInfo, self.word, 20))
+        List::of(
+            self.adb,
+            texts_field(self.adb, Which::PkgInfo, Val::of(self.word), 20),
+        )
     }
 
-    /// A place that is held.
+    /// A field that is kept free.
     pub fn unused(&self) -> u64
         ensures { result ≡ int_in (entry_in (info_value self.now) 21) }
     {
-        int_field(self.adb, Which::PkgInfo, self.word, 21)
+        int_field(self.adb, Which::PkgInfo, Val::of(self.word), 21)
     }
 }

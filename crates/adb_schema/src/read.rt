@@ -1,6 +1,6 @@
 //! The reading of a whole container, and names that stand twice in it.
 
-ghost use Rattle.std.specs.Prelude.{◌≡◌, ◌≤◌, None, Some, length, codes, IfOk, IfErr};
+ghost use Rattle.std.specs.Prelude.{ℕ, List, All, ◌<◌, ◌≡◌, ◌≤◌, None, Some, length, codes, IfOk, IfErr};
 ghost use Rattle.std.specs.Int.{w32, to_le_bytes};
 ghost use Rattle.adb_fields.specs.Repeated.{repeated_fault};
 ghost use Rattle.adb_block.specs.Reading.{reading_of};
@@ -8,13 +8,21 @@ ghost use Rattle.adb_view.specs.Adb.{payload_of};
 ghost use Rattle.adb_view.specs.Gives.{cause_of};
 ghost use Rattle.adb_tables.specs.Shaped.{adb_of};
 ghost use Rattle.adb_schema.specs.Checked.{checked_value, which_of};
-ghost use Rattle.adb_schema.specs.Soundness.{block_fault, first_block_fault, file_pair, first_fault, further_fault, payload_fault, is_schema_wanted, payload_in, rest_fault, root_value, schema_word, undue_contents, IsBehindFirst, IsReadFault};
+ghost use Rattle.adb_view.specs.Plain.{IsNormal};
+ghost use Rattle.adb_tables.specs.declared.tables.Which.{Which};
+ghost use Rattle.adb_schema.specs.SoundContainers.{IsSoundValue};
+ghost use Rattle.adb_schema.specs.Soundness.{block_fault, file_pair, first_fault, further_fault, payload_fault, is_schema_wanted, payload_in, rest_fault, root_value, schema_word, undue_contents};
+ghost use Rattle.adb_schema.specs.ReadFaults.{first_block_fault};
+ghost use Rattle.adb_schema.specs.ReadFaults.{IsBehindFirst};
+ghost use Rattle.adb_schema.specs.ReadFaults.{IsReadFault};
+ghost use Rattle.adb_schema.specs.SoundContainers.{IsSound};
 
 use crate::checked::Checked;
 use adb_block::{Block, BlockKind, Blocks};
-use adb_fields::repeated_names;
-use adb_tables::{Which, shape};
-use adb_view::Adb;
+use adb_fields::{no_name_is_repeated_where_each_stands_once, repeated_names};
+use adb_rules::no_text_is_bad_where_each_keeps_its_rule;
+use adb_tables::{Which, shape, values_of_few_visits_have_no_fault};
+use adb_view::{Adb, values_are_normal, values_have_their_shape};
 use base_core::Cause;
 use std::alloc::{AllocError, Global};
 use thiserror::Error;
@@ -77,31 +85,37 @@ pub fn schema_word(which: Which) -> Option<u32>
     }
 }
 
-/// Looks for a name that stands twice in a checked container, and answers the cause `Repeated`, or None exactly where
-/// there is none. The kinds are looked at in this order: in a package and in a database two folders of a package, over
-/// all packages, and two files of a folder; in a database also two packages, and one path in two packages, at the
-/// positions of the packages; in an intent two names, of the removals followed by the writes. Of the first kind that
-/// stands, the pair with the smallest second position is reported, and of those the one with the smallest first.
+/// Looks for a name that stands twice in a checked container, and answers the cause `Repeated`, or
+/// None exactly where there is none. The kinds are looked at in this order: in a package and in a
+/// database two folders of a package, over all packages, and two files of a folder; in a database
+/// also two packages, and one path in two packages, at the positions of the packages; in an intent
+/// two names, of the removals followed by the writes. Of the first kind that stands, the pair with
+/// the smallest second position is reported, and of those the one with the smallest first.
 pub fn repeated(alloc: Global, checked: &Checked<'_>) -> Result<Option<Cause>, AllocError>
-    ensures { IfOk result (λ cause. cause ≡ repeated_fault (which_of checked.now) (checked_value checked.now)) }
+    ensures { IfOk result (λ cause. cause
+        ≡ repeated_fault (which_of checked.now) (checked_value checked.now)) }
 {
     repeated_names(alloc, &checked.shaped())
 }
 
-/// Reads a container (apk-v3(5)) with this table at its root, and tests it in this order: the file's header, its schema,
-/// the first block's framing, its head, its shape, its texts, and names that stand twice; then, but for a package, the
-/// framing of the further blocks, and that none of them holds contents.
+/// Reads a container (apk-v3(5)) with this table at its root, and tests it in this order: the
+/// file's header, its schema, the first block's framing, its head, its shape, its texts, and names
+/// that stand twice; then, but for a package, the framing of the further blocks, and that none of
+/// them holds contents.
 ///
 /// # Errors
 ///
-/// `Bad` with the cause of the first test that fails, or `Memory`. Every schema is wrong for a table that is no root.
+/// `Bad` with the cause of the first test that fails, or `Memory`. Every schema is wrong for a
+/// table that is no root.
 #[tactic(auto, unfolding(crate::specs::Soundness::first_fault, crate::specs::Soundness::payload_in))]
 pub fn read_adb<'a>(alloc: Global, bytes: &'a [u8], which: Which) -> Result<Checked<'a>, ReadFault>
     ensures bad { IfErr result (λ fault. IsReadFault fault (first_fault which bytes.entry.now)) }
     ensures sound { IfOk result (λ _. first_fault which bytes.entry.now ≡ None) }
     ensures table { IfOk result (λ checked. which_of checked ≡ which) }
-    ensures payload { IfOk result (λ checked. payload_of (adb_of checked.shaped) ≡ payload_in bytes.entry.now) }
-    ensures value { IfOk result (λ checked. checked_value checked ≡ root_value which (payload_in bytes.entry.now)) }
+    ensures payload { IfOk result (λ checked. payload_of (adb_of checked.shaped)
+        ≡ payload_in bytes.entry.now) }
+    ensures value { IfOk result (λ checked. checked_value checked
+        ≡ root_value which (payload_in bytes.entry.now)) }
 {
     let mut blocks = Blocks::new(bytes)?;
     let found = blocks.schema();
@@ -130,9 +144,12 @@ fn read_first<'a>(
     which: Which,
 ) -> Result<Checked<'a>, ReadFault>
     requires { blocks.old.last ≡ None }
-    ensures bad { IfErr result (λ fault. IsReadFault fault (first_block_fault which (reading_of blocks.old))) }
+    ensures bad { IfErr result
+        (λ fault. IsReadFault fault (first_block_fault which (reading_of blocks.old))) }
     ensures table { IfOk result (λ checked. which_of checked ≡ which) }
-    ensures behind { IfOk result (λ checked. IsBehindFirst which (payload_of (adb_of checked.shaped)) (reading_of blocks.old) (reading_of blocks.new)) }
+    ensures behind { IfOk result
+        (λ checked. IsBehindFirst which (payload_of (adb_of checked.shaped)) (reading_of blocks.old)
+        (reading_of blocks.new)) }
 {
     match blocks.next()? {
         Some(block) => check_payload(alloc, block.payload, which),
@@ -146,10 +163,12 @@ fn check_payload<'a>(
     payload: &'a [u8],
     which: Which,
 ) -> Result<Checked<'a>, ReadFault>
-    ensures bad { IfErr result (λ fault. IsReadFault fault (payload_fault which payload.entry.now)) }
+    ensures bad { IfErr result
+        (λ fault. IsReadFault fault (payload_fault which payload.entry.now)) }
     ensures sound { IfOk result (λ _. payload_fault which payload.entry.now ≡ None) }
     ensures table { IfOk result (λ checked. which_of checked ≡ which) }
-    ensures payload { IfOk result (λ checked. payload_of (adb_of checked.shaped) ≡ payload.entry.now) }
+    ensures payload { IfOk result (λ checked. payload_of (adb_of checked.shaped)
+        ≡ payload.entry.now) }
 {
     let adb = Adb::new(payload)?;
     let shaped = shape(adb, which)?;
@@ -208,8 +227,8 @@ fn undue_contents(payload: &[u8], at: u64) -> Cause
     }
 }
 
-/// The two numbers that contents begin with (apk-v3(5)): the positions of the folder and of the file in it that they
-/// belong to, which count from 1.
+/// The two numbers that contents begin with (apk-v3(5)): the positions of the folder and of the
+/// file in it that they belong to, which count from 1.
 pub fn file_pair(payload: &[u8]) -> (u32, u32)
     requires { 8 ≤ length payload.now }
     ensures { result ≡ file_pair payload.now }
@@ -227,3 +246,19 @@ pub fn schema_words_are_as_listed()
     ensures database { to_le_bytes w32 IDB_WORD ≡ codes "idb\0" }
     ensures intent { to_le_bytes w32 INTENT_WORD ≡ codes "intt" }
 {}
+
+/// What a file that passes every test holds: a value that has the shape of its table, in which each
+/// text and number keeps the rule of its field and no name stands twice; of bytes, it is normal.
+pub fn sound_containers_hold_sound_values()
+    ensures value { (which : Which) (file : List ℕ)
+        → IsSound which file → IsSoundValue which (root_value which (payload_in file)) }
+    ensures normal { (which : Which) (file : List ℕ)
+        → IsSound which file → All (λ b. b < 256) (payload_in file)
+        → IsNormal (root_value which (payload_in file)) }
+{
+    values_of_few_visits_have_no_fault();
+    values_have_their_shape();
+    values_are_normal();
+    no_text_is_bad_where_each_keeps_its_rule();
+    no_name_is_repeated_where_each_stands_once();
+}

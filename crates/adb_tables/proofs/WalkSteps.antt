@@ -4,7 +4,12 @@ use Rattle.std.proofs.lemmas.Bool.{lt-ltb, le-ltb}
 use Rattle.std.proofs.lemmas.List.{drop_more, drop_all}
 use Rattle.adb_view.specs.Plain.{Shape, number, text, hash, array, object}
 use Rattle.adb_view.specs.Readers.{int_of, blob_of, run_of, ARRAY, OBJECT}
-use Rattle.adb_tables.specs.Walk.{LIMIT, ◌>>=◌, walk_visit, each_walk, walk, fields_walk}
+use Rattle.adb_tables.specs.Walk.{LIMIT}
+use Rattle.adb_tables.specs.CountedWalk.{fields_walk}
+use Rattle.adb_tables.specs.CountedWalk.{walk}
+use Rattle.adb_tables.specs.CountedWalk.{each_walk}
+use Rattle.adb_tables.specs.CountedWalk.{walk_visit}
+use Rattle.adb_tables.specs.CountedWalk.{◌>>=◌}
 use Rattle.adb_view.specs.Visits.{or_empty, fault_at}
 use Rattle.adb_view.specs.Gives.{cause_of}
 use Rattle.adb_tables.specs.Schema.{schema_number, table, shape_of, shapes_of}

@@ -1,9 +1,11 @@
 -- what the contract of `apk` says
 pub mod Schema
-pub mod Walk
 pub mod Values
-pub mod Shaped
+pub mod Walk
 -- what only inner contracts and proofs use
 pub mod FormatTables
+pub mod FirstFault
+pub mod CountedWalk
+pub mod Shaped
 pub mod Rank
 pub mod Shapes

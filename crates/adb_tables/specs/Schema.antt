@@ -84,7 +84,8 @@ field_name_text FieldName.PkgnameSpec = codes "pkgname-spec"
 field_name_text FieldName.Removals = codes "removals"
 field_name_text FieldName.Writes = codes "writes"
 
--- A table names only tables of lower numbers, so unrolling it ends. The first number is how deep to go.
+-- A table names only tables of lower numbers, so unrolling it ends. The first number is how deep to
+-- go.
 abbrev pub fields_with : (Kind → Shape) → List Field → Fields
 fields_with f [] = no_fields
 fields_with f (r ∷ rs) = field (field_name_text r.name) (f r.kind) (fields_with f rs)
@@ -95,9 +96,11 @@ shape_to_depth depth Text = text
 shape_to_depth depth Hash = hash
 shape_to_depth depth TextArr = array text
 shape_to_depth zero (Obj w) = object (schema_number w) no_fields
-shape_to_depth (suc depth) (Obj w) = object (schema_number w) (fields_with (shape_to_depth depth) (table w))
+shape_to_depth (suc depth) (Obj w) = object (schema_number w)
+    (fields_with (shape_to_depth depth) (table w))
 shape_to_depth zero (ObjArr w) = array (object (schema_number w) no_fields)
-shape_to_depth (suc depth) (ObjArr w) = array (object (schema_number w) (fields_with (shape_to_depth depth) (table w)))
+shape_to_depth (suc depth) (ObjArr w) = array
+    (object (schema_number w) (fields_with (shape_to_depth depth) (table w)))
 
 -- five levels are enough for each table: database, package, folder, file, rights
 unfoldable pub shape_of : Kind → Shape

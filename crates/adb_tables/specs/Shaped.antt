@@ -17,4 +17,5 @@ table_of shaped = shaped.which
 
 -- the plain value of its root
 abbrev pub shaped_value : Shaped → Plain
-shaped_value shaped = value_at (payload_of shaped.adb) (Obj shaped.which) (root_of (payload_of shaped.adb))
+shaped_value shaped = value_at (payload_of shaped.adb) (Obj shaped.which)
+    (root_of (payload_of shaped.adb))

@@ -1,8 +1,9 @@
 //! The tables of the containers (apk-v3(5)), and the walk that tests a payload's shape against one.
 //!
-//! The ten tables are constants. `shape` walks a payload from its root as an object of a table, and makes a `Shaped` of
-//! it. The contracts cite `Schema` (the tables, and the shapes that they give), `FormatTables` (the same as the formats
-//! list them), `Walk` (the first fault of the walk), `Values` (plain values of words, and their fields) and `Shaped`.
+//! The ten tables are constants. `shape` walks a payload from its root as an object of a table, and
+//! makes a `Shaped` of it. The contracts cite `Schema` (the tables, and the shapes that they give),
+//! `FormatTables` (the same as the formats list them), `Walk` (the first fault of the walk),
+//! `Values` (plain values of words, and their fields) and `Shaped`.
 #![tactic(auto)]
 
 mod shaped;

@@ -11,13 +11,15 @@ ghost use Rattle.adb_tables.specs.declared.tables.Kind.TheVariants as Kinds;
 use crate::tables::Which;
 use adb_view::Adb;
 
-/// A payload whose values have the shape of a table: each word that a walk from its root visits can be read.
+/// A payload whose values have the shape of a table: each word that a walk from its root visits can
+/// be read.
 #[derive(Clone, Copy)]
 pub struct Shaped<'a> {
     adb: Adb<'a>,
     which: Which,
     ghost sound: { is_sound (payload_of adb) (Kinds.Obj which) (root_of (payload_of adb)) ≡ true },
-    ghost few: { is_none (shape_fault (payload_of adb) (shape_of (Kinds.Obj which)) (root_of (payload_of adb))) ≡ true },
+    ghost few: { is_none (shape_fault (payload_of adb) (shape_of (Kinds.Obj which))
+        (root_of (payload_of adb))) ≡ true },
 }
 
 impl<'a> Shaped<'a> {
@@ -25,8 +27,10 @@ impl<'a> Shaped<'a> {
 
     /// A payload that was walked as this table.
     pub(crate) fn of(adb: Adb<'a>, which: Which) -> Shaped<'a>
-        requires sound { is_sound (payload_of adb) (Kinds.Obj which) (root_of (payload_of adb)) ≡ true }
-        requires few { is_none (shape_fault (payload_of adb) (shape_of (Kinds.Obj which)) (root_of (payload_of adb))) ≡ true }
+        requires sound { is_sound (payload_of adb) (Kinds.Obj which) (root_of (payload_of adb))
+            ≡ true }
+        requires few { is_none (shape_fault (payload_of adb) (shape_of (Kinds.Obj which))
+            (root_of (payload_of adb))) ≡ true }
         ensures walked { adb_of result ≡ adb.entry }
         ensures table { table_of result ≡ which }
     {

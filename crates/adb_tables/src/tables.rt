@@ -1,5 +1,6 @@
-//! The ten tables of the containers (apk-v3(5)): what a field is, the constants, and the fields of each table. A new table is
-//! a new constant here, its variant of `Which`, and its lines in `fields_of` and `number_of`.
+//! The ten tables of the containers (apk-v3(5)): what a field is, the constants, and the fields of
+//! each table. A new table is a new constant here, its variant of `Which`, and its lines in
+//! `fields_of` and `number_of`.
 
 ghost use Rattle.std.specs.Prelude.{◌≡◌, ◌≤◌};
 ghost use Rattle.adb_tables.specs.Schema.{table, schema_number, shape_of, shapes_of};
@@ -23,7 +24,8 @@ pub enum Which {
     Intent,
 }
 
-/// What a field holds: an integer, a text, a hash, an object of a table, or an array of texts or of such objects.
+/// What a field holds: an integer, a text, a hash, an object of a table, or an array of texts or of
+/// such objects.
 #[derive(Clone, Copy, Debug, PartialEq, Eq)]
 pub enum Kind {
     Int,
@@ -224,7 +226,7 @@ const PKGINFO_FIELDS: [Field; 22] = [
     field!(Unused: Kind::Int),
 ];
 
-/// What is told of a package.
+/// The information of a package.
 pub const PKGINFO: Schema<22> = Schema {
     number: 3,
     fields: PKGINFO_FIELDS,
@@ -319,7 +321,6 @@ pub const INTENT: Schema<2> = Schema {
     fields: INTENT_FIELDS,
 };
 
-
 // The fields of each table as statics, so that `fields_of` can lend them.
 static DEP_ROWS: [Field; 3] = DEP_FIELDS;
 
@@ -384,5 +385,6 @@ pub fn tables_are_as_listed()
 
 /// Each object has the fields of its table, however deep it stands.
 pub fn tables_are_unrolled_whole()
-    ensures { (which : Which) → shape_of (Kinds.Obj which) ≡ object (schema_number which) (shapes_of (table which)) }
+    ensures { (which : Which) → shape_of (Kinds.Obj which)
+        ≡ object (schema_number which) (shapes_of (table which)) }
 {}

@@ -9,7 +9,11 @@ ghost use Rattle.adb_view.specs.Gives.{Gives, cause_of};
 ghost use Rattle.adb_view.specs.Readers.{run_of, OBJECT};
 ghost use Rattle.adb_view.specs.Head.{root_of};
 ghost use Rattle.adb_tables.specs.Schema.{table, shape_of, shapes_of, schema_number};
-ghost use Rattle.adb_tables.specs.Walk.{walk, fields_walk, each_walk, first_fault_from, shape_fault, LIMIT, IsFirstFault};
+ghost use Rattle.adb_tables.specs.Walk.{first_fault_from, shape_fault, LIMIT};
+ghost use Rattle.adb_tables.specs.CountedWalk.{fields_walk};
+ghost use Rattle.adb_tables.specs.CountedWalk.{walk};
+ghost use Rattle.adb_tables.specs.CountedWalk.{each_walk};
+ghost use Rattle.adb_tables.specs.FirstFault.{IsFirstFault};
 ghost use Rattle.adb_tables.specs.Shaped.{adb_of, table_of};
 ghost use Rattle.adb_tables.specs.Values.{is_sound, value_at};
 ghost use Rattle.base_core.specs.declared.cause.Cause.{Cause};
@@ -38,19 +42,22 @@ pub fn entry_word(entries: Arr<'_>, i: usize) -> Val
     entries.get(i + 1)
 }
 
-/// How many visits the walk of a payload may have; a word that stands at two places is visited twice.
+/// How many visits the walk of a payload may have; a word that stands at two places is visited
+/// twice.
 const MOST_VISITS: u32 = 4_194_304;
 
-/// Walks a payload's values from its root, as an object of this table: a word, then its entries in order. Each visit
-/// is counted, then its word's kind is tested, then its range. The entries of an object past its table's fields are
-/// not visited.
+/// Walks a payload's values from its root, as an object of this table: a word, then its entries in
+/// order. Each visit is counted, then its word's kind is tested, then its range. The entries of an
+/// object past its table's fields are not visited.
 ///
 /// # Errors
 ///
 /// The first fault: `TooLarge` at the visit 4,194,305, `WrongKind` or `Outside` with the word.
 #[tactic(auto, using(crate::proofs::ShapeWalk::walk_refused, crate::proofs::ShapeWalk::walk_passed, crate::proofs::ShapeWalk::walk_few))]
 pub fn shape(adb: Adb<'_>, which: Which) -> Result<Shaped<'_>, Cause>
-    ensures exact { cause_of result ≡ shape_fault (payload_of adb.entry) (shape_of (Kinds.Obj which)) (root_of (payload_of adb.entry)) }
+    ensures exact { cause_of result
+        ≡ shape_fault (payload_of adb.entry) (shape_of (Kinds.Obj which))
+        (root_of (payload_of adb.entry)) }
     ensures walked { IfOk result (λ shaped. adb_of shaped ≡ adb.entry) }
     ensures table { IfOk result (λ shaped. table_of shaped ≡ which) }
 {
@@ -59,7 +66,8 @@ pub fn shape(adb: Adb<'_>, which: Which) -> Result<Shaped<'_>, Cause>
     Ok(Shaped::of(adb, which))
 }
 
-/// Visits a word and what lies below it, behind so many visits, and answers how many there were then.
+/// Visits a word and what lies below it, behind so many visits, and answers how many there were
+/// then.
 #[cycle(walk)]
 #[tactic(auto, using(crate::proofs::WalkSteps::walk_full, crate::proofs::WalkSteps::int_ok, crate::proofs::WalkSteps::int_err, crate::proofs::WalkSteps::text_ok, crate::proofs::WalkSteps::text_err, crate::proofs::WalkSteps::hash_ok, crate::proofs::WalkSteps::hash_err, crate::proofs::WalkSteps::texts_ok, crate::proofs::WalkSteps::texts_err, crate::proofs::WalkSteps::objects_ok, crate::proofs::WalkSteps::objects_err, crate::proofs::WalkSteps::object_ok, crate::proofs::WalkSteps::object_err))]
 fn walk_value(adb: Adb<'_>, kind: Kind, before: u32, word: Val) -> Result<u32, Cause>
@@ -93,7 +101,9 @@ fn walk_value(adb: Adb<'_>, kind: Kind, before: u32, word: Val) -> Result<u32, C
 #[cycle(walk)]
 fn walk_entries(adb: Adb<'_>, kind: Kind, before: u32, entries: Arr<'_>) -> Result<u32, Cause>
     requires { before ≤ LIMIT }
-    ensures exact { result ≡ each_walk (walk (payload_of adb.entry) (shape_of kind)) before (array_entries entries.entry) }
+    ensures exact { result
+        ≡ each_walk (walk (payload_of adb.entry) (shape_of kind)) before
+        (array_entries entries.entry) }
     ensures bound { IfOk result (λ n. n ≤ LIMIT) }
 {
     let mut count = before;
@@ -103,17 +113,24 @@ fn walk_entries(adb: Adb<'_>, kind: Kind, before: u32, entries: Arr<'_>) -> Resu
     Ok(count)
 }
 
-/// Visits the entries of an object that have one of these fields, whatever the fields, behind so many visits, and answers
-/// how many there were then.
+/// Visits the entries of an object that have one of these fields, whatever the fields, behind so
+/// many visits, and answers how many there were then.
 ///
 /// # Errors
 ///
 /// The first fault, as `shape` reports it.
 #[cycle(walk)]
 #[tactic(auto, using(crate::proofs::WalkSteps::fields_more, crate::proofs::WalkSteps::fields_stop, crate::proofs::WalkSteps::fields_past, crate::proofs::WalkSteps::fields_past_words, crate::proofs::WalkSteps::field_rank))]
-pub fn walk_fields(adb: Adb<'_>, fields: &[Field], before: u32, entries: Arr<'_>) -> Result<u32, Cause>
+pub fn walk_fields(
+    adb: Adb<'_>,
+    fields: &[Field],
+    before: u32,
+    entries: Arr<'_>,
+) -> Result<u32, Cause>
     requires { before ≤ LIMIT }
-    ensures exact { result ≡ fields_walk (payload_of adb.entry) (shapes_of fields.now) before (array_entries entries.entry) }
+    ensures exact { result
+        ≡ fields_walk (payload_of adb.entry) (shapes_of fields.now) before
+        (array_entries entries.entry) }
     ensures bound { IfOk result (λ n. n ≤ LIMIT) }
 {
     let mut count = before;
@@ -126,29 +143,36 @@ pub fn walk_fields(adb: Adb<'_>, fields: &[Field], before: u32, entries: Arr<'_>
     Ok(count)
 }
 
-/// What the walk of an object's entries by any list of fields answers: the fault of the first faulty visit, or else how
-/// many visits there were then, and each of the entries has a plain value.
+/// What the walk of an object's entries by any list of fields answers: the fault of the first
+/// faulty visit, or else how many visits there were then, and each of the entries has a plain
+/// value.
 pub fn a_walk_of_fields_reports_the_first_faulty_visit()
     ensures fault { (payload : List ℕ) (fields : Fields) (before : ℕ) (words : List ℕ)
-        → cause_of (fields_walk payload fields before words) ≡ first_fault_from payload (before + 1) (field_visits payload fields words) }
+        → cause_of (fields_walk payload fields before words)
+        ≡ first_fault_from payload (before + 1) (field_visits payload fields words) }
     ensures count { (payload : List ℕ) (fields : Fields) (before count : ℕ) (words : List ℕ)
-        → fields_walk payload fields before words ≡ Ok count → count ≡ before + length (field_visits payload fields words) }
+        → fields_walk payload fields before words ≡ Ok count → count
+        ≡ before + length (field_visits payload fields words) }
     ensures value { (payload : List ℕ) (fields : Fields) (before count : ℕ) (words : List ℕ)
-        → fields_walk payload fields before words ≡ Ok count → is_some (plains_of payload fields words) ≡ true }
+        → fields_walk payload fields before words ≡ Ok count
+        → is_some (plains_of payload fields words) ≡ true }
 {
     value_is_found_where_visits_are_sound();
 }
 
-/// What is reported of a payload is the fault of its first faulty visit, depth first, and nothing else.
+/// What is reported of a payload is the fault of its first faulty visit, depth first, and nothing
+/// else.
 pub fn the_first_faulty_visit_is_reported()
     ensures { (payload : List ℕ) (shape : Shape) (word : ℕ) (cause : Cause)
-        → (shape_fault payload shape word ≡ Some cause) ↔ IsFirstFault payload (visits payload shape word) cause }
+        → (shape_fault payload shape word ≡ Some cause)
+        ↔ IsFirstFault payload (visits payload shape word) cause }
 {}
 
 /// Nothing is reported exactly where there is a plain value, and the visits are not too many.
 pub fn values_of_few_visits_have_no_fault()
     ensures { (payload : List ℕ) (shape : Shape) (word : ℕ)
-        → (shape_fault payload shape word ≡ None) ↔ ((is_some (plain_of payload shape word) ≡ true) × (length (visits payload shape word) ≤ LIMIT)) }
+        → (shape_fault payload shape word ≡ None) ↔ ((is_some (plain_of payload shape word) ≡ true)
+        × (length (visits payload shape word) ≤ LIMIT)) }
 {
     value_is_found_where_visits_are_sound();
 }

@@ -1,4 +1,4 @@
-pub mod Words
+pub mod RunWords
 pub mod Found
 pub mod Normal
 pub mod Worked

@@ -4,7 +4,8 @@ use Rattle.std.specs.Int.{Width, w32, byte_len, from_le_bytes}
 
 -- the `len` bytes that begin at `at`; None where they pass the end
 abbrev pub range_at : List ℕ → ℕ → ℕ → Option (List ℕ)
-range_at bytes at len = if nat_le (at + len) (length bytes) then Some (take len (drop at bytes)) else None
+range_at bytes at len = if nat_le (at + len) (length bytes) then Some (take len (drop at bytes))
+    else None
 
 -- the little-endian number that stands at `at`
 abbrev pub number_at : Width → List ℕ → ℕ → Option ℕ

@@ -1,5 +1,5 @@
 -- What the two views of a run show: the words of its entries.
-use Rattle.std.specs.Prelude.{ℕ, ◌/◌, List, length}
+use Rattle.std.specs.Prelude.{ℕ, ◌/◌, ◌-◌, List, length, slice_index}
 use Rattle.adb_view.specs.Bytes.{words}
 use Rattle.adb_view.specs.declared.run.Arr.{Arr}
 use Rattle.adb_view.specs.declared.run.Obj.{Obj}
@@ -10,3 +10,7 @@ array_entries array = words (length array.bytes.now / 4) array.bytes.now
 -- those past its fields too
 abbrev pub object_entries : {N : ℕ} → Obj N → List ℕ
 object_entries object = array_entries object.entries
+
+-- the entry with this number, counted from 1; behind the last it is 0, which is NULL
+abbrev pub entry_at : List ℕ → ℕ → ℕ
+entry_at entries i = slice_index entries (i - 1)

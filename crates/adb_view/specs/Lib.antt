@@ -1,9 +1,11 @@
+-- what the contract of `apk` says
 pub mod Bytes
 pub mod Readers
 pub mod Head
 pub mod Plain
-pub mod Visits
 pub mod Gives
+pub mod Visits
+-- what only inner contracts and proofs use
 pub mod Adb
 pub mod Entries
 pub mod Width

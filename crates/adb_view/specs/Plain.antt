@@ -82,8 +82,10 @@ unfoldable mutual
   plain_of p number w = unless_null w (from_answer (λ n. Some (int n)) (int_of p w))
   plain_of p text w = unless_null w (from_answer (λ b. Some (blob_value b)) (blob_of p w))
   plain_of p hash w = unless_null w (from_answer (λ b. Some (blob_value b)) (blob_of p w))
-  plain_of p (array s) w = unless_null w (from_answer (λ ws. option_map arr_value (each_plain (plain_of p s) ws)) (run_of ARRAY p w))
-  plain_of p (object schema fs) w = unless_null w (from_answer (λ ws. option_map obj_value (plains_of p fs ws)) (run_of OBJECT p w))
+  plain_of p (array s) w = unless_null w
+      (from_answer (λ ws. option_map arr_value (each_plain (plain_of p s) ws)) (run_of ARRAY p w))
+  plain_of p (object schema fs) w = unless_null w
+      (from_answer (λ ws. option_map obj_value (plains_of p fs ws)) (run_of OBJECT p w))
 
   -- entries past the fields are not looked at
   pub plains_of : List ℕ → Fields → List ℕ → Option Plains

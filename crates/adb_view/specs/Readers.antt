@@ -1,5 +1,5 @@
 -- What a word means in a payload, for each of the four readers.
-use Rattle.std.specs.Prelude.{ℕ, zero, suc, ◌+◌, ◌-◌, ◌*◌, ◌/◌, ◌%◌, ◌^◌, List, [], slice_index, Option, Some, None, option_map, option_and_then, Result, Ok, Err, ◌==◌, if◌then◌else◌}
+use Rattle.std.specs.Prelude.{ℕ, zero, suc, ◌+◌, ◌*◌, ◌/◌, ◌%◌, ◌^◌, List, [], Option, Some, None, option_map, option_and_then, Result, Ok, Err, ◌==◌, if◌then◌else◌}
 use Rattle.std.specs.Int.{Width, w8, w16, w32, w64, byte_len}
 use Rattle.adb_view.specs.Bytes.{range_at, number_at, words}
 use Rattle.base_core.specs.declared.cause.Cause.{Cause}
@@ -29,7 +29,8 @@ int_of payload word =
 
 -- a length, and behind it so many bytes
 abbrev pub counted_at : Width → List ℕ → ℕ → Option (List ℕ)
-counted_at w payload at = option_and_then (λ len. range_at payload (at + byte_len w) len) (number_at w payload at)
+counted_at w payload at = option_and_then (λ len. range_at payload (at + byte_len w) len)
+    (number_at w payload at)
 
 -- a blob, with its length in 1, 2 or 4 bytes; NULL is empty
 unfoldable pub blob_of : List ℕ → ℕ → Result (List ℕ) Cause
@@ -60,7 +61,3 @@ ARRAY = 13
 
 abbrev pub OBJECT : ℕ
 OBJECT = 14
-
--- the entry with this number, counted from 1; behind the last it is 0, which is NULL
-abbrev pub entry_at : List ℕ → ℕ → ℕ
-entry_at entries i = slice_index entries (i - 1)

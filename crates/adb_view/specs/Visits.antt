@@ -24,8 +24,10 @@ unfoldable mutual
   visits p number w = record { shape = number; word = w } ∷ []
   visits p text w = record { shape = text; word = w } ∷ []
   visits p hash w = record { shape = hash; word = w } ∷ []
-  visits p (array s) w = record { shape = array s; word = w } ∷ each_visit (visits p s) (or_empty (run_of ARRAY p w))
-  visits p (object schema fs) w = record { shape = object schema fs; word = w } ∷ field_visits p fs (or_empty (run_of OBJECT p w))
+  visits p (array s) w = record { shape = array s; word = w } ∷
+      each_visit (visits p s) (or_empty (run_of ARRAY p w))
+  visits p (object schema fs) w = record { shape = object schema fs; word = w } ∷
+      field_visits p fs (or_empty (run_of OBJECT p w))
 
   pub field_visits : List ℕ → Fields → List ℕ → List Visit
   field_visits p no_fields ws = []

@@ -1,8 +1,8 @@
 -- The widths of the numbers in a payload.
 use Rattle.std.specs.Int.{w8, w16, w32, w64}
 use Rattle.std.specs.Int as I
-use Rattle.adb_view.specs.declared.bytes.Width.{Width}
-use Rattle.adb_view.specs.declared.bytes.Width.TheVariants.{One, Two, Four, Eight}
+use Rattle.adb_view.specs.declared.words.Width.{Width}
+use Rattle.adb_view.specs.declared.words.Width.TheVariants.{One, Two, Four, Eight}
 
 abbrev pub width_of : Width → I.Width
 width_of One = w8

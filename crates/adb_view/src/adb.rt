@@ -1,11 +1,16 @@
-ghost use Rattle.std.specs.Prelude.{◌≡◌, ◌≤◌, length, IfOk};
+//! An opened payload and its four readers, and what follows from the definitions, for every payload.
+
+ghost use Rattle.std.specs.Prelude.{◌≡◌, ◌≤◌, length, IfOk, ◌<◌, ℕ, List, All, IfSome, is_some};
 ghost use Rattle.adb_view.specs.Head.{head_fault, root_of};
 ghost use Rattle.adb_view.specs.Readers.{int_of, blob_of, run_of, ARRAY, OBJECT};
 ghost use Rattle.adb_view.specs.Gives.{Gives, cause_of};
+ghost use Rattle.std.specs.List.{list_all};
+ghost use Rattle.adb_view.specs.Plain.{Shape, Fields, plain_of, plains_of, IsNormal};
+ghost use Rattle.adb_view.specs.Shaped.{HasShape, HaveShapes};
+ghost use Rattle.adb_view.specs.Visits.{visits, field_visits, is_sound_visit};
 
-use crate::bytes::{Width, counted, number};
 use crate::run::{Arr, Obj};
-use crate::val::{Val, kind};
+use crate::words::{Val, Width, counted, kind, number};
 use base_core::Cause;
 
 /// The bytes before the values.
@@ -26,7 +31,8 @@ impl<'a> Adb<'a> {
     ///
     /// # Errors
     ///
-    /// `Truncated` at 0 where there are fewer than 8 bytes, else `CompatVersion` where the first is not 0.
+    /// `Truncated` at 0 where there are fewer than 8 bytes, else `CompatVersion` where the first is
+    /// not 0.
     pub fn new(payload: &'a [u8]) -> Result<Adb<'a>, Cause>
         ensures exact { cause_of result ≡ head_fault payload.now }
         ensures lent { IfOk result (λ adb. payload_of adb ≡ payload.now) }
@@ -103,7 +109,8 @@ impl<'a> Adb<'a> {
     ///
     /// # Errors
     ///
-    /// `WrongKind` where it is no array, else `Outside` where its run leaves the payload or counts no word.
+    /// `WrongKind` where it is no array, else `Outside` where its run leaves the payload or counts
+    /// no word.
     pub fn arr(&self, v: Val) -> Result<Arr<'a>, Cause>
         ensures { Gives array_entries result (run_of ARRAY (payload_of self.now) v) }
     {
@@ -114,7 +121,8 @@ impl<'a> Adb<'a> {
     ///
     /// # Errors
     ///
-    /// `WrongKind` where it is no object, else `Outside` where its run leaves the payload or counts no word.
+    /// `WrongKind` where it is no object, else `Outside` where its run leaves the payload or counts
+    /// no word.
     pub fn obj<const N: usize>(&self, v: Val) -> Result<Obj<'a, N>, Cause>
         ensures { Gives object_entries result (run_of OBJECT (payload_of self.now) v) }
     {
@@ -122,3 +130,30 @@ impl<'a> Adb<'a> {
         Ok(Obj::of(entries))
     }
 }
+
+/// A plain value is found exactly where each word that the walk visits is read by the reader of its
+/// shape; so are those of the entries of an object.
+pub fn value_is_found_where_visits_are_sound()
+    ensures word { (payload : List ℕ) (shape : Shape) (word : ℕ)
+        → is_some (plain_of payload shape word)
+        ≡ list_all (is_sound_visit payload) (visits payload shape word) }
+    ensures fields { (payload : List ℕ) (fields : Fields) (words : List ℕ)
+        → is_some (plains_of payload fields words)
+        ≡ list_all (is_sound_visit payload) (field_visits payload fields words) }
+{}
+
+/// Each plain value that is found in bytes is normal: its integers are below 2^64, no blob or list
+/// is empty, and no object ends in Null.
+pub fn values_are_normal()
+    ensures { (payload : List ℕ) → All (λ b. b < 256) payload
+        → (shape : Shape) (word : ℕ) → IfSome (plain_of payload shape word) IsNormal }
+{}
+
+/// Each plain value that is found has the shape under which it was looked for; so have those of the
+/// entries of an object.
+pub fn values_have_their_shape()
+    ensures word { (payload : List ℕ) (shape : Shape) (word : ℕ)
+        → IfSome (plain_of payload shape word) (HasShape shape) }
+    ensures fields { (payload : List ℕ) (fields : Fields) (words : List ℕ)
+        → IfSome (plains_of payload fields words) (HaveShapes fields) }
+{}

@@ -1,9 +1,10 @@
+//! Runs of words: the entries of an array, and of an object.
+
 ghost use Rattle.std.specs.Prelude.{◌≡◌, ◌≤◌, ◌<◌, ◌-◌, ◌*◌, ◌^◌, ◌==◌, length};
-ghost use Rattle.adb_view.specs.Readers.{run_of, entry_at};
+ghost use Rattle.adb_view.specs.Readers.{run_of};
 ghost use Rattle.adb_view.specs.Gives.{Gives};
 
-use crate::bytes::{run, word_at};
-use crate::val::Val;
+use crate::words::{Val, run, word_at};
 use base_core::Cause;
 
 /// The entries of an array, as their words stand in the payload.
@@ -13,9 +14,9 @@ pub struct Arr<'a> {
     ghost counted: { length bytes.now < 4 * (2 ^ 32 - 1) },
 }
 
-#[tactic(auto, using(crate::proofs::Words::word_count))]
+#[tactic(auto, using(crate::proofs::RunWords::word_count))]
 impl<'a> Arr<'a> {
-    ghost use Rattle.adb_view.specs.Entries.{array_entries};
+    ghost use Rattle.adb_view.specs.Entries.{array_entries, entry_at};
 
     /// The entries of a run of this kind; NULL has none.
     #[tactic(auto, unfolding(crate::specs::Readers::run_of, crate::specs::Bytes::words))]
@@ -50,7 +51,7 @@ impl<'a> Arr<'a> {
         self.len() == 0
     }
 
-    /// The entry at a place, counted from 1.
+    /// The entry with this index, counted from 1.
     pub fn get(&self, i: usize) -> Val
         requires from { 1 ≤ i }
         requires to { i ≤ length (array_entries self.now) }
@@ -67,7 +68,7 @@ pub struct Obj<'a, const N: usize> {
 }
 
 impl<'a, const N: usize> Obj<'a, N> {
-    ghost use Rattle.adb_view.specs.Entries.{array_entries, object_entries};
+    ghost use Rattle.adb_view.specs.Entries.{array_entries, entry_at, object_entries};
 
     pub(crate) fn of(entries: Arr<'a>) -> Obj<'a, N>
         ensures { object_entries result ≡ array_entries entries.entry }

@@ -13,10 +13,10 @@ mod root;
 #[cfg(test)]
 mod tests;
 
+use apk_front::Access;
 use base_core::{Disk, Name, Names, Tree, TreeFault};
 pub use failure::Failure;
 use failure::HostFault;
-pub use lock::Access;
 use root::Root;
 use std::alloc::Global;
 use std::fs::{File, Files};

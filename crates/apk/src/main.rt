@@ -8,15 +8,15 @@ mod host;
 mod stream;
 mod words;
 
-use apk_front::{Answer, apk, status};
-use host::{Access, HostTree};
+use apk_front::{Answer, access_for, apk, status};
+use host::HostTree;
 use std::io;
 use std::io::Write;
 use std::process::ExitCode;
 use stream::HostSink;
 use words::{WordsFault, words_of};
 
-/// The status of a run whose words find no memory.
+/// The status of a run that finds no memory for its words.
 const NO_MEMORY: u8 = 4;
 
 /// The status of a run that has too many words.
@@ -25,16 +25,16 @@ const TOO_MANY_WORDS: u8 = 5;
 fn main(rt: HostRuntime) -> ExitCode {
     let words = match words_of(&rt, rt.alloc()) {
         Ok(words) => words,
-        Err(WordsFault::Memory) => {
-            let _ = rt.stderr().write_all(b"ERROR: out of memory\n");
-            return ExitCode::from(NO_MEMORY);
-        }
+        Err(WordsFault::Memory) => return out_of_memory(&rt),
         Err(WordsFault::TooMany) => {
             let _ = rt.stderr().write_all(b"ERROR: too many words\n");
             return ExitCode::from(TOO_MANY_WORDS);
         }
     };
-    let mut tree = HostTree::new(&rt, rt.alloc(), Access::Write);
+    let Ok(access) = access_for(rt.alloc(), &words) else {
+        return out_of_memory(&rt);
+    };
+    let mut tree = HostTree::new(&rt, rt.alloc(), access);
     let mut out = HostSink::new(rt.stdout());
     let mut err = HostSink::new(rt.stderr());
     let answer = apk(rt.alloc(), &words, &mut tree, &mut out, &mut err);
@@ -42,6 +42,11 @@ fn main(rt: HostRuntime) -> ExitCode {
         let _ = tell_why(&rt, &tree);
     }
     ExitCode::from(status(&answer))
+}
+
+fn out_of_memory(rt: &HostRuntime) -> ExitCode {
+    let _ = rt.stderr().write_all(b"ERROR: out of memory\n");
+    ExitCode::from(NO_MEMORY)
 }
 
 /// Prints what failed first on the host, and whether the new file may stand already.

@@ -6,3 +6,4 @@ pub mod Status
 pub mod Verdicts
 pub mod Runs
 pub mod Containers
+pub mod Effects

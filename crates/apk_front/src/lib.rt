@@ -10,6 +10,7 @@
 
 mod answer;
 mod dump;
+mod effect;
 mod front;
 mod judge;
 mod make;
@@ -17,5 +18,6 @@ mod verify;
 mod version;
 
 pub use answer::{Answer, status};
+pub use effect::{Access, access_for};
 pub use front::apk;
 pub use report_core::Refusal;

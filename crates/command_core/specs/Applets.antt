@@ -1,5 +1,5 @@
 -- What each applet may have, after apk(8): flags, options with values, operands.
-use Rattle.std.specs.Prelude.{ℕ, ◌&&◌, ◌||◌, [], ◌∷◌, Option, Some, None, if◌then◌else◌}
+use Rattle.std.specs.Prelude.{ℕ, ◌||◌, Option, Some, None, if◌then◌else◌}
 use Rattle.command_core.specs.declared.command.Applet.{Applet}
 use Rattle.command_core.specs.declared.command.Applet.TheVariants.{Add, Del, Upgrade, Fix, Info, Verify, Adbdump, Mkpkg, Mkndx, Version, Demo}
 use Rattle.command_core.specs.declared.command.Flags.{Flags}

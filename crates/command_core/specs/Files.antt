@@ -12,9 +12,13 @@ without_dot text = if bytes_eq (take 2 text) (codes "./") then drop 2 text else 
 abbrev pub is_file : List ℕ → Bool
 is_file text = is_name (without_dot text)
 
--- whether a text names a file that may be written: its scratch name, eight bytes longer, is a name too
+-- how long a file's path may be, so that its scratch name, eight bytes longer, is a name too
+abbrev pub longest_output : ℕ
+longest_output = 1016
+
+-- whether a text names a file that may be written
 abbrev pub is_output : List ℕ → Bool
-is_output text = is_file text && nat_le (length (without_dot text)) 1016
+is_output text = is_file text && nat_le (length (without_dot text)) longest_output
 
 -- whether a text is a path, as `info --who-owns` takes it: one leading `/` is dropped
 abbrev pub is_path : List ℕ → Bool

@@ -5,7 +5,6 @@ pub mod Operands
 pub mod Values
 pub mod Applets
 pub mod Command
-
 -- what only inner contracts and proofs use
 pub mod Named
 pub mod Sound

@@ -18,7 +18,8 @@ operand_file operand = without_dot operand.text
 abbrev pub are_files : List Operand → Bool
 are_files operands = list_all (λ (o : Operand). is_file o.text) operands
 
--- the part of a value of the option with a letter that may name a file: of a script the part behind the first `:`
+-- the part of a value of the option with a letter that may name a file: of a script the part behind
+-- the first `:`
 abbrev pub file_part : ℕ → List ℕ → List ℕ
 file_part letter text = if letter == SCRIPT then script_file text else text
 

@@ -23,11 +23,17 @@ has_zero_in_front (d ∷ ds) = (d == 48) && nat_lt 0 (length ds)
 
 -- whether a text is a decimal number without leading zeros
 abbrev pub is_decimal : List ℕ → Bool
-is_decimal text = nat_lt 0 (length text) && not (has_zero_in_front text) && list_all is_ascii_digit text
+is_decimal text =
+    nat_lt 0 (length text) && not (has_zero_in_front text) && list_all is_ascii_digit text
+
+-- the largest number of packages of `demo`
+abbrev pub largest_demo : ℕ
+largest_demo = 20000
 
 -- whether a text is a number of packages for `demo`
 abbrev pub is_demo_number : List ℕ → Bool
-is_demo_number text = is_decimal text && nat_lt 0 (digits_value 10 text) && nat_le (digits_value 10 text) 20000
+is_demo_number text =
+    is_decimal text && nat_lt 0 (digits_value 10 text) && nat_le (digits_value 10 text) largest_demo
 
 abbrev pub is_of_kind : OperandKind → List ℕ → Bool
 is_of_kind File text = is_file text
@@ -61,4 +67,5 @@ takes rule before text = has_room rule.most before && is_of_kind rule.kind text
 abbrev pub first_refused : OperandRule → ℕ → List Operand → Option ℕ
 first_refused rule before [] = None
 first_refused rule before (operand ∷ operands) =
-    if takes rule before operand.text then first_refused rule (before + 1) operands else Some operand.place
+    if takes rule before operand.text then first_refused rule (before + 1) operands else
+    Some operand.place

@@ -1,4 +1,5 @@
--- When flags, operands and values are a command's: each is one that its applet may have, and none is lacking.
+-- When flags, operands and values are a command's: each is one that its applet may have, and none
+-- is lacking.
 use Rattle.std.specs.Prelude.{ℕ, ◌==◌, nat_le, Bool, true, false, not, ◌&&◌, ◌||◌, List, [], ◌∷◌, length, Option, Some, None, IsTrue}
 use Rattle.std.specs.List.{find, list_all, list_any}
 use Rattle.command_core.specs.declared.command.Applet.{Applet}
@@ -27,11 +28,13 @@ all_flags =
 abbrev pub is_single : List Flag → Flags → Bool
 is_single [] flags = true
 is_single (flag ∷ others) flags =
-    not (has_flag flag flags && list_any (λ other. has_flag other flags) others) && is_single others flags
+    not (has_flag flag flags && list_any (λ other. has_flag other flags) others)
+    && is_single others flags
 
 -- whether each flag that was given is among those that are allowed
 abbrev pub are_within : Flags → Flags → Bool
-are_within allowed flags = list_all (λ flag. not (has_flag flag flags) || has_flag flag allowed) all_flags
+are_within allowed flags =
+    list_all (λ flag. not (has_flag flag flags) || has_flag flag allowed) all_flags
 
 -- the flags of every applet
 abbrev pub common_flags : Flags
@@ -43,11 +46,13 @@ allowed_flags Add = with_flag Initdb (with_flag Simulate common_flags)
 allowed_flags Del = with_flag Simulate (with_flag Purge common_flags)
 allowed_flags Upgrade = with_flag Simulate common_flags
 allowed_flags Fix = with_flag Simulate common_flags
-allowed_flags Info = with_flag Installed (with_flag Contents (with_flag Depends (with_flag WhoOwns common_flags)))
+allowed_flags Info =
+    with_flag Installed (with_flag Contents (with_flag Depends (with_flag WhoOwns common_flags)))
 allowed_flags Version = with_flag Test (with_flag Check common_flags)
 allowed_flags applet = common_flags
 
--- whether an applet may have some flags: each is one of its own, and at most one says of which kind the command is
+-- whether an applet may have some flags: each is one of its own, and at most one says of which kind
+-- the command is
 abbrev pub may_have : Applet → Flags → Bool
 may_have applet flags = are_within (allowed_flags applet) flags && is_single kinds flags
 
@@ -58,8 +63,8 @@ abbrev pub is_at_most : Option ℕ → ℕ → Bool
 is_at_most None count = true
 is_at_most (Some most) count = nat_le count most
 
--- whether operands are those of an applet: each of its kind, and as many as it takes. There are none of an applet that
--- lacks its kind
+-- whether operands are those of an applet: each of its kind, and as many as it takes. There are
+-- none of an applet that lacks its kind
 abbrev pub are_operands : Option OperandRule → List Operand → Bool
 are_operands None operands = false
 are_operands (Some rule) operands =
@@ -71,7 +76,8 @@ are_operands (Some rule) operands =
 -- the rules of the options of an applet that have values
 abbrev pub value_rules : Applet → List ValueRule
 value_rules Mkpkg =
-    info_rule ∷ (script_rule ∷ (trigger_rule ∷ (files_rule ∷ (output_rule ∷ (compression_rule ∷ [])))))
+    info_rule ∷ (script_rule ∷ (trigger_rule ∷
+    (files_rule ∷ (output_rule ∷ (compression_rule ∷ [])))))
 value_rules Mkndx = description_rule ∷ (output_rule ∷ (compression_rule ∷ []))
 value_rules applet = []
 
@@ -90,21 +96,25 @@ excludes_by None a b = false
 excludes_by (Some rule) a b = rule.single || excludes rule.kind a b
 
 abbrev pub are_apart : List ValueRule → OptionValue → OptionValue → Bool
-are_apart rules a b = not ((a.letter == b.letter) && excludes_by (rule_for rules a.letter) a.text b.text)
+are_apart rules a b =
+    not ((a.letter == b.letter) && excludes_by (rule_for rules a.letter) a.text b.text)
 
 -- whether values are ones of options with these rules, and no two of them exclude each other
 abbrev pub are_values : List ValueRule → List OptionValue → Bool
 are_values rules [] = true
 are_values rules (v ∷ vs) =
-    is_value_by (rule_for rules v.letter) v.text && list_all (are_apart rules v) vs && are_values rules vs
+    is_value_by (rule_for rules v.letter) v.text && list_all (are_apart rules v) vs
+    && are_values rules vs
 
 -- ---- the command
 
--- whether flags, operands and values are ones that the applet may have together, and none is lacking
+-- whether flags, operands and values are ones that the applet may have together, and none is
+-- lacking
 abbrev pub is_command : CommandLine → Bool
 is_command c =
     may_have c.applet c.flags && are_operands (operand_rule c.applet c.flags) c.operands
-    && are_values (value_rules c.applet) c.values && not (lacks_value (needed_option c.applet) c.values)
+    && are_values (value_rules c.applet) c.values
+    && not (lacks_value (needed_option c.applet) c.values)
 
 abbrev pub IsCommand : CommandLine → Type 0
 IsCommand command = IsTrue (is_command command)

@@ -1,5 +1,5 @@
 -- Options with values: what the values may be, and which may stand together.
-use Rattle.std.specs.Prelude.{ℕ, ◌==◌, nat_lt, Bool, true, false, not, ◌&&◌, ◌||◌, List, [], ◌∷◌, length, codes, Option, Some, None}
+use Rattle.std.specs.Prelude.{ℕ, ◌==◌, nat_lt, Bool, true, false, not, ◌&&◌, List, [], ◌∷◌, length, codes, Option, Some, None}
 use Rattle.std.specs.List.{after_first, before_first, find, list_any}
 use Rattle.std.specs.Str.{bytes_eq}
 use Rattle.command_core.specs.declared.values.OptionValue.{OptionValue}
@@ -25,19 +25,23 @@ is_given letter values = list_any (λ (v : OptionValue). v.letter == letter) val
 -- the types of a package's scripts
 abbrev pub script_types : List (List ℕ)
 script_types =
-    codes "trigger" ∷ (codes "pre-install" ∷ (codes "post-install" ∷ (codes "pre-deinstall" ∷ (codes "post-deinstall" ∷
-    (codes "pre-upgrade" ∷ (codes "post-upgrade" ∷ []))))))
+    codes "trigger" ∷ (codes "pre-install" ∷ (codes "post-install" ∷ (codes "pre-deinstall" ∷
+    (codes "post-deinstall" ∷ (codes "pre-upgrade" ∷ (codes "post-upgrade" ∷ []))))))
+
+abbrev pub colon : ℕ
+colon = 58
 
 -- of TYPE:FILE the part before the first `:`, and the part behind it
 abbrev pub script_type : List ℕ → List ℕ
-script_type text = before_first (λ b. b == 58) text
+script_type text = before_first (λ b. b == colon) text
 
 abbrev pub script_file : List ℕ → List ℕ
-script_file text = after_first (λ b. b == 58) text
+script_file text = after_first (λ b. b == colon) text
 
 -- whether a text is TYPE:FILE
 abbrev pub is_script : List ℕ → Bool
-is_script text = list_any (λ t. bytes_eq t (script_type text)) script_types && is_file (script_file text)
+is_script text =
+    list_any (λ t. bytes_eq t (script_type text)) script_types && is_file (script_file text)
 
 -- ---- kinds
 
@@ -85,7 +89,8 @@ is_spent rule values = rule.single && is_given rule.letter values
 -- whether a text is excluded by values that the option was given before
 abbrev pub is_excluded : ValueRule → List ℕ → List OptionValue → Bool
 is_excluded rule text values =
-    list_any (λ (v : OptionValue). (v.letter == rule.letter) && excludes rule.kind v.text text) values
+    list_any (λ (v : OptionValue). (v.letter == rule.letter) && excludes rule.kind v.text text)
+    values
 
 -- whether the option that has to be given a value is lacking
 abbrev pub lacks_value : Option ℕ → List OptionValue → Bool

@@ -118,7 +118,8 @@ impl Flags {
         }
     }
 
-    /// Whether a flag was given that says of which kind the command is: one of `info`, or one of `version`.
+    /// Whether a flag was given that says of which kind the command is: one of `info`, or one of
+    /// `version`.
     pub fn has_kind(&self) -> bool
         ensures { result ≡ has_kind self.now }
     {

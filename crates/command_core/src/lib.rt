@@ -1,9 +1,9 @@
-//! What a command is, after apk(8): its applet, the options that it was given, its operands, and which of them may stand
-//! together.
+//! What a command is, after apk(8): its applet, the options that it was given, its operands, and
+//! which of them may stand together.
 //!
-//! `words_core` reads a `Command` from the words of a command line; what is done with it needs this crate alone. The
-//! contracts cite `Command` (what a command is), `Applets` (what each applet may have), `Flags`, `Operands`, `Values` and
-//! `Files` of `specs/`.
+//! `words_core` reads a `Command` from the words of a command line; what is done with it needs this
+//! crate alone. The contracts cite `Command` and `Sound` (what a command is), `Applets` (which
+//! operands each applet takes), `Flags`, `Operands`, `Values`, `Files` and `Named` of `specs/`.
 #![tactic(auto)]
 
 mod command;
@@ -17,7 +17,7 @@ pub use laws::{
     a_command_has_what_its_applet_may_have, file_operands_are_files, values_are_of_their_kind,
 };
 pub use operands::{Operand, OperandKind, OperandRule, Operands};
-pub use texts::{is_file, script_file, script_type, without_dot};
+pub use texts::without_dot;
 pub use values::{
     COMPRESSION, DESCRIPTION, FILES, INFO, OUTPUT, OptionValue, SCRIPT, TRIGGER, ValueKind,
     ValueRule, Values,

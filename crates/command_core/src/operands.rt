@@ -5,7 +5,7 @@ ghost use Rattle.command_core.specs.Files.{without_dot};
 ghost use Rattle.command_core.specs.Named.{file_name, are_files, operand_file};
 ghost use Rattle.command_core.specs.Operands.{at_least, exactly, first_refused, has_room, is_of_kind, operand_at, takes};
 
-use crate::texts::{is_demo_number, is_file, is_path, read_file, without_dot};
+use crate::texts::{is_demo_number, is_file, is_path, read_file};
 use base_core::{Name, Text};
 use dep_core::{is_dep_name, is_package_name, read_dep};
 use std::alloc::{AllocError, Global};
@@ -124,15 +124,6 @@ pub struct Operand {
     pub text: Text,
 }
 
-impl Operand {
-    /// The path that the operand names where it is a file: the word without one leading `./`.
-    pub fn file(&self) -> &[u8]
-        ensures { result.now ≡ without_dot self.now.text }
-    {
-        without_dot(self.text.as_bytes())
-    }
-}
-
 // An operand, with the name that it is where it is a file.
 #[derive(Drop)]
 struct OperandEntry {
@@ -208,7 +199,8 @@ impl Operands {
         &self.entries[i].operand
     }
 
-    /// The name that the operand with this index is, without one leading `./`. The operands are files.
+    /// The name that the operand with this index is, without one leading `./`. The operands are
+    /// files.
     pub fn file(&self, i: usize) -> &Name
         requires here { i < length self.now }
         requires files { IsTrue (are_files self.now) }

@@ -7,7 +7,7 @@ ghost use Rattle.dep_core.specs.Repositories.{without_slash};
 ghost use Rattle.command_core.specs.Files.{is_file, is_output, is_path, without_dot};
 ghost use Rattle.command_core.specs.Named.{file_name};
 ghost use Rattle.command_core.specs.Operands.{has_zero_in_front, is_decimal, is_demo_number};
-ghost use Rattle.command_core.specs.Values.{is_script, script_file, script_type, script_types};
+ghost use Rattle.command_core.specs.Values.{colon, is_script, script_file, script_type, script_types};
 
 use base_core::{Name, is_name};
 use std::alloc::{AllocError, Global};
@@ -42,7 +42,7 @@ pub fn without_dot(text: &[u8]) -> &[u8]
 }
 
 /// Whether a text is a file: a path below the root, which one leading `./` may stand before.
-pub fn is_file(text: &[u8]) -> bool
+pub(crate) fn is_file(text: &[u8]) -> bool
     ensures { result ≡ is_file text.now }
 {
     is_name(without_dot(text))
@@ -107,7 +107,7 @@ fn is_among(texts: &[&[u8]], text: &[u8]) -> bool
 }
 
 /// Of TYPE:FILE the part before the first `:`, or all where there is none.
-pub fn script_type(text: &[u8]) -> &[u8]
+pub(crate) fn script_type(text: &[u8]) -> &[u8]
     ensures { result.now ≡ script_type text.now }
 {
     match colon(text) {
@@ -117,7 +117,7 @@ pub fn script_type(text: &[u8]) -> &[u8]
 }
 
 /// Of TYPE:FILE the part behind the first `:`, or nothing where there is none.
-pub fn script_file(text: &[u8]) -> &[u8]
+pub(crate) fn script_file(text: &[u8]) -> &[u8]
     ensures { result.now ≡ script_file text.now }
 {
     match colon(text) {
@@ -128,12 +128,13 @@ pub fn script_file(text: &[u8]) -> &[u8]
 
 // Where the first `:` stands.
 fn colon(text: &[u8]) -> Option<usize>
-    ensures { result ≡ position (λ b. b == 58) text.now }
+    ensures { result ≡ position (λ b. b == colon) text.now }
 {
     text.iter().position(|byte| *byte == b':')
 }
 
-/// Whether a text is a number of packages for `demo`: decimal, from 1 to 20,000, without leading zeros.
+/// Whether a text is a number of packages for `demo`: decimal, from 1 to 20,000, without leading
+/// zeros.
 pub(crate) fn is_demo_number(text: &[u8]) -> bool
     ensures { result ≡ is_demo_number text.now }
 {

@@ -6,9 +6,7 @@ ghost use Rattle.command_core.specs.Named.{file_name, file_in, file_part};
 ghost use Rattle.command_core.specs.Values.{excludes, is_excluded, is_given, is_spent, is_value, script_file, script_type, option_value, first_value};
 ghost use Rattle.command_core.specs.declared.values.OptionValue.{OptionValue};
 
-use crate::texts::{
-    is_file, is_output, is_script, read_file, script_file, script_type, without_dot,
-};
+use crate::texts::{is_file, is_output, is_script, read_file, script_file, script_type};
 use base_core::{Name, Text};
 use std::alloc::{AllocError, Global};
 use std::marker::Model;
@@ -48,7 +46,8 @@ pub enum ValueKind {
     Nonempty,
     /// A file or a folder, as a path below the root.
     File,
-    /// A file to be written: its path has at most 1,016 bytes, so that a scratch name beside it is a path too.
+    /// A file to be written: its path has at most 1,016 bytes, so that a scratch name beside it is
+    /// a path too.
     Output,
     /// The word `none`: what is written is not compressed.
     Uncompressed,
@@ -94,20 +93,6 @@ pub struct OptionValue {
 }
 
 impl OptionValue {
-    /// The path that the value names where it is a file: the value without one leading `./`.
-    pub fn file(&self) -> &[u8]
-        ensures { result.now ≡ without_dot self.now.text }
-    {
-        without_dot(self.text.as_bytes())
-    }
-
-    /// Of a value TYPE:FILE the path that the part behind the first `:` names.
-    pub fn script_file(&self) -> &[u8]
-        ensures { result.now ≡ without_dot (script_file self.now.text) }
-    {
-        without_dot(script_file(self.text.as_bytes()))
-    }
-
     /// Of a value TYPE:FILE, as `--script` has, the part before the first `:`.
     pub fn script_type(&self) -> &[u8]
         ensures { result.now ≡ script_type self.now.text }
@@ -229,12 +214,14 @@ impl Values {
         }
     }
 
-    /// The name of the first file that the option with a letter was given, without one leading `./`, if there is one. The
-    /// option's values are files.
+    /// The name of the first file that the option with a letter was given, without one leading
+    /// `./`, if there is one. The option's values are files.
     pub fn first_file(&self, letter: u8) -> Option<&Name>
         requires letter { IsTrue (not (letter == SCRIPT)) }
-        requires file { IfSome (first_value letter self.now) (λ value. IsTrue (is_file value.text)) }
-        ensures { option_map (λ name. name.now) result ≡ option_map (λ value. without_dot value.text) (first_value letter self.entry.now) }
+        requires file { IfSome (first_value letter self.now)
+            (λ value. IsTrue (is_file value.text)) }
+        ensures { option_map (λ name. name.now) result
+            ≡ option_map (λ value. without_dot value.text) (first_value letter self.entry.now) }
     {
         match self.first_entry(letter) {
             Some(entry) => entry.file.as_ref(),
@@ -242,11 +229,14 @@ impl Values {
         }
     }
 
-    /// The name of the file that `--script` was given by the value with this index, without one leading `./`.
+    /// The name of the file that `--script` was given by the value with this index, without one
+    /// leading `./`.
     pub fn script_file(&self, i: usize) -> &Name
         requires here { i < length self.now }
-        requires script { IfSome (slice_get self.now i) (λ value. value.letter ≡ SCRIPT × IsTrue (is_file (script_file value.text))) }
-        ensures { option_map (λ value. without_dot (script_file value.text)) (slice_get self.now i) ≡ Some result.now }
+        requires script { IfSome (slice_get self.now i)
+            (λ value. value.letter ≡ SCRIPT × IsTrue (is_file (script_file value.text))) }
+        ensures { option_map (λ value. without_dot (script_file value.text))
+            (slice_get self.now i) ≡ Some result.now }
     {
         match &self.entries[i].file {
             Some(file) => file,
@@ -256,7 +246,8 @@ impl Values {
 
     // The first value that the option with a letter was given, and the file in it.
     fn first_entry(&self, letter: u8) -> Option<&ValueEntry>
-        ensures value { option_map (λ entry. entry.now.value) result ≡ first_value letter self.entry.now }
+        ensures value { option_map (λ entry. entry.now.value) result
+            ≡ first_value letter self.entry.now }
         ensures file { IfSome result (λ entry. entry.now.file ≡ file_in entry.now.value) }
     {
         self.entries

@@ -8,21 +8,21 @@ use Rattle.journal_core.specs.Recovery.{state_of}
 use Rattle.journal_core.specs.Filling.{IsPrivate, IsUntouched, IsFilling}
 use Rattle.journal_core.proofs.Agree.{state_agree}
 use Rattle.journal_core.proofs.AtName.{name_cases, put_name-at, put_name-off, drop_name-off}
-use Rattle.journal_core.proofs.Images.{quiet_on, quiet_same}
+use Rattle.journal_core.proofs.Images.{CrashLaws, quiet_on, quiet_same}
 use Rattle.journal_core.proofs.Simulate.{file_at, bytes_of_same, rests_off, Simulates, simulated_orderly, simulated_quiet}
 
 pub untouched_start : (name : List ℕ) (v : TreeState) → IsUntouched name v v
 untouched_start name v = record { still = λ ignored orderly private. record { orderly = orderly; quiet = quiet_same ignored v; reads = refl; made = omega arith }; others = λ q ne. refl }
 
-still_on : (ignored : List ℕ → Bool) (start v w : TreeState) → IsStill ignored start v → Simulates ignored v w → v.made ≤ w.made → state_of ignored (files_of w) ≡ state_of ignored (files_of v) → IsStill ignored start w
-still_on ignored start v w was simulates more reads =
+still_on : CrashLaws → (ignored : List ℕ → Bool) (start v w : TreeState) → IsStill ignored start v → Simulates ignored v w → v.made ≤ w.made → state_of ignored (files_of w) ≡ state_of ignored (files_of v) → IsStill ignored start w
+still_on laws ignored start v w was simulates more reads =
     let orderly = simulated_orderly ignored v w was.orderly simulates in
-    record { orderly = orderly; quiet = quiet_on ignored start v w was.quiet (simulated_quiet ignored v w orderly simulates); reads = reads ∙ was.reads; made = omega (arith, was.made, more) }
+    record { orderly = orderly; quiet = quiet_on ignored start v w was.quiet (simulated_quiet laws ignored v w orderly simulates); reads = reads ∙ was.reads; made = omega (arith, was.made, more) }
 
 -- a step that simulates and leaves the other files as read
-untouched_on : (name : List ℕ) (start v w : TreeState) → IsUntouched name start v → ((ignored : List ℕ → Bool) → IsPrivate ignored name → Simulates ignored v w) → v.made ≤ w.made → ((q : List ℕ) → q ≢ name → files_of w q ≡ files_of v q) → IsUntouched name start w
-untouched_on name start v w was simulates more others = record {
-  still = λ ignored orderly private. still_on ignored start v w (was.still ignored orderly private) (simulates ignored private) more
+untouched_on : CrashLaws → (name : List ℕ) (start v w : TreeState) → IsUntouched name start v → ((ignored : List ℕ → Bool) → IsPrivate ignored name → Simulates ignored v w) → v.made ≤ w.made → ((q : List ℕ) → q ≢ name → files_of w q ≡ files_of v q) → IsUntouched name start w
+untouched_on laws name start v w was simulates more others = record {
+  still = λ ignored orderly private. still_on laws ignored start v w (was.still ignored orderly private) (simulates ignored private) more
       (sym (state_agree ignored (files_of v) (files_of w) (λ q rests. sym (others q (rests_off ignored name private (files_of v) q rests)))));
   others = λ q ne. others q ne ∙ was.others q ne;
 }
@@ -43,8 +43,8 @@ remove_others : (name : List ℕ) (v : TreeState) (n : Option ℕ) (q : List ℕ
 remove_others name v None q ne = refl
 remove_others name v (Some n) q ne = ap (bytes_at v.files) (drop_name-off v.names name q ne)
 
-pub untouched-removed : (name : List ℕ) (start v : TreeState) → IsUntouched name start v → IsUntouched name start (after_remove name v)
-untouched-removed name start v was = untouched_on name start v _ was (λ ignored private. remove_simulates ignored name private v (v.names name)) (remove_made name v (v.names name)) (remove_others name v (v.names name))
+pub untouched-removed : CrashLaws → (name : List ℕ) (start v : TreeState) → IsUntouched name start v → IsUntouched name start (after_remove name v)
+untouched-removed laws name start v was = untouched_on laws name start v _ was (λ ignored private. remove_simulates ignored name private v (v.names name)) (remove_made name v (v.names name)) (remove_others name v (v.names name))
 
 -- ---- create
 
@@ -78,8 +78,8 @@ create_simulates ignored name private v whole m (inr old) = (m, old, λ q rests.
 pub create_others : (name : List ℕ) (v : TreeState) → IsWhole v → (q : List ℕ) → q ≢ name → files_of (after_create name v) q ≡ files_of v q
 create_others name v whole q ne = ap (bytes_at (after_create name v).files) (put_name-off v.names name v.made q ne) ∙ bytes_at-set_file v.files v.made _ (v.names q) (made_later v whole v.names (inl refl) q)
 
-pub untouched-created : (name : List ℕ) (start v : TreeState) → IsWhole v → IsUntouched name start v → IsUntouched name start (after_create name v)
-untouched-created name start v whole was = untouched_on name start v _ was (λ ignored private. create_simulates ignored name private v whole) (omega arith) (create_others name v whole)
+pub untouched-created : CrashLaws → (name : List ℕ) (start v : TreeState) → IsWhole v → IsUntouched name start v → IsUntouched name start (after_create name v)
+untouched-created laws name start v whole was = untouched_on laws name start v _ was (λ ignored private. create_simulates ignored name private v whole) (omega arith) (create_others name v whole)
 
 pub create_alone : (name : List ℕ) (v : TreeState) → IsWhole v → (m : NameMap) → IsMapOf (after_create name v) m → (q : List ℕ) → m q ≡ Some v.made → q ≡ name
 create_alone name v whole m (inl new) q is = ⊎_elim (λ same. same)
@@ -87,9 +87,9 @@ create_alone name v whole m (inl new) q is = ⊎_elim (λ same. same)
     (name_cases q name)
 create_alone name v whole m (inr old) q is = absurd (made_later v whole m old q is)
 
-pub filling-created : (name : List ℕ) (start v : TreeState) → IsWhole v → IsUntouched name start v → IsFilling name (record { bytes = []; synced = false }) start (after_create name v)
-filling-created name start v whole was = record {
-  untouched = untouched-created name start v whole was;
+pub filling-created : CrashLaws → (name : List ℕ) (start v : TreeState) → IsWhole v → IsUntouched name start v → IsFilling name (record { bytes = []; synced = false }) start (after_create name v)
+filling-created laws name start v whole was = record {
+  untouched = untouched-created laws name start v whole was;
   number = v.made;
   there = put_name-at v.names name v.made name refl;
   holds = set_file-at v.files v.made _ v.made refl;
@@ -102,9 +102,9 @@ change_simulates : (ignored : List ℕ → Bool) (name : List ℕ) → IsPrivate
 change_simulates ignored name private change v n alone m among =
     (m, among, λ q rests. sym (file_at-set_file v.files n _ (m q) (λ is. rests_off ignored name private (files_by v m) q rests (alone m among q is))))
 
-filling_at : (name : List ℕ) (change : File → File) (file : File) (start v : TreeState) → (was : IsFilling name file start v) → IsFilling name (change file) start (change_at change v (Some was.number))
-filling_at name change file start v was = record {
-  untouched = untouched_on name start v _ was.untouched (λ ignored private. change_simulates ignored name private change v was.number was.alone) (omega arith)
+filling_at : CrashLaws → (name : List ℕ) (change : File → File) (file : File) (start v : TreeState) → (was : IsFilling name file start v) → IsFilling name (change file) start (change_at change v (Some was.number))
+filling_at laws name change file start v was = record {
+  untouched = untouched_on laws name start v _ was.untouched (λ ignored private. change_simulates ignored name private change v was.number was.alone) (omega arith)
       (λ q ne. bytes_at-set_file v.files was.number _ (v.names q) (λ is. ne (was.alone v.names (inl refl) q is)));
   number = was.number;
   there = was.there;
@@ -112,6 +112,6 @@ filling_at name change file start v was = record {
   alone = was.alone;
 }
 
-pub filling_on : (name : List ℕ) (change : File → File) (file : File) (start v : TreeState) → IsFilling name file start v → IsFilling name (change file) start (change_at change v (v.names name))
-filling_on name change file start v was =
-    subst (λ n. IsFilling name (change file) start (change_at change v n)) (sym was.there) (filling_at name change file start v was)
+pub filling_on : CrashLaws → (name : List ℕ) (change : File → File) (file : File) (start v : TreeState) → IsFilling name file start v → IsFilling name (change file) start (change_at change v (v.names name))
+filling_on laws name change file start v was =
+    subst (λ n. IsFilling name (change file) start (change_at change v n)) (sym was.there) (filling_at laws name change file start v was)

@@ -15,7 +15,7 @@ use Rattle.adb_tables.specs.declared.tables.Which.TheVariants.{Intent as IntentT
 
 -- ---- names
 
--- the file that tells what is left to do
+-- the file that says what is left to do
 abbrev pub intent_name : List ℕ
 intent_name = codes "lib/apk/intent"
 

@@ -9,8 +9,12 @@ use Rattle.std.proofs.lemmas.Cmp.{nat_list_cmp_total}
 use Rattle.std.proofs.lemmas.List.Concat.{flat_map-cons}
 use Rattle.std.proofs.lemmas.List.{append-nil}
 use Rattle.adb_view.specs.Plain.{Plain}
-use Rattle.adb_fields.specs.Pairs.{IsFirstOf, IsIn, IsPair, Named}
-use Rattle.adb_fields.specs.Repeated.{IsPairInOne, file_twice, files_in, folder_twice, folders_in, name_of, numbered_from, repeated_fault, twice_in_one}
+use Rattle.adb_fields.specs.Pairs.{Named}
+use Rattle.adb_fields.specs.FirstPair.{IsFirstOf}
+use Rattle.adb_fields.specs.FirstPair.{IsPair}
+use Rattle.adb_fields.specs.FirstPair.{IsIn}
+use Rattle.adb_fields.specs.Repeated.{file_twice, files_in, folder_twice, folders_in, name_of, numbered_from, repeated_fault, twice_in_one}
+use Rattle.adb_fields.specs.FirstPair.{IsPairInOne}
 use Rattle.adb_tables.specs.declared.tables.Which.TheVariants.{Package}
 use Rattle.make_package.specs.Folders.{with_folders, sorted_names, with_folder, with_folder_by}
 use Rattle.make_package.specs.Package.{Script, Source, SourceFolder, value_of_file, value_of_folder, value_of_package, kind_of_file}

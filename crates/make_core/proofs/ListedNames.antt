@@ -8,7 +8,7 @@ use Rattle.std.proofs.lemmas.List.Concat.{flat_map-cons}
 use Rattle.std.proofs.lemmas.List.Sums.{sum_by-cons}
 use Rattle.std.proofs.lemmas.Slice.Eq.{bytes_eq-Decides}
 use Rattle.base_core.specs.Name.{is_name}
-use Rattle.adb_fields.specs.Pairs.{IsIn}
+use Rattle.adb_fields.specs.FirstPair.{IsIn}
 use Rattle.adb_fields.specs.Paths.{path_of}
 use Rattle.adb_rules.specs.Rules.{is_file_name, is_folder_name}
 use Rattle.make_package.specs.Folders.{FolderListing, before_slashes, path_below, names_in_folder, folder_names, folder_of, folders_of, folders_over, is_slash, listing_of, last_part_of}

@@ -16,7 +16,8 @@ use Rattle.adb_view.specs.Plain.{Plain, null, Plains, none, more, Shape, hash, a
 use Rattle.adb_fields.specs.Repeated.{list_of, files_in}
 use Rattle.adb_rules.specs.Rules.{is_digest_length, is_digest_length_or_none}
 use Rattle.adb_tables.specs.Schema.{shape_of, shapes_of, table}
-use Rattle.adb_rules.specs.Texts.{Surroundings, Leaf, text_leaf, keeps_rule, leaves, field_leaves, each_leaf, inside_of, at_root, leaves_of, text_fault, text_rule, IsFirstBadOf, is_with_contents, needs_hash}
+use Rattle.adb_rules.specs.Texts.{Surroundings, Leaf, text_leaf, keeps_rule, leaves, field_leaves, each_leaf, inside_of, at_root, leaves_of, text_fault, text_rule, is_with_contents, needs_hash}
+use Rattle.adb_rules.specs.FirstBad.{IsFirstBadOf}
 use Rattle.adb_tables.specs.Values.{nth, entries_in, entry_in, int_in, text_in}
 use Rattle.adb_tables.specs.declared.tables.Which.{Which}
 use Rattle.adb_tables.specs.declared.tables.Kind.TheVariants.{Obj}

@@ -1,5 +1,5 @@
 -- The first failed test of a whole container, and what a good package holds.
-use Rattle.std.specs.Prelude.{◌≡◌, ℕ, ◌==◌, if◌then◌else◌, List, Option, Some, None, Result, Ok, Err}
+use Rattle.std.specs.Prelude.{ℕ, ◌==◌, if◌then◌else◌, List, Option, Some, None, Result, Ok, Err}
 use Rattle.sha2.specs.Sha256.{sha256}
 use Rattle.base_core.specs.declared.cause.Cause.{Cause}
 use Rattle.base_core.specs.declared.cause.Cause.TheVariants.{WrongSchema}
@@ -11,11 +11,7 @@ use Rattle.adb_schema.specs.Soundness.{fault_with, rest_fault, payload_in, root_
 use Rattle.adb_tables.specs.declared.tables.Which.{Which}
 use Rattle.adb_tables.specs.declared.tables.Which.TheVariants.{Package, Index, Idb, Intent}
 use Rattle.adb_schema.specs.declared.read.TheConstants.{PACKAGE_WORD, INDEX_WORD, IDB_WORD, INTENT_WORD}
-use Rattle.adb_schema.specs.declared.read.ReadFault.{ReadFault}
-use Rattle.adb_schema.specs.declared.read.ReadFault.TheVariants as ReadFaults
 use Rattle.pkg_core.specs.Contents.{Contents, Files, no_more, refused, files_by_blocks, contents_in, contents_fault, expected_contents}
-use Rattle.pkg_core.specs.declared.pack.PackageFault.{PackageFault}
-use Rattle.pkg_core.specs.declared.pack.PackageFault.TheVariants.{Bad, Memory}
 
 -- ---- a container of any schema
 

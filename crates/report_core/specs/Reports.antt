@@ -16,8 +16,8 @@ name_version name version = name ++ codes "-" ++ version
 
 -- ---- changes
 
--- what becomes of a package: it gets a version, gets it again, or goes; or its version is replaced by a greater one, a
--- smaller one, or one that is equal in order
+-- what becomes of a package: it gets a version, gets it again, or goes; or its version is replaced
+-- by a greater one, a smaller one, or one that is equal in order
 pub data Change : Type 0 where
   Install : List ℕ → List ℕ → Change
   Reinstall : List ℕ → List ℕ → Change
@@ -51,7 +51,8 @@ numbered_change number count change =
 abbrev pub change_lines_from : ℕ → ℕ → List Change → List ℕ
 change_lines_from number count [] = []
 change_lines_from number count (change ∷ changes) =
-    report_line (numbered_change number count change) ++ change_lines_from (number + 1) count changes
+    report_line (numbered_change number count change)
+    ++ change_lines_from (number + 1) count changes
 
 abbrev pub change_lines : List Change → List ℕ
 change_lines changes = change_lines_from 1 (length changes) changes
@@ -66,7 +67,8 @@ spaced_behind (text ∷ texts) = codes " " ++ text ++ spaced_behind texts
 -- a package that was to go and stays, with the names of those that need it, if there are any
 abbrev pub stays_text : List ℕ → List (List ℕ) → List ℕ
 stays_text name [] = name ++ codes " stays"
-stays_text name (first ∷ others) = name ++ codes " stays; required by:" ++ spaced_behind (first ∷ others)
+stays_text name (first ∷ others) =
+    name ++ codes " stays; required by:" ++ spaced_behind (first ∷ others)
 
 -- the folder of a due trigger; the root folder is printed as `/`
 abbrev pub folder_text : List ℕ → List ℕ
@@ -78,7 +80,8 @@ trigger_text name folder = name ++ codes ": trigger due for " ++ folder_text fol
 
 -- the sum of the installed sizes, and how many packages there are
 abbrev pub sum_text : ℕ → ℕ → List ℕ
-sum_text bytes packages = codes "OK: " ++ decimal bytes ++ codes " bytes in " ++ decimal packages ++ codes " packages"
+sum_text bytes packages =
+    codes "OK: " ++ decimal bytes ++ codes " bytes in " ++ decimal packages ++ codes " packages"
 
 -- ---- `info`: a heading, what it heads, and an empty line
 
@@ -90,11 +93,14 @@ description_section name version description =
     section (name_version name version ++ codes " description:") (description ∷ [])
 
 abbrev pub contents_section : List ℕ → List ℕ → List (List ℕ) → List ℕ
-contents_section name version paths = section (name_version name version ++ codes " contains:") paths
+contents_section name version paths =
+    section (name_version name version ++ codes " contains:") paths
 
 abbrev pub depends_section : List ℕ → List ℕ → List (List ℕ) → List ℕ
-depends_section name version dependencies = section (name_version name version ++ codes " depends on:") dependencies
+depends_section name version dependencies =
+    section (name_version name version ++ codes " depends on:") dependencies
 
 -- the package that a path is of
 abbrev pub owner_text : List ℕ → List ℕ → List ℕ → List ℕ
-owner_text path name version = codes "/" ++ path ++ codes " is owned by " ++ name_version name version
+owner_text path name version =
+    codes "/" ++ path ++ codes " is owned by " ++ name_version name version

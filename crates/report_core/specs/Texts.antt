@@ -37,12 +37,14 @@ cause_text (WrongKind word) = codes "value " ++ hex_word word ++ codes " has the
 cause_text (TooLarge count) = decimal count ++ codes " values are too many"
 cause_text (BadText place) = codes "bad field " ++ decimal place
 cause_text (Repeated place first second) =
-    codes "field " ++ decimal place ++ codes " repeated at " ++ decimal first ++ codes " and " ++ decimal second
+    codes "field " ++ decimal place ++ codes " repeated at " ++ decimal first ++ codes " and "
+    ++ decimal second
 cause_text (DataOrder expected found) =
     codes "contents " ++ position_text found.0 found.1
     ++ codes " where " ++ position_text expected.0 expected.1 ++ codes " was expected"
 cause_text (DataSize wanted found) =
-    codes "contents of " ++ decimal found ++ codes " bytes where " ++ decimal wanted ++ codes " were expected"
+    codes "contents of " ++ decimal found ++ codes " bytes where " ++ decimal wanted
+    ++ codes " were expected"
 cause_text (HashDiffers wanted found) =
     codes "hash " ++ encode_lower (digest_bytes found)
     ++ codes " where " ++ encode_lower (digest_bytes wanted) ++ codes " was expected"
@@ -62,7 +64,8 @@ repository_text number text = codes "repository " ++ decimal number ++ codes ": 
 abbrev pub package_text : List ℕ → List ℕ → List ℕ → List ℕ
 package_text name version text = name ++ codes "-" ++ version ++ codes ": " ++ text
 
--- what a package says of itself in a field: its id is printed in hexadecimal digits, its name and its version as they are
+-- what a package says of itself in a field: its id is printed in hexadecimal digits, its name and
+-- its version as they are
 abbrev pub field_text : ℕ → List ℕ → List ℕ
 field_text field bytes = if field == 3 then encode_lower bytes else bytes
 
@@ -99,7 +102,8 @@ refusal_text (PackageMissing name version) =
 refusal_text (PackageBad name version cause) = package_text name version (cause_text cause)
 refusal_text (PackageDiffers name version field wanted found) =
     package_text name version
-    (codes "differs from its index: " ++ field_text field wanted ++ codes ", " ++ field_text field found)
+    (codes "differs from its index: " ++ field_text field wanted ++ codes ", "
+    ++ field_text field found)
 refusal_text (ScriptNeeded name script) =
     name ++ codes ": script " ++ script_name script ++ codes " needs --no-scripts"
 refusal_text (Reserved path) = path ++ codes ": reserved name"
@@ -108,7 +112,8 @@ refusal_text (Owned path first second) =
     path ++ codes ": " ++ first ++ codes " and " ++ second ++ codes " both have it"
 refusal_text (TriggerNeeded name) = name ++ codes ": its trigger needs --no-scripts"
 refusal_text (ResultTooLarge bytes values) =
-    codes "result too large: " ++ decimal bytes ++ codes " bytes, " ++ decimal values ++ codes " values"
+    codes "result too large: " ++ decimal bytes ++ codes " bytes, " ++ decimal values
+    ++ codes " values"
 
 -- ---- lines
 

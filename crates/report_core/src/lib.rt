@@ -1,8 +1,8 @@
-//! What the package keeper tells a person: the refusals of commands, a line of text for each, written to a sink without
-//! memory, and the report of a command that was done.
+//! What the package keeper tells a person: the refusals of commands, a line of text for each,
+//! written to a sink without memory, and the report of a command that was done.
 //!
-//! The contracts cite `Texts` (the lines of refusals and of faults) of `specs/`. `Reports` says what the reports of
-//! commands say.
+//! The contracts cite `Texts` (the lines of refusals and of faults) of `specs/`. `Reports` says
+//! what the reports of commands say.
 #![tactic(auto)]
 
 mod lines;

@@ -13,7 +13,8 @@ use itoa::Buffer;
 
 /// Writes the line of a refusal. After a fault a front of it was written.
 pub fn write_error<E: Sink>(refusal: &Refusal, err: &mut E) -> Result<(), SinkFault>
-    ensures { Writes (refusal_line refusal.now) (sink_change E.bytes E.counts err.old err.new) result }
+    ensures { Writes (refusal_line refusal.now)
+        (sink_change E.bytes E.counts err.old err.new) result }
 {
     let sentence = sentence_of(refusal);
     write_all(err, b"ERROR: ")?;
@@ -22,7 +23,8 @@ pub fn write_error<E: Sink>(refusal: &Refusal, err: &mut E) -> Result<(), SinkFa
 }
 
 fn write_sentence<E: Sink>(sentence: &Sentence<'_>, err: &mut E) -> Result<(), SinkFault>
-    ensures { Writes (sentence_text sentence.now) (sink_change E.bytes E.counts err.old err.new) result }
+    ensures { Writes (sentence_text sentence.now)
+        (sink_change E.bytes E.counts err.old err.new) result }
 {
     write_pieces(&sentence.pieces, err)?;
     write_cause(sentence.cause, err)
@@ -61,7 +63,8 @@ pub(crate) type Pieces<'a> = [Piece<'a>; 7];
 
 /// Adds all the pieces, in order. After a fault a front of their text was added.
 pub(crate) fn write_pieces<S: Sink>(pieces: &[Piece<'_>], sink: &mut S) -> Result<(), SinkFault>
-    ensures { Writes (pieces_text pieces.now) (sink_change S.bytes S.counts sink.old sink.new) result }
+    ensures { Writes (pieces_text pieces.now)
+        (sink_change S.bytes S.counts sink.old sink.new) result }
 {
     for piece in pieces {
         write_piece(piece, sink)?;
@@ -70,7 +73,8 @@ pub(crate) fn write_pieces<S: Sink>(pieces: &[Piece<'_>], sink: &mut S) -> Resul
 }
 
 fn write_piece<S: Sink>(piece: &Piece<'_>, sink: &mut S) -> Result<(), SinkFault>
-    ensures { Writes (piece_text piece.now) (sink_change S.bytes S.counts sink.old sink.new) result }
+    ensures { Writes (piece_text piece.now)
+        (sink_change S.bytes S.counts sink.old sink.new) result }
 {
     match *piece {
         Piece::Bytes(bytes) => write_all(sink, bytes),
@@ -84,7 +88,8 @@ fn write_piece<S: Sink>(piece: &Piece<'_>, sink: &mut S) -> Result<(), SinkFault
 }
 
 fn write_position<S: Sink>(folder: u64, file: u64, sink: &mut S) -> Result<(), SinkFault>
-    ensures { Writes (position_text folder file) (sink_change S.bytes S.counts sink.old sink.new) result }
+    ensures { Writes (position_text folder file)
+        (sink_change S.bytes S.counts sink.old sink.new) result }
 {
     write_number(folder, sink)?;
     write_all(sink, b".")?;
@@ -99,7 +104,8 @@ fn write_number<S: Sink>(number: u64, sink: &mut S) -> Result<(), SinkFault>
 }
 
 fn write_hex<S: Sink>(bytes: &[u8], sink: &mut S) -> Result<(), SinkFault>
-    ensures { Writes (encode_lower bytes.now) (sink_change S.bytes S.counts sink.old sink.new) result }
+    ensures { Writes (encode_lower bytes.now)
+        (sink_change S.bytes S.counts sink.old sink.new) result }
 {
     for byte in bytes {
         write_all(sink, &hex_digits(*byte))?;

@@ -1,12 +1,13 @@
 //! Why a command is refused.
 use base_core::{Cause, Name, Text};
 
-/// Why a command is refused, in the order in which the kinds are tested; file operands are tested one by one. `place`
-/// counts the words of the command line from 1, without the program's name. `line` and `repository` count from 1 too.
+/// Why a command is refused, in the order in which the kinds are tested; file operands are tested
+/// one by one. `place` counts the words of the command line from 1, without the program's name.
+/// `line` and `repository` count from 1 too.
 #[derive(Drop)]
 pub enum Refusal {
-    /// The words are outside the grammar (apk(8)): the first wrong word, or the place behind the last where one is
-    /// missing.
+    /// The words are outside the grammar (apk(8)): the first wrong word, or the place behind the
+    /// last where one is missing.
     Usage {
         place: u32,
     },
@@ -37,7 +38,8 @@ pub enum Refusal {
     DatabaseBad {
         cause: Cause,
     },
-    /// The world (apk-world(5)) has an entry on this line that is no dependency, or that repeats a name.
+    /// The world (apk-world(5)) has an entry on this line that is no dependency, or that repeats a
+    /// name.
     WorldBad {
         line: u64,
     },
@@ -60,7 +62,8 @@ pub enum Refusal {
     TooMany {
         count: u64,
     },
-    /// The package that this word names is not installed, nor in the world, or no package owns the path that it names.
+    /// The package that this word names is not installed, nor in the world, or no package owns the
+    /// path that it names.
     NotInstalled {
         place: u32,
     },
@@ -77,8 +80,8 @@ pub enum Refusal {
         version: Text,
         cause: Cause,
     },
-    /// The file of this package has another id (`field` 3), name (1) or version (2) than its index says. Ids are bytes,
-    /// names and versions are texts.
+    /// The file of this package has another id (`field` 3), name (1) or version (2) than its index
+    /// says. Ids are bytes, names and versions are texts.
     PackageDiffers {
         name: Text,
         version: Text,
@@ -86,8 +89,9 @@ pub enum Refusal {
         wanted: Text,
         found: Text,
     },
-    /// The package has a script that the change would run, and `--no-scripts` is not given. `script` is its number: 1
-    /// is the trigger, 2 pre-install, 3 post-install, 4 pre-deinstall, 5 post-deinstall, 6 pre-upgrade, 7 post-upgrade.
+    /// The package has a script that the change would run, and `--no-scripts` is not given.
+    /// `script` is its number: 1 is the trigger, 2 pre-install, 3 post-install, 4 pre-deinstall, 5
+    /// post-deinstall, 6 pre-upgrade, 7 post-upgrade.
     ScriptNeeded {
         name: Text,
         script: u16,

@@ -34,13 +34,15 @@ fn three<'a>(a: Piece<'a>, b: Piece<'a>, c: Piece<'a>) -> Pieces<'a>
 }
 
 fn four<'a>(a: Piece<'a>, b: Piece<'a>, c: Piece<'a>, d: Piece<'a>) -> Pieces<'a>
-    ensures { pieces_text result ≡ piece_text a.entry ++ piece_text b.entry ++ piece_text c.entry ++ piece_text d.entry }
+    ensures { pieces_text result ≡ piece_text a.entry ++ piece_text b.entry
+        ++ piece_text c.entry ++ piece_text d.entry }
 {
     [a, b, c, d, Nothing, Nothing, Nothing]
 }
 
 fn five<'a>(a: Piece<'a>, b: Piece<'a>, c: Piece<'a>, d: Piece<'a>, e: Piece<'a>) -> Pieces<'a>
-    ensures { pieces_text result ≡ piece_text a.entry ++ piece_text b.entry ++ piece_text c.entry ++ piece_text d.entry ++ piece_text e.entry }
+    ensures { pieces_text result ≡ piece_text a.entry ++ piece_text b.entry
+        ++ piece_text c.entry ++ piece_text d.entry ++ piece_text e.entry }
 {
     [a, b, c, d, e, Nothing, Nothing]
 }
@@ -53,7 +55,8 @@ fn six<'a>(
     e: Piece<'a>,
     f: Piece<'a>,
 ) -> Pieces<'a>
-    ensures { pieces_text result ≡ piece_text a.entry ++ piece_text b.entry ++ piece_text c.entry ++ piece_text d.entry ++ piece_text e.entry ++ piece_text f.entry }
+    ensures { pieces_text result ≡ piece_text a.entry ++ piece_text b.entry
+        ++ piece_text c.entry ++ piece_text d.entry ++ piece_text e.entry ++ piece_text f.entry }
 {
     [a, b, c, d, e, f, Nothing]
 }
@@ -67,7 +70,9 @@ fn seven<'a>(
     f: Piece<'a>,
     g: Piece<'a>,
 ) -> Pieces<'a>
-    ensures { pieces_text result ≡ piece_text a.entry ++ piece_text b.entry ++ piece_text c.entry ++ piece_text d.entry ++ piece_text e.entry ++ piece_text f.entry ++ piece_text g.entry }
+    ensures { pieces_text result ≡ piece_text a.entry ++ piece_text b.entry
+        ++ piece_text c.entry ++ piece_text d.entry ++ piece_text e.entry ++ piece_text f.entry
+        ++ piece_text g.entry }
 {
     [a, b, c, d, e, f, g]
 }

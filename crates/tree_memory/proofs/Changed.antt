@@ -20,12 +20,12 @@ use Rattle.tree_memory.specs.declared.changes.Change.TheVariants.{Append, Sync, 
 use Rattle.tree_memory.specs.declared.changes.Stored.{Stored}
 use Rattle.tree_memory.specs.declared.table.Entry.{Entry}
 
--- a store's newest state, and the states that it tells
+-- a store's newest state, and the states that it shows
 abbrev pub newest_of : List Change → List Stored → TreeState
 newest_of cs files = state_on (contents_of files) empty_state cs
 
-abbrev pub told_of : List Change → List Stored → List TreeState
-told_of cs files = newest_of cs files ∷ earlier_on (contents_of files) empty_state [] cs
+abbrev pub states_of : List Change → List Stored → List TreeState
+states_of cs files = newest_of cs files ∷ earlier_on (contents_of files) empty_state [] cs
 
 -- ---- another file under a number
 
@@ -96,7 +96,7 @@ module _ (name : List ℕ) (n : ℕ) (cs ds : List Change) (es : List Entry) (fi
         (changed_kept (λ (f : File). record { bytes = f.bytes ++ piece; synced = false }) (ap (λ (l : List ℕ). l ++ piece) (store.kept.bytes n) ∙ sym grown) (sym unsynced))
         (changed_sound (λ (f : File). record { bytes = f.bytes ++ piece; synced = false }) (grown_file each few)) store.sound
 
-    pub history_append : ds ≡ cs ++ Append n (length s.bytes.items) ∷ [] → told_of ds more ≡ after_append name piece was ∷ told_of cs files
+    pub history_append : ds ≡ cs ++ Append n (length s.bytes.items) ∷ [] → states_of ds more ≡ after_append name piece was ∷ states_of cs files
     history_append is = history_pushed (Append n (length s.bytes.items)) cs ds (contents_of files) (contents_of more) (after_append name piece was) (append_pushed is) append_step
 
   -- its bytes are as they were
@@ -116,7 +116,7 @@ module _ (name : List ℕ) (n : ℕ) (cs ds : List Change) (es : List Entry) (fi
         (changed_kept (λ (f : File). record { bytes = f.bytes; synced = true }) (store.kept.bytes n ∙ sym same) (sym synced))
         (changed_sound (λ (f : File). record { bytes = f.bytes; synced = true }) (was_sound.bytes n)) store.sound
 
-    pub history_sync : ds ≡ cs ++ Sync n ∷ [] → told_of ds more ≡ after_sync name was ∷ told_of cs files
+    pub history_sync : ds ≡ cs ++ Sync n ∷ [] → states_of ds more ≡ after_sync name was ∷ states_of cs files
     history_sync is = history_pushed (Sync n) cs ds (contents_of files) (contents_of more) (after_sync name was) (sync_pushed is) sync_step
 
 -- a file that is as it was
@@ -134,8 +134,8 @@ store_same n cs es files more s d store is inside bytes synced at =
       sound = subst (All IsSoundState) (sym (ap (λ (l : List (List ℕ)). state_on l empty_state cs ∷ earlier_on l empty_state [] cs) same_bytes)) store.sound;
     }
 
-pub told_same : (n : ℕ) (cs : List Change) (files more : List Stored) (s d : Stored) → more ≡ set files n s → s.bytes.items ≡ d.bytes.items → d ≡ get_or files n d → told_of cs more ≡ told_of cs files
-told_same n cs files more s d is bytes at =
+pub states_same : (n : ℕ) (cs : List Change) (files more : List Stored) (s d : Stored) → more ≡ set files n s → s.bytes.items ≡ d.bytes.items → d ≡ get_or files n d → states_of cs more ≡ states_of cs files
+states_same n cs files more s d is bytes at =
     ap (λ (l : List (List ℕ)). state_on l empty_state cs ∷ earlier_on l empty_state [] cs) (ap contents_of is ∙ map-set_same (λ (f : Stored). f.bytes.items) files n s d (bytes ∙ ap (λ (f : Stored). f.bytes.items) at))
 
 -- ---- names
@@ -178,7 +178,7 @@ module _ (cs ds : List Change) (es fs : List Entry) (files : List Stored) (store
     store_rename is named can es₁ first second =
         store_pushed (Rename from to) cs ds fs (contents_of files) files (after_rename from to now) (pushed_names (Rename from to) is rename_can) refl (renamed_kept (moved can.apart es₁ first second)) (renamed_sound named can) store.sound
 
-    pub history_rename : ds ≡ cs ++ Rename from to ∷ [] → told_of ds files ≡ after_rename from to now ∷ told_of cs files
+    pub history_rename : ds ≡ cs ++ Rename from to ∷ [] → states_of ds files ≡ after_rename from to now ∷ states_of cs files
     history_rename is = history_pushed (Rename from to) cs ds (contents_of files) (contents_of files) (after_rename from to now) (pushed_names (Rename from to) is rename_can) refl
 
   -- a name less
@@ -196,7 +196,7 @@ module _ (cs ds : List Change) (es fs : List Entry) (files : List Stored) (store
     store_remove is has gone =
         store_pushed (Remove name) cs ds fs (contents_of files) files (after_remove name now) (pushed_names (Remove name) is has) refl (removed_kept (now.names name) has gone) (removed_sound (now.names name)) store.sound
 
-    pub history_remove : ds ≡ cs ++ Remove name ∷ [] → HasName name now → told_of ds files ≡ after_remove name now ∷ told_of cs files
+    pub history_remove : ds ≡ cs ++ Remove name ∷ [] → HasName name now → states_of ds files ≡ after_remove name now ∷ states_of cs files
     history_remove is has = history_pushed (Remove name) cs ds (contents_of files) (contents_of files) (after_remove name now) (pushed_names (Remove name) is has) refl
 
     -- or none, as it was absent
@@ -204,7 +204,7 @@ module _ (cs ds : List Change) (es fs : List Entry) (files : List Stored) (store
     stayed None absent = refl
     stayed (Some n) absent = absurd (absent refl)
 
-    pub history_stay : ds ≡ cs ++ Stay ∷ [] → (HasName name now → ⊥) → told_of ds files ≡ after_remove name now ∷ told_of cs files
+    pub history_stay : ds ≡ cs ++ Stay ∷ [] → (HasName name now → ⊥) → states_of ds files ≡ after_remove name now ∷ states_of cs files
     history_stay is absent = history_pushed Stay cs ds (contents_of files) (contents_of files) (after_remove name now) (pushed_names Stay is refl) (stayed (now.names name) absent)
 
   pub store_stay : ds ≡ cs ++ Stay ∷ [] → IsStore ds es files
@@ -215,5 +215,5 @@ module _ (cs ds : List Change) (es fs : List Entry) (files : List Stored) (store
       store_pushed SyncNames cs ds es (contents_of files) files (after_sync_names now) (pushed_names SyncNames is refl) refl (record { names = store.kept.names; made = store.kept.made; bytes = store.kept.bytes; synced = store.kept.synced })
       (sound_one (after_sync_names now) refl (now_sound.folders now.names (inl refl)) (now_sound.named now.names (inl refl)) now_sound.bytes) store.sound
 
-  pub history_sync_names : ds ≡ cs ++ SyncNames ∷ [] → told_of ds files ≡ after_sync_names now ∷ told_of cs files
+  pub history_sync_names : ds ≡ cs ++ SyncNames ∷ [] → states_of ds files ≡ after_sync_names now ∷ states_of cs files
   history_sync_names is = history_pushed SyncNames cs ds (contents_of files) (contents_of files) (after_sync_names now) (pushed_names SyncNames is refl) refl

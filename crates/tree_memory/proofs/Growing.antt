@@ -78,7 +78,7 @@ grows_set contents n piece within = record { front = front; fits = fits }
       fits = ⊎_elim (λ same. omega (arith, is.fits, ap length (here file same), length-append (get_or contents file []) piece)) (λ other. omega (arith, is.fits, ap length (get_or-set_other contents n file long [] other))) (cases_eq file n);
     }
 
--- ---- what a record tells stays as it is
+-- ---- what a record gives stays as it is
 
 step_more : (contents more : List (List ℕ)) → Grows contents more → (c : Change) (v : TreeState) → can_step contents c v ≡ true → step more c v ≡ step contents c v
 step_more contents more grows (Put name file len) v can = ap (λ (bytes : List ℕ). after_put name bytes v) (grows.front file len (front_from contents file len can))

@@ -1,4 +1,4 @@
--- The maps of names that a record tells, and the one that is picked.
+-- The maps of names that a record gives, and the one that is picked.
 use Rattle.std.proofs.Common.{◌≡◌, ◌⊎◌, inl, inr, ⊎_elim, ℕ, zero, suc, ◌+◌, ◌-◌, ◌<◌, ◌≤◌, Bool, true, false, cond, List, [], ◌∷◌, ◌++◌, length, get_or, take, drop, Option, None, Some, is_some, refl, sym, ap, subst, ◌∙◌, arith, take-append-drop}
 use Rattle.std.proofs.lemmas.List.{drop_more, take_more, take_all}
 use Rattle.std.specs.Str.{bytes_eq}
@@ -76,7 +76,7 @@ maps_few (Remove name) maps i few = omega (arith, few)
 maps_few SyncNames maps i few = omega arith
 maps_few Stay maps i few = omega (arith, few)
 
--- how many maps a front of a record tells
+-- how many maps a front of a record gives
 pub record IsMapCount (contents : List (List ℕ)) (cs : List Change) (i maps : ℕ) : Type 0 where
   pub count : maps ≡ length (newest_first (state_on contents empty_state (take i cs)))
   pub few : maps ≤ i + 1

@@ -1,4 +1,4 @@
--- What a tree in memory tells, and what a call says beside what every tree says.
+-- What a tree in memory shows, and what each of its calls says beyond what every tree says.
 use Rattle.std.specs.Prelude.{◌≡◌, ◌⊎◌, ℕ, true, false, if◌then◌else◌, List, Result, OnOk, OnErr, is_ok}
 use Rattle.base_core.specs.Faults.{Counts, next_count}
 use Rattle.base_core.specs.Tree.{TreeState}

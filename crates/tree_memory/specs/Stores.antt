@@ -1,4 +1,4 @@
--- The states that a store tells.
+-- The states that a store shows.
 use Rattle.std.specs.Prelude.{List, [], ◌∷◌}
 use Rattle.base_core.specs.Tree.{TreeState}
 use Rattle.tree_memory.specs.Changes.{empty_state, contents_of, state_on, earlier_on}

@@ -1,4 +1,4 @@
--- Each state that a tree in memory tells of is whole.
+-- Each state that a tree in memory shows is whole.
 use Rattle.std.specs.Prelude.{◌≡◌, ℕ, ◌+◌, ◌<◌, ◌≤◌, Bool, true, false, if◌then◌else◌, ◌||◌, List, [], ◌∷◌, Option, Some, None, IsSome, All, refl}
 use Rattle.std.proofs.Common.{inl, inr, sym, ap, subst, arith}
 use Rattle.std.specs.Str.{bytes_eq}

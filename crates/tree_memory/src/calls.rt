@@ -168,7 +168,8 @@ impl Calls {
     /// Counts a call. It fails where it is a misuse, or where that is planned.
     pub fn begin(&mut self, can: bool) -> Result<(), Disk>
         ensures plan { self.new.plan ≡ one_on self.old.plan }
-        ensures tally { self.new.tally ≡ with_begun_call can (is_next self.old.plan) self.old.tally }
+        ensures tally { self.new.tally ≡ with_begun_call can
+            (is_next self.old.plan) self.old.tally }
         ensures grown { HasGrown self.old.tally self.new.tally }
         ensures when { is_ok result ≡ goes_on can (is_next self.old.plan) }
     {

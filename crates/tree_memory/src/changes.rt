@@ -4,8 +4,8 @@ ghost use Rattle.std.specs.Prelude.{◌≡◌, ◌<◌, ◌++◌, false, OnOk, O
 use base_core::Name;
 use std::alloc::AllocError;
 
-/// What was made of a tree. Bytes are told by the number of their file and the file's length behind
-/// the change, and are kept with the file.
+/// What was made of a tree. Bytes are given by the number of their file and the file's length
+/// behind the change, and are kept with the file.
 #[derive(Drop)]
 pub enum Change {
     /// A new synced file under a name, and the names synced.

@@ -81,14 +81,15 @@ fn adds_map(change: &Change) -> bool
     }
 }
 
-// How many changes had been made when the map of names was read that is so many maps before the
-// newest.
+// The length of the record at the point where the map of names was current that is `back` maps
+// before the newest one.
 fn moment(changes: &[Change], back: u64) -> usize
     ensures within { result ≤ length changes.now }
     ensures names { (contents : List (List ℕ)) → is_record contents empty_state changes.now ≡ true
         → back < length (newest_first (state_on contents empty_state changes.now))
         → (q : List ℕ) → (state_on contents empty_state (take result changes.now)).names q
-        ≡ slice_index_or (newest_first (state_on contents empty_state changes.now)) back no_names q }
+        ≡ slice_index_or (newest_first (state_on contents empty_state changes.now)) back
+        no_names q }
 {
     let mut n = changes.len();
     let mut left = back;

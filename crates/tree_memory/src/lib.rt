@@ -1,4 +1,4 @@
-//! A tree and a sink in memory, which tell all that they hold. Tests and generated runs work on
+//! A tree and a sink in memory, which show all that they hold. Tests and generated runs work on
 //! them: they are filled by hand, fail where it is planned, and are read back.
 //!
 //! Names and bytes come in and are lent. The contracts cite `Memory` (the states of a tree, its

@@ -8,7 +8,7 @@ use base_core::{Sink, SinkFault};
 use std::alloc::Global;
 use std::marker::Model;
 
-/// A sink in memory. It tells all: its bytes, how many more it takes, and its counts.
+/// A sink in memory. It shows all: its bytes, how many more it takes, and its counts.
 #[derive(Drop)]
 pub struct MemorySink {
     bytes: Vec<u8>,

@@ -18,7 +18,7 @@ use crate::store::Store;
 use base_core::{Disk, Name, Names, Tree, TreeFault};
 use std::alloc::{AllocError, Global};
 
-/// A tree of files in memory. It tells all: its states, its counts, and which calls are to fail.
+/// A tree of files in memory. It shows all: its states, its counts, and which calls are to fail.
 #[derive(Drop)]
 pub struct MemoryTree {
     store: Store,

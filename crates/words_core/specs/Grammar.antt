@@ -1,5 +1,5 @@
--- The command of the words of a command line, or the place of the first word that offends. Places count from 1; where a
--- word is missing, the place is the one behind the last word.
+-- The command of the words of a command line, or the place of the first word that offends. Places
+-- count from 1; where a word is missing, the place is the one behind the last word.
 use Rattle.std.specs.Prelude.{ℕ, ◌+◌, ◌-◌, ◌==◌, Bool, true, false, not, ◌&&◌, ◌||◌, nat_lt, List, [], ◌∷◌, ◌++◌, length, take, drop, codes, Option, Some, None, option_and_then, is_some, Result, Ok, Err, if◌then◌else◌}
 use Rattle.std.specs.List.{before_first, position}
 use Rattle.std.specs.Option.{option_map, option_or}
@@ -36,12 +36,16 @@ is_end word = bytes_eq word (codes "--")
 
 -- of `--name=value` the name, of `-xvalue` the first two bytes
 unfoldable pub option_name : List ℕ → List ℕ
-option_name word = if bytes_eq (take 2 word) (codes "--") then before_first (λ b. b == EQUALS_SIGN) word else take 2 word
+option_name word =
+    if bytes_eq (take 2 word) (codes "--") then before_first (λ b. b == EQUALS_SIGN) word else
+    take 2 word
 
--- the value that an option's word holds: what is behind the first `=` of a long one, and behind the letter of a short one
+-- the value that an option's word holds: what is behind the first `=` of a long one, and behind the
+-- letter of a short one
 unfoldable pub held_value : List ℕ → Option (List ℕ)
 held_value word =
-    if bytes_eq (take 2 word) (codes "--") then option_map (λ i. drop (i + 1) word) (position (λ b. b == EQUALS_SIGN) word) else
+    if bytes_eq (take 2 word) (codes "--") then
+    option_map (λ i. drop (i + 1) word) (position (λ b. b == EQUALS_SIGN) word) else
     if nat_lt 2 (length word) then Some (drop 2 word) else
     None
 
@@ -67,7 +71,8 @@ abbrev pub or_at : {A B : Type 0} → ℕ → (A → Result B ℕ) → Option A 
 or_at place next None = Err place
 or_at place next (Some x) = next x
 
--- an applet, whether the options have ended before it, and how many words are read, its own among them
+-- an applet, whether the options have ended before it, and how many words are read, its own among
+-- them
 abbrev pub site_by : Bool → ℕ → Applet → AppletSite
 site_by ended place applet = record { applet = applet; ended = ended; read = place }
 
@@ -93,11 +98,13 @@ abbrev pub early_flags : List OptionSpec → Flags → ℕ → List (List ℕ) �
 early_flags options flags place [] = Ok flags
 early_flags options flags place (word ∷ words) =
     if is_end word then Ok flags else
-    or_at place (λ more. early_flags options more (place + 1) words) (with_option options flags word)
+    or_at place (λ more. early_flags options more (place + 1) words)
+    (with_option options flags word)
 
 -- the applet, where it stands, and the flags before it
 abbrev pub start_by : AppletSite → Flags → Start
-start_by site flags = record { applet = site.applet; flags = flags; ended = site.ended; read = site.read }
+start_by site flags =
+    record { applet = site.applet; flags = flags; ended = site.ended; read = site.read }
 
 abbrev pub start_with : AppletSite → Result Flags ℕ → Result Start ℕ
 start_with site (Err place) = Err place
@@ -113,7 +120,8 @@ line_start words = start_from words (applet_site 1 words)
 
 -- ---- options and their values
 
--- what options have said: flags, values, and the option whose value is the next word, if there is one
+-- what options have said: flags, values, and the option whose value is the next word, if there is
+-- one
 abbrev pub state_by : Flags → List OptionValue → Option ValueRule → OptionState
 state_by flags values awaiting = record { flags = flags; values = values; awaiting = awaiting }
 
@@ -124,7 +132,8 @@ first_state flags = state_by flags [] None
 abbrev pub with_value : OptionState → ℕ → List ℕ → ValueRule → Option OptionState
 with_value state place text rule =
     if is_value rule.kind text && not (is_excluded rule text state.values) then
-    Some (state_by state.flags (state.values ++ (option_value place rule.letter text ∷ [])) None) else
+    Some (state_by state.flags
+    (state.values ++ (option_value place rule.letter text ∷ [])) None) else
     None
 
 -- a state with an option that has values and the value that its word holds, if it holds one
@@ -133,7 +142,8 @@ with_held state place rule None = Some (state_by state.flags state.values (Some 
 with_held state place rule (Some text) = with_value state place text rule
 
 abbrev pub with_rule : OptionState → ℕ → Option (List ℕ) → ValueRule → Option OptionState
-with_rule state place held rule = if is_spent rule state.values then None else with_held state place rule held
+with_rule state place held rule =
+    if is_spent rule state.values then None else with_held state place rule held
 
 -- a state with other flags
 abbrev pub with_flags : OptionState → Option Flags → Option OptionState
@@ -144,8 +154,10 @@ abbrev pub with_meaning_at : OptionState → ℕ → Option (List ℕ) → Meani
 with_meaning_at state place held (Value rule) = with_rule state place held rule
 with_meaning_at state place (Some text) (Plain flag) = None
 with_meaning_at state place (Some text) (Kind flag) = None
-with_meaning_at state place None (Plain flag) = with_flags state (with_meaning state.flags (Plain flag))
-with_meaning_at state place None (Kind flag) = with_flags state (with_meaning state.flags (Kind flag))
+with_meaning_at state place None (Plain flag) =
+    with_flags state (with_meaning state.flags (Plain flag))
+with_meaning_at state place None (Kind flag) =
+    with_flags state (with_meaning state.flags (Kind flag))
 
 -- a state with the option that the word at a place spells; None where it cannot be read
 abbrev pub with_spelled : List OptionSpec → OptionState → ℕ → List ℕ → Option OptionState
@@ -167,8 +179,8 @@ with_word options state place word = with_word_by options state place word state
 
 -- ---- behind the applet
 
--- what was read: what options have said, the operands, and the place of the word that cannot be read, if one ended the
--- reading
+-- what was read: what options have said, the operands, and the place of the word that cannot be
+-- read, if one ended the reading
 abbrev pub reading_by : OptionState → List Operand → Option ℕ → Reading
 reading_by state operands unread = record { state = state; operands = operands; unread = unread }
 
@@ -186,14 +198,16 @@ or_unread state place next (Some more) = next more
 
 -- the end of the words, where a value that is awaited is missing
 abbrev pub reading_end : OptionState → ℕ → Reading
-reading_end state place = reading_by state [] (option_map (λ (rule : ValueRule). place) state.awaiting)
+reading_end state place =
+    reading_by state [] (option_map (λ (rule : ValueRule). place) state.awaiting)
 
 -- words that are options, values and operands, up to the first that cannot be read
 abbrev pub option_reading : List OptionSpec → OptionState → ℕ → List (List ℕ) → Reading
 option_reading options state place [] = reading_end state place
 option_reading options state place (word ∷ words) =
     if is_option_or_value state word then
-    or_unread state place (λ more. option_reading options more (place + 1) words) (with_word options state place word) else
+    or_unread state place (λ more. option_reading options more (place + 1) words)
+    (with_word options state place word) else
     if is_end word then reading_by state (operands_of (place + 1) words) None else
     with_operand (operand_at place word) (option_reading options state (place + 1) words)
 
@@ -201,13 +215,14 @@ option_reading options state place (word ∷ words) =
 unfoldable pub reading_behind : Start → List (List ℕ) → Reading
 reading_behind start words =
     let left = drop start.read words in
-    if start.ended then reading_by (first_state start.flags) (operands_of (start.read + 1) left) None else
+    if start.ended then
+    reading_by (first_state start.flags) (operands_of (start.read + 1) left) None else
     option_reading (options_of start.applet) (first_state start.flags) (start.read + 1) left
 
 -- ---- the command, or what offends
 
--- the place of the first operand that is not taken; where there is no rule, since the kind of the command is lacking, no
--- operand offends: the kind does
+-- the place of the first operand that is not taken; where there is no rule, since the kind of the
+-- command is lacking, no operand offends: the kind does
 abbrev pub refused_operand : Option OperandRule → List Operand → Option ℕ
 refused_operand None operands = None
 refused_operand (Some rule) operands = first_refused rule 0 operands
@@ -230,8 +245,8 @@ abbrev pub unless_at : Option ℕ → Result CommandLine ℕ → Result CommandL
 unless_at None otherwise = otherwise
 unless_at (Some place) otherwise = Err place
 
--- the command that was read, or the first of: an operand that is not taken, the word that cannot be read, the end of the
--- words where a word is missing
+-- the command that was read, or the first of: an operand that is not taken, the word that cannot be
+-- read, the end of the words where a word is missing
 unfoldable pub verdict : ℕ → Applet → Reading → Result CommandLine ℕ
 verdict behind applet reading =
     let rule = operand_rule applet reading.state.flags in

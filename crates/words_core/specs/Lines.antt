@@ -1,4 +1,5 @@
--- What the words of a command are, apart from how they are read: options with their values, an applet, operands.
+-- What the words of a command are, apart from how they are read: options with their values, an
+-- applet, operands.
 use Rattle.std.specs.Prelude.{◌≡◌, ℕ, ◌+◌, ◌-◌, Bool, ◌||◌, List, [], ◌∷◌, ◌++◌, length, take, Option, Some, None, option_and_then, IsTrue, if◌then◌else◌}
 use Rattle.std.specs.List.{list_all}
 use Rattle.std.specs.Option.{option_map}
@@ -24,7 +25,9 @@ rule_in (Value rule) = Some rule
 
 -- the option that a word spells, where it has values
 abbrev pub rule_at : List OptionSpec → List ℕ → Option ValueRule
-rule_at options word = option_and_then (λ (e : OptionSpec). rule_in e.meaning) (option_spelled options (option_name word))
+rule_at options word =
+    option_and_then (λ (e : OptionSpec). rule_in e.meaning)
+    (option_spelled options (option_name word))
 
 -- the option that a word spells, where its value is the next word
 abbrev pub rule_unless : Option (List ℕ) → Option ValueRule → Option ValueRule
@@ -34,8 +37,8 @@ rule_unless (Some text) rule = None
 abbrev pub rule_behind : List OptionSpec → List ℕ → Option ValueRule
 rule_behind options word = rule_unless (held_value word) (rule_at options word)
 
--- the words that are neither options nor values, each with its place: all behind `--`, and before it those that are none.
--- The first word is the value of an option, if there is a rule of it
+-- the words that are neither options nor values, each with its place: all behind `--`, and before
+-- it those that are none. The first word is the value of an option, if there is a rule of it
 abbrev pub free_words : List OptionSpec → Option ValueRule → ℕ → List (List ℕ) → List Operand
 free_words options rule place [] = []
 free_words options (Some rule) place (word ∷ words) = free_words options None (place + 1) words
@@ -60,14 +63,18 @@ held_at place (Some rule) None = []
 held_at place (Some rule) (Some text) = option_value place rule.letter text ∷ []
 
 -- the values of the options, each with the place of its word; None where one is missing
-abbrev pub values_of : List OptionSpec → Option ValueRule → ℕ → List (List ℕ) → Option (List OptionValue)
+abbrev pub values_of : List OptionSpec → Option ValueRule → ℕ → List (List ℕ)
+    → Option (List OptionValue)
 values_of options None place [] = Some []
 values_of options (Some rule) place [] = None
 values_of options (Some rule) place (word ∷ words) =
-    option_map (λ values. option_value place rule.letter word ∷ values) (values_of options None (place + 1) words)
+    option_map (λ values. option_value place rule.letter word ∷ values)
+    (values_of options None (place + 1) words)
 values_of options None place (word ∷ words) =
     if is_end word then Some [] else
-    if is_option word then option_map (λ values. held_at place (rule_at options word) (held_value word) ++ values) (values_of options (rule_behind options word) (place + 1) words) else
+    if is_option word then
+    option_map (λ values. held_at place (rule_at options word) (held_value word) ++ values)
+    (values_of options (rule_behind options word) (place + 1) words) else
     values_of options None (place + 1) words
 
 -- flags and what an option says whose word holds a value or none; None where a flag has a value
@@ -82,20 +89,23 @@ flags_with flags (Some text) (Kind flag) = None
 abbrev pub flags_after : List OptionSpec → Flags → List (List ℕ) → Option Flags
 flags_after options flags [] = Some flags
 flags_after options flags (word ∷ words) =
-    option_and_then (λ (e : OptionSpec). option_and_then (λ more. flags_after options more words) (flags_with flags (held_value word) e.meaning)) (option_spelled options (option_name word))
+    option_and_then (λ (e : OptionSpec). option_and_then (λ more. flags_after options more words)
+    (flags_with flags (held_value word) e.meaning)) (option_spelled options (option_name word))
 
 -- whether a word may stand before the applet
 abbrev pub stands_before : List ℕ → Bool
 stands_before word = is_end word || is_early word
 
--- words are a command: the first that is neither option nor value names the applet, the others are the operands, and the
--- options are ones of the applet, and where they stand before it ones that may
+-- words are a command: the first that is neither option nor value names the applet, the others are
+-- the operands, and the options are ones of the applet, and where they stand before it ones that
+-- may
 pub record IsLineOf (words : List (List ℕ)) (command : CommandLine) : Type 0 where
   pub applet : Operand
   pub names : applet_of applet.text ≡ Some command.applet
   pub free : free_words (options_of command.applet) None 1 words ≡ applet ∷ command.operands
   pub early : IsTrue (list_all stands_before (take (applet.place - 1) words))
-  pub flags : flags_after (options_of command.applet) no_flags (option_words (options_of command.applet) None words) ≡ Some command.flags
+  pub flags : flags_after (options_of command.applet) no_flags
+      (option_words (options_of command.applet) None words) ≡ Some command.flags
   pub values : values_of (options_of command.applet) None 1 words ≡ Some command.values
   pub behind : command.behind ≡ length words + 1
   pub sound : IsCommand command

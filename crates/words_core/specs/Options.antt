@@ -53,7 +53,8 @@ info_options =
 
 abbrev pub version_options : List OptionSpec
 version_options =
-    kind_spec (codes "--test") (codes "-t") Test ∷ (kind_spec (codes "--check") (codes "-c") Check ∷ [])
+    kind_spec (codes "--test") (codes "-t") Test ∷
+    (kind_spec (codes "--check") (codes "-c") Check ∷ [])
 
 -- the options of `mkpkg` and `mkndx` that say where and how what they make is written
 abbrev pub output_options : List OptionSpec
@@ -89,12 +90,14 @@ options_of applet = common_options ++ own_options applet
 
 -- the option that a word spells, among some
 abbrev pub option_spelled : List OptionSpec → List ℕ → Option OptionSpec
-option_spelled options word = find (λ (o : OptionSpec). bytes_eq o.long word || bytes_eq o.short word) options
+option_spelled options word =
+    find (λ (o : OptionSpec). bytes_eq o.long word || bytes_eq o.short word) options
 
 -- the words of the options that may stand before the applet
 unfoldable pub early_words : List (List ℕ)
 early_words =
-    codes "--allow-untrusted" ∷ (codes "--no-scripts" ∷ (codes "--initdb" ∷ (codes "--simulate" ∷ (codes "--purge" ∷ []))))
+    codes "--allow-untrusted" ∷ (codes "--no-scripts" ∷ (codes "--initdb" ∷ (codes "--simulate" ∷
+    (codes "--purge" ∷ []))))
 
 abbrev pub is_early : List ℕ → Bool
 is_early word = list_any (λ early. bytes_eq early word) early_words

@@ -13,4 +13,5 @@ IsStep false old new more = (more ≡ None) × (new ≡ old)
 -- what was read behind an applet is its own: at most one kind, and values that may stand together
 abbrev pub IsSoundReading : Applet → Reading → Type 0
 IsSoundReading applet reading =
-    IsTrue (may_have applet reading.state.flags) × IsTrue (are_values (value_rules applet) reading.state.values)
+    IsTrue (may_have applet reading.state.flags)
+    × IsTrue (are_values (value_rules applet) reading.state.values)

@@ -1,5 +1,5 @@
--- Words that cannot become a command, whatever follows: the options before the applet are no applet's, or no option can
--- follow and one is lacking, or a value is awaited that no text can be.
+-- Words that cannot become a command, whatever follows: the options before the applet are no
+-- applet's, or no option can follow and one is lacking, or a value is awaited that no text can be.
 use Rattle.std.specs.Prelude.{ℕ, ◌==◌, Bool, true, false, not, ◌&&◌, ◌||◌, List, [], ◌∷◌, drop, Option, Some, None, is_some, Result, Ok, Err, if◌then◌else◌}
 use Rattle.std.specs.List.{list_all, list_any}
 use Rattle.std.specs.Result.{is_ok}
@@ -27,8 +27,8 @@ suit words applet = is_ok (early_flags (options_of applet) no_flags 1 words)
 
 -- ---- behind the applet
 
--- whether the options have ended: `--` is among the words, and not as a value. The first word is the value of an option,
--- if there is a rule of it
+-- whether the options have ended: `--` is among the words, and not as a value. The first word is
+-- the value of an option, if there is a rule of it
 abbrev pub have_ended : List OptionSpec → Option ValueRule → List (List ℕ) → Bool
 have_ended options rule [] = false
 have_ended options (Some rule) (word ∷ words) = have_ended options None words
@@ -37,14 +37,17 @@ have_ended options None (word ∷ words) =
     if is_option word then have_ended options (rule_behind options word) words else
     have_ended options None words
 
--- whether an option is lacking: one that says of which kind the command is, or the one that has to be given
+-- whether an option is lacking: one that says of which kind the command is, or the one that has to
+-- be given
 abbrev pub lacks_option : Applet → OptionState → Bool
 lacks_option applet state =
-    not (is_some (operand_rule applet state.flags)) || lacks_value (needed_option applet) state.values
+    not (is_some (operand_rule applet state.flags))
+    || lacks_value (needed_option applet) state.values
 
 -- whether the option with a letter was given a script of a type
 abbrev pub has_script : ℕ → List OptionValue → List ℕ → Bool
-has_script letter values t = list_any (λ (v : OptionValue). (v.letter == letter) && bytes_eq (script_type v.text) t) values
+has_script letter values t =
+    list_any (λ (v : OptionValue). (v.letter == letter) && bytes_eq (script_type v.text) t) values
 
 -- whether the option with a letter can have no value more: it was given a script of each type
 abbrev pub is_full : ValueKind → ℕ → List OptionValue → Bool
@@ -60,7 +63,8 @@ awaits_none (Some rule) values = is_full rule.kind rule.letter values
 abbrev pub is_stuck : List (List ℕ) → Start → Bool
 is_stuck words start =
     let state = (reading_behind start words).state in
-    ((start.ended || have_ended (options_of start.applet) None (drop start.read words)) && lacks_option start.applet state)
+    ((start.ended || have_ended (options_of start.applet) None (drop start.read words))
+    && lacks_option start.applet state)
     || awaits_none state.awaiting state.values
 
 abbrev pub is_stuck_by : List (List ℕ) → Result Start ℕ → Bool

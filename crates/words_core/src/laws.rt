@@ -5,30 +5,35 @@ ghost use Rattle.words_core.specs.Grammar.{command_of};
 ghost use Rattle.words_core.specs.Lines.{IsLineOf};
 ghost use Rattle.words_core.specs.Stuck.{are_stuck};
 
-/// Words of which a command is read are that command: its applet, its operands and its options, and nothing else.
+/// Words of which a command is read are that command: its applet, its operands and its options, and
+/// nothing else.
 pub fn read_words_are_a_command()
-    ensures { (words : List (List ℕ)) (command : CommandLine) → command_of words ≡ Ok command → IsLineOf words command }
+    ensures { (words : List (List ℕ)) (command : CommandLine) → command_of words ≡ Ok command →
+        IsLineOf words command }
 {}
 
 /// Words that are a command are read as it, wherever its options stand.
 pub fn commands_are_read()
-    ensures { (words : List (List ℕ)) (command : CommandLine) → IsLineOf words command → command_of words ≡ Ok command }
+    ensures { (words : List (List ℕ)) (command : CommandLine) → IsLineOf words command →
+        command_of words ≡ Ok command }
 {}
 
 /// A usage error is at a word, or behind the last one where a word is missing.
 pub fn usage_errors_are_at_words()
-    ensures { (words : List (List ℕ)) (place : ℕ) → command_of words ≡ Err place → (1 ≤ place) × (place ≤ length words + 1) }
+    ensures { (words : List (List ℕ)) (place : ℕ) → command_of words ≡ Err place →
+        (1 ≤ place) × (place ≤ length words + 1) }
 {}
 
 /// A word that offends does so whatever follows.
 pub fn words_offend_whatever_follows()
-    ensures { (words more : List (List ℕ)) (place : ℕ) → command_of words ≡ Err place → place ≤ length words → command_of (words ++ more) ≡ Err place }
+    ensures { (words more : List (List ℕ)) (place : ℕ) → command_of words ≡ Err place →
+        place ≤ length words → command_of (words ++ more) ≡ Err place }
 {}
 
-/// The words before a usage error do not offend: they can be completed to a command, unless they are stuck. They are in
-/// three cases: no applet is named yet, and none has all the options before it; `--`, other than as a value, has ended the
-/// options while `version` lacks its kind or `mkndx` its `-o`; `mkpkg` awaits one more script and has one of each of the
-/// seven types.
+/// The words before a usage error do not offend: they can be completed to a command, unless they
+/// are stuck. They are in three cases: no applet is named yet, and none has all the options before
+/// it; `--`, other than as a value, has ended the options while `version` lacks its kind or `mkndx`
+/// its `-o`; `mkpkg` awaits one more script and has one of each of the seven types.
 pub fn words_before_a_usage_error_can_be_completed()
     ensures { (words : List (List ℕ)) (place : ℕ) →
         IsTrue (not (are_stuck (take (place - 1) words))) → command_of words ≡ Err place →
@@ -37,10 +42,13 @@ pub fn words_before_a_usage_error_can_be_completed()
 
 /// Stuck words are no command, whatever follows.
 pub fn stuck_words_are_no_command()
-    ensures { (words more : List (List ℕ)) → IsTrue (are_stuck words) → (place : ℕ) × (command_of (words ++ more) ≡ Err place) }
+    ensures { (words more : List (List ℕ)) → IsTrue (are_stuck words) →
+        (place : ℕ) × (command_of (words ++ more) ≡ Err place) }
 {}
 
 /// What follows a command offends behind it: no word of a command becomes the one that offends.
 pub fn what_follows_a_command_offends_behind_it()
-    ensures { (words more : List (List ℕ)) (command : CommandLine) (place : ℕ) → command_of words ≡ Ok command → command_of (words ++ more) ≡ Err place → length words < place }
+    ensures { (words more : List (List ℕ)) (command : CommandLine) (place : ℕ) →
+        command_of words ≡ Ok command → command_of (words ++ more) ≡ Err place →
+        length words < place }
 {}

@@ -256,7 +256,8 @@ fn common_option(word: &[u8]) -> Option<OptionRow>
 
 // The option that a word spells, among some.
 fn find_option(options: &[OptionRow], word: &[u8]) -> Option<OptionRow>
-    ensures { option_map option_spec result ≡ option_spelled (map option_spec options.now) word.now }
+    ensures { option_map option_spec result
+        ≡ option_spelled (map option_spec options.now) word.now }
 {
     options
         .iter()
@@ -264,7 +265,8 @@ fn find_option(options: &[OptionRow], word: &[u8]) -> Option<OptionRow>
         .find(|option| option.is_spelled(word))
 }
 
-/// Flags with an option behind them. None comes where there is no option, or where it says no flag or a second kind.
+/// Flags with an option behind them. None comes where there is no option, or where it says no flag
+/// or a second kind.
 pub(crate) fn with_option(flags: Flags, option: Option<OptionRow>) -> Option<Flags>
     ensures { result ≡ option_and_then (with_spec flags) (option_map option_spec option) }
 {
@@ -274,7 +276,8 @@ pub(crate) fn with_option(flags: Flags, option: Option<OptionRow>) -> Option<Fla
 impl OptionRow {
     // Whether a word spells the option.
     fn is_spelled(&self, word: &[u8]) -> bool
-        ensures { result ≡ (bytes_eq self.now.long.now word.now || bytes_eq self.now.short.now word.now) }
+        ensures { result
+            ≡ (bytes_eq self.now.long.now word.now || bytes_eq self.now.short.now word.now) }
     {
         self.long == word || self.short == word
     }

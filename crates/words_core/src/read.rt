@@ -13,7 +13,8 @@ use std::alloc::{AllocError, Global};
 /// Why there is no command.
 #[derive(Clone, Copy, Debug, PartialEq, Eq)]
 pub enum WordsFault {
-    /// The first word that offends, counted from 1, or the place behind the last one where a word is missing.
+    /// The first word that offends, counted from 1, or the place behind the last one where a word
+    /// is missing.
     Usage { place: u32 },
     /// There was no memory.
     Memory,
@@ -34,8 +35,8 @@ impl From<AllocError> for WordsFault {
 ///
 /// # Errors
 ///
-/// `Usage` comes exactly outside the grammar, at the first word that offends once the whole line is known. `Memory`
-/// comes only where an applet was found, with its own options before it.
+/// `Usage` comes exactly outside the grammar, at the first word that offends once the whole line is
+/// known. `Memory` comes only where an applet was found, with its own options before it.
 #[tactic(auto, unfolding(crate::specs::Grammar::command_of))]
 pub fn read_words(alloc: Global, words: &Words) -> Result<Command, WordsFault>
     ensures ok { IfOk result (λ command. command_of words.now ≡ Ok command) }

@@ -1,4 +1,5 @@
-//! Reads the words from left to right: up to the applet, and then options, their values and operands.
+//! Reads the words from left to right: up to the applet, and then options, their values and
+//! operands.
 ghost use Rattle.std.specs.Prelude.{◌≡◌, ◌+◌, ◌-◌, ◌++◌, ◌≤◌, ◌<◌, Some, None, IfOk, IsTrue, OnOk, length, drop, take, not};
 ghost use Rattle.std.specs.Option.{option_map};
 ghost use Rattle.command_core.specs.Applets.{needed_option};
@@ -102,7 +103,8 @@ fn read_early(words: &Words, site: &AppletSite) -> Result<Flags, u32>
     requires low { 1 ≤ site.now.read }
     requires high { site.now.read ≤ length words.now }
     requires few { length words.now < MOST_PLACES }
-    ensures { result ≡ early_flags (options_of site.now.applet) no_flags 1 (take (site.now.read - 1) words.now) }
+    ensures { result
+        ≡ early_flags (options_of site.now.applet) no_flags 1 (take (site.now.read - 1) words.now) }
 {
     let mut flags = Flags::none();
     for i in 0..site.read - 1 {
@@ -148,11 +150,12 @@ impl OptionState {
         self.awaiting.is_some() || (is_option(word) && !is_end(word))
     }
 
-    // Reads the word at a place: the value that is awaited, or an option. False comes where the word cannot be read, and
-    // then nothing changes.
+    // Reads the word at a place: the value that is awaited, or an option. False comes where the
+    // word cannot be read, and then nothing changes.
     fn read_word(&mut self, applet: Applet, place: u32, word: &[u8]) -> Result<bool, AllocError>
         requires { IsTrue (is_option_or_value self.old word.now) }
-        ensures { IfOk result (λ good. IsStep good self.old self.new (with_word (options_of applet) self.old place word.now)) }
+        ensures { IfOk result (λ good. IsStep good self.old self.new (with_word
+            (options_of applet) self.old place word.now)) }
     {
         match self.awaiting {
             Some(rule) => self.read_value(place, word, rule),
@@ -173,7 +176,8 @@ impl OptionState {
     // Reads the option that the word at a place is.
     fn read_option(&mut self, applet: Applet, place: u32, word: &[u8]) -> Result<bool, AllocError>
         requires { IsTrue (is_option word.now) }
-        ensures { IfOk result (λ good. IsStep good self.old self.new (with_spelled (options_of applet) self.old place word.now)) }
+        ensures { IfOk result (λ good. IsStep good self.old self.new (with_spelled
+            (options_of applet) self.old place word.now)) }
     {
         match option_spelled(applet, option_name(word)) {
             Some(option) => self.read_meaning(place, held_value(word), option.meaning),
@@ -188,7 +192,8 @@ impl OptionState {
         held: Option<&[u8]>,
         meaning: Meaning,
     ) -> Result<bool, AllocError>
-        ensures { IfOk result (λ good. IsStep good self.old self.new (with_meaning_at self.old place (option_map (λ text. text.now) held.entry) meaning)) }
+        ensures { IfOk result (λ good. IsStep good self.old self.new
+            (with_meaning_at self.old place (option_map (λ text. text.now) held.entry) meaning)) }
     {
         match meaning {
             Meaning::Value(rule) => self.read_rule(place, held, rule),
@@ -199,7 +204,8 @@ impl OptionState {
 
     // Reads a flag that an option says.
     fn read_flag(&mut self, meaning: Meaning) -> bool
-        ensures { IsStep result self.old self.new (with_flags self.old (with_meaning self.old.flags meaning)) }
+        ensures { IsStep result self.old self.new (with_flags self.old
+            (with_meaning self.old.flags meaning)) }
     {
         match meaning.with(self.flags) {
             Some(flags) => {
@@ -217,7 +223,8 @@ impl OptionState {
         held: Option<&[u8]>,
         rule: ValueRule,
     ) -> Result<bool, AllocError>
-        ensures { IfOk result (λ good. IsStep good self.old self.new (with_rule self.old place (option_map (λ text. text.now) held.entry) rule)) }
+        ensures { IfOk result (λ good. IsStep good self.old self.new (with_rule self.old place
+            (option_map (λ text. text.now) held.entry) rule)) }
     {
         if self.values.are_spent(rule) {
             return Ok(false);
@@ -233,7 +240,8 @@ impl OptionState {
 
     // Reads a text as a value of an option.
     fn read_value(&mut self, place: u32, text: &[u8], rule: ValueRule) -> Result<bool, AllocError>
-        ensures { IfOk result (λ good. IsStep good self.old self.new (with_value self.old place text.now rule)) }
+        ensures { IfOk result (λ good. IsStep good self.old self.new
+            (with_value self.old place text.now rule)) }
     {
         if !rule.kind.has(text) {
             return Ok(false);
@@ -337,7 +345,8 @@ fn read_options(alloc: Global, words: &Words, start: &Start) -> Result<Reading, 
 // Adds the words behind so many as operands.
 fn add_operands(operands: &mut Operands, words: &Words, before: usize) -> Result<(), AllocError>
     requires { before ≤ length words.now }
-    ensures { OnOk result (operands.new ≡ operands.old ++ operands_of (before + 1) (drop before words.now)) }
+    ensures { OnOk result (operands.new ≡ operands.old
+        ++ operands_of (before + 1) (drop before words.now)) }
 {
     for i in before..words.len() {
         operands.push(place_behind(i), words.word(i))?;

@@ -9,7 +9,8 @@ pub(crate) const MOST_PLACES: usize = 4294967295;
 
 const EQUALS_SIGN: u8 = b'=';
 
-/// Whether a word is an option, or the end of the options: two or more bytes that begin with a dash.
+/// Whether a word is an option, or the end of the options: two or more bytes that begin with a
+/// dash.
 pub(crate) fn is_option(word: &[u8]) -> bool
     ensures { result ≡ is_option word.now }
 {
@@ -45,8 +46,8 @@ pub(crate) fn option_name(word: &[u8]) -> &[u8]
     }
 }
 
-/// The value that an option's word holds: what is behind the first `=` of a long one, and behind the letter of a short
-/// one.
+/// The value that an option's word holds: what is behind the first `=` of a long one, and behind
+/// the letter of a short one.
 #[tactic(auto, unfolding(crate::specs::Grammar::held_value))]
 pub(crate) fn held_value(word: &[u8]) -> Option<&[u8]>
     ensures { option_map (λ text. text.now) result ≡ held_value word.now }
@@ -62,7 +63,8 @@ pub(crate) fn held_value(word: &[u8]) -> Option<&[u8]>
 
 // What is behind the first `=` of a word.
 fn long_value(word: &[u8]) -> Option<&[u8]>
-    ensures { option_map (λ text. text.now) result ≡ option_map (λ i. drop (i + 1) word.now) (position (λ b. b == EQUALS_SIGN) word.now) }
+    ensures { option_map (λ text. text.now) result
+        ≡ option_map (λ i. drop (i + 1) word.now) (position (λ b. b == EQUALS_SIGN) word.now) }
 {
     match equals_sign(word) {
         Some(i) => Some(&word[i + 1..]),

@@ -1,6 +1,7 @@
 //! The lock on the root: one run writes there, or any number read.
 
 use super::failure::{HostFault, IS_LOCKED};
+use apk_front::Access;
 use std::fs::{File, Files, TryLockError};
 use std::time::{Clock, Duration};
 use std::{fs, thread};
@@ -10,13 +11,6 @@ const SLEEP_MILLISECONDS: u64 = 50;
 
 /// How often the lock is tried: for 60 seconds.
 const MOST_TRIES: u64 = 60_000 / SLEEP_MILLISECONDS;
-
-/// What a run may do below the root.
-#[derive(Clone, Copy, PartialEq, Eq)]
-pub enum Access {
-    Read,
-    Write,
-}
 
 /// Waits until no other run stands in the way, 60 seconds at most. The lock holds until the file that is answered is closed.
 pub fn lock_root<R: Files<File = File> + Clock>(rt: &R, access: Access) -> Result<File, HostFault> {

@@ -1,4 +1,5 @@
 use super::*;
+use apk_front::Access;
 use base_core::{Name, Tree, TreeFault};
 use std::os::unix::fs::symlink;
 use std::test::Fail;

@@ -3,7 +3,10 @@ use Rattle.adb_view.specs.Adb.{payload_of}
 use Rattle.adb_view.specs.Entries.{array_entries}
 use Rattle.adb_tables.specs.Schema.{shape_of, shapes_of}
 use Rattle.adb_tables.specs.Rank.{rank, rank_of_all}
-use Rattle.adb_tables.specs.Walk.{LIMIT, walk, fields_walk, each_walk}
+use Rattle.adb_tables.specs.Walk.{LIMIT}
+use Rattle.adb_tables.specs.CountedWalk.{fields_walk}
+use Rattle.adb_tables.specs.CountedWalk.{walk}
+use Rattle.adb_tables.specs.CountedWalk.{each_walk}
 use Rattle.adb_tables.proofs.walk.+walk.Given as goal
 
 abbrev pub decreases-walk_entries : goal.decreases-walk_entries

@@ -1,4 +1,4 @@
-use Rattle.std.proofs.Common.{◌≡◌, ◌∙◌}
+use Rattle.std.proofs.Common.{◌∙◌}
 use Rattle.command_core.proofs.Named.{first_named}
 use Rattle.command_core.proofs.values.Values.first_file.Goals as goal
 

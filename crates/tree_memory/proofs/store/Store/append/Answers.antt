@@ -8,7 +8,7 @@ use Rattle.tree_memory.specs.declared.changes.Change.{Change}
 use Rattle.tree_memory.specs.declared.changes.Change.TheVariants.{Append}
 use Rattle.tree_memory.specs.declared.changes.Stored.{Stored}
 use Rattle.tree_memory.proofs.Keeping.{leads_within, stored_bytes}
-use Rattle.tree_memory.proofs.Changed.{told_of, IsOther, store_append, history_append, store_same, told_same}
+use Rattle.tree_memory.proofs.Changed.{states_of, IsOther, store_append, history_append, store_same, states_same}
 use Rattle.tree_memory.proofs.Outcomes.{on_any_err}
 use Rattle.tree_memory.proofs.store.Store.append.Goals as goal
 
@@ -35,8 +35,8 @@ returns-in_err-append-clause-err c =
     let files = c.args.self.now.files.items in
     let more = set files c.in-Some.file c.append.new.self in
     on_any_err c.from_residual-in_err-append.result
-    (ap (λ (l : List Change). told_of l more) c.in_ok-reserve.ensures.items
-    ∙ told_same c.in-Some.file c.args.self.now.changes.items files more c.append.new.self c.index_mut.result.now refl c.in_err-append.ensures.same_bytes c.index_mut.ensures.value)
+    (ap (λ (l : List Change). states_of l more) c.in_ok-reserve.ensures.items
+    ∙ states_same c.in-Some.file c.args.self.now.changes.items files more c.append.new.self c.index_mut.result.now refl c.in_err-append.ensures.same_bytes c.index_mut.ensures.value)
 
 pub index-requires : goal.index-requires
 index-requires c =

@@ -1,0 +1,39 @@
+-- In the words of the format: which pair of positions is the first at which one name stands.
+use Rattle.std.specs.Prelude.{◌≡◌, ℕ, ◌<◌, ◌≤◌, ◌⊎◌, List, [], ◌∷◌, Option, Some, None}
+use Rattle.adb_fields.specs.Pairs.{Named}
+use Rattle.adb_fields.specs.Repeated.{numbered_from}
+use Rattle.adb_fields.specs.declared.pairs.Pair.{Pair}
+
+-- what is in a list, by recursion on it
+abbrev pub IsIn : {A : Type 0} → A → List A → Type 0
+IsIn x [] = ⊥
+IsIn x (y ∷ ys) = (x ≡ y) ⊎ IsIn x ys
+
+-- one name stands at both positions
+pub record IsPair (names : List Named) (p : Pair) : Type 0 where
+  pub one : Named
+  pub other : Named
+  pub one_in : IsIn one names
+  pub other_in : IsIn other names
+  pub alike : one.name ≡ other.name
+  pub first : p.first ≡ one.position
+  pub second : p.second ≡ other.position
+  pub rises : p.first < p.second
+
+-- no pair has a smaller second position, and of those with the same second position none a smaller
+-- first one
+pub record IsFirst (IsOne : Pair → Type 0) (p : Pair) : Type 0 where
+  pub is_one : IsOne p
+  pub second : (q : Pair) → IsOne q → p.second ≤ q.second
+  pub first : (q : Pair) → IsOne q → q.second ≡ p.second → p.first ≤ q.first
+
+-- which pair is reported, or that there is none
+abbrev pub IsFirstOf : (Pair → Type 0) → Option Pair → Type 0
+IsFirstOf IsOne None = (q : Pair) → ¬ IsOne q
+IsFirstOf IsOne (Some p) = IsFirst IsOne p
+
+-- one of the lists has the name at both positions
+pub record IsPairInOne (lists : List (List (List ℕ))) (p : Pair) : Type 0 where
+  pub names : List (List ℕ)
+  pub names_in : IsIn names lists
+  pub is_pair : IsPair (numbered_from 1 names) p

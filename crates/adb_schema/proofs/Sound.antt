@@ -1,0 +1,132 @@
+-- A file without fault holds a sound value.
+use Rattle.std.proofs.Common.{◌≡◌, ℕ, Bool, true, false, List, drop, length, Option, Some, None, Result, Ok, Err, refl, ◌↔◌, ◌≤◌}
+use Rattle.std.specs.Prelude.{if◌then◌else◌, nat_lt, ◌||◌, ◌-◌, ◌==◌, is_some, is_none, unwrap_or, IfSome}
+use Rattle.base_core.specs.declared.cause.Cause.{Cause}
+use Rattle.adb_block.specs.declared.block.BlockKind.{BlockKind}
+use Rattle.adb_block.specs.Framing.{HeadFields, Step, ended, failed, block, step_by_size, step_by_order, step_by_head, next_step, head_of, kind_of_number}
+use Rattle.adb_block.specs.Piece.{Piece, comes_after, least_payload}
+use Rattle.adb_block.specs.Header.{header_of}
+use Rattle.adb_block.specs.Standing.{start_of}
+use Rattle.adb_block.specs.Reading.{Reading, done, fault, more as further, reading_by_step, reading_from, reading_of}
+use Rattle.adb_view.specs.Head.{head_fault, root_of}
+use Rattle.adb_view.specs.Plain.{Plain, null, Shape, plain_of, IsNormal}
+use Rattle.adb_view.specs.Shaped.{HasShape}
+use Rattle.adb_view.specs.Visits.{visits}
+use Rattle.adb_tables.specs.Schema.{shape_of}
+use Rattle.adb_tables.specs.Walk.{or_else, shape_fault, LIMIT}
+use Rattle.adb_tables.specs.Values.{value_at}
+use Rattle.adb_tables.specs.declared.tables.Which.{Which}
+use Rattle.adb_tables.specs.declared.tables.Kind.TheVariants as Kinds
+use Rattle.adb_fields.specs.Once.{NamesStandOnce}
+use Rattle.adb_fields.specs.Repeated.{repeated_fault}
+use Rattle.adb_rules.specs.Texts.{text_fault}
+use Rattle.adb_rules.specs.SoundValues.{KeepsRules}
+use Rattle.adb_schema.specs.Soundness.{blocks_fault, file_fault, first_fault, first_payload, payload_behind, payload_fault, payload_in, rest_fault, root_value, schema_fault}
+use Rattle.adb_schema.specs.SoundContainers.{IsSoundValue}
+
+-- ---- the first of two tests
+
+some_none : (c : Cause) → Some c ≡ None → ⊥
+some_none c e = absurd (cc)
+
+or_first : (a b : Option Cause) → or_else a b ≡ None → a ≡ None
+or_first None b h = refl
+or_first (Some c) b h = h
+
+or_later : (a b : Option Cause) → or_else a b ≡ None → b ≡ None
+or_later None b h = h
+or_later (Some c) b h = absurd (some_none c h)
+
+-- ---- the first block of a file without fault
+
+abbrev pub IsReadAt : Which → Reading → Type 0
+IsReadAt which done = ⊥
+IsReadAt which (fault c) = ⊥
+IsReadAt which (further b at r) = payload_fault which b.payload ≡ None
+
+-- before the first block nothing ends
+abbrev pub GoesOn : Step → Type 0
+GoesOn ended = ⊥
+GoesOn (failed c) = Unit {0}
+GoesOn (block b size) = Unit {0}
+
+if_on : (b : Bool) (s t : Step) → GoesOn s → GoesOn t → GoesOn (if b then s else t)
+if_on true s t h g = h
+if_on false s t h g = g
+
+ordered_on : (last : Option BlockKind) (at : ℕ) (bytes : List ℕ) (head : HeadFields) (kind : Option BlockKind) → GoesOn (step_by_order last at bytes head kind)
+ordered_on last at bytes head None = tt
+ordered_on last at bytes head (Some kind) =
+    if_on (comes_after last kind) (step_by_size at bytes head kind) (failed _)
+    (if_on (nat_lt head.raw head.len || nat_lt (length bytes) head.raw) (failed _) (if nat_lt (head.raw - head.len) (least_payload kind) then failed _ else block _ _) tt (if_on (nat_lt (head.raw - head.len) (least_payload kind)) (failed _) (block _ _) tt tt)) tt
+
+headed_on : (last : Option BlockKind) (at : ℕ) (bytes : List ℕ) (head : Option HeadFields) → GoesOn (step_by_head last at bytes head)
+headed_on last at bytes None = tt
+headed_on last at bytes (Some head) = ordered_on last at bytes head (kind_of_number head.kind)
+
+step_on : (at : ℕ) (bytes : List ℕ) → GoesOn (next_step None at bytes)
+unfolding next_step
+step_on at bytes = if_on (length bytes == 0) _ _ tt (headed_on None at bytes (head_of bytes))
+
+stepped_read : (which : Which) (rest : Plain → Reading → Option Cause) (at : ℕ) (f : Piece → ℕ → Reading) (s : Step) → GoesOn s → blocks_fault rest which (reading_by_step at f s) ≡ None → IsReadAt which (reading_by_step at f s)
+stepped_read which rest at f ended g h = absurd g
+stepped_read which rest at f (failed c) g h = some_none c h
+stepped_read which rest at f (block b size) g h = or_first (payload_fault which b.payload) _ h
+
+read_payload : (which : Which) (r : Reading) → IsReadAt which r → payload_fault which (first_payload r) ≡ None
+read_payload which done h = absurd h
+read_payload which (fault c) h = absurd h
+read_payload which (further b at r) h = h
+
+file_payload : (rest : Plain → Reading → Option Cause) (which : Which) (file : List ℕ) (header : Result ℕ Cause) → file_fault rest which file header ≡ None → payload_fault which (payload_behind file header) ≡ None
+unfolding reading_of reading_from
+file_payload rest which file (Err c) h = absurd (some_none c h)
+file_payload rest which file (Ok schema) h =
+    read_payload which (reading_of (start_of schema file)) (stepped_read which rest _ _ (next_step None 8 (drop 8 file)) (step_on 8 (drop 8 file)) (or_later (schema_fault which schema) _ h))
+
+pub sound_payload : (which : Which) (file : List ℕ) → first_fault which file ≡ None → payload_fault which (payload_in file) ≡ None
+unfolding first_fault payload_in
+sound_payload which file h = file_payload (λ v r. rest_fault which r) which file (header_of file) h
+
+-- ---- its value
+
+-- what the laws of the crates below say
+pub record Laws : Type 1 where
+  pub visited : (p : List ℕ) (s : Shape) (w : ℕ) → (shape_fault p s w ≡ None) ↔ ((is_some (plain_of p s w) ≡ true) × (length (visits p s w) ≤ LIMIT))
+  pub shaped : (p : List ℕ) (s : Shape) (w : ℕ) → IfSome (plain_of p s w) (HasShape s)
+  pub kept : (which : Which) (v : Plain) → (text_fault which v ≡ None) ↔ KeepsRules which v
+  pub once : (which : Which) (v : Plain) → (repeated_fault which v ≡ None) ↔ NamesStandOnce which v
+
+found : (P : Plain → Type 0) (o : Option Plain) → is_some o ≡ true → IfSome o P → P (unwrap_or o null)
+found P (Some v) e h = h
+found P None e h = absurd (cc)
+
+value_has : (P : Plain → Type 0) (p : List ℕ) (which : Which) → is_some (plain_of p (shape_of (Kinds.Obj which)) (root_of p)) ≡ true → IfSome (plain_of p (shape_of (Kinds.Obj which)) (root_of p)) P → P (root_value which p)
+unfolding value_at
+value_has P p which e h = found P (plain_of p (shape_of (Kinds.Obj which)) (root_of p)) e h
+
+pub is_found : Laws → (which : Which) (p : List ℕ) → payload_fault which p ≡ None → is_some (plain_of p (shape_of (Kinds.Obj which)) (root_of p)) ≡ true
+is_found laws which p h =
+    ((laws.visited p (shape_of (Kinds.Obj which)) (root_of p)).0
+    (or_first (shape_fault p (shape_of (Kinds.Obj which)) (root_of p)) _ (or_later (head_fault p) _ h))).0
+
+pub sound_value : Laws → (which : Which) (p : List ℕ) → payload_fault which p ≡ None → IsSoundValue which (root_value which p)
+sound_value laws which p h =
+    let texts = or_later (shape_fault p (shape_of (Kinds.Obj which)) (root_of p)) _ (or_later (head_fault p) _ h) in
+    record {
+      shape = value_has (HasShape (shape_of (Kinds.Obj which))) p which (is_found laws which p h) (laws.shaped p (shape_of (Kinds.Obj which)) (root_of p));
+      rules = (laws.kept which (root_value which p)).0 (or_first (text_fault which (root_value which p)) (repeated_fault which (root_value which p)) texts);
+      once = (laws.once which (root_value which p)).0 (or_later (text_fault which (root_value which p)) (repeated_fault which (root_value which p)) texts);
+    }
+
+pub normal_value : Laws → (which : Which) (p : List ℕ) → payload_fault which p ≡ None → IfSome (plain_of p (shape_of (Kinds.Obj which)) (root_of p)) IsNormal → IsNormal (root_value which p)
+normal_value laws which p h n = value_has IsNormal p which (is_found laws which p h) n
+
+-- ---- of a payload that was checked
+
+pub is_kept : ((which : Which) (v : Plain) → (text_fault which v ≡ None) ↔ KeepsRules which v) → (which : Which) (v : Plain) → is_none (text_fault which v) ≡ true → KeepsRules which v
+is_kept law which v h = (law which v).0 (is_none_of (text_fault which v) h)
+  where
+    is_none_of : (o : Option Cause) → is_none o ≡ true → o ≡ None
+    is_none_of None h = refl
+    is_none_of (Some c) h = absurd (cc)

@@ -1,0 +1,26 @@
+-- What the steps of reading a container answer.
+use Rattle.std.specs.Prelude.{◌≡◌, ℕ, List, Option, Some, None}
+use Rattle.base_core.specs.declared.cause.Cause.{Cause}
+use Rattle.adb_block.specs.Reading.{Reading, done, fault, more}
+use Rattle.adb_tables.specs.declared.tables.Which.{Which}
+use Rattle.adb_schema.specs.Soundness.{payload_fault}
+use Rattle.adb_schema.specs.declared.read.ReadFault.{ReadFault}
+use Rattle.adb_schema.specs.declared.read.ReadFault.TheVariants.{Bad, Memory}
+
+-- a refusal reports the cause, or want of memory
+abbrev pub IsReadFault : ReadFault → Option Cause → Type 0
+IsReadFault (Bad cause) reported = reported ≡ Some cause
+IsReadFault Memory reported = Unit {0}
+
+-- the first block passed its tests, and the reader stands behind it
+abbrev pub IsBehindFirst : Which → List ℕ → Reading → Reading → Type 0
+IsBehindFirst which payload done later = ⊥
+IsBehindFirst which payload (fault c) later = ⊥
+IsBehindFirst which payload (more b at r) later = (payload ≡ b.payload)
+    × (payload_fault which b.payload ≡ None) × (r ≡ later)
+
+-- why the first block is refused
+abbrev pub first_block_fault : Which → Reading → Option Cause
+first_block_fault which done = None
+first_block_fault which (fault c) = Some c
+first_block_fault which (more b at r) = payload_fault which b.payload

@@ -1,0 +1,20 @@
+-- What the value of a sound container is: it has the shape of its table, each text and number keeps
+-- the rule of its field, and no name stands twice.
+use Rattle.std.specs.Prelude.{◌≡◌, ℕ, List, None}
+use Rattle.adb_view.specs.Plain.{Plain}
+use Rattle.adb_view.specs.Shaped.{HasShape}
+use Rattle.adb_tables.specs.Schema.{shape_of}
+use Rattle.adb_tables.specs.declared.tables.Which.{Which}
+use Rattle.adb_tables.specs.declared.tables.Kind.TheVariants.{Obj}
+use Rattle.adb_fields.specs.Once.{NamesStandOnce}
+use Rattle.adb_rules.specs.SoundValues.{KeepsRules}
+use Rattle.adb_schema.specs.Soundness.{first_fault}
+
+pub record IsSoundValue (which : Which) (v : Plain) : Type 0 where
+  pub shape : HasShape (shape_of (Obj which)) v
+  pub rules : KeepsRules which v
+  pub once : NamesStandOnce which v
+
+-- a file passes every test as a container of this table
+abbrev pub IsSound : Which → List ℕ → Type 0
+IsSound which file = first_fault which file ≡ None

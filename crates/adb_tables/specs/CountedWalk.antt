@@ -1,0 +1,41 @@
+-- The walk that counts its visits and keeps no list of them.
+use Rattle.std.specs.Prelude.{ℕ, ◌+◌, List, [], ◌∷◌, Option, Some, None, Result, Ok, Err}
+use Rattle.adb_view.specs.Plain.{Shape, number, text, hash, array, object, Fields, no_fields, field}
+use Rattle.adb_view.specs.Readers.{run_of, ARRAY, OBJECT}
+use Rattle.adb_view.specs.Visits.{or_empty}
+use Rattle.adb_tables.specs.Walk.{visit_fault}
+use Rattle.base_core.specs.declared.cause.Cause.{Cause}
+
+-- its answer is how many visits there were behind a word and what lies below it, or the first fault
+
+infixl 10 ◌>>=◌
+abbrev pub ◌>>=◌ : {A B : Type 0} → Result A Cause → (A → Result B Cause) → Result B Cause
+(Ok x) >>= f = f x
+(Err e) >>= f = Err e
+
+abbrev pub ok_unless : {A : Type 0} → A → Option Cause → Result A Cause
+ok_unless x None = Ok x
+ok_unless x (Some c) = Err c
+
+-- one more visit, behind n
+abbrev pub walk_visit : List ℕ → ℕ → Shape → ℕ → Result ℕ Cause
+walk_visit p n s w = ok_unless (n + 1) (visit_fault p (n + 1) (record { shape = s; word = w }))
+
+abbrev pub each_walk : (ℕ → ℕ → Result ℕ Cause) → ℕ → List ℕ → Result ℕ Cause
+each_walk f n [] = Ok n
+each_walk f n (w ∷ ws) = f n w >>= λ m. each_walk f m ws
+
+unfoldable mutual
+  pub walk : List ℕ → Shape → ℕ → ℕ → Result ℕ Cause
+  walk p number n w = walk_visit p n number w
+  walk p text n w = walk_visit p n text w
+  walk p hash n w = walk_visit p n hash w
+  walk p (array s) n w = walk_visit p n (array s) w >>= λ m. each_walk (walk p s) m
+      (or_empty (run_of ARRAY p w))
+  walk p (object schema fs) n w = walk_visit p n (object schema fs) w >>= λ m. fields_walk p fs m
+      (or_empty (run_of OBJECT p w))
+
+  pub fields_walk : List ℕ → Fields → ℕ → List ℕ → Result ℕ Cause
+  fields_walk p no_fields n ws = Ok n
+  fields_walk p (field name s fs) n [] = Ok n
+  fields_walk p (field name s fs) n (w ∷ ws) = walk p s n w >>= λ m. fields_walk p fs m ws

@@ -1,0 +1,14 @@
+-- What it is that a fault is the first of the walk.
+use Rattle.std.specs.Prelude.{◌≡◌, ℕ, ◌+◌, ◌<◌, List, slice_get, Some, None}
+use Rattle.adb_view.specs.Visits.{Visit}
+use Rattle.adb_tables.specs.Walk.{visit_fault}
+use Rattle.base_core.specs.declared.cause.Cause.{Cause}
+
+-- a visit has this fault, and none before it has any
+pub record IsFirstFault (p : List ℕ) (vs : List Visit) (c : Cause) : Type 0 where
+  pub i : ℕ
+  pub v : Visit
+  pub at : slice_get vs i ≡ Some v
+  pub fault : visit_fault p (i + 1) v ≡ Some c
+  pub before : (j : ℕ) → (u : Visit) → j < i → slice_get vs j ≡ Some u → visit_fault p (j + 1) u
+      ≡ None

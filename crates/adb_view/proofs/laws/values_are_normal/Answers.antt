@@ -1,5 +1,0 @@
-use Rattle.adb_view.proofs.Normal.{plain_of_normal}
-use Rattle.adb_view.proofs.laws.values_are_normal.Goals as goal
-
-pub returns : goal.returns
-returns c = plain_of_normal

@@ -1,0 +1,155 @@
+//! Words of values, and the ranges and numbers of a byte slice that they point to.
+
+ghost use Rattle.std.specs.Prelude.{◌≡◌, ◌↔◌, IsTrue, ◌<◌, ◌-◌, ◌*◌, ◌/◌, ◌^◌, length, IfSome, slice_index};
+ghost use Rattle.adb_view.specs.Readers.{kind_of, low_of, counted_at, run_at};
+ghost use Rattle.std.specs.Int.{byte_len};
+ghost use Rattle.adb_view.specs.Bytes.{range_at, number_at, words};
+ghost use Rattle.adb_view.specs.Gives.{Finds};
+ghost use Rattle.adb_view.specs.Width.{width_of};
+
+use std::marker::Model;
+
+/// The kinds of words, by their top 4 bits.
+pub(crate) mod kind {
+    pub(crate) const INT: u32 = 0x1;
+
+    pub(crate) const INT_32: u32 = 0x2;
+
+    pub(crate) const INT_64: u32 = 0x3;
+
+    pub(crate) const BLOB_8: u32 = 0x8;
+
+    pub(crate) const BLOB_16: u32 = 0x9;
+
+    pub(crate) const BLOB_32: u32 = 0xa;
+
+    pub(crate) const ARRAY: u32 = 0xd;
+
+    pub(crate) const OBJECT: u32 = 0xe;
+}
+
+/// A value's word: its kind in the top 4 bits, and below them a number, or an offset in bytes from
+/// the start of the payload that the word stands in (apk-v3(5)).
+#[derive(Clone, Copy, Debug, PartialEq, Eq)]
+pub struct Val {
+    word: u32,
+}
+
+impl Model for Val {
+    ghost use Rattle.std.specs.Prelude.{ℕ};
+
+    ghost Value = { ℕ };
+
+    ghost view = { λ v. v.word };
+
+    ghost inverse = { λ word. record { word = word } };
+}
+
+impl Val {
+    /// The value with this word.
+    pub fn of(word: u32) -> Val
+        ensures { result ≡ word }
+    {
+        Val { word }
+    }
+
+    /// Its word.
+    pub fn word(self) -> u32
+        ensures { result ≡ self }
+    {
+        self.word
+    }
+
+    /// Whether it is NULL, whose word is 0.
+    pub fn is_null(self) -> bool
+        ensures { IsTrue result ↔ (self ≡ 0) }
+    {
+        self.word == 0
+    }
+
+    /// Its kind.
+    pub(crate) fn kind(self) -> u32
+        ensures { result ≡ kind_of self }
+    {
+        self.word / 0x1000_0000
+    }
+
+    /// Its number or offset.
+    pub(crate) fn low(self) -> u32
+        ensures { result ≡ low_of self }
+    {
+        self.word % 0x1000_0000
+    }
+}
+
+/// How many bytes a number has.
+#[derive(Clone, Copy)]
+pub(crate) enum Width {
+    One,
+    Two,
+    Four,
+    Eight,
+}
+
+impl Width {
+    pub(crate) fn bytes(self) -> usize
+        ensures { result ≡ byte_len (width_of self) }
+    {
+        match self {
+            Width::One => 1,
+            Width::Two => 2,
+            Width::Four => 4,
+            Width::Eight => 8,
+        }
+    }
+}
+
+/// The `len` bytes from `at` on, or `None` where they pass the end.
+pub(crate) fn range(bytes: &[u8], at: usize, len: usize) -> Option<&[u8]>
+    ensures { Finds (λ found. found.now) result (range_at bytes.now at len) }
+{
+    bytes.get(at..at.checked_add(len)?)
+}
+
+/// The little-endian number at `at`, or `None` where it passes the end.
+pub(crate) fn number(bytes: &[u8], at: usize, width: Width) -> Option<u64>
+    ensures value { result ≡ number_at (width_of width) bytes.now at }
+    ensures fits { IfSome result (λ n. n < 2 ^ (8 * byte_len (width_of width))) }
+{
+    let x = range(bytes, at, width.bytes())?;
+    Some(match width {
+        Width::One => u64::from(x[0]),
+        Width::Two => u64::from(u16::from_le_bytes([x[0], x[1]])),
+        Width::Four => u64::from(u32::from_le_bytes([x[0], x[1], x[2], x[3]])),
+        Width::Eight => u64::from_le_bytes([x[0], x[1], x[2], x[3], x[4], x[5], x[6], x[7]]),
+    })
+}
+
+/// The bytes behind a length of this width at `at`.
+pub(crate) fn counted(bytes: &[u8], at: usize, width: Width) -> Option<&[u8]>
+    requires { at < 2 ^ 28 }
+    ensures { Finds (λ found. found.now) result (counted_at (width_of width) bytes.now at) }
+{
+    let len = number(bytes, at, width)?;
+    range(bytes, at + width.bytes(), len as usize)
+}
+
+/// The words of the run at `at` behind its first, which counts itself too.
+pub(crate) fn run(bytes: &[u8], at: usize) -> Option<&[u8]>
+    requires { at < 2 ^ 28 }
+    ensures found { Finds (λ found. words (length found.now / 4) found.now) result
+        (run_at bytes.now at) }
+    ensures counted { IfSome result (λ found. length found.now < 4 * (2 ^ 32 - 1)) }
+{
+    let count = number(bytes, at, Width::Four)?.checked_sub(1)?;
+    range(bytes, at + 4, 4 * count as usize)
+}
+
+/// The word with this index, counted from 0.
+pub(crate) fn word_at(bytes: &[u8], i: usize) -> u32
+    requires { i < length bytes.now / 4 }
+    ensures { result ≡ slice_index (words (length bytes.now / 4) bytes.now) i }
+{
+    let x = &bytes[4 * i..];
+    u32::from_le_bytes([x[0], x[1], x[2], x[3]])
+}
