@@ -16,7 +16,8 @@ const CHANGES: [Call; 7] = [
     Call::Remove(b"new"),
 ];
 
-// What a crash may leave behind these changes of one file `old`: five maps of names, and three fillings.
+// What a crash may leave behind these changes of one file `old`: five maps of names, and three
+// fillings.
 #[rattlefmt::skip]
 const IMAGES: [&'static [u8]; 16] = [
     b"old=1;",
