@@ -32,7 +32,7 @@ pub(crate) enum Field {
 
 /// What a value has to be.
 #[derive(Clone, Copy)]
-pub(crate) enum Kind {
+pub enum Kind {
     /// A package's name.
     PackageName,
     /// A version.

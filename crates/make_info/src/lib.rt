@@ -11,6 +11,7 @@ mod output;
 mod writing;
 
 pub use fault::MakeFault;
+pub use field::Kind;
 pub use information::{Information, read_information};
 pub use output::{
     a_package_with_information_has_an_output, an_index_has_an_output, an_output_is_short,

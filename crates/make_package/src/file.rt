@@ -37,7 +37,7 @@ pub(crate) struct File<'a> {
 
 /// What the bytes of a file are in a package (apk-package(5)).
 #[derive(Drop)]
-pub(crate) enum FileKind {
+pub enum FileKind {
     /// A symbolic link: what its field `target` holds.
     Link { target: Text },
     /// A regular file: its size in bytes, and its SHA-256.

@@ -14,4 +14,5 @@ mod reading;
 mod writing;
 
 pub use assembly::the_installed_size_is_that_of_the_contents;
+pub use file::FileKind;
 pub use making::make;
