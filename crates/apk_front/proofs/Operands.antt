@@ -13,7 +13,7 @@ use Rattle.base_core.specs.Tree.{TreeState, files_of}
 use Rattle.command_core.specs.Applets.{needed_option, operand_rule, version_operands as version_rule}
 use Rattle.command_core.specs.Sound.{may_have, value_rules, IsCommand, are_operands, are_values}
 use Rattle.command_core.specs.Command.{CommandLine}
-use Rattle.command_core.specs.Files.{is_file, without_dot}
+use Rattle.command_core.specs.Files.{without_dot}
 use Rattle.command_core.specs.Named.{are_files, operand_file}
 use Rattle.command_core.specs.Operands.{at_least, exactly, is_of_kind}
 use Rattle.command_core.specs.Values.{lacks_value}

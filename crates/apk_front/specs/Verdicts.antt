@@ -1,5 +1,5 @@
 -- What a run is judged to come to, and how that is printed.
-use Rattle.std.specs.Prelude.{◌≡◌, ◌⊎◌, List, [], Option, Some, None, Result, Ok, Err}
+use Rattle.std.specs.Prelude.{◌≡◌, ◌⊎◌, [], Option, Some, None, Result, Ok, Err}
 use Rattle.base_core.specs.Files.{Files}
 use Rattle.base_core.specs.Sink.{SinkChange, Gets, GetsSome, SinkFailed}
 use Rattle.base_core.specs.declared.tree.TreeFault.{TreeFault}
