@@ -1,6 +1,6 @@
 -- The lines of a value, by what its word reads as.
 use Rattle.std.proofs.Common.{◌≡◌, ℕ, Bool, true, false, cond, eqb, List, [], ◌∷◌, ◌++◌, Option, Some, None, option_map, Result, Ok, Err, refl, sym, ap, ◌∙◌}
-use Rattle.std.specs.Prelude.{◌==◌, ◌&&◌, if◌then◌else◌, is_some, codes}
+use Rattle.std.specs.Prelude.{◌&&◌, is_some, codes}
 use Rattle.std.specs.Fmt.{decimal}
 use Rattle.hex.specs.Hex.{encode_lower}
 use Rattle.adb_view.specs.Plain.{Plain, null, int, blob, arr, obj, Plains, none, more, Shape, number, text, hash, array, object, Fields, no_fields, field, keep, without_last_nulls, blob_value, arr_value, obj_of, obj_value, unless_null, from_answer, then_more, each_plain, plain_of, plains_of}

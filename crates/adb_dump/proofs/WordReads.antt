@@ -1,16 +1,15 @@
 -- The plain values of words, in terms of what the readers of a word answer.
 use Rattle.std.proofs.Common.{◌≡◌, ℕ, Bool, true, false, cond, eqb, List, [], ◌∷◌, Option, Some, None, option_map, Result, Ok, Err, refl, sym, ap, ◌∙◌, inl, inr, ◌⊎◌}
-use Rattle.std.specs.Prelude.{is_some, unwrap_or, ◌==◌, if◌then◌else◌}
+use Rattle.std.specs.Prelude.{is_some, unwrap_or}
 use Rattle.std.proofs.lemmas.Bool.{eqb-true}
-use Rattle.adb_view.specs.Plain.{Plain, null, int, Plains, none, Shape, array, object, Fields, no_fields, field, blob_value, arr_value, obj_value, unless_null, from_answer, each_plain, plain_of, plains_of}
-use Rattle.adb_view.specs.Readers.{int_of, blob_of, run_of, ARRAY, OBJECT}
+use Rattle.adb_view.specs.Plain.{Plain, null, int, Plains, none, object, Fields, no_fields, field, blob_value, obj_value, unless_null, from_answer, plain_of, plains_of}
+use Rattle.adb_view.specs.Readers.{int_of, blob_of, run_of, OBJECT}
 use Rattle.adb_tables.specs.Schema.{table, schema_number, shape_of, shapes_of}
-use Rattle.adb_fields.specs.Fields.{are_all_sound, values_at}
 use Rattle.adb_tables.specs.Values.{int_in, is_sound, text_in, value_at}
 use Rattle.base_core.specs.declared.cause.Cause.{Cause}
 use Rattle.adb_tables.specs.declared.tables.Which.{Which}
 use Rattle.adb_tables.specs.declared.tables.Which.TheVariants.{Dep, Acl, PkgInfo, File, Dir, Scripts, Package, Index, Idb, Intent}
-use Rattle.adb_tables.specs.declared.tables.Kind.TheVariants.{Int, Text, Hash, Obj, TextArr, ObjArr}
+use Rattle.adb_tables.specs.declared.tables.Kind.TheVariants.{Int, Text, Hash, Obj}
 use Rattle.adb_dump.specs.Words.{fields_sound, fields_at, is_null}
 
 pub object_shape : (w : Which) → shape_of (Obj w) ≡ object (schema_number w) (shapes_of (table w))

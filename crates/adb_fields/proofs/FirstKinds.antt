@@ -89,7 +89,7 @@ texts_behind a b one two m e l h =
 pub one_package : (pkg : Plain) → or_else (repeated_at 501 (twice (map name_of (folders_in pkg)))) (repeated_at 401 (twice_in_one (map (λ folder. map name_of (files_in folder)) (folders_in pkg)))) ≡ inside_fault (pkg ∷ [])
 one_package pkg = λ i. or_else (repeated_at 501 (alone (map name_of (folders_in pkg)) i)) (repeated_at 401 (alone_several (map (λ folder. map name_of (files_in folder)) (folders_in pkg)) i))
 
--- ---- what is told of several lists is the first pair of all
+-- ---- what is reported of several lists is the first pair of all
 
 from-here : (names : List (List ℕ)) (others : List (List (List ℕ))) (p : Pair) → Either (IsPair (numbered_from 1 names)) (IsPairInOne others) p → IsPairInOne (names ∷ others) p
 from-here names others p (inl k) = record { names = names; names_in = inl refl; is_pair = k }

@@ -1,4 +1,4 @@
--- Small lists and containers, and what is told of them.
+-- Small lists and containers, and what is reported of them.
 use Rattle.std.proofs.Common.{◌≡◌, ℕ, List, [], ◌∷◌, Option, Some, None, refl, codes}
 use Rattle.base_core.specs.declared.cause.Cause.TheVariants.{Repeated}
 use Rattle.adb_view.specs.Plain.{Plain, null, blob, arr, obj, none, more}
@@ -76,7 +76,7 @@ two_files : repeated_fault Package (holds (codes "a") (two (folder (codes "u") n
 unfolding repeated_fault first_pair
 two_files = refl
 
--- folders are told before files
+-- folders are reported before files
 folders_and_files : repeated_fault Package (holds (codes "a") (two (folder (codes "u") (two (named (codes "f")) (named (codes "f")))) (folder (codes "u") null))) ≡ Some (Repeated 501 1 2)
 unfolding repeated_fault first_pair
 folders_and_files = refl

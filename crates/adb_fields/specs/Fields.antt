@@ -1,4 +1,4 @@
--- Words that stand in the place of a field or of an entry.
+-- Words that stand for a field or for an entry.
 use Rattle.std.specs.Prelude.{◌≡◌, ℕ, true, Bool, List, is_some, unwrap_or, Some}
 use Rattle.adb_view.specs.Plain.{Plain, Plains, none, arr_value, each_plain, plain_of}
 use Rattle.adb_tables.specs.Schema.{shape_of}

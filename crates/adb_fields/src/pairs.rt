@@ -29,7 +29,7 @@ pub(crate) struct Entry<'a> {
 }
 
 impl Pair {
-    /// Whether it is told rather than another: it has the smaller second position, or the same and
+    /// Whether it is reported rather than another: it has the smaller second position, or the same and
     /// the smaller first one.
     fn is_before(&self, other: &Pair) -> bool
         ensures { result ≡ is_before self.now other.now }
@@ -41,7 +41,7 @@ impl Pair {
     }
 }
 
-/// The one of two pairs that is told.
+/// The one of two pairs that is reported.
 pub(crate) fn earlier(one: Option<Pair>, other: Option<Pair>) -> Option<Pair>
     ensures { result ≡ earlier one other }
 {
@@ -123,7 +123,7 @@ fn compared_fronts(one: &[u8], other: &[u8], len: usize) -> Ordering
     front.cmp(&&other[..len])
 }
 
-/// The order of what is left of two names from a place on.
+/// The order of what is left of two names from this index on.
 fn compared_from(one: &Entry<'_>, other: &Entry<'_>, from: usize) -> Ordering
     ensures { result
         ≡ slice_cmp nat_cmp (drop from (named_by one.now).name)

@@ -15,7 +15,7 @@ use Rattle.adb_rules.specs.Texts.{Surroundings, Leaf, number_leaf, text_leaf, ke
 use Rattle.dep_core.specs.Value.{is_matching}
 use Rattle.adb_fields.specs.Paths.{path_of}
 use Rattle.adb_rules.specs.Rules.{is_file_name}
-use Rattle.adb_rules.specs.SoundValues.{IsDependency, IsInformation, IsFileOf, IsFolder, IsPackage, IsIndex, IsIntent, IsChangeName, KeepsRules}
+use Rattle.adb_rules.specs.SoundValues.{IsSoundDependency, IsInformation, IsFileOf, IsFolder, IsPackage, IsIndex, IsIntent, IsChangeName, KeepsRules}
 use Rattle.adb_rules.proofs.TextSteps.{first_bad-append, behind, behind-zero, nth-behind, behind-behind}
 
 abbrev pub Good : List Leaf → Type 0
@@ -124,7 +124,7 @@ parts_and false c e f = absurd cc
 
 -- ---- table by table, from the leaves and back to them
 
-dependency_of : (k : ℕ) (a : Surroundings) (v : Plain) → Good (leaves (shape_of (Obj Tables.Dep)) k a v) → IsDependency v
+dependency_of : (k : ℕ) (a : Surroundings) (v : Plain) → Good (leaves (shape_of (Obj Tables.Dep)) k a v) → IsSoundDependency v
 unfolding leaves shape_of text_rule
 dependency_of k a v g =
     let b : Surroundings = inside_of 1 a v in
@@ -135,20 +135,20 @@ dependency_of k a v g =
       matching = kept (is_matching (int_in (entry_in v 2))) (BadText 103) h.1.1.0;
     }
 
-of_dependency : (k : ℕ) (a : Surroundings) (v : Plain) → IsDependency v → Good (leaves (shape_of (Obj Tables.Dep)) k a v)
+of_dependency : (k : ℕ) (a : Surroundings) (v : Plain) → IsSoundDependency v → Good (leaves (shape_of (Obj Tables.Dep)) k a v)
 unfolding leaves shape_of text_rule
 of_dependency k a v d =
     let b : Surroundings = inside_of 1 a v in
     fields_good (shapes_of (table Tables.Dep)) 101 b (entries_in v)
     (kept_text 101 b (entry_in v 0) d.name, (kept_text 102 b (entry_in v 1) d.version, (good_if (is_matching (int_in (entry_in v 2))) (BadText 103) d.matching, tt)))
 
-dependencies_of : (k : ℕ) (a : Surroundings) (v : Plain) → Good (leaves (shape_of (ObjArr Tables.Dep)) k a v) → Each IsDependency (entries_in v)
+dependencies_of : (k : ℕ) (a : Surroundings) (v : Plain) → Good (leaves (shape_of (ObjArr Tables.Dep)) k a v) → Each IsSoundDependency (entries_in v)
 unfolding leaves shape_of
-dependencies_of k a v g = each_good IsDependency (leaves (shape_of (Obj Tables.Dep)) k a) (dependency_of k a) (entries_in v) g
+dependencies_of k a v g = each_good IsSoundDependency (leaves (shape_of (Obj Tables.Dep)) k a) (dependency_of k a) (entries_in v) g
 
-of_dependencies : (k : ℕ) (a : Surroundings) (v : Plain) → Each IsDependency (entries_in v) → Good (leaves (shape_of (ObjArr Tables.Dep)) k a v)
+of_dependencies : (k : ℕ) (a : Surroundings) (v : Plain) → Each IsSoundDependency (entries_in v) → Good (leaves (shape_of (ObjArr Tables.Dep)) k a v)
 unfolding leaves shape_of
-of_dependencies k a v d = good_each IsDependency (leaves (shape_of (Obj Tables.Dep)) k a) (of_dependency k a) (entries_in v) d
+of_dependencies k a v d = good_each IsSoundDependency (leaves (shape_of (Obj Tables.Dep)) k a) (of_dependency k a) (entries_in v) d
 
 -- texts without a rule are never bad
 plain_texts : (k : ℕ) (a : Surroundings) (v : Plain) → ((bytes : List ℕ) → text_rule k a bytes ≡ true) → Good (leaves (shape_of TextArr) k a v)

@@ -14,22 +14,22 @@ use Rattle.adb_rules.specs.Rules.{is_change_name, is_digest_length, is_digest_le
 use Rattle.adb_rules.specs.Texts.{is_package_hash, is_with_contents, may_list, needs_hash}
 
 -- a name, a version or none, and a number that is an operator
-pub record IsDependency (v : Plain) : Type 0 where
+pub record IsSoundDependency (v : Plain) : Type 0 where
   pub name : is_dep_name (text_in (entry_in v 0)) ≡ true
   pub version : is_version_or_empty (text_in (entry_in v 1)) ≡ true
   pub matching : is_matching (int_in (entry_in v 2)) ≡ true
 
--- what is told of a package, in a container with this table at its root: in an index it has its
+-- the information of a package, in a container with this table at its root: in an index it has its
 -- hash
 pub record IsInformation (root : Which) (v : Plain) : Type 0 where
   pub name : is_package_name (text_in (entry_in v 0)) ≡ true
   pub version : is_version (text_in (entry_in v 1)) ≡ true
   pub hash : is_package_hash root (length (text_in (entry_in v 2))) ≡ true
-  pub depends : Each IsDependency (entries_in (entry_in v 14))
-  pub provides : Each IsDependency (entries_in (entry_in v 15))
-  pub replaces : Each IsDependency (entries_in (entry_in v 16))
-  pub install_if : Each IsDependency (entries_in (entry_in v 17))
-  pub recommends : Each IsDependency (entries_in (entry_in v 18))
+  pub depends : Each IsSoundDependency (entries_in (entry_in v 14))
+  pub provides : Each IsSoundDependency (entries_in (entry_in v 15))
+  pub replaces : Each IsSoundDependency (entries_in (entry_in v 16))
+  pub install_if : Each IsSoundDependency (entries_in (entry_in v 17))
+  pub recommends : Each IsSoundDependency (entries_in (entry_in v 18))
 
 -- a file of the folder with this name; where it has contents, it has their hash, but in a database
 pub record IsFileOf (root : Which) (folder : List ℕ) (v : Plain) : Type 0 where
@@ -62,7 +62,7 @@ pub record IsIntent (v : Plain) : Type 0 where
 
 -- the value of a payload with this table at its root
 abbrev pub KeepsRules : Which → Plain → Type 0
-KeepsRules Dep v = IsDependency v
+KeepsRules Dep v = IsSoundDependency v
 KeepsRules Acl v = Unit {0}
 KeepsRules PkgInfo v = IsInformation PkgInfo v
 KeepsRules File v = IsFileOf File [] v

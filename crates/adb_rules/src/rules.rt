@@ -36,7 +36,7 @@ pub(crate) fn is_digest_length_or_none(len: usize) -> bool
     len == 0 || is_digest_length(len)
 }
 
-/// Whether so many bytes are what an index tells of a package: a SHA-256, or the first 20 bytes of
+/// Whether so many bytes are what an index says of a package: a SHA-256, or the first 20 bytes of
 /// one.
 pub(crate) fn is_id_length(len: usize) -> bool
     ensures { result ≡ is_id_length len }

@@ -8,7 +8,7 @@ ghost use Rattle.adb_fields.specs.Paths.{path_of};
 ghost use Rattle.adb_rules.specs.Surroundings.{surroundings_of};
 ghost use Rattle.adb_tables.specs.Shaped.{shaped_value, table_of};
 ghost use Rattle.adb_view.specs.Shaped.{Each};
-ghost use Rattle.adb_rules.specs.SoundValues.{IsChangeName, IsDependency, IsFileOf, IsFolder, IsInformation, IsPackage, KeepsRules};
+ghost use Rattle.adb_rules.specs.SoundValues.{IsChangeName, IsSoundDependency, IsFileOf, IsFolder, IsInformation, IsPackage, KeepsRules};
 ghost use Rattle.adb_rules.specs.Texts.{at_root, inside_of, is_file_hash, is_listed_file, is_package_hash, is_with_contents, may_list, needs_hash, number_rule, text_rule, each_leaf, field_leaves, first_bad, leaves, number_leaf, text_leaf, leaves_of, text_fault};
 ghost use Rattle.adb_rules.specs.FirstBad.{IsFirstBadOf};
 ghost use Rattle.adb_view.specs.Entries.{array_entries};
@@ -323,8 +323,8 @@ pub fn no_text_is_bad_where_each_keeps_its_rule()
 /// Each entry of a list keeps the rule that the list keeps. Entries count from 0.
 pub fn entries_keep_the_rule_of_their_list()
     ensures dependency { (list : Plain) (i : ℕ)
-        → Each IsDependency (entries_in list) → i < count_of (entries_in list)
-        → IsDependency (entry_in list i) }
+        → Each IsSoundDependency (entries_in list) → i < count_of (entries_in list)
+        → IsSoundDependency (entry_in list i) }
     ensures information { (root : Which) (list : Plain) (i : ℕ)
         → Each (IsInformation root) (entries_in list) → i < count_of (entries_in list)
         → IsInformation root (entry_in list i) }

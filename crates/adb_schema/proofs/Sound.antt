@@ -1,5 +1,5 @@
 -- A file without fault holds a sound value.
-use Rattle.std.proofs.Common.{◌≡◌, ℕ, Bool, true, false, List, [], ◌∷◌, drop, length, Option, Some, None, Result, Ok, Err, refl, ap, subst, ◌↔◌, ◌≤◌}
+use Rattle.std.proofs.Common.{◌≡◌, ℕ, Bool, true, false, List, drop, length, Option, Some, None, Result, Ok, Err, refl, ◌↔◌, ◌≤◌}
 use Rattle.std.specs.Prelude.{if◌then◌else◌, nat_lt, ◌||◌, ◌-◌, ◌==◌, is_some, is_none, unwrap_or, IfSome}
 use Rattle.base_core.specs.declared.cause.Cause.{Cause}
 use Rattle.adb_block.specs.declared.block.BlockKind.{BlockKind}

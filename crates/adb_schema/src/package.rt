@@ -133,7 +133,7 @@ impl<'a> FileInfo<'a> {
         text_field(self.adb, Which::File, self.word, 5)
     }
 
-    /// A place that is held.
+    /// A field that is kept free.
     pub fn unused(&self) -> u64
         ensures { result ≡ int_in (entry_in (file_value self.now) 6) }
     {
@@ -288,7 +288,7 @@ impl<'a> PackageView<'a> {
     ghost use Rattle.adb_schema.specs.Views.{info_value, package_value, scripts_value};
     ghost use Rattle.adb_fields.specs.ListValue.{list_value};
 
-    /// What is told of it.
+    /// Its information.
     pub fn info(&self) -> PkgInfo<'a>
         ensures { info_value result ≡ entry_in (package_value self.now) 0 }
     {

@@ -1,4 +1,4 @@
-//! Views of what is told of a package: its information and its dependencies.
+//! Views of a package's information and of dependencies.
 
 ghost use Rattle.std.specs.Prelude.{◌≡◌, true};
 ghost use Rattle.adb_view.specs.Adb.{payload_of};
@@ -58,7 +58,7 @@ impl<'a> DepView<'a> {
     }
 }
 
-/// What is told of a package.
+/// The information of a package.
 #[derive(Clone, Copy)]
 pub struct PkgInfo<'a> {
     adb: Adb<'a>,
@@ -242,7 +242,7 @@ impl<'a> PkgInfo<'a> {
         )
     }
 
-    /// A place that is held.
+    /// A field that is kept free.
     pub fn unused(&self) -> u64
         ensures { result ≡ int_in (entry_in (info_value self.now) 21) }
     {

@@ -1,4 +1,4 @@
--- The walk that counts tells the first faulty visit.
+-- The walk that counts reports the first faulty visit.
 use Rattle.std.proofs.Common.{◌≡◌, ℕ, zero, suc, ◌+◌, ◌<◌, Bool, true, false, cond, ltb, List, [], ◌∷◌, ◌++◌, length, Option, Some, None, Result, Ok, Err, refl, sym, ap, subst, ◌∙◌, arith, inl, inr, ◌⊎◌, zero-add, ◌≤◌, ◌&&◌, lit≤, ◌↔◌}
 use Rattle.std.proofs.lemmas.Bool.{ltb-false, le-ltb}
 use Rattle.std.specs.Prelude.{is_some, is_none, slice_get}
@@ -75,7 +75,7 @@ mutual
   fields_walk-counted p (field name s fs) n (w ∷ ws) =
       ap (λ r. r >>= λ m. fields_walk p fs m ws) (walk-counted p s n w) ∙ bind_same (counted p n (visits p s w)) _ _ (λ m. fields_walk-counted p fs m ws) ∙ sym (counted-append p n (visits p s w) (field_visits p fs ws))
 
--- going over them tells the first fault, and else how many there were
+-- going over them gives the first fault, and else how many there were
 cause_of-bind : (n : ℕ) (o : Option Cause) (f : ℕ → Result ℕ Cause) → cause_of (ok_unless n o >>= f) ≡ or_else o (cause_of (f n))
 cause_of-bind n None f = refl
 cause_of-bind n (Some c) f = refl

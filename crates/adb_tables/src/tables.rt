@@ -226,7 +226,7 @@ const PKGINFO_FIELDS: [Field; 22] = [
     field!(Unused: Kind::Int),
 ];
 
-/// What is told of a package.
+/// The information of a package.
 pub const PKGINFO: Schema<22> = Schema {
     number: 3,
     fields: PKGINFO_FIELDS,

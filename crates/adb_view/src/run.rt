@@ -51,7 +51,7 @@ impl<'a> Arr<'a> {
         self.len() == 0
     }
 
-    /// The entry at a place, counted from 1.
+    /// The entry with this index, counted from 1.
     pub fn get(&self, i: usize) -> Val
         requires from { 1 ≤ i }
         requires to { i ≤ length (array_entries self.now) }

@@ -145,7 +145,7 @@ pub(crate) fn run(bytes: &[u8], at: usize) -> Option<&[u8]>
     range(bytes, at + 4, 4 * count as usize)
 }
 
-/// The word at a place, counted from 0.
+/// The word with this index, counted from 0.
 pub(crate) fn word_at(bytes: &[u8], i: usize) -> u32
     requires { i < length bytes.now / 4 }
     ensures { result ≡ slice_index (words (length bytes.now / 4) bytes.now) i }

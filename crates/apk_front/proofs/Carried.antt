@@ -263,7 +263,7 @@ usage_reported words [] verdict is = tt
 usage_reported words (v ∷ rest) verdict is = (as_outcome (files_of v) verdict, is v, refl)
 
 -- an applet that does not make only reads
-only_reads_unless : (applet : Applet) → (applet ≡ Mkpkg → ⊥) → (applet ≡ Mkndx → ⊥) → does_only_read (effect_of applet) ≡ true
+pub only_reads_unless : (applet : Applet) → (applet ≡ Mkpkg → ⊥) → (applet ≡ Mkndx → ⊥) → does_only_read (effect_of applet) ≡ true
 only_reads_unless Mkpkg p i = absurd (p refl)
 only_reads_unless Mkndx p i = absurd (i refl)
 only_reads_unless other p i = refl

@@ -142,6 +142,13 @@ refused_run output report container why (Ok verdict) old now is same found refus
 refused_run output report container why (Err e) old now is same found refused =
     failed_at (λ v o. o ≡ make_outcome (files_of v) output report (made_in container)) false output (Err e) e old now refl same
 
+-- what is made is written
+pub written_made : (output : Option (List ℕ)) (report : List ℕ) (container : Container) (file : Vec ℕ Global) (bytes : List ℕ) (judged : Judged) (old now : History) → container ≡ Ok file → bytes ≡ file.items
+    → IfObservable old (λ v. IsRun (λ o. o ≡ make_outcome (files_of v) output report (Ok bytes)) false output judged v old now)
+    → IfObservable old (λ v. IsRun (λ o. o ≡ make_outcome (files_of v) output report (made_in container)) false output judged v old now)
+written_made output report container file bytes judged old now is same run =
+    subst (λ (r : Result (List ℕ) MakeFault). IfObservable old (λ v. IsRun (λ o. o ≡ make_outcome (files_of v) output report r) false output judged v old now)) (ap Ok same ∙ sym (ap made_in is)) run
+
 -- outcomes that what is made determines
 pub record AreOutcomes (Means : TreeState → Result (List ℕ) MakeFault → Type 0) (IsOne : Outcomes) (output : Option (List ℕ)) (report : List ℕ) : Type 0 where
   pub one : (v : TreeState) (answer : Result (List ℕ) MakeFault) → Means v answer → IsOne v (make_outcome (files_of v) output report answer)

@@ -9,3 +9,4 @@ pub mod Containers
 pub mod NothingFailed
 pub mod Carried
 pub mod Named
+pub mod Effects

@@ -1,5 +1,5 @@
 -- A report, and the line of a refusal behind it.
-use Rattle.std.proofs.Common.{◌≡◌, ◌≢◌, ◌⊎◌, inl, inr, ℕ, List, [], Option, Some, None, Err, refl, sym, ap, subst, ◌∙◌, append-nil}
+use Rattle.std.proofs.Common.{◌≡◌, ◌≢◌, ◌⊎◌, inl, inr, ℕ, List, [], Option, Some, None, Ok, Err, refl, sym, ap, subst, ◌∙◌, append-nil}
 use Rattle.base_core.specs.Files.{Files}
 use Rattle.base_core.specs.Sink.{Adds, AddsSome, SinkChange, Gets, GetsSome, SinkFailed}
 use Rattle.base_core.specs.Write.{Writes}
@@ -40,6 +40,11 @@ printed_behind (Some refusal) report files answer out err got kept (inl (is, get
 printed_behind (Some refusal) report files answer out err got kept (inr (is, gets, failed)) =
     subst (λ (a : Answer). IsPrinted (outcome_of (Some refusal) report files) a out err) (sym is)
     (record { which = inr (record { some = line_some refusal; failed = failed }, got, kept); out_gets = all_some out.bytes_before out.bytes_after report got; err_gets = gets })
+
+pub printed_whole : {T E : Type 0} (refusal : Option Refusal) (report bytes : List ℕ) (files : Files) (answer : Answer) (out err : SinkChange) (x : T) → bytes ≡ report → Writes {E = E} bytes out (Ok x)
+    → IsRefusalPrinted refusal answer err → IsPrinted (outcome_of refusal report files) answer out err
+printed_whole {T} {E} refusal report bytes files answer out err x is w printed =
+    printed_behind refusal report files answer out err (subst (Gets out) is w.ok) w.cause.kept printed
 
 -- the report was not written
 pub not_printed : (refusal : Option Refusal) (report : List ℕ) (files : Files) (out err : SinkChange) → report ≢ [] → GetsSome out report → SinkFailed out → err.bytes_after ≡ err.bytes_before → DidNotFail err → IsPrinted (outcome_of refusal report files) OutFault out err

@@ -24,7 +24,7 @@ use Rattle.make_info.specs.declared.field.Field.TheVariants as Fields
 use Rattle.make_info.specs.declared.field.Kind.{Kind}
 use Rattle.make_info.specs.declared.field.Kind.TheVariants as Kinds
 use Rattle.make_info.specs.Fields.{FieldValue, text, number, need, kind_of_field, values_by_kind, text_if, if_untagged}
-use Rattle.make_info.specs.FieldTexts.{FieldText, field_text_in, info_options, is_for, is_text_for, is_same, is_too_long}
+use Rattle.make_info.specs.FieldTexts.{FieldText, field_text_in, values_of_info, is_for, is_text_for, is_same, is_too_long}
 use Rattle.make_info.specs.Information.{InfoItem, all_items, first_offence, information_fields, information_value, information_of, is_item_for, info_item, item_value, items_of_text, items_of_option, lacks_name_or_version, value_of_list, need_value, number_in, offends, replaces_priority, plain_value, value_of_single, unless_offence, plains_for, with_values}
 use Rattle.make_info.specs.Values.{number_value}
 use Rattle.make_core.proofs.GoodValues.{IsGood, arr_good, hash_good, null_number, number_good, obj_good, text_good}
@@ -165,7 +165,7 @@ information_by told None false behind items ok is e =
 pub information_good : (values : List OptionValue) (behind : ℕ) (items : List InfoItem) → information_of values behind ≡ Ok items → IsInformation items
 unfolding information_of
 information_good values behind items e =
-    information_by (info_options values) (first_offence (is_too_long values) [] (info_options values)) (lacks_name_or_version (info_options values)) behind items (λ k. allowed (is_too_long values) [] (info_options values) k) refl e
+    information_by (values_of_info values) (first_offence (is_too_long values) [] (values_of_info values)) (lacks_name_or_version (values_of_info values)) behind items (λ k. allowed (is_too_long values) [] (values_of_info values) k) refl e
 
 -- ---- what is found of a field
 

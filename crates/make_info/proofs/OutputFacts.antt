@@ -18,7 +18,7 @@ use Rattle.make_info.specs.declared.field.Field.{Field}
 use Rattle.make_info.specs.declared.field.Field.TheVariants as Fields
 use Rattle.make_info.specs.Fields.{kind_of_field, values_by_kind, text_if}
 use Rattle.make_info.specs.declared.output.TheConstants.{LONGEST_OUTPUT}
-use Rattle.make_info.specs.FieldTexts.{FieldText, file_name_in, first_text_for, field_text_in, if_passes, info_options, is_for, is_text_for, is_info_option, is_too_long, package_name_in, named_output, default_output, package_file_name_of, text_when_for, package_version_in}
+use Rattle.make_info.specs.FieldTexts.{FieldText, file_name_in, first_text_for, field_text_in, if_passes, values_of_info, is_for, is_text_for, is_info_option, is_too_long, package_name_in, named_output, default_output, package_file_name_of, text_when_for, package_version_in}
 use Rattle.make_info.specs.Information.{InfoItem, all_items, first_offence, information, information_of, is_second, info_item, items_of_text, items_of_option, lacks_name_or_version, offends, unless_offence}
 use Rattle.make_info.specs.Output.{if_allowed, is_mkpkg, output_name, package_output}
 use Rattle.make_info.proofs.Outputs.{AreOutputs, allowed, by_offending, named_short, no_value, own_fits, unoffended}
@@ -108,9 +108,9 @@ module _ (f : Field) (is_good : List ℕ → Bool) (strict : IsStrict f is_good)
         by_field v before rest later (is_for f v) refl parts.0 parts.1 any more
     by_info v before rest later false none any more = more before none any
 
-    good_first : (before vs : List OptionValue) → first_offence too_long before (info_options vs) ≡ None → list_any (is_for f) (info_options vs) ≡ true → is_some (option_and_then (if_passes is_good) (first_text_for f vs)) ≡ true
+    good_first : (before vs : List OptionValue) → first_offence too_long before (values_of_info vs) ≡ None → list_any (is_for f) (values_of_info vs) ≡ true → is_some (option_and_then (if_passes is_good) (first_text_for f vs)) ≡ true
     good_first before [] none any = cc
-    good_first before (v ∷ vs) none any = by_info v before (info_options vs) (first_text_for f vs) (is_info_option v) none any (λ earlier n a. good_first earlier vs n a)
+    good_first before (v ∷ vs) none any = by_info v before (values_of_info vs) (first_text_for f vs) (is_info_option v) none any (λ earlier n a. good_first earlier vs n a)
 
 both_there : (name version : Option (List ℕ)) → is_some name ≡ true → is_some version ≡ true → is_some (package_file_name_of name version) ≡ true
 both_there None version n v = cc
@@ -133,7 +133,7 @@ told_all (Some place) otherwise h = cc
 own_there : (values : List OptionValue) (behind : ℕ) → is_ok (information_of values behind) ≡ true → is_some (default_output values) ≡ true
 unfolding information_of
 own_there values behind h =
-    let told = info_options values in
+    let told = values_of_info values in
     let none = unoffended values behind h in
     let given = not_lacking (list_any (is_for Fields.Name) told) (list_any (is_for Fields.Version) told) behind (all_items told) (told_all (first_offence (is_too_long values) [] told) (if lacks_name_or_version told then Err behind else Ok (all_items told)) h) in
     both_there (package_name_in values) (package_version_in values)

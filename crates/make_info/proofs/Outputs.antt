@@ -14,7 +14,7 @@ use Rattle.command_core.specs.declared.values.OptionValue.{OptionValue}
 use Rattle.make_info.specs.declared.field.Field.{Field}
 use Rattle.make_info.specs.declared.field.Field.TheVariants as Fields
 use Rattle.make_info.specs.declared.output.TheConstants.{LONGEST_OUTPUT}
-use Rattle.make_info.specs.FieldTexts.{FieldText, file_name_in, first_text_for, field_text_in, if_passes, info_options, is_for, is_text_for, is_info_option, is_long_name, is_too_long, package_name_in, named_output, default_output, package_file_name_of, text_for, text_when_for}
+use Rattle.make_info.specs.FieldTexts.{FieldText, file_name_in, first_text_for, field_text_in, if_passes, values_of_info, is_for, is_text_for, is_info_option, is_long_name, is_too_long, package_name_in, named_output, default_output, package_file_name_of, text_for, text_when_for}
 use Rattle.make_info.specs.Information.{InfoItem, all_items, first_offence, information, information_of, is_second, items_of_option, lacks_name_or_version, offends, unless_offence}
 use Rattle.make_info.specs.Output.{if_allowed, is_mkpkg, output_name, package_output}
 use Rattle.make_info.proofs.FileNames.{HaveVersionBytes, own_file_name}
@@ -91,11 +91,11 @@ version_later done rest v true h =
     (done ++ v ∷ [], (by_offending (offends true done v) v.place (first_offence true (done ++ v ∷ []) rest) h).1)
 version_later done rest v false h = (done, h)
 
-no_version : (done vs : List OptionValue) → first_offence true done (info_options vs) ≡ None → first_text_for Fields.Version vs ≡ None
+no_version : (done vs : List OptionValue) → first_offence true done (values_of_info vs) ≡ None → first_text_for Fields.Version vs ≡ None
 no_version done [] h = refl
 no_version done (v ∷ vs) h =
-    let more = version_later done (info_options vs) v (is_info_option v) h in
-    none_or (text_for Fields.Version v) (first_text_for Fields.Version vs) (version_here done (info_options vs) v (is_info_option v) h) (no_version more.0 vs more.1)
+    let more = version_later done (values_of_info vs) v (is_info_option v) h in
+    none_or (text_for Fields.Version v) (first_text_for Fields.Version vs) (version_here done (values_of_info vs) v (is_info_option v) h) (no_version more.0 vs more.1)
 
 no_file : (name : Option (List ℕ)) → package_file_name_of name None ≡ None
 no_file None = refl
@@ -105,10 +105,10 @@ pub first_is_none : (o : Option ℕ) (otherwise : Result (List InfoItem) ℕ) �
 first_is_none None otherwise h = refl
 first_is_none (Some place) otherwise h = cc
 
-pub unoffended : (values : List OptionValue) (behind : ℕ) → is_ok (information_of values behind) ≡ true → first_offence (is_too_long values) [] (info_options values) ≡ None
+pub unoffended : (values : List OptionValue) (behind : ℕ) → is_ok (information_of values behind) ≡ true → first_offence (is_too_long values) [] (values_of_info values) ≡ None
 unfolding information_of
 unoffended values behind h =
-    first_is_none (first_offence (is_too_long values) [] (info_options values)) (cond (lacks_name_or_version (info_options values)) (Err behind) (Ok (all_items (info_options values)))) h
+    first_is_none (first_offence (is_too_long values) [] (values_of_info values)) (cond (lacks_name_or_version (values_of_info values)) (Err behind) (Ok (all_items (values_of_info values)))) h
 
 some_none : (o : Option (List ℕ)) (file : List ℕ) → o ≡ Some file → o ≡ None → ⊥
 some_none None file h k = cc
@@ -120,7 +120,7 @@ no_own_file values h =
 
 fits_by : (values : List OptionValue) (behind : ℕ) (file : List ℕ) (b : Bool) → is_too_long values ≡ b → is_ok (information_of values behind) ≡ true → named_output values ≡ None → default_output values ≡ Some file → length file ≤ LONGEST_OUTPUT
 fits_by values behind file true t h n o =
-    let first : first_offence true [] (info_options values) ≡ None = ap (λ b. first_offence b [] (info_options values)) (sym t) ∙ unoffended values behind h in
+    let first : first_offence true [] (values_of_info values) ≡ None = ap (λ b. first_offence b [] (values_of_info values)) (sym t) ∙ unoffended values behind h in
     absurd (some_none (default_output values) file o (no_own_file values (no_version [] values first)))
 fits_by values behind file false t h n o =
     let short : nat_lt LONGEST_OUTPUT (length file) ≡ false =

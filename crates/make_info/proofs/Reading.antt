@@ -16,7 +16,7 @@ use Rattle.make_info.specs.declared.field.Field.TheVariants as Fields
 use Rattle.make_info.specs.declared.field.Kind.{Kind}
 use Rattle.make_info.specs.declared.field.Kind.TheVariants as Kinds
 use Rattle.make_info.specs.Fields.{FieldValue, text, number, value_of_digits, field_word, fields, is_list, kind_of_field, field_among, decimal_number, values_by_kind, text_if}
-use Rattle.make_info.specs.FieldTexts.{FieldText, field_text_in, info_options, is_for, is_text_for, is_same, is_too_long}
+use Rattle.make_info.specs.FieldTexts.{FieldText, field_text_in, values_of_info, is_for, is_text_for, is_same, is_too_long}
 use Rattle.make_info.specs.Information.{InfoItem, all_items, first_offence, information_of, is_item_for, repeats_field, info_item, items_of_text, items_of_option, lacks_name_or_version, offends, unless_offence, with_values}
 use Rattle.make_info.specs.Reading.{has_no_name_or_version, items_with, items_with_text}
 
@@ -192,17 +192,17 @@ one_refused too_long told rest v said r h =
 
 -- ---- the information of all values
 
-pub refused_at : (values : List OptionValue) (behind : ℕ) (too_long : Bool) (place : ℕ) → too_long ≡ is_too_long values → first_offence too_long [] (info_options values) ≡ Some place → information_of values behind ≡ Err place
+pub refused_at : (values : List OptionValue) (behind : ℕ) (too_long : Bool) (place : ℕ) → too_long ≡ is_too_long values → first_offence too_long [] (values_of_info values) ≡ Some place → information_of values behind ≡ Err place
 unfolding information_of
 refused_at values behind too_long place e h =
-    let told = info_options values in
+    let told = values_of_info values in
     ap (λ t. unless_offence (first_offence t [] told) (cond (lacks_name_or_version told) (Err behind) (Ok (all_items told)))) (sym e)
     ∙ ap (λ o. unless_offence o (cond (lacks_name_or_version told) (Err behind) (Ok (all_items told)))) h
 
-all_read : (values : List OptionValue) (behind : ℕ) (too_long : Bool) (said : List InfoItem) → too_long ≡ is_too_long values → IsReadTo too_long (info_options values) [] said → information_of values behind ≡ cond (has_no_name_or_version said) (Err behind) (Ok said)
+all_read : (values : List OptionValue) (behind : ℕ) (too_long : Bool) (said : List InfoItem) → too_long ≡ is_too_long values → IsReadTo too_long (values_of_info values) [] said → information_of values behind ≡ cond (has_no_name_or_version said) (Err behind) (Ok said)
 unfolding information_of
 all_read values behind too_long said e r =
-    let told = info_options values in
+    let told = values_of_info values in
     let done : r.done ≡ told = sym (append-nil r.done) ∙ r.whole in
     let named : is_some (find (is_item_for Fields.Name) said) ≡ list_any (is_for Fields.Name) told = r.fresh Fields.Name refl ∙ ap (list_any (is_for Fields.Name)) done in
     let versioned : is_some (find (is_item_for Fields.Version) said) ≡ list_any (is_for Fields.Version) told = r.fresh Fields.Version refl ∙ ap (list_any (is_for Fields.Version)) done in
@@ -212,10 +212,10 @@ all_read values behind too_long said e r =
     ∙ (ap (λ b. cond b (Err behind) (Ok (all_items told))) lacking
     ∙ ap (λ s. cond (has_no_name_or_version said) (Err behind) (Ok s)) (ap all_items (sym done) ∙ sym r.all)))
 
-pub lacking_at : (values : List OptionValue) (behind : ℕ) (too_long : Bool) (said : List InfoItem) → too_long ≡ is_too_long values → IsReadTo too_long (info_options values) [] said → has_no_name_or_version said ≡ true → information_of values behind ≡ Err behind
+pub lacking_at : (values : List OptionValue) (behind : ℕ) (too_long : Bool) (said : List InfoItem) → too_long ≡ is_too_long values → IsReadTo too_long (values_of_info values) [] said → has_no_name_or_version said ≡ true → information_of values behind ≡ Err behind
 lacking_at values behind too_long said e r l =
     all_read values behind too_long said e r ∙ ap (λ b. cond b (Err behind) (Ok said)) l
 
-pub read_whole : (values : List OptionValue) (behind : ℕ) (too_long : Bool) (said : List InfoItem) → too_long ≡ is_too_long values → IsReadTo too_long (info_options values) [] said → has_no_name_or_version said ≡ false → information_of values behind ≡ Ok said
+pub read_whole : (values : List OptionValue) (behind : ℕ) (too_long : Bool) (said : List InfoItem) → too_long ≡ is_too_long values → IsReadTo too_long (values_of_info values) [] said → has_no_name_or_version said ≡ false → information_of values behind ≡ Ok said
 read_whole values behind too_long said e r l =
     all_read values behind too_long said e r ∙ ap (λ b. cond b (Err behind) (Ok said)) l

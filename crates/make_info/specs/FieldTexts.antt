@@ -47,8 +47,8 @@ abbrev pub is_info_option : OptionValue → Bool
 is_info_option v = v.letter == INFO
 
 -- the values of `-I`, in the order given
-abbrev pub info_options : List OptionValue → List OptionValue
-info_options values = filter is_info_option values
+abbrev pub values_of_info : List OptionValue → List OptionValue
+values_of_info values = filter is_info_option values
 
 abbrev pub text_when_for : Field → Option FieldText → Option (List ℕ)
 text_when_for f None = None

@@ -9,7 +9,7 @@ use Rattle.dep_core.specs.Value.{DepValue, dep_value}
 use Rattle.make_info.specs.declared.field.Field.{Field}
 use Rattle.make_info.specs.declared.field.Field.TheVariants as Fields
 use Rattle.make_info.specs.Fields.{FieldValue, text, number, need, is_list, kind_of_field, values_by_kind}
-use Rattle.make_info.specs.FieldTexts.{FieldText, field_text_in, info_options, is_for, is_same, is_too_long}
+use Rattle.make_info.specs.FieldTexts.{FieldText, field_text_in, values_of_info, is_for, is_same, is_too_long}
 use Rattle.make_info.specs.Values.{number_value, size_value}
 
 -- A field with a value. An information is the list of all of them, in the order given: of a list
@@ -75,7 +75,7 @@ unless_offence (Some place) otherwise = Err place
 -- value, or the one behind the last argument where the name or the version is lacking
 unfoldable pub information_of : List OptionValue → ℕ → Result (List InfoItem) ℕ
 information_of values behind =
-    let own = info_options values in
+    let own = values_of_info values in
     unless_offence (first_offence (is_too_long values) [] own)
     (if lacks_name_or_version own then Err behind else Ok (all_items own))
 

@@ -95,12 +95,14 @@ script_name vs i v name at e =
 -- and that of the option for a folder names one
 pub folder_file : (vs : List OptionValue) → are_values (value_rules Mkpkg) vs ≡ true → IfSome (first_value FILES vs) (λ v. is_file v.text ≡ true)
 folder_file [] h = tt
-folder_file (u ∷ us) h = by_letter (eqb u.letter FILES) refl
+folder_file (u ∷ us) h = by_letter (eqb u.letter FILES) refl (folder_file us (first_two (value_rules Mkpkg) u us h).1)
   where
-    by_letter : (b : Bool) → eqb u.letter FILES ≡ b → IfSome (cond b (Some u) (first_value FILES us)) (λ v. is_file v.text ≡ true)
-    by_letter true t =
-        subst (λ (l : ℕ). is_value_by (rule_for (value_rules Mkpkg) l) u.text ≡ true) (eqb-true u.letter FILES t) (first_two (value_rules Mkpkg) u us h).0
-    by_letter false t = folder_file us (first_two (value_rules Mkpkg) u us h).1
+    by_letter : (b : Bool) → eqb u.letter FILES ≡ b → IfSome (first_value FILES us) (λ v. is_file v.text ≡ true) → IfSome (cond b (Some u) (first_value FILES us)) (λ v. is_file v.text ≡ true)
+    by_letter true t rest =
+        let good : is_value_by (rule_for (value_rules Mkpkg) FILES) u.text ≡ true =
+            subst (λ (l : ℕ). is_value_by (rule_for (value_rules Mkpkg) l) u.text ≡ true) (eqb-true u.letter FILES t) (first_two (value_rules Mkpkg) u us h).0 in
+        good
+    by_letter false t rest = rest
 
 -- ---- the first value of an option
 

@@ -18,7 +18,7 @@ use Rattle.adb_tables.specs.declared.tables.Kind.TheVariants.{Obj}
 use Rattle.adb_schema.specs.Soundness.{blocks_fault, file_fault, file_pair, first_payload, payload_behind, payload_fault, payload_in, root_value, schema_fault}
 use Rattle.adb_tables.specs.declared.tables.Which.TheVariants.{Package}
 use Rattle.pkg_core.specs.Contents as C
-use Rattle.pkg_core.specs.Contents.{Expected, Files, contents_bytes, contents_by, contents_fault, contents_in, expected_contents, fault_in, files_by_blocks, hash_fault}
+use Rattle.pkg_core.specs.Contents.{Expected, FilesRead, contents_bytes, contents_by, contents_fault, contents_in, expected_contents, fault_in, files_by_blocks, hash_fault}
 use Rattle.pkg_core.specs.GoodContents.{AreContentsOf, AreTrueTo, IsContentsOf}
 use Rattle.pkg_core.proofs.Digests.{texts_give_digests, true_contents, TellsFirst}
 use Rattle.pkg_core.specs.Whole.{behind_fault, files_behind, files_by_header, files_in_file, package_fault, package_with_contents, whole_fault}
@@ -40,26 +40,26 @@ block_whole : (short : Bool) (c : Cause) (o : Option Cause) → (if short then S
 block_whole true c o h = (cc)
 block_whole false c o h = h
 
-record Passed (o : Option Cause) (files : Files) : Type 0 where
+record Passed (o : Option Cause) (files : FilesRead) : Type 0 where
   passes : o ≡ None
   further : fault_in files ≡ None
   same : C.unless_fault o files ≡ files
 
-passed : (o : Option Cause) (files : Files) → fault_in (C.unless_fault o files) ≡ None → Passed o files
+passed : (o : Option Cause) (files : FilesRead) → fault_in (C.unless_fault o files) ≡ None → Passed o files
 passed None files h = record { passes = refl; further = h; same = refl }
 passed (Some c) files h = (cc)
 
-block_given : (payload : List ℕ) (at : ℕ) (further : List Expected → Files) → ((left : List Expected) → fault_in (further left) ≡ None → AreContentsOf left (contents_in (further left))) → (es : List Expected) → Passed (C.contents_block_fault payload at es) (C.with_next payload further es) → AreContentsOf es (contents_in (C.with_next payload further es))
+block_given : (payload : List ℕ) (at : ℕ) (further : List Expected → FilesRead) → ((left : List Expected) → fault_in (further left) ≡ None → AreContentsOf left (contents_in (further left))) → (es : List Expected) → Passed (C.contents_block_fault payload at es) (C.with_next payload further es) → AreContentsOf es (contents_in (C.with_next payload further es))
 block_given payload at further ih [] p = absurd (let e = block_whole (nat_lt (length payload) 8) (Truncated at) (C.next_fault payload []) p.passes in (cc))
 block_given payload at further ih (e ∷ es) p =
     (file_right payload e (block_whole (nat_lt (length payload) 8) (Truncated at) (C.next_fault payload (e ∷ es)) p.passes), ih es p.further)
 
-block_right : (kind : BlockKind) (payload : List ℕ) (at : ℕ) (further : List Expected → Files) → ((left : List Expected) → fault_in (further left) ≡ None → AreContentsOf left (contents_in (further left))) → (es : List Expected) → fault_in (C.files_at_block kind payload at further es) ≡ None → AreContentsOf es (contents_in (C.files_at_block kind payload at further es))
+block_right : (kind : BlockKind) (payload : List ℕ) (at : ℕ) (further : List Expected → FilesRead) → ((left : List Expected) → fault_in (further left) ≡ None → AreContentsOf left (contents_in (further left))) → (es : List Expected) → fault_in (C.files_at_block kind payload at further es) ≡ None → AreContentsOf es (contents_in (C.files_at_block kind payload at further es))
 block_right Kinds.Adb payload at further ih es h = ih es h
 block_right Kinds.Signature payload at further ih es h = ih es h
 block_right Kinds.Contents payload at further ih es h =
     let p = passed (C.contents_block_fault payload at es) (C.with_next payload further es) h in
-    let A : Files → Type 0 = λ files. AreContentsOf es (contents_in files) in
+    let A : FilesRead → Type 0 = λ files. AreContentsOf es (contents_in files) in
     subst A (sym p.same) (block_given payload at further ih es p)
 
 none_expected : (es : List Expected) → fault_in (C.unless_fault (C.missing_fault es) C.no_more) ≡ None → AreContentsOf es (contents_in (C.unless_fault (C.missing_fault es) C.no_more))

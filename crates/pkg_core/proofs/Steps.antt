@@ -8,7 +8,7 @@ use Rattle.adb_tables.specs.Walk.{or_else}
 use Rattle.adb_schema.specs.Soundness.{blocks_fault, file_fault, first_fault, payload_fault, rest_fault, schema_fault}
 use Rattle.adb_tables.specs.declared.tables.Which.{Which}
 use Rattle.adb_tables.specs.declared.tables.Which.TheVariants.{Dep, Acl, PkgInfo, File, Dir, Scripts, Package, Index, Idb, Intent}
-use Rattle.pkg_core.specs.Contents.{Files, fault_in}
+use Rattle.pkg_core.specs.Contents.{FilesRead, fault_in}
 use Rattle.pkg_core.specs.Whole.{behind_fault, files_behind, files_by_header, files_in_file, package_fault, whole_fault}
 
 -- a container without contents is tested whole as its values are read
@@ -26,7 +26,7 @@ other_fault Idb file h = refl
 other_fault Intent file h = refl
 
 -- of a package, the tests of what stands behind its values come last
-tests_then : (payload : Option Cause) (files : Files) → or_else payload None ≡ None → or_else payload (fault_in files) ≡ fault_in files
+tests_then : (payload : Option Cause) (files : FilesRead) → or_else payload None ≡ None → or_else payload (fault_in files) ≡ fault_in files
 tests_then None files h = refl
 tests_then (Some c) files h = (cc)
 

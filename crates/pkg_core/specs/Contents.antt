@@ -1,5 +1,5 @@
 -- Which files of a package have contents, and what stands for them in the blocks behind its values.
-use Rattle.std.specs.Prelude.{◌≡◌, ◌⊎◌, ℕ, ◌+◌, ◌==◌, nat_lt, Bool, true, bytes_eq, not, ◌&&◌, if◌then◌else◌, List, [], ◌∷◌, ◌++◌, length, drop, Option, Some, None}
+use Rattle.std.specs.Prelude.{ℕ, ◌+◌, ◌==◌, nat_lt, Bool, bytes_eq, not, ◌&&◌, if◌then◌else◌, List, [], ◌∷◌, ◌++◌, length, drop, Option, Some, None}
 use Rattle.sha1.specs.Sha1.{sha1}
 use Rattle.sha2.specs.Sha256.{sha256}
 use Rattle.sha2.specs.Sha512.{sha512}
@@ -106,40 +106,40 @@ pub record Contents : Type 0 where
   pub bytes : List ℕ
 
 -- the files with their contents, one after the other, up to the last or to the first failed test
-pub data Files : Type 0 where
-  no_more : Files
-  refused : Cause → Files
-  given : Contents → Files → Files
+pub data FilesRead : Type 0 where
+  no_more : FilesRead
+  refused : Cause → FilesRead
+  given : Contents → FilesRead → FilesRead
 
-abbrev pub unless_fault : Option Cause → Files → Files
+abbrev pub unless_fault : Option Cause → FilesRead → FilesRead
 unless_fault None files = files
 unless_fault (Some c) files = refused c
 
 abbrev pub contents_by : List ℕ → Expected → Contents
 contents_by payload e = record { folder = e.folder; file = e.file; bytes = contents_bytes payload }
 
-abbrev pub with_next : List ℕ → (List Expected → Files) → List Expected → Files
+abbrev pub with_next : List ℕ → (List Expected → FilesRead) → List Expected → FilesRead
 with_next payload further [] = no_more
 with_next payload further (e ∷ es) = given (contents_by payload e) (further es)
 
-abbrev pub files_at_block : BlockKind → List ℕ → ℕ → (List Expected → Files) → List Expected → Files
+abbrev pub files_at_block : BlockKind → List ℕ → ℕ → (List Expected → FilesRead) → List Expected → FilesRead
 files_at_block Kinds.Contents payload at further es =
     unless_fault (contents_block_fault payload at es) (with_next payload further es)
 files_at_block kind payload at further es = further es
 
 -- what the blocks give, of the files that are expected
-unfoldable pub files_by_blocks : List Expected → Reading → Files
+unfoldable pub files_by_blocks : List Expected → Reading → FilesRead
 files_by_blocks es done = unless_fault (missing_fault es) no_more
 files_by_blocks es (fault c) = refused c
 files_by_blocks es (more b at r) =
     files_at_block b.kind b.payload at (λ left. files_by_blocks left r) es
 
-abbrev pub fault_in : Files → Option Cause
+abbrev pub fault_in : FilesRead → Option Cause
 fault_in no_more = None
 fault_in (refused c) = Some c
 fault_in (given contents files) = fault_in files
 
-abbrev pub contents_in : Files → List Contents
+abbrev pub contents_in : FilesRead → List Contents
 contents_in no_more = []
 contents_in (refused c) = []
 contents_in (given contents files) = contents ∷ contents_in files

@@ -7,7 +7,7 @@ use Rattle.adb_tables.specs.Values.{entries_in}
 use Rattle.adb_schema.specs.Checked.{checked_value}
 use Rattle.adb_fields.specs.ListValue.{list_value}
 use Rattle.adb_fields.specs.Repeated.{list_of, files_in}
-use Rattle.pkg_core.specs.Contents.{Expected, Contents, Files, no_more, refused, given, expected_files, expected_folders, files_by_blocks, contents_by, contents_block_fault}
+use Rattle.pkg_core.specs.Contents.{Expected, Contents, FilesRead, no_more, refused, given, expected_files, expected_folders, files_by_blocks, contents_by, contents_block_fault}
 use Rattle.pkg_core.specs.declared.pack.Package.{Package}
 use Rattle.pkg_core.specs.declared.walk.Walk.{Walk}
 use Rattle.pkg_core.specs.declared.walk.Wanted.{Wanted}
@@ -19,7 +19,7 @@ contents_view f = record { folder = f.path; file = f.file; bytes = f.bytes.now }
 
 -- the next file, and then those behind it; None where there is no more; or the first failed test,
 -- which is told from then on
-abbrev pub IsNextFile : Files → Result (Option FileContents) Cause → Files → Type 0
+abbrev pub IsNextFile : FilesRead → Result (Option FileContents) Cause → FilesRead → Type 0
 IsNextFile before (Ok None) after = (before ≡ no_more) × (after ≡ no_more)
 IsNextFile before (Ok (Some f)) after = before ≡ given (contents_view f) after
 IsNextFile before (Err c) after = (before ≡ refused c) × (after ≡ refused c)
@@ -47,16 +47,16 @@ TakesFirst before (Some w) after = before ≡ expected_of w ∷ after
 
 -- ---- the blocks with it
 
-abbrev pub files_left : Rest → Files
+abbrev pub files_left : Rest → FilesRead
 files_left rest = files_by_blocks (left_in rest.walk) (reading_of rest.blocks)
 
 -- after a refusal that refusal alone
-abbrev pub unless_refused : Option Cause → Files → Files
+abbrev pub unless_refused : Option Cause → FilesRead → FilesRead
 unless_refused None files = files
 unless_refused (Some c) files = refused c
 
 -- as IsNextFile, but for what comes after a refusal
-abbrev pub ReadsNext : Files → Result (Option FileContents) Cause → Files → Type 0
+abbrev pub ReadsNext : FilesRead → Result (Option FileContents) Cause → FilesRead → Type 0
 ReadsNext before (Ok None) after = (before ≡ no_more) × (after ≡ no_more)
 ReadsNext before (Ok (Some f)) after = before ≡ given (contents_view f) after
 ReadsNext before (Err c) after = before ≡ refused c
@@ -84,5 +84,5 @@ abbrev pub opened_payload : Package → List ℕ
 opened_payload pkg = pkg.payload.now
 
 -- the files that are still to be given
-abbrev pub opened_files : Package → Files
+abbrev pub opened_files : Package → FilesRead
 opened_files pkg = unless_refused pkg.refused (files_left pkg.rest)

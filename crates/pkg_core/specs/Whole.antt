@@ -1,5 +1,5 @@
 -- The first failed test of a whole container, and what a good package holds.
-use Rattle.std.specs.Prelude.{◌≡◌, ℕ, ◌==◌, if◌then◌else◌, List, Option, Some, None, Result, Ok, Err}
+use Rattle.std.specs.Prelude.{ℕ, ◌==◌, if◌then◌else◌, List, Option, Some, None, Result, Ok, Err}
 use Rattle.sha2.specs.Sha256.{sha256}
 use Rattle.base_core.specs.declared.cause.Cause.{Cause}
 use Rattle.base_core.specs.declared.cause.Cause.TheVariants.{WrongSchema}
@@ -11,11 +11,7 @@ use Rattle.adb_schema.specs.Soundness.{fault_with, rest_fault, payload_in, root_
 use Rattle.adb_tables.specs.declared.tables.Which.{Which}
 use Rattle.adb_tables.specs.declared.tables.Which.TheVariants.{Package, Index, Idb, Intent}
 use Rattle.adb_schema.specs.declared.read.TheConstants.{PACKAGE_WORD, INDEX_WORD, IDB_WORD, INTENT_WORD}
-use Rattle.adb_schema.specs.declared.read.ReadFault.{ReadFault}
-use Rattle.adb_schema.specs.declared.read.ReadFault.TheVariants as ReadFaults
-use Rattle.pkg_core.specs.Contents.{Contents, Files, no_more, refused, files_by_blocks, contents_in, contents_fault, expected_contents}
-use Rattle.pkg_core.specs.declared.pack.PackageFault.{PackageFault}
-use Rattle.pkg_core.specs.declared.pack.PackageFault.TheVariants.{Bad, Memory}
+use Rattle.pkg_core.specs.Contents.{Contents, FilesRead, no_more, refused, files_by_blocks, contents_in, contents_fault, expected_contents}
 
 -- ---- a container of any schema
 
@@ -59,17 +55,17 @@ abbrev pub package_id : List ℕ → List ℕ
 package_id file = sha256 (payload_in file)
 
 -- what the blocks behind the first one give, of the files that its value expects
-abbrev pub files_behind : Reading → Files
+abbrev pub files_behind : Reading → FilesRead
 files_behind done = no_more
 files_behind (fault c) = refused c
 files_behind (more b at r) = files_by_blocks (expected_contents (root_value Package b.payload)) r
 
-abbrev pub files_by_header : List ℕ → Result ℕ Cause → Files
+abbrev pub files_by_header : List ℕ → Result ℕ Cause → FilesRead
 files_by_header file (Ok schema) = files_behind (reading_of (start_of schema file))
 files_by_header file (Err c) = refused c
 
 -- the files of a package with their contents
-unfoldable pub files_in_file : List ℕ → Files
+unfoldable pub files_in_file : List ℕ → FilesRead
 files_in_file file = files_by_header file (header_of file)
 
 -- the value of a package, with the contents of its files

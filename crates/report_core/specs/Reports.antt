@@ -27,17 +27,17 @@ pub data Change : Type 0 where
   Replace : List ℕ → List ℕ → List ℕ → Change
 
 -- a package at a version
-abbrev pub at_version : List ℕ → List ℕ → List ℕ
-at_version name version = name ++ codes " (" ++ version ++ codes ")"
+abbrev pub name_and_version : List ℕ → List ℕ → List ℕ
+name_and_version name version = name ++ codes " (" ++ version ++ codes ")"
 
 -- a package from one version to another
 abbrev pub from_version_to : List ℕ → List ℕ → List ℕ → List ℕ
 from_version_to name old new = name ++ codes " (" ++ old ++ codes " -> " ++ new ++ codes ")"
 
 abbrev pub change_text : Change → List ℕ
-change_text (Install name version) = codes "Installing " ++ at_version name version
-change_text (Reinstall name version) = codes "Reinstalling " ++ at_version name version
-change_text (Purge name version) = codes "Purging " ++ at_version name version
+change_text (Install name version) = codes "Installing " ++ name_and_version name version
+change_text (Reinstall name version) = codes "Reinstalling " ++ name_and_version name version
+change_text (Purge name version) = codes "Purging " ++ name_and_version name version
 change_text (Upgrade name old new) = codes "Upgrading " ++ from_version_to name old new
 change_text (Downgrade name old new) = codes "Downgrading " ++ from_version_to name old new
 change_text (Replace name old new) = codes "Replacing " ++ from_version_to name old new

@@ -64,15 +64,20 @@ impl Cases {
 
     /// Runs the text that was read.
     fn end(&mut self) -> Result<(), AllocError> {
-        let text = match self.text.strip_suffix(b"\n\\\n") {
-            Some(text) => text,
-            None => &self.text,
-        };
-        if !text.is_empty() {
+        if !self.text.is_empty() {
+            let text = case_text(&self.text);
             run_text(self.alloc, &Echo, text, &mut self.report)?;
         }
         self.text.clear();
         Ok(())
+    }
+}
+
+/// The text of a case: without the end of its last line where a line `\` stands behind it.
+fn case_text(text: &[u8]) -> &[u8] {
+    match text.strip_suffix(b"\n\\\n") {
+        Some(cut) => cut,
+        None => text,
     }
 }
 

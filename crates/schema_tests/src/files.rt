@@ -5,8 +5,8 @@ use base_core::Cause;
 use std::alloc::{AllocError, Global};
 use std::test::Fail;
 
-/// The schema of a file, the payload of its first block, the bytes behind that block, the table that the file is read as,
-/// and the cause of its refusal.
+/// The schema of a file, the payload of its first block, the bytes behind that block, the table
+/// that the file is read as, and the cause of its refusal.
 type Row = (
     &'static str,
     &'static [u8],

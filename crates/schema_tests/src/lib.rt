@@ -1,5 +1,5 @@
-//! Tests of `adb_view`, `adb_tables`, `adb_fields`, `adb_rules` and `adb_schema`, one row a line: words of a payload, the
-//! shape of payloads, the rules of texts, views, and whole files.
+//! Tests of `adb_view`, `adb_tables`, `adb_fields`, `adb_rules` and `adb_schema`, one row a line:
+//! words of a payload, the shape of payloads, the rules of texts, views, and whole files.
 #![tactic(auto)]
 
 #[cfg(test)]

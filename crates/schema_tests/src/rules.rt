@@ -32,7 +32,8 @@ const DEPENDENCIES: &[(&[u8], &[u8], u32, u16)] = &[
     (b"a", b"v1", 6, 102),
 ];
 
-/// A package's name and version, the length of its hash in a package and in an index, and the number of the field that is refused.
+/// A package's name and version, the length of its hash in a package and in an index, and the
+/// number of the field that is refused.
 const PACKAGES: &[(&[u8], &[u8], usize, u16, u16)] = &[
     (b"a", b"1", 0, KEPT, 303),
     (b"a", b"1", 19, 303, 303),
@@ -50,7 +51,8 @@ const PACKAGES: &[(&[u8], &[u8], usize, u16, u16)] = &[
     (b"a", b"", 1, 302, 302),
 ];
 
-/// Names of a folder and of a file in it, and the numbers of the fields that are refused in a package and in a database.
+/// Names of a folder and of a file in it, and the numbers of the fields that are refused in a
+/// package and in a database.
 const NAMES: &[(&[u8], &[u8], u16, u16)] = &[
     (b"", b"a", KEPT, KEPT),
     (b"usr/bin", b"b", KEPT, KEPT),
@@ -74,7 +76,8 @@ const NAMES: &[(&[u8], &[u8], u16, u16)] = &[
     (b"", b"lib", KEPT, KEPT),
 ];
 
-/// A file's size, the length of its hash and its target, and the numbers of the fields that are refused in a package and in a database.
+/// A file's size, the length of its hash and its target, and the numbers of the fields that are
+/// refused in a package and in a database.
 const FILES: &[(u32, usize, &[u8], u16, u16)] = &[
     (0, 0, b"", KEPT, KEPT),
     (0, 20, b"", KEPT, KEPT),
@@ -113,8 +116,8 @@ const PATTERNS: &[(&[u8], bool)] = &[
     (b"${name}-${version}.apk ", true),
 ];
 
-/// Lengths of the names of a package, of a folder, of a file in the root folder and of one in a folder with a name of a
-/// byte, and the number of the field that is refused.
+/// Lengths of the names of a package, of a folder, of a file in the root folder and of one in a
+/// folder with a name of a byte, and the number of the field that is refused.
 const LENGTHS: &[(usize, usize, usize, usize, u16)] = &[
     (255, 1024, 0, 0, KEPT),
     (256, 0, 0, 0, 301),
@@ -276,8 +279,8 @@ impl Values {
         self.object(&[name, 0, files])
     }
 
-    /// A package whose name, whose folder's, whose file's in the root folder and whose file's in a folder with a name of a
-    /// byte have these lengths.
+    /// A package whose name, whose folder's, whose file's in the root folder and whose file's in a
+    /// folder with a name of a byte have these lengths.
     fn long(
         &mut self,
         package: usize,
@@ -305,7 +308,8 @@ impl Values {
         Ok((good, no_version, no_name))
     }
 
-    /// The numbers of the fields that are refused of a package of two folders, and of a database of it.
+    /// The numbers of the fields that are refused of a package of two folders, and of a database of
+    /// it.
     fn refused_of_two(
         &mut self,
         alloc: Global,
@@ -317,7 +321,8 @@ impl Values {
         self.refused_twice(alloc, package)
     }
 
-    /// The number of the field that is refused where the payload has this root and is read as this table.
+    /// The number of the field that is refused where the payload has this root and is read as this
+    /// table.
     fn refused(&self, alloc: Global, which: Which, root: u32) -> Result<u16, AllocError> {
         let mut payload = Vec::from_slice(alloc, &[0; 4])?;
         payload.extend_from_slice(&root.to_le_bytes())?;

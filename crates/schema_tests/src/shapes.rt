@@ -115,7 +115,8 @@ fn each_fault_at_each_field_of_each_table(rt: HostRuntime) -> Result<(), Fail> {
     Ok(())
 }
 
-/// A payload by the words of its root object and the bytes behind it, the table that it is walked as, and the fault.
+/// A payload by the words of its root object and the bytes behind it, the table that it is walked
+/// as, and the fault.
 type Row = (
     &'static str,
     Which,
@@ -197,7 +198,8 @@ fn one_folder_at_two_thousand_places(rt: HostRuntime) -> Result<(), Fail> {
     Ok(())
 }
 
-/// A table, and what a walk of the words 0, 0 and two integers answers by its fields, behind seven visits.
+/// A table, and what a walk of the words 0, 0 and two integers answers by its fields, behind seven
+/// visits.
 #[rattlefmt::skip]
 const WALKED: [(Which, Result<u32, Cause>); 10] = [
     (Which::Dep, Ok(10)),

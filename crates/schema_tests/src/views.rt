@@ -12,8 +12,9 @@ use std::test::Fail;
 /// How many bytes the values of a field take in a sample.
 const CELL: u32 = 20;
 
-/// A payload whose root is an object of this table. Its field with the number i holds the integer i, or the text of
-/// one byte that is the letter with this number, or an object whose first field is that, or an array of one of them.
+/// A payload whose root is an object of this table. Its field with the number i holds the integer
+/// i, or the text of one byte that is the letter with this number, or an object whose first field
+/// is that, or an array of one of them.
 fn sample(alloc: Global, which: Which) -> Result<Vec<u8>, AllocError> {
     let fields = fields_of(which);
     let count = u32::try_from(fields.len()).unwrap_or(0);
@@ -270,7 +271,7 @@ fn each_field_of_a_database(rt: HostRuntime) -> Result<(), Fail> {
     Ok(())
 }
 
-/// Whether a list has one package, of which nothing is told.
+/// Whether a list has one package, of which nothing is known.
 fn is_one_empty<'a>(packages: List<'a, PackageView<'a>>) -> bool {
     if packages.len() != 1 {
         return false;

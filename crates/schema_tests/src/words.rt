@@ -5,8 +5,8 @@ use base_core::Cause;
 use std::process::Abort;
 use std::test::Fail;
 
-/// What the reader of a word's own kind answers, `None` where the word points outside. The other readers answer
-/// `WrongKind`.
+/// What the reader of a word's own kind answers, `None` where the word points outside. The other
+/// readers answer `WrongKind`.
 #[derive(Clone, Copy)]
 enum Reads<'a> {
     Null,
@@ -33,7 +33,8 @@ const ONE_BYTE_SHORT: &[u8] =
 const ONE_WRITE: &[u8] =
     b"\0\0\0\0\x14\0\0\xe0\x01a\0\0\x02\0\0\0\x08\0\0\x80\x03\0\0\0\0\0\0\0\x0c\0\0\xd0";
 
-/// An array whose entry is its own word: reading the entry gives the same array again, and nothing follows it further.
+/// An array whose entry is its own word: reading the entry gives the same array again, and nothing
+/// follows it further.
 const ITS_OWN_ENTRY: &[u8] = b"\0\0\0\0\x08\0\0\xd0\x02\0\0\0\x08\0\0\xd0";
 
 /// Eight bytes behind the head, to be read as each kind.

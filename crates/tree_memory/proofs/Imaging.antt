@@ -10,7 +10,7 @@ use Rattle.base_core.specs.Files.{Files, NameMap, no_names, put_name, IsFolderLi
 use Rattle.base_core.specs.Tree.{TreeState, IsMapOf, bytes_at, files_of, set_file}
 use Rattle.std.proofs.lemmas.Nat.{mod_below}
 use Rattle.tree_memory.specs.Changes.{empty_state, after_put, state_on, is_record}
-use Rattle.tree_memory.specs.Images.{maps_of, newest_first, picked_map, bytes_left, image_of, stored_file}
+use Rattle.tree_memory.specs.Images.{maps_of, newest_first, picked_map, crash_bytes, image_of, stored_file}
 use Rattle.tree_memory.specs.Kept.{IsKept, CanPut}
 use Rattle.tree_memory.specs.Table.{IsTable, lookup}
 use Rattle.tree_memory.specs.WholeLaw.{AreBounded}
@@ -54,7 +54,7 @@ lookup_take (e ∷ es) (suc i) q some = by (bytes_eq q e.name) (lookup_take es i
 
 -- it has the files of the first names, as the crash leaves them, all synced under one map
 pub record IsSoFar (v : TreeState) (way : ℕ) (es : List Entry) (i : ℕ) (w : TreeState) : Type 0 where
-  pub files : (q : List ℕ) → files_of w q ≡ option_map (λ n. bytes_left way (v.files n)) (lookup (take i es) q)
+  pub files : (q : List ℕ) → files_of w q ≡ option_map (λ n. crash_bytes way (v.files n)) (lookup (take i es) q)
   pub one_map : w.older ≡ []
   pub synced : (q : List ℕ) (n : ℕ) → w.names q ≡ Some n → (w.files n).synced ≡ true
 
@@ -65,7 +65,7 @@ module _ (v : TreeState) (way : ℕ) (es : List Entry) (table : IsTable es) (i :
   present : (q : List ℕ) → IsSome (w.names q) → IsSome (lookup (take i es) q)
   present q = by (w.names q) (lookup (take i es) q) (so_far.files q)
     where
-      by : (o r : Option ℕ) → bytes_at w.files o ≡ option_map (λ n. bytes_left way (v.files n)) r → IsSome o → IsSome r
+      by : (o r : Option ℕ) → bytes_at w.files o ≡ option_map (λ n. crash_bytes way (v.files n)) r → IsSome o → IsSome r
       by None r is some = absurd (cc (some))
       by (Some n) None is some = absurd (cc (is))
       by (Some n) (Some m) is some = refl
@@ -81,20 +81,20 @@ module _ (v : TreeState) (way : ℕ) (es : List Entry) (table : IsTable es) (i :
             (λ off. subst IsSome (sym (same q)) (lookup_take es i q (present q (subst IsSome (put-off w.names e.name w.made q (off_name q e.name off)) some))))
             (name_cases q e.name)
 
-    pub so_far_next : (bytes : List ℕ) (u : TreeState) → AreBounded w → bytes ≡ bytes_left way (v.files e.file) → u ≡ after_put e.name bytes w → IsSoFar v way es (i + 1) u
+    pub so_far_next : (bytes : List ℕ) (u : TreeState) → AreBounded w → bytes ≡ crash_bytes way (v.files e.file) → u ≡ after_put e.name bytes w → IsSoFar v way es (i + 1) u
     so_far_next bytes u whole are is = subst (IsSoFar v way es (i + 1)) (sym is) (record { files = files; one_map = refl; synced = synced })
       where
-        both_ways : (b : Bool) (r : Option ℕ) → cond b (Some (bytes_left way (v.files e.file))) (option_map (λ n. bytes_left way (v.files n)) r) ≡ option_map (λ n. bytes_left way (v.files n)) (cond b (Some e.file) r)
+        both_ways : (b : Bool) (r : Option ℕ) → cond b (Some (crash_bytes way (v.files e.file))) (option_map (λ n. crash_bytes way (v.files n)) r) ≡ option_map (λ n. crash_bytes way (v.files n)) (cond b (Some e.file) r)
         both_ways true r = refl
         both_ways false r = refl
 
-        files : (q : List ℕ) → files_of (after_put e.name bytes w) q ≡ option_map (λ n. bytes_left way (v.files n)) (lookup (take (i + 1) es) q)
+        files : (q : List ℕ) → files_of (after_put e.name bytes w) q ≡ option_map (λ n. crash_bytes way (v.files n)) (lookup (take (i + 1) es) q)
         files q =
             ap (λ (f : Files). f q) (read-after_put e.name bytes w whole)
             ∙ ap (λ (b : List ℕ). cond (bytes_eq q e.name) (Some b) (files_of w q)) are
-            ∙ ap (cond (bytes_eq q e.name) (Some (bytes_left way (v.files e.file)))) (so_far.files q)
+            ∙ ap (cond (bytes_eq q e.name) (Some (crash_bytes way (v.files e.file)))) (so_far.files q)
             ∙ both_ways (bytes_eq q e.name) (lookup (take i es) q)
-            ∙ sym (ap (option_map (λ n. bytes_left way (v.files n))) (next_name es i e table within here q))
+            ∙ sym (ap (option_map (λ n. crash_bytes way (v.files n))) (next_name es i e table within here q))
 
         synced : (q : List ℕ) (n : ℕ) → put_name w.names e.name w.made q ≡ Some n → (set_file w.files w.made (record { bytes = bytes; synced = true }) n).synced ≡ true
         synced q n at = ⊎_elim
@@ -114,10 +114,10 @@ module _ (v : TreeState) (way : ℕ) (es : List Entry) (table : IsTable es) (i :
 -- ---- the tree that is done
 
 module _ (v : TreeState) (way : ℕ) (es : List Entry) (map : NameMap) (same : (q : List ℕ) → map q ≡ lookup es q) (i : ℕ) (all : length es ≤ i) (w : TreeState) (so_far : IsSoFar v way es i w) where
-  pub image_files : (q : List ℕ) → files_of w q ≡ option_map (λ n. bytes_left way (v.files n)) (map q)
-  image_files q = so_far.files q ∙ ap (λ (l : List Entry). option_map (λ n. bytes_left way (v.files n)) (lookup l q)) (take_all i es all) ∙ sym (ap (option_map (λ n. bytes_left way (v.files n))) (same q))
+  pub image_files : (q : List ℕ) → files_of w q ≡ option_map (λ n. crash_bytes way (v.files n)) (map q)
+  image_files q = so_far.files q ∙ ap (λ (l : List Entry). option_map (λ n. crash_bytes way (v.files n)) (lookup l q)) (take_all i es all) ∙ sym (ap (option_map (λ n. crash_bytes way (v.files n))) (same q))
 
-  may : (o : Option ℕ) → MayLeave v.files o (option_map (λ n. bytes_left way (v.files n)) o)
+  may : (o : Option ℕ) → MayLeave v.files o (option_map (λ n. crash_bytes way (v.files n)) o)
   may None = refl
   may (Some n) = λ synced. ap (λ b. cond (b || (way == 0)) (v.files n).bytes (cond (way == 1) [] (replicate (length (v.files n).bytes) 255))) synced
 
@@ -139,8 +139,8 @@ map_back choice v maps back count below is =
           ∙ ap (λ n. get_or (newest_first v) n no_names) (sym (is ∙ ap (λ m. m - 1 - choice % maps) long)),
     )
 
-pub picked_files : (choice : ℕ) (v : TreeState) (way maps : ℕ) (files : Files) → maps ≡ length (maps_of v) → way ≡ (choice / maps) % 3 → ((q : List ℕ) → files q ≡ option_map (λ n. bytes_left way (v.files n)) (picked_map choice v q)) → files ≡ image_of choice v
-picked_files choice v way maps files count is each = λ i q. (each q ∙ ap (λ k. option_map (λ n. bytes_left k (v.files n)) (picked_map choice v q)) (is ∙ ap (λ m. (choice / m) % 3) count)) i
+pub picked_files : (choice : ℕ) (v : TreeState) (way maps : ℕ) (files : Files) → maps ≡ length (maps_of v) → way ≡ (choice / maps) % 3 → ((q : List ℕ) → files q ≡ option_map (λ n. crash_bytes way (v.files n)) (picked_map choice v q)) → files ≡ image_of choice v
+picked_files choice v way maps files count is each = λ i q. (each q ∙ ap (λ k. option_map (λ n. crash_bytes k (v.files n)) (picked_map choice v q)) (is ∙ ap (λ m. (choice / m) % 3) count)) i
 
 -- a file as it is stored
 pub file_at : (v : TreeState) (es : List Entry) (files : List Stored) (n : ℕ) (s : Stored) → IsKept v es files → n < length files → s ≡ get_or files n s → stored_file s ≡ v.files n

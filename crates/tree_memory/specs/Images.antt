@@ -20,13 +20,13 @@ abbrev pub picked_map : ℕ → TreeState → NameMap
 picked_map choice v = slice_index_or (maps_of v) (choice % length (maps_of v)) no_names
 
 -- what an unsynced file holds: its bytes as read, nothing, or as many bytes of value 255
-abbrev pub bytes_left : ℕ → File → List ℕ
-bytes_left way file = if file.synced || way == 0 then file.bytes else
+abbrev pub crash_bytes : ℕ → File → List ℕ
+crash_bytes way file = if file.synced || way == 0 then file.bytes else
     (if way == 1 then [] else replicate (length file.bytes) 255)
 
 -- the files after the crash
 abbrev pub image_of : ℕ → TreeState → Files
-image_of choice v q = option_map (λ n. bytes_left ((choice / length (maps_of v)) % 3) (v.files n))
+image_of choice v q = option_map (λ n. crash_bytes ((choice / length (maps_of v)) % 3) (v.files n))
     (picked_map choice v q)
 
 -- ---- as it is read from a record

@@ -4,7 +4,7 @@ ghost use Rattle.base_core.specs.Files.{no_names};
 ghost use Rattle.base_core.specs.Restart.{IsCrashOf};
 ghost use Rattle.base_core.specs.Tree.{TreeState, files_of};
 ghost use Rattle.tree_memory.specs.Changes.{empty_state, state_on, is_record, step};
-ghost use Rattle.tree_memory.specs.Images.{maps_of, newest_first, adds_map, maps_on, image_of, bytes_left, stored_file, HasNames};
+ghost use Rattle.tree_memory.specs.Images.{maps_of, newest_first, adds_map, maps_on, image_of, crash_bytes, stored_file, HasNames};
 ghost use Rattle.tree_memory.specs.Stores.{store_state};
 ghost use Rattle.tree_memory.specs.Table.{lookup};
 
@@ -41,7 +41,7 @@ impl Store {
         let names = names_after(alloc, &self.changes[..moment])?;
         let mut image = Store::new(alloc);
         for entry in &names.entries {
-            let bytes = bytes_left(alloc, &self.files[entry.file], way)?;
+            let bytes = crash_bytes(alloc, &self.files[entry.file], way)?;
             image.put(&entry.name, bytes)?;
         }
         Ok(image)
@@ -160,8 +160,8 @@ fn replay(
 
 // What a file holds after a crash: its bytes where it is synced, and else by the way that was
 // chosen its bytes as read, nothing, or as many bytes of value 255.
-fn bytes_left(alloc: Global, file: &Stored, way: u64) -> Result<Vec<u8>, AllocError>
-    ensures { IfOk result (λ bytes. bytes.items ≡ bytes_left way (stored_file file.now)) }
+fn crash_bytes(alloc: Global, file: &Stored, way: u64) -> Result<Vec<u8>, AllocError>
+    ensures { IfOk result (λ bytes. bytes.items ≡ crash_bytes way (stored_file file.now)) }
 {
     if file.synced || way == 0 {
         return Vec::from_slice(alloc, &file.bytes);

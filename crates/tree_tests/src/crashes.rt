@@ -16,7 +16,8 @@ const CHANGES: [Call; 7] = [
     Call::Remove(b"new"),
 ];
 
-// What a crash may leave behind these changes of one file `old`: five maps of names, and three fillings.
+// What a crash may leave behind these changes of one file `old`: five maps of names, and three
+// fillings.
 #[rattlefmt::skip]
 const IMAGES: [&'static [u8]; 16] = [
     b"old=1;",
@@ -94,14 +95,15 @@ fn an_image_far_back(rt: HostRuntime) -> Result<(), Fail> {
     let tree = moved(rt.alloc(), 60)?;
     assert_eq!(rt; tree.maps(), 122);
     for row in FAR_BACK {
-        let image = tree.pick_image(rt.alloc(), row.0)?;
+        let name = name_of(rt.alloc(), row.1)?;
         let wanted = vec![in rt.alloc(); row.3; row.2]?;
-        assert_eq!(rt; image.names(rt.alloc())?.len(), 1);
-        assert_eq!(rt;
-            image.file(&name_of(rt.alloc(), row.1)?),
-            Some(wanted.as_slice())
-        );
+        let image = tree.pick_image(rt.alloc(), row.0)?;
+        let names = image.names(rt.alloc())?;
+        assert_eq!(rt; names.len(), 1);
+        assert_eq!(rt; image.file(&name), Some(wanted.as_slice()));
     }
-    assert_eq!(rt; tree.pick_image(rt.alloc(), 0)?.names(rt.alloc())?.len(), 0);
+    let oldest = tree.pick_image(rt.alloc(), 0)?;
+    let names = oldest.names(rt.alloc())?;
+    assert!(rt; names.is_empty());
     Ok(())
 }

@@ -117,8 +117,8 @@ fn no_name_becomes_a_folder(rt: HostRuntime) -> Result<(), Fail> {
     Ok(())
 }
 
-// A read into a buffer of sevens: the name, from where, whether it is no misuse, what is then in the
-// buffer, and the longest read so far.
+// A read into a buffer of sevens: the name, from where, whether it is no misuse, what is then in
+// the buffer, and the longest read so far.
 #[derive(Clone, Copy)]
 struct Read(&'static [u8], u64, bool, &'static [u8], u64);
 
@@ -195,7 +195,8 @@ pub fn make(alloc: Global, tree: &mut MemoryTree, call: Call) -> Result<Result<(
     Ok(made)
 }
 
-// A call, whether it is no misuse, what then stands in the tree, and how many maps of names there are.
+// A call, whether it is no misuse, what then stands in the tree, and how many maps of names there
+// are.
 #[derive(Clone, Copy)]
 struct Step(Call, bool, &'static [u8], u64);
 

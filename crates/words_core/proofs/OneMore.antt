@@ -9,7 +9,7 @@ use Rattle.words_core.specs.declared.reading.OptionState.{OptionState}
 use Rattle.words_core.specs.declared.reading.Reading.{Reading}
 use Rattle.words_core.specs.Grammar.{applet_site, early_flags, is_end, is_option, is_option_or_value, operands_of, option_reading, or_at, or_unread, reading_by, site_at, site_behind_end, with_operand, with_option, with_spec, with_word}
 use Rattle.words_core.specs.Options.{OptionSpec, is_early, option_spelled}
-use Rattle.words_core.specs.Steps.{IsStep}
+use Rattle.words_core.specs.Steps.{IsReadingStep}
 
 -- what is left of a list where an element stands
 pub left_at : {X : Type 0} (xs : List X) (i : ℕ) (x : X) → slice_get xs i ≡ Some x → drop i xs ≡ x ∷ drop (i + 1) xs
@@ -112,10 +112,10 @@ reading_unread all options state operands words i word place at stands t p q m k
     ∙ sym (kept ∙ ap (behind operands) (reading_more options state words i word None stands t (ap (λ n. with_word options state n word) (sym q) ∙ m))))
 
 -- what a call says that took a word, or refused it
-pub taken_is : (taken : Bool) (old new : OptionState) (more : Option OptionState) → taken ≡ true → IsStep taken old new more → more ≡ Some new
+pub taken_is : (taken : Bool) (old new : OptionState) (more : Option OptionState) → taken ≡ true → IsReadingStep taken old new more → more ≡ Some new
 taken_is true old new more e t = t
 taken_is false old new more e t = absurd (false≢true e)
 
-pub refused_is : (taken : Bool) (old new : OptionState) (more : Option OptionState) → taken ≡ false → IsStep taken old new more → (more ≡ None) × (new ≡ old)
+pub refused_is : (taken : Bool) (old new : OptionState) (more : Option OptionState) → taken ≡ false → IsReadingStep taken old new more → (more ≡ None) × (new ≡ old)
 refused_is true old new more e t = absurd (true≢false e)
 refused_is false old new more e t = t

@@ -6,9 +6,9 @@ use Rattle.words_core.specs.declared.reading.OptionState.{OptionState}
 use Rattle.words_core.specs.declared.reading.Reading.{Reading}
 
 -- a word that is read gives the new state, and one that cannot be read changes nothing
-abbrev pub IsStep : Bool → OptionState → OptionState → Option OptionState → Type 0
-IsStep true old new more = more ≡ Some new
-IsStep false old new more = (more ≡ None) × (new ≡ old)
+abbrev pub IsReadingStep : Bool → OptionState → OptionState → Option OptionState → Type 0
+IsReadingStep true old new more = more ≡ Some new
+IsReadingStep false old new more = (more ≡ None) × (new ≡ old)
 
 -- what was read behind an applet is its own: at most one kind, and values that may stand together
 abbrev pub IsSoundReading : Applet → Reading → Type 0

@@ -7,7 +7,7 @@ ghost use Rattle.command_core.specs.Flags.{no_flags};
 ghost use Rattle.command_core.specs.Values.{lacks_value};
 ghost use Rattle.words_core.specs.Grammar.{applet_site, early_flags, first_state, is_option, is_option_or_value, line_start, operands_of, option_reading, reading_behind, reading_by, reading_end, site_at, site_behind_end, with_flags, with_meaning, with_meaning_at, with_rule, with_spelled, with_value, with_word};
 ghost use Rattle.words_core.specs.Options.{options_of};
-ghost use Rattle.words_core.specs.Steps.{IsStep};
+ghost use Rattle.words_core.specs.Steps.{IsReadingStep};
 
 use crate::options::{Meaning, applet_of, is_early, option_spelled, with_option};
 use crate::word::{MOST_PLACES, held_value, is_end, is_option, option_name, place_behind};
@@ -154,7 +154,7 @@ impl OptionState {
     // word cannot be read, and then nothing changes.
     fn read_word(&mut self, applet: Applet, place: u32, word: &[u8]) -> Result<bool, AllocError>
         requires { IsTrue (is_option_or_value self.old word.now) }
-        ensures { IfOk result (λ good. IsStep good self.old self.new (with_word
+        ensures { IfOk result (λ good. IsReadingStep good self.old self.new (with_word
             (options_of applet) self.old place word.now)) }
     {
         match self.awaiting {
@@ -176,7 +176,7 @@ impl OptionState {
     // Reads the option that the word at a place is.
     fn read_option(&mut self, applet: Applet, place: u32, word: &[u8]) -> Result<bool, AllocError>
         requires { IsTrue (is_option word.now) }
-        ensures { IfOk result (λ good. IsStep good self.old self.new (with_spelled
+        ensures { IfOk result (λ good. IsReadingStep good self.old self.new (with_spelled
             (options_of applet) self.old place word.now)) }
     {
         match option_spelled(applet, option_name(word)) {
@@ -192,7 +192,7 @@ impl OptionState {
         held: Option<&[u8]>,
         meaning: Meaning,
     ) -> Result<bool, AllocError>
-        ensures { IfOk result (λ good. IsStep good self.old self.new
+        ensures { IfOk result (λ good. IsReadingStep good self.old self.new
             (with_meaning_at self.old place (option_map (λ text. text.now) held.entry) meaning)) }
     {
         match meaning {
@@ -204,7 +204,7 @@ impl OptionState {
 
     // Reads a flag that an option says.
     fn read_flag(&mut self, meaning: Meaning) -> bool
-        ensures { IsStep result self.old self.new (with_flags self.old
+        ensures { IsReadingStep result self.old self.new (with_flags self.old
             (with_meaning self.old.flags meaning)) }
     {
         match meaning.with(self.flags) {
@@ -223,7 +223,7 @@ impl OptionState {
         held: Option<&[u8]>,
         rule: ValueRule,
     ) -> Result<bool, AllocError>
-        ensures { IfOk result (λ good. IsStep good self.old self.new (with_rule self.old place
+        ensures { IfOk result (λ good. IsReadingStep good self.old self.new (with_rule self.old place
             (option_map (λ text. text.now) held.entry) rule)) }
     {
         if self.values.are_spent(rule) {
@@ -240,7 +240,7 @@ impl OptionState {
 
     // Reads a text as a value of an option.
     fn read_value(&mut self, place: u32, text: &[u8], rule: ValueRule) -> Result<bool, AllocError>
-        ensures { IfOk result (λ good. IsStep good self.old self.new
+        ensures { IfOk result (λ good. IsReadingStep good self.old self.new
             (with_value self.old place text.now rule)) }
     {
         if !rule.kind.has(text) {

@@ -1,4 +1,4 @@
--- What is left tells the fault of the whole.
+-- What is left has the fault of the whole.
 use Rattle.std.proofs.Common.{◌≡◌, length}
 use Rattle.adb_block.specs.Reading.{reading_of}
 use Rattle.adb_schema.specs.Soundness.{further_fault}

@@ -1,5 +1,5 @@
 use Rattle.std.proofs.Common.{◌∙◌, sym}
-use Rattle.apk_front.proofs.Carried.{index_proper, index_read_one, look_found, look_memory, look_proper, look_read, look_refused, look_run, package_proper, package_read_one, reads_one}
+use Rattle.apk_front.proofs.Carried.{index_proper, index_read_one, index_run, look_found, look_memory, look_proper, look_read, look_refused, look_run, package_proper, package_read_one, package_run, reads_one}
 use Rattle.apk_front.proofs.judge.run.Goals as goal
 
 pub returns-in-Mkpkg-clause-by_reads : goal.returns-in-Mkpkg-clause-by_reads
@@ -35,3 +35,9 @@ returns-in_default g c =
       memory = look_memory c.look.result _ _ _ _ c.look.ensures.tree;
       proper = look_proper c.args.command.now _ _ c.look.ensures.tree.proper;
     }
+
+pub returns-in-Mkpkg-clause-run : goal.returns-in-Mkpkg-clause-run
+returns-in-Mkpkg-clause-run g c = package_run c.args.command.now c.mkpkg.result _ _ (sym c.in-Mkpkg.is ∙ c.applet.ensures.value) c.mkpkg.ensures.run
+
+pub returns-in-Mkndx-clause-run : goal.returns-in-Mkndx-clause-run
+returns-in-Mkndx-clause-run g c = index_run c.args.command.now c.mkndx.result _ _ (sym c.in-Mkndx.is ∙ c.applet.ensures.value) c.mkndx.ensures.run

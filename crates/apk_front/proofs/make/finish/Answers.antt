@@ -1,5 +1,5 @@
 use Rattle.std.proofs.Common.{refl}
-use Rattle.apk_front.proofs.Containers.{refused_made, refused_run}
+use Rattle.apk_front.proofs.Containers.{refused_made, refused_run, written_made}
 use Rattle.make_info.specs.Output.{output_name}
 use Rattle.apk_front.proofs.make.finish.Goals as goal
 
@@ -8,3 +8,6 @@ returns-in-Err-clause-reported g c = refused_made (output_name c.args.command.no
 
 pub returns-in-Err-clause-run : goal.returns-in-Err-clause-run
 returns-in-Err-clause-run g c = refused_run (output_name c.args.command.now) c.args.report c.args.container _ c.refuse.result _ _ c.in-Err.is refl c.refuse.ensures.reported c.refuse.ensures.refused
+
+pub returns-in-Ok-clause-run : goal.returns-in-Ok-clause-run
+returns-in-Ok-clause-run g c = written_made (output_name c.args.command.now) c.args.report c.args.container c.in-Ok.file _ c.write.result _ _ c.in-Ok.is c.deref.ensures.value c.write.ensures.run

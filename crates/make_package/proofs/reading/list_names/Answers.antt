@@ -10,19 +10,19 @@ use Rattle.make_package.proofs.reading.list_names.Goals as goal
 pub first_file-requires-clause-file : goal.first_file-requires-clause-file
 first_file-requires-clause-file g c = folder_file c.args.values.now c.requires
 
-pub returns-in-Some-clause-names : goal.returns-in-Some-clause-names
-returns-in-Some-clause-names g c =
-    listed_for _ c.args.values.now c.in-Some.folder.now c.in_ok-names.names
-    (folder_is c.args.values.now c.in-Some.folder.now (sym (ap (option_map (λ (n : Bor (List ℕ)). n.now)) c.in-Some.is) ∙ c.first_file.ensures)) c.in_ok-names.ensures.value
+pub returns-in_ok-names-in-Some-clause-names : goal.returns-in_ok-names-in-Some-clause-names
+returns-in_ok-names-in-Some-clause-names g c =
+    listed_for _ c.args.values.now c.in-Some.folder.now c.in_ok-names-in-Some.names
+    (folder_is c.args.values.now c.in-Some.folder.now (sym (ap (option_map (λ (n : Bor (List ℕ)). n.now)) c.in-Some.is) ∙ c.first_file.ensures)) c.in_ok-names-in-Some.ensures.value
 
 pub returns-in-None-clause-names : goal.returns-in-None-clause-names
 returns-in-None-clause-names g c =
     nothing_below _ (values_with FILES c.args.values.now) _ (no_folder c.args.values.now (sym (ap (option_map (λ (n : Bor (List ℕ)). n.now)) c.in-None.is) ∙ c.first_file.ensures))
 
-pub returns-in-Some-clause-order : goal.returns-in-Some-clause-order
-returns-in-Some-clause-order g c =
-    named_for c.args.values.now c.in-Some.folder.now c.in_ok-names.names
-    (folder_is c.args.values.now c.in-Some.folder.now (sym (ap (option_map (λ (n : Bor (List ℕ)). n.now)) c.in-Some.is) ∙ c.first_file.ensures)) c.in_ok-names.ensures.order
+pub returns-in_ok-names-in-Some-clause-order : goal.returns-in_ok-names-in-Some-clause-order
+returns-in_ok-names-in-Some-clause-order g c =
+    named_for c.args.values.now c.in-Some.folder.now c.in_ok-names-in-Some.names
+    (folder_is c.args.values.now c.in-Some.folder.now (sym (ap (option_map (λ (n : Bor (List ℕ)). n.now)) c.in-Some.is) ∙ c.first_file.ensures)) c.in_ok-names-in-Some.ensures.order
 
 pub returns-in-None-clause-order : goal.returns-in-None-clause-order
 returns-in-None-clause-order g c =

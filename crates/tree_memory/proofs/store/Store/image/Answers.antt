@@ -1,6 +1,6 @@
 use Rattle.std.proofs.Common.{◌/◌, ◌%◌, ◌∙◌, ap, arith, subst, sym}
 use Rattle.tree_memory.specs.Changes.{contents_of}
-use Rattle.tree_memory.specs.Images.{bytes_left, picked_map}
+use Rattle.tree_memory.specs.Images.{crash_bytes, picked_map}
 use Rattle.tree_memory.specs.Stores.{store_state}
 use Rattle.tree_memory.specs.Table.{IsTable}
 use Rattle.tree_memory.specs.WholeLaw.{bounded_state}
@@ -54,7 +54,7 @@ loop-entry-preserved c =
     in
     let whole = bounded_state (contents_of own.files.items) own.changes.items in
     let made = number_made v way es table c.loop-entry.entry-index (store_state c.loop-entry.image) c.loop-entry.invariant c.entry-item.result c.loop-entry-test.true c.entry-item.is (picked_map c.args.choice v) p.is_map whole p.same in
-    let bytes = c.in_ok-bytes.ensures ∙ ap (bytes_left way) (file_at v own.names.entries.items own.files.items c.entry-item.result.file c.index.result.now own.in_step.kept (omega (arith, made, own.in_step.kept.made)) c.index.ensures) in
+    let bytes = c.in_ok-bytes.ensures ∙ ap (crash_bytes way) (file_at v own.names.entries.items own.files.items c.entry-item.result.file c.index.result.now own.in_step.kept (omega (arith, made, own.in_step.kept.made)) c.index.ensures) in
     so_far_next v way es table c.loop-entry.entry-index (store_state c.loop-entry.image) c.loop-entry.invariant c.entry-item.result c.loop-entry-test.true c.entry-item.is c.in_ok-bytes.bytes.items (store_state c.put.new.self)
     (bounded_state (contents_of c.loop-entry.image.files.items) c.loop-entry.image.changes.items) bytes (ap newest c.in_ok-put.ensures.ok)
 

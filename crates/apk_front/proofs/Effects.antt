@@ -1,0 +1,31 @@
+-- What a command line may do below its root.
+use Rattle.std.proofs.Common.{◌≡◌, ◌⊎◌, inl, inr, ℕ, List, Result, Ok, Err, sym, ap, subst, ◌∙◌}
+use Rattle.command_core.specs.Command.{CommandLine}
+use Rattle.command_core.specs.declared.command.Applet.{Applet}
+use Rattle.command_core.specs.declared.command.Applet.TheVariants.{Mkndx, Mkpkg}
+use Rattle.outcome.specs.Effect.{does_only_read, effect_of, reads_only}
+use Rattle.words_core.specs.Faults.{IsWordsFault}
+use Rattle.words_core.specs.Grammar.{command_of}
+use Rattle.words_core.specs.declared.read.WordsFault.{WordsFault}
+use Rattle.words_core.specs.declared.read.WordsFault.TheVariants.{Usage}
+use Rattle.apk_front.specs.Effects.{access_of}
+use Rattle.apk_front.specs.declared.effect.Access.{Access}
+use Rattle.apk_front.specs.declared.effect.Access.TheVariants.{Read, Write}
+use Rattle.apk_front.proofs.Carried.{only_reads_unless}
+
+pub writes_one : (applet : Applet) → (applet ≡ Mkpkg) ⊎ (applet ≡ Mkndx) → Write ≡ access_of (does_only_read (effect_of applet))
+writes_one applet (inl is) = ap (λ (a : Applet). access_of (does_only_read (effect_of a))) (sym is)
+writes_one applet (inr is) = ap (λ (a : Applet). access_of (does_only_read (effect_of a))) (sym is)
+
+pub reads_else : (applet : Applet) → (applet ≡ Mkpkg → ⊥) → (applet ≡ Mkndx → ⊥) → Read ≡ access_of (does_only_read (effect_of applet))
+reads_else applet p i = ap access_of (sym (only_reads_unless applet p i))
+
+pub access_by : (words : List (List ℕ)) (command : CommandLine) (applet : Applet) (access : Access) → command_of words ≡ Ok command → applet ≡ command.applet → access ≡ access_of (does_only_read (effect_of applet))
+    → access ≡ access_of (reads_only (command_of words))
+access_by words command applet access is same a =
+    a ∙ ap (λ (x : Applet). access_of (does_only_read (effect_of x))) same ∙ ap (λ (r : Result CommandLine ℕ). access_of (reads_only r)) (sym is)
+
+pub access_usage : (words : List (List ℕ)) (place : ℕ) (fault : WordsFault) → fault ≡ Usage place → IsWordsFault fault (command_of words) → Read ≡ access_of (reads_only (command_of words))
+access_usage words place fault is of =
+    let read : command_of words ≡ Err place = subst (λ (f : WordsFault). IsWordsFault f (command_of words)) is of in
+    ap (λ (r : Result CommandLine ℕ). access_of (reads_only r)) (sym read)
