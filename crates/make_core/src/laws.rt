@@ -10,11 +10,11 @@ ghost use Rattle.std.specs.Prelude.{◌≡◌, ◌<◌, ◌^◌, ℕ, List, leng
 ghost use Rattle.command_core.specs.Command.{CommandLine};
 
 use adb_fields::the_first_pair_in_one_of_several_lists_is_reported;
-use adb_tables::values_of_few_visits_have_no_fault;
 use adb_sound::{
     a_container_of_a_good_value_is_sound, a_package_of_a_good_value_and_its_contents_is_sound,
     contents_stand_in_their_container,
 };
+use adb_tables::values_of_few_visits_have_no_fault;
 use adb_view::{values_are_normal, values_have_their_shape};
 use adb_write::a_value_overflows_exactly_past_a_limit;
 use dep_core::{read_texts_are_spelled, values_are_read_back};

@@ -1,9 +1,8 @@
 -- The values of a command one by one.
 use Rattle.std.proofs.Common.{◌≡◌, ℕ, zero, suc, ◌+◌, true, false, cond, List, [], ◌∷◌, drop, Option, Some, None, Bor, refl, sym, ◌∙◌, ap, arith}
 use Rattle.std.specs.Prelude.{is_some}
-use Rattle.std.specs.List.{find, slice_get}
+use Rattle.std.specs.List.{slice_get}
 use Rattle.std.specs.Option.{option_map, option_or}
-use Rattle.command_core.specs.Files.{without_dot}
 use Rattle.command_core.specs.declared.values.OptionValue.{OptionValue}
 use Rattle.make_info.specs.declared.field.Field.{Field}
 use Rattle.make_info.specs.FieldTexts.{first_text_for, values_of_info, is_info_option, text_for}

@@ -1,6 +1,6 @@
 -- What the output is called.
 use Rattle.command_core.specs.declared.values.TheConstants.{OUTPUT}
-use Rattle.std.proofs.Common.{◌≡◌, ℕ, ◌≤◌, Bool, true, false, not, cond, List, [], ◌∷◌, ◌++◌, length, Option, Some, None, Result, Ok, Err, Bor, refl, sym, ◌∙◌, ap, subst, arith}
+use Rattle.std.proofs.Common.{◌≡◌, ℕ, ◌≤◌, Bool, true, false, not, cond, List, [], ◌∷◌, ◌++◌, length, Option, Some, None, Result, Ok, Err, Bor, refl, sym, ◌∙◌, ap, subst}
 use Rattle.std.specs.Prelude.{IfOk, IfSome, is_ok, is_some, nat_lt, nat_le, ◌&&◌, ◌||◌}
 use Rattle.std.specs.Option.{option_and_then, option_map, option_or}
 use Rattle.std.proofs.lemmas.Bool.{and_parts, leb-true, ltb-false}
@@ -16,7 +16,7 @@ use Rattle.make_info.specs.declared.field.Field.TheVariants as Fields
 use Rattle.make_info.specs.declared.output.TheConstants.{LONGEST_OUTPUT}
 use Rattle.make_info.specs.FieldTexts.{FieldText, file_name_in, first_text_for, field_text_in, if_passes, values_of_info, is_for, is_text_for, is_info_option, is_long_name, is_too_long, package_name_in, named_output, default_output, package_file_name_of, text_for, text_when_for}
 use Rattle.make_info.specs.Information.{InfoItem, all_items, first_offence, information, information_of, is_second, items_of_option, lacks_name_or_version, offends, unless_offence}
-use Rattle.make_info.specs.Output.{if_allowed, is_mkpkg, output_name, package_output}
+use Rattle.make_info.specs.Output.{if_allowed, package_output}
 use Rattle.make_info.proofs.FileNames.{HaveVersionBytes, own_file_name}
 
 -- ---- a named output is a name

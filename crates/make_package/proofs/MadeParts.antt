@@ -100,7 +100,7 @@ folder_file (u ∷ us) h = by_letter (eqb u.letter FILES) refl (folder_file us (
     by_letter : (b : Bool) → eqb u.letter FILES ≡ b → IfSome (first_value FILES us) (λ v. is_file v.text ≡ true) → IfSome (cond b (Some u) (first_value FILES us)) (λ v. is_file v.text ≡ true)
     by_letter true t rest =
         let good : is_value_by (rule_for (value_rules Mkpkg) FILES) u.text ≡ true =
-            subst (λ (l : ℕ). is_value_by (rule_for (value_rules Mkpkg) l) u.text ≡ true) (eqb-true u.letter FILES t) (first_two (value_rules Mkpkg) u us h).0 in
+        subst (λ (l : ℕ). is_value_by (rule_for (value_rules Mkpkg) l) u.text ≡ true) (eqb-true u.letter FILES t) (first_two (value_rules Mkpkg) u us h).0 in
         good
     by_letter false t rest = rest
 

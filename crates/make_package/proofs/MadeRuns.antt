@@ -1,6 +1,6 @@
 -- A package that is made by reads one after the other.
 use Rattle.command_core.specs.declared.values.TheConstants.{FILES, SCRIPT}
-use Rattle.std.proofs.Common.{◌≡◌, ℕ, suc, ◌+◌, ◌^◌, ◌<◌, ◌≤◌, List, [], ◌∷◌, ◌++◌, length, drop, take, map, slice_get, Option, Some, None, Result, Ok, Err, Vec, IfOk, IfErr, refl, sym, ap, ◌∙◌, subst, arith}
+use Rattle.std.proofs.Common.{◌≡◌, ℕ, suc, ◌+◌, ◌≤◌, List, [], ◌∷◌, ◌++◌, length, drop, take, map, slice_get, Option, Some, Result, Ok, Err, Vec, refl, sym, ap, ◌∙◌, subst, arith}
 use Rattle.std.specs.declared.alloc.Global.{Global}
 use Rattle.std.specs.Result.{IsErrAnd}
 use Rattle.std.proofs.lemmas.List.{map-append, take-append-drop}
@@ -14,9 +14,9 @@ use Rattle.command_core.specs.Values.{script_file}
 use Rattle.command_core.specs.Files.{without_dot}
 use Rattle.command_core.specs.declared.values.OptionValue.{OptionValue}
 use Rattle.make_package.specs.Folders.{folders_of}
-use Rattle.make_info.specs.Faults.{IsInfoFault, UnlessDisk}
+use Rattle.make_info.specs.Faults.{IsInfoFault}
 use Rattle.make_info.specs.Information.{InfoItem, information}
-use Rattle.make_package.specs.Answers.{IsBytes, IsCutOff, IsMadeOf, IsMadeRun, IsNotDisk, AreBelow, IsMadeBySome, IsMadeIn, OnRefusal}
+use Rattle.make_package.specs.Answers.{IsBytes, IsCutOff, IsMadeRun, IsNotDisk, AreBelow}
 use Rattle.make_package.specs.Making.{made_package, or_info_bad, package_of_parts}
 use Rattle.make_package.specs.Package as packages
 use Rattle.make_package.specs.Package.{SourceFolder}

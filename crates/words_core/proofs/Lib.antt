@@ -16,3 +16,4 @@ pub mod WordsCompleted
 pub mod AppletCompleted
 pub mod WhatFollows
 pub mod StuckWords
+pub mod Letters

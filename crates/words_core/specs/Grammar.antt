@@ -170,7 +170,8 @@ abbrev pub is_option_or_value : OptionState → List ℕ → Bool
 is_option_or_value state word = is_some state.awaiting || (is_option word && not (is_end word))
 
 -- a state with such a word at a place; None where it cannot be read
-abbrev pub with_word_by : List OptionSpec → OptionState → ℕ → List ℕ → Option ValueRule → Option OptionState
+abbrev pub with_word_by : List OptionSpec → OptionState → ℕ → List ℕ → Option ValueRule
+    → Option OptionState
 with_word_by options state place word None = with_spelled options state place word
 with_word_by options state place word (Some rule) = with_value state place word rule
 

@@ -1,6 +1,21 @@
--- What the rows of the reader's tables stand for.
+-- What the rows of the reader's tables stand for, and what they keep.
+use Rattle.std.specs.Prelude.{ℕ, Bool, true, List, [], ◌∷◌}
+use Rattle.std.specs.Str.{bytes_eq}
+use Rattle.words_core.specs.declared.options.Meaning.{Meaning}
+use Rattle.words_core.specs.declared.options.Meaning.TheVariants.{Value}
 use Rattle.words_core.specs.declared.options.OptionRow.{OptionRow}
 use Rattle.words_core.specs.Options.{OptionSpec}
 
 abbrev pub option_spec : OptionRow → OptionSpec
 option_spec row = record { long = row.long.now; short = row.short.now; meaning = row.meaning }
+
+abbrev pub dash : ℕ
+dash = 45
+
+-- whether the letter of an option with values is that of its short word
+abbrev pub has_letter : List ℕ → Meaning → Bool
+has_letter short (Value rule) = bytes_eq short (dash ∷ (rule.letter ∷ []))
+has_letter short meaning = true
+
+abbrev pub has_its_letter : OptionSpec → Bool
+has_its_letter option = has_letter option.short option.meaning

@@ -1,8 +1,12 @@
 //! Laws of the grammar of command lines.
 ghost use Rattle.std.specs.Prelude.{◌≡◌, ◌≤◌, ◌<◌, ◌+◌, ◌-◌, ◌++◌, ℕ, List, Ok, Err, IsTrue, length, not, take};
+ghost use Rattle.std.specs.List.{list_all};
 ghost use Rattle.command_core.specs.Command.{CommandLine};
+ghost use Rattle.command_core.specs.declared.command.Applet.{Applet};
 ghost use Rattle.words_core.specs.Grammar.{command_of};
 ghost use Rattle.words_core.specs.Lines.{IsLineOf};
+ghost use Rattle.words_core.specs.Options.{own_options};
+ghost use Rattle.words_core.specs.Rows.{has_its_letter};
 ghost use Rattle.words_core.specs.Stuck.{are_stuck};
 
 /// Words of which a command is read are that command: its applet, its operands and its options, and
@@ -37,7 +41,8 @@ pub fn words_offend_whatever_follows()
 pub fn words_before_a_usage_error_can_be_completed()
     ensures { (words : List (List ℕ)) (place : ℕ) →
         IsTrue (not (are_stuck (take (place - 1) words))) → command_of words ≡ Err place →
-        (more : List (List ℕ)) × (command : CommandLine) × (command_of (take (place - 1) words ++ more) ≡ Ok command) }
+        (more : List (List ℕ)) × (command : CommandLine)
+        × (command_of (take (place - 1) words ++ more) ≡ Ok command) }
 {}
 
 /// Stuck words are no command, whatever follows.
@@ -51,4 +56,9 @@ pub fn what_follows_a_command_offends_behind_it()
     ensures { (words more : List (List ℕ)) (command : CommandLine) (place : ℕ) →
         command_of words ≡ Ok command → command_of (words ++ more) ≡ Err place →
         length words < place }
+{}
+
+/// The letter of each option with values is that of its short word.
+pub fn letters_are_those_of_short_words()
+    ensures { (applet : Applet) → IsTrue (list_all has_its_letter (own_options applet)) }
 {}

@@ -16,8 +16,9 @@ mod word;
 
 pub use command_core::{Applet, Command, Flags, Operand, Operands, OptionValue, Values};
 pub use laws::{
-    commands_are_read, read_words_are_a_command, stuck_words_are_no_command,
-    usage_errors_are_at_words, what_follows_a_command_offends_behind_it,
-    words_before_a_usage_error_can_be_completed, words_offend_whatever_follows,
+    commands_are_read, letters_are_those_of_short_words, read_words_are_a_command,
+    stuck_words_are_no_command, usage_errors_are_at_words,
+    what_follows_a_command_offends_behind_it, words_before_a_usage_error_can_be_completed,
+    words_offend_whatever_follows,
 };
 pub use read::{WordsFault, read_words};

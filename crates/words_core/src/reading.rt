@@ -321,7 +321,8 @@ pub(crate) fn read_behind(
 fn read_options(alloc: Global, words: &Words, start: &Start) -> Result<Reading, AllocError>
     requires { start.now.read ≤ length words.now }
     ensures { IfOk result (λ reading.
-        reading ≡ option_reading (options_of start.now.applet) (first_state start.now.flags) (start.now.read + 1) (drop start.now.read words.now)) }
+        reading ≡ option_reading (options_of start.now.applet) (first_state start.now.flags)
+        (start.now.read + 1) (drop start.now.read words.now)) }
 {
     let mut state = OptionState::new(alloc, start.flags);
     let mut operands = Operands::new(alloc);

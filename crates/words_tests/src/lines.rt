@@ -1,6 +1,6 @@
 //! Command lines: which are a command, and which word offends first where they are none.
 use base_core::Words;
-use command_core::{Applet, FILES, INFO, OUTPUT, OperandKind, SCRIPT, ValueKind};
+use command_core::{Applet, OperandKind, ValueKind};
 use std::alloc::{AllocError, Global};
 use std::process::Abort;
 use std::test::Fail;
@@ -349,10 +349,10 @@ fn values_of_options(rt: HostRuntime) -> Result<(), Fail> {
     assert!(rt; !values.is_empty());
     assert_eq!(rt; values.len(), 4);
     assert_eq!(rt; values.get(0).place, 3);
-    assert_eq!(rt; values.get(0).letter, INFO);
+    assert_eq!(rt; values.get(0).letter, b'I');
     assert_eq!(rt; values.get(0).text.as_bytes(), b"name:a".as_slice());
     assert_eq!(rt; values.get(1).place, 5);
-    assert_eq!(rt; values.get(1).letter, SCRIPT);
+    assert_eq!(rt; values.get(1).letter, b's');
     assert_eq!(rt; values.get(1).script_type(), b"pre-install".as_slice());
     assert_eq!(rt;
         values.get(1).text.as_bytes(),
@@ -361,9 +361,30 @@ fn values_of_options(rt: HostRuntime) -> Result<(), Fail> {
     assert_eq!(rt; values.get(2).place, 7);
     assert_eq!(rt; values.get(2).text.as_bytes(), b"./-x".as_slice());
     assert_eq!(rt; values.get(3).text.as_bytes(), b"--".as_slice());
-    assert_eq!(rt; values.first(SCRIPT).map(|value| value.place), Some(5));
-    assert_eq!(rt; values.first(OUTPUT).map(|value| value.place), Some(7));
-    assert!(rt; values.first(FILES).is_none());
+    assert_eq!(rt; values.first(b's').map(|value| value.place), Some(5));
+    assert_eq!(rt; values.first(b'o').map(|value| value.place), Some(7));
+    assert!(rt; values.first(b'F').is_none());
+    Ok(())
+}
+
+// A line of options with values, and their letters in order.
+#[rattlefmt::skip]
+const LETTERS: [(&[u8], &[u8]); 3] = [
+    (b"mkpkg -I a -s trigger:a -t /a -F a -o a -c none", b"IstFoc"),
+    (b"mkpkg --info=a --script=trigger:a --trigger=/a --files=a --output=a --compression=none", b"IstFoc"),
+    (b"mkndx -d a -o a --compression=none", b"doc"),
+];
+
+#[test]
+fn letters(rt: HostRuntime) -> Result<(), Fail> {
+    for (line, letters) in &LETTERS {
+        let command = read_words(rt.alloc(), &words_of(rt.alloc(), line)?)?;
+        let values = command.values();
+        assert_eq!(rt; values.len(), letters.len());
+        for i in 0..values.len() {
+            assert_eq!(rt; Some(&values.get(i).letter), letters.get(i));
+        }
+    }
     Ok(())
 }
 
