@@ -1,11 +1,14 @@
 -- Worked reports: what the definitions say of them, by computation.
 use Rattle.std.proofs.Common.{◌≡◌, ◌++◌, List, [], ◌∷◌, codes, refl}
+use Rattle.std.specs.Fmt.{digits}
 use Rattle.report_core.specs.Reports.{Change, change_lines, contents_section, description_section, depends_section, owner_text, report_line, stays_text, sum_text, trigger_text}
 
 changes : change_lines (Change.Install (codes "hello") (codes "1.2-r0") ∷ (Change.Upgrade (codes "greet") (codes "1.0-r0") (codes "1.1-r0") ∷ (Change.Purge (codes "world") (codes "1-r0") ∷ []))) ≡ codes "(1/3) Installing hello (1.2-r0)\n(2/3) Upgrading greet (1.0-r0 -> 1.1-r0)\n(3/3) Purging world (1-r0)\n"
+unfolding digits
 changes = refl
 
 other_changes : change_lines (Change.Reinstall (codes "a") (codes "1") ∷ (Change.Downgrade (codes "b") (codes "2") (codes "1") ∷ (Change.Replace (codes "c") (codes "1") (codes "1.0") ∷ []))) ≡ codes "(1/3) Reinstalling a (1)\n(2/3) Downgrading b (2 -> 1)\n(3/3) Replacing c (1 -> 1.0)\n"
+unfolding digits
 other_changes = refl
 
 stays : stays_text (codes "greet") [] ≡ codes "greet stays"
@@ -18,6 +21,7 @@ trigger : trigger_text (codes "man") (codes "usr/share/man") ++ trigger_text (co
 trigger = refl
 
 sum : sum_text 1 2 ≡ codes "OK: 1 bytes in 2 packages"
+unfolding digits
 sum = refl
 
 description : description_section (codes "p") (codes "1-r0") (codes "A p") ≡ codes "p-1-r0 description:\nA p\n\n"
