@@ -1,8 +1,5 @@
 -- The contents that stand behind the value of a package are those that it expects.
-use Rattle.std.proofs.Common.{◌≡◌, ℕ, ◌+◌, Bool, true, false, ◌&&◌, ◌==◌, eqb, nat_lt, if◌then◌else◌, List, [], ◌∷◌, ◌++◌, length, map, bytes_eq, None, refl, ap, sym, subst, ◌∙◌, arith, Option}
-use Rattle.std.specs.Prelude.{sum_by}
-use Rattle.std.proofs.lemmas.Bool.{ltb-false}
-use Rattle.std.proofs.lemmas.List.Sums.{sum_by-cons}
+use Rattle.std.proofs.Common.{◌≡◌, ℕ, ◌+◌, Bool, true, false, ◌&&◌, ◌==◌, eqb, nat_lt, if◌then◌else◌, List, [], ◌∷◌, ◌++◌, length, map, bytes_eq, None, refl, ap, sym, subst, ◌∙◌, Option}
 use Rattle.std.proofs.lemmas.Slice.Eq.{bytes_eq-Decides}
 use Rattle.sha2.specs.Sha256.{sha256}
 use Rattle.sha2.proofs.Facts256.{length-sha256}
@@ -11,7 +8,7 @@ use Rattle.adb_rules.specs.Texts.{is_with_contents}
 use Rattle.adb_tables.specs.Values.{entry_in, int_in, text_in}
 use Rattle.pkg_core.specs.Contents.{Contents, Expected, expected_at, expected_contents, expected_files, expected_folders, hash_fault}
 use Rattle.pkg_core.specs.GoodContents.{AreContentsOf}
-use Rattle.make_package.specs.Package.{Script, Source, SourceFolder, contents_of_file, contents_of_files, contents_of_folders, kind_of_file, value_of_kind, value_of_file, value_of_folder, has_contents, installed_size, is_link_file, link_text, value_of_package, size_of_folder, size_of_kind}
+use Rattle.make_package.specs.Package.{Script, Source, SourceFolder, contents_of_file, contents_of_files, contents_of_folders, kind_of_file, value_of_kind, value_of_file, value_of_folder, has_contents, is_link_file, link_text, value_of_package}
 use Rattle.make_package.specs.declared.file.FileKind.{FileKind}
 use Rattle.make_package.specs.declared.file.FileKind.TheVariants.{Link, Regular}
 use Rattle.make_core.proofs.PackageFiles.{files_stand, folders_stand, hash_stands, size_stands, target_stands, with_contents}

@@ -8,8 +8,8 @@ use Rattle.base_core.specs.Calls.{IfObservable}
 use Rattle.base_core.specs.Tree.{TreeState, files_of}
 use Rattle.adb_view.specs.Plain.{Plain}
 use Rattle.std.specs.Option.{option_map}
-use Rattle.command_core.specs.Named.{are_files, operand_file}
-use Rattle.command_core.specs.Files.{is_file, without_dot}
+use Rattle.command_core.specs.Named.{operand_file}
+use Rattle.command_core.specs.Files.{without_dot}
 use Rattle.command_core.specs.declared.operands.Operand.{Operand}
 use Rattle.make_index.specs.Index.{and_entries, found_entries, found_entry}
 use Rattle.make_index.specs.Kept.{IsMade, IsMadeBy}
