@@ -1,0 +1,15 @@
+pub mod RankOrder
+pub mod DependencyLists
+pub mod OptionLists
+pub mod OfferLists
+pub mod Anyone
+pub mod TableLookup
+pub mod SortedOptions
+pub mod Answering
+pub mod Filtered
+pub mod LoopTests
+pub mod Installed
+pub mod Steps
+pub mod Sealing
+pub mod TableAdding
+pub mod CandidateLists

@@ -1,0 +1,86 @@
+-- What is marked at the seal is what world says of each candidate.
+use Rattle.std.proofs.Common.{◌≡◌, inl, inr, ℕ, suc, Bool, true, false, List, [], ◌∷◌, map, refl, sym, ap, ◌∙◌}
+use Rattle.std.specs.Prelude.{Option, Some, None, is_some, ◌&&◌, ◌||◌, not}
+use Rattle.std.specs.Option.{option_map_or}
+use Rattle.std.specs.List.{filter, list_any}
+use Rattle.std.specs.Str.{bytes_eq}
+use Rattle.dep_core.specs.Dependency.{Dependency}
+use Rattle.pool_core.specs.declared.sealed.EntryKind.TheVariants.{Conflict, Tagged}
+use Rattle.pool_core.specs.Candidates.{Candidate, has_usable_install_if, is_allowed, is_eligible, is_excluded_by, meets_dependency, uses_tag}
+use Rattle.pool_core.specs.Options.{places_from}
+use Rattle.pool_core.specs.Rank.{is_pinned, is_pinned_to}
+use Rattle.pool_core.specs.World.{entries_of_kind, has_positive_install_if, is_entry_of_kind, places_marked}
+use Rattle.pool_core.proofs.OptionLists.{bool_cases}
+
+any_filter : {X : Type 0} (p q : X → Bool) (xs : List X) → ((x : X) → p x ≡ true → q x ≡ true) → list_any p (filter q xs) ≡ list_any p xs
+any_filter p q [] to = refl
+any_filter p q (x ∷ xs) to = elim (bool_cases (q x)) [
+  | inl e ↦ rw e (ap (λ (b : Bool). p x || b) (any_filter p q xs to))
+  | inr e ↦ elim (bool_cases (p x)) [
+    | inl g ↦ let bad : true ≡ false = sym (to x g) ∙ e in absurd (cc)
+    | inr g ↦ rw (e, g) (any_filter p q xs to)
+  ]
+]
+
+tag_there : (tag : List ℕ) (o : Option (List ℕ)) → option_map_or (bytes_eq tag) o false ≡ true → is_some o ≡ true
+tag_there tag None h = absurd (cc)
+tag_there tag (Some t) h = refl
+
+both_last : (a b : Bool) → (a && b) ≡ true → b ≡ true
+both_last true b h = h
+both_last false b h = absurd (cc)
+
+both_first : (a b : Bool) → (a && b) ≡ true → a ≡ true
+both_first true b h = refl
+both_first false b h = h
+
+uses_tag-tagged : (world : List Dependency) (tag : List ℕ) → uses_tag (entries_of_kind Tagged world) tag ≡ uses_tag world tag
+uses_tag-tagged world tag = any_filter (λ (d : Dependency). option_map_or (bytes_eq tag) d.tag false) (is_entry_of_kind Tagged) world (λ d h. tag_there tag d.tag h)
+
+pinned_to-tagged : (world : List Dependency) (name tag : List ℕ) → is_pinned_to (entries_of_kind Tagged world) name tag ≡ is_pinned_to world name tag
+pinned_to-tagged world name tag =
+    any_filter (λ (d : Dependency). bytes_eq name d.name && option_map_or (bytes_eq tag) d.tag false) (is_entry_of_kind Tagged) world
+    (λ d h. tag_there tag d.tag (both_last (bytes_eq name d.name) (option_map_or (bytes_eq tag) d.tag false) h))
+
+excluded-conflicts : (world : List Dependency) (c : Candidate) → is_excluded_by (entries_of_kind Conflict world) c ≡ is_excluded_by world c
+excluded-conflicts world c =
+    any_filter (λ (d : Dependency). d.conflict && meets_dependency d c) (is_entry_of_kind Conflict) world
+    (λ d h. both_first d.conflict (meets_dependency d c) h)
+
+tag_or : (o : Option (List ℕ)) (p q : List ℕ → Bool) (d : Bool) → ((t : List ℕ) → p t ≡ q t) → option_map_or p o d ≡ option_map_or q o d
+tag_or None p q d same = refl
+tag_or (Some t) p q d same = same t
+
+allowed-tagged : (world : List Dependency) (c : Candidate) → is_allowed (entries_of_kind Tagged world) c ≡ is_allowed world c
+allowed-tagged world c = ap (λ (b : Bool). c.installed || (not (is_some c.repository) || b)) (tag_or c.tag (uses_tag (entries_of_kind Tagged world)) (uses_tag world) true (uses_tag-tagged world))
+
+eligible_is : (world : List Dependency) (c : Candidate) → (is_allowed (entries_of_kind Tagged world) c && not (is_excluded_by (entries_of_kind Conflict world) c)) ≡ is_eligible world c
+eligible_is world c = ap (λ (a : Bool). a && not (is_excluded_by (entries_of_kind Conflict world) c)) (allowed-tagged world c) ∙ ap (λ (b : Bool). is_allowed world c && not b) (excluded-conflicts world c)
+
+pinned_is : (world : List Dependency) (c : Candidate) → is_pinned (entries_of_kind Tagged world) c ≡ is_pinned world c
+pinned_is world c = tag_or c.tag (is_pinned_to (entries_of_kind Tagged world) c.name) (is_pinned_to world c.name) false (pinned_to-tagged world c.name)
+
+map_same : (f g : Candidate → Bool) (cs : List Candidate) → ((c : Candidate) → f c ≡ g c) → map f cs ≡ map g cs
+map_same f g [] same = refl
+map_same f g (c ∷ cs) same = ap (λ (b : Bool). b ∷ map f cs) (same c) ∙ ap (λ (bs : List Bool). g c ∷ bs) (map_same f g cs same)
+
+pub eligible_marked : (world tagged conflicts : List Dependency) (marks : List Bool) (cs : List Candidate) → tagged ≡ entries_of_kind Tagged world → conflicts ≡ entries_of_kind Conflict world → marks ≡ map (λ (c : Candidate). is_allowed tagged c && not (is_excluded_by conflicts c)) cs → marks ≡ map (is_eligible world) cs
+eligible_marked world tagged conflicts marks cs t k is =
+    is ∙ (ap (λ (ds : List Dependency). map (λ (c : Candidate). is_allowed ds c && not (is_excluded_by conflicts c)) cs) t
+    ∙ (ap (λ (ds : List Dependency). map (λ (c : Candidate). is_allowed (entries_of_kind Tagged world) c && not (is_excluded_by ds c)) cs) k
+    ∙ map_same (λ (c : Candidate). is_allowed (entries_of_kind Tagged world) c && not (is_excluded_by (entries_of_kind Conflict world) c)) (is_eligible world) cs (eligible_is world)))
+
+pub pinned_marked : (world tagged : List Dependency) (marks : List Bool) (cs : List Candidate) → tagged ≡ entries_of_kind Tagged world → marks ≡ map (λ (c : Candidate). is_pinned tagged c) cs → marks ≡ map (is_pinned world) cs
+pinned_marked world tagged marks cs t is =
+    is ∙ (ap (λ (ds : List Dependency). map (λ (c : Candidate). is_pinned ds c) cs) t
+    ∙ map_same (λ (c : Candidate). is_pinned (entries_of_kind Tagged world) c) (is_pinned world) cs (pinned_is world))
+
+marked_places : (world : List Dependency) (n : ℕ) (cs : List Candidate) → places_marked n (map (is_eligible world) cs) cs ≡ places_from n (has_usable_install_if world) cs
+marked_places world n [] = refl
+marked_places world n (c ∷ cs) = elim (bool_cases (is_eligible world c && has_positive_install_if c)) [
+  | inl e ↦ rw e (ap (λ (z : List ℕ). n ∷ z) (marked_places world (suc n) cs))
+  | inr e ↦ rw e (marked_places world (suc n) cs)
+]
+
+pub install_ifs_marked : (world : List Dependency) (marks : List Bool) (cs : List Candidate) (ids : List ℕ) → marks ≡ map (is_eligible world) cs → ids ≡ places_marked 0 marks cs → ids ≡ places_from 0 (has_usable_install_if world) cs
+install_ifs_marked world marks cs ids is found = found ∙ (ap (λ (ms : List Bool). places_marked 0 ms cs) is ∙ marked_places world 0 cs)

@@ -1,0 +1,135 @@
+-- A sorted list of the places that may be chosen is the options.
+use Rattle.std.proofs.Common.{◌≡◌, ◌⊎◌, inl, inr, ℕ, suc, ◌+◌, ◌≤◌, ◌<◌, Bool, true, false, List, [], ◌∷◌, length, get_or, refl, sym, subst, ◌∙◌, arith}
+use Rattle.std.specs.Prelude.{not, ◌&&◌}
+use Rattle.std.specs.List.{filter}
+use Rattle.std.specs.List.Sorted.{IsSortedBy, IsStableBy, ties}
+use Rattle.std.specs.Cmp.{IsStrictWeakOrder}
+use Rattle.std.proofs.lemmas.Bool.{cases_eq}
+use Rattle.std.proofs.lemmas.List.Sorted.{sorted_far}
+use Rattle.pool_core.specs.Options.{AreDistinct, IsMember, IsBestFirst, rank_order_of}
+use Rattle.pool_core.proofs.OptionLists.{bool_cases, ranked_in, in_ranked}
+
+module _ (better : ℕ → ℕ → Bool) (weak : IsStrictWeakOrder better) (chain : (a b c : ℕ) → better a b ≡ true → better b c ≡ true → better a c ≡ true) (one_of : (a b : ℕ) → (a ≡ b → ⊥) → (better a b ≡ true) ⊎ (better b a ≡ true)) where
+  no_true : false ≡ true → ⊥
+  no_true e = cc
+
+  asym : (a b : ℕ) → better a b ≡ true → better b a ≡ true → ⊥
+  asym a b h g = no_true (sym (weak.one_way a b h) ∙ g)
+
+  not_self : (a : ℕ) → better a a ≡ false
+  not_self a = elim (bool_cases (better a a)) [ inl e ↦ absurd (asym a a e e) | inr e ↦ e ]
+
+  ties_self : (a : ℕ) → ties better a a ≡ true
+  ties_self a = rw (not_self a) refl
+
+  kept : (a : ℕ) (xs : List ℕ) → IsMember a xs → IsMember a (filter (ties better a) xs)
+  kept a [] h = absurd h
+  kept a (x ∷ xs) (inl e) = rw (subst (λ (z : ℕ). ties better a z ≡ true) e (ties_self a)) (inl e)
+  kept a (x ∷ xs) (inr h) = elim (bool_cases (ties better a x)) [ inl e ↦ rw e (inr (kept a xs h)) | inr e ↦ rw e (kept a xs h) ]
+
+  from_filter : (a : ℕ) (p : ℕ → Bool) (xs : List ℕ) → IsMember a (filter p xs) → IsMember a xs
+  from_filter a p [] h = absurd h
+  from_filter a p (x ∷ xs) h = elim (bool_cases (p x)) [
+    | inl e ↦ elim (rw e at h) [ inl q ↦ inl q | inr r ↦ inr (from_filter a p xs r) ]
+    | inr e ↦ inr (from_filter a p xs (rw e at h))
+  ]
+
+  -- what a stable sort gives has the same members
+  members : (xs ys : List ℕ) → IsStableBy better xs ys → (c : ℕ) → (IsMember c ys → IsMember c xs) × (IsMember c xs → IsMember c ys)
+  members xs ys stable c = (
+    λ h. from_filter c (ties better c) xs (subst (λ (z : List ℕ). IsMember c z) (stable c) (kept c ys h)),
+    λ h. from_filter c (ties better c) ys (subst (λ (z : List ℕ). IsMember c z) (sym (stable c)) (kept c xs h)),
+  )
+
+  filter_pos : (a : ℕ) (p : ℕ → Bool) (xs : List ℕ) → IsMember a xs → p a ≡ true → 1 ≤ length (filter p xs)
+  filter_pos a p [] h e = absurd h
+  filter_pos a p (x ∷ xs) (inl q) e = rw (subst (λ (z : ℕ). p z ≡ true) q e) (omega arith)
+  filter_pos a p (x ∷ xs) (inr h) e = elim (bool_cases (p x)) [ inl t ↦ rw t (omega arith) | inr t ↦ rw t (filter_pos a p xs h e) ]
+
+  tie_same : (a b : ℕ) → ties better a b ≡ true → a ≡ b
+  tie_same a b h = elim (told a b) [
+    | inl e ↦ e
+    | inr n ↦ elim (one_of a b n) [
+      | inl g ↦ let bad : false ≡ true = rw g at h in absurd (no_true bad)
+      | inr g ↦ let bad : false ≡ true = both_bad (better a b) (better b a) g h in absurd (no_true bad)
+    ]
+  ]
+    where
+      told : (a b : ℕ) → (a ≡ b) ⊎ (a ≡ b → ⊥)
+      told a b = cases_eq a b
+
+      both_bad : (p q : Bool) → q ≡ true → (not p && not q) ≡ true → false ≡ true
+      both_bad true q e h = h
+      both_bad false q e h = rw e at h
+
+  once : (a : ℕ) (xs : List ℕ) → AreDistinct xs → length (filter (ties better a) xs) ≤ 1
+  once a [] r = omega arith
+  once a (x ∷ xs) r = elim (bool_cases (ties better a x)) [
+    | inl e ↦ rw e (let n = none_left a xs (λ h. r.0 (subst (λ (z : ℕ). IsMember z xs) (tie_same a x e) h)) in omega arith)
+    | inr e ↦ rw e (once a xs r.1)
+  ]
+    where
+      none_left : (a : ℕ) (ys : List ℕ) → (IsMember a ys → ⊥) → length (filter (ties better a) ys) ≡ 0
+      none_left a [] out = refl
+      none_left a (y ∷ ys) out = elim (bool_cases (ties better a y)) [
+        | inl e ↦ absurd (out (inl (tie_same a y e)))
+        | inr e ↦ rw e (none_left a ys (λ h. out (inr h)))
+      ]
+
+  apart_of : (ys : List ℕ) → ((a : ℕ) → length (filter (ties better a) ys) ≤ 1) → AreDistinct ys
+  apart_of [] few = tt
+  apart_of (y ∷ ys) few = (
+    (λ h. let one : length (filter (ties better y) (y ∷ ys)) ≤ 1 = few y in let two : suc (length (filter (ties better y) ys)) ≤ 1 = rw (ties_self y) at one in let pos = filter_pos y (ties better y) ys h (ties_self y) in absurd (omega arith)),
+    apart_of ys (λ a. elim (bool_cases (ties better a y)) [
+      | inl e ↦ let one : suc (length (filter (ties better a) ys)) ≤ 1 = rw e at (few a) in omega arith
+      | inr e ↦ rw e at (few a)
+    ]),
+  )
+
+  at_place : (d : ℕ) (xs : List ℕ) → IsMember d xs → (j : ℕ) × (j < length xs) × (get_or xs j d ≡ d)
+  at_place d [] h = absurd h
+  at_place d (x ∷ xs) (inl e) = (0, omega arith, sym e)
+  at_place d (x ∷ xs) (inr h) = let r = at_place d xs h in (suc r.0, omega (arith, r.1), r.2)
+
+  behind : (y : ℕ) (ys : List ℕ) → IsSortedBy better (y ∷ ys) → (d : ℕ) → IsMember d ys → better d y ≡ false
+  behind y ys up d h =
+      let r = at_place d ys h in
+      let far = sorted_far better weak (y ∷ ys) up 0 (suc r.0) d (omega arith) (omega (arith, r.1)) in
+      subst (λ (z : ℕ). better z y ≡ false) r.2 far
+
+  tail_up : (y : ℕ) (ys : List ℕ) → IsSortedBy better (y ∷ ys) → IsSortedBy better ys
+  tail_up y ys up = λ k d low high. let h = up (suc k) d (omega arith) (omega arith) in
+      let e : suc k + 1 ≡ suc (k + 1) = omega arith in
+      subst (λ (n : ℕ). better (get_or (y ∷ ys) n d) (get_or ys k d) ≡ false) e h
+
+  pub sorted_ranked : (ys : List ℕ) → IsSortedBy better ys → AreDistinct ys → IsBestFirst better ys
+  sorted_ranked [] up r = tt
+  sorted_ranked (y ∷ ys) up r = (
+    (λ d h. elim (one_of y d (λ e. r.0 (subst (λ (z : ℕ). IsMember z ys) (sym e) h))) [
+      | inl g ↦ g
+      | inr g ↦ absurd (no_true (sym (behind y ys up d h) ∙ g))
+    ]),
+    sorted_ranked ys (tail_up y ys up) r.1,
+  )
+
+  same_ranked : (xs ys : List ℕ) → IsBestFirst better xs → IsBestFirst better ys → ((c : ℕ) → (IsMember c xs → IsMember c ys) × (IsMember c ys → IsMember c xs)) → xs ≡ ys
+  same_ranked [] [] r s same = refl
+  same_ranked [] (y ∷ ys) r s same = absurd ((same y).1 (inl refl))
+  same_ranked (x ∷ xs) [] r s same = absurd ((same x).0 (inl refl))
+  same_ranked (x ∷ xs) (y ∷ ys) r s same =
+      let head : x ≡ y = elim ((same x).0 (inl refl)) [
+        | inl e ↦ e
+        | inr h ↦ elim ((same y).1 (inl refl)) [ inl e ↦ sym e | inr g ↦ absurd (asym x y (r.0 y g) (s.0 x h)) ]
+      ] in
+      let rest : xs ≡ ys = same_ranked xs ys r.1 s.1 (λ c. (
+        λ h. elim ((same c).0 (inr h)) [ inl e ↦ absurd (no_true (sym (not_self x) ∙ subst (λ (z : ℕ). better x z ≡ true) (e ∙ sym head) (r.0 c h))) | inr k ↦ k ],
+        λ h. elim ((same c).1 (inr h)) [ inl e ↦ absurd (no_true (sym (not_self y) ∙ subst (λ (z : ℕ). better y z ≡ true) (e ∙ head) (s.0 c h))) | inr k ↦ k ],
+      )) in
+      cc
+
+  -- a stable sort of places that stand apart is their ranked list
+  pub sorted_is_ranked : (xs ys : List ℕ) → AreDistinct xs → IsSortedBy better ys → IsStableBy better xs ys → IsBestFirst better (rank_order_of better xs) → ys ≡ rank_order_of better xs
+  sorted_is_ranked xs ys r up stable is =
+      let apart = apart_of ys (λ a. subst (λ (z : List ℕ). length z ≤ 1) (sym (stable a)) (once a xs r)) in
+      same_ranked ys (rank_order_of better xs) (sorted_ranked ys up apart) is (λ c.
+      (λ h. in_ranked better c xs ((members xs ys stable c).0 h), λ h. (members xs ys stable c).1 (ranked_in better c xs h)))

@@ -1,0 +1,7 @@
+use Rattle.pool_core.proofs.Filtered.{meeting_is_offered}
+use Rattle.pool_core.proofs.OfferLists.{offers_each}
+use Rattle.pool_core.specs.Candidates.{need_name}
+use Rattle.pool_core.proofs.laws.offers_hold_what_meets.Goals as goal
+
+pub returns : goal.returns
+returns c = λ pool need k h. offers_each pool (need_name need) k (meeting_is_offered pool need k h)

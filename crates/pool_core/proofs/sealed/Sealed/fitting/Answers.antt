@@ -1,0 +1,13 @@
+use Rattle.std.proofs.Common.{◌∙◌, List, ℕ, ap}
+use Rattle.std.specs.List.{filter}
+use Rattle.pool_core.specs.Options.{may_meet, places_offering}
+use Rattle.pool_core.specs.Rank.{is_at}
+use Rattle.pool_core.specs.Values.{need_by}
+use Rattle.pool_core.proofs.Filtered.{fitting_places}
+use Rattle.pool_core.proofs.sealed.Sealed.fitting.Goals as goal
+
+pub returns : goal.returns
+returns c =
+    let pool = c.args.self.now in
+    let need = need_by c.args.need.now in
+    c.in_ok-ids.ensures ∙ (ap (filter (λ (k : ℕ). is_at pool (may_meet pool need) k)) (c.offers.ensures ∙ ap (λ (name : List ℕ). places_offering name pool.candidates) c.name.ensures) ∙ fitting_places pool need)

@@ -1,0 +1,193 @@
+-- The packages that a selection is made of, and what each of them meets (apk-package(5),
+-- apk-world(5)).
+use Rattle.std.specs.Prelude.{ℕ, ◌==◌, nat_eq, nat_lt, Bool, true, false, not, ◌&&◌, ◌||◌, if◌then◌else◌, List, [], ◌∷◌, ◌++◌, length, Option, Some, None, is_some}
+use Rattle.std.specs.Option.{option_and_then, option_map_or}
+use Rattle.std.specs.List.{cons_option, filter, find, list_all, list_any, starts_with}
+use Rattle.std.specs.Str.{bytes_eq}
+use Rattle.adb_view.specs.Plain.{Plain, Plains, none, more}
+use Rattle.adb_tables.specs.Values.{entries_in, entry_in, int_in, text_in}
+use Rattle.version_core.specs.Order.{is_version}
+use Rattle.dep_core.specs.Dependency.{Dependency}
+use Rattle.dep_core.specs.Meets.{meets}
+use Rattle.dep_core.specs.ValueReading.{dependency_of_value}
+
+-- a package to choose from. The version is none only where the text is no version, which no tested
+-- container has. Repositories count from 1; an installed package that no index has is of none
+pub record Candidate : Type 0 where
+  pub name : List ℕ
+  pub version : Option (List ℕ)
+  pub id : List ℕ
+  pub depends : List Dependency
+  pub provides : List Dependency
+  pub install_if : List Dependency
+  pub priority : ℕ
+  pub repository : Option ℕ
+  pub tag : Option (List ℕ)
+  pub installed : Bool
+
+-- ---- what is read of a package's information
+
+abbrev pub version_of_text : List ℕ → Option (List ℕ)
+version_of_text text = if is_version text then Some text else None
+
+abbrev pub dependency_in : Plain → Option Dependency
+dependency_in value =
+    dependency_of_value (text_in (entry_in value 0)) (text_in (entry_in value 1))
+    (int_in (entry_in value 2))
+
+-- the dependencies of an array; an entry that is none is passed over, and no tested container has
+-- one
+abbrev pub dependencies_of : Plains → List Dependency
+dependencies_of none = []
+dependencies_of (more value values) = cons_option (dependency_in value) (dependencies_of values)
+
+abbrev pub dependencies_in : Plain → List Dependency
+dependencies_in value = dependencies_of (entries_in value)
+
+abbrev pub candidate_by :
+    List ℕ → Option (List ℕ) → List ℕ → List Dependency → List Dependency → List Dependency →
+    ℕ → Option ℕ → Option (List ℕ) → Bool → Candidate
+candidate_by name version id depends provides install_if priority repository tag installed =
+    record {
+      name = name;
+      version = version;
+      id = id;
+      depends = depends;
+      provides = provides;
+      install_if = install_if;
+      priority = priority;
+      repository = repository;
+      tag = tag;
+      installed = installed;
+    }
+
+-- the candidate that a package's information is
+abbrev pub candidate_of : Plain → Option ℕ → Option (List ℕ) → Bool → Candidate
+candidate_of info repository tag installed =
+    candidate_by (text_in (entry_in info 0)) (version_of_text (text_in (entry_in info 1)))
+    (text_in (entry_in info 2)) (dependencies_in (entry_in info 14))
+    (dependencies_in (entry_in info 15)) (dependencies_in (entry_in info 17))
+    (int_in (entry_in info 13)) repository tag installed
+
+-- ---- the list: the packages of each index, then the installed ones that no index has
+
+-- the packages of a repository's index, in its order
+abbrev pub candidates_of_index : ℕ → Option (List ℕ) → Plains → List Candidate
+candidates_of_index repository tag none = []
+candidates_of_index repository tag (more info infos) =
+    candidate_of info (Some repository) tag false ∷ candidates_of_index repository tag infos
+
+-- two ids are the same where both are nonempty and the shorter is a front of the longer
+abbrev pub is_same_id : List ℕ → List ℕ → Bool
+is_same_id a b =
+    nat_lt 0 (length a)
+    && (nat_lt 0 (length b) && (starts_with nat_eq a b || starts_with nat_eq b a))
+
+abbrev pub is_same_version : Option (List ℕ) → Option (List ℕ) → Bool
+is_same_version None None = true
+is_same_version None (Some b) = false
+is_same_version (Some a) None = false
+is_same_version (Some a) (Some b) = bytes_eq a b
+
+-- whether a candidate of a repository is the installed package
+abbrev pub is_same_package : Candidate → Candidate → Bool
+is_same_package installed c =
+    is_some c.repository
+    && (bytes_eq c.name installed.name
+    && (is_same_version c.version installed.version && is_same_id c.id installed.id))
+
+abbrev pub as_installed : Candidate → Candidate
+as_installed c = record c { installed = true }
+
+-- each candidate that is the installed package counts as installed
+abbrev pub as_installed_where_same : Candidate → List Candidate → List Candidate
+as_installed_where_same installed [] = []
+as_installed_where_same installed (c ∷ cs) =
+    (if is_same_package installed c then as_installed c else c)
+    ∷ as_installed_where_same installed cs
+
+-- the list with an installed package, which stands by itself only where no index has it
+abbrev pub with_installed : List Candidate → Candidate → List Candidate
+with_installed cs installed =
+    if list_any (is_same_package installed) cs then as_installed_where_same installed cs
+    else cs ++ installed ∷ []
+
+-- ---- what a candidate meets
+
+-- what has to be met: a dependency, or the name of a package whose install-if applies
+pub data Need : Type 0 where
+  entry : Dependency → Need
+  named : List ℕ → Need
+
+abbrev pub need_name : Need → List ℕ
+need_name (entry d) = d.name
+need_name (named name) = name
+
+-- whether an entry of provides meets a dependency; one that is a conflict provides nothing
+abbrev pub is_met_by_entry : Dependency → Dependency → Bool
+is_met_by_entry d p = not p.conflict && meets d p.name p.version
+
+abbrev pub meets_itself : Dependency → Candidate → Bool
+meets_itself d c = meets d c.name c.version
+
+abbrev pub meets_dependency : Dependency → Candidate → Bool
+meets_dependency d c = meets_itself d c || list_any (is_met_by_entry d) c.provides
+
+-- a name that an install-if raises is met only by a candidate of that name
+abbrev pub meets_need : Need → Candidate → Bool
+meets_need (entry d) c = meets_dependency d c
+meets_need (named name) c = bytes_eq name c.name
+
+-- the version under which it meets a need: its own, else that of the first entry of provides that
+-- meets it
+abbrev pub version_under : Need → Candidate → Option (List ℕ)
+version_under (entry d) c =
+    if meets_itself d c then c.version
+    else option_and_then (λ (p : Dependency). p.version) (find (is_met_by_entry d) c.provides)
+version_under (named name) c = c.version
+
+-- whether it is named so, or has an entry of provides of the name that is no conflict
+abbrev pub offers_name : List ℕ → Candidate → Bool
+offers_name name c =
+    bytes_eq name c.name
+    || list_any (λ (p : Dependency). not p.conflict && bytes_eq name p.name) c.provides
+
+-- whether an entry of provides occupies the name: it has a version and is no conflict
+abbrev pub entry_occupies : List ℕ → Dependency → Bool
+entry_occupies name p = not p.conflict && (is_some p.version && bytes_eq name p.name)
+
+-- whether it occupies the name, which one member of a selection may do: it is named so, or provides
+-- the name with a version
+abbrev pub occupies_name : List ℕ → Candidate → Bool
+occupies_name name c = bytes_eq name c.name || list_any (entry_occupies name) c.provides
+
+-- ---- under a world
+
+-- what world asks for: its entries that are no conflicts
+abbrev pub positive_entries_of : List Dependency → List Dependency
+positive_entries_of world = filter (λ (d : Dependency). not d.conflict) world
+
+-- whether an entry of world uses the tag
+abbrev pub uses_tag : List Dependency → List ℕ → Bool
+uses_tag world tag = list_any (λ (d : Dependency). option_map_or (bytes_eq tag) d.tag false) world
+
+-- installed, or of an untagged repository, or of one whose tag an entry of world uses
+abbrev pub is_allowed : List Dependency → Candidate → Bool
+is_allowed world c =
+    c.installed || (not (is_some c.repository) || option_map_or (uses_tag world) c.tag true)
+
+-- whether it meets a conflict of world
+abbrev pub is_excluded_by : List Dependency → Candidate → Bool
+is_excluded_by world c = list_any (λ (d : Dependency). d.conflict && meets_dependency d c) world
+
+-- whether it may be selected
+abbrev pub is_eligible : List Dependency → Candidate → Bool
+is_eligible world c = is_allowed world c && not (is_excluded_by world c)
+
+-- whether it has an install-if that can come to apply: it may be selected itself, and the
+-- install-if is not empty and has no conflict
+abbrev pub has_usable_install_if : List Dependency → Candidate → Bool
+has_usable_install_if world c =
+    is_eligible world c
+    && (not (length c.install_if == 0)
+    && list_all (λ (d : Dependency). not d.conflict) c.install_if)

@@ -1,0 +1,56 @@
+-- The candidates that offer a name, and the options of a need.
+use Rattle.std.specs.Prelude.{◌≡◌, ◌<◌, ℕ, suc, Bool, true, ◌&&◌, if◌then◌else◌, List, [], ◌∷◌, ◌⊎◌}
+use Rattle.pool_core.specs.Candidates.{Candidate, Need, is_eligible, meets_need, offers_name}
+use Rattle.pool_core.specs.Rank.{SealedPool, is_better}
+
+-- a member of a list, and lists all of whose members are of another, or are different
+abbrev pub IsMember : {X : Type 0} → X → List X → Type 0
+IsMember c [] = ⊥
+IsMember c (x ∷ xs) = (c ≡ x) ⊎ IsMember c xs
+
+abbrev pub AreMembers : {X : Type 0} → List X → List X → Type 0
+AreMembers {X} xs ys = (c : X) → IsMember c xs → IsMember c ys
+
+abbrev pub AreDistinct : List ℕ → Type 0
+AreDistinct [] = Unit {0}
+AreDistinct (c ∷ cs) = (IsMember c cs → ⊥) × AreDistinct cs
+
+-- the places, counted from a number, of the candidates that pass a test, in rising order
+abbrev pub places_from : ℕ → (Candidate → Bool) → List Candidate → List ℕ
+places_from n test [] = []
+places_from n test (c ∷ cs) =
+    if test c then n ∷ places_from (suc n) test cs else places_from (suc n) test cs
+
+-- the places of the candidates that are named so or provide the name
+abbrev pub places_offering : List ℕ → List Candidate → List ℕ
+places_offering name candidates = places_from 0 (offers_name name) candidates
+
+-- whether the candidate may be selected and meets the need
+abbrev pub may_meet : SealedPool → Need → Candidate → Bool
+may_meet pool need c = is_eligible pool.world c && meets_need need c
+
+-- places in rank order with one more: it stands before the first that it is better than
+abbrev pub insert_by_rank : (ℕ → ℕ → Bool) → ℕ → List ℕ → List ℕ
+insert_by_rank better c [] = c ∷ []
+insert_by_rank better c (d ∷ ds) =
+    if better c d then c ∷ (d ∷ ds) else d ∷ insert_by_rank better c ds
+
+abbrev pub rank_order_of : (ℕ → ℕ → Bool) → List ℕ → List ℕ
+rank_order_of better [] = []
+rank_order_of better (c ∷ cs) = insert_by_rank better c (rank_order_of better cs)
+
+-- the options of a need: the candidates that may be selected and meet it, best first
+unfoldable pub options_for : SealedPool → Need → List ℕ
+options_for pool need =
+    rank_order_of (is_better pool need) (places_from 0 (may_meet pool need) pool.candidates)
+
+-- each is better than those behind it
+abbrev pub IsBestFirst : (ℕ → ℕ → Bool) → List ℕ → Type 0
+IsBestFirst better [] = Unit {0}
+IsBestFirst better (c ∷ cs) =
+    ((d : ℕ) → IsMember d cs → better c d ≡ true) × IsBestFirst better cs
+
+-- each is below those behind it
+abbrev pub AreRising : List ℕ → Type 0
+AreRising [] = Unit {0}
+AreRising (c ∷ cs) = ((d : ℕ) → IsMember d cs → c < d) × AreRising cs

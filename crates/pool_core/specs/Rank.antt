@@ -1,0 +1,128 @@
+-- Which of two candidates is taken first for a need.
+use Rattle.std.specs.Prelude.{ℕ, Bool, true, false, not, ◌&&◌, List, Option, is_some, slice_get}
+use Rattle.std.specs.Option.{option_map_or, option_cmp}
+use Rattle.std.specs.List.{list_any}
+use Rattle.std.specs.Str.{bytes_eq}
+use Rattle.std.specs.Ordering.{nat_cmp, bool_cmp, on, flip_args, then_cmp, is_lt}
+use Rattle.std.specs.Cmp.Lexicographic.{slice_cmp}
+use Rattle.std.specs.declared.cmp.Ordering.{Ordering}
+use Rattle.version_core.specs.Order.{version_cmp}
+use Rattle.dep_core.specs.Dependency.{Dependency}
+use Rattle.pool_core.specs.Candidates.{Candidate, Need, need_name, version_under, is_eligible, meets_need}
+
+-- the names that a command upgrades
+pub data UpgradedNames : Type 0 where
+  no_names : UpgradedNames
+  all_names : UpgradedNames
+  listed_names : List (List ℕ) → UpgradedNames
+
+-- the candidates that a selection is made of, the world that it is to satisfy, and the names that
+-- the command upgrades
+pub record SealedPool : Type 0 where
+  pub candidates : List Candidate
+  pub world : List Dependency
+  pub upgraded : UpgradedNames
+
+abbrev pub sealed_pool_by : List Candidate → List Dependency → UpgradedNames → SealedPool
+sealed_pool_by candidates world upgraded =
+    record { candidates = candidates; world = world; upgraded = upgraded }
+
+abbrev pub is_upgraded : UpgradedNames → List ℕ → Bool
+is_upgraded no_names name = false
+is_upgraded all_names name = true
+is_upgraded (listed_names names) name = list_any (bytes_eq name) names
+
+-- ---- the keys
+
+-- whether world pins the name to the tag
+abbrev pub is_pinned_to : List Dependency → List ℕ → List ℕ → Bool
+is_pinned_to world name tag =
+    list_any
+    (λ (d : Dependency). bytes_eq name d.name && option_map_or (bytes_eq tag) d.tag false) world
+
+-- whether it is tagged, and world pins its name to its tag
+abbrev pub is_pinned : List Dependency → Candidate → Bool
+is_pinned world c = option_map_or (is_pinned_to world c.name) c.tag false
+
+abbrev pub is_untagged : Candidate → Bool
+is_untagged c = not (is_some c.tag)
+
+abbrev pub has_needed_name : Need → Candidate → Bool
+has_needed_name need c = bytes_eq (need_name need) c.name
+
+-- whether it is installed, and the command does not upgrade its name
+abbrev pub is_kept_installed : UpgradedNames → Candidate → Bool
+is_kept_installed upgraded c = c.installed && not (is_upgraded upgraded c.name)
+
+-- ---- the order
+
+abbrev pub byte_cmp : List ℕ → List ℕ → Ordering
+byte_cmp = slice_cmp nat_cmp
+
+-- what has the quality comes first
+abbrev pub quality_first : (Candidate → Bool) → Candidate → Candidate → Ordering
+quality_first quality = on quality (flip_args bool_cmp)
+
+-- the greater comes first, and none last
+abbrev pub greater_version : Option (List ℕ) → Option (List ℕ) → Ordering
+greater_version = flip_args (option_cmp version_cmp)
+
+-- the lesser comes first, and none last
+abbrev pub earlier_repository : Option ℕ → Option ℕ → Ordering
+earlier_repository = flip_args (option_cmp (flip_args nat_cmp))
+
+-- where it comes from, and what it is called
+abbrev pub quality_cmp : UpgradedNames → Need → Candidate → Candidate → Ordering
+quality_cmp upgraded need =
+    then_cmp (quality_first is_untagged)
+    (then_cmp (quality_first (has_needed_name need))
+    (quality_first (is_kept_installed upgraded)))
+
+-- how well it meets the need
+abbrev pub merit_cmp : Need → Candidate → Candidate → Ordering
+merit_cmp need =
+    then_cmp (on (version_under need) greater_version)
+    (then_cmp (on (λ (c : Candidate). c.priority) (flip_args nat_cmp))
+    (then_cmp (on (λ (c : Candidate). c.name) byte_cmp)
+    (on (λ (c : Candidate). c.version) greater_version)))
+
+-- what is left to tell two candidates apart
+abbrev pub text_cmp : Candidate → Candidate → Ordering
+text_cmp =
+    then_cmp (on (λ (c : Candidate). c.version) (option_cmp byte_cmp))
+    (on (λ (c : Candidate). c.repository) earlier_repository)
+
+-- all keys but the first and the last
+abbrev pub unpinned_cmp : UpgradedNames → Need → Candidate → Candidate → Ordering
+unpinned_cmp upgraded need =
+    then_cmp (quality_cmp upgraded need) (then_cmp (merit_cmp need) text_cmp)
+
+abbrev pub candidate_cmp : SealedPool → Need → Candidate → Candidate → Ordering
+candidate_cmp pool need =
+    then_cmp (quality_first (is_pinned pool.world)) (unpinned_cmp pool.upgraded need)
+
+-- ---- places in the list
+
+abbrev pub candidate_at : SealedPool → ℕ → Option Candidate
+candidate_at pool place = slice_get pool.candidates place
+
+-- whether there is a candidate at the place, and it passes the test
+abbrev pub is_at : SealedPool → (Candidate → Bool) → ℕ → Bool
+is_at pool test place = option_map_or test (candidate_at pool place) false
+
+abbrev pub is_eligible_at : SealedPool → ℕ → Bool
+is_eligible_at pool place = is_at pool (is_eligible pool.world) place
+
+abbrev pub is_pinned_at : SealedPool → ℕ → Bool
+is_pinned_at pool place = is_at pool (is_pinned pool.world) place
+
+abbrev pub meets_at : SealedPool → ℕ → Need → Bool
+meets_at pool place need = is_at pool (meets_need need) place
+
+-- the rank of two places for a need; the earlier place is the last key
+unfoldable pub rank_cmp : SealedPool → Need → ℕ → ℕ → Ordering
+rank_cmp pool need =
+    then_cmp (on (candidate_at pool) (option_cmp (candidate_cmp pool need))) nat_cmp
+
+abbrev pub is_better : SealedPool → Need → ℕ → ℕ → Bool
+is_better pool need a b = is_lt (rank_cmp pool need a b)

@@ -1,0 +1,425 @@
+//! The packages to choose from, and what is read of each once: `Candidate` is what a caller sees,
+//! `Details` what the pool and the search compare.
+ghost use Rattle.std.specs.Prelude.{◌≡◌, ◌++◌, map, IfOk, OnOk, option_copied, option_to_list};
+ghost use Rattle.std.specs.Option.{option_and_then, option_map};
+ghost use Rattle.std.specs.List.{find, list_all, list_any};
+ghost use Rattle.std.specs.Prelude.{◌&&◌, ◌==◌, length, not};
+ghost use Rattle.adb_schema.specs.Views.{info_value};
+ghost use Rattle.adb_fields.specs.ListValue.{list_value};
+ghost use Rattle.dep_core.specs.Dependency.{Dependency};
+ghost use Rattle.dep_core.specs.Meets.{dependency};
+ghost use Rattle.pool_core.specs.Candidates.{as_installed, candidate_of, entry, dependencies_in, entry_occupies, is_met_by_entry, is_same_id, is_same_package, is_same_version, meets_dependency, meets_need, occupies_name, version_under};
+ghost use Rattle.pool_core.specs.Rank.{is_untagged};
+ghost use Rattle.pool_core.specs.Values.{candidate_value, need_by};
+ghost use Rattle.pool_core.specs.World.{has_positive_install_if};
+
+use crate::need::NeedRef;
+use adb_schema::{DepView, List, PkgInfo};
+use dep_core::{Dep, dep_of};
+use std::alloc::{AllocError, Global};
+use std::marker::Model;
+use version_core::Version;
+
+/// A place in the list of candidates, counted from 0.
+#[derive(Clone, Copy, Debug, PartialEq, Eq)]
+pub struct CandId {
+    pub place: u32,
+}
+
+impl Model for CandId {
+    ghost use Rattle.std.specs.Prelude.{ℕ};
+
+    ghost Value = { ℕ };
+
+    ghost view = { λ id. id.place };
+
+    ghost inverse = { λ place. record { place = place } };
+}
+
+/// A package to choose from, as it was given.
+#[derive(Clone, Copy)]
+pub struct Candidate<'a> {
+    /// What its index, or the database, says of it.
+    pub info: PkgInfo<'a>,
+    /// Its repository, counted from 1; none for an installed package that no index has.
+    pub repo: Option<u64>,
+    /// The tag of its repository.
+    pub tag: Option<&'a [u8]>,
+    /// Whether it is the installed package of its name.
+    pub installed: bool,
+}
+
+/// The dependencies of a field, read once.
+#[derive(Drop)]
+pub struct Deps<'a> {
+    deps: Vec<Dep<'a>>,
+}
+
+impl<'a> Model for Deps<'a> {
+    ghost use Rattle.std.specs.Prelude.{map, List as Items};
+    ghost use Rattle.dep_core.specs.Dependency.{Dependency};
+    ghost use Rattle.dep_core.specs.Meets.{dependency};
+
+    ghost Value = { Items Dependency };
+
+    ghost view = { λ deps. map dependency deps.deps.items };
+}
+
+impl<'a> Deps<'a> {
+    /// The dependencies of a field.
+    pub(crate) fn read(alloc: Global, list: List<'a, DepView<'a>>) -> Result<Deps<'a>, AllocError>
+        ensures { IfOk result (λ deps. deps ≡ dependencies_in (list_value list.entry)) }
+    {
+        let mut deps = Vec::with_capacity(alloc, list.len())?;
+        for i in 0..list.len() {
+            let view = list.get(i + 1);
+            let found = dep_of(view.name(), view.version(), view.matching());
+            push_found(&mut deps, found)?;
+        }
+        Ok(Deps { deps })
+    }
+
+    /// The dependencies, in the order of the field.
+    pub fn as_slice(&self) -> &[Dep<'a>]
+        ensures { map dependency result.now ≡ self.now }
+    {
+        self.deps.as_slice()
+    }
+}
+
+// Adds a dependency, if there is one.
+fn push_found<'a>(deps: &mut Vec<Dep<'a>>, found: Option<Dep<'a>>) -> Result<(), AllocError>
+    ensures { OnOk result (map dependency deps.new.items
+        ≡ map dependency deps.old.items ++ option_to_list (option_map dependency found.entry)) }
+{
+    match found {
+        None => Ok(()),
+        Some(dep) => {
+            deps.push(dep)?;
+            Ok(())
+        }
+    }
+}
+
+/// What the pool and the search compare of a candidate, read once. It borrows all texts.
+#[derive(Drop)]
+pub struct Details<'a> {
+    info: PkgInfo<'a>,
+    name: &'a [u8],
+    version: Option<Version<'a>>,
+    depends: Deps<'a>,
+    provides: Deps<'a>,
+    install_if: Deps<'a>,
+    priority: u64,
+    repo: Option<u64>,
+    tag: Option<&'a [u8]>,
+    installed: bool,
+}
+
+impl<'a> Model for Details<'a> {
+    ghost use Rattle.std.specs.Prelude.{◌≡◌, option_copied};
+    ghost use Rattle.adb_schema.specs.Views.{info_value};
+    ghost use Rattle.adb_tables.specs.Values.{entry_in, text_in};
+    ghost use Rattle.pool_core.specs.Candidates.{Candidate as CandidateValue, candidate_by, candidate_of};
+
+    ghost Value = { CandidateValue };
+
+    ghost view = { λ d. candidate_by d.name.now d.version
+        (text_in (entry_in (info_value d.info) 2)) d.depends d.provides d.install_if d.priority
+        d.repo (option_copied d.tag) d.installed };
+
+    ghost invariant = { λ d. candidate_by d.name.now d.version
+        (text_in (entry_in (info_value d.info) 2)) d.depends d.provides d.install_if d.priority
+        d.repo (option_copied d.tag) d.installed
+        ≡ candidate_of (info_value d.info) d.repo (option_copied d.tag) d.installed };
+}
+
+impl<'a> Details<'a> {
+    /// What is read of a package's information.
+    pub(crate) fn read(
+        alloc: Global,
+        info: PkgInfo<'a>,
+        repo: Option<u64>,
+        tag: Option<&'a [u8]>,
+        installed: bool,
+    ) -> Result<Details<'a>, AllocError>
+        ensures { IfOk result (λ details. details
+            ≡ candidate_of (info_value info.entry) repo (option_copied tag.entry) installed) }
+    {
+        let name = info.name();
+        let version = Version::read(info.version());
+        let depends = Deps::read(alloc, info.depends())?;
+        let provides = Deps::read(alloc, info.provides())?;
+        let install_if = Deps::read(alloc, info.install_if())?;
+        let priority = info.provider_priority();
+        Ok(Details {
+            info,
+            name,
+            version,
+            depends,
+            provides,
+            install_if,
+            priority,
+            repo,
+            tag,
+            installed,
+        })
+    }
+
+    /// The candidate as it was given.
+    pub(crate) fn candidate(&self) -> Candidate<'a>
+        ensures { candidate_value result ≡ self.now }
+    {
+        Candidate {
+            info: self.info,
+            repo: self.repo,
+            tag: self.tag,
+            installed: self.installed,
+        }
+    }
+
+    /// Lets it count as installed.
+    pub(crate) fn set_installed(&mut self)
+        ensures { self.new ≡ as_installed self.old }
+    {
+        self.installed = true;
+    }
+
+    /// Its name.
+    pub fn name(&self) -> &'a [u8]
+        ensures { result.now ≡ self.now.name }
+    {
+        self.name
+    }
+
+    /// Its version; none only where the text is no version, which no tested container has.
+    pub fn version(&self) -> Option<&Version<'a>>
+        ensures { option_copied result ≡ self.now.version }
+    {
+        self.version.as_ref()
+    }
+
+    // Its id: empty, whole, or a front of it.
+    fn id(&self) -> &'a [u8]
+        ensures { result.now ≡ self.now.id }
+    {
+        self.info.hashes()
+    }
+
+    /// What it needs, and what it excludes.
+    pub fn depends(&self) -> &Deps<'a>
+        ensures { result.now ≡ self.now.depends }
+    {
+        &self.depends
+    }
+
+    /// What it provides.
+    pub fn provides(&self) -> &Deps<'a>
+        ensures { result.now ≡ self.now.provides }
+    {
+        &self.provides
+    }
+
+    /// Where each of these is met, its name is needed.
+    pub fn install_if(&self) -> &Deps<'a>
+        ensures { result.now ≡ self.now.install_if }
+    {
+        &self.install_if
+    }
+
+    /// How much it is preferred among providers of one name.
+    pub fn priority(&self) -> u64
+        ensures { result ≡ self.now.priority }
+    {
+        self.priority
+    }
+
+    /// Its repository, counted from 1.
+    pub fn repo(&self) -> Option<u64>
+        ensures { result ≡ self.now.repository }
+    {
+        self.repo
+    }
+
+    /// The tag of its repository.
+    pub fn tag(&self) -> Option<&'a [u8]>
+        ensures { option_copied result ≡ self.now.tag }
+    {
+        self.tag
+    }
+
+    /// Whether its repository has no tag, or it is of none.
+    pub fn is_untagged(&self) -> bool
+        ensures { result ≡ is_untagged self.now }
+    {
+        self.tag.is_none()
+    }
+
+    /// Whether it is installed.
+    pub fn is_installed(&self) -> bool
+        ensures { result ≡ self.now.installed }
+    {
+        self.installed
+    }
+
+    /// Whether it is a repository's, and the same package as one that is installed.
+    pub(crate) fn is_same_package(&self, installed: &Details<'_>) -> bool
+        ensures { result ≡ is_same_package installed.now self.now }
+    {
+        if self.repo.is_none() {
+            return false;
+        }
+        if self.name != installed.name {
+            return false;
+        }
+        if !is_same_version(self.version(), installed.version()) {
+            return false;
+        }
+        is_same_id(self.id(), installed.id())
+    }
+
+    /// Whether it has an install-if, and that has no conflict.
+    pub(crate) fn has_positive_install_if(&self) -> bool
+        ensures { result ≡ has_positive_install_if self.now }
+    {
+        are_some_and_positive(self.install_if.as_slice())
+    }
+
+    /// The version under which it meets a need: its own, else that of the first entry of provides
+    /// that meets it.
+    pub(crate) fn version_under(&self, need: &NeedRef<'_>) -> Option<&Version<'a>>
+        ensures { option_copied result ≡ version_under (need_by need.now) self.now }
+    {
+        match need {
+            NeedRef::Named(_) => self.version.as_ref(),
+            NeedRef::Entry(dep) => self.version_meeting(dep),
+        }
+    }
+
+    fn version_meeting(&self, dep: &Dep<'_>) -> Option<&Version<'a>>
+        ensures { option_copied result ≡ version_under (entry (dependency dep.now)) self.now }
+    {
+        if dep.met_by(self.name, self.version.as_ref()) {
+            return self.version.as_ref();
+        }
+        first_meeting(self.provides.as_slice(), dep)
+    }
+
+    /// Whether it meets a need.
+    pub(crate) fn meets_need(&self, need: &NeedRef<'_>) -> bool
+        ensures { result ≡ meets_need (need_by need.now) self.now }
+    {
+        match need {
+            NeedRef::Named(name) => *name == self.name,
+            NeedRef::Entry(dep) => self.meets(dep),
+        }
+    }
+
+    /// Whether it meets a dependency; it does not matter whether that is a conflict.
+    #[tactic(auto, using(crate::proofs::Anyone::any_map))]
+    pub fn meets(&self, dep: &Dep<'_>) -> bool
+        ensures { result ≡ meets_dependency (dependency dep.now) self.now }
+    {
+        if dep.met_by(self.name, self.version.as_ref()) {
+            return true;
+        }
+        any_meets(self.provides.as_slice(), dep)
+    }
+
+    /// Whether it occupies a name, which one member of a selection may do.
+    #[tactic(auto, using(crate::proofs::Anyone::any_map))]
+    pub fn occupies(&self, name: &[u8]) -> bool
+        ensures { result ≡ occupies_name name.now self.now }
+    {
+        if name == self.name {
+            return true;
+        }
+        any_occupies(self.provides.as_slice(), name)
+    }
+}
+
+// Whether two versions have one text.
+fn is_same_version(one: Option<&Version<'_>>, other: Option<&Version<'_>>) -> bool
+    ensures { result ≡ is_same_version (option_copied one.entry) (option_copied other.entry) }
+{
+    match (one, other) {
+        (None, None) => true,
+        (None, Some(_)) => false,
+        (Some(_), None) => false,
+        (Some(one), Some(other)) => one.text() == other.text(),
+    }
+}
+
+// Whether two ids are there, and the shorter is a front of the longer.
+fn is_same_id(one: &[u8], other: &[u8]) -> bool
+    ensures { result ≡ is_same_id one.now other.now }
+{
+    if one.is_empty() || other.is_empty() {
+        return false;
+    }
+    one.starts_with(other) || other.starts_with(one)
+}
+
+// Whether there are dependencies, none of them a conflict.
+fn are_some_and_positive(deps: &[Dep<'_>]) -> bool
+    ensures { result ≡ (not (length deps.now == 0)
+        && list_all (λ dep. not (dependency dep).conflict) deps.now) }
+{
+    if deps.is_empty() {
+        return false;
+    }
+    are_positive(deps)
+}
+
+fn are_positive(deps: &[Dep<'_>]) -> bool
+    ensures { result ≡ list_all (λ dep. not (dependency dep).conflict) deps.now }
+{
+    deps.iter().all(|dep| !dep.conflict)
+}
+
+// Whether an entry of provides occupies a name.
+fn any_occupies(provides: &[Dep<'_>], name: &[u8]) -> bool
+    ensures { result ≡ list_any (λ entry. entry_occupies name.now (dependency entry)) provides.now }
+{
+    provides.iter().any(|entry| entry_occupies(name, entry))
+}
+
+fn entry_occupies(name: &[u8], entry: &Dep<'_>) -> bool
+    ensures { result ≡ entry_occupies name.now (dependency entry.now) }
+{
+    if entry.conflict {
+        return false;
+    }
+    entry.version.is_some() && name == entry.name
+}
+
+// Whether an entry of provides meets a dependency.
+fn any_meets(provides: &[Dep<'_>], dep: &Dep<'_>) -> bool
+    ensures { result ≡ list_any
+        (λ entry. is_met_by_entry (dependency dep.now) (dependency entry)) provides.now }
+{
+    provides.iter().any(|entry| is_met_by_entry(dep, entry))
+}
+
+// Whether an entry of provides meets a dependency; one that is a conflict provides nothing.
+fn is_met_by_entry(dep: &Dep<'_>, entry: &Dep<'_>) -> bool
+    ensures { result ≡ is_met_by_entry (dependency dep.now) (dependency entry.now) }
+{
+    if entry.conflict {
+        return false;
+    }
+    dep.met_by(entry.name, entry.version.as_ref())
+}
+
+// The version of the first entry of provides that meets a dependency.
+fn first_meeting<'p, 'a>(provides: &'p [Dep<'a>], dep: &Dep<'_>) -> Option<&'p Version<'a>>
+    ensures { option_copied result ≡ option_and_then (λ (p : Dependency). p.version)
+        (find (is_met_by_entry (dependency dep.now)) (map dependency provides.entry.now)) }
+{
+    for entry in provides {
+        if is_met_by_entry(dep, entry) {
+            return entry.version.as_ref();
+        }
+    }
+    None
+}

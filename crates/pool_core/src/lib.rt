@@ -1,0 +1,23 @@
+//! The packages that a selection is made of: the candidates of indexes and of the database, the
+//! table of the names that they offer, and the options of a need in rank order. Views of indexes
+//! come in and stay borrowed; places in the list of candidates go out. The contracts cite `specs/`:
+//! `Candidates` (the list, and what each candidate meets), `Rank` (the eleven keys) and `Options`.
+//! `docs/selection.md` tells what is preferred and why.
+#![tactic(auto)]
+
+mod candidate;
+mod laws;
+mod need;
+mod pool;
+mod rank;
+mod sealed;
+mod table;
+
+pub use candidate::{CandId, Candidate, Deps, Details};
+pub use laws::{
+    installed_candidates_count_once, offers_are_the_places, offers_hold_what_meets,
+    options_are_the_best_first, rank_is_total,
+};
+pub use need::{Need, NeedRef, Options, Upgrade};
+pub use pool::{MOST_CANDIDATES, Pool, PoolFault};
+pub use sealed::Sealed;

@@ -1,0 +1,127 @@
+//! What has to be met, what a command upgrades, and the candidates that a need may be met by.
+ghost use Rattle.std.specs.Prelude.{◌≡◌, ◌<◌, ◌==◌, length, slice_get, Some};
+ghost use Rattle.std.specs.List.{list_any};
+ghost use Rattle.std.specs.Str.{bytes_eq};
+ghost use Rattle.pool_core.specs.Candidates.{need_name};
+ghost use Rattle.pool_core.specs.Rank.{is_upgraded};
+ghost use Rattle.pool_core.specs.Values.{names_upgraded_by, need_by};
+
+use crate::candidate::CandId;
+use base_core::Words;
+use dep_core::Dep;
+use std::marker::Model;
+
+/// What has to be met.
+#[derive(Drop)]
+pub enum Need<'a> {
+    /// An entry of world, or a dependency of a candidate.
+    Entry(Dep<'a>),
+    /// The name of a package whose install-if applies.
+    Named(&'a [u8]),
+}
+
+/// What has to be met, where the dependency is another's.
+#[derive(Clone, Copy)]
+pub enum NeedRef<'a> {
+    /// An entry of world, or a dependency of a candidate.
+    Entry(&'a Dep<'a>),
+    /// The name of a package whose install-if applies.
+    Named(&'a [u8]),
+}
+
+impl<'a> NeedRef<'a> {
+    /// The name that is needed.
+    pub(crate) fn name(&self) -> &'a [u8]
+        ensures { result.now ≡ need_name (need_by self.now) }
+    {
+        match self {
+            NeedRef::Entry(dep) => dep.name,
+            NeedRef::Named(name) => name,
+        }
+    }
+}
+
+/// The names that a command upgrades: of these, an installed candidate is not preferred.
+#[derive(Clone, Copy)]
+pub enum Upgrade<'a> {
+    /// No name.
+    Nothing,
+    /// Every name.
+    All,
+    /// The listed names.
+    Listed(&'a Words),
+}
+
+/// Whether a command upgrades a name.
+pub(crate) fn is_upgraded(upgrade: Upgrade<'_>, name: &[u8]) -> bool
+    ensures { result ≡ is_upgraded (names_upgraded_by upgrade.entry) name.now }
+{
+    match upgrade {
+        Upgrade::Nothing => false,
+        Upgrade::All => true,
+        Upgrade::Listed(words) => has_word(words, name),
+    }
+}
+
+fn has_word(words: &Words, name: &[u8]) -> bool
+    ensures { result ≡ list_any (bytes_eq name.now) words.now }
+{
+    for i in 0..words.len() {
+        if name == words.word(i) {
+            return true;
+        }
+    }
+    false
+}
+
+/// The candidates that a need may be met by, best first.
+#[derive(Drop)]
+pub struct Options {
+    ids: Vec<CandId>,
+}
+
+impl Model for Options {
+    ghost use Rattle.std.specs.Prelude.{ℕ, List};
+
+    ghost Value = { List ℕ };
+
+    ghost view = { λ options. options.ids.items };
+}
+
+impl Options {
+    /// The list of some places.
+    pub(crate) fn of(ids: Vec<CandId>) -> Options
+        ensures { result ≡ ids.items }
+    {
+        Options { ids }
+    }
+
+    /// How many there are.
+    pub fn len(&self) -> usize
+        ensures { result ≡ length self.now }
+    {
+        self.ids.len()
+    }
+
+    /// Whether there is none.
+    pub fn is_empty(&self) -> bool
+        ensures { result ≡ (length self.now == 0) }
+    {
+        self.ids.is_empty()
+    }
+
+    /// The one at an index, counted from 0.
+    pub fn get(&self, i: usize) -> CandId
+        requires { i < length self.now }
+        ensures { slice_get self.now i ≡ Some result }
+    {
+        self.ids[i]
+    }
+
+    /// The places, as a list of the caller's.
+    pub fn into_ids(self) -> Vec<CandId>
+        ensures { result.items ≡ self }
+    {
+        self.ids
+    }
+}

@@ -1,0 +1,475 @@
+//! The candidates under a world: which of them may be selected, which offer a name, and the options
+//! of a need, best first.
+ghost use Rattle.std.specs.Prelude.{◌≡◌, ◌<◌, ◌^◌, ◌==◌, ◌++◌, ◌∷◌, [], map, length, slice_get, Some, IfOk, OnOk, filter, ◌&&◌, not, option_copied, if◌then◌else◌, true, false};
+ghost use Rattle.std.specs.Option.{option_cmp, option_map_or};
+ghost use Rattle.std.specs.List.{list_all, list_any};
+ghost use Rattle.std.specs.Ordering.{bool_cmp, flip_args};
+ghost use Rattle.std.specs.Str.{bytes_eq};
+ghost use Rattle.dep_core.specs.Dependency.{Dependency};
+ghost use Rattle.dep_core.specs.Meets.{dependency};
+ghost use Rattle.pool_core.specs.Candidates.{Candidate as CandidateValue, has_usable_install_if, is_allowed, is_eligible, is_excluded_by, meets_dependency, positive_entries_of, uses_tag};
+ghost use Rattle.pool_core.specs.Listing.{IsPoolListing};
+ghost use Rattle.pool_core.specs.Options.{may_meet, places_offering, options_for, places_from};
+ghost use Rattle.pool_core.specs.Rank.{candidate_at, candidate_cmp, is_at, is_eligible_at, is_pinned, is_pinned_at, is_pinned_to, rank_cmp, sealed_pool_by};
+ghost use Rattle.pool_core.specs.Values.{candidate_value, names_upgraded_by, need_by, need_of};
+ghost use Rattle.pool_core.specs.World.{entries_of_kind, has_positive_install_if, is_entry_of_kind, places_marked};
+
+use crate::candidate::{CandId, Candidate, Details};
+use crate::laws::rank_is_total;
+use crate::need::{Need, NeedRef, Options, Upgrade};
+use crate::pool::Listing;
+use crate::rank::by_details;
+use crate::table::Table;
+use dep_core::{Dep, World};
+use std::alloc::{AllocError, Global};
+use std::cmp::Ordering;
+use std::marker::Model;
+
+/// The candidates under a world. What is asked of each candidate again and again is marked once.
+#[derive(Drop)]
+pub struct Sealed<'a> {
+    details: Vec<Details<'a>>,
+    table: Table<'a>,
+    world: &'a World,
+    upgrade: Upgrade<'a>,
+    positive_entries: Vec<Dep<'a>>,
+    eligible: Vec<bool>,
+    pinned: Vec<bool>,
+    install_ifs: Vec<CandId>,
+}
+
+impl<'a> Model for Sealed<'a> {
+    ghost use Rattle.std.specs.Prelude.{◌≡◌, map};
+    ghost use Rattle.dep_core.specs.Meets.{dependency};
+    ghost use Rattle.pool_core.specs.Candidates.{has_usable_install_if, is_eligible, positive_entries_of};
+    ghost use Rattle.pool_core.specs.Options.{places_from};
+    ghost use Rattle.pool_core.specs.Rank.{SealedPool, is_pinned, sealed_pool_by};
+    ghost use Rattle.pool_core.specs.Table.{LeadsToOffers};
+    ghost use Rattle.pool_core.specs.Values.{names_upgraded_by};
+
+    ghost Value = { SealedPool };
+
+    ghost view = { λ s.
+        sealed_pool_by s.details.items s.world.now (names_upgraded_by s.upgrade) };
+
+    ghost invariant = { λ s. LeadsToOffers s.table s.details.items
+        × (map dependency s.positive_entries.items ≡ positive_entries_of s.world.now)
+        × (s.eligible.items ≡ map (is_eligible s.world.now) s.details.items)
+        × (s.pinned.items ≡ map (is_pinned s.world.now) s.details.items)
+        × (s.install_ifs.items
+        ≡ places_from 0 (has_usable_install_if s.world.now) s.details.items) };
+}
+
+impl<'a> Sealed<'a> {
+    /// How many candidates there are.
+    pub fn len(&self) -> usize
+        ensures { result ≡ length self.now.candidates }
+    {
+        self.details.len()
+    }
+
+    /// Whether there is no candidate.
+    pub fn is_empty(&self) -> bool
+        ensures { result ≡ (length self.now.candidates == 0) }
+    {
+        self.details.is_empty()
+    }
+
+    /// A candidate, as it was given.
+    pub fn candidate(&self, id: CandId) -> Candidate<'a>
+        requires { id < length self.now.candidates }
+        ensures { slice_get self.now.candidates id ≡ Some (candidate_value result) }
+    {
+        self.details(id).candidate()
+    }
+
+    /// What is compared of a candidate.
+    pub fn details(&self, id: CandId) -> &Details<'a>
+        requires { id < length self.now.candidates }
+        ensures { slice_get self.now.candidates id ≡ Some result.now }
+    {
+        &self.details[id.place as usize]
+    }
+
+    /// What is compared of a candidate, if there is one at the place.
+    pub fn at(&self, id: CandId) -> Option<&Details<'a>>
+        ensures { option_copied result ≡ candidate_at self.now id }
+    {
+        self.details.get(id.place as usize)
+    }
+
+    /// The places of the candidates that are named so or have an entry of provides of that name
+    /// without conflict bit, in rising order and each once.
+    pub fn offers(&self, name: &[u8]) -> &[CandId]
+        ensures { result.now ≡ places_offering name.now self.now.candidates }
+    {
+        self.table.get(name)
+    }
+
+    /// What world asks for: its entries that are no conflicts, in their order.
+    pub fn positive_entries(&self) -> &[Dep<'a>]
+        ensures { map dependency result.now ≡ positive_entries_of self.now.world }
+    {
+        self.positive_entries.as_slice()
+    }
+
+    /// The places of the candidates whose install-if can come to apply, in rising order.
+    pub fn install_ifs(&self) -> &[CandId]
+        ensures { result.now
+            ≡ places_from 0 (has_usable_install_if self.now.world) self.now.candidates }
+    {
+        self.install_ifs.as_slice()
+    }
+
+    /// The candidates that may be selected and meet the need, best first. It takes time in
+    /// proportion to k log k in the k candidates that offer the need's name.
+    pub fn options(&self, alloc: Global, need: &Need<'_>) -> Result<Options, AllocError>
+        ensures { IfOk result (λ options. options ≡ options_for self.now (need_of need.now)) }
+    {
+        match need {
+            Need::Entry(dep) => self.options_for(alloc, &NeedRef::Entry(dep)),
+            Need::Named(name) => self.options_for(alloc, &NeedRef::Named(name)),
+        }
+    }
+
+    /// The same for a need whose dependency is another's.
+    pub fn options_for(&self, alloc: Global, need: &NeedRef<'_>) -> Result<Options, AllocError>
+        ensures { IfOk result (λ options. options ≡ options_for self.now (need_by need.now)) }
+    {
+        rank_is_total();
+        let mut ids = self.fitting(alloc, need)?;
+        ids.sort_by(|a, b| self.rank(need, *a, *b))?;
+        Ok(Options::of(ids))
+    }
+
+    // The candidates that may be selected and meet a need, in rising order.
+    fn fitting(&self, alloc: Global, need: &NeedRef<'_>) -> Result<Vec<CandId>, AllocError>
+        ensures { IfOk result (λ ids. ids.items
+            ≡ places_from 0 (may_meet self.now (need_by need.now)) self.now.candidates) }
+    {
+        let ids = self.fitting_among(alloc, need, self.offers(need.name()))?;
+        Ok(ids)
+    }
+
+    // Those of some places that may be selected and meet a need.
+    fn fitting_among(
+        &self,
+        alloc: Global,
+        need: &NeedRef<'_>,
+        places: &[CandId],
+    ) -> Result<Vec<CandId>, AllocError>
+        ensures { IfOk result (λ ids. ids.items
+            ≡ filter (λ id. is_at self.now (may_meet self.now (need_by need.now)) id) places.now) }
+    {
+        places
+            .iter()
+            .copied()
+            .filter(|id| self.fits(need, *id))
+            .collect(alloc)
+    }
+
+    // Whether the candidate at a place may be selected and meets a need.
+    fn fits(&self, need: &NeedRef<'_>, id: CandId) -> bool
+        ensures { result ≡ is_at self.now (may_meet self.now (need_by need.now)) id }
+    {
+        let place = id.place as usize;
+        if place >= self.details.len() {
+            return false;
+        }
+        if !self.eligible[place] {
+            return false;
+        }
+        self.details[place].meets_need(need)
+    }
+
+    // The rank of two candidates for a need.
+    #[tactic(auto, unfolding(crate::specs::Rank::rank_cmp))]
+    fn rank(&self, need: &NeedRef<'_>, a: CandId, b: CandId) -> Ordering
+        ensures { result ≡ rank_cmp self.now (need_by need.now) a b }
+    {
+        let by_candidate = self.by_candidate(need, a, b);
+        by_candidate.then(a.place.cmp(&b.place))
+    }
+
+    // The rank of two candidates without their places.
+    fn by_candidate(&self, need: &NeedRef<'_>, a: CandId, b: CandId) -> Ordering
+        ensures { result ≡ option_cmp (candidate_cmp self.now (need_by need.now))
+            (candidate_at self.now a) (candidate_at self.now b) }
+    {
+        match (self.at(a), self.at(b)) {
+            (None, None) => Ordering::Equal,
+            (None, Some(_)) => Ordering::Less,
+            (Some(_), None) => Ordering::Greater,
+            (Some(one), Some(other)) => {
+                let pin = self.by_pin(a, b);
+                pin.then(by_details(self.upgrade, need, one, other))
+            }
+        }
+    }
+
+    // The order by world's pins.
+    fn by_pin(&self, a: CandId, b: CandId) -> Ordering
+        ensures { result ≡ flip_args bool_cmp (is_pinned_at self.now a) (is_pinned_at self.now b) }
+    {
+        self.is_pinned(b).cmp(&self.is_pinned(a))
+    }
+
+    // Whether world pins the candidate's name to its tag.
+    fn is_pinned(&self, id: CandId) -> bool
+        ensures { result ≡ is_pinned_at self.now id }
+    {
+        let place = id.place as usize;
+        if place >= self.pinned.len() {
+            return false;
+        }
+        self.pinned[place]
+    }
+}
+
+/// What an entry of world does.
+#[derive(Clone, Copy)]
+enum EntryKind {
+    /// It asks for a candidate.
+    Positive,
+    /// It excludes what meets it.
+    Conflict,
+    /// It has a tag.
+    Tagged,
+}
+
+/// Joins a list of candidates to a world.
+pub(crate) fn seal_listing<'a>(
+    alloc: Global,
+    listing: Listing<'a>,
+    world: &'a World,
+    upgrade: Upgrade<'a>,
+) -> Result<Sealed<'a>, AllocError>
+    requires { IsPoolListing listing }
+    ensures { IfOk result (λ sealed. sealed
+        ≡ sealed_pool_by listing.entry.details.items world.entry.now
+        (names_upgraded_by upgrade.entry)) }
+{
+    let Listing { details, table } = listing;
+    let positive_entries = entries_of_kind(alloc, world, EntryKind::Positive)?;
+    let conflicts = entries_of_kind(alloc, world, EntryKind::Conflict)?;
+    let tagged = entries_of_kind(alloc, world, EntryKind::Tagged)?;
+    let eligible = eligible_marks(alloc, &details, &tagged, &conflicts)?;
+    let pinned = pinned_marks(alloc, &details, &tagged)?;
+    let install_ifs = install_ifs_among(alloc, &details, &eligible)?;
+    Ok(Sealed {
+        details,
+        table,
+        world,
+        upgrade,
+        positive_entries,
+        eligible,
+        pinned,
+        install_ifs,
+    })
+}
+
+// The entries of world that do one thing, in their order.
+fn entries_of_kind<'a>(
+    alloc: Global,
+    world: &'a World,
+    kind: EntryKind,
+) -> Result<Vec<Dep<'a>>, AllocError>
+    ensures { IfOk result (λ deps. map dependency deps.items
+        ≡ entries_of_kind kind world.entry.now) }
+{
+    let mut deps = Vec::new(alloc);
+    for i in 0..world.len() {
+        push_if(&mut deps, world.entry(i), kind)?;
+    }
+    Ok(deps)
+}
+
+// Adds an entry where it does that thing.
+fn push_if<'a>(deps: &mut Vec<Dep<'a>>, dep: Dep<'a>, kind: EntryKind) -> Result<(), AllocError>
+    ensures { OnOk result (map dependency deps.new.items ≡ map dependency deps.old.items
+        ++ (if is_entry_of_kind kind (dependency dep.entry) then dependency dep.entry ∷ []
+            else [])) }
+{
+    if is_entry_of_kind(kind, &dep) {
+        deps.push(dep)?;
+    }
+    Ok(())
+}
+
+fn is_entry_of_kind(kind: EntryKind, dep: &Dep<'_>) -> bool
+    ensures { result ≡ is_entry_of_kind kind (dependency dep.now) }
+{
+    match kind {
+        EntryKind::Positive => !dep.conflict,
+        EntryKind::Conflict => dep.conflict,
+        EntryKind::Tagged => dep.tag.is_some(),
+    }
+}
+
+// For each candidate, whether it may be selected.
+fn eligible_marks(
+    alloc: Global,
+    details: &[Details<'_>],
+    tagged: &[Dep<'_>],
+    conflicts: &[Dep<'_>],
+) -> Result<Vec<bool>, AllocError>
+    ensures { IfOk result (λ marks. marks.items ≡ map (λ one.
+        is_allowed (map dependency tagged.now) one
+        && not (is_excluded_by (map dependency conflicts.now) one)) details.now) }
+{
+    details
+        .iter()
+        .map(|one| is_eligible(one, tagged, conflicts))
+        .collect(alloc)
+}
+
+fn is_eligible(one: &Details<'_>, tagged: &[Dep<'_>], conflicts: &[Dep<'_>]) -> bool
+    ensures { result ≡ (is_allowed (map dependency tagged.now) one.now
+        && not (is_excluded_by (map dependency conflicts.now) one.now)) }
+{
+    if !is_allowed(one, tagged) {
+        return false;
+    }
+    !is_excluded(one, conflicts)
+}
+
+// Whether a candidate is installed, or of an untagged repository, or of one whose tag is used.
+fn is_allowed(one: &Details<'_>, tagged: &[Dep<'_>]) -> bool
+    ensures { result ≡ is_allowed (map dependency tagged.now) one.now }
+{
+    if one.is_installed() {
+        return true;
+    }
+    if one.repo().is_none() {
+        return true;
+    }
+    match one.tag() {
+        None => true,
+        Some(tag) => uses_tag(tagged, tag),
+    }
+}
+
+#[tactic(auto, using(crate::proofs::Anyone::any_map))]
+fn uses_tag(tagged: &[Dep<'_>], tag: &[u8]) -> bool
+    ensures { result ≡ uses_tag (map dependency tagged.now) tag.now }
+{
+    any_has_tag(tagged, tag)
+}
+
+fn any_has_tag(tagged: &[Dep<'_>], tag: &[u8]) -> bool
+    ensures { result ≡ list_any
+        (λ dep. option_map_or (bytes_eq tag.now) (dependency dep).tag false) tagged.now }
+{
+    tagged.iter().any(|dep| has_tag(dep, tag))
+}
+
+fn has_tag(dep: &Dep<'_>, tag: &[u8]) -> bool
+    ensures { result ≡ option_map_or (bytes_eq tag.now) (dependency dep.now).tag false }
+{
+    match dep.tag {
+        None => false,
+        Some(other) => tag == other,
+    }
+}
+
+// Whether a candidate meets a conflict of world.
+#[tactic(auto, using(crate::proofs::Anyone::any_map))]
+fn is_excluded(one: &Details<'_>, conflicts: &[Dep<'_>]) -> bool
+    ensures { result ≡ is_excluded_by (map dependency conflicts.now) one.now }
+{
+    any_excludes(one, conflicts)
+}
+
+fn any_excludes(one: &Details<'_>, conflicts: &[Dep<'_>]) -> bool
+    ensures { result ≡ list_any (λ dep. (dependency dep).conflict
+        && meets_dependency (dependency dep) one.now) conflicts.now }
+{
+    conflicts.iter().any(|dep| excludes(dep, one))
+}
+
+fn excludes(dep: &Dep<'_>, one: &Details<'_>) -> bool
+    ensures { result ≡ ((dependency dep.now).conflict
+        && meets_dependency (dependency dep.now) one.now) }
+{
+    if !dep.conflict {
+        return false;
+    }
+    one.meets(dep)
+}
+
+// For each candidate, whether world pins its name to its tag.
+fn pinned_marks(
+    alloc: Global,
+    details: &[Details<'_>],
+    tagged: &[Dep<'_>],
+) -> Result<Vec<bool>, AllocError>
+    ensures { IfOk result (λ marks. marks.items
+        ≡ map (λ one. is_pinned (map dependency tagged.now) one) details.now) }
+{
+    details
+        .iter()
+        .map(|one| is_pinned(one, tagged))
+        .collect(alloc)
+}
+
+fn is_pinned(one: &Details<'_>, tagged: &[Dep<'_>]) -> bool
+    ensures { result ≡ is_pinned (map dependency tagged.now) one.now }
+{
+    match one.tag() {
+        None => false,
+        Some(tag) => pins(tagged, one.name(), tag),
+    }
+}
+
+#[tactic(auto, using(crate::proofs::Anyone::any_map))]
+fn pins(tagged: &[Dep<'_>], name: &[u8], tag: &[u8]) -> bool
+    ensures { result ≡ is_pinned_to (map dependency tagged.now) name.now tag.now }
+{
+    any_pins(tagged, name, tag)
+}
+
+fn any_pins(tagged: &[Dep<'_>], name: &[u8], tag: &[u8]) -> bool
+    ensures { result ≡ list_any (λ dep. bytes_eq name.now (dependency dep).name
+        && option_map_or (bytes_eq tag.now) (dependency dep).tag false) tagged.now }
+{
+    tagged
+        .iter()
+        .any(|dep| name == dep.name && has_tag(dep, tag))
+}
+
+// The places of the candidates that may be selected and have an install-if without conflict.
+fn install_ifs_among(
+    alloc: Global,
+    details: &[Details<'_>],
+    eligible: &[bool],
+) -> Result<Vec<CandId>, AllocError>
+    requires few { length details.now < 2 ^ 32 }
+    requires marked { length eligible.now ≡ length details.now }
+    ensures { IfOk result (λ ids. ids.items
+        ≡ places_marked 0 eligible.now details.now) }
+{
+    let mut ids = Vec::new(alloc);
+    for place in 0..details.len() {
+        push_if_marked(&mut ids, place, eligible[place], &details[place])?;
+    }
+    Ok(ids)
+}
+
+// Adds the place of a candidate that has a mark and an install-if without conflict.
+fn push_if_marked(
+    ids: &mut Vec<CandId>,
+    place: usize,
+    is_marked: bool,
+    one: &Details<'_>,
+) -> Result<(), AllocError>
+    requires { place < 2 ^ 32 }
+    ensures { OnOk result (ids.new.items ≡ ids.old.items
+        ++ (if is_marked && has_positive_install_if one.now then place ∷ [] else [])) }
+{
+    if is_marked && one.has_positive_install_if() {
+        ids.push(CandId {
+            place: place as u32,
+        })?;
+    }
+    Ok(())
+}

@@ -1,0 +1,34 @@
+-- A search that ends with no need left has found the first selection; one that ends with an empty reason shows that there is none.
+use Rattle.std.proofs.Common.{◌≡◌, ℕ, List, [], subst, sym}
+use Rattle.std.specs.Prelude.{Option, Some, None, MatchOption, refl}
+use Rattle.pool_core.specs.Candidates.{Need}
+use Rattle.pool_core.specs.Rank.{SealedPool}
+use Rattle.solve_core.specs.Selection.{IsSatisfying, IsFirstSelection, next_need}
+use Rattle.solve_core.specs.Reasons.{FrameValue, IsConflictFree, IsReason, AreTurnsFrom, choices_in}
+use Rattle.solve_core.specs.Choices.{IsSearch, HasOptions, choices_of, pool_of}
+use Rattle.solve_core.specs.declared.choices.Choices.{Choices}
+use Rattle.solve_core.proofs.Turns.{turns_found}
+use Rattle.solve_core.proofs.PoolFacts.{pool_facts}
+use Rattle.solve_core.proofs.Satisfying.{closed_of_satisfying, satisfying_of_closed}
+
+pub first_found : (pool : SealedPool) → ((need : Need) → HasOptions pool need) → (chosen : Choices) (turns : List (FrameValue × ℕ)) → IsSearch chosen turns → pool_of chosen ≡ pool → next_need (pool_of chosen) (choices_of chosen) ≡ None → IsFirstSelection pool (choices_of chosen)
+first_found pool has chosen turns search same end =
+    let facts = pool_facts pool has in
+    let t = choices_in turns in
+    let taken : AreTurnsFrom pool [] turns = subst (λ (p : SealedPool). AreTurnsFrom p [] turns) same search.taken in
+    let clean : IsConflictFree pool t = subst (λ (p : SealedPool). IsConflictFree p t) same (subst (λ (z : List ℕ). IsConflictFree (pool_of chosen) z) search.choices search.clean) in
+    let none : next_need pool t ≡ None = subst (λ (p : SealedPool). next_need p t ≡ None) same (subst (λ (z : List ℕ). next_need (pool_of chosen) z ≡ None) search.choices end) in
+    let all = turns_found pool facts turns taken clean none in
+    let found : IsFirstSelection pool t = record {
+      satisfies = satisfying_of_closed pool t all.0;
+      walked = all.1;
+      first = λ selection walk satisfies walked. all.2 selection walk (closed_of_satisfying pool selection satisfies) walked;
+    } in
+    subst (λ (z : List ℕ). IsFirstSelection pool z) (sym search.choices) found
+
+pub none_satisfies : (pool : SealedPool) → IsReason pool [] → (selection : List ℕ) → IsSatisfying pool selection → ⊥
+none_satisfies pool dead selection satisfies = dead selection (closed_of_satisfying pool selection satisfies) (λ c h. absurd h)
+
+pub none_of : {X : Type 0} (o : Option X) (P : Type 0) (Q : X → Type 0) → ((x : X) → o ≡ Some x → ⊥) → MatchOption o P Q → P
+none_of None P Q never m = m
+none_of (Some x) P Q never m = absurd (never x refl)

@@ -1,0 +1,80 @@
+-- What meets a dependency offers its name.
+use Rattle.std.proofs.Common.{◌≡◌, inl, inr, ℕ, zero, suc, ◌+◌, ◌<◌, Bool, true, false, List, [], ◌∷◌, ◌++◌, length, get_or, refl, sym, subst, ap, arith}
+use Rattle.std.specs.Prelude.{Option, Some, None, slice_get, not, ◌&&◌}
+use Rattle.std.specs.Option.{option_map_or}
+use Rattle.std.specs.List.{list_any}
+use Rattle.std.specs.Str.{bytes_eq}
+use Rattle.dep_core.specs.Dependency.{Dependency}
+use Rattle.dep_core.specs.Meets.{is_wanted}
+use Rattle.pool_core.specs.Candidates.{Candidate, entry, is_met_by_entry, meets_dependency, meets_itself, offers_name}
+use Rattle.pool_core.specs.Rank.{SealedPool, meets_at}
+use Rattle.pool_core.specs.Options.{IsMember, places_offering, places_from}
+use Rattle.solve_core.specs.Selection.{is_met}
+use Rattle.solve_core.proofs.PoolFacts.{bool_cases, any_in}
+use Rattle.solve_core.proofs.Satisfying.{and_true, or_true, true_or, any_one, one_any}
+use Rattle.solve_core.proofs.Theory.{in_append}
+
+pub in_places : (n : ℕ) (test : Candidate → Bool) (cs : List Candidate) (k : ℕ) → option_map_or test (slice_get cs k) false ≡ true → IsMember (n + k) (places_from n test cs)
+in_places n test [] zero h = absurd (cc)
+in_places n test [] (suc k) h = absurd (cc)
+in_places n test (c ∷ cs) zero h =
+    let z : n + 0 ≡ n = omega arith in
+    subst (λ (o : ℕ). IsMember o (places_from n test (c ∷ cs))) (sym z) (rw h (inl refl))
+in_places n test (c ∷ cs) (suc k) h =
+    let z : n + suc k ≡ suc n + k = omega arith in
+    subst (λ (o : ℕ). IsMember o (places_from n test (c ∷ cs))) (sym z) (elim (bool_cases (test c)) [
+      | inl e ↦ rw e (inr (in_places (suc n) test cs k h))
+      | inr e ↦ rw e (in_places (suc n) test cs k h)
+    ])
+
+first_below : (n m : ℕ) (ps : List ℕ) (k d : ℕ) → ((j : ℕ) → j < length ps → get_or ps j d < m) → n < m → k < length (n ∷ ps) → get_or (n ∷ ps) k d < m
+first_below n m ps zero d rest here h = here
+first_below n m ps (suc k) d rest here h = rest k (omega arith)
+
+places_below : (n : ℕ) (test : Candidate → Bool) (cs : List Candidate) (k d : ℕ) → k < length (places_from n test cs) → get_or (places_from n test cs) k d < n + length cs
+places_below n test [] k d h = absurd (omega arith)
+places_below n test (c ∷ cs) k d h = elim (bool_cases (test c)) [
+  | inl e ↦ rw e (first_below n (n + length (c ∷ cs)) (places_from (suc n) test cs) k d (λ j g. let r = places_below (suc n) test cs j d g in omega arith) (omega arith) (rw e at h))
+  | inr e ↦ rw e (let r = places_below (suc n) test cs k d (rw e at h) in omega arith)
+]
+
+pub offered_below : (name : List ℕ) (cs : List Candidate) (k d : ℕ) → k < length (places_offering name cs) → get_or (places_offering name cs) k d < length cs
+offered_below name cs k d h = let r = places_below 0 (offers_name name) cs k d h in omega arith
+
+meets_offers : (d : Dependency) (c : Candidate) → meets_dependency d c ≡ true → offers_name d.name c ≡ true
+meets_offers d c h = elim (or_true (meets_itself d c) (list_any (is_met_by_entry d) c.provides) h) [
+  | inl e ↦ true_or (bytes_eq d.name c.name) _ (inl (and_true (bytes_eq d.name c.name) (is_wanted d.version d.bits c.version) e).0)
+  | inr e ↦
+      let a = any_one (is_met_by_entry d) c.provides e in
+      let b = and_true (not a.0.conflict) (bytes_eq d.name a.0.name && is_wanted d.version d.bits a.0.version) a.2 in
+      let n = and_true (bytes_eq d.name a.0.name) (is_wanted d.version d.bits a.0.version) b.1 in
+      true_or (bytes_eq d.name c.name) (list_any (λ (p : Dependency). not p.conflict && bytes_eq d.name p.name) c.provides)
+      (inr (one_any (λ (p : Dependency). not p.conflict && bytes_eq d.name p.name) c.provides a.0 a.1 (rw b.0 n.0)))
+]
+
+pub mono_at : (p q : Candidate → Bool) (o : Option Candidate) → ((c : Candidate) → p c ≡ true → q c ≡ true) → option_map_or p o false ≡ true → option_map_or q o false ≡ true
+mono_at p q None to h = h
+mono_at p q (Some c) to h = to c h
+
+pub meets_offered : (pool : SealedPool) (d : Dependency) (m : ℕ) → meets_at pool m (entry d) ≡ true → IsMember m (places_offering d.name pool.candidates)
+meets_offered pool d m h =
+    let z : 0 + m ≡ m = omega arith in
+    subst (λ (o : ℕ). IsMember o (places_offering d.name pool.candidates)) z
+    (in_places 0 (offers_name d.name) pool.candidates m (mono_at (meets_dependency d) (offers_name d.name) (slice_get pool.candidates m) (meets_offers d) h))
+
+-- no choice that offers the name meets the dependency, so none does
+pub unmet_if : (pool : SealedPool) (chosen : List ℕ) (d : Dependency) → ((k : ℕ) → IsMember k (places_offering d.name pool.candidates) → IsMember k chosen → meets_at pool k (entry d) ≡ true → ⊥) → is_met pool chosen (entry d) ≡ false
+unmet_if pool chosen d none = elim (bool_cases (is_met pool chosen (entry d))) [
+  | inl e ↦ let r = any_in (λ c. meets_at pool c (entry d)) chosen e in absurd (none r.0 (meets_offered pool d r.0 r.2) r.1 r.2)
+  | inr e ↦ e
+]
+
+-- the known candidate at a place meets what the place meets
+pub meets_there : (pool : SealedPool) (m : ℕ) (d : Dependency) (c : Candidate) → slice_get pool.candidates m ≡ Some c → meets_at pool m (entry d) ≡ meets_dependency d c
+meets_there pool m d c e = ap (λ (o : Option Candidate). option_map_or (meets_dependency d) o false) e
+
+pub in_more : (P : ℕ → Type 0) (xs : List ℕ) (x : ℕ) → ((k : ℕ) → IsMember k xs → P k) → P x → (k : ℕ) → IsMember k (xs ++ x ∷ []) → P k
+in_more P xs x all here k h = elim (in_append k xs (x ∷ []) h) [
+  | inl a ↦ all k a
+  | inr b ↦ elim b [ inl e ↦ subst P (sym e) here | inr bad ↦ absurd bad ]
+]

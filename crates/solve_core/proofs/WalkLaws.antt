@@ -1,0 +1,110 @@
+-- What the walks of satisfying selections keep.
+use Rattle.std.proofs.Common.{◌≡◌, ◌⊎◌, inl, inr, ℕ, ◌+◌, Bool, true, false, List, [], ◌∷◌, ◌++◌, refl, sym, subst, ap, ◌∙◌, arith}
+use Rattle.std.specs.Prelude.{Some}
+use Rattle.std.specs.Cmp.{IsTotalOrder}
+use Rattle.std.specs.Ordering.{is_lt, ordering_reverse}
+use Rattle.std.specs.declared.cmp.Ordering.{Ordering}
+use Rattle.std.specs.declared.cmp.Ordering.TheVariants.{Less, Equal, Greater}
+use Rattle.pool_core.specs.Candidates.{Need, is_eligible}
+use Rattle.pool_core.specs.Rank.{SealedPool, is_better, rank_cmp}
+use Rattle.pool_core.specs.Options.{IsBestFirst, IsMember, options_for, places_from}
+use Rattle.solve_core.specs.Choices.{HasOptions}
+use Rattle.solve_core.specs.Selection.{ComesBefore, ComesBeforeFrom, IsFirstSelection, IsSatisfying, IsWalk, next_need}
+use Rattle.solve_core.proofs.Theory as law
+use Rattle.solve_core.proofs.Turns.{PoolFacts}
+use Rattle.solve_core.proofs.PoolFacts.{pool_facts}
+use Rattle.solve_core.proofs.Satisfying.{closed_of_satisfying, satisfying_of_closed}
+use Rattle.solve_core.proofs.FirstFound.{none_satisfies}
+use Rattle.solve_core.proofs.Offered.{in_places}
+use Rattle.solve_core.proofs.Existence.{first_or_none}
+
+less_of : (o : Ordering) → is_lt o ≡ true → o ≡ Less
+less_of Less h = refl
+less_of Equal h = absurd (cc)
+less_of Greater h = absurd (cc)
+
+sorted_of : (better : ℕ → ℕ → Bool) (cs : List ℕ) → IsBestFirst better cs → law.Sorted (λ a b. better a b ≡ true) cs
+sorted_of better [] h = tt
+sorted_of better (c ∷ cs) h = (h.0, sorted_of better cs h.1)
+
+module _ (pool : SealedPool) (total : (need : Need) → IsTotalOrder (rank_cmp pool need)) (strict : (need : Need) (a b : ℕ) → rank_cmp pool need a b ≡ Equal → a ≡ b) where
+  chain : (q : Need) (a b c : ℕ) → is_better pool q a b ≡ true → is_better pool q b c ≡ true → is_better pool q a c ≡ true
+  chain q a b c h g = ap is_lt ((total q).trans a b c (less_of (rank_cmp pool q a b) h) (less_of (rank_cmp pool q b c) g))
+
+  one_way : (q : Need) (a b : ℕ) → is_better pool q a b ≡ true → is_better pool q b a ≡ true → ⊥
+  one_way q a b h g =
+      let back : rank_cmp pool q b a ≡ Greater = (total q).antisymm b a ∙ ap ordering_reverse (less_of (rank_cmp pool q a b) h) in
+      let bad : true ≡ false = sym g ∙ ap is_lt back in absurd (cc)
+
+  one_of : (q : Need) (c d : ℕ) → (c ≡ d) ⊎ ((is_better pool q c d ≡ true) ⊎ (is_better pool q d c ≡ true))
+  one_of q c d = by (rank_cmp pool q c d) refl
+    where
+      by : (o : Ordering) → o ≡ rank_cmp pool q c d → (c ≡ d) ⊎ ((is_better pool q c d ≡ true) ⊎ (is_better pool q d c ≡ true))
+      by Less e = inr (inl (ap is_lt (sym e)))
+      by Equal e = inl (strict q c d (sym e))
+      by Greater e = inr (inr (ap is_lt ((total q).antisymm d c ∙ ap ordering_reverse (sym e))))
+
+  same_need : (q r : Need) (t : List ℕ) → next_need pool t ≡ Some q → next_need pool t ≡ Some r → q ≡ r
+  same_need q r t a b = cc
+
+  before_chain : (u v w x : List ℕ) → ComesBeforeFrom pool u v w → ComesBeforeFrom pool u w x → ComesBeforeFrom pool u v x
+  before_chain u [] w x a b = absurd a
+  before_chain u (c ∷ v) [] x a b = absurd a
+  before_chain u (c ∷ v) (d ∷ w) [] a b = absurd b
+  before_chain u (c ∷ v) (d ∷ w) (e ∷ x) (inl a) (inl b) =
+      inl (a.0, a.1, chain a.0 c d e a.2 (subst (λ (q : Need). is_better pool q d e ≡ true) (same_need b.0 a.0 u b.1 a.1) b.2))
+  before_chain u (c ∷ v) (d ∷ w) (e ∷ x) (inl a) (inr b) = inl (a.0, a.1, subst (λ (z : ℕ). is_better pool a.0 c z ≡ true) b.0 a.2)
+  before_chain u (c ∷ v) (d ∷ w) (e ∷ x) (inr a) (inl b) = inl (b.0, b.1, subst (λ (z : ℕ). is_better pool b.0 z e ≡ true) (sym a.0) b.2)
+  before_chain u (c ∷ v) (d ∷ w) (e ∷ x) (inr a) (inr b) =
+      inr (a.0 ∙ b.0, before_chain (u ++ c ∷ []) v w x a.1 (subst (λ (z : ℕ). ComesBeforeFrom pool (u ++ z ∷ []) w x) (sym a.0) b.1))
+
+  module _ (has : (need : Need) → HasOptions pool need) where
+    facts : PoolFacts pool
+    facts = pool_facts pool has
+
+    pub walk_satisfies : (selection walk : List ℕ) → IsSatisfying pool selection → IsWalk pool selection walk → IsSatisfying pool walk
+    walk_satisfies selection walk s walked =
+        satisfying_of_closed pool walk (law.law facts selection walk (tt, (λ c h. absurd h), λ a b h. absurd h) (closed_of_satisfying pool selection s) walked)
+
+    pub walk_of_walk : (selection walk : List ℕ) → IsWalk pool selection walk → IsWalk pool walk walk
+    walk_of_walk selection walk walked = law.walk_idem facts selection walk walked
+
+    pub has_a_walk : (selection : List ℕ) → IsSatisfying pool selection → (walk : List ℕ) × IsWalk pool selection walk
+    has_a_walk selection s = law.walk_of_sat facts (λ q. sorted_of (is_better pool q) (options_for pool q) (has q).best_first) selection (closed_of_satisfying pool selection s)
+
+    pub has_one_walk : (selection walk other : List ℕ) → IsWalk pool selection walk → IsWalk pool selection other → walk ≡ other
+    has_one_walk selection walk other a b = law.walk_unique facts one_way selection [] walk other a b
+
+    pub walks_compare : (selection other walk second : List ℕ) → IsSatisfying pool selection → IsSatisfying pool other → IsWalk pool selection walk → IsWalk pool other second → (walk ≡ second) ⊎ (ComesBefore pool walk second ⊎ ComesBefore pool second walk)
+    walks_compare selection other walk second s o a b =
+        law.before_total facts (λ q c d gc gd mc md. one_of q c d) selection other [] walk second (closed_of_satisfying pool selection s) (closed_of_satisfying pool other o) a b
+
+    pub not_both_before : (walk second : List ℕ) → ComesBefore pool walk second → ComesBefore pool second walk → ⊥
+    not_both_before walk second a b = law.before_asym facts one_way [] walk second a b
+
+    pub before_is_transitive : (a b c : List ℕ) → ComesBefore pool a b → ComesBefore pool b c → ComesBefore pool a c
+    before_is_transitive a b c x y = before_chain [] a b c x y
+
+    pub first_is_unique : (a b : List ℕ) → IsFirstSelection pool a → IsFirstSelection pool b → a ≡ b
+    first_is_unique a b fa fb = elim (fa.first b b fb.satisfies fb.walked) [
+      | inl e ↦ sym e
+      | inr before ↦ elim (fb.first a a fa.satisfies fa.walked) [
+        | inl e ↦ e
+        | inr after ↦ absurd (not_both_before a b before after)
+      ]
+    ]
+
+    pub first_exists : (selection : List ℕ) → IsSatisfying pool selection → (trace : List ℕ) × IsFirstSelection pool trace
+    first_exists selection s =
+        let all = places_from 0 (is_eligible pool.world) pool.candidates in
+        elim (first_or_none pool facts all (λ c h. let z : 0 + c ≡ c = omega arith in subst (λ (k : ℕ). IsMember k all) z (in_places 0 (is_eligible pool.world) pool.candidates c h))) [
+          | inl found ↦ (
+            found.0,
+            record {
+              satisfies = satisfying_of_closed pool found.0 found.1.0;
+              walked = found.1.1;
+              first = λ other walk o walked. found.1.2 other walk (closed_of_satisfying pool other o) walked;
+            },
+          )
+          | inr dead ↦ absurd (none_satisfies pool dead selection s)
+        ]

@@ -1,0 +1,44 @@
+use Rattle.std.proofs.Common.{◌∷◌, ◌++◌, [], length, subst, sym, ap, arith}
+use Rattle.solve_core.specs.Choices.{choices_of, pool_of}
+use Rattle.solve_core.specs.declared.choices.Choices.{Choices}
+use Rattle.solve_core.specs.Reasons.{FrameValue, IsConflictFree, IsFrameOf, IsSpentFrame, IsFrameTaking}
+use Rattle.solve_core.proofs.Steps.{taken_of_open, spent_of_open, fits_in}
+use Rattle.solve_core.proofs.Turns.{passed_over}
+use Rattle.solve_core.proofs.Kept.{taken_within}
+use Rattle.solve_core.proofs.search.Search.next_option.Goals as goal
+
+pub returns-in-None-clause-found : goal.returns-in-None-clause-found
+returns-in-None-clause-found c =
+    let pool = pool_of c.loop-id.self.chosen in
+    let chosen = choices_of c.loop-id.self.chosen in
+    let taken = taken_of_open pool chosen c.loop-id.top c.take_next.new.self c.in-Some.id c.loop-id.invariant.open_now c.in-Some.ensures.ruled_out c.in-Some.ensures.left c.in-Some.ensures.by in
+    subst (λ (z : Choices). IsFrameTaking (pool_of z) (choices_of z) c.take_next.new.self c.in-Some.id × IsConflictFree (pool_of z) (choices_of z ++ c.in-Some.id ∷ []))
+    c.loop-id.invariant.chosen
+    (taken, fits_in pool (λ need. c.options_are_as_promised.ensures pool need) chosen c.take_next.new.self c.in-Some.id taken c.loop-id.invariant.search.clean (rw c.in-None.is at c.in_ok-reason_against.ensures))
+
+pub loop-id-preserved : goal.loop-id-preserved
+loop-id-preserved c =
+    let pool = pool_of c.loop-id.self.chosen in
+    let chosen = choices_of c.loop-id.self.chosen in
+    let taken = taken_of_open pool chosen c.loop-id.top c.take_next.new.self c.in-Some.id c.loop-id.invariant.open_now c.in-Some.ensures.ruled_out c.in-Some.ensures.left c.in-Some.ensures.by in
+    let len = ap length c.in-Some.ensures.left in
+    record {
+      chosen = c.loop-id.invariant.chosen;
+      turns = c.loop-id.invariant.turns;
+      search = c.loop-id.invariant.search;
+      open_now = subst (λ (z : FrameValue). IsFrameOf pool chosen z) (sym c.in_ok-rule_out-in-Some-2.ensures) (passed_over pool chosen c.take_next.new.self c.in-Some.id c.in-Some-2.others.items taken (rw c.in-Some-2.is at c.in_ok-reason_against.ensures));
+      fewer = omega (arith, len, ap (λ (z : FrameValue). length z.1) c.in_ok-rule_out-in-Some-2.ensures, c.loop-id.invariant.fewer);
+    }
+
+pub returns-clause-found : goal.returns-clause-found
+returns-clause-found c =
+    let none = c.in_default.ensures in
+    subst (λ (z : Choices). IsSpentFrame (pool_of z) (choices_of z) c.take_next.new.self) c.loop-id.invariant.chosen
+    (spent_of_open (pool_of c.loop-id.self.chosen) (choices_of c.loop-id.self.chosen) c.loop-id.top c.take_next.new.self c.loop-id.invariant.open_now none.ruled_out none.left.0 none.left.1 none.by)
+
+pub reason_against-requires-clause-within : goal.reason_against-requires-clause-within
+reason_against-requires-clause-within c =
+    let pool = pool_of c.loop-id.self.chosen in
+    let chosen = choices_of c.loop-id.self.chosen in
+    taken_within pool (λ need. c.options_are_as_promised.ensures pool need) chosen c.take_next.new.self c.in-Some.id
+    (taken_of_open pool chosen c.loop-id.top c.take_next.new.self c.in-Some.id c.loop-id.invariant.open_now c.in-Some.ensures.ruled_out c.in-Some.ensures.left c.in-Some.ensures.by)

@@ -1,0 +1,7 @@
+use Rattle.std.proofs.Common.{subst, sym, List, ℕ}
+use Rattle.solve_core.specs.Reasons.{RulesOut}
+use Rattle.solve_core.specs.Choices.{pool_of, choices_of}
+use Rattle.solve_core.proofs.search.Search.reason_against.Goals as goal
+
+pub returns-in-Some : goal.returns-in-Some
+returns-in-Some c = subst (λ (z : List ℕ). RulesOut (pool_of c.args.self.now.chosen) (choices_of c.args.self.now.chosen) c.args.id z) (sym c.in_ok-copy.ensures.items) c.in-Some.ensures

@@ -1,0 +1,15 @@
+use Rattle.std.proofs.Common.{◌≡◌}
+use Rattle.solve_core.specs.Choices.{IsSearch, choices_of, pool_of}
+use Rattle.solve_core.specs.Reasons.{IsFrameOf}
+use Rattle.solve_core.specs.Measure.{weight_of}
+use Rattle.solve_core.proofs.selection.solve.Given as goal
+
+abbrev pub invariant-loop-top : goal.invariant-loop-top
+invariant-loop-top l = record {
+  pool : pool_of l.search.chosen ≡ l.pool;
+  search : IsSearch l.search.chosen l.search.turns.items;
+  open_now : IsFrameOf (pool_of l.search.chosen) (choices_of l.search.chosen) l.top;
+}
+
+abbrev pub decreases-loop-top : goal.decreases-loop-top
+decreases-loop-top l = weight_of l.search.turns.items l.top

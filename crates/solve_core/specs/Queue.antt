@@ -1,0 +1,33 @@
+-- The dependencies that are raised, each with the choice that has it.
+use Rattle.std.specs.Prelude.{◌≡◌, ◌≤◌, ℕ, Bool, not, List, ◌++◌, length, map, take, Option, Some, None}
+use Rattle.std.specs.List.{filter, find, flat_map, list_any}
+use Rattle.dep_core.specs.Dependency.{Dependency}
+use Rattle.pool_core.specs.Candidates.{entry}
+use Rattle.pool_core.specs.Rank.{SealedPool}
+use Rattle.solve_core.specs.Selection.{depends_at, is_unmet}
+
+-- a dependency, and the choice that has it; one of world's has none
+abbrev pub RaisedDepValue : Type 0
+RaisedDepValue = Dependency × Option ℕ
+
+abbrev pub raised_deps : Option ℕ → List Dependency → List RaisedDepValue
+raised_deps by deps = map (λ (d : Dependency). (d, by)) (filter (λ
+    (d : Dependency). not d.conflict) deps)
+
+abbrev pub raised_deps_at : SealedPool → ℕ → List RaisedDepValue
+raised_deps_at pool c = raised_deps (Some c) (depends_at pool c)
+
+abbrev pub queue_of : SealedPool → List ℕ → List RaisedDepValue
+queue_of pool chosen = raised_deps None pool.world ++ flat_map (raised_deps_at pool) chosen
+
+-- whether a choice has a conflict
+abbrev pub has_conflict_at : SealedPool → ℕ → Bool
+has_conflict_at pool c = list_any (λ (d : Dependency). d.conflict) (depends_at pool c)
+
+abbrev pub is_unmet_dep : SealedPool → List ℕ → RaisedDepValue → Bool
+is_unmet_dep pool chosen r = is_unmet pool chosen (entry r.0)
+
+-- the first of the queue are met
+abbrev pub AreMet : SealedPool → List ℕ → ℕ → Type 0
+AreMet pool chosen at = (at ≤ length (queue_of pool chosen))
+    × (find (is_unmet_dep pool chosen) (take at (queue_of pool chosen)) ≡ None)

@@ -1,0 +1,78 @@
+-- Why options are ruled out, and what a search keeps. A reason is a list of candidates that no
+-- satisfying selection holds whole.
+use Rattle.std.specs.Prelude.{◌≡◌, ℕ, true, List, [], ◌∷◌, ◌++◌, Some, None}
+use Rattle.pool_core.specs.Candidates.{Need}
+use Rattle.pool_core.specs.Rank.{SealedPool, is_eligible_at}
+use Rattle.pool_core.specs.Options.{IsMember, options_for}
+use Rattle.solve_core.specs.Selection.{AreMembers, AreDistinct, exclude_each_other, needs, next_need}
+
+-- each member may be selected, none stands twice, and no two exclude each other
+abbrev pub IsConflictFree : SealedPool → List ℕ → Type 0
+IsConflictFree pool chosen =
+    AreDistinct chosen × ((c : ℕ) → IsMember c chosen → is_eligible_at pool c ≡ true)
+    × ((a b : ℕ) → IsMember a chosen → IsMember b chosen → exclude_each_other pool a b ≡ true → ⊥)
+
+-- satisfying, as the search sees it
+abbrev pub IsSolution : SealedPool → List ℕ → Type 0
+IsSolution pool selection = IsConflictFree pool selection × (next_need pool selection ≡ None)
+
+-- a reason
+abbrev pub IsReason : SealedPool → List ℕ → Type 0
+IsReason pool reason = (selection : List ℕ) → IsSolution pool selection →
+    AreMembers reason selection → ⊥
+
+-- why a candidate cannot join some choices: a reason that it makes up with others of them
+pub record RulesOut (pool : SealedPool) (chosen : List ℕ) (c : ℕ) (others : List ℕ) : Type 0 where
+  pub within : AreMembers others chosen
+  pub dead : IsReason pool (c ∷ others)
+
+-- a frame: the options that are ruled out, each with the other members of its reason; the options
+-- that are left; the choices that raised its need
+abbrev pub FrameValue : Type 0
+FrameValue = List (ℕ × List ℕ) × List ℕ × List ℕ
+
+abbrev pub options_in : List (ℕ × List ℕ) → List ℕ
+options_in [] = []
+options_in (p ∷ ps) = p.0 ∷ options_in ps
+
+abbrev pub AreRuledOut : SealedPool → List ℕ → List (ℕ × List ℕ) → Type 0
+AreRuledOut pool chosen [] = Unit {0}
+AreRuledOut pool chosen (p ∷ ps) = RulesOut pool chosen p.0 p.1 × AreRuledOut pool chosen ps
+
+-- the frame of the next need behind some choices
+abbrev pub IsFrameOf : SealedPool → List ℕ → FrameValue → Type 0
+IsFrameOf pool chosen f =
+    (need : Need) × (next_need pool chosen ≡ Some need) × (options_for pool need ≡ options_in f.0
+    ++ f.1)
+    × AreMembers f.2 chosen × IsMember need (needs pool f.2) × AreRuledOut pool chosen f.0
+
+-- the same, where an option is taken
+abbrev pub IsFrameTaking : SealedPool → List ℕ → FrameValue → ℕ → Type 0
+IsFrameTaking pool chosen f c = IsFrameOf pool chosen (f.0, c ∷ f.1, f.2)
+
+-- behind some choices: the frames at which the further choices were made
+abbrev pub AreTurnsFrom : SealedPool → List ℕ → List (FrameValue × ℕ) → Type 0
+AreTurnsFrom pool chosen [] = Unit {0}
+AreTurnsFrom pool chosen (turn ∷ turns) =
+    IsFrameTaking pool chosen turn.0 turn.1 × AreTurnsFrom pool (chosen ++ turn.1 ∷ []) turns
+
+abbrev pub choices_in : List (FrameValue × ℕ) → List ℕ
+choices_in [] = []
+choices_in (turn ∷ turns) = turn.1 ∷ choices_in turns
+
+-- no option is left
+abbrev pub IsSpentFrame : SealedPool → List ℕ → FrameValue → Type 0
+IsSpentFrame pool chosen f = IsFrameOf pool chosen f × (f.1 ≡ [])
+
+-- the other members of all reasons
+abbrev pub others_in : List (ℕ × List ℕ) → List ℕ
+others_in [] = []
+others_in (p ∷ ps) = p.1 ++ others_in ps
+
+-- the reason of a dead end: the choices that raised the need, and the other members of the reasons
+-- of all its options
+abbrev pub dead_end_reason : FrameValue → List ℕ
+dead_end_reason f = f.2 ++ others_in f.0
+
+abbrev pub HasSameMembers : List ℕ → List ℕ → Type 0
+HasSameMembers xs ys = AreMembers xs ys × AreMembers ys xs

@@ -1,0 +1,116 @@
+//! A list of candidates, each once, that answers at once whether it has one.
+ghost use Rattle.std.specs.Prelude.{◌≡◌, ◌<◌, ◌^◌, ℕ, List, [], ◌∷◌, ◌++◌, false, MatchBool, OnOk, vec_len, slice_index_or};
+ghost use Rattle.pool_core.specs.Options.{IsMember};
+ghost use Rattle.solve_core.specs.Reasons.{HasSameMembers};
+
+use pool_core::CandId;
+use std::alloc::{AllocError, Global};
+use std::marker::Model;
+
+/// Candidates in the order in which they came, each once, and a mark for each place in the list of
+/// all candidates, which is set where it is one of them.
+#[derive(Drop)]
+pub(crate) struct CandidateSet {
+    ids: Vec<CandId>,
+    marks: Vec<bool>,
+}
+
+impl Model for CandidateSet {
+    ghost use Rattle.std.specs.Prelude.{ℕ, List};
+    ghost use Rattle.solve_core.specs.CandidateSet.{AreMarks};
+
+    ghost Value = { List ℕ };
+
+    ghost view = { λ m. m.ids.items };
+
+    ghost invariant = { λ m. AreMarks m.marks.items m.ids.items };
+}
+
+impl CandidateSet {
+    /// No candidates.
+    pub(crate) fn new(alloc: Global) -> CandidateSet
+        ensures { result ≡ [] }
+    {
+        CandidateSet {
+            ids: Vec::new(alloc),
+            marks: Vec::new(alloc),
+        }
+    }
+
+    /// Whether a candidate is one of them.
+    pub(crate) fn has(&self, id: CandId) -> bool
+        ensures { MatchBool result (IsMember id self.now) (IsMember id self.now → ⊥) }
+    {
+        let place = id.place as usize;
+        if place < self.marks.len() {
+            self.marks[place]
+        } else {
+            false
+        }
+    }
+
+    /// Puts a candidate behind the others, unless it is one of them.
+    pub(crate) fn add(&mut self, id: CandId) -> Result<(), AllocError>
+        ensures { OnOk result (HasSameMembers self.new (self.old ++ id ∷ [])) }
+    {
+        if self.has(id) {
+            return Ok(());
+        }
+        self.push(id)?;
+        Ok(())
+    }
+
+    /// Puts candidates behind the others, each that is none of them.
+    pub(crate) fn add_all(&mut self, ids: &[CandId]) -> Result<(), AllocError>
+        ensures { OnOk result (HasSameMembers self.new (self.old ++ ids.now)) }
+    {
+        for id in ids {
+            self.add(*id)?;
+        }
+        Ok(())
+    }
+
+    /// Puts a candidate behind the others, none of which it is. A refused call changes nothing.
+    pub(crate) fn push(&mut self, id: CandId) -> Result<(), AllocError>
+        requires { IsMember id self.old → ⊥ }
+        ensures { OnOk result (self.new ≡ self.old ++ id ∷ []) }
+    {
+        let place = id.place as usize;
+        grow(&mut self.marks, place)?;
+        self.ids.push(id)?;
+        self.marks[place] = true;
+        Ok(())
+    }
+
+    /// Takes the last one away.
+    pub(crate) fn pop(&mut self)
+        ensures { (rest : List ℕ) (last : ℕ) → self.old ≡ rest ++ last ∷ [] → self.new ≡ rest }
+    {
+        if let Some(id) = self.ids.pop() {
+            let place = id.place as usize;
+            if place < self.marks.len() {
+                self.marks[place] = false;
+            }
+        }
+    }
+
+    /// The candidates, in the order in which they came.
+    pub(crate) fn as_slice(&self) -> &[CandId]
+        ensures { result.now ≡ self.now }
+    {
+        self.ids.as_slice()
+    }
+}
+
+// Adds marks that are not set, until there is one at the place.
+fn grow(marks: &mut Vec<bool>, place: usize) -> Result<(), AllocError>
+    requires { place < 2 ^ 32 }
+    ensures room { OnOk result (place < vec_len marks.new) }
+    ensures same { (c : ℕ) → slice_index_or marks.new.items c false
+        ≡ slice_index_or marks.old.items c false }
+{
+    while marks.len() <= place {
+        marks.push(false)?;
+    }
+    Ok(())
+}

@@ -1,0 +1,123 @@
+//! A need under way: the options that are ruled out, each with its reason, and those that are left.
+ghost use Rattle.std.specs.Prelude.{◌≡◌, [], ◌∷◌, ◌++◌, map, length, ◌<◌, ◌^◌, MatchOption, OnOk, IfSome, Some, slice_get};
+
+use pool_core::CandId;
+use std::alloc::{AllocError, Global};
+use std::marker::Model;
+
+/// An option that is ruled out, and why: no satisfying selection holds it and all of the others.
+#[derive(Drop)]
+pub(crate) struct RuledOut {
+    option: CandId,
+    others: Vec<CandId>,
+}
+
+impl Model for RuledOut {
+    ghost use Rattle.std.specs.Prelude.{ℕ, List};
+
+    ghost Value = { ℕ × List ℕ };
+
+    ghost view = { λ ruled_out. (ruled_out.option, ruled_out.others.items) };
+}
+
+impl RuledOut {
+    /// The option.
+    pub(crate) fn option(&self) -> CandId
+        ensures { result ≡ self.now.0 }
+    {
+        self.option
+    }
+
+    /// The other members of the reason.
+    pub(crate) fn others(&self) -> &[CandId]
+        ensures { result.now ≡ self.now.1 }
+    {
+        self.others.as_slice()
+    }
+}
+
+/// A need that is to be met: its options, of which those in front are ruled out or taken, each that
+/// is ruled out with its reason; and the choices that raised the need.
+#[derive(Drop)]
+pub(crate) struct Frame {
+    ruled_out: Vec<RuledOut>,
+    options: Vec<CandId>,
+    next: usize,
+    by: Vec<CandId>,
+}
+
+impl Model for Frame {
+    ghost use Rattle.std.specs.Prelude.{ℕ, List, drop, length, ◌≤◌};
+
+    ghost Value = { List (ℕ × List ℕ) × List ℕ × List ℕ };
+
+    ghost view = { λ f. (f.ruled_out.items, drop f.next f.options.items, f.by.items) };
+}
+
+impl Frame {
+    /// A frame with all options left.
+    pub(crate) fn new(alloc: Global, options: Vec<CandId>, by: Vec<CandId>) -> Frame
+        ensures value { result ≡ ([], options.items, by.items) }
+        ensures few { length result.1 < 2 ^ 64 }
+    {
+        Frame {
+            ruled_out: Vec::new(alloc),
+            options,
+            next: 0,
+            by,
+        }
+    }
+
+    /// The next option that is left.
+    pub(crate) fn take_next(&mut self) -> Option<CandId>
+        ensures ruled_out { self.new.0 ≡ self.old.0 }
+        ensures left { MatchOption result ((self.old.1 ≡ []) × (self.new.1
+            ≡ [])) (λ option. self.old.1 ≡ option ∷ self.new.1) }
+        ensures by { self.new.2 ≡ self.old.2 }
+    {
+        if self.next >= self.options.len() {
+            return None;
+        }
+        let id = self.options[self.next];
+        self.next += 1;
+        Some(id)
+    }
+
+    /// Rules an option out.
+    pub(crate) fn rule_out(&mut self, option: CandId, others: Vec<CandId>) -> Result<(), AllocError>
+        ensures { OnOk result (self.new ≡ (
+          self.old.0 ++
+              (option, others.items) ∷ [],
+          self.old.1,
+          self.old.2,
+        )) }
+    {
+        self.ruled_out.push(RuledOut { option, others })?;
+        Ok(())
+    }
+
+    /// The choices that raised the need.
+    pub(crate) fn by(&self) -> &[CandId]
+        ensures { result.now ≡ self.now.2 }
+    {
+        self.by.as_slice()
+    }
+
+    /// The options that are ruled out, with their reasons.
+    pub(crate) fn ruled_out(&self) -> &[RuledOut]
+        ensures { result.now ≡ self.now.0 }
+    {
+        self.ruled_out.as_slice()
+    }
+
+    /// One of them, if there are so many.
+    pub(crate) fn ruled_out_at(&self, i: usize) -> Option<&RuledOut>
+        ensures { IfSome result (λ ruled_out. slice_get self.now.0 i ≡ Some ruled_out.now) }
+    {
+        if i < self.ruled_out.len() {
+            Some(&self.ruled_out[i])
+        } else {
+            None
+        }
+    }
+}

@@ -1,0 +1,64 @@
+//! What the definitions of selections and walks keep, each as the contract of a function that does
+//! nothing.
+ghost use Rattle.std.specs.Prelude.{◌≡◌, ◌⊎◌, ℕ, List};
+ghost use Rattle.pool_core.specs.Rank.{SealedPool};
+ghost use Rattle.solve_core.specs.Selection.{ComesBefore, IsFirstSelection, IsSatisfying, IsWalk};
+
+use crate::selection::options_are_as_promised;
+use pool_core::rank_is_total;
+
+/// The walk of a satisfying selection satisfies too, and is its own walk.
+pub fn walks_satisfy()
+    ensures satisfies { (pool : SealedPool) (selection walk : List ℕ) →
+        IsSatisfying pool selection → IsWalk pool selection walk → IsSatisfying pool walk }
+    ensures walked { (pool : SealedPool) (selection walk : List ℕ) →
+        IsWalk pool selection walk → IsWalk pool walk walk }
+{
+    options_are_as_promised();
+    rank_is_total();
+}
+
+/// Each satisfying selection has a walk, and one only.
+pub fn each_selection_has_one_walk()
+    ensures some { (pool : SealedPool) (selection : List ℕ) →
+        IsSatisfying pool selection → (walk : List ℕ) × IsWalk pool selection walk }
+    ensures one { (pool : SealedPool) (selection walk other : List ℕ) →
+        IsWalk pool selection walk → IsWalk pool selection other → walk ≡ other }
+{
+    options_are_as_promised();
+    rank_is_total();
+}
+
+/// The walks of satisfying selections stand in one order: of two different ones one comes before
+/// the other, at a place where both choose, and not the other way round; and it is transitive.
+pub fn walks_stand_in_one_order()
+    ensures one_of { (pool : SealedPool) (selection other walk second : List ℕ) →
+        IsSatisfying pool selection → IsSatisfying pool other →
+        IsWalk pool selection walk → IsWalk pool other second →
+        (walk ≡ second) ⊎ (ComesBefore pool walk second ⊎ ComesBefore pool second walk) }
+    ensures not_both { (pool : SealedPool) (walk second : List ℕ) →
+        ComesBefore pool walk second → ComesBefore pool second walk → ⊥ }
+    ensures transitive { (pool : SealedPool) (a b c : List ℕ) →
+        ComesBefore pool a b → ComesBefore pool b c → ComesBefore pool a c }
+{
+    options_are_as_promised();
+    rank_is_total();
+}
+
+/// There is at most one first selection.
+pub fn the_first_selection_is_unique()
+    ensures { (pool : SealedPool) (trace other : List ℕ) →
+        IsFirstSelection pool trace → IsFirstSelection pool other → trace ≡ other }
+{
+    options_are_as_promised();
+    rank_is_total();
+}
+
+/// Where any selection satisfies the world, there is a first one.
+pub fn a_first_selection_exists()
+    ensures { (pool : SealedPool) (selection : List ℕ) →
+        IsSatisfying pool selection → (trace : List ℕ) × IsFirstSelection pool trace }
+{
+    options_are_as_promised();
+    rank_is_total();
+}

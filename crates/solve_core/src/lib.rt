@@ -1,0 +1,21 @@
+//! The first preferred selection of a world: `solve` answers it in the order of its walk, or that
+//! no selection satisfies the world. A sealed pool comes in, places of candidates go out. The
+//! contract cites `specs/Selection.antt`: what satisfies, the walk of a selection, which of two
+//! walks comes before, and the first selection. `docs/selection.md` tells it in plain words.
+#![tactic(auto)]
+
+mod candidate_set;
+mod choices;
+mod exclusion;
+mod frame;
+mod laws;
+mod needs;
+mod queue;
+mod search;
+mod selection;
+
+pub use laws::{
+    a_first_selection_exists, each_selection_has_one_walk, the_first_selection_is_unique,
+    walks_satisfy, walks_stand_in_one_order,
+};
+pub use selection::{Trace, solve};

@@ -1,0 +1,262 @@
+//! The search: it takes options, rules options out, and steps back at a dead end.
+ghost use Rattle.std.specs.Prelude.{◌≡◌, ◌<◌, ◌^◌, ◌≤◌, ◌==◌, not, filter, ℕ, [], ◌∷◌, ◌++◌, false, true, length, IfOk, OnOk, IfSome, MatchOption, None, Some, slice_get};
+ghost use Rattle.pool_core.specs.Options.{IsMember};
+ghost use Rattle.solve_core.specs.Selection.{AreMembers, exclude_each_other, next_need};
+ghost use Rattle.solve_core.specs.Reasons.{IsConflictFree, IsReason, HasSameMembers, RulesOut, IsFrameOf, IsSpentFrame, IsFrameTaking, dead_end_reason};
+ghost use Rattle.solve_core.specs.Measure.{weight_of};
+ghost use Rattle.solve_core.specs.Choices.{IsSearch, choices_of, pool_of};
+
+use crate::candidate_set::CandidateSet;
+use crate::choices::Choices;
+use crate::frame::{Frame, RuledOut};
+use crate::selection::{Trace, options_are_as_promised};
+use pool_core::{CandId, Sealed};
+use std::alloc::{AllocError, Global};
+use std::marker::Model;
+
+/// A need that was met, and the choice that meets it.
+#[derive(Drop)]
+pub(crate) struct Turn {
+    frame: Frame,
+    choice: CandId,
+}
+
+impl Model for Turn {
+    ghost use Rattle.std.specs.Prelude.{ℕ, List};
+
+    ghost Value = { (List (ℕ × List ℕ) × List ℕ × List ℕ) × ℕ };
+
+    ghost view = { λ turn. (turn.frame, turn.choice) };
+}
+
+impl Turn {
+    // One of the options ruled out there, if there are so many.
+    fn ruled_out_at(&self, i: usize) -> Option<&RuledOut>
+        ensures { IfSome result (λ ruled_out. slice_get self.now.0.0 i ≡ Some ruled_out.now) }
+    {
+        self.frame.ruled_out_at(i)
+    }
+}
+
+/// Where an option may be ruled out: the turn, and the index among those that are ruled out there.
+/// It is looked at again before it is used, so it may be stale.
+#[derive(Clone, Copy)]
+struct Hint {
+    turn: usize,
+    place: usize,
+}
+
+/// A search under way.
+#[derive(Drop)]
+pub(crate) struct Search<'p> {
+    alloc: Global,
+    chosen: Choices<'p>,
+    turns: Vec<Turn>,
+    hints: Vec<Option<Hint>>,
+}
+
+impl<'p> Search<'p> {
+    /// A search without choices.
+    pub(crate) fn new(alloc: Global, pool: &'p Sealed<'p>) -> Result<Search<'p>, AllocError>
+        ensures search { IfOk result (λ search. IsSearch search.chosen search.turns.items) }
+        ensures pool { IfOk result (λ search. pool_of search.chosen ≡ pool.entry.now) }
+        ensures none { IfOk result (λ search. search.turns.items ≡ []) }
+    {
+        let chosen = Choices::new(alloc, pool)?;
+        Ok(Search {
+            alloc,
+            chosen,
+            turns: Vec::new(alloc),
+            hints: Vec::new(alloc),
+        })
+    }
+
+    /// The frame of the first need that no choice meets.
+    pub(crate) fn next_frame(&mut self) -> Result<Option<Frame>, AllocError>
+        requires { IsSearch self.old.chosen self.old.turns.items }
+        ensures search { IsSearch self.new.chosen self.new.turns.items }
+        ensures pool { pool_of self.new.chosen ≡ pool_of self.old.chosen }
+        ensures turns { self.new.turns.items ≡ self.old.turns.items }
+        ensures few { IfOk result (λ found. IfSome found (λ frame. length frame.1 < 2 ^ 64)) }
+        ensures frame { IfOk result (λ found. MatchOption found (next_need
+            (pool_of self.new.chosen) (choices_of self.new.chosen)
+            ≡ None) (λ frame. IsFrameOf (pool_of self.new.chosen)
+            (choices_of self.new.chosen) frame)) }
+    {
+        let found = self.chosen.next_frame()?;
+        Ok(found)
+    }
+
+    /// The choices.
+    pub(crate) fn trace(&self, alloc: Global) -> Result<Trace, AllocError>
+        ensures { IfOk result (λ trace. trace ≡ choices_of self.now.chosen) }
+    {
+        let trace = self.chosen.trace(alloc)?;
+        Ok(trace)
+    }
+
+    // The reason against an option, if there is one.
+    fn reason_against(&self, id: CandId) -> Result<Option<Vec<CandId>>, AllocError>
+        requires search { IsSearch self.now.chosen self.now.turns.items }
+        requires within { id < length (pool_of self.now.chosen).candidates }
+        ensures { IfOk result (λ found. MatchOption found ((other : ℕ) →
+            IsMember other (choices_of self.now.chosen) →
+            exclude_each_other (pool_of self.now.chosen) other id ≡ false)
+            (λ others. RulesOut (pool_of self.now.chosen) (choices_of self.now.chosen) id
+                others.items)) }
+    {
+        if let Some(others) = self.ruled_out_with(id) {
+            let copy = Vec::from_slice(self.alloc, others)?;
+            return Ok(Some(copy));
+        }
+        match self.chosen.excluder(id) {
+            None => Ok(None),
+            Some(excluder) => {
+                let mut others = Vec::new(self.alloc);
+                others.push(excluder)?;
+                Ok(Some(others))
+            }
+        }
+    }
+
+    // A turn, if there are so many.
+    fn turn_at(&self, i: usize) -> Option<&Turn>
+        ensures { IfSome result (λ turn. slice_get self.now.turns.items i ≡ Some turn.now) }
+    {
+        if i < self.turns.len() {
+            Some(&self.turns[i])
+        } else {
+            None
+        }
+    }
+
+    // The reason with which an option is ruled out at an earlier turn.
+    fn ruled_out_with(&self, id: CandId) -> Option<&[CandId]>
+        requires { IsSearch self.now.chosen self.now.turns.items }
+        ensures { IfSome result (λ others. RulesOut (pool_of self.now.chosen)
+            (choices_of self.now.chosen) id others.now) }
+    {
+        let hint = (*self.hints.get(id.place as usize)?)?;
+        let turn = self.turn_at(hint.turn)?;
+        let ruled_out = turn.ruled_out_at(hint.place)?;
+        if ruled_out.option() != id {
+            return None;
+        }
+        Some(ruled_out.others())
+    }
+
+    /// Rules options out until one goes with all choices.
+    pub(crate) fn next_option(&mut self, top: &mut Frame) -> Result<Option<CandId>, AllocError>
+        requires search { IsSearch self.old.chosen self.old.turns.items }
+        requires open_now { IsFrameOf (pool_of self.old.chosen)
+            (choices_of self.old.chosen) top.old }
+        ensures chosen { self.new.chosen ≡ self.old.chosen }
+        ensures turns { self.new.turns.items ≡ self.old.turns.items }
+        ensures found { IfOk result (λ found. MatchOption found (IsSpentFrame
+            (pool_of self.old.chosen) (choices_of self.old.chosen) top.new)
+            (λ id. IsFrameTaking (pool_of self.old.chosen) (choices_of self.old.chosen) top.new id
+                × IsConflictFree (pool_of self.old.chosen)
+                    (choices_of self.old.chosen ++ id ∷ []))) }
+        ensures fewer { IfOk result (λ found. MatchOption found
+            (length top.new.1 ≤ length top.old.1) (λ _. length top.new.1 < length top.old.1)) }
+    {
+        options_are_as_promised();
+        while let Some(id) = top.take_next() {
+            match self.reason_against(id)? {
+                None => return Ok(Some(id)),
+                Some(others) => {
+                    let hint = Hint {
+                        turn: self.turns.len(),
+                        place: top.ruled_out().len(),
+                    };
+                    remember(&mut self.hints, id, hint);
+                    top.rule_out(id, others)?;
+                }
+            }
+        }
+        Ok(None)
+    }
+
+    /// Takes an option. After a refusal the search may only be dropped.
+    pub(crate) fn choose(&mut self, frame: Frame, choice: CandId) -> Result<(), AllocError>
+        requires search { IsSearch self.old.chosen self.old.turns.items }
+        requires taken { IsFrameTaking (pool_of self.old.chosen)
+            (choices_of self.old.chosen) frame choice }
+        requires clean { IsConflictFree (pool_of self.old.chosen) (choices_of self.old.chosen
+            ++ choice ∷ []) }
+        ensures search { OnOk result (IsSearch self.new.chosen self.new.turns.items) }
+        ensures pool { pool_of self.new.chosen ≡ pool_of self.old.chosen }
+        ensures turns { OnOk result (self.new.turns.items ≡ self.old.turns.items
+            ++ (frame, choice) ∷ []) }
+    {
+        self.chosen.push(choice)?;
+        self.turns.push(Turn { frame, choice })?;
+        Ok(())
+    }
+
+    /// Steps back from a dead end to the latest choice in its reason, and rules that out.
+    pub(crate) fn step_back(&mut self, spent: Frame) -> Result<Option<Frame>, AllocError>
+        requires search { IsSearch self.old.chosen self.old.turns.items }
+        requires spent { IsSpentFrame (pool_of self.old.chosen) (choices_of self.old.chosen) spent }
+        ensures pool { pool_of self.new.chosen ≡ pool_of self.old.chosen }
+        ensures found { IfOk result (λ found. MatchOption found (IsReason
+            (pool_of self.old.chosen) [])
+            (λ frame. IsSearch self.new.chosen self.new.turns.items
+                × IsFrameOf (pool_of self.new.chosen) (choices_of self.new.chosen) frame)) }
+        ensures lighter { IfOk result (λ found. IfSome found
+            (λ frame. weight_of self.new.turns.items frame < weight_of self.old.turns.items
+            spent)) }
+    {
+        options_are_as_promised();
+        let found = reason_of(self.alloc, &spent)?;
+        let members = &found;
+        while let Some(turn) = self.turns.pop() {
+            self.chosen.pop();
+            let Turn { mut frame, choice } = turn;
+            if members.has(choice) {
+                let others = without(self.alloc, members, choice)?;
+                let hint = Hint {
+                    turn: self.turns.len(),
+                    place: frame.ruled_out().len(),
+                };
+                remember(&mut self.hints, choice, hint);
+                frame.rule_out(choice, others)?;
+                return Ok(Some(frame));
+            }
+        }
+        Ok(None)
+    }
+}
+
+// Remembers where an option is ruled out.
+fn remember(hints: &mut Vec<Option<Hint>>, id: CandId, hint: Hint) {
+    let place = id.place as usize;
+    if place < hints.len() {
+        hints[place] = Some(hint);
+    }
+}
+
+// The reason of a dead end: the choices that raised the need, and the other members of the reasons
+// of its options.
+fn reason_of(alloc: Global, spent: &Frame) -> Result<CandidateSet, AllocError>
+    ensures { IfOk result (λ members. HasSameMembers members (dead_end_reason spent.now)) }
+{
+    let mut members = CandidateSet::new(alloc);
+    members.add_all(spent.by())?;
+    for ruled_out in spent.ruled_out() {
+        members.add_all(ruled_out.others())?;
+    }
+    Ok(members)
+}
+
+// All members of a reason but one.
+fn without(alloc: Global, members: &CandidateSet, choice: CandId) -> Result<Vec<CandId>, AllocError>
+    ensures { IfOk result (λ others. others.items ≡ filter (λ id. not (id == choice)) members.now) }
+{
+    members
+        .as_slice()
+        .iter()
+        .copied()
+        .filter(|id| *id != choice)
+        .collect(alloc)
+}

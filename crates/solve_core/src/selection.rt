@@ -1,0 +1,91 @@
+//! The first selection of a world, as a list of choices, or that no selection satisfies it.
+ghost use Rattle.std.specs.Prelude.{◌≡◌, ◌<◌, Some, IfOk, length, slice_get, [], List, ℕ, MatchOption};
+ghost use Rattle.pool_core.specs.Candidates.{Need};
+ghost use Rattle.pool_core.specs.Rank.{SealedPool};
+ghost use Rattle.solve_core.specs.Choices.{HasOptions};
+ghost use Rattle.solve_core.specs.Selection.{IsFirstSelection, IsSatisfying};
+
+use crate::search::Search;
+use dep_core::World;
+use pool_core::{CandId, Sealed, options_are_the_best_first};
+use std::alloc::{AllocError, Global};
+use std::marker::Model;
+
+/// The chosen candidates, in the order chosen.
+#[derive(Drop)]
+pub struct Trace {
+    ids: Vec<CandId>,
+}
+
+impl Model for Trace {
+    ghost use Rattle.std.specs.Prelude.{ℕ, List};
+
+    ghost Value = { List ℕ };
+
+    ghost view = { λ trace. trace.ids.items };
+}
+
+impl Trace {
+    /// A copy of the choices.
+    pub(crate) fn of(alloc: Global, ids: &[CandId]) -> Result<Trace, AllocError>
+        ensures { IfOk result (λ trace. trace ≡ ids.now) }
+    {
+        let ids = Vec::from_slice(alloc, ids)?;
+        Ok(Trace { ids })
+    }
+
+    /// How many there are.
+    pub fn len(&self) -> usize
+        ensures { result ≡ length self.now }
+    {
+        self.ids.len()
+    }
+
+    /// The one at a place, counted from 0.
+    pub fn get(&self, i: usize) -> CandId
+        requires { i < length self.now }
+        ensures { slice_get self.now i ≡ Some result }
+    {
+        self.ids[i]
+    }
+}
+
+/// What a pool promises of the options of each need.
+pub(crate) fn options_are_as_promised()
+    ensures { (pool : SealedPool) (need : Need) → HasOptions pool need }
+{
+    options_are_the_best_first();
+}
+
+/// The first preferred selection of the world that the pool was sealed with, in the order of its
+/// walk. None comes exactly where no selection satisfies it.
+pub fn solve(alloc: Global, pool: &Sealed<'_>, world: &World) -> Result<Option<Trace>, AllocError>
+    requires { world.now ≡ pool.now.world }
+    ensures { IfOk result (λ found. MatchOption found
+        ((selection : List ℕ) → IsSatisfying pool.now selection → ⊥)
+        (λ trace. IsFirstSelection pool.now trace)) }
+{
+    options_are_as_promised();
+    let mut search = Search::new(alloc, pool)?;
+    let Some(frame) = search.next_frame()? else {
+        return Ok(Some(search.trace(alloc)?));
+    };
+    let mut top = frame;
+    loop {
+        match search.next_option(&mut top)? {
+            Some(id) => {
+                search.choose(top, id)?;
+                let Some(frame) = search.next_frame()? else {
+                    return Ok(Some(search.trace(alloc)?));
+                };
+                top = frame;
+            }
+            None => {
+                let Some(frame) = search.step_back(top)? else {
+                    return Ok(None);
+                };
+                top = frame;
+            }
+        }
+    }
+}
