@@ -288,7 +288,7 @@ fn entries_of_kind<'a>(
 fn push_if<'a>(deps: &mut Vec<Dep<'a>>, dep: Dep<'a>, kind: EntryKind) -> Result<(), AllocError>
     ensures { OnOk result (map dependency deps.new.items ≡ map dependency deps.old.items
         ++ (if is_entry_of_kind kind (dependency dep.entry) then dependency dep.entry ∷ []
-            else [])) }
+        else [])) }
 {
     if is_entry_of_kind(kind, &dep) {
         deps.push(dep)?;

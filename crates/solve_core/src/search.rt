@@ -103,7 +103,7 @@ impl<'p> Search<'p> {
             IsMember other (choices_of self.now.chosen) →
             exclude_each_other (pool_of self.now.chosen) other id ≡ false)
             (λ others. RulesOut (pool_of self.now.chosen) (choices_of self.now.chosen) id
-                others.items)) }
+            others.items)) }
     {
         if let Some(others) = self.ruled_out_with(id) {
             let copy = Vec::from_slice(self.alloc, others)?;
@@ -155,8 +155,8 @@ impl<'p> Search<'p> {
         ensures found { IfOk result (λ found. MatchOption found (IsSpentFrame
             (pool_of self.old.chosen) (choices_of self.old.chosen) top.new)
             (λ id. IsFrameTaking (pool_of self.old.chosen) (choices_of self.old.chosen) top.new id
-                × IsConflictFree (pool_of self.old.chosen)
-                    (choices_of self.old.chosen ++ id ∷ []))) }
+            × IsConflictFree (pool_of self.old.chosen)
+            (choices_of self.old.chosen ++ id ∷ []))) }
         ensures fewer { IfOk result (λ found. MatchOption found
             (length top.new.1 ≤ length top.old.1) (λ _. length top.new.1 < length top.old.1)) }
     {
@@ -202,7 +202,7 @@ impl<'p> Search<'p> {
         ensures found { IfOk result (λ found. MatchOption found (IsReason
             (pool_of self.old.chosen) [])
             (λ frame. IsSearch self.new.chosen self.new.turns.items
-                × IsFrameOf (pool_of self.new.chosen) (choices_of self.new.chosen) frame)) }
+            × IsFrameOf (pool_of self.new.chosen) (choices_of self.new.chosen) frame)) }
         ensures lighter { IfOk result (λ found. IfSome found
             (λ frame. weight_of self.new.turns.items frame < weight_of self.old.turns.items
             spent)) }
