@@ -10,8 +10,6 @@ mod lock;
 mod look;
 mod opened;
 mod root;
-#[cfg(test)]
-mod tests;
 
 use apk_front::Access;
 use base_core::{Disk, Name, Names, Tree, TreeFault};
