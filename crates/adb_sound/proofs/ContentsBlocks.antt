@@ -65,7 +65,7 @@ file_good c e a b is =
     let two : eqb (length (contents_bytes (contents_payload c))) e.size ≡ true = eq-eqb _ _ size in
     rw (one, two) is.hash
 
-block_good : (c : Contents) (at : ℕ) (e : Expected) (es : List Expected) → e.folder < 2 ^ 32 → e.file < 2 ^ 32 → IsContentsOf e c → contents_block_fault (contents_payload c) at (e ∷ es) ≡ None
+pub block_good : (c : Contents) (at : ℕ) (e : Expected) (es : List Expected) → e.folder < 2 ^ 32 → e.file < 2 ^ 32 → IsContentsOf e c → contents_block_fault (contents_payload c) at (e ∷ es) ≡ None
 block_good c at e es a b is =
     let t : ltb (length (contents_payload c)) 8 ≡ false = le-ltb _ _ (omega arith) in
     rw t (file_good c e a b is)

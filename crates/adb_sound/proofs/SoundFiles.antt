@@ -60,7 +60,7 @@ blocks_by_first : (which : Which) (r : Reading) (b : Piece) (at : ℕ) (later : 
 blocks_by_first which r b at later is payload behind = ap (blocks_fault (behind_fault which) which) is ∙ none_of _ _ payload behind
 
 -- the reader gives these blocks
-reading_is : (file : List ℕ) (schema : ℕ) (pieces : List Piece) → header_of file ≡ Ok schema → blocks_of file ≡ Ok pieces → pieces_of (reading_of (start_of schema file)) ≡ Ok pieces
+pub reading_is : (file : List ℕ) (schema : ℕ) (pieces : List Piece) → header_of file ≡ Ok schema → blocks_of file ≡ Ok pieces → pieces_of (reading_of (start_of schema file)) ≡ Ok pieces
 unfolding blocks_of rest_of
 reading_is file schema pieces h b = sym (ap (blocks_behind file) h) ∙ b
 

@@ -8,6 +8,7 @@ use Rattle.adb_view.specs.Plain.{Plain}
 use Rattle.adb_write.specs.Canonical.{canonical}
 use Rattle.adb_write.specs.File.{adb_piece}
 use Rattle.pkg_core.specs.Contents.{Contents}
+use Rattle.pkg_core.specs.Whole.{Packed}
 
 -- the positions of the folder and of the file in it, of four bytes each, and the file's bytes
 abbrev pub contents_payload : Contents → List ℕ
@@ -20,3 +21,7 @@ contents_piece c = record { kind = Kinds.Contents; payload = contents_payload c 
 abbrev pub container_of : ℕ → Plain → List Contents → List ℕ
 container_of schema v contents =
     container schema (adb_piece (canonical v) ∷ map contents_piece contents)
+
+-- a package's value, and the contents of its files
+abbrev pub packed : Plain → List Contents → Packed
+packed v contents = record { value = v; contents = contents }

@@ -6,11 +6,11 @@
 #![tactic(auto)]
 
 ghost use Rattle.adb_block.specs.Written.{block_bytes};
-ghost use Rattle.adb_schema.specs.Soundness.{schema_word};
+ghost use Rattle.adb_schema.specs.Soundness.{payload_in, root_value, schema_word};
 ghost use Rattle.adb_schema.specs.declared.read.TheConstants.{PACKAGE_WORD};
 ghost use Rattle.adb_tables.specs.declared.tables.Which.{Which};
 ghost use Rattle.adb_tables.specs.declared.tables.Which.TheVariants as Tables;
-ghost use Rattle.adb_sound.specs.Container.{contents_piece, container_of};
+ghost use Rattle.adb_sound.specs.Container.{contents_piece, container_of, packed};
 ghost use Rattle.adb_sound.specs.Contents.{contents_size};
 ghost use Rattle.adb_sound.specs.Root.{IsRootOf};
 ghost use Rattle.adb_view.specs.Plain.{Plain};
@@ -18,7 +18,7 @@ ghost use Rattle.adb_write.specs.Canonical.{canonical};
 ghost use Rattle.adb_write.specs.File.{file_of};
 ghost use Rattle.pkg_core.specs.Contents.{Contents, expected_contents};
 ghost use Rattle.pkg_core.specs.GoodContents.{AreContentsOf};
-ghost use Rattle.pkg_core.specs.Whole.{container_fault};
+ghost use Rattle.pkg_core.specs.Whole.{container_fault, package_with_contents};
 ghost use Rattle.std.specs.List.{flat_map};
 ghost use Rattle.std.specs.Prelude.{◌≡◌, ◌≢◌, ◌<◌, ◌≤◌, ◌^◌, ℕ, List, length, map, Some, None};
 
@@ -62,3 +62,21 @@ pub fn contents_stand_in_their_container()
     ensures container { (schema : ℕ) (v : Plain) (contents : List Contents)
         → length (container_of schema v contents) < 2 ^ 64 → contents_size contents < 2 ^ 64 }
 {}
+
+/// What a container is made of is read back from it: its value, and of a package the contents of
+/// its files, one after the other.
+pub fn what_a_container_is_made_of_is_read_back()
+    ensures value { (which : Which) (schema : ℕ) (v : Plain)
+        → schema_word which ≡ Some schema → IsRootOf which v
+        → root_value which (payload_in (file_of schema (canonical v))) ≡ v }
+    ensures contents { (v : Plain) (contents : List Contents)
+        → IsRootOf Tables.Package v → AreContentsOf (expected_contents v) contents
+        → length (container_of PACKAGE_WORD v contents) < 2 ^ 64
+        → package_with_contents (container_of PACKAGE_WORD v contents) ≡ packed v contents }
+{
+    what_is_written_is_spelled();
+    what_is_spelled_is_read();
+    a_canonical_payload_is_read_back();
+    a_canonical_payload_is_visited_once();
+    values_of_few_visits_have_no_fault();
+}

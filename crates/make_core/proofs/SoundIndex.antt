@@ -1,4 +1,4 @@
--- An index that is made is sound.
+-- An index that is made is sound, and its value is read back.
 use Rattle.std.proofs.Common.{◌≡◌, ◌≢◌, ℕ, ◌+◌, ◌^◌, ◌<◌, Bool, true, false, if◌then◌else◌, List, [], ◌∷◌, length, Option, Some, None, Result, Ok, Err, refl, ap, sym, ◌∙◌, subst}
 use Rattle.adb_tables.specs.declared.tables.Which.{Which}
 use Rattle.std.specs.Prelude.{All}
@@ -10,7 +10,7 @@ use Rattle.adb_view.specs.Shaped.{Each}
 use Rattle.adb_tables.specs.Schema.{shape_of, shapes_of, table}
 use Rattle.adb_rules.specs.Texts.{Surroundings, at_root, inside_of, text_rule}
 use Rattle.adb_fields.specs.Repeated.{repeated_fault}
-use Rattle.adb_schema.specs.Soundness.{schema_word}
+use Rattle.adb_schema.specs.Soundness.{payload_in, root_value, schema_word}
 use Rattle.adb_tables.specs.declared.tables.Which.TheVariants.{Package, PkgInfo, Index}
 use Rattle.adb_tables.specs.declared.tables.Kind.TheVariants.{Obj}
 use Rattle.adb_schema.specs.declared.read.TheConstants.{INDEX_WORD}
@@ -28,6 +28,7 @@ use Rattle.base_core.specs.Files.{IsFile}
 use Rattle.make_index.specs.Files.{AreFiles}
 use Rattle.adb_sound.specs.Root.{IsRootOf}
 use Rattle.make_info.specs.declared.fault.MakeFault.{MakeFault}
+use Rattle.make_core.specs.ReadBack.{index_value_by, index_value_of}
 use Rattle.make_core.proofs.IndexEntry.{entry_good}
 use Rattle.make_core.proofs.OpenedPackage.{Values}
 use Rattle.make_core.proofs.Roots.{Exact, root_good, written}
@@ -107,31 +108,47 @@ none_repeated v = refl
 not_package : Index ≢ Package
 not_package e = (cc)
 
--- a container of a good value is sound
+-- what holds of the value and of the container of each good index
+module _ (P : Plain → List ℕ → Type 0) where
+  abbrev pub Holds : Type 0
+  Holds = (v : Plain) → IsRootOf Index v → P v (file_of INDEX_WORD (canonical v))
+
+  file_holds : Holds → Exact → (v : Plain) (r : Result (List ℕ) PayloadCounts) (bytes : List ℕ) → IsGood (shape_of (Obj Index)) 0 (at_root Index) v → written_of v ≡ r → index_container r ≡ Ok bytes → P v bytes
+  file_holds holds exact v (Err c) bytes g w e = absurd (cc (e))
+  file_holds holds exact v (Ok payload) bytes g w e =
+      let is = written v payload w in
+      let same : file_of INDEX_WORD payload ≡ bytes = cc (e) in
+      let good = holds v (root_good exact Index v payload g (none_repeated v) is) in
+      subst (P v) same (subst (λ (p : List ℕ). P v (file_of INDEX_WORD p)) is.is good)
+
+  found_holds : Holds → Exact → (description : List ℕ) (r : Result (List Plain) MakeFault) (bytes : List ℕ) → ((entries : List Plain) (around : Surroundings) → r ≡ Ok entries → around.root ≡ Index → Each (IsEntry around) (plains_of entries))
+      → index_of_found description r ≡ Ok bytes → (v : Plain) × (index_value_of description r ≡ Ok v) × P v bytes
+  unfolding index_of
+  found_holds holds exact description (Err f) bytes each e = absurd (cc (e))
+  found_holds holds exact description (Ok entries) bytes each e =
+      let v : Plain = value_of_index description (sorted_by entry_cmp entries) in
+      (v, refl, file_holds holds exact v (written_of v) bytes (index_good description (sorted_by entry_cmp entries) (λ around root. each_in_order (IsEntry around) entry_cmp entries (each entries around refl root))) refl e)
+
+  -- of a command
+  made_holds : Holds → Exact → Values → (command : CommandLine) (read : ℕ → List ℕ → Option (List ℕ)) (bytes : List ℕ) → AreFiles read 0 command.operands → made_index command read ≡ Ok bytes
+      → (v : Plain) × (index_value_by command read ≡ Ok v) × P v bytes
+  unfolding made_index
+  made_holds holds exact values command read bytes files e =
+      found_holds holds exact (description_in command.values) (found_entries read 0 command.operands) bytes (λ entries around is root. entries_good values around read 0 command.operands entries files root is) e
+
+-- a container of a good value is sound, and so is an index that is made
 abbrev pub Sound : Type 0
 Sound = (which : Which) (schema : ℕ) (v : Plain) → schema_word which ≡ Some schema → which ≢ Package → IsRootOf which v → container_fault (file_of schema (canonical v)) ≡ None
 
-file_sound : Sound → Exact → (v : Plain) (r : Result (List ℕ) PayloadCounts) (bytes : List ℕ) → IsGood (shape_of (Obj Index)) 0 (at_root Index) v → written_of v ≡ r → index_container r ≡ Ok bytes → container_fault bytes ≡ None
-file_sound sound exact v (Err c) bytes g w e = absurd (cc (e))
-file_sound sound exact v (Ok payload) bytes g w e =
-    let is = written v payload w in
-    let same : file_of INDEX_WORD payload ≡ bytes = cc (e) in
-    let good = sound Index INDEX_WORD v refl not_package (root_good exact Index v payload g (none_repeated v) is) in
-    ap container_fault (sym same) ∙ (ap (λ (p : List ℕ). container_fault (file_of INDEX_WORD p)) (sym is.is) ∙ good)
-
-found_sound : Sound → Exact → (description : List ℕ) (r : Result (List Plain) MakeFault) (bytes : List ℕ) → ((entries : List Plain) (around : Surroundings) → r ≡ Ok entries → around.root ≡ Index → Each (IsEntry around) (plains_of entries))
-    → index_of_found description r ≡ Ok bytes → container_fault bytes ≡ None
-unfolding index_of
-found_sound sound exact description (Err f) bytes each e = absurd (cc (e))
-found_sound sound exact description (Ok entries) bytes each e =
-    let v : Plain = value_of_index description (sorted_by entry_cmp entries) in
-    file_sound sound exact v (written_of v) bytes (index_good description (sorted_by entry_cmp entries) (λ around root. each_in_order (IsEntry around) entry_cmp entries (each entries around refl root))) refl e
-
-index_sound : Sound → Exact → Values → (description : List ℕ) (operands : List Operand) (read : ℕ → List ℕ → Option (List ℕ)) (bytes : List ℕ) → AreFiles read 0 operands → index_by description operands read ≡ Ok bytes → container_fault bytes ≡ None
-index_sound sound exact values description operands read bytes files e =
-    found_sound sound exact description (found_entries read 0 operands) bytes (λ entries around is root. entries_good values around read 0 operands entries files root is) e
-
--- of a command
 pub made_sound : Sound → Exact → Values → (command : CommandLine) (read : ℕ → List ℕ → Option (List ℕ)) (bytes : List ℕ) → AreFiles read 0 command.operands → made_index command read ≡ Ok bytes → container_fault bytes ≡ None
-unfolding made_index
-made_sound sound exact values command read bytes files e = index_sound sound exact values (description_in command.values) command.operands read bytes files e
+made_sound sound exact values command read bytes files e =
+    (made_holds (λ v file. container_fault file ≡ None) (λ v root. sound Index INDEX_WORD v refl not_package root) exact values command read bytes files e).2
+
+-- its value is read back, and so is that of an index that is made
+abbrev pub Back : Type 0
+Back = (which : Which) (schema : ℕ) (v : Plain) → schema_word which ≡ Some schema → IsRootOf which v → root_value which (payload_in (file_of schema (canonical v))) ≡ v
+
+pub made_back : Back → Exact → Values → (command : CommandLine) (read : ℕ → List ℕ → Option (List ℕ)) (bytes : List ℕ) → AreFiles read 0 command.operands → made_index command read ≡ Ok bytes → index_value_by command read ≡ Ok (root_value Index (payload_in bytes))
+made_back back exact values command read bytes files e =
+    let made = made_holds (λ v file. root_value Index (payload_in file) ≡ v) (λ v root. back Index INDEX_WORD v refl root) exact values command read bytes files e in
+    made.1 ∙ ap Ok (sym made.2)

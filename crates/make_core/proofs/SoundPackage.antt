@@ -1,4 +1,4 @@
--- A package that is made is sound.
+-- A package that is made is sound, and what it is made of is read back.
 use Rattle.command_core.specs.declared.values.TheConstants.{FILES, SCRIPT, TRIGGER}
 use Rattle.std.proofs.Common.{◌≡◌, ℕ, ◌^◌, ◌<◌, List, [], ◌∷◌, length, Option, Some, None, Result, Ok, Err, refl, ap, sym, subst, ◌∙◌, arith}
 use Rattle.std.specs.Prelude.{All}
@@ -10,13 +10,13 @@ use Rattle.adb_tables.specs.declared.tables.Which.TheVariants.{Package}
 use Rattle.adb_write.specs.Canonical.{PayloadCounts, canonical, overflow_of}
 use Rattle.pkg_core.specs.Contents.{Contents, expected_contents}
 use Rattle.pkg_core.specs.GoodContents.{AreContentsOf}
-use Rattle.pkg_core.specs.Whole.{container_fault}
+use Rattle.pkg_core.specs.Whole.{container_fault, package_with_contents}
 use Rattle.command_core.specs.Command.{CommandLine}
 use Rattle.command_core.specs.Files.{without_dot}
 use Rattle.command_core.specs.declared.values.OptionValue.{OptionValue}
 use Rattle.make_info.specs.Information.{InfoItem, information_value, information, replaces_priority}
 use Rattle.adb_sound.specs.Contents.{contents_size}
-use Rattle.adb_sound.specs.Container.{container_of}
+use Rattle.adb_sound.specs.Container.{container_of, packed}
 use Rattle.make_package.specs.Making.{container_unless, made_package, or_info_bad, package_container, package_of_parts}
 use Rattle.make_package.specs.Package.{Script, SourceFolder, contents_of_folders, installed_size, value_of_package}
 use Rattle.make_package.specs.Sources.{AreNamesFor, on_success, folders_below, values_with, scripts_from, texts_of}
@@ -27,11 +27,8 @@ use Rattle.make_core.proofs.InformationGood.{IsInformation, Needs, info_good, in
 use Rattle.make_core.proofs.ListedNames.{AreListed, AreSources, after_ok, folders_sized, sources_good}
 use Rattle.make_core.proofs.PackageContents.{package_contents}
 use Rattle.make_core.proofs.PackageFiles.{package_value_good}
+use Rattle.make_core.specs.ReadBack.{packed_of_parts, packed_package}
 use Rattle.make_core.proofs.Roots.{root_good, Exact}
-
--- a package of a good value and its contents is sound
-abbrev pub Sound : Type 0
-Sound = (v : Plain) (contents : List Contents) → IsRootOf Package v → AreContentsOf (expected_contents v) contents → length (container_of PACKAGE_WORD v contents) < 2 ^ 64 → container_fault (container_of PACKAGE_WORD v contents) ≡ None
 
 -- what the layers below say of sizes
 pub record Sizes : Type 0 where
@@ -40,37 +37,43 @@ pub record Sizes : Type 0 where
 
 -- ---- of its parts
 
-value_sound : Sound → Sizes → Exact → Needs → Tells → (items : List InfoItem) (sources : List SourceFolder) (scripts : List Script) (triggers : List (List ℕ)) → IsInformation items → AreSources sources
-    → (v : Plain) → v ≡ value_of_package (information_value items (installed_size sources)) sources scripts triggers (replaces_priority items)
-    → overflow_of v ≡ None → length (container_of PACKAGE_WORD v (contents_of_folders 1 sources)) < 2 ^ 64 → container_fault (container_of PACKAGE_WORD v (contents_of_folders 1 sources)) ≡ None
-value_sound sound sizes exact needs tells items sources scripts triggers about are v is fits short =
-    let contents : List Contents = contents_of_folders 1 sources in
-    let bound = sizes.container PACKAGE_WORD v contents short in
-    let sum = sizes.installed 1 sources in
-    let small : installed_size sources < 2 ^ 64 = omega arith in
-    let info : Plain = information_value items (installed_size sources) in
-    let priority : Option ℕ = replaces_priority items in
-    let good = package_value_good info sources scripts triggers priority (info_good needs items about (installed_size sources) small) (folders_sized sources are.named small) (priority_good needs items about) in
-    let once = package_once info sources scripts triggers priority tells are.apart are.files_apart in
-    let made : Plain = value_of_package info sources scripts triggers priority in
-    let root = root_good exact Package made (canonical made) good once (record { none = ap overflow_of (sym is) ∙ fits; is = refl }) in
-    let whole = sound made contents root (package_contents info sources scripts triggers priority) (subst (λ (u : Plain). length (container_of PACKAGE_WORD u contents) < 2 ^ 64) is short) in
-    ap (λ (u : Plain). container_fault (container_of PACKAGE_WORD u contents)) is ∙ whole
+-- what holds of the value, of the contents and of the container of each good package
+module _ (P : Plain → List Contents → List ℕ → Type 0) where
+  abbrev pub Holds : Type 0
+  Holds = (v : Plain) (contents : List Contents) → IsRootOf Package v → AreContentsOf (expected_contents v) contents → length (container_of PACKAGE_WORD v contents) < 2 ^ 64 → P v contents (container_of PACKAGE_WORD v contents)
 
-file_sound : (v : Plain) (contents : List Contents) (o : Option PayloadCounts) (bytes : List ℕ) → overflow_of v ≡ o → length bytes < 2 ^ 64
-    → (overflow_of v ≡ None → length (container_of PACKAGE_WORD v contents) < 2 ^ 64 → container_fault (container_of PACKAGE_WORD v contents) ≡ None) → container_unless o v contents ≡ Ok bytes → container_fault bytes ≡ None
-file_sound v contents (Some counts) bytes is short sound e = absurd (cc (e))
-file_sound v contents None bytes is short sound e =
-    let same : container_of PACKAGE_WORD v contents ≡ bytes = cc (e) in
-    ap container_fault (sym same) ∙ sound is (subst (λ (b : List ℕ). length b < 2 ^ 64) (sym same) short)
+  value_holds : Holds → Sizes → Exact → Needs → Tells → (items : List InfoItem) (sources : List SourceFolder) (scripts : List Script) (triggers : List (List ℕ)) → IsInformation items → AreSources sources
+      → (v : Plain) → v ≡ value_of_package (information_value items (installed_size sources)) sources scripts triggers (replaces_priority items)
+      → overflow_of v ≡ None → length (container_of PACKAGE_WORD v (contents_of_folders 1 sources)) < 2 ^ 64 → P v (contents_of_folders 1 sources) (container_of PACKAGE_WORD v (contents_of_folders 1 sources))
+  value_holds holds sizes exact needs tells items sources scripts triggers about are v is fits short =
+      let contents : List Contents = contents_of_folders 1 sources in
+      let bound = sizes.container PACKAGE_WORD v contents short in
+      let sum = sizes.installed 1 sources in
+      let small : installed_size sources < 2 ^ 64 = omega arith in
+      let info : Plain = information_value items (installed_size sources) in
+      let priority : Option ℕ = replaces_priority items in
+      let good = package_value_good info sources scripts triggers priority (info_good needs items about (installed_size sources) small) (folders_sized sources are.named small) (priority_good needs items about) in
+      let once = package_once info sources scripts triggers priority tells are.apart are.files_apart in
+      let made : Plain = value_of_package info sources scripts triggers priority in
+      let root = root_good exact Package made (canonical made) good once (record { none = ap overflow_of (sym is) ∙ fits; is = refl }) in
+      let whole = holds made contents root (package_contents info sources scripts triggers priority) (subst (λ (u : Plain). length (container_of PACKAGE_WORD u contents) < 2 ^ 64) is short) in
+      subst (λ (u : Plain). P u contents (container_of PACKAGE_WORD u contents)) (sym is) whole
 
-package_sound : Sound → Sizes → Exact → Needs → Tells → (command : CommandLine) (scripts : List Script) (items : List InfoItem) (sources : List SourceFolder) (bytes : List ℕ) → IsInformation items → AreSources sources
-    → length bytes < 2 ^ 64 → package_of_parts command scripts items sources ≡ Ok bytes → container_fault bytes ≡ None
-unfolding package_container
-package_sound sound sizes exact needs tells command scripts items sources bytes about are short e =
-    let triggers : List (List ℕ) = texts_of (values_with TRIGGER command.values) in
-    let v : Plain = value_of_package (information_value items (installed_size sources)) sources scripts triggers (replaces_priority items) in
-    file_sound v (contents_of_folders 1 sources) (overflow_of v) bytes refl short (value_sound sound sizes exact needs tells items sources scripts triggers about are v refl) e
+  file_holds : (v : Plain) (contents : List Contents) (o : Option PayloadCounts) (bytes : List ℕ) → overflow_of v ≡ o → length bytes < 2 ^ 64
+      → (overflow_of v ≡ None → length (container_of PACKAGE_WORD v contents) < 2 ^ 64 → P v contents (container_of PACKAGE_WORD v contents)) → container_unless o v contents ≡ Ok bytes → P v contents bytes
+  file_holds v contents (Some counts) bytes is short holds e = absurd (cc (e))
+  file_holds v contents None bytes is short holds e =
+      let same : container_of PACKAGE_WORD v contents ≡ bytes = cc (e) in
+      subst (P v contents) same (holds is (subst (λ (b : List ℕ). length b < 2 ^ 64) (sym same) short))
+
+  package_holds : Holds → Sizes → Exact → Needs → Tells → (command : CommandLine) (scripts : List Script) (items : List InfoItem) (sources : List SourceFolder) (bytes : List ℕ) → IsInformation items → AreSources sources
+      → length bytes < 2 ^ 64 → package_of_parts command scripts items sources ≡ Ok bytes
+      → P (value_of_package (information_value items (installed_size sources)) sources scripts (texts_of (values_with TRIGGER command.values)) (replaces_priority items)) (contents_of_folders 1 sources) bytes
+  unfolding package_container
+  package_holds holds sizes exact needs tells command scripts items sources bytes about are short e =
+      let triggers : List (List ℕ) = texts_of (values_with TRIGGER command.values) in
+      let v : Plain = value_of_package (information_value items (installed_size sources)) sources scripts triggers (replaces_priority items) in
+      file_holds v (contents_of_folders 1 sources) (overflow_of v) bytes refl short (value_holds holds sizes exact needs tells items sources scripts triggers about are v refl) e
 
 -- ---- of a command
 
@@ -91,16 +94,60 @@ info_ok : (r : Result (List InfoItem) ℕ) (items : List InfoItem) → or_info_b
 info_ok (Ok x) items e = let same : x ≡ items = cc (e) in ap Ok same
 info_ok (Err place) items e = absurd (cc (e))
 
-pub made_sound : Sound → Sizes → Exact → Needs → Tells → (command : CommandLine) (names : List (List ℕ)) (read : Reads) (bytes : List ℕ) → AreNamesFor (values_with FILES command.values) names
-    → made_package command names read ≡ Ok bytes → length bytes < 2 ^ 64 → container_fault bytes ≡ None
+-- what a made package was made of
+record IsMadeOf (P : Plain → List Contents → List ℕ → Type 0) (command : CommandLine) (names : List (List ℕ)) (read : Reads) (bytes : List ℕ) : Type 0 where
+  scripts : List Script
+  items : List InfoItem
+  sources : List SourceFolder
+  scripts_read : scripts_from read 0 (values_with SCRIPT command.values) ≡ Ok scripts
+  items_read : or_info_bad (information command) ≡ Ok items
+  sources_read : folders_below read (length scripts) (values_with FILES command.values) names ≡ Ok sources
+  holds : P (value_of_package (information_value items (installed_size sources)) sources scripts (texts_of (values_with TRIGGER command.values)) (replaces_priority items)) (contents_of_folders 1 sources) bytes
+
+made_of : (P : Plain → List Contents → List ℕ → Type 0) → Holds P → Sizes → Exact → Needs → Tells → (command : CommandLine) (names : List (List ℕ)) (read : Reads) (bytes : List ℕ) → AreNamesFor (values_with FILES command.values) names
+    → made_package command names read ≡ Ok bytes → length bytes < 2 ^ 64 → IsMadeOf P command names read bytes
 unfolding made_package
-made_sound sound sizes exact needs tells command names read bytes below e short =
+made_of P holds sizes exact needs tells command names read bytes below e short =
     let one = after_ok (scripts_from read 0 (values_with SCRIPT command.values)) (λ scripts.
     on_success (or_info_bad (information command)) (λ about.
     on_success (folders_below read (length scripts) (values_with FILES command.values) names) (package_of_parts command scripts about))) bytes e in
     let two = after_ok (or_info_bad (information command)) (λ about.
     on_success (folders_below read (length one.x) (values_with FILES command.values) names) (package_of_parts command one.x about)) bytes one.gives in
     let three = after_ok (folders_below read (length one.x) (values_with FILES command.values) names) (package_of_parts command one.x two.x) bytes two.gives in
-    package_sound sound sizes exact needs tells command one.x two.x three.x bytes
-    (information_good command.values command.behind two.x (info_ok (information command) two.x two.is))
-    (sources_are read (length one.x) (values_with FILES command.values) names three.x below three.is) short three.gives
+    record {
+      scripts = one.x;
+      items = two.x;
+      sources = three.x;
+      scripts_read = one.is;
+      items_read = two.is;
+      sources_read = three.is;
+      holds =
+          package_holds P holds sizes exact needs tells command one.x two.x three.x bytes
+          (information_good command.values command.behind two.x (info_ok (information command) two.x two.is))
+          (sources_are read (length one.x) (values_with FILES command.values) names three.x below three.is) short three.gives;
+    }
+
+-- a package of a good value and its contents is sound, and so is one that is made
+abbrev pub IsSoundFile : Plain → List Contents → List ℕ → Type 0
+IsSoundFile v contents bytes = container_fault bytes ≡ None
+
+pub made_sound : Holds IsSoundFile → Sizes → Exact → Needs → Tells → (command : CommandLine) (names : List (List ℕ)) (read : Reads) (bytes : List ℕ) → AreNamesFor (values_with FILES command.values) names
+    → made_package command names read ≡ Ok bytes → length bytes < 2 ^ 64 → container_fault bytes ≡ None
+made_sound holds sizes exact needs tells command names read bytes below e short =
+    (made_of IsSoundFile holds sizes exact needs tells command names read bytes below e short).holds
+
+-- its parts are read back, and so are those of one that is made
+abbrev pub IsReadBack : Plain → List Contents → List ℕ → Type 0
+IsReadBack v contents bytes = package_with_contents bytes ≡ packed v contents
+
+pub made_back : Holds IsReadBack → Sizes → Exact → Needs → Tells → (command : CommandLine) (names : List (List ℕ)) (read : Reads) (bytes : List ℕ) → AreNamesFor (values_with FILES command.values) names
+    → made_package command names read ≡ Ok bytes → length bytes < 2 ^ 64 → packed_package command names read ≡ Ok (package_with_contents bytes)
+made_back holds sizes exact needs tells command names read bytes below e short =
+    let made = made_of IsReadBack holds sizes exact needs tells command names read bytes below e short in
+    ap (λ r. on_success r (λ scripts.
+    on_success (or_info_bad (information command)) (λ about.
+    on_success (folders_below read (length scripts) (values_with FILES command.values) names) (packed_of_parts command scripts about)))) made.scripts_read
+    ∙ ap (λ r. on_success r (λ about.
+    on_success (folders_below read (length made.scripts) (values_with FILES command.values) names) (packed_of_parts command made.scripts about))) made.items_read
+    ∙ ap (λ r. on_success r (packed_of_parts command made.scripts made.items)) made.sources_read
+    ∙ ap Ok (sym made.holds)

@@ -2,15 +2,19 @@
 //! bytes of a container go out, and they are sound.
 //!
 //! What a package and an index are is said below: `make_info` (the information of a package, the
-//! output's name), `make_package` and `make_index`. `laws` says that what is made is sound.
+//! output's name), `make_package` and `make_index`. `laws` says that what is made is sound and is read
+//! back.
 #![tactic(auto)]
 
 mod commands;
 mod laws;
 
 pub use commands::{mkndx, mkpkg};
-pub use laws::{a_made_index_is_sound, a_made_package_is_sound};
-pub use make_index::an_entry_is_an_info;
+pub use laws::{
+    a_made_index_is_read_back, a_made_index_is_sound, a_made_package_is_read_back,
+    a_made_package_is_sound,
+};
+pub use make_index::{an_entry_is_an_info, an_index_is_in_order};
 pub use make_info::{
     Information, MakeFault, a_package_with_information_has_an_output, an_index_has_an_output,
     an_output_is_short, output_name, read_information,

@@ -3,11 +3,11 @@ use Rattle.std.proofs.Common.{◌≡◌, ℕ, suc, zero, ◌<◌, ◌≤◌, Boo
 use Rattle.std.specs.Prelude.{not, ◌&&◌, if◌then◌else◌}
 use Rattle.std.specs.Cmp.{IsTotalOrder, IsStrictWeakOrder}
 use Rattle.std.specs.List.{filter}
-use Rattle.std.specs.List.Sorted.{IsSortedBy, IsStableBy, ties}
+use Rattle.std.specs.List.Sorted.{IsPermutation, IsSortedBy, IsStableBy, ties}
 use Rattle.std.specs.Ordering.{is_lt, is_gt, ordering_reverse}
 use Rattle.std.specs.declared.cmp.Ordering.{Ordering}
 use Rattle.std.specs.declared.cmp.Ordering.TheVariants.{Less, Equal, Greater}
-use Rattle.std.proofs.lemmas.List.Sorted.{ranks_by, sorted_far}
+use Rattle.std.proofs.lemmas.List.Sorted.{IsPermutation-cons, IsPermutation-middle, IsPermutation-refl, IsPermutation-sym, IsPermutation-trans, ranks_by, sorted_far}
 use Rattle.std.proofs.lemmas.Cmp.{on_total}
 use Rattle.make_index.specs.EntryOrder.{with_element, sorted_by}
 
@@ -43,6 +43,12 @@ module _ {X : Type 0} (lt : X → X → Bool) (o : IsStrictWeakOrder lt) where
 
   pub rises_sorted : (xs : List X) → IsSortedBy lt xs → Rises xs
   rises_sorted xs up = rises_from xs (λ i j d l m. sorted_far lt o xs up i j d l m)
+
+  pub adjacent : (xs : List X) → Rises xs → (k : ℕ) (d : X) → suc k < length xs → lt (get_or xs (suc k) d) (get_or xs k d) ≡ false
+  adjacent [] h k d l = absurd (omega arith)
+  adjacent (x ∷ []) h k d l = absurd (omega arith)
+  adjacent (x ∷ y ∷ ys) h zero d l = h.0.0
+  adjacent (x ∷ y ∷ ys) h (suc k) d l = adjacent (y ∷ ys) h.1 k d (omega arith)
 
   -- ---- ties
 
@@ -203,6 +209,23 @@ module _ {X : Type 0} (cmp : X → X → Ordering) (o : IsTotalOrder cmp) where
   -- what a stable sort gives
   pub sort_is : (xs ys : List X) → IsSortedBy (λ x y. is_lt (cmp x y)) ys → IsStableBy (λ x y. is_lt (cmp x y)) xs ys → ys ≡ sorted_by cmp xs
   sort_is xs ys up st = one_order (λ x y. is_lt (cmp x y)) ranks (sorted_by cmp xs) ys (rises_in_order xs) (rises_sorted (λ x y. is_lt (cmp x y)) ranks ys up) (λ z. st z ∙ sym (stable_in_order z xs))
+
+-- ---- the elements stay
+
+with_same : {X : Type 0} (cmp : X → X → Ordering) (x : X) (ys : List X) → IsPermutation (x ∷ ys) (with_element cmp x ys)
+with_same cmp x [] = IsPermutation-refl (x ∷ [])
+with_same cmp x (y ∷ ys) = go (is_gt (cmp x y)) (with_same cmp x ys)
+  where
+    go : (b : Bool) → IsPermutation (x ∷ ys) (with_element cmp x ys) → IsPermutation (x ∷ y ∷ ys) (if b then y ∷ with_element cmp x ys else x ∷ y ∷ ys)
+    go true h =
+        let moved : IsPermutation (x ∷ y ∷ ys) (y ∷ x ∷ ys) = IsPermutation-sym _ _ (IsPermutation-middle (y ∷ []) x ys) in
+        IsPermutation-trans _ _ _ moved (IsPermutation-cons y (x ∷ ys) (with_element cmp x ys) h)
+    go false h = IsPermutation-refl (x ∷ y ∷ ys)
+
+pub sorted_same : {X : Type 0} (cmp : X → X → Ordering) (xs : List X) → IsPermutation xs (sorted_by cmp xs)
+sorted_same cmp [] = IsPermutation-refl []
+sorted_same cmp (x ∷ xs) =
+    IsPermutation-trans _ _ _ (IsPermutation-cons x xs (sorted_by cmp xs) (sorted_same cmp xs)) (with_same cmp x (sorted_by cmp xs))
 
 -- ---- sorted by what is seen of the elements
 

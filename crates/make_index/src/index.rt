@@ -4,7 +4,7 @@ ghost use Rattle.adb_tables.specs.Schema.{shape_of};
 ghost use Rattle.adb_schema.specs.Soundness.{first_fault};
 ghost use Rattle.adb_tables.specs.declared.tables.Kind.TheVariants as Kinds;
 ghost use Rattle.adb_tables.specs.declared.tables.Which.TheVariants as Tables;
-ghost use Rattle.adb_view.specs.Plain.{arr_value, IsNormal};
+ghost use Rattle.adb_view.specs.Plain.{Plain, arr_value, IsNormal};
 ghost use Rattle.adb_view.specs.Shaped.{HasShape};
 ghost use Rattle.adb_write.specs.Canonical.{written_of, MOST_BYTES};
 ghost use Rattle.adb_write.specs.DepthFirst.{WritesValue};
@@ -21,6 +21,7 @@ ghost use Rattle.make_index.specs.Views.{entries_view, entry_view};
 ghost use Rattle.make_info.specs.Faults.{IsOverflow};
 ghost use Rattle.make_info.specs.Reads.{Reads};
 ghost use Rattle.make_info.specs.Values.{plains_of};
+ghost use Rattle.std.specs.List.Sorted.{IsPermutation, IsSorted, IsStable};
 ghost use Rattle.std.specs.Prelude.{◌≡◌, ◌≤◌, Ok, IfOk, IfErr, length, map, ◌<◌, ◌^◌, ℕ, List, All, true, None, ◌++◌, ◌∷◌, [], Option, IfSome, IsTrue};
 ghost use Rattle.version_core.specs.Order.{is_version};
 ghost use Rattle.command_core.specs.Named.{are_files};
@@ -215,4 +216,15 @@ pub fn an_entry_is_an_info()
 {
     values_are_normal();
     values_have_their_shape();
+}
+
+/// The entries of an index are those of the packages that are named, put in order: none stands in
+/// front of a smaller one, and equal ones stand as their packages are named.
+pub fn an_index_is_in_order()
+    ensures same { (entries : List Plain) → IsPermutation entries (sorted_by entry_cmp entries) }
+    ensures sorted { (entries : List Plain) → IsSorted entry_cmp (sorted_by entry_cmp entries) }
+    ensures stable { (entries : List Plain)
+        → IsStable entry_cmp entries (sorted_by entry_cmp entries) }
+{
+    order_is_total();
 }

@@ -10,4 +10,4 @@ mod index;
 mod source;
 mod writing;
 
-pub use index::{an_entry_is_an_info, make};
+pub use index::{an_entry_is_an_info, an_index_is_in_order, make};

@@ -1,6 +1,8 @@
 pub mod FileNames
+pub mod FirstOffence
 pub mod Left
 pub mod Numbers
+pub mod OptionFields
 pub mod OutputFacts
 pub mod Outputs
 pub mod Reading

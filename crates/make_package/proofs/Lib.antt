@@ -1,4 +1,6 @@
 pub mod ContentSizes
+pub mod FileFields
+pub mod FolderLaws
 pub mod FolderLemmas
 pub mod MadeParts
 pub mod MadeRuns

@@ -24,7 +24,7 @@ names_of xs = map (λ name. name.now) xs
 same_bytes : (x : List ℕ) → bytes_eq x x ≡ true
 same_bytes x = (bytes_eq-Decides x x).1 refl
 
-differs : (x y : List ℕ) (o : Ordering) → cmp y x ≡ o → bytes_eq x y ≡ is_eq (ordering_reverse o)
+pub differs : (x y : List ℕ) (o : Ordering) → cmp y x ≡ o → bytes_eq x y ≡ is_eq (ordering_reverse o)
 differs x y o e = sym (is_eq-slice_cmp x y) ∙ ap is_eq (turned y x o e)
 
 at_all : (P : List ℕ → Type 0) (ns : List (List ℕ)) (k : ℕ) → AllByRecursion P ns → k < length ns → P (get_or ns k [])

@@ -2,7 +2,7 @@
 use Rattle.std.specs.Prelude.{ℕ, ◌+◌, ◌==◌, nat_lt, Bool, not, ◌&&◌, if◌then◌else◌, List, [], ◌∷◌, ◌++◌, length, take, drop, map, codes, bytes_eq, sum_by, Option}
 use Rattle.std.specs.Str.{is_utf8}
 use Rattle.sha2.specs.Sha256.{sha256}
-use Rattle.adb_view.specs.Plain.{Plain, null, int, none, more, blob_value, arr_value, obj_value}
+use Rattle.adb_view.specs.Plain.{Plain, Plains, null, int, none, more, blob_value, arr_value, obj_value}
 use Rattle.pkg_core.specs.Contents.{Contents}
 use Rattle.command_core.specs.Values.{script_types}
 use Rattle.make_info.specs.Values.{number_value, plains_of, size_value}
@@ -62,21 +62,25 @@ access_value mode =
     (more (int mode) (more (blob_value (codes "root")) (more (blob_value (codes "root")) none)))
 
 -- name, access list, size, time, hash and target
-abbrev pub value_of_kind : List ℕ → FileKind → Plain
-value_of_kind name kind =
-    obj_value
-    (more (blob_value name) (more (access_value 420) (more (size_value (size_of_kind kind))
+abbrev pub file_fields : List ℕ → FileKind → Plains
+file_fields name kind =
+    more (blob_value name) (more (access_value 420) (more (size_value (size_of_kind kind))
     (more null (more (blob_value (hash_of_kind kind))
-    (more (blob_value (target_of_kind kind)) none))))))
+    (more (blob_value (target_of_kind kind)) none)))))
+
+abbrev pub value_of_kind : List ℕ → FileKind → Plain
+value_of_kind name kind = obj_value (file_fields name kind)
 
 abbrev pub value_of_file : Source → Plain
 value_of_file file = value_of_kind file.name (kind_of_file file.bytes)
 
 -- name, access list and files
+abbrev pub folder_fields : List ℕ → List Plain → Plains
+folder_fields name files =
+    more (blob_value name) (more (access_value 493) (more (arr_value (plains_of files)) none))
+
 abbrev pub folder_with : List ℕ → List Plain → Plain
-folder_with name files =
-    obj_value
-    (more (blob_value name) (more (access_value 493) (more (arr_value (plains_of files)) none)))
+folder_with name files = obj_value (folder_fields name files)
 
 abbrev pub value_of_folder : SourceFolder → Plain
 value_of_folder folder = folder_with folder.name (map value_of_file folder.files)
@@ -97,18 +101,23 @@ script_in [] field = []
 script_in (script ∷ scripts) field =
     if bytes_eq script.field field then script.bytes else script_in scripts field
 
+abbrev pub script_fields : List Script → Plains
+script_fields scripts = plains_of (map (λ field. blob_value (script_in scripts field)) script_types)
+
 abbrev pub value_of_scripts : List Script → Plain
-value_of_scripts scripts =
-    obj_value (plains_of (map (λ field. blob_value (script_in scripts field)) script_types))
+value_of_scripts scripts = obj_value (script_fields scripts)
 
 -- ---- the package
 
 -- info, paths, scripts, triggers and the priority in replacing, which may be lacking
+abbrev pub package_fields : Plain → List Plain → List Script → List (List ℕ) → Option ℕ → Plains
+package_fields info paths scripts triggers priority =
+    more info (more (arr_value (plains_of paths)) (more (value_of_scripts scripts)
+    (more (arr_value (plains_of (map blob_value triggers))) (more (number_value priority) none))))
+
 abbrev pub package_with : Plain → List Plain → List Script → List (List ℕ) → Option ℕ → Plain
 package_with info paths scripts triggers priority =
-    obj_value
-    (more info (more (arr_value (plains_of paths)) (more (value_of_scripts scripts)
-    (more (arr_value (plains_of (map blob_value triggers))) (more (number_value priority) none)))))
+    obj_value (package_fields info paths scripts triggers priority)
 
 abbrev pub value_of_package :
     Plain → List SourceFolder → List Script → List (List ℕ) → Option ℕ → Plain

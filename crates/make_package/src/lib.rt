@@ -8,6 +8,7 @@
 mod assembly;
 mod file;
 mod folders;
+mod laws;
 mod making;
 mod packing;
 mod reading;
@@ -15,4 +16,8 @@ mod writing;
 
 pub use assembly::the_installed_size_is_that_of_the_contents;
 pub use file::FileKind;
+pub use laws::{
+    a_part_stands_in_the_field_of_its_name, each_name_stands_in_one_folder,
+    the_fields_of_a_file_are_those_of_its_bytes,
+};
 pub use making::make;

@@ -1,0 +1,42 @@
+-- What a package and an index that are made hold when they are read again: the value that the
+-- command and the reads give, and of a package the contents of its files.
+use Rattle.command_core.specs.declared.values.TheConstants.{FILES, SCRIPT, TRIGGER}
+use Rattle.std.specs.Prelude.{ℕ, List, length, Result, Ok, Err}
+use Rattle.adb_sound.specs.Container.{packed}
+use Rattle.adb_view.specs.Plain.{Plain}
+use Rattle.command_core.specs.Command.{CommandLine}
+use Rattle.make_index.specs.EntryOrder.{entry_cmp, sorted_by}
+use Rattle.make_index.specs.Index.{description_in, found_entries, value_of_index}
+use Rattle.make_info.specs.Information.{InfoItem, information, information_value, replaces_priority}
+use Rattle.make_info.specs.Reads.{Reads}
+use Rattle.make_info.specs.declared.fault.MakeFault.{MakeFault}
+use Rattle.make_package.specs.Making.{or_info_bad}
+use Rattle.make_package.specs.Package.{Script, SourceFolder, contents_of_folders, installed_size, value_of_package}
+use Rattle.make_package.specs.Sources.{folders_below, on_success, scripts_from, texts_of, values_with}
+use Rattle.pkg_core.specs.Whole.{Packed}
+
+abbrev pub packed_of_parts :
+    CommandLine → List Script → List InfoItem → List SourceFolder → Result Packed MakeFault
+packed_of_parts command scripts about folders =
+    Ok (packed
+    (value_of_package (information_value about (installed_size folders)) folders scripts
+    (texts_of (values_with TRIGGER command.values)) (replaces_priority about))
+    (contents_of_folders 1 folders))
+
+-- the value and the contents of the package that a command asks for
+abbrev pub packed_package : CommandLine → List (List ℕ) → Reads → Result Packed MakeFault
+packed_package command names read =
+    on_success (scripts_from read 0 (values_with SCRIPT command.values)) (λ scripts.
+    on_success (or_info_bad (information command)) (λ about.
+    on_success (folders_below read (length scripts) (values_with FILES command.values) names)
+    (packed_of_parts command scripts about)))
+
+abbrev pub index_value_of : List ℕ → Result (List Plain) MakeFault → Result Plain MakeFault
+index_value_of description (Ok entries) =
+    Ok (value_of_index description (sorted_by entry_cmp entries))
+index_value_of description (Err fault) = Err fault
+
+-- the value of the index that a command asks for
+abbrev pub index_value_by : CommandLine → Reads → Result Plain MakeFault
+index_value_by command read =
+    index_value_of (description_in command.values) (found_entries read 0 command.operands)

@@ -1,0 +1,20 @@
+-- Which of the values of `-I` is the first that offends.
+use Rattle.std.specs.Prelude.{◌≡◌, ℕ, Bool, true, false, List, ◌∷◌, ◌++◌}
+use Rattle.command_core.specs.declared.values.OptionValue.{OptionValue}
+use Rattle.make_info.specs.Information.{offends}
+
+-- no value offends behind those before it
+abbrev pub NoneOffends : Bool → List OptionValue → Type 0
+NoneOffends too_long values =
+    (before : List OptionValue) (v : OptionValue) (after : List OptionValue)
+    → values ≡ before ++ v ∷ after → offends too_long before v ≡ false
+
+-- the first one that offends stands at this place
+pub record IsFirstOffence (too_long : Bool) (values : List OptionValue) (place : ℕ) : Type 0 where
+  pub before : List OptionValue
+  pub value : OptionValue
+  pub after : List OptionValue
+  pub stands : values ≡ before ++ value ∷ after
+  pub told : value.place ≡ place
+  pub offends : offends too_long before value ≡ true
+  pub first : NoneOffends too_long before

@@ -1,0 +1,25 @@
+-- Which value stands at the field of a table that a word names (apk-v3(5)).
+use Rattle.std.specs.Prelude.{ℕ, List, [], ◌∷◌, Option, Some, None, if◌then◌else◌}
+use Rattle.std.specs.Str.{bytes_eq}
+use Rattle.adb_tables.specs.Schema.{field_name_text}
+use Rattle.adb_tables.specs.declared.tables.Field.{Field}
+use Rattle.adb_view.specs.Plain.{Plain, Plains, none, more}
+use Rattle.make_info.specs.declared.field.Field as Options
+use Rattle.make_info.specs.declared.field.Field.TheVariants as Fields
+use Rattle.make_info.specs.Fields.{is_list, kind_of_field}
+use Rattle.make_info.specs.Information.{InfoItem, value_of_list, value_of_single}
+
+-- of values in the order of a table's fields, the one at the field of a name
+abbrev pub value_at : List ℕ → List Field → Plains → Option Plain
+value_at word [] values = None
+value_at word (f ∷ fields) none = None
+value_at word (f ∷ fields) (more v values) =
+    if bytes_eq (field_name_text f.name) word then Some v else value_at word fields values
+
+-- the value of a field that `-I` gives: of a list its items, else the one. The priority in
+-- replacing is none of a package's information.
+abbrev pub value_of_field : Options.Field → List InfoItem → Option Plain
+value_of_field Fields.ReplacesPriority info = None
+value_of_field f info =
+    if is_list (kind_of_field f) then Some (value_of_list f info)
+    else Some (value_of_single f info)

@@ -1,0 +1,32 @@
+-- What the fields of a file say of its bytes.
+use Rattle.std.proofs.Common.{◌≡◌, ℕ, Bool, true, false, List, ◌∷◌, Some, codes, length, refl, ap, ◌∙◌, if◌then◌else◌}
+use Rattle.sha2.specs.Sha256.{sha256}
+use Rattle.adb_tables.specs.Schema.{table}
+use Rattle.adb_tables.specs.declared.tables.Which.TheVariants.{File}
+use Rattle.adb_view.specs.Plain.{Plain, blob_value, null}
+use Rattle.make_info.specs.Named.{value_at}
+use Rattle.make_info.specs.Values.{size_value}
+use Rattle.make_package.specs.Package.{file_fields, hash_of_kind, is_link_file, kind_of_file, link_text, size_of_kind, target_of_kind}
+use Rattle.make_package.specs.declared.file.FileKind.{FileKind}
+use Rattle.make_package.specs.declared.file.FileKind.TheVariants.{Link, Regular}
+
+-- whether what stands in the fields of a kind is this size, this hash and this target
+abbrev AreFields : List ℕ → FileKind → Plain → Plain → Plain → Type 0
+AreFields name kind size hash target =
+    (value_at (codes "size") (table File) (file_fields name kind) ≡ Some size)
+    × (value_at (codes "hashes") (table File) (file_fields name kind) ≡ Some hash)
+    × (value_at (codes "target") (table File) (file_fields name kind) ≡ Some target)
+
+kind_by : (bytes : List ℕ) (b : Bool) → is_link_file bytes ≡ b → kind_of_file bytes ≡ (if b then Link (0 ∷ 160 ∷ link_text bytes) else Regular (length bytes) (sha256 bytes))
+unfolding kind_of_file
+kind_by bytes b e = ap (λ (c : Bool). if c then Link (0 ∷ 160 ∷ link_text bytes) else Regular (length bytes) (sha256 bytes)) e
+
+pub regular_fields : (name bytes : List ℕ) → is_link_file bytes ≡ false → AreFields name (kind_of_file bytes) (size_value (length bytes)) (blob_value (sha256 bytes)) null
+regular_fields name bytes e =
+    let k = kind_by bytes false e in
+    (ap (λ (kind : FileKind). Some (size_value (size_of_kind kind))) k, ap (λ (kind : FileKind). Some (blob_value (hash_of_kind kind))) k, ap (λ (kind : FileKind). Some (blob_value (target_of_kind kind))) k)
+
+pub link_fields : (name bytes : List ℕ) → is_link_file bytes ≡ true → AreFields name (kind_of_file bytes) null null (blob_value (0 ∷ 160 ∷ link_text bytes))
+link_fields name bytes e =
+    let k = kind_by bytes true e in
+    (ap (λ (kind : FileKind). Some (size_value (size_of_kind kind))) k, ap (λ (kind : FileKind). Some (blob_value (hash_of_kind kind))) k, ap (λ (kind : FileKind). Some (blob_value (target_of_kind kind))) k)

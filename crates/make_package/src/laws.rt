@@ -1,0 +1,79 @@
+//! What a package is, in the words of the format.
+ghost use Rattle.adb_tables.specs.Schema.{field_name_text, table};
+ghost use Rattle.adb_tables.specs.declared.tables.Which.TheVariants.{Dir, File, Package, Scripts};
+ghost use Rattle.adb_view.specs.Plain.{Plain, arr_value, blob_value, null};
+ghost use Rattle.command_core.specs.Values.{script_types};
+ghost use Rattle.make_info.specs.declared.field.Field.TheVariants.{ReplacesPriority};
+ghost use Rattle.make_info.specs.Fields.{field_word};
+ghost use Rattle.make_info.specs.Named.{value_at};
+ghost use Rattle.make_info.specs.Values.{number_value, plains_of, size_value};
+ghost use Rattle.make_package.specs.Folders.{folder_names, folders_of, folders_over};
+ghost use Rattle.make_package.specs.Package.{Script, access_value, file_fields, folder_fields, is_link_file, kind_of_file, link_text, package_fields, script_fields, script_in};
+ghost use Rattle.make_package.specs.declared.file.FileKind.{FileKind};
+ghost use Rattle.sha2.specs.Sha256.{sha256};
+ghost use Rattle.std.specs.Cmp.Lexicographic.{slice_cmp};
+ghost use Rattle.std.specs.List.{flat_map};
+ghost use Rattle.std.specs.List.Sorted.{IsPermutation, IsStrictlySortedBy};
+ghost use Rattle.std.specs.Ordering.{nat_cmp};
+ghost use Rattle.std.specs.Prelude.{◌≡◌, ◌∷◌, ℕ, All, Any, Contains, List, Option, Some, codes, false, length, map, true};
+
+/// The types that `--script` may name are the fields of a package's scripts, in their order, and a
+/// script stands at the field of its type. What `-I` gives for the priority in replacing stands at
+/// the package's field of that name.
+pub fn a_part_stands_in_the_field_of_its_name()
+    ensures types { script_types ≡ map (λ field. field_name_text field.name) (table Scripts) }
+    ensures scripts { (scripts : List Script) → All (λ type.
+        value_at type (table Scripts) (script_fields scripts)
+        ≡ Some (blob_value (script_in scripts type))) script_types }
+    ensures priority { (info : Plain) (paths : List Plain) (scripts : List Script)
+        (triggers : List (List ℕ)) (priority : Option ℕ)
+        → value_at (field_word ReplacesPriority) (table Package)
+        (package_fields info paths scripts triggers priority)
+        ≡ Some (number_value priority) }
+{}
+
+/// The folders of a package rise in byte order, so that none stands twice. They are just those that
+/// are over a path, at any depth. The files in them are the names that were listed, each once.
+pub fn each_name_stands_in_one_folder()
+    ensures names { (dir : List ℕ) (names : List (List ℕ))
+        → IsPermutation names (flat_map (λ folder. folder.files) (folders_of dir names)) }
+    ensures rise { (dir : List ℕ) (names : List (List ℕ)) → IsStrictlySortedBy (slice_cmp nat_cmp)
+        (map (λ folder. folder.name) (folders_of dir names)) }
+    ensures over { (paths : List (List ℕ)) (folder : List ℕ)
+        → Contains (folder_names paths) folder
+        → Any (λ path. Contains (folders_over path) folder) paths }
+    ensures whole { (paths : List (List ℕ)) (path folder : List ℕ)
+        → Contains paths path → Contains (folders_over path) folder
+        → Contains (folder_names paths) folder }
+{}
+
+/// The fields of a file in a package say what its bytes are: of a link its target and neither size
+/// nor hash, of another file the number of its bytes and their SHA-256, and no target. Each may be
+/// read by all and written by root (0644), and a folder may be entered too (0755).
+pub fn the_fields_of_a_file_are_those_of_its_bytes()
+    ensures regular { (name bytes : List ℕ) → is_link_file bytes ≡ false
+        → (value_at (codes "size") (table File) (file_fields name (kind_of_file bytes))
+        ≡ Some (size_value (length bytes)))
+        × (value_at (codes "hashes") (table File) (file_fields name (kind_of_file bytes))
+        ≡ Some (blob_value (sha256 bytes)))
+        × (value_at (codes "target") (table File) (file_fields name (kind_of_file bytes))
+        ≡ Some null) }
+    ensures link { (name bytes : List ℕ) → is_link_file bytes ≡ true
+        → (value_at (codes "size") (table File) (file_fields name (kind_of_file bytes))
+        ≡ Some null)
+        × (value_at (codes "hashes") (table File) (file_fields name (kind_of_file bytes))
+        ≡ Some null)
+        × (value_at (codes "target") (table File) (file_fields name (kind_of_file bytes))
+        ≡ Some (blob_value (0 ∷ 160 ∷ link_text bytes))) }
+    ensures named { (name : List ℕ) (kind : FileKind)
+        → (value_at (codes "name") (table File) (file_fields name kind) ≡ Some (blob_value name))
+        × (value_at (codes "acl") (table File) (file_fields name kind)
+        ≡ Some (access_value 420)) }
+    ensures folder { (name : List ℕ) (files : List Plain)
+        → (value_at (codes "name") (table Dir) (folder_fields name files)
+        ≡ Some (blob_value name))
+        × (value_at (codes "acl") (table Dir) (folder_fields name files)
+        ≡ Some (access_value 493))
+        × (value_at (codes "files") (table Dir) (folder_fields name files)
+        ≡ Some (arr_value (plains_of files))) }
+{}
