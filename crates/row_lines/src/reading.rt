@@ -39,6 +39,16 @@ pub fn words_behind(alloc: Global, words: &Words, first: usize) -> Result<Words,
     Ok(rest)
 }
 
+/// What stands beside a word in a table.
+pub fn value_named<T: Copy>(table: &[(&[u8], T)], word: &[u8]) -> Option<T> {
+    for (name, value) in table {
+        if *name == word {
+            return Some(*value);
+        }
+    }
+    None
+}
+
 /// The number that a word is: in decimal digits, or behind `0x` in hexadecimal ones.
 pub fn number_of(word: &[u8]) -> Option<u128> {
     match word.strip_prefix(b"0x") {

@@ -8,13 +8,44 @@ mod worlds;
 
 use base_core::Words;
 use dependencies::{add_dependency, add_meeting, is_name};
-use row_lines::{Subject, add_yes_or_no, run_lines, word_at};
+use row_lines::{Subject, add_yes_or_no, run_lines, value_named, word_at};
 use std::alloc::{AllocError, Global};
 use std::io;
 use std::io::{Read, Write};
 use std::process::ExitCode;
 use versions::{add_operators, match_of, order_of, reads_as_itself};
 use worlds::{add_edits, add_repositories, add_world};
+
+/// What is asked.
+#[derive(Clone, Copy)]
+enum Question {
+    Version,
+    Order,
+    Match,
+    Operators,
+    Dependency,
+    Meets,
+    Name,
+    World,
+    Edits,
+    Repositories,
+}
+
+#[rattlefmt::skip]
+const QUESTIONS: [(&[u8], Question); 12] = [
+    (b"version", Question::Version),
+    (b"order", Question::Order),
+    (b"match", Question::Match),
+    (b"operators", Question::Operators),
+    (b"dependency", Question::Dependency),
+    (b"value", Question::Dependency),
+    (b"meets", Question::Meets),
+    (b"name", Question::Name),
+    (b"package", Question::Name),
+    (b"world", Question::World),
+    (b"edits", Question::Edits),
+    (b"repositories", Question::Repositories),
+];
 
 /// What the two crates answer.
 #[derive(Drop)]
@@ -27,18 +58,20 @@ impl Subject for LowCrates {
         words: &Words,
         answer: &mut Vec<u8>,
     ) -> Result<(), AllocError> {
-        match word_at(words, 0) {
-            b"version" => add_yes_or_no(answer, reads_as_itself(word_at(words, 1))),
-            b"order" => answer.extend_from_slice(order_of(words)),
-            b"match" => answer.extend_from_slice(match_of(words)),
-            b"operators" => add_operators(alloc, answer),
-            b"dependency" | b"value" => add_dependency(alloc, words, answer),
-            b"meets" => add_meeting(words, answer),
-            b"name" | b"package" => add_yes_or_no(answer, is_name(words)),
-            b"world" => add_world(alloc, word_at(words, 1), answer),
-            b"edits" => add_edits(alloc, words, answer),
-            b"repositories" => add_repositories(alloc, word_at(words, 1), answer),
-            _ => answer.extend_from_slice(b"no question"),
+        let Some(question) = value_named(&QUESTIONS, word_at(words, 0)) else {
+            return answer.extend_from_slice(b"no question");
+        };
+        match question {
+            Question::Version => add_yes_or_no(answer, reads_as_itself(word_at(words, 1))),
+            Question::Order => answer.extend_from_slice(order_of(words)),
+            Question::Match => answer.extend_from_slice(match_of(words)),
+            Question::Operators => add_operators(alloc, answer),
+            Question::Dependency => add_dependency(alloc, words, answer),
+            Question::Meets => add_meeting(words, answer),
+            Question::Name => add_yes_or_no(answer, is_name(words)),
+            Question::World => add_world(alloc, word_at(words, 1), answer),
+            Question::Edits => add_edits(alloc, words, answer),
+            Question::Repositories => add_repositories(alloc, word_at(words, 1), answer),
         }
     }
 }
