@@ -132,12 +132,12 @@ impl Store {
             ≡ after_put name.now bytes.items (store_state self.old) ∷ store_history self.old) }
         ensures err { OnErr result (store_history self.new ≡ store_history self.old) }
     {
-        let recorded = name.copy(self.alloc)?;
-        let named = name.copy(self.alloc)?;
         self.changes.reserve(1)?;
         self.files.reserve(1)?;
         let file = self.files.len();
         let len = bytes.len();
+        let recorded = name.copy(self.alloc)?;
+        let named = name.copy(self.alloc)?;
         self.names.set(named, file)?;
         add(
             &mut self.files,
@@ -164,11 +164,11 @@ impl Store {
             ≡ after_create name.now (store_state self.old) ∷ store_history self.old) }
         ensures err { OnErr result (store_history self.new ≡ store_history self.old) }
     {
-        let recorded = name.copy(self.alloc)?;
-        let named = name.copy(self.alloc)?;
         self.changes.reserve(1)?;
         self.files.reserve(1)?;
         let file = self.files.len();
+        let recorded = name.copy(self.alloc)?;
+        let named = name.copy(self.alloc)?;
         self.names.set(named, file)?;
         add(
             &mut self.files,
@@ -220,10 +220,10 @@ impl Store {
         ensures err { OnErr result (store_history self.new ≡ store_history self.old) }
     {
         if let Some(file) = self.names.find(from.as_bytes()) {
-            let named = to.copy(self.alloc)?;
+            self.changes.reserve(1)?;
             let recorded_from = from.copy(self.alloc)?;
             let recorded_to = to.copy(self.alloc)?;
-            self.changes.reserve(1)?;
+            let named = to.copy(self.alloc)?;
             self.names.set(named, file)?;
             self.names.remove(from.as_bytes());
             add(
@@ -248,8 +248,8 @@ impl Store {
             add(&mut self.changes, Change::Stay);
             return Ok(());
         }
-        let recorded = name.copy(self.alloc)?;
         self.changes.reserve(1)?;
+        let recorded = name.copy(self.alloc)?;
         self.names.remove(name.as_bytes());
         add(&mut self.changes, Change::Remove { name: recorded });
         Ok(())

@@ -1,0 +1,87 @@
+//! Answers questions to `version_core` and `dep_core`: versions and their order, dependencies, worlds
+//! and lists of repositories. Its stored run has all rows; `tests/lines.md` describes their form.
+#![tactic(auto)]
+
+mod dependencies;
+mod versions;
+mod worlds;
+
+use base_core::Words;
+use dependencies::{add_dependency, add_meeting, is_name};
+use row_lines::{Subject, add_yes_or_no, run_lines, value_named, word_at};
+use std::alloc::{AllocError, Global};
+use std::io;
+use std::io::{Read, Write};
+use std::process::ExitCode;
+use versions::{add_operators, match_of, order_of, reads_as_itself};
+use worlds::{add_edits, add_repositories, add_world};
+
+/// What is asked.
+#[derive(Clone, Copy)]
+enum Question {
+    Version,
+    Order,
+    Match,
+    Operators,
+    Dependency,
+    Meets,
+    Name,
+    World,
+    Edits,
+    Repositories,
+}
+
+#[rattlefmt::skip]
+const QUESTIONS: [(&[u8], Question); 12] = [
+    (b"version", Question::Version),
+    (b"order", Question::Order),
+    (b"match", Question::Match),
+    (b"operators", Question::Operators),
+    (b"dependency", Question::Dependency),
+    (b"value", Question::Dependency),
+    (b"meets", Question::Meets),
+    (b"name", Question::Name),
+    (b"package", Question::Name),
+    (b"world", Question::World),
+    (b"edits", Question::Edits),
+    (b"repositories", Question::Repositories),
+];
+
+/// What the two crates answer.
+#[derive(Drop)]
+struct LowCrates;
+
+impl Subject for LowCrates {
+    fn answer(
+        &mut self,
+        alloc: Global,
+        words: &Words,
+        answer: &mut Vec<u8>,
+    ) -> Result<(), AllocError> {
+        let Some(question) = value_named(&QUESTIONS, word_at(words, 0)) else {
+            return answer.extend_from_slice(b"no question");
+        };
+        match question {
+            Question::Version => add_yes_or_no(answer, reads_as_itself(word_at(words, 1))),
+            Question::Order => answer.extend_from_slice(order_of(words)),
+            Question::Match => answer.extend_from_slice(match_of(words)),
+            Question::Operators => add_operators(alloc, answer),
+            Question::Dependency => add_dependency(alloc, words, answer),
+            Question::Meets => add_meeting(words, answer),
+            Question::Name => add_yes_or_no(answer, is_name(words)),
+            Question::World => add_world(alloc, word_at(words, 1), answer),
+            Question::Edits => add_edits(alloc, words, answer),
+            Question::Repositories => add_repositories(alloc, word_at(words, 1), answer),
+        }
+    }
+}
+
+fn main(rt: HostRuntime) -> io::Result<ExitCode> {
+    let alloc = rt.alloc();
+    let mut text = Vec::new(alloc);
+    rt.stdin().read_to_end(&mut text)?;
+    let mut report = Vec::new(alloc);
+    let passed = run_lines(alloc, &mut LowCrates, &text, &mut report)?;
+    rt.stdout().write_all(&report)?;
+    Ok(ExitCode::from(if passed { 0 } else { 1 }))
+}
