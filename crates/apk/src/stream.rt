@@ -1,7 +1,7 @@
 //! A standard stream, as a sink.
 ghost use Rattle.std.specs.Prelude.{◌≡◌, ◌≤◌, ◌<◌, None, IfSome, length};
 ghost use Rattle.base_core.specs.Faults.{next_count};
-ghost use Rattle.apk.specs.Host.{host_counts};
+ghost use Rattle.host_tree.specs.Host.{host_counts};
 
 use base_core::{Sink, SinkFault};
 use std::io::{ErrorKind, Write};

@@ -1,8 +1,8 @@
 use Rattle.std.proofs.Common.{◌≢◌, ◌-◌, List, ℕ, Some, ◌∷◌, length, subst, sym}
 use Rattle.std.specs.Prelude.{slice_get}
 use Rattle.std.specs.Vec.Iter.{into_iter_items}
-use Rattle.apk.proofs.Listing.{IsKept, kept_none, kept_same, kept_more}
-use Rattle.apk.proofs.host.listing.each_once.Goals as goal
+use Rattle.host_tree.proofs.NamesInOrder.{IsKept, kept_none, kept_same, kept_more}
+use Rattle.host_tree.proofs.listing.each_once.Goals as goal
 
 pub loop-name-init : goal.loop-name-init
 loop-name-init c =

@@ -1,5 +1,5 @@
-use Rattle.apk.proofs.host.listing.list_below.Goals as goal
-use Rattle.apk.proofs.host.listing.list_below.Goals.{then-loop-test+in_default, else-loop-test}
+use Rattle.host_tree.proofs.listing.list_below.Goals as goal
+use Rattle.host_tree.proofs.listing.list_below.Goals.{then-loop-test+in_default, else-loop-test}
 
 pub returns : goal.returns
 returns g c =

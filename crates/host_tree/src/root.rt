@@ -2,27 +2,27 @@
 ghost use Rattle.std.specs.Prelude.{IfOk};
 ghost use Rattle.base_core.specs.Listed.{AreNamesBelow};
 
+use super::Host;
 use super::failure::{HostFault, IS_FOLDER, IS_SAME, NOTHING_THERE, WAS_LOST};
 use super::folders::{Folders, parent_of};
 use super::listing::list_below;
-use super::lock::lock_root;
+use super::lock::{Lock, lock_root};
 use super::look::{Found, LookedAt, look, text};
 use super::opened::{Opened, close, is_open};
-use apk_front::Access;
 use base_core::{Name, Names};
 use std::alloc::Global;
 use std::fs;
-use std::fs::{File, Files, OpenOptions};
-use std::time::Clock;
+use std::fs::{File, OpenOptions};
 
 /// The root. From its first call on it holds a lock on the folder, so that it is the only run of this program that writes
 /// there.
 #[derive(Drop)]
-pub struct Root<'a, R: Files<File = File> + Clock + AllocGlobal + Clone + Drop> {
+pub struct Root<'a, R: Host> {
     rt: &'a R,
     alloc: Global,
-    access: Access,
-    lock: Option<File>,
+    lock: Lock,
+    // The folder itself, open while this run holds the lock on it.
+    held: Option<File>,
     // The file that was read last, and the one that is being written.
     reader: Option<Opened<File>>,
     writer: Option<Opened<File>>,
@@ -33,28 +33,28 @@ pub struct Root<'a, R: Files<File = File> + Clock + AllocGlobal + Clone + Drop> 
     // what it could not write, so that a second try would succeed for nothing: it is not believed again.
     has_lost: bool,
     // The target of a rename that is not written through yet.
-    moved: Option<Vec<u8>>,
+    unsynced_target: Option<Vec<u8>>,
 }
 
-impl<'a, R: Files<File = File> + Clock + AllocGlobal + Clone + Drop> Root<'a, R> {
-    pub fn new(rt: &'a R, alloc: Global, access: Access) -> Root<'a, R> {
+impl<'a, R: Host> Root<'a, R> {
+    pub fn new(rt: &'a R, alloc: Global, lock: Lock) -> Root<'a, R> {
         Root {
             rt,
             alloc,
-            access,
-            lock: None,
+            lock,
+            held: None,
             reader: None,
             writer: None,
             seen: None,
             folders: Folders::new(alloc),
             has_lost: false,
-            moved: None,
+            unsynced_target: None,
         }
     }
 
     /// The name that may have its new file although the run failed: it was renamed, and that was not written through.
-    pub fn moved(&self) -> Option<&[u8]> {
-        match &self.moved {
+    pub fn unsynced_target(&self) -> Option<&[u8]> {
+        match &self.unsynced_target {
             Some(name) => Some(name),
             None => None,
         }
@@ -70,8 +70,8 @@ impl<'a, R: Files<File = File> + Clock + AllocGlobal + Clone + Drop> Root<'a, R>
 
     /// Takes the lock on the folder, if it is not held yet.
     fn enter(&mut self) -> Result<(), HostFault> {
-        if self.lock.is_none() {
-            self.lock = Some(lock_root(self.rt, self.access)?);
+        if self.held.is_none() {
+            self.held = Some(lock_root(self.rt, self.lock)?);
         }
         Ok(())
     }
@@ -183,7 +183,7 @@ impl<'a, R: Files<File = File> + Clock + AllocGlobal + Clone + Drop> Root<'a, R>
         self.folders.note(parent_of(from))?;
         self.folders.note(parent_of(to))?;
         fs::rename(self.rt, text(from)?, text(to)?)?;
-        self.moved = Some(target);
+        self.unsynced_target = Some(target);
         Ok(())
     }
 
@@ -207,7 +207,7 @@ impl<'a, R: Files<File = File> + Clock + AllocGlobal + Clone + Drop> Root<'a, R>
         let written = self.folders.write_through(self.rt);
         self.has_lost = written.is_err();
         if written.is_ok() {
-            self.moved = None;
+            self.unsynced_target = None;
         }
         written
     }

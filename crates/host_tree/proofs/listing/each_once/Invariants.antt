@@ -1,6 +1,6 @@
 use Rattle.std.specs.Vec.Iter.{into_iter_items}
-use Rattle.apk.proofs.Listing.{IsKept}
-use Rattle.apk.proofs.host.listing.each_once.Given as goal
+use Rattle.host_tree.proofs.NamesInOrder.{IsKept}
+use Rattle.host_tree.proofs.listing.each_once.Given as goal
 
 -- the names so far, and those that are left
 abbrev pub invariant-loop-name : goal.invariant-loop-name

@@ -1,7 +1,11 @@
-//! The folder that the program runs in, as a tree.
+//! The folder that a program runs in, as a tree.
+//!
+//! This crate is trusted: no contract can say what a host does. It is to be read against the table in
+//! `docs/crash-safety.md`, "What the host's tree does".
+#![tactic(auto)]
 ghost use Rattle.std.specs.Prelude.{◌≡◌, ◌≤◌, [], OnOk, OnErr, true};
 ghost use Rattle.base_core.specs.Faults.{next_count};
-ghost use Rattle.apk.specs.Host.{host_counts};
+ghost use Rattle.host_tree.specs.Host.{host_counts};
 
 mod failure;
 mod folders;
@@ -11,34 +15,40 @@ mod look;
 mod opened;
 mod root;
 
-use apk_front::Access;
 use base_core::{Disk, Name, Names, Tree, TreeFault};
 pub use failure::Failure;
 use failure::HostFault;
+pub use lock::Lock;
 use root::Root;
 use std::alloc::Global;
 use std::fs::{File, Files};
 use std::time::Clock;
+
+/// What the tree needs of a runtime: files, sleep, and memory.
+pub trait Host: Files<File = File> + Clock + AllocGlobal + Clone + Drop {}
+
+impl<R: Files<File = File> + Clock + AllocGlobal + Clone + Drop> Host for R {}
 
 /// The folder that the program runs in. It tells nothing of its files; each call that answers a fault counts it.
 ///
 /// A symbolic link, as a name or on the way to it, is never followed and is a fault, and so is what is neither a regular
 /// file nor a folder.
 #[derive(Drop)]
-pub struct HostTree<'a, R: Files<File = File> + Clock + AllocGlobal + Clone + Drop> {
+pub struct HostTree<'a, R: Host> {
     alloc: Global,
     root: Root<'a, R>,
     faults: u64,
     failure: Option<Failure>,
 }
 
-impl<'a, R: Files<File = File> + Clock + AllocGlobal + Clone + Drop> HostTree<'a, R> {
-    pub fn new(rt: &'a R, alloc: Global, access: Access) -> HostTree<'a, R>
+impl<'a, R: Host> HostTree<'a, R> {
+    /// The tree of the folder that the program runs in. The host is asked at the first call on a file, and gives this lock then.
+    pub fn new(rt: &'a R, alloc: Global, lock: Lock) -> HostTree<'a, R>
         ensures { result.faults ≡ 0 }
     {
         HostTree {
             alloc,
-            root: Root::new(rt, alloc, access),
+            root: Root::new(rt, alloc, lock),
             faults: 0,
             failure: None,
         }
@@ -50,12 +60,12 @@ impl<'a, R: Files<File = File> + Clock + AllocGlobal + Clone + Drop> HostTree<'a
     }
 
     /// The name that may have its new file although the run failed.
-    pub fn moved(&self) -> Option<&[u8]> {
-        self.root.moved()
+    pub fn unsynced_target(&self) -> Option<&[u8]> {
+        self.root.unsynced_target()
     }
 
     /// Counts a fault, and keeps what failed, if it is the first.
-    fn failed(&mut self, call: &'static str, path: &[u8], target: &[u8], fault: HostFault) -> Disk
+    fn note_failure(&mut self, call: &'static str, path: &[u8], target: &[u8], fault: HostFault) -> Disk
         ensures faults { self.new.faults ≡ next_count self.old.faults }
         ensures later { self.old.faults ≤ self.new.faults }
     {
@@ -67,7 +77,7 @@ impl<'a, R: Files<File = File> + Clock + AllocGlobal + Clone + Drop> HostTree<'a
     }
 
     /// What a call on a path answers, and on a second path or none, with its fault counted. Want of memory is a fault too.
-    fn counted<T>(
+    fn note_answer<T>(
         &mut self,
         call: &'static str,
         path: &[u8],
@@ -80,12 +90,12 @@ impl<'a, R: Files<File = File> + Clock + AllocGlobal + Clone + Drop> HostTree<'a
     {
         match answer {
             Ok(value) => Ok(value),
-            Err(fault) => Err(self.failed(call, path, target, fault)),
+            Err(fault) => Err(self.note_failure(call, path, target, fault)),
         }
     }
 }
 
-impl<'a, R: Files<File = File> + Clock + AllocGlobal + Clone + Drop> Tree for HostTree<'a, R> {
+impl<'a, R: Host> Tree for HostTree<'a, R> {
     ghost use Rattle.std.proofs.lemmas.List.Elements.{All-nil};
     ghost use Rattle.base_core.specs.Tree.{IsWhole};
 
@@ -97,49 +107,49 @@ impl<'a, R: Files<File = File> + Clock + AllocGlobal + Clone + Drop> Tree for Ho
 
     fn size(&mut self, name: &Name) -> Result<Option<u64>, Disk> {
         let answer = self.root.length_of(name.as_bytes());
-        self.counted("look at", name.as_bytes(), b"", answer)
+        self.note_answer("look at", name.as_bytes(), b"", answer)
     }
 
     fn read_at(&mut self, name: &Name, at: u64, into: &mut [u8]) -> Result<(), Disk> {
         let answer = self.root.fill(name.as_bytes(), at, into);
-        self.counted("read", name.as_bytes(), b"", answer)
+        self.note_answer("read", name.as_bytes(), b"", answer)
     }
 
     fn create(&mut self, name: &Name) -> Result<(), Disk> {
         let answer = self.root.begin(name.as_bytes());
-        self.counted("create", name.as_bytes(), b"", answer)
+        self.note_answer("create", name.as_bytes(), b"", answer)
     }
 
     fn append(&mut self, name: &Name, piece: &[u8]) -> Result<(), Disk> {
         let answer = self.root.add(name.as_bytes(), piece);
-        self.counted("write", name.as_bytes(), b"", answer)
+        self.note_answer("write", name.as_bytes(), b"", answer)
     }
 
     fn sync(&mut self, name: &Name) -> Result<(), Disk> {
         let answer = self.root.write_file_through(name.as_bytes());
-        self.counted("sync", name.as_bytes(), b"", answer)
+        self.note_answer("sync", name.as_bytes(), b"", answer)
     }
 
     fn rename(&mut self, from: &Name, to: &Name) -> Result<(), Disk> {
         let answer = self.root.move_file(from.as_bytes(), to.as_bytes());
-        self.counted("rename", from.as_bytes(), to.as_bytes(), answer)
+        self.note_answer("rename", from.as_bytes(), to.as_bytes(), answer)
     }
 
     fn remove(&mut self, name: &Name) -> Result<(), Disk> {
         let answer = self.root.take_off(name.as_bytes());
-        self.counted("remove", name.as_bytes(), b"", answer)
+        self.note_answer("remove", name.as_bytes(), b"", answer)
     }
 
     fn sync_names(&mut self) -> Result<(), Disk> {
         let answer = self.root.write_names_through();
-        self.counted("sync folders", b"", b"", answer)
+        self.note_answer("sync folders", b"", b"", answer)
     }
 
     fn list(&mut self, alloc: Global, folder: &Name) -> Result<Names, TreeFault> {
         match self.root.list(alloc, folder) {
             Ok(names) => Ok(names),
             Err(HostFault::Memory) => Err(TreeFault::Memory),
-            Err(fault) => Err(self.failed("list", folder.as_bytes(), b"", fault).into()),
+            Err(fault) => Err(self.note_failure("list", folder.as_bytes(), b"", fault).into()),
         }
     }
 }

@@ -1,7 +1,7 @@
 use Rattle.std.proofs.Common.{◌≡◌, ◌++◌, [], ◌∷◌, IfSome, List, ℕ, Option, subst, sym}
 use Rattle.std.proofs.lemmas.List.Elements.{All-push, All-same}
 use Rattle.base_core.specs.Files.{IsFolderOf}
-use Rattle.apk.proofs.host.listing.Walk.meet.Goals as goal
+use Rattle.host_tree.proofs.listing.Walk.meet.Goals as goal
 
 pub returns-in_ok-keep-in-File : goal.returns-in_ok-keep-in-File
 returns-in_ok-keep-in-File g c =

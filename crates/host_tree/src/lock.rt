@@ -1,10 +1,18 @@
 //! The lock on the root: one run writes there, or any number read.
 
 use super::failure::{HostFault, IS_LOCKED};
-use apk_front::Access;
 use std::fs::{File, Files, TryLockError};
 use std::time::{Clock, Duration};
 use std::{fs, thread};
+
+/// Who else may work in the root while a run does.
+#[derive(Clone, Copy, PartialEq, Eq)]
+pub enum Lock {
+    /// Other runs that share it.
+    Shared,
+    /// No other run.
+    Exclusive,
+}
 
 /// How long one sleep is while another run holds the lock.
 const SLEEP_MILLISECONDS: u64 = 50;
@@ -13,10 +21,10 @@ const SLEEP_MILLISECONDS: u64 = 50;
 const MOST_TRIES: u64 = 60_000 / SLEEP_MILLISECONDS;
 
 /// Waits until no other run stands in the way, 60 seconds at most. The lock holds until the file that is answered is closed.
-pub fn lock_root<R: Files<File = File> + Clock>(rt: &R, access: Access) -> Result<File, HostFault> {
+pub fn lock_root<R: Files<File = File> + Clock>(rt: &R, lock: Lock) -> Result<File, HostFault> {
     let root = fs::open(rt, ".")?;
     for _ in 0..MOST_TRIES {
-        match try_to_lock(&root, access) {
+        match try_to_lock(&root, lock) {
             Ok(()) => return Ok(root),
             Err(TryLockError::WouldBlock) => {
                 thread::sleep(rt, Duration::from_millis(SLEEP_MILLISECONDS));
@@ -27,9 +35,9 @@ pub fn lock_root<R: Files<File = File> + Clock>(rt: &R, access: Access) -> Resul
     Err(HostFault::own(IS_LOCKED))
 }
 
-fn try_to_lock(root: &File, access: Access) -> Result<(), TryLockError> {
-    match access {
-        Access::Read => root.try_lock_shared(),
-        Access::Write => root.try_lock(),
+fn try_to_lock(root: &File, lock: Lock) -> Result<(), TryLockError> {
+    match lock {
+        Lock::Shared => root.try_lock_shared(),
+        Lock::Exclusive => root.try_lock(),
     }
 }

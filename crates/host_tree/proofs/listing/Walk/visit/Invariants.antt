@@ -1,6 +1,6 @@
 use Rattle.std.proofs.Common.{All}
 use Rattle.base_core.specs.Files.{IsFolderOf}
-use Rattle.apk.proofs.host.listing.Walk.visit.Given as goal
+use Rattle.host_tree.proofs.listing.Walk.visit.Given as goal
 
 -- the files so far are below the root
 abbrev pub invariant-loop-entry : goal.invariant-loop-entry
