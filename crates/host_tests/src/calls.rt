@@ -16,6 +16,7 @@ fn writes_renames_lists_and_reads(rt: HostRuntime) -> Result<(), Fail> {
     assert!(rt; renames(&rt, &mut tree)?);
     assert!(rt; reads(&rt, &mut tree)?);
     assert!(rt; removes(&rt, &mut tree)?);
+    assert!(rt; reads_what_stands_deep(&rt, &mut tree)?);
     tree.sync_names()?;
     assert!(rt; follows_no_link(&rt, &mut tree)?);
     env::set_current_dir(&rt, "..")?;
@@ -107,6 +108,40 @@ fn removes(rt: &HostRuntime, tree: &mut Host<'_>) -> Result<bool, Fail> {
     }
     let gone = !fs::exists(rt, "r/a")? && fs::exists(rt, "q/r")?;
     Ok(gone && tree.size(&name(rt, "r/a/b/d")?)?.is_none() && fs::exists(rt, "r/a-b")?)
+}
+
+// Files of a folder that is deep enough for a shorter way to them, and of a new one with that name once it is gone.
+fn reads_what_stands_deep(rt: &HostRuntime, tree: &mut Host<'_>) -> Result<bool, Fail> {
+    let mut folder = String::from_str(rt.alloc(), "deep")?;
+    for _ in 0..60 {
+        folder.push_str("/d")?;
+    }
+    let mut good = true;
+    for _ in 0..2 {
+        for part in ["a", "b", "c", "e", "f", "g"] {
+            write(rt, tree, format!(in rt.alloc(); "{folder}/{part}")?.as_str())?;
+        }
+        good = good && tree.list(rt.alloc(), &name(rt, "deep")?)?.len() == 6;
+        for part in ["a", "b", "c", "e", "f", "g"] {
+            let path = format!(in rt.alloc(); "{folder}/{part}")?;
+            good = good && holds_its_path(rt, tree, path.as_str())?;
+            tree.remove(&name(rt, path.as_str())?)?;
+        }
+        good = good && !fs::exists(rt, "deep")?;
+    }
+    Ok(good)
+}
+
+// Whether a file has the bytes that `write` gives it.
+fn holds_its_path(rt: &HostRuntime, tree: &mut Host<'_>, path: &str) -> Result<bool, Fail> {
+    let name = name(rt, path)?;
+    let mut bytes = vec![in rt.alloc(); 0u8; path.len() + 1]?;
+    let len = bytes.len() as u64;
+    if tree.size(&name)? != Some(len) {
+        return Ok(false);
+    }
+    tree.read_at(&name, 0, &mut bytes)?;
+    Ok(bytes.starts_with(path.as_bytes()) && bytes.ends_with(b"!"))
 }
 
 // A symbolic link is a fault, as a name, on the way to one, and in a listing.

@@ -1,7 +1,9 @@
 //! Folders: those on the way to a file, those that hold nothing, and those whose names changed.
 
+use super::Host;
 use super::failure::{HostFault, IS_FOLDER, NO_FOLDER};
 use super::look::{Found, look, text};
+use super::nearby::LastFolder;
 use std::alloc::Global;
 use std::collections::BTreeSet;
 use std::fs;
@@ -14,6 +16,8 @@ pub struct Folders {
     alloc: Global,
     // Those that were looked at or made.
     known: BTreeSet<Vec<u8>>,
+    // A known one, or the root.
+    last: LastFolder,
     // Those whose names changed since they were last written through.
     changed: BTreeSet<Vec<u8>>,
 }
@@ -23,13 +27,14 @@ impl Folders {
         Folders {
             alloc,
             known: BTreeSet::new(alloc),
+            last: LastFolder::new(Vec::new(alloc)),
             changed: BTreeSet::new(alloc),
         }
     }
 
     /// Whether all on the way to a path are folders.
     pub fn have_way<R: Files>(&mut self, rt: &R, path: &[u8]) -> Result<bool, HostFault> {
-        if self.are_known_to(path) {
+        if self.knows_way(path)? {
             return Ok(true);
         }
         for (i, byte) in path.iter().enumerate() {
@@ -41,16 +46,30 @@ impl Folders {
     }
 
     /// What a path leads to: nothing where something on the way is no folder.
-    pub fn find<R: Files>(&mut self, rt: &R, path: &[u8]) -> Result<Found, HostFault> {
+    pub fn find<R: Host>(&mut self, rt: &R, path: &[u8]) -> Result<Found, HostFault> {
         if !self.have_way(rt, path)? {
             return Ok(Found::Nothing);
         }
-        look(rt, self.alloc, path)
+        let alloc = self.alloc;
+        look(rt, alloc, path, self.host_path(rt, path)?)
+    }
+
+    /// A path as the host takes it: the shorter way, where the folder that it stands in is the last one.
+    pub fn host_path<'b, R: Host>(
+        &'b mut self,
+        rt: &R,
+        path: &'b [u8],
+    ) -> Result<&'b str, HostFault> {
+        let folder = parent_of(path);
+        if folder.is_empty() || !self.last.is(folder) {
+            return text(path);
+        }
+        self.last.host_path(rt, self.alloc, path, &path[folder.len() + 1..])
     }
 
     /// Makes the folders on the way to a path that are absent. A file on the way is a fault.
     pub fn make_way<R: Files>(&mut self, rt: &R, path: &[u8]) -> Result<(), HostFault> {
-        if self.are_known_to(path) {
+        if self.knows_way(path)? {
             return Ok(());
         }
         for (i, byte) in path.iter().enumerate() {
@@ -75,7 +94,7 @@ impl Folders {
 
     /// Takes folders away that hold nothing and stand where a file is to be. Where a file or anything else is below them
     /// it is a fault, and nothing changes.
-    pub fn clear<R: Files + AllocGlobal + Clone + Drop>(
+    pub fn clear<R: Host>(
         &mut self,
         rt: &R,
         path: &[u8],
@@ -108,9 +127,17 @@ impl Folders {
         Ok(())
     }
 
-    fn are_known_to(&self, path: &[u8]) -> bool {
+    /// Whether the folder of a path is known, which is then the last one.
+    fn knows_way(&mut self, path: &[u8]) -> Result<bool, HostFault> {
         let folder = parent_of(path);
-        folder.is_empty() || self.is_known(folder)
+        if self.last.is(folder) {
+            return Ok(true);
+        }
+        if !folder.is_empty() && !self.is_known(folder) {
+            return Ok(false);
+        }
+        self.last = LastFolder::new(Vec::from_slice(self.alloc, folder)?);
+        Ok(true)
     }
 
     fn is_known(&self, folder: &[u8]) -> bool {
@@ -122,7 +149,7 @@ impl Folders {
         if self.is_known(path) {
             return Ok(true);
         }
-        if look(rt, self.alloc, path)? != Found::Folder {
+        if look(rt, self.alloc, path, text(path)?)? != Found::Folder {
             return Ok(false);
         }
         self.keep_known(path)?;
@@ -133,7 +160,7 @@ impl Folders {
         if self.is_known(folder) {
             return Ok(());
         }
-        match look(rt, self.alloc, folder)? {
+        match look(rt, self.alloc, folder, text(folder)?)? {
             Found::Folder => {}
             Found::File(_) => return Err(HostFault::at(self.alloc, NO_FOLDER, folder)),
             Found::Nothing => {
@@ -167,6 +194,9 @@ impl Folders {
     fn forget(&mut self, folder: &[u8]) {
         self.known.remove(folder);
         self.changed.remove(folder);
+        if self.last.is(folder) {
+            self.last = LastFolder::new(Vec::new(self.alloc));
+        }
     }
 }
 
@@ -178,7 +208,7 @@ fn keep(folders: &mut BTreeSet<Vec<u8>>, folder: Vec<u8>) -> Result<(), HostFaul
 }
 
 /// The folders of a tree of folders that hold no file and nothing else, each behind the one that it stands in.
-fn empty_tree<R: Files + AllocGlobal + Clone + Drop>(
+fn empty_tree<R: Host>(
     rt: &R,
     alloc: Global,
     root: &[u8],
@@ -198,7 +228,7 @@ fn empty_tree<R: Files + AllocGlobal + Clone + Drop>(
 }
 
 /// The folders in a folder that holds nothing else.
-fn folders_in<R: Files + AllocGlobal + Clone + Drop>(
+fn folders_in<R: Host>(
     rt: &R,
     alloc: Global,
     folder: &[u8],
@@ -208,7 +238,7 @@ fn folders_in<R: Files + AllocGlobal + Clone + Drop>(
         let entry = entry?;
         let path = entry.path();
         let path = path.as_str().as_bytes();
-        if look(rt, alloc, path)? != Found::Folder {
+        if look(rt, alloc, path, text(path)?)? != Found::Folder {
             return Err(HostFault::own(IS_FOLDER));
         }
         push(&mut found, Vec::from_slice(alloc, path)?)?;

@@ -12,6 +12,7 @@ mod folders;
 mod listing;
 mod lock;
 mod look;
+mod nearby;
 mod opened;
 mod root;
 

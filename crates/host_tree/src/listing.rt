@@ -6,16 +6,16 @@ ghost use Rattle.std.specs.Ordering.{nat_cmp};
 ghost use Rattle.base_core.specs.Files.{IsFolderOf};
 ghost use Rattle.base_core.specs.Listed.{AreNamesBelow, IsRising};
 
+use super::Host;
 use super::failure::{HostFault, IS_NO_NAME};
 use super::folders::Folders;
-use super::look::{Found, look, text};
+use super::look::{Found, text};
 use base_core::{Name, Names, is_folder_of};
 use std::alloc::{AllocError, Global};
 use std::fs;
-use std::fs::Files;
 
 /// The names of all regular files below a folder, at any depth, in byte order, each once.
-pub fn list_below<R: Files + AllocGlobal + Clone + Drop>(
+pub fn list_below<R: Host>(
     rt: &R,
     alloc: Global,
     known: &mut Folders,
@@ -36,7 +36,7 @@ pub fn list_below<R: Files + AllocGlobal + Clone + Drop>(
             break;
         };
         known.keep_known(next.as_bytes())?;
-        walk.visit(rt, folder, &next)?;
+        walk.visit(rt, known, folder, &next)?;
     }
     Ok(walk.sorted()?)
 }
@@ -51,9 +51,10 @@ struct Walk {
 
 impl Walk {
     /// Finds what stands in a folder, which is the root or below it.
-    fn visit<R: Files + AllocGlobal + Clone + Drop>(
+    fn visit<R: Host>(
         &mut self,
         rt: &R,
+        known: &mut Folders,
         root: &Name,
         folder: &Name,
     ) -> Result<(), HostFault>
@@ -62,14 +63,20 @@ impl Walk {
     {
         for entry in fs::read_dir(rt, text(folder.as_bytes())?)? {
             let entry = entry?;
-            self.meet(rt, root, entry.path().as_str().as_bytes())?;
+            self.meet(rt, known, root, entry.path().as_str().as_bytes())?;
         }
         Ok(())
     }
 
     /// Keeps what stands at a path. A path that is no name is a fault, so the walk is as deep as a name at most, and so is
     /// a path that is not below the root.
-    fn meet<R: Files>(&mut self, rt: &R, root: &Name, path: &[u8]) -> Result<(), HostFault>
+    fn meet<R: Host>(
+        &mut self,
+        rt: &R,
+        known: &mut Folders,
+        root: &Name,
+        path: &[u8],
+    ) -> Result<(), HostFault>
         requires { All (IsFolderOf root.now) self.old.files.items }
         ensures { All (IsFolderOf root.now) self.new.files.items }
     {
@@ -79,7 +86,7 @@ impl Walk {
         if !is_folder_of(root.as_bytes(), path) {
             return Err(HostFault::at(self.alloc, IS_NO_NAME, path));
         }
-        match look(rt, self.alloc, path)? {
+        match known.find(rt, path)? {
             Found::Folder => Ok(keep(&mut self.folders, name)?),
             Found::File(_) => Ok(keep(&mut self.files, name)?),
             Found::Nothing => Ok(()),

@@ -38,10 +38,15 @@ impl LookedAt {
     }
 }
 
-/// What stands at a path itself. A symbolic link is not followed: it is a fault, as is all else that is neither a
-/// regular file nor a folder.
-pub fn look<R: Files>(rt: &R, alloc: Global, path: &[u8]) -> Result<Found, HostFault> {
-    let data = match fs::symlink_metadata(rt, text(path)?) {
+/// What stands at a path itself, which the host takes as `host_path`. A symbolic link is not followed: it is a fault, as is
+/// all else that is neither a regular file nor a folder.
+pub fn look<R: Files>(
+    rt: &R,
+    alloc: Global,
+    path: &[u8],
+    host_path: &str,
+) -> Result<Found, HostFault> {
+    let data = match fs::symlink_metadata(rt, host_path) {
         Ok(data) => data,
         Err(e) if is_absence(e.kind()) => return Ok(Found::Nothing),
         Err(e) => return Err(e.into()),
@@ -58,6 +63,11 @@ pub fn look<R: Files>(rt: &R, alloc: Global, path: &[u8]) -> Result<Found, HostF
         IS_SPECIAL
     };
     Err(HostFault::at(alloc, reason, path))
+}
+
+/// Whether the host tells the same file or folder twice.
+pub fn is_same(a: &Metadata, b: &Metadata) -> bool {
+    a.dev() == b.dev() && a.ino() == b.ino()
 }
 
 /// Whether an error says that there is nothing at a path; no file has a name that is too long for the host.

@@ -16,15 +16,16 @@ pub struct Opened<F: Drop> {
 }
 
 impl<F: OpenFile + Read + Write + Seek + Drop> Opened<F> {
-    /// Opens the regular file at a path that was looked at. What is opened is that file.
+    /// Opens the regular file at a path that was looked at, which the host takes as `host_path`. What is opened is that file.
     pub fn open<R: Files<File = F>>(
         rt: &R,
         alloc: Global,
         path: &[u8],
+        host_path: &str,
         how: &OpenOptions,
         looked_at: LookedAt,
     ) -> Result<Opened<F>, HostFault> {
-        let file = how.open(rt, text(path)?)?;
+        let file = how.open(rt, host_path)?;
         let data = file.metadata()?;
         if !looked_at.is(&data) {
             return Err(HostFault::own(WAS_SWAPPED));

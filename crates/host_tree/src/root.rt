@@ -107,7 +107,9 @@ impl<'a, R: Host> Root<'a, R> {
         self.enter()?;
         if !is_open(&self.reader, path) {
             let looked_at = self.look_at(path)?;
-            self.reader = Some(Opened::open(self.rt, self.alloc, path, &to_read(), looked_at)?);
+            let host_path = self.folders.host_path(self.rt, path)?;
+            let how = to_read();
+            self.reader = Some(Opened::open(self.rt, self.alloc, path, host_path, &how, looked_at)?);
         }
         match &mut self.reader {
             Some(reader) => reader.fill(at, into),
@@ -121,7 +123,7 @@ impl<'a, R: Host> Root<'a, R> {
         self.enter()?;
         self.seen = None;
         self.folders.make_way(self.rt, path)?;
-        if look(self.rt, self.alloc, path)? == Found::Folder {
+        if look(self.rt, self.alloc, path, text(path)?)? == Found::Folder {
             self.folders.clear(self.rt, path)?;
         }
         self.folders.note(parent_of(path))?;
@@ -137,7 +139,9 @@ impl<'a, R: Host> Root<'a, R> {
         close(&mut self.reader, path);
         if !is_open(&self.writer, path) {
             let looked_at = self.look_at(path)?;
-            self.writer = Some(Opened::open(self.rt, self.alloc, path, &to_append(), looked_at)?);
+            let host_path = text(path)?;
+            let how = to_append();
+            self.writer = Some(Opened::open(self.rt, self.alloc, path, host_path, &how, looked_at)?);
         }
         self.seen = None;
         match &mut self.writer {
@@ -177,7 +181,7 @@ impl<'a, R: Host> Root<'a, R> {
         self.look_at(from)?;
         let target = Vec::from_slice(self.alloc, to)?;
         self.folders.make_way(self.rt, to)?;
-        if look(self.rt, self.alloc, to)? == Found::Folder {
+        if look(self.rt, self.alloc, to, text(to)?)? == Found::Folder {
             self.folders.clear(self.rt, to)?;
         }
         self.folders.note(parent_of(from))?;
