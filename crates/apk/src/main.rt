@@ -8,7 +8,8 @@ mod stream;
 mod words;
 
 use apk_front::{Access, Answer, access_for, apk, status};
-use host_tree::{HostTree, Lock};
+use host_files::Lock;
+use host_tree::HostTree;
 use std::io;
 use std::io::Write;
 use std::process::ExitCode;

@@ -1,9 +1,6 @@
 //! Folders: those on the way to a file, those that hold nothing, and those whose names changed.
 
-use super::Host;
-use super::failure::{HostFault, IS_FOLDER, NO_FOLDER};
-use super::look::{Found, look, text};
-use super::nearby::LastFolder;
+use host_files::{Found, Host, HostFault, LastFolder, Reason, look, parent_of, path_text};
 use std::alloc::Global;
 use std::collections::BTreeSet;
 use std::fs;
@@ -62,7 +59,7 @@ impl Folders {
     ) -> Result<&'b str, HostFault> {
         let folder = parent_of(path);
         if folder.is_empty() || !self.last.is(folder) {
-            return text(path);
+            return path_text(path);
         }
         self.last.host_path(rt, self.alloc, path, &path[folder.len() + 1..])
     }
@@ -102,7 +99,7 @@ impl Folders {
         let folders = empty_tree(rt, self.alloc, path)?;
         for folder in folders.iter().rev() {
             self.note(parent_of(folder))?;
-            fs::remove_dir(rt, text(folder)?)?;
+            fs::remove_dir(rt, path_text(folder)?)?;
             self.forget(folder);
         }
         Ok(())
@@ -149,7 +146,7 @@ impl Folders {
         if self.is_known(path) {
             return Ok(true);
         }
-        if look(rt, self.alloc, path, text(path)?)? != Found::Folder {
+        if !look(rt, self.alloc, path, path_text(path)?)?.is_folder() {
             return Ok(false);
         }
         self.keep_known(path)?;
@@ -160,12 +157,12 @@ impl Folders {
         if self.is_known(folder) {
             return Ok(());
         }
-        match look(rt, self.alloc, folder, text(folder)?)? {
+        match look(rt, self.alloc, folder, path_text(folder)?)? {
             Found::Folder => {}
-            Found::File(_) => return Err(HostFault::at(self.alloc, NO_FOLDER, folder)),
+            Found::File(_) => return Err(HostFault::at(self.alloc, Reason::NoFolder, folder)),
             Found::Nothing => {
                 self.note(parent_of(folder))?;
-                fs::create_dir(rt, text(folder)?)?;
+                fs::create_dir(rt, path_text(folder)?)?;
             }
         }
         self.keep_known(folder)
@@ -176,7 +173,7 @@ impl Folders {
         let around = parent_of(folder);
         let was_noted = self.changed.contains(around);
         self.note(around)?;
-        match fs::remove_dir(rt, text(folder)?) {
+        match fs::remove_dir(rt, path_text(folder)?) {
             Ok(()) => {}
             Err(e) if stays(e.kind()) => {
                 if !was_noted {
@@ -234,12 +231,12 @@ fn folders_in<R: Host>(
     folder: &[u8],
 ) -> Result<Vec<Vec<u8>>, HostFault> {
     let mut found = Vec::new(alloc);
-    for entry in fs::read_dir(rt, text(folder)?)? {
+    for entry in fs::read_dir(rt, path_text(folder)?)? {
         let entry = entry?;
         let path = entry.path();
         let path = path.as_str().as_bytes();
-        if look(rt, alloc, path, text(path)?)? != Found::Folder {
-            return Err(HostFault::own(IS_FOLDER));
+        if !look(rt, alloc, path, path_text(path)?)?.is_folder() {
+            return Err(HostFault::own(Reason::Folder));
         }
         push(&mut found, Vec::from_slice(alloc, path)?)?;
     }
@@ -255,15 +252,7 @@ fn push(list: &mut Vec<Vec<u8>>, path: Vec<u8>) -> Result<(), HostFault> {
 
 fn write_folder<R: Files>(rt: &R, folder: &[u8]) -> Result<(), HostFault> {
     let path: &[u8] = if folder.is_empty() { b"." } else { folder };
-    Ok(fs::open(rt, text(path)?)?.sync_all()?)
-}
-
-/// The folder that a path stands in. The root is the empty path.
-pub fn parent_of(path: &[u8]) -> &[u8] {
-    match path.iter().rposition(|byte| *byte == b'/') {
-        Some(end) => &path[..end],
-        None => &[],
-    }
+    Ok(fs::open(rt, path_text(path)?)?.sync_all()?)
 }
 
 /// Whether an error says that a folder is not empty, that another file system stands on it, or that the one around it may

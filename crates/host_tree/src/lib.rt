@@ -7,28 +7,14 @@ ghost use Rattle.std.specs.Prelude.{◌≡◌, ◌≤◌, [], OnOk, OnErr, true}
 ghost use Rattle.base_core.specs.Faults.{next_count};
 ghost use Rattle.host_tree.specs.Host.{host_counts};
 
-mod failure;
 mod folders;
 mod listing;
-mod lock;
-mod look;
-mod nearby;
-mod opened;
 mod root;
 
 use base_core::{Disk, Name, Names, Tree, TreeFault};
-pub use failure::Failure;
-use failure::HostFault;
-pub use lock::Lock;
+use host_files::{Failure, Host, HostFault, Lock};
 use root::Root;
 use std::alloc::Global;
-use std::fs::{File, Files};
-use std::time::Clock;
-
-/// What the tree needs of a runtime: files, sleep, and memory.
-pub trait Host: Files<File = File> + Clock + AllocGlobal + Clone + Drop {}
-
-impl<R: Files<File = File> + Clock + AllocGlobal + Clone + Drop> Host for R {}
 
 /// The folder that the program runs in. It tells nothing of its files; each call that answers a fault counts it.
 ///

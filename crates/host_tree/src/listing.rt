@@ -6,10 +6,8 @@ ghost use Rattle.std.specs.Ordering.{nat_cmp};
 ghost use Rattle.base_core.specs.Files.{IsFolderOf};
 ghost use Rattle.base_core.specs.Listed.{AreNamesBelow, IsRising};
 
-use super::Host;
-use super::failure::{HostFault, IS_NO_NAME};
+use host_files::{Found, Host, HostFault, Reason, path_text};
 use super::folders::Folders;
-use super::look::{Found, text};
 use base_core::{Name, Names, is_folder_of};
 use std::alloc::{AllocError, Global};
 use std::fs;
@@ -28,7 +26,7 @@ pub fn list_below<R: Host>(
         folders: Vec::new(alloc),
         files: Vec::new(alloc),
     };
-    if known.find(rt, folder.as_bytes())? == Found::Folder {
+    if known.find(rt, folder.as_bytes())?.is_folder() {
         keep(&mut walk.folders, folder.copy(alloc)?)?;
     }
     for _ in 0..u64::MAX {
@@ -61,7 +59,7 @@ impl Walk {
         requires { All (IsFolderOf root.now) self.old.files.items }
         ensures { All (IsFolderOf root.now) self.new.files.items }
     {
-        for entry in fs::read_dir(rt, text(folder.as_bytes())?)? {
+        for entry in fs::read_dir(rt, path_text(folder.as_bytes())?)? {
             let entry = entry?;
             self.meet(rt, known, root, entry.path().as_str().as_bytes())?;
         }
@@ -81,10 +79,10 @@ impl Walk {
         ensures { All (IsFolderOf root.now) self.new.files.items }
     {
         let Some(name) = Name::read(self.alloc, path)? else {
-            return Err(HostFault::at(self.alloc, IS_NO_NAME, path));
+            return Err(HostFault::at(self.alloc, Reason::NoName, path));
         };
         if !is_folder_of(root.as_bytes(), path) {
-            return Err(HostFault::at(self.alloc, IS_NO_NAME, path));
+            return Err(HostFault::at(self.alloc, Reason::NoName, path));
         }
         match known.find(rt, path)? {
             Found::Folder => Ok(keep(&mut self.folders, name)?),

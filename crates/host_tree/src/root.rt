@@ -2,13 +2,11 @@
 ghost use Rattle.std.specs.Prelude.{IfOk};
 ghost use Rattle.base_core.specs.Listed.{AreNamesBelow};
 
-use super::Host;
-use super::failure::{HostFault, IS_FOLDER, IS_SAME, NOTHING_THERE, WAS_LOST};
-use super::folders::{Folders, parent_of};
+use host_files::{
+    Found, Host, HostFault, Lock, LookedAt, Opened, Reason, close, is_open, lock_root, look, parent_of, path_text,
+};
+use super::folders::Folders;
 use super::listing::list_below;
-use super::lock::{Lock, lock_root};
-use super::look::{Found, LookedAt, look, text};
-use super::opened::{Opened, close, is_open};
 use base_core::{Name, Names};
 use std::alloc::Global;
 use std::fs;
@@ -24,8 +22,8 @@ pub struct Root<'a, R: Host> {
     // The folder itself, open while this run holds the lock on it.
     held: Option<File>,
     // The file that was read last, and the one that is being written.
-    reader: Option<Opened<File>>,
-    writer: Option<Opened<File>>,
+    reader: Option<Opened>,
+    writer: Option<Opened>,
     // The file that was looked at last, unless something was written since.
     seen: Option<(Vec<u8>, LookedAt)>,
     folders: Folders,
@@ -97,8 +95,8 @@ impl<'a, R: Host> Root<'a, R> {
         }
         match self.folders.find(self.rt, path)? {
             Found::File(looked_at) => Ok(looked_at),
-            Found::Folder => Err(HostFault::own(IS_FOLDER)),
-            Found::Nothing => Err(HostFault::own(NOTHING_THERE)),
+            Found::Folder => Err(HostFault::own(Reason::Folder)),
+            Found::Nothing => Err(HostFault::own(Reason::Nothing)),
         }
     }
 
@@ -107,13 +105,12 @@ impl<'a, R: Host> Root<'a, R> {
         self.enter()?;
         if !is_open(&self.reader, path) {
             let looked_at = self.look_at(path)?;
-            let host_path = self.folders.host_path(self.rt, path)?;
-            let how = to_read();
-            self.reader = Some(Opened::open(self.rt, self.alloc, path, host_path, &how, looked_at)?);
+            let file = fs::open(self.rt, self.folders.host_path(self.rt, path)?)?;
+            self.reader = Some(Opened::of(self.alloc, path, file, looked_at)?);
         }
         match &mut self.reader {
             Some(reader) => reader.fill(at, into),
-            None => Err(HostFault::own(NOTHING_THERE)),
+            None => Err(HostFault::own(Reason::Nothing)),
         }
     }
 
@@ -123,30 +120,29 @@ impl<'a, R: Host> Root<'a, R> {
         self.enter()?;
         self.seen = None;
         self.folders.make_way(self.rt, path)?;
-        if look(self.rt, self.alloc, path, text(path)?)? == Found::Folder {
+        if look(self.rt, self.alloc, path, path_text(path)?)?.is_folder() {
             self.folders.clear(self.rt, path)?;
         }
         self.folders.note(parent_of(path))?;
-        self.writer = Some(Opened::make(self.rt, self.alloc, path, &mut to_append())?);
+        self.writer = Some(Opened::make(self.rt, self.alloc, path)?);
         Ok(())
     }
 
     /// The file at a path, open for writing.
-    fn open_to_write(&mut self, path: &[u8]) -> Result<&mut Opened<File>, HostFault> {
+    fn open_to_write(&mut self, path: &[u8]) -> Result<&mut Opened, HostFault> {
         if self.has_lost {
-            return Err(HostFault::own(WAS_LOST));
+            return Err(HostFault::own(Reason::LostWrite));
         }
         close(&mut self.reader, path);
         if !is_open(&self.writer, path) {
             let looked_at = self.look_at(path)?;
-            let host_path = text(path)?;
-            let how = to_append();
-            self.writer = Some(Opened::open(self.rt, self.alloc, path, host_path, &how, looked_at)?);
+            let file = OpenOptions::new().append(true).open(self.rt, path_text(path)?)?;
+            self.writer = Some(Opened::of(self.alloc, path, file, looked_at)?);
         }
         self.seen = None;
         match &mut self.writer {
             Some(writer) => Ok(writer),
-            None => Err(HostFault::own(NOTHING_THERE)),
+            None => Err(HostFault::own(Reason::Nothing)),
         }
     }
 
@@ -176,17 +172,17 @@ impl<'a, R: Host> Root<'a, R> {
         self.forget(from);
         self.forget(to);
         if from == to {
-            return Err(HostFault::own(IS_SAME));
+            return Err(HostFault::own(Reason::SameName));
         }
         self.look_at(from)?;
         let target = Vec::from_slice(self.alloc, to)?;
         self.folders.make_way(self.rt, to)?;
-        if look(self.rt, self.alloc, to, text(to)?)? == Found::Folder {
+        if look(self.rt, self.alloc, to, path_text(to)?)?.is_folder() {
             self.folders.clear(self.rt, to)?;
         }
         self.folders.note(parent_of(from))?;
         self.folders.note(parent_of(to))?;
-        fs::rename(self.rt, text(from)?, text(to)?)?;
+        fs::rename(self.rt, path_text(from)?, path_text(to)?)?;
         self.unsynced_target = Some(target);
         Ok(())
     }
@@ -198,7 +194,7 @@ impl<'a, R: Host> Root<'a, R> {
         }
         self.forget(path);
         self.folders.note(parent_of(path))?;
-        fs::remove_file(self.rt, text(path)?)?;
+        fs::remove_file(self.rt, path_text(path)?)?;
         self.folders.prune(self.rt, path)
     }
 
@@ -206,7 +202,7 @@ impl<'a, R: Host> Root<'a, R> {
     pub fn write_names_through(&mut self) -> Result<(), HostFault> {
         self.enter()?;
         if self.has_lost {
-            return Err(HostFault::own(WAS_LOST));
+            return Err(HostFault::own(Reason::LostWrite));
         }
         let written = self.folders.write_through(self.rt);
         self.has_lost = written.is_err();
@@ -222,16 +218,4 @@ impl<'a, R: Host> Root<'a, R> {
         close(&mut self.reader, path);
         close(&mut self.writer, path);
     }
-}
-
-fn to_read() -> OpenOptions {
-    let mut how = OpenOptions::new();
-    how.read(true);
-    how
-}
-
-fn to_append() -> OpenOptions {
-    let mut how = OpenOptions::new();
-    how.append(true);
-    how
 }

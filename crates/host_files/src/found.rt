@@ -1,6 +1,6 @@
 //! What the host has at a path, and what its errors mean.
 
-use super::failure::{HostFault, IS_LINK, IS_NO_NAME, IS_SPECIAL};
+use super::failure::{HostFault, Reason};
 use std::alloc::Global;
 use std::fs::{Files, Metadata};
 use std::io::ErrorKind;
@@ -8,7 +8,7 @@ use std::os::unix::fs::MetadataExt;
 use std::{fs, str};
 
 /// What the host has at a path.
-#[derive(Clone, Copy, PartialEq, Eq)]
+#[derive(Clone, Copy)]
 pub enum Found {
     Nothing,
     Folder,
@@ -16,7 +16,7 @@ pub enum Found {
 }
 
 /// A regular file as it was looked at: its length in bytes, and what tells it from every other file of the host.
-#[derive(Clone, Copy, PartialEq, Eq)]
+#[derive(Clone, Copy)]
 pub struct LookedAt {
     pub len: u64,
     device: u64,
@@ -35,6 +35,12 @@ impl LookedAt {
     /// Whether what the host tells of an open file is that regular file.
     pub fn is(&self, data: &Metadata) -> bool {
         data.is_file() && data.dev() == self.device && data.ino() == self.number
+    }
+}
+
+impl Found {
+    pub fn is_folder(&self) -> bool {
+        matches!(self, Found::Folder)
     }
 }
 
@@ -58,9 +64,9 @@ pub fn look<R: Files>(
         return Ok(Found::Folder);
     }
     let reason = if data.is_symlink() {
-        IS_LINK
+        Reason::Link
     } else {
-        IS_SPECIAL
+        Reason::Special
     };
     Err(HostFault::at(alloc, reason, path))
 }
@@ -79,9 +85,17 @@ fn is_absence(kind: ErrorKind) -> bool {
 }
 
 /// A path as the host takes it.
-pub fn text(path: &[u8]) -> Result<&str, HostFault> {
+pub fn path_text(path: &[u8]) -> Result<&str, HostFault> {
     match str::from_utf8(path) {
         Ok(text) => Ok(text),
-        Err(_) => Err(HostFault::own(IS_NO_NAME)),
+        Err(_) => Err(HostFault::own(Reason::NoName)),
+    }
+}
+
+/// The folder that a path stands in. The root is the empty path.
+pub fn parent_of(path: &[u8]) -> &[u8] {
+    match path.iter().rposition(|byte| *byte == b'/') {
+        Some(end) => &path[..end],
+        None => &[],
     }
 }

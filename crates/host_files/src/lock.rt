@@ -1,12 +1,13 @@
 //! The lock on the root: one run writes there, or any number read.
 
-use super::failure::{HostFault, IS_LOCKED};
-use std::fs::{File, Files, TryLockError};
-use std::time::{Clock, Duration};
+use super::Host;
+use super::failure::{HostFault, Reason};
+use std::fs::{File, TryLockError};
+use std::time::Duration;
 use std::{fs, thread};
 
 /// Who else may work in the root while a run does.
-#[derive(Clone, Copy, PartialEq, Eq)]
+#[derive(Clone, Copy)]
 pub enum Lock {
     /// Other runs that share it.
     Shared,
@@ -21,7 +22,7 @@ const SLEEP_MILLISECONDS: u64 = 50;
 const MOST_TRIES: u64 = 60_000 / SLEEP_MILLISECONDS;
 
 /// Waits until no other run stands in the way, 60 seconds at most. The lock holds until the file that is answered is closed.
-pub fn lock_root<R: Files<File = File> + Clock>(rt: &R, lock: Lock) -> Result<File, HostFault> {
+pub fn lock_root<R: Host>(rt: &R, lock: Lock) -> Result<File, HostFault> {
     let root = fs::open(rt, ".")?;
     for _ in 0..MOST_TRIES {
         match try_to_lock(&root, lock) {
@@ -32,7 +33,7 @@ pub fn lock_root<R: Files<File = File> + Clock>(rt: &R, lock: Lock) -> Result<Fi
             Err(TryLockError::Error(e)) => return Err(e.into()),
         }
     }
-    Err(HostFault::own(IS_LOCKED))
+    Err(HostFault::own(Reason::Locked))
 }
 
 fn try_to_lock(root: &File, lock: Lock) -> Result<(), TryLockError> {

@@ -1,34 +1,32 @@
 //! Files that stay open between calls.
 
-use super::failure::{ENDS_EARLY, HostFault, WAS_SWAPPED};
-use super::look::{LookedAt, text};
+use super::Host;
+use super::failure::{HostFault, Reason};
+use super::found::{LookedAt, path_text};
 use std::alloc::Global;
-use std::fs::{Files, OpenFile, OpenOptions};
+use std::fs::{File, OpenOptions};
 use std::io::{Read, Seek, SeekFrom, Write};
 
 /// An open file, with the path under which it was opened, its length, and where the next read goes on, if that is known.
 #[derive(Drop)]
-pub struct Opened<F: Drop> {
+pub struct Opened {
     path: Vec<u8>,
-    file: F,
+    file: File,
     len: u64,
     at: Option<u64>,
 }
 
-impl<F: OpenFile + Read + Write + Seek + Drop> Opened<F> {
-    /// Opens the regular file at a path that was looked at, which the host takes as `host_path`. What is opened is that file.
-    pub fn open<R: Files<File = F>>(
-        rt: &R,
+impl Opened {
+    /// The file that was opened at a path. It is the regular file that was looked at there.
+    pub fn of(
         alloc: Global,
         path: &[u8],
-        host_path: &str,
-        how: &OpenOptions,
+        file: File,
         looked_at: LookedAt,
-    ) -> Result<Opened<F>, HostFault> {
-        let file = how.open(rt, host_path)?;
+    ) -> Result<Opened, HostFault> {
         let data = file.metadata()?;
         if !looked_at.is(&data) {
-            return Err(HostFault::own(WAS_SWAPPED));
+            return Err(HostFault::own(Reason::Swapped));
         }
         Ok(Opened {
             path: Vec::from_slice(alloc, path)?,
@@ -38,15 +36,11 @@ impl<F: OpenFile + Read + Write + Seek + Drop> Opened<F> {
         })
     }
 
-    /// Makes a file at a path where nothing stands.
-    pub fn make<R: Files<File = F>>(
-        rt: &R,
-        alloc: Global,
-        path: &[u8],
-        how: &mut OpenOptions,
-    ) -> Result<Opened<F>, HostFault> {
+    /// Makes a file at a path where nothing stands, to append to it.
+    pub fn make<R: Host>(rt: &R, alloc: Global, path: &[u8]) -> Result<Opened, HostFault> {
         let copy = Vec::from_slice(alloc, path)?;
-        let file = how.create_new(true).open(rt, text(path)?)?;
+        let mut how = OpenOptions::new();
+        let file = how.append(true).create_new(true).open(rt, path_text(path)?)?;
         Ok(Opened {
             path: copy,
             file,
@@ -58,7 +52,7 @@ impl<F: OpenFile + Read + Write + Seek + Drop> Opened<F> {
     /// Fills the buffer with the bytes from `at` on.
     pub fn fill(&mut self, at: u64, into: &mut [u8]) -> Result<(), HostFault> {
         if at > self.len || into.len() as u64 > self.len - at {
-            return Err(HostFault::own(ENDS_EARLY));
+            return Err(HostFault::own(Reason::EndsEarly));
         }
         if self.at != Some(at) {
             self.file.seek(SeekFrom::Start(at))?;
@@ -88,7 +82,7 @@ impl<F: OpenFile + Read + Write + Seek + Drop> Opened<F> {
 }
 
 /// Whether the file at a path is the open one.
-pub fn is_open<F: Drop>(slot: &Option<Opened<F>>, path: &[u8]) -> bool {
+pub fn is_open(slot: &Option<Opened>, path: &[u8]) -> bool {
     match slot {
         Some(opened) => opened.path.as_slice() == path,
         None => false,
@@ -96,7 +90,7 @@ pub fn is_open<F: Drop>(slot: &Option<Opened<F>>, path: &[u8]) -> bool {
 }
 
 /// Closes the file at a path, if it is open.
-pub fn close<F: Drop>(slot: &mut Option<Opened<F>>, path: &[u8]) {
+pub fn close(slot: &mut Option<Opened>, path: &[u8]) {
     if is_open(slot, path) {
         *slot = None;
     }

@@ -2,7 +2,7 @@
 
 use super::Host;
 use super::failure::HostFault;
-use super::look::{is_same, text};
+use super::found::{is_same, path_text};
 use std::alloc::Global;
 use std::fs;
 use std::fs::{File, OpenFile};
@@ -53,7 +53,7 @@ impl LastFolder {
         }
         match &mut self.opened {
             Some(folder) => folder.path_to(part),
-            None => text(path),
+            None => path_text(path),
         }
     }
 }
@@ -79,12 +79,12 @@ impl OpenFolder {
         alloc: Global,
         folder: &[u8],
     ) -> Result<Option<OpenFolder>, HostFault> {
-        let Ok(file) = fs::open(rt, text(folder)?) else {
+        let Ok(file) = fs::open(rt, path_text(folder)?) else {
             return Ok(None);
         };
         let number = file.as_raw_fd();
         let path = format!(in alloc; "/proc/self/fd/{number}/")?;
-        if !leads_to(rt, path.as_str(), &file) || !leads_to(rt, text(folder)?, &file) {
+        if !leads_to(rt, path.as_str(), &file) || !leads_to(rt, path_text(folder)?, &file) {
             return Ok(None);
         }
         let path = Vec::from_slice(alloc, path.as_str().as_bytes())?;
@@ -99,7 +99,7 @@ impl OpenFolder {
     fn path_to(&mut self, part: &[u8]) -> Result<&str, HostFault> {
         self.path.truncate(self.folder_len);
         self.path.extend_from_slice(part)?;
-        text(&self.path)
+        path_text(&self.path)
     }
 }
 

@@ -4,38 +4,51 @@ use std::alloc::{AllocError, Global};
 use std::io;
 use std::io::{ErrorKind, Write};
 
-/// A path is a symbolic link, which is never followed.
-pub const IS_LINK: &str = "Is a symbolic link";
+/// A reason of this program for a failed call.
+#[derive(Clone, Copy)]
+pub enum Reason {
+    /// A path is a symbolic link, which is never followed.
+    Link,
+    /// A path is a pipe, a device or a socket.
+    Special,
+    /// A folder stands where a file is to be.
+    Folder,
+    /// A file stands where a folder is to be.
+    NoFolder,
+    /// Nothing stands at a path.
+    Nothing,
+    /// A file is not as long as what is read of it.
+    EndsEarly,
+    /// What was opened is not the file that was looked at.
+    Swapped,
+    /// A path is no name of a file.
+    NoName,
+    /// The host once failed to write something through.
+    LostWrite,
+    /// Another run of this program works in the folder.
+    Locked,
+    /// Both names of a rename are one.
+    SameName,
+}
 
-/// A path is a pipe, a device or a socket.
-pub const IS_SPECIAL: &str = "Is neither a file nor a directory";
-
-/// A folder stands where a file is to be.
-pub const IS_FOLDER: &str = "Is a directory";
-
-/// A file stands where a folder is to be.
-pub const NO_FOLDER: &str = "Not a directory";
-
-/// Nothing stands at a path.
-pub const NOTHING_THERE: &str = "No such file or directory";
-
-/// A file is not as long as what is read of it.
-pub const ENDS_EARLY: &str = "Ends too early";
-
-/// What was opened is not the file that was looked at.
-pub const WAS_SWAPPED: &str = "Was another file a moment ago";
-
-/// A listing shows a path that is no name of this program.
-pub const IS_NO_NAME: &str = "Is no name of a file";
-
-/// The host once failed to write something through.
-pub const WAS_LOST: &str = "An earlier write was lost";
-
-/// Another run of this program works in the folder.
-pub const IS_LOCKED: &str = "Another run holds this folder";
-
-/// Both names of a rename are one.
-pub const IS_SAME: &str = "Is the same name";
+impl Reason {
+    /// The reason as it is told.
+    pub fn text(self) -> &'static str {
+        match self {
+            Reason::Link => "Is a symbolic link",
+            Reason::Special => "Is neither a file nor a directory",
+            Reason::Folder => "Is a directory",
+            Reason::NoFolder => "Not a directory",
+            Reason::Nothing => "No such file or directory",
+            Reason::EndsEarly => "Ends too early",
+            Reason::Swapped => "Was another file a moment ago",
+            Reason::NoName => "Is no name of a file",
+            Reason::LostWrite => "An earlier write was lost",
+            Reason::Locked => "Another run holds this folder",
+            Reason::SameName => "Is the same name",
+        }
+    }
+}
 
 /// Why something on the host fails.
 #[derive(Drop)]
@@ -46,19 +59,19 @@ pub enum HostFault {
     Host(io::Error),
     /// A reason of this program, and the path that it holds of, where that is not the call's own.
     Own {
-        reason: &'static str,
+        reason: Reason,
         at: Option<Vec<u8>>,
     },
 }
 
 impl HostFault {
     /// A reason of this program that holds of the call's own path.
-    pub fn own(reason: &'static str) -> HostFault {
+    pub fn own(reason: Reason) -> HostFault {
         HostFault::Own { reason, at: None }
     }
 
     /// A reason of this program that holds of a path. Where there is no memory for the path it goes untold.
-    pub fn at(alloc: Global, reason: &'static str, path: &[u8]) -> HostFault {
+    pub fn at(alloc: Global, reason: Reason, path: &[u8]) -> HostFault {
         HostFault::Own {
             reason,
             at: Vec::from_slice(alloc, path).ok(),
@@ -135,7 +148,7 @@ impl Failure {
                     to.write_all(at)?;
                     to.write_all(b": ")?;
                 }
-                to.write_all(reason.as_bytes())
+                to.write_all(reason.text().as_bytes())
             }
         }
     }

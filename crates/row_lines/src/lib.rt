@@ -1,0 +1,108 @@
+//! Rows of one line each: a question in words, ` -> `, and the answer that is wanted. The tests of
+//! the layers below the top call are texts of such rows, which a program of each layer reads.
+//! `tests/lines.md` describes the form.
+//!
+//! Nothing is proved of what is compared: these are tests.
+#![tactic(auto)]
+
+mod reading;
+
+use base_core::Words;
+pub use reading::{number_of, word_at, words_behind};
+use reading::{bytes_of, words_of};
+use std::alloc::{AllocError, Global};
+
+/// What a layer answers.
+pub trait Subject {
+    /// Adds the answer to a question, whose first word says what is asked.
+    fn answer(
+        &mut self,
+        alloc: Global,
+        words: &Words,
+        answer: &mut Vec<u8>,
+    ) -> Result<(), AllocError>;
+}
+
+/// Runs all rows of a text, and reports each that fails, with its answer, and the count of rows.
+/// Answers whether none failed.
+pub fn run_lines<S: Subject>(
+    alloc: Global,
+    subject: &mut S,
+    text: &[u8],
+    report: &mut Vec<u8>,
+) -> Result<bool, AllocError> {
+    let mut rows = 0u64;
+    let mut failed = 0u64;
+    for line in text.split(|byte| *byte == b'\n') {
+        if !line.is_empty() && !line.starts_with(b"#") {
+            rows = rows.saturating_add(1);
+            if !run_line(alloc, subject, line, report)? {
+                failed = failed.saturating_add(1);
+            }
+        }
+    }
+    add_number(alloc, report, u128::from(rows))?;
+    report.extend_from_slice(b" rows, ")?;
+    add_number(alloc, report, u128::from(failed))?;
+    report.extend_from_slice(b" failed\n")?;
+    Ok(failed == 0)
+}
+
+/// Whether the row of this line passes.
+fn run_line<S: Subject>(
+    alloc: Global,
+    subject: &mut S,
+    line: &[u8],
+    report: &mut Vec<u8>,
+) -> Result<bool, AllocError> {
+    let Some((question, wanted)) = parts_of(line) else {
+        add_failure(report, line, b"no row")?;
+        return Ok(false);
+    };
+    let words = words_of(alloc, question)?;
+    let wanted = bytes_of(alloc, wanted)?;
+    let mut answer = Vec::new(alloc);
+    subject.answer(alloc, &words, &mut answer)?;
+    if answer.as_slice() == wanted.as_slice() {
+        return Ok(true);
+    }
+    add_failure(report, line, &answer)?;
+    Ok(false)
+}
+
+fn add_failure(report: &mut Vec<u8>, line: &[u8], found: &[u8]) -> Result<(), AllocError> {
+    report.extend_from_slice(b"FAILED ")?;
+    report.extend_from_slice(line)?;
+    report.extend_from_slice(b"\n found ")?;
+    report.extend_from_slice(found)?;
+    report.extend_from_slice(b"\n")
+}
+
+/// The question of a line, and the answer that is wanted.
+fn parts_of(line: &[u8]) -> Option<(&[u8], &[u8])> {
+    for i in 0..line.len() {
+        if let Some(rest) = line[i..].strip_prefix(b" ->") {
+            return Some((&line[..i], rest.strip_prefix(b" ").unwrap_or(rest)));
+        }
+    }
+    None
+}
+
+/// Adds a number in decimal digits.
+pub fn add_number(alloc: Global, text: &mut Vec<u8>, number: u128) -> Result<(), AllocError> {
+    let digits = format!(in alloc; "{number}")?;
+    text.extend_from_slice(digits.as_bytes())
+}
+
+/// Adds `yes` or `no`.
+pub fn add_yes_or_no(text: &mut Vec<u8>, holds: bool) -> Result<(), AllocError> {
+    text.extend_from_slice(if holds { b"yes" } else { b"no" })
+}
+
+/// Adds a word, and a space before it where it is not the first.
+pub fn add_word(text: &mut Vec<u8>, word: &[u8]) -> Result<(), AllocError> {
+    if !text.is_empty() {
+        text.push(b' ')?;
+    }
+    text.extend_from_slice(word)
+}

@@ -1,0 +1,161 @@
+//! The words of a question, and the bytes that they stand for.
+use base_core::Words;
+use std::alloc::{AllocError, Global};
+
+/// The most words that a question may have; further ones are passed over.
+const MOST_WORDS: usize = 100_000;
+
+/// The most times that a byte is repeated.
+const MOST_TIMES: usize = 2_000_000;
+
+/// The words of a question, which stand between spaces.
+pub(crate) fn words_of(alloc: Global, question: &[u8]) -> Result<Words, AllocError> {
+    let mut words = Words::new(alloc);
+    for part in question.split(|byte| *byte == b' ') {
+        if !part.is_empty() && words.len() < MOST_WORDS {
+            let word = bytes_of(alloc, part)?;
+            words.push(&word)?;
+        }
+    }
+    Ok(words)
+}
+
+/// The word at a place, counted from 0; no bytes where there is none.
+pub fn word_at(words: &Words, i: usize) -> &[u8] {
+    if i < words.len() {
+        return words.word(i);
+    }
+    b""
+}
+
+/// The words from a place on, counted from 0.
+pub fn words_behind(alloc: Global, words: &Words, first: usize) -> Result<Words, AllocError> {
+    let mut rest = Words::new(alloc);
+    for i in first..words.len() {
+        if rest.len() < MOST_WORDS {
+            rest.push(words.word(i))?;
+        }
+    }
+    Ok(rest)
+}
+
+/// The number that a word is: in decimal digits, or behind `0x` in hexadecimal ones.
+pub fn number_of(word: &[u8]) -> Option<u128> {
+    match word.strip_prefix(b"0x") {
+        Some(digits) => number_in(digits, 16),
+        None => number_in(word, 10),
+    }
+}
+
+/// The number that digits are in a base.
+fn number_in(digits: &[u8], base: u8) -> Option<u128> {
+    if digits.is_empty() {
+        return None;
+    }
+    let mut number = 0u128;
+    for digit in digits {
+        let value = digit_of(*digit)?;
+        if value >= base {
+            return None;
+        }
+        number = number
+            .checked_mul(u128::from(base))?
+            .checked_add(u128::from(value))?;
+    }
+    Some(number)
+}
+
+/// Where a byte of a text stands: alone, behind a backslash, or in what such a one begins.
+#[derive(Clone, Copy)]
+enum Place {
+    Plain,
+    Backslash,
+    HighDigit,
+    LowDigit(u8),
+    Count(usize),
+}
+
+/// The bytes of a text so far.
+#[derive(Drop)]
+struct Unescaped {
+    bytes: Vec<u8>,
+    place: Place,
+}
+
+/// The bytes that a text stands for: `\n` is a line's end, `\s` a space, `\e` nothing, `\x` and two
+/// hexadecimal digits that byte, a byte and `\{n}` that byte n times, and a backslash and another byte
+/// that byte.
+pub(crate) fn bytes_of(alloc: Global, text: &[u8]) -> Result<Vec<u8>, AllocError> {
+    let mut unescaped = Unescaped {
+        bytes: Vec::new(alloc),
+        place: Place::Plain,
+    };
+    for byte in text {
+        unescaped.add(*byte)?;
+    }
+    Ok(unescaped.bytes)
+}
+
+impl Unescaped {
+    fn add(&mut self, byte: u8) -> Result<(), AllocError> {
+        match (self.place, byte) {
+            (Place::Plain, b'\\') => self.place = Place::Backslash,
+            (Place::Plain, _) => self.add_times(1, byte)?,
+            (Place::Backslash, b'x') => self.place = Place::HighDigit,
+            (Place::Backslash, b'{') => self.place = Place::Count(0),
+            (Place::Backslash, _) => self.add_escape(byte)?,
+            (Place::HighDigit, _) => self.place = Place::LowDigit(digit_value(byte)),
+            (Place::LowDigit(high), _) => self.add_times(1, (high << 4) | digit_value(byte))?,
+            (Place::Count(times), b'}') => self.repeat(times)?,
+            (Place::Count(times), _) => self.place = Place::Count(next_count(times, byte)),
+        }
+        Ok(())
+    }
+
+    /// Adds what a backslash and this byte stand for.
+    fn add_escape(&mut self, byte: u8) -> Result<(), AllocError> {
+        match byte {
+            b'e' => self.add_times(0, byte),
+            b'n' => self.add_times(1, b'\n'),
+            b's' => self.add_times(1, b' '),
+            _ => self.add_times(1, byte),
+        }
+    }
+
+    /// Has the last byte stand so many times.
+    fn repeat(&mut self, times: usize) -> Result<(), AllocError> {
+        match self.bytes.pop() {
+            Some(byte) => self.add_times(times, byte),
+            None => self.add_times(0, 0),
+        }
+    }
+
+    /// Adds a byte so many times.
+    fn add_times(&mut self, times: usize, byte: u8) -> Result<(), AllocError> {
+        for _ in 0..times {
+            self.bytes.push(byte)?;
+        }
+        self.place = Place::Plain;
+        Ok(())
+    }
+}
+
+/// A count with one more digit.
+fn next_count(count: usize, digit: u8) -> usize {
+    let tens = count.saturating_mul(10);
+    tens.saturating_add(digit_value(digit) as usize)
+        .min(MOST_TIMES)
+}
+
+/// The value of a hexadecimal digit; 0 of another byte.
+fn digit_value(digit: u8) -> u8 {
+    digit_of(digit).unwrap_or(0)
+}
+
+fn digit_of(digit: u8) -> Option<u8> {
+    match digit {
+        b'0'..=b'9' => Some(digit - b'0'),
+        b'a'..=b'f' => Some(digit - b'a' + 10),
+        _ => None,
+    }
+}
