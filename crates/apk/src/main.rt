@@ -1,7 +1,7 @@
 //! The program `apk`: the top call over the folder that it runs in and the two standard streams.
 //!
-//! This crate is trusted, as is `host_tree`: its tree and its sinks meet their traits, and what the host did of it is not
-//! seen by a proof. All else is decided below it.
+//! This crate is trusted, as is `host_tree`: its tree and its sinks meet their traits, and what the
+//! host did of it is not seen by a proof. All else is decided below it.
 #![tactic(auto)]
 
 mod stream;

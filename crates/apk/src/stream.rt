@@ -45,8 +45,8 @@ impl<W: Write + Drop> Sink for HostSink<W> {
     }
 }
 
-/// How much of a piece the host took, at least one byte, or None where it failed. A write that a signal interrupts is
-/// tried again.
+/// How much of a piece the host took, at least one byte, or None where it failed. A write that a
+/// signal interrupts is tried again.
 fn write_some<W: Write>(inner: &mut W, piece: &[u8]) -> Option<usize>
     ensures { IfSome result (λ n. (0 < n) × (n ≤ length piece.now)) }
 {

@@ -58,10 +58,7 @@ pub enum HostFault {
     /// The host's own reason.
     Host(io::Error),
     /// A reason of this program, and the path that it holds of, where that is not the call's own.
-    Own {
-        reason: Reason,
-        at: Option<Vec<u8>>,
-    },
+    Own { reason: Reason, at: Option<Vec<u8>> },
 }
 
 impl HostFault {
@@ -70,7 +67,8 @@ impl HostFault {
         HostFault::Own { reason, at: None }
     }
 
-    /// A reason of this program that holds of a path. Where there is no memory for the path it goes untold.
+    /// A reason of this program that holds of a path. Where there is no memory for the path it goes
+    /// untold.
     pub fn at(alloc: Global, reason: Reason, path: &[u8]) -> HostFault {
         HostFault::Own {
             reason,
@@ -104,7 +102,8 @@ pub struct Failure {
 }
 
 impl Failure {
-    /// What is told of a call on a path, and on a second path or none. Where there is no memory a path goes untold.
+    /// What is told of a call on a path, and on a second path or none. Where there is no memory a
+    /// path goes untold.
     pub fn new(
         alloc: Global,
         call: &'static str,
@@ -120,7 +119,8 @@ impl Failure {
         }
     }
 
-    /// Prints one line: `apk: CALL PATH: REASON`, or `apk: CALL PATH to TARGET: REASON`. A stream that fails ends it.
+    /// Prints one line: `apk: CALL PATH: REASON`, or `apk: CALL PATH to TARGET: REASON`. A stream
+    /// that fails ends it.
     pub fn print<W: Write>(&self, alloc: Global, to: &mut W) -> io::Result<()> {
         to.write_all(b"apk: ")?;
         to.write_all(self.call.as_bytes())?;

@@ -15,7 +15,8 @@ pub enum Found {
     File(LookedAt),
 }
 
-/// A regular file as it was looked at: its length in bytes, and what tells it from every other file of the host.
+/// A regular file as it was looked at: its length in bytes, and what tells it from every other file
+/// of the host.
 #[derive(Clone, Copy)]
 pub struct LookedAt {
     pub len: u64,
@@ -44,8 +45,8 @@ impl Found {
     }
 }
 
-/// What stands at a path itself, which the host takes as `host_path`. A symbolic link is not followed: it is a fault, as is
-/// all else that is neither a regular file nor a folder.
+/// What stands at a path itself, which the host takes as `host_path`. A symbolic link is not
+/// followed: it is a fault, as is all else that is neither a regular file nor a folder.
 pub fn look<R: Files>(
     rt: &R,
     alloc: Global,
@@ -76,7 +77,8 @@ pub fn is_same(a: &Metadata, b: &Metadata) -> bool {
     a.dev() == b.dev() && a.ino() == b.ino()
 }
 
-/// Whether an error says that there is nothing at a path; no file has a name that is too long for the host.
+/// Whether an error says that there is nothing at a path; no file has a name that is too long for
+/// the host.
 fn is_absence(kind: ErrorKind) -> bool {
     matches!(
         kind,

@@ -1,7 +1,8 @@
-//! Files of the host: what stands at a path, files that stay open, the lock on the folder that the program runs in, and why
-//! a call fails.
+//! Files of the host: what stands at a path, files that stay open, the lock on the folder that the
+//! program runs in, and why a call fails.
 //!
-//! This crate is trusted: no contract can say what a host does. It is to be read with `host_tree`, which stands on it.
+//! This crate is trusted: no contract can say what a host does. It is to be read with `host_tree`,
+//! which stands on it.
 #![tactic(auto)]
 
 mod failure;

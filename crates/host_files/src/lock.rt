@@ -21,7 +21,8 @@ const SLEEP_MILLISECONDS: u64 = 50;
 /// How often the lock is tried: for 60 seconds.
 const MOST_TRIES: u64 = 60_000 / SLEEP_MILLISECONDS;
 
-/// Waits until no other run stands in the way, 60 seconds at most. The lock holds until the file that is answered is closed.
+/// Waits until no other run stands in the way, 60 seconds at most. The lock holds until the file
+/// that is answered is closed.
 pub fn lock_root<R: Host>(rt: &R, lock: Lock) -> Result<File, HostFault> {
     let root = fs::open(rt, ".")?;
     for _ in 0..MOST_TRIES {

@@ -8,8 +8,8 @@ use std::fs;
 use std::fs::{File, OpenFile};
 use std::os::fd::AsRawFd;
 
-/// The fewest folders around a file at which it is reached through its open folder: the host walks a shorter path as fast
-/// as that detour.
+/// The fewest folders around a file at which it is reached through its open folder: the host walks
+/// a shorter path as fast as that detour.
 const DEEP: usize = 32;
 
 /// How many paths in a row stand in a folder until it is opened.
@@ -73,7 +73,8 @@ struct OpenFolder {
 }
 
 impl OpenFolder {
-    /// Opens a folder, or nothing where the host has no such path or shows something else there: the plain path serves too.
+    /// Opens a folder, or nothing where the host has no such path or shows something else there:
+    /// the plain path serves too.
     fn open<R: Host>(
         rt: &R,
         alloc: Global,

@@ -7,7 +7,8 @@ use std::alloc::Global;
 use std::fs::{File, OpenOptions};
 use std::io::{Read, Seek, SeekFrom, Write};
 
-/// An open file, with the path under which it was opened, its length, and where the next read goes on, if that is known.
+/// An open file, with the path under which it was opened, its length, and where the next read goes
+/// on, if that is known.
 #[derive(Drop)]
 pub struct Opened {
     path: Vec<u8>,
@@ -40,7 +41,10 @@ impl Opened {
     pub fn make<R: Host>(rt: &R, alloc: Global, path: &[u8]) -> Result<Opened, HostFault> {
         let copy = Vec::from_slice(alloc, path)?;
         let mut how = OpenOptions::new();
-        let file = how.append(true).create_new(true).open(rt, path_text(path)?)?;
+        let file = how
+            .append(true)
+            .create_new(true)
+            .open(rt, path_text(path)?)?;
         Ok(Opened {
             path: copy,
             file,

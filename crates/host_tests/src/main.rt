@@ -1,5 +1,5 @@
-//! Answers questions to `host_tree` on the folder that it runs in. Its stored run has all rows; `tests/lines.md` describes
-//! their form.
+//! Answers questions to `host_tree` on the folder that it runs in. Its stored run has all rows;
+//! `tests/lines.md` describes their form.
 #![tactic(auto)]
 
 use base_core::{Disk, Name, Tree, TreeFault, Words};
@@ -127,7 +127,8 @@ impl<'a, R: Host> HostFolder<'a, R> {
         }
     }
 
-    /// Asks the host itself: whether a path leads to something, to make a symbolic link there, or to take a file away.
+    /// Asks the host itself: whether a path leads to something, to make a symbolic link there, or
+    /// to take a file away.
     fn add_host_answer(
         &self,
         question: &[u8],

@@ -7,7 +7,8 @@ use std::fs;
 use std::fs::{Files, OpenFile};
 use std::io::ErrorKind;
 
-/// What is known of the folders below the root. Only this run writes there, so what was looked at once stays so.
+/// What is known of the folders below the root. Only this run writes there, so what was looked at
+/// once stays so.
 #[derive(Drop)]
 pub struct Folders {
     alloc: Global,
@@ -51,7 +52,8 @@ impl Folders {
         look(rt, alloc, path, self.host_path(rt, path)?)
     }
 
-    /// A path as the host takes it: the shorter way, where the folder that it stands in is the last one.
+    /// A path as the host takes it: the shorter way, where the folder that it stands in is the last
+    /// one.
     pub fn host_path<'b, R: Host>(
         &'b mut self,
         rt: &R,
@@ -61,7 +63,8 @@ impl Folders {
         if folder.is_empty() || !self.last.is(folder) {
             return path_text(path);
         }
-        self.last.host_path(rt, self.alloc, path, &path[folder.len() + 1..])
+        self.last
+            .host_path(rt, self.alloc, path, &path[folder.len() + 1..])
     }
 
     /// Makes the folders on the way to a path that are absent. A file on the way is a fault.
@@ -83,19 +86,16 @@ impl Folders {
         keep(&mut self.known, folder)
     }
 
-    /// Notes a folder whose names are to change. It is noted before they do, so that none is forgotten.
+    /// Notes a folder whose names are to change. It is noted before they do, so that none is
+    /// forgotten.
     pub fn note(&mut self, folder: &[u8]) -> Result<(), HostFault> {
         let folder = Vec::from_slice(self.alloc, folder)?;
         keep(&mut self.changed, folder)
     }
 
-    /// Takes folders away that hold nothing and stand where a file is to be. Where a file or anything else is below them
-    /// it is a fault, and nothing changes.
-    pub fn clear<R: Host>(
-        &mut self,
-        rt: &R,
-        path: &[u8],
-    ) -> Result<(), HostFault> {
+    /// Takes folders away that hold nothing and stand where a file is to be. Where a file or
+    /// anything else is below them it is a fault, and nothing changes.
+    pub fn clear<R: Host>(&mut self, rt: &R, path: &[u8]) -> Result<(), HostFault> {
         let folders = empty_tree(rt, self.alloc, path)?;
         for folder in folders.iter().rev() {
             self.note(parent_of(folder))?;
@@ -105,7 +105,8 @@ impl Folders {
         Ok(())
     }
 
-    /// Takes the folders away that a file was the last to stand in, the deepest first. The root stays.
+    /// Takes the folders away that a file was the last to stand in, the deepest first. The root
+    /// stays.
     pub fn prune<R: Files>(&mut self, rt: &R, path: &[u8]) -> Result<(), HostFault> {
         for i in (0..path.len()).rev() {
             if path[i] == b'/' && !self.take_away(rt, &path[..i])? {
@@ -204,12 +205,9 @@ fn keep(folders: &mut BTreeSet<Vec<u8>>, folder: Vec<u8>) -> Result<(), HostFaul
     }
 }
 
-/// The folders of a tree of folders that hold no file and nothing else, each behind the one that it stands in.
-fn empty_tree<R: Host>(
-    rt: &R,
-    alloc: Global,
-    root: &[u8],
-) -> Result<Vec<Vec<u8>>, HostFault> {
+/// The folders of a tree of folders that hold no file and nothing else, each behind the one that it
+/// stands in.
+fn empty_tree<R: Host>(rt: &R, alloc: Global, root: &[u8]) -> Result<Vec<Vec<u8>>, HostFault> {
     let mut folders = Vec::new(alloc);
     push(&mut folders, Vec::from_slice(alloc, root)?)?;
     for next in 0..usize::MAX {
@@ -225,11 +223,7 @@ fn empty_tree<R: Host>(
 }
 
 /// The folders in a folder that holds nothing else.
-fn folders_in<R: Host>(
-    rt: &R,
-    alloc: Global,
-    folder: &[u8],
-) -> Result<Vec<Vec<u8>>, HostFault> {
+fn folders_in<R: Host>(rt: &R, alloc: Global, folder: &[u8]) -> Result<Vec<Vec<u8>>, HostFault> {
     let mut found = Vec::new(alloc);
     for entry in fs::read_dir(rt, path_text(folder)?)? {
         let entry = entry?;
@@ -255,8 +249,9 @@ fn write_folder<R: Files>(rt: &R, folder: &[u8]) -> Result<(), HostFault> {
     Ok(fs::open(rt, path_text(path)?)?.sync_all()?)
 }
 
-/// Whether an error says that a folder is not empty, that another file system stands on it, or that the one around it may
-/// not be written, which the host may say before it looks whether the folder is empty.
+/// Whether an error says that a folder is not empty, that another file system stands on it, or that
+/// the one around it may not be written, which the host may say before it looks whether the folder
+/// is empty.
 fn stays(kind: ErrorKind) -> bool {
     matches!(
         kind,

@@ -1,8 +1,9 @@
 //! The folder that a program runs in, as a tree.
 //!
-//! This crate is trusted: no contract can say what a host does. It is to be read against the table in
-//! `docs/crash-safety.md`, "What the host's tree does".
+//! This crate is trusted: no contract can say what a host does. It is to be read against the table
+//! in `docs/crash-safety.md`, "What the host's tree does".
 #![tactic(auto)]
+
 ghost use Rattle.std.specs.Prelude.{◌≡◌, ◌≤◌, [], OnOk, OnErr, true};
 ghost use Rattle.base_core.specs.Faults.{next_count};
 ghost use Rattle.host_tree.specs.Host.{host_counts};
@@ -16,10 +17,11 @@ use host_files::{Failure, Host, HostFault, Lock};
 use root::Root;
 use std::alloc::Global;
 
-/// The folder that the program runs in. It tells nothing of its files; each call that answers a fault counts it.
+/// The folder that the program runs in. It tells nothing of its files; each call that answers a
+/// fault counts it.
 ///
-/// A symbolic link, as a name or on the way to it, is never followed and is a fault, and so is what is neither a regular
-/// file nor a folder.
+/// A symbolic link, as a name or on the way to it, is never followed and is a fault, and so is what
+/// is neither a regular file nor a folder.
 #[derive(Drop)]
 pub struct HostTree<'a, R: Host> {
     alloc: Global,
@@ -29,7 +31,8 @@ pub struct HostTree<'a, R: Host> {
 }
 
 impl<'a, R: Host> HostTree<'a, R> {
-    /// The tree of the folder that the program runs in. The host is asked at the first call on a file, and gives this lock then.
+    /// The tree of the folder that the program runs in. The host is asked at the first call on a
+    /// file, and gives this lock then.
     pub fn new(rt: &'a R, alloc: Global, lock: Lock) -> HostTree<'a, R>
         ensures { result.faults ≡ 0 }
     {
@@ -52,7 +55,13 @@ impl<'a, R: Host> HostTree<'a, R> {
     }
 
     /// Counts a fault, and keeps what failed, if it is the first.
-    fn note_failure(&mut self, call: &'static str, path: &[u8], target: &[u8], fault: HostFault) -> Disk
+    fn note_failure(
+        &mut self,
+        call: &'static str,
+        path: &[u8],
+        target: &[u8],
+        fault: HostFault,
+    ) -> Disk
         ensures faults { self.new.faults ≡ next_count self.old.faults }
         ensures later { self.old.faults ≤ self.new.faults }
     {
@@ -63,7 +72,8 @@ impl<'a, R: Host> HostTree<'a, R> {
         Disk
     }
 
-    /// What a call on a path answers, and on a second path or none, with its fault counted. Want of memory is a fault too.
+    /// What a call on a path answers, and on a second path or none, with its fault counted. Want of
+    /// memory is a fault too.
     fn note_answer<T>(
         &mut self,
         call: &'static str,
@@ -136,7 +146,10 @@ impl<'a, R: Host> Tree for HostTree<'a, R> {
         match self.root.list(alloc, folder) {
             Ok(names) => Ok(names),
             Err(HostFault::Memory) => Err(TreeFault::Memory),
-            Err(fault) => Err(self.note_failure("list", folder.as_bytes(), b"", fault).into()),
+            Err(fault) => {
+                let fault = self.note_failure("list", folder.as_bytes(), b"", fault);
+                Err(fault.into())
+            }
         }
     }
 }

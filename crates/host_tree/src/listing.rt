@@ -6,9 +6,9 @@ ghost use Rattle.std.specs.Ordering.{nat_cmp};
 ghost use Rattle.base_core.specs.Files.{IsFolderOf};
 ghost use Rattle.base_core.specs.Listed.{AreNamesBelow, IsRising};
 
-use host_files::{Found, Host, HostFault, Reason, path_text};
 use super::folders::Folders;
 use base_core::{Name, Names, is_folder_of};
+use host_files::{Found, Host, HostFault, Reason, path_text};
 use std::alloc::{AllocError, Global};
 use std::fs;
 
@@ -36,7 +36,7 @@ pub fn list_below<R: Host>(
         known.keep_known(next.as_bytes())?;
         walk.visit(rt, known, folder, &next)?;
     }
-    Ok(walk.sorted()?)
+    Ok(walk.into_names()?)
 }
 
 /// The folders that are still to be visited, and the files that were found.
@@ -66,8 +66,8 @@ impl Walk {
         Ok(())
     }
 
-    /// Keeps what stands at a path. A path that is no name is a fault, so the walk is as deep as a name at most, and so is
-    /// a path that is not below the root.
+    /// Keeps what stands at a path. A path that is no name is a fault, so the walk is as deep as a
+    /// name at most, and so is a path that is not below the root.
     fn meet<R: Host>(
         &mut self,
         rt: &R,
@@ -91,8 +91,9 @@ impl Walk {
         }
     }
 
-    /// The files that were found, in byte order, each once: a host that changes under a walk may show one twice.
-    fn sorted(mut self) -> Result<Names, AllocError>
+    /// The files that were found, in byte order, each once: a host that changes under a walk may
+    /// show one twice.
+    fn into_names(mut self) -> Result<Names, AllocError>
         ensures { (root : List ℕ) → All (IsFolderOf root) self.files.items → IfOk result (AreNamesBelow root) }
     {
         self.files.sort_by(|a, b| a.as_bytes().cmp(b.as_bytes()))?;

@@ -2,18 +2,19 @@
 ghost use Rattle.std.specs.Prelude.{IfOk};
 ghost use Rattle.base_core.specs.Listed.{AreNamesBelow};
 
-use host_files::{
-    Found, Host, HostFault, Lock, LookedAt, Opened, Reason, close, is_open, lock_root, look, parent_of, path_text,
-};
 use super::folders::Folders;
 use super::listing::list_below;
 use base_core::{Name, Names};
+use host_files::{
+    Found, Host, HostFault, Lock, LookedAt, Opened, Reason, close, is_open, lock_root, look,
+    parent_of, path_text,
+};
 use std::alloc::Global;
 use std::fs;
 use std::fs::{File, OpenOptions};
 
-/// The root. From its first call on it holds a lock on the folder, so that it is the only run of this program that writes
-/// there.
+/// The root. From its first call on it holds a lock on the folder, so that it is the only run of
+/// this program that writes there.
 #[derive(Drop)]
 pub struct Root<'a, R: Host> {
     rt: &'a R,
@@ -27,8 +28,9 @@ pub struct Root<'a, R: Host> {
     // The file that was looked at last, unless something was written since.
     seen: Option<(Vec<u8>, LookedAt)>,
     folders: Folders,
-    // Whether the host once failed to write something through, or to cut off the front of a piece. It may have dropped
-    // what it could not write, so that a second try would succeed for nothing: it is not believed again.
+    // Whether the host once failed to write something through, or to cut off the front of a piece.
+    // It may have dropped what it could not write, so that a second try would succeed for nothing:
+    // it is not believed again.
     has_lost: bool,
     // The target of a rename that is not written through yet.
     unsynced_target: Option<Vec<u8>>,
@@ -50,7 +52,8 @@ impl<'a, R: Host> Root<'a, R> {
         }
     }
 
-    /// The name that may have its new file although the run failed: it was renamed, and that was not written through.
+    /// The name that may have its new file although the run failed: it was renamed, and that was
+    /// not written through.
     pub fn unsynced_target(&self) -> Option<&[u8]> {
         match &self.unsynced_target {
             Some(name) => Some(name),
@@ -114,8 +117,8 @@ impl<'a, R: Host> Root<'a, R> {
         }
     }
 
-    /// Makes an empty file at a path, which stays open, with the folders on the way to it. Folders that hold nothing give
-    /// way; what else stands there stays, and is a fault.
+    /// Makes an empty file at a path, which stays open, with the folders on the way to it. Folders
+    /// that hold nothing give way; what else stands there stays, and is a fault.
     pub fn begin(&mut self, path: &[u8]) -> Result<(), HostFault> {
         self.enter()?;
         self.seen = None;
@@ -136,7 +139,9 @@ impl<'a, R: Host> Root<'a, R> {
         close(&mut self.reader, path);
         if !is_open(&self.writer, path) {
             let looked_at = self.look_at(path)?;
-            let file = OpenOptions::new().append(true).open(self.rt, path_text(path)?)?;
+            let file = OpenOptions::new()
+                .append(true)
+                .open(self.rt, path_text(path)?)?;
             self.writer = Some(Opened::of(self.alloc, path, file, looked_at)?);
         }
         self.seen = None;
@@ -146,7 +151,8 @@ impl<'a, R: Host> Root<'a, R> {
         }
     }
 
-    /// Adds a piece to the file at a path. Where that fails, the front of the piece that was written is cut off again.
+    /// Adds a piece to the file at a path. Where that fails, the front of the piece that was
+    /// written is cut off again.
     pub fn add(&mut self, path: &[u8], piece: &[u8]) -> Result<(), HostFault> {
         self.enter()?;
         let writer = self.open_to_write(path)?;
@@ -166,7 +172,8 @@ impl<'a, R: Host> Root<'a, R> {
         written
     }
 
-    /// Lets `to` lead to the file of `from`, in one step of the host. Folders at `to` that hold nothing give way.
+    /// Lets `to` lead to the file of `from`, in one step of the host. Folders at `to` that hold
+    /// nothing give way.
     pub fn move_file(&mut self, from: &[u8], to: &[u8]) -> Result<(), HostFault> {
         self.enter()?;
         self.forget(from);

@@ -5,7 +5,7 @@ use Rattle.std.proofs.lemmas.Cmp.{nat_list_cmp_total}
 use Rattle.std.proofs.lemmas.List.Sorted.{All-permutation, answers_always, ranks_by}
 use Rattle.base_core.specs.Files.{IsFolderOf}
 use Rattle.host_tree.proofs.NamesInOrder.{below_each}
-use Rattle.host_tree.proofs.listing.Walk.sorted.Goals as goal
+use Rattle.host_tree.proofs.listing.Walk.into_names.Goals as goal
 
 pub each_once-requires : goal.each_once-requires
 each_once-requires c =
