@@ -101,3 +101,11 @@ pub fn parent_of(path: &[u8]) -> &[u8] {
         None => &[],
     }
 }
+
+/// What a path has behind its folder.
+pub fn last_part_of(path: &[u8]) -> &[u8] {
+    match path.iter().rposition(|byte| *byte == b'/') {
+        Some(end) => &path[end + 1..],
+        None => path,
+    }
+}

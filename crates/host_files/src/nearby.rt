@@ -2,7 +2,7 @@
 
 use super::Host;
 use super::failure::HostFault;
-use super::found::{is_same, path_text};
+use super::found::{is_same, last_part_of, path_text};
 use std::alloc::Global;
 use std::fs;
 use std::fs::{File, OpenFile};
@@ -39,20 +39,19 @@ impl LastFolder {
         self.path.as_slice() == path
     }
 
-    /// A path in this folder as the host takes it, whose last part is given too.
+    /// A path in this folder as the host takes it.
     pub fn host_path<'b, R: Host>(
         &'b mut self,
         rt: &R,
         alloc: Global,
         path: &'b [u8],
-        part: &[u8],
     ) -> Result<&'b str, HostFault> {
         self.paths = self.paths.saturating_add(1);
         if self.paths == PATHS_IN_A_ROW && is_deep(&self.path) {
             self.opened = OpenFolder::open(rt, alloc, &self.path)?;
         }
         match &mut self.opened {
-            Some(folder) => folder.path_to(part),
+            Some(folder) => folder.path_to(last_part_of(path)),
             None => path_text(path),
         }
     }

@@ -63,8 +63,7 @@ impl Folders {
         if folder.is_empty() || !self.last.is(folder) {
             return path_text(path);
         }
-        self.last
-            .host_path(rt, self.alloc, path, &path[folder.len() + 1..])
+        self.last.host_path(rt, self.alloc, path)
     }
 
     /// Makes the folders on the way to a path that are absent. A file on the way is a fault.
