@@ -5,12 +5,15 @@
 //! (moments at which nothing happens to the state) of `specs/`.
 #![tactic(auto)]
 
+mod calls;
 mod laws;
 mod replacing;
 
+pub use journal_intent::{
+    an_intent_is_read_from_a_sound_container, each_waiting_file_has_its_own_name,
+};
 pub use laws::{
     Journal, a_crash_leaves_an_orderly_settled_tree, an_image_has_the_state_of_its_map,
-    an_intent_is_read_from_a_sound_container, each_waiting_file_has_its_own_name,
     more_names_may_be_ignored, old_or_new_then_quiet_is_old_or_new, quiet_moments_join,
     quiet_then_old_or_new_is_old_or_new, settled_then_old_or_new_is_one_of_two,
     settled_then_quiet_is_settled, still_moments_join, the_files_as_read_have_the_settled_state,
