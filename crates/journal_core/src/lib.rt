@@ -5,9 +5,13 @@
 //! (moments at which nothing happens to the state) of `specs/`.
 #![tactic(auto)]
 
+mod acting;
 mod calls;
 mod laws;
+mod publishing;
+mod recovering;
 mod replacing;
+mod stage;
 
 pub use journal_intent::{
     an_intent_is_read_from_a_sound_container, each_waiting_file_has_its_own_name,
@@ -19,4 +23,6 @@ pub use laws::{
     settled_then_quiet_is_settled, still_moments_join, the_files_as_read_have_the_settled_state,
     what_is_not_synced_is_not_safe,
 };
+pub use recovering::{RecoverFault, recover};
 pub use replacing::replace;
+pub use stage::Stage;
