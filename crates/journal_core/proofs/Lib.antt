@@ -19,6 +19,7 @@ pub mod History
 pub mod Images
 pub mod Joined
 pub mod More
+pub mod OnTheWay
 pub mod OneCall
 pub mod Proper
 pub mod Published
