@@ -1,7 +1,7 @@
-//! Answers questions to `base_core` and `tree_memory`: names and lists of them, a sink in memory, and
-//! a tree in memory with its misuses, its planned failures and what a crash leaves of it. Its stored
-//! run has all rows; `tests/lines.md` describes their form. The tree and the sink stay from one row to
-//! the next.
+//! Answers questions to `base_core` and `tree_memory`: names and lists of them, a sink in memory,
+//! and a tree in memory with its misuses, its planned failures and what a crash leaves of it. Its
+//! stored run has all rows; `tests/lines.md` describes their form. The tree and the sink stay from
+//! one row to the next.
 #![tactic(auto)]
 
 mod calls;

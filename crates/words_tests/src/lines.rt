@@ -18,8 +18,8 @@ pub fn add_place(alloc: Global, line: &Words, answer: &mut Vec<u8>) -> Result<()
     }
 }
 
-/// Adds the place that offends in the words behind the number of `N WORD WORD ..`, of which the second
-/// stands so many times, and how many operands a command of them has.
+/// Adds the place that offends in the words behind the number of `N WORD WORD ..`, of which the
+/// second stands so many times, and how many operands a command of them has.
 pub fn add_many(alloc: Global, words: &Words, answer: &mut Vec<u8>) -> Result<(), AllocError> {
     let many = many_words(alloc, words)?;
     add_place(alloc, &many, answer)?;
