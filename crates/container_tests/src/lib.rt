@@ -1,9 +1,8 @@
-//! Tests of `adb_block`, `adb_write` and `pkg_core`, one row a line: blocks, written payloads, and
-//! packages. The texts of `adb_dump` and the refusals of `verify` are rows of the program `rows`.
+//! Tests of `adb_write` and `pkg_core`, one row a line: written payloads, and packages. Those of
+//! `adb_block` are rows of the program `block_tests`; the texts of `adb_dump` and the refusals of
+//! `verify` are rows of the program `rows`.
 #![tactic(auto)]
 
-#[cfg(test)]
-mod blocks;
 #[cfg(test)]
 mod packages;
 #[cfg(test)]

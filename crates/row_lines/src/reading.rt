@@ -93,8 +93,8 @@ struct Unescaped {
 }
 
 /// The bytes that a text stands for: `\n` is a line's end, `\s` a space, `\e` nothing, `\x` and two
-/// hexadecimal digits that byte, a byte and `\{n}` that byte n times, and a backslash and another byte
-/// that byte.
+/// hexadecimal digits that byte, a byte and `\{n}` that byte n times, and a backslash and another
+/// byte that byte.
 pub(crate) fn bytes_of(alloc: Global, text: &[u8]) -> Result<Vec<u8>, AllocError> {
     let mut unescaped = Unescaped {
         bytes: Vec::new(alloc),

@@ -1,67 +1,51 @@
-//! Names, words and lists of names.
-use base_core::{Name, Names, Text, Words};
-use std::test::Fail;
+//! Names and lists of them.
+use base_core::{Name, Names, Words};
+use row_lines::{add_number, add_word, add_yes_or_no, number_of, word_at};
+use std::alloc::{AllocError, Global};
 
-// Bytes, and whether they are a name.
-#[derive(Clone, Copy)]
-struct Row(&'static [u8], bool);
+/// Adds whether bytes are a name, which lends them, and so does its copy.
+pub fn add_is_name(alloc: Global, words: &Words, answer: &mut Vec<u8>) -> Result<(), AllocError> {
+    let bytes = word_at(words, 1);
+    match Name::read(alloc, bytes)? {
+        Some(name) => {
+            let copied = name.copy(alloc)?;
+            add_yes_or_no(
+                answer,
+                name.as_bytes() == bytes && copied.as_bytes() == bytes,
+            )
+        }
+        None => add_yes_or_no(answer, false),
+    }
+}
 
-#[rattlefmt::skip]
-const ROWS: [Row; 18] = [
-    Row(b"a", true),
-    Row(b"a/b", true),
-    Row(b"...", true),
-    Row(b".a/b..", true),
-    Row(b"\xc3\xa9", true),
-    Row(b"-", true),
-    Row(b"", false),
-    Row(b"/", false),
-    Row(b"/a", false),
-    Row(b"a/", false),
-    Row(b"a//b", false),
-    Row(b".", false),
-    Row(b"..", false),
-    Row(b"a/.", false),
-    Row(b"../a", false),
-    Row(b"a\0b", false),
-    Row(b"\xff", false),
-    Row(b"\xc3", false),
-];
+/// The name that a word is; none where it is no name.
+pub fn name_at(alloc: Global, words: &Words, i: usize) -> Result<Option<Name>, AllocError> {
+    Name::read(alloc, word_at(words, i))
+}
 
-#[test]
-fn names(rt: HostRuntime) -> Result<(), Fail> {
-    for row in ROWS {
-        let name = Name::read(rt.alloc(), row.0)?;
-        assert_eq!(rt; name.is_some(), row.1);
-        if let Some(name) = name {
-            assert_eq!(rt; name.as_bytes(), row.0);
-            assert_eq!(rt; name.copy(rt.alloc())?.as_bytes(), row.0);
+/// The number that a word is; 0 where it is none.
+pub fn long_at(words: &Words, i: usize) -> u64 {
+    number_of(word_at(words, i))
+        .and_then(|number| u64::try_from(number).ok())
+        .unwrap_or(0)
+}
+
+/// Lists the words that are names, and adds how many there are, and each.
+pub fn add_names(alloc: Global, words: &Words, answer: &mut Vec<u8>) -> Result<(), AllocError> {
+    let mut names = Names::new(alloc);
+    for i in 1..words.len() {
+        if let Some(name) = name_at(alloc, words, i)? {
+            names.push(name)?;
         }
     }
-    Ok(())
+    add_number(alloc, answer, names.len() as u128)?;
+    add_each(&names, answer)
 }
 
-#[test]
-fn a_name_has_at_most_1024_bytes(rt: HostRuntime) -> Result<(), Fail> {
-    let long = vec![in rt.alloc(); b'a'; 1025]?;
-    assert!(rt; Name::read(rt.alloc(), &long[..1024])?.is_some());
-    assert!(rt; Name::read(rt.alloc(), &long)?.is_none());
-    Ok(())
-}
-
-#[test]
-fn lists(rt: HostRuntime) -> Result<(), Fail> {
-    let mut words = Words::new(rt.alloc());
-    assert!(rt; words.is_empty());
-    words.push(b"verify")?;
-    assert_eq!(rt; words.len(), 1);
-    assert_eq!(rt; words.word(0), b"verify".as_slice());
-    let text = Text::of(rt.alloc(), b"a\0")?;
-    assert_eq!(rt; text.as_bytes(), b"a\0".as_slice());
-    let mut names = Names::new(rt.alloc());
-    assert!(rt; names.is_empty());
-    names.push(Name::read(rt.alloc(), b"a")?.ok_or("a name")?)?;
-    assert_eq!(rt; names.len(), 1);
-    assert_eq!(rt; names.get(0).as_bytes(), b"a".as_slice());
+/// Adds each name of a list.
+pub fn add_each(names: &Names, answer: &mut Vec<u8>) -> Result<(), AllocError> {
+    for i in 0..names.len() {
+        add_word(answer, names.get(i).as_bytes())?;
+    }
     Ok(())
 }

@@ -1,5 +1,6 @@
-//! Answers questions to `version_core` and `dep_core`: versions and their order, dependencies, worlds
-//! and lists of repositories. Its stored run has all rows; `tests/lines.md` describes their form.
+//! Answers questions to `version_core` and `dep_core`: versions and their order, dependencies,
+//! worlds and lists of repositories. Its stored run has all rows; `tests/lines.md` describes their
+//! form.
 #![tactic(auto)]
 
 mod dependencies;

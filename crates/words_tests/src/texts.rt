@@ -1,246 +1,329 @@
 //! The lines of refusals and causes, and reports.
-use base_core::{Cause, Digest, Name, Text};
+use base_core::{Cause, Digest, Name, Text, Words};
 use report_core::{Refusal, Report, write_error};
-use std::alloc::Global;
-use std::process::Abort;
-use std::test::Fail;
+use row_lines::{number_of, value_named, word_at, words_behind};
+use std::alloc::{AllocError, Global};
 use tree_memory::MemorySink;
 
-// The digests of the bytes `abc` (FIPS 180-4).
-const ABC_SHA1: [u8; 20] = [
-    0xa9, 0x99, 0x3e, 0x36, 0x47, 0x06, 0x81, 0x6a, 0xba, 0x3e, 0x25, 0x71, 0x78, 0x50, 0xc2, 0x6c,
-    0x9c, 0xd0, 0xd8, 0x9d,
-];
+/// Adds the pieces of a report, one behind another: a word of digits is a number, another is text.
+pub fn add_report(alloc: Global, words: &Words, answer: &mut Vec<u8>) -> Result<(), AllocError> {
+    let mut report = Report::new(alloc);
+    for i in 0..words.len() {
+        match number_of(words.word(i)) {
+            Some(number) => report.number(number)?,
+            None => report.push(words.word(i))?,
+        }
+    }
+    answer.extend_from_slice(report.bytes())
+}
 
-const ABC_SHA256: [u8; 32] = [
-    0xba, 0x78, 0x16, 0xbf, 0x8f, 0x01, 0xcf, 0xea, 0x41, 0x41, 0x40, 0xde, 0x5d, 0xae, 0x22, 0x23,
-    0xb0, 0x03, 0x61, 0xa3, 0x96, 0x17, 0x7a, 0x9c, 0xb4, 0x10, 0xff, 0x61, 0xf2, 0x00, 0x15, 0xad,
-];
+/// Adds the line of a refusal: its name, and its fields in order.
+pub fn add_refusal(alloc: Global, words: &Words, answer: &mut Vec<u8>) -> Result<(), AllocError> {
+    let Some(refusal) = refusal_of(alloc, words)? else {
+        return answer.extend_from_slice(b"no refusal");
+    };
+    let mut page = MemorySink::new(alloc);
+    if write_error(&refusal, &mut page).is_err() {
+        return Err(AllocError);
+    }
+    answer.extend_from_slice(page.bytes())
+}
 
-const ABC_SHA512: [u8; 64] = [
-    0xdd, 0xaf, 0x35, 0xa1, 0x93, 0x61, 0x7a, 0xba, 0xcc, 0x41, 0x73, 0x49, 0xae, 0x20, 0x41, 0x31,
-    0x12, 0xe6, 0xfa, 0x4e, 0x89, 0xa9, 0x7e, 0xa2, 0x0a, 0x9e, 0xee, 0xe6, 0x4b, 0x55, 0xd3, 0x9a,
-    0x21, 0x92, 0x99, 0x2a, 0x27, 0x4f, 0xc1, 0xa8, 0x36, 0xba, 0x3c, 0x23, 0xa3, 0xfe, 0xeb, 0xbd,
-    0x45, 0x4d, 0x44, 0x23, 0x64, 0x3c, 0xe8, 0x0e, 0x2a, 0x9a, 0xc9, 0x4f, 0xa5, 0x4c, 0xa4, 0x9f,
-];
+/// A refusal's variant.
+#[derive(Clone, Copy)]
+enum Named {
+    Usage,
+    FileMissing,
+    VersionBad,
+    InfoBad,
+    NotInstalled,
+    WorldBad,
+    RepositoriesBad,
+    IndexMissing,
+    TooMany,
+    ResultTooLarge,
+    NoDatabase,
+    Untrusted,
+    Unsatisfied,
+    IntentBad,
+    DatabaseBad,
+    IndexBad,
+    FileBad,
+    PackageMissing,
+    PackageBad,
+    PackageDiffers,
+    ScriptNeeded,
+    TriggerNeeded,
+    Reserved,
+    PathClash,
+    Owned,
+}
 
 #[rattlefmt::skip]
-const CAUSES: [(Cause, &[u8]); 17] = [
-    (Cause::NotAdb, b"ERROR: word 2: not an ADB file\n"),
-    (Cause::Compressed, b"ERROR: word 2: compressed ADB file\n"),
-    (Cause::Truncated { at: 18446744073709551615 }, b"ERROR: word 2: truncated at 18446744073709551615\n"),
-    (Cause::BlockOrder { at: 56 }, b"ERROR: word 2: block out of order at 56\n"),
-    (Cause::CompatVersion, b"ERROR: word 2: incompatible version\n"),
-    (Cause::WrongSchema { found: 0x676b6370 }, b"ERROR: word 2: wrong schema 676b6370\n"),
-    (Cause::Outside { word: 0x8000001e }, b"ERROR: word 2: value 8000001e points outside\n"),
-    (Cause::WrongKind { word: 0xa }, b"ERROR: word 2: value 0000000a has the wrong kind\n"),
-    (Cause::TooLarge { count: 4194305 }, b"ERROR: word 2: 4194305 values are too many\n"),
-    (Cause::BadText { place: 302 }, b"ERROR: word 2: bad field 302\n"),
-    (Cause::Repeated { place: 501, first: 1, second: 12 }, b"ERROR: word 2: field 501 repeated at 1 and 12\n"),
-    (Cause::DataOrder { expected: (1, 2), found: (3, 4) }, b"ERROR: word 2: contents 3.4 where 1.2 was expected\n"),
-    (Cause::DataSize { wanted: 3, found: 4 }, b"ERROR: word 2: contents of 4 bytes where 3 were expected\n"),
-    (Cause::HashDiffers { wanted: Digest::Sha1([0; 20]), found: Digest::Sha1(ABC_SHA1) }, b"ERROR: word 2: hash a9993e364706816aba3e25717850c26c9cd0d89d where 0000000000000000000000000000000000000000 was expected\n"),
-    (Cause::HashDiffers { wanted: Digest::Sha256([0; 32]), found: Digest::Sha256(ABC_SHA256) }, b"ERROR: word 2: hash ba7816bf8f01cfea414140de5dae2223b00361a396177a9cb410ff61f20015ad where 0000000000000000000000000000000000000000000000000000000000000000 was expected\n"),
-    (Cause::HashDiffers { wanted: Digest::Sha512([0xff; 64]), found: Digest::Sha512(ABC_SHA512) }, b"ERROR: word 2: hash ddaf35a193617abacc417349ae20413112e6fa4e89a97ea20a9eeee64b55d39a2192992a274fc1a836ba3c23a3feebbd454d4423643ce80e2a9ac94fa54ca49f where ffffffffffffffffffffffffffffffffffffffffffffffffffffffffffffffffffffffffffffffffffffffffffffffffffffffffffffffffffffffffffffffff was expected\n"),
-    (Cause::TextLine { line: 18446744073709551615 }, b"ERROR: word 2: bad line 18446744073709551615\n"),
+const REFUSALS: [(&[u8], Named); 25] = [
+    (b"usage", Named::Usage),
+    (b"file-missing", Named::FileMissing),
+    (b"version-bad", Named::VersionBad),
+    (b"info-bad", Named::InfoBad),
+    (b"not-installed", Named::NotInstalled),
+    (b"world-bad", Named::WorldBad),
+    (b"repositories-bad", Named::RepositoriesBad),
+    (b"index-missing", Named::IndexMissing),
+    (b"too-many", Named::TooMany),
+    (b"result-too-large", Named::ResultTooLarge),
+    (b"no-database", Named::NoDatabase),
+    (b"untrusted", Named::Untrusted),
+    (b"unsatisfied", Named::Unsatisfied),
+    (b"intent-bad", Named::IntentBad),
+    (b"database-bad", Named::DatabaseBad),
+    (b"index-bad", Named::IndexBad),
+    (b"file-bad", Named::FileBad),
+    (b"package-missing", Named::PackageMissing),
+    (b"package-bad", Named::PackageBad),
+    (b"package-differs", Named::PackageDiffers),
+    (b"script-needed", Named::ScriptNeeded),
+    (b"trigger-needed", Named::TriggerNeeded),
+    (b"reserved", Named::Reserved),
+    (b"path-clash", Named::PathClash),
+    (b"owned", Named::Owned),
 ];
 
-fn check(alloc: Global, rt: &impl Abort, refusal: &Refusal, line: &[u8]) -> Result<(), Fail> {
-    let mut page = MemorySink::new(alloc);
-    assert!(rt; write_error(refusal, &mut page).is_ok());
-    assert_eq!(rt; page.bytes(), line);
-    Ok(())
-}
-
-#[test]
-fn lines_of_causes(rt: HostRuntime) -> Result<(), Fail> {
-    for (cause, line) in &CAUSES {
-        let refusal = Refusal::FileBad {
-            place: 2,
-            cause: *cause,
-        };
-        check(rt.alloc(), &rt, &refusal, line)?;
+fn refusal_of(alloc: Global, words: &Words) -> Result<Option<Refusal>, AllocError> {
+    let Some(named) = value_named(&REFUSALS, word_at(words, 0)) else {
+        return Ok(None);
+    };
+    match named {
+        Named::IntentBad | Named::DatabaseBad | Named::IndexBad | Named::FileBad => {
+            refusal_with_cause(alloc, named, words)
+        }
+        Named::PackageMissing | Named::PackageBad | Named::PackageDiffers => {
+            refusal_of_package(alloc, named, words)
+        }
+        Named::ScriptNeeded | Named::TriggerNeeded => refusal_without_leave(alloc, named, words),
+        Named::Reserved | Named::PathClash | Named::Owned => refusal_of_path(alloc, named, words),
+        _ => Ok(refusal_with_numbers(named, words)),
     }
-    Ok(())
 }
 
-#[test]
-fn lines_of_refusals(rt: HostRuntime) -> Result<(), Fail> {
-    #[rattlefmt::skip]
-    let rows: [(Refusal, &[u8]); 17] = [
-        (Refusal::Usage { place: 4294967295 }, b"ERROR: usage error at word 4294967295\n"),
-        (Refusal::IntentBad { cause: Cause::NotAdb }, b"ERROR: lib/apk/intent: not an ADB file\n"),
-        (Refusal::FileMissing { place: 2 }, b"ERROR: word 2: no such file\n"),
-        (Refusal::FileBad { place: 2, cause: Cause::Compressed }, b"ERROR: word 2: compressed ADB file\n"),
-        (Refusal::VersionBad { place: 10 }, b"ERROR: word 10: invalid version\n"),
-        (Refusal::InfoBad { place: 3 }, b"ERROR: word 3: invalid package information\n"),
-        (Refusal::NoDatabase, b"ERROR: no package database\n"),
-        (Refusal::DatabaseBad { cause: Cause::CompatVersion }, b"ERROR: package database: incompatible version\n"),
-        (Refusal::WorldBad { line: 7 }, b"ERROR: etc/apk/world: line 7\n"),
-        (Refusal::RepositoriesBad { line: 1 }, b"ERROR: etc/apk/repositories: line 1\n"),
-        (Refusal::Untrusted, b"ERROR: repositories need --allow-untrusted\n"),
-        (Refusal::IndexMissing { repository: 2 }, b"ERROR: repository 2: no such index\n"),
-        (Refusal::IndexBad { repository: 1, cause: Cause::BlockOrder { at: 56 } }, b"ERROR: repository 1: block out of order at 56\n"),
-        (Refusal::TooMany { count: 65537 }, b"ERROR: 65537 candidates are too many\n"),
-        (Refusal::NotInstalled { place: 3 }, b"ERROR: word 3: not installed\n"),
-        (Refusal::Unsatisfied, b"ERROR: unable to select packages\n"),
-        (Refusal::ResultTooLarge { bytes: 268435456, values: 9 }, b"ERROR: result too large: 268435456 bytes, 9 values\n"),
-    ];
-    for (refusal, line) in &rows {
-        check(rt.alloc(), &rt, refusal, line)?;
+/// A refusal whose fields are numbers, if there are any.
+fn refusal_with_numbers(named: Named, words: &Words) -> Option<Refusal> {
+    let number = long_at(words, 1);
+    let place = int_at(words, 1);
+    let refusal = match named {
+        Named::Usage => Refusal::Usage { place },
+        Named::FileMissing => Refusal::FileMissing { place },
+        Named::VersionBad => Refusal::VersionBad { place },
+        Named::InfoBad => Refusal::InfoBad { place },
+        Named::NotInstalled => Refusal::NotInstalled { place },
+        Named::WorldBad => Refusal::WorldBad { line: number },
+        Named::RepositoriesBad => Refusal::RepositoriesBad { line: number },
+        Named::IndexMissing => Refusal::IndexMissing { repository: number },
+        Named::TooMany => Refusal::TooMany { count: number },
+        Named::ResultTooLarge => Refusal::ResultTooLarge {
+            bytes: number,
+            values: long_at(words, 2),
+        },
+        Named::NoDatabase => Refusal::NoDatabase,
+        Named::Untrusted => Refusal::Untrusted,
+        Named::Unsatisfied => Refusal::Unsatisfied,
+        _ => return None,
+    };
+    Some(refusal)
+}
+
+/// A refusal for a cause.
+fn refusal_with_cause(
+    alloc: Global,
+    named: Named,
+    words: &Words,
+) -> Result<Option<Refusal>, AllocError> {
+    let behind = match named {
+        Named::FileBad | Named::IndexBad => 2,
+        _ => 1,
+    };
+    let rest = words_behind(alloc, words, behind)?;
+    let Some(cause) = cause_of(&rest) else {
+        return Ok(None);
+    };
+    let place = int_at(words, 1);
+    let repository = long_at(words, 1);
+    Ok(Some(match named {
+        Named::IntentBad => Refusal::IntentBad { cause },
+        Named::DatabaseBad => Refusal::DatabaseBad { cause },
+        Named::IndexBad => Refusal::IndexBad { repository, cause },
+        _ => Refusal::FileBad { place, cause },
+    }))
+}
+
+/// A refusal of a package's file.
+fn refusal_of_package(
+    alloc: Global,
+    named: Named,
+    words: &Words,
+) -> Result<Option<Refusal>, AllocError> {
+    let cause = cause_of(&words_behind(alloc, words, 3)?);
+    let name = Text::of(alloc, word_at(words, 1))?;
+    let version = Text::of(alloc, word_at(words, 2))?;
+    match named {
+        Named::PackageDiffers => Ok(Some(Refusal::PackageDiffers {
+            name,
+            version,
+            field: short_at(words, 3),
+            wanted: Text::of(alloc, word_at(words, 4))?,
+            found: Text::of(alloc, word_at(words, 5))?,
+        })),
+        Named::PackageBad => Ok(cause.map(|cause| Refusal::PackageBad {
+            name,
+            version,
+            cause,
+        })),
+        _ => Ok(Some(Refusal::PackageMissing { name, version })),
     }
-    Ok(())
 }
 
-fn text(alloc: Global, bytes: &[u8]) -> Result<Text, Fail> {
-    Ok(Text::of(alloc, bytes)?)
+/// A refusal for want of `--no-scripts`.
+fn refusal_without_leave(
+    alloc: Global,
+    named: Named,
+    words: &Words,
+) -> Result<Option<Refusal>, AllocError> {
+    let name = Text::of(alloc, word_at(words, 1))?;
+    let script = short_at(words, 2);
+    Ok(Some(match named {
+        Named::ScriptNeeded => Refusal::ScriptNeeded { name, script },
+        _ => Refusal::TriggerNeeded { name },
+    }))
 }
 
-fn path(alloc: Global, bytes: &[u8]) -> Result<Name, Fail> {
-    Ok(Name::read(alloc, bytes)?.ok_or("a name")?)
+/// A refusal of a path.
+fn refusal_of_path(
+    alloc: Global,
+    named: Named,
+    words: &Words,
+) -> Result<Option<Refusal>, AllocError> {
+    let Some(path) = Name::read(alloc, word_at(words, 1))? else {
+        return Ok(None);
+    };
+    match named {
+        Named::Reserved => Ok(Some(Refusal::Reserved { path })),
+        Named::Owned => Ok(Some(Refusal::Owned {
+            path,
+            first: Text::of(alloc, word_at(words, 2))?,
+            second: Text::of(alloc, word_at(words, 3))?,
+        })),
+        _ => match Name::read(alloc, word_at(words, 2))? {
+            Some(other) => Ok(Some(Refusal::PathClash { path, other })),
+            None => Ok(None),
+        },
+    }
 }
 
-fn missing(alloc: Global) -> Result<Refusal, Fail> {
-    let (name, version) = (text(alloc, b"hello")?, text(alloc, b"1.0-r0")?);
-    Ok(Refusal::PackageMissing { name, version })
+/// A cause's variant.
+#[derive(Clone, Copy)]
+enum NamedCause {
+    NotAdb,
+    Compressed,
+    CompatVersion,
+    Truncated,
+    BlockOrder,
+    TextLine,
+    DataSize,
+    HashDiffers,
+    WrongSchema,
+    Outside,
+    WrongKind,
+    TooLarge,
+    BadText,
+    Repeated,
+    DataOrder,
 }
 
-fn bad(alloc: Global) -> Result<Refusal, Fail> {
-    let (name, version) = (text(alloc, b"hello")?, text(alloc, b"1.0-r0")?);
-    let cause = Cause::BadText { place: 302 };
-    Ok(Refusal::PackageBad {
-        name,
-        version,
-        cause,
+#[rattlefmt::skip]
+const CAUSES: [(&[u8], NamedCause); 15] = [
+    (b"not-adb", NamedCause::NotAdb),
+    (b"compressed", NamedCause::Compressed),
+    (b"compat-version", NamedCause::CompatVersion),
+    (b"truncated", NamedCause::Truncated),
+    (b"block-order", NamedCause::BlockOrder),
+    (b"text-line", NamedCause::TextLine),
+    (b"data-size", NamedCause::DataSize),
+    (b"hash-differs", NamedCause::HashDiffers),
+    (b"wrong-schema", NamedCause::WrongSchema),
+    (b"outside", NamedCause::Outside),
+    (b"wrong-kind", NamedCause::WrongKind),
+    (b"too-large", NamedCause::TooLarge),
+    (b"bad-text", NamedCause::BadText),
+    (b"repeated", NamedCause::Repeated),
+    (b"data-order", NamedCause::DataOrder),
+];
+
+/// The cause of these words: its name, and its fields in order.
+fn cause_of(words: &Words) -> Option<Cause> {
+    let long = long_at(words, 1);
+    let int = int_at(words, 1);
+    let place = short_at(words, 1);
+    let cause = match value_named(&CAUSES, word_at(words, 0))? {
+        NamedCause::NotAdb => Cause::NotAdb,
+        NamedCause::Compressed => Cause::Compressed,
+        NamedCause::CompatVersion => Cause::CompatVersion,
+        NamedCause::Truncated => Cause::Truncated { at: long },
+        NamedCause::BlockOrder => Cause::BlockOrder { at: long },
+        NamedCause::TextLine => Cause::TextLine { line: long },
+        NamedCause::WrongSchema => Cause::WrongSchema { found: int },
+        NamedCause::Outside => Cause::Outside { word: int },
+        NamedCause::WrongKind => Cause::WrongKind { word: int },
+        NamedCause::TooLarge => Cause::TooLarge { count: int },
+        NamedCause::BadText => Cause::BadText { place },
+        NamedCause::Repeated => Cause::Repeated {
+            place,
+            first: int_at(words, 2),
+            second: int_at(words, 3),
+        },
+        NamedCause::DataOrder => Cause::DataOrder {
+            expected: (int, int_at(words, 2)),
+            found: (int_at(words, 3), int_at(words, 4)),
+        },
+        NamedCause::DataSize => Cause::DataSize {
+            wanted: long,
+            found: long_at(words, 2),
+        },
+        NamedCause::HashDiffers => hashes_differ(word_at(words, 1), word_at(words, 2))?,
+    };
+    Some(cause)
+}
+
+/// The cause that a file has another digest: two digests of 20, 32 or 64 bytes.
+fn hashes_differ(wanted: &[u8], found: &[u8]) -> Option<Cause> {
+    Some(Cause::HashDiffers {
+        wanted: digest_of(wanted)?,
+        found: digest_of(found)?,
     })
 }
 
-#[test]
-fn line_of_a_missing_package(rt: HostRuntime) -> Result<(), Fail> {
-    let line = b"ERROR: hello-1.0-r0: no such package file\n";
-    check(rt.alloc(), &rt, &missing(rt.alloc())?, line)
-}
-
-#[test]
-fn line_of_a_bad_package(rt: HostRuntime) -> Result<(), Fail> {
-    let line = b"ERROR: hello-1.0-r0: bad field 302\n";
-    check(rt.alloc(), &rt, &bad(rt.alloc())?, line)
-}
-
-#[test]
-fn line_of_a_trigger(rt: HostRuntime) -> Result<(), Fail> {
-    let name = text(rt.alloc(), b"man")?;
-    let line = b"ERROR: man: its trigger needs --no-scripts\n";
-    check(rt.alloc(), &rt, &Refusal::TriggerNeeded { name }, line)
-}
-
-// An id is printed in hexadecimal digits, a name and a version as they are.
-#[test]
-fn lines_of_packages_that_differ(rt: HostRuntime) -> Result<(), Fail> {
-    let rows: [(u16, &[u8], &[u8], &[u8]); 3] = [
-        (
-            3,
-            &[0xab, 0x01],
-            &[0xff],
-            b"ERROR: hello-1.0-r0: differs from its index: ab01, ff\n",
-        ),
-        (
-            1,
-            b"hello",
-            b"hullo",
-            b"ERROR: hello-1.0-r0: differs from its index: hello, hullo\n",
-        ),
-        (
-            2,
-            b"1.0-r0",
-            b"1.0-r1",
-            b"ERROR: hello-1.0-r0: differs from its index: 1.0-r0, 1.0-r1\n",
-        ),
-    ];
-    let alloc = rt.alloc();
-    for (field, wanted, found, line) in &rows {
-        let differs = Refusal::PackageDiffers {
-            name: text(alloc, b"hello")?,
-            version: text(alloc, b"1.0-r0")?,
-            field: *field,
-            wanted: text(alloc, wanted)?,
-            found: text(alloc, found)?,
-        };
-        check(alloc, &rt, &differs, line)?;
+fn digest_of(bytes: &[u8]) -> Option<Digest> {
+    if let Ok(bytes) = bytes.try_into() {
+        return Some(Digest::Sha1(bytes));
     }
-    Ok(())
-}
-
-#[test]
-fn lines_of_scripts(rt: HostRuntime) -> Result<(), Fail> {
-    let rows: [(u16, &[u8]); 8] = [
-        (1, b"ERROR: s: script trigger needs --no-scripts\n"),
-        (2, b"ERROR: s: script pre-install needs --no-scripts\n"),
-        (3, b"ERROR: s: script post-install needs --no-scripts\n"),
-        (4, b"ERROR: s: script pre-deinstall needs --no-scripts\n"),
-        (5, b"ERROR: s: script post-deinstall needs --no-scripts\n"),
-        (6, b"ERROR: s: script pre-upgrade needs --no-scripts\n"),
-        (7, b"ERROR: s: script post-upgrade needs --no-scripts\n"),
-        (8, b"ERROR: s: script 8 needs --no-scripts\n"),
-    ];
-    let alloc = rt.alloc();
-    for (script, line) in &rows {
-        let needed = Refusal::ScriptNeeded {
-            name: text(alloc, b"s")?,
-            script: *script,
-        };
-        check(alloc, &rt, &needed, line)?;
+    if let Ok(bytes) = bytes.try_into() {
+        return Some(Digest::Sha256(bytes));
     }
-    Ok(())
+    match bytes.try_into() {
+        Ok(bytes) => Some(Digest::Sha512(bytes)),
+        Err(_) => None,
+    }
 }
 
-#[test]
-fn line_of_a_reserved_name(rt: HostRuntime) -> Result<(), Fail> {
-    let path = path(rt.alloc(), b"etc/apk/world")?;
-    let line = b"ERROR: etc/apk/world: reserved name\n";
-    check(rt.alloc(), &rt, &Refusal::Reserved { path }, line)
+/// The number at a place; 0 where there is none.
+fn long_at(words: &Words, i: usize) -> u64 {
+    number_of(word_at(words, i))
+        .and_then(|number| u64::try_from(number).ok())
+        .unwrap_or(0)
 }
 
-fn clash(alloc: Global) -> Result<Refusal, Fail> {
-    let (path, other) = (path(alloc, b"usr")?, path(alloc, b"usr/x")?);
-    Ok(Refusal::PathClash { path, other })
+fn int_at(words: &Words, i: usize) -> u32 {
+    u32::try_from(long_at(words, i)).unwrap_or(0)
 }
 
-fn owned(alloc: Global, path: Name) -> Result<Refusal, Fail> {
-    let (first, second) = (text(alloc, b"p")?, text(alloc, b"q")?);
-    Ok(Refusal::Owned {
-        path,
-        first,
-        second,
-    })
-}
-
-#[test]
-fn line_of_a_clash(rt: HostRuntime) -> Result<(), Fail> {
-    let line = b"ERROR: usr: is a folder of usr/x\n";
-    check(rt.alloc(), &rt, &clash(rt.alloc())?, line)
-}
-
-#[test]
-fn line_of_two_owners(rt: HostRuntime) -> Result<(), Fail> {
-    let owned = owned(rt.alloc(), path(rt.alloc(), b"usr/x")?)?;
-    let line = b"ERROR: usr/x: p and q both have it\n";
-    check(rt.alloc(), &rt, &owned, line)
-}
-
-// Pieces and numbers, one behind another.
-#[test]
-fn reports(rt: HostRuntime) -> Result<(), Fail> {
-    let mut report = Report::new(rt.alloc());
-    assert!(rt; report.bytes().is_empty());
-    report.push(b"OK: ")?;
-    report.number(340282366920938463463374607431768211455)?;
-    report.push(b" bytes in ")?;
-    report.number(0)?;
-    report.push(b"")?;
-    assert_eq!(rt;
-        report.bytes(),
-        b"OK: 340282366920938463463374607431768211455 bytes in 0".as_slice()
-    );
-    Ok(())
+fn short_at(words: &Words, i: usize) -> u16 {
+    u16::try_from(long_at(words, i)).unwrap_or(0)
 }

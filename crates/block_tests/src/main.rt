@@ -1,0 +1,184 @@
+//! Answers questions to `adb_block`: the blocks of a container, which test fails first, and headers
+//! that are written. Its stored run has all rows; `tests/lines.md` describes their form.
+#![tactic(auto)]
+
+use adb_block::{Block, BlockKind, Blocks, block_head};
+use base_core::{Cause, Words};
+use row_lines::{Subject, add_number, add_word, number_of, run_lines, value_named, word_at};
+use std::alloc::{AllocError, Global};
+use std::io;
+use std::io::{Read, Write};
+use std::process::ExitCode;
+
+/// The most blocks of a row.
+const MOST_BLOCKS: usize = 100;
+
+/// What is asked.
+#[derive(Clone, Copy)]
+enum Question {
+    Blocks,
+    Cuts,
+    Head,
+}
+
+#[rattlefmt::skip]
+const QUESTIONS: [(&[u8], Question); 3] = [
+    (b"blocks", Question::Blocks),
+    (b"cuts", Question::Cuts),
+    (b"head", Question::Head),
+];
+
+#[rattlefmt::skip]
+const KINDS: [(&[u8], BlockKind); 3] = [
+    (b"adb", BlockKind::Adb),
+    (b"signature", BlockKind::Signature),
+    (b"contents", BlockKind::Contents),
+];
+
+/// The blocks of containers.
+#[derive(Drop)]
+struct Containers;
+
+impl Subject for Containers {
+    fn answer(
+        &mut self,
+        alloc: Global,
+        words: &Words,
+        answer: &mut Vec<u8>,
+    ) -> Result<(), AllocError> {
+        match value_named(&QUESTIONS, word_at(words, 0)) {
+            Some(Question::Blocks) => add_blocks(alloc, word_at(words, 1), answer),
+            Some(Question::Cuts) => add_cuts(alloc, word_at(words, 1), answer),
+            Some(Question::Head) => add_head(words, answer),
+            None => answer.extend_from_slice(b"no question"),
+        }
+    }
+}
+
+/// Adds the schema of a container, its blocks, and what is answered behind them, which is the same
+/// when it is asked again.
+fn add_blocks(alloc: Global, file: &[u8], answer: &mut Vec<u8>) -> Result<(), AllocError> {
+    let mut blocks = match Blocks::new(file) {
+        Ok(blocks) => blocks,
+        Err(cause) => return add_cause(alloc, cause, answer),
+    };
+    let schema = blocks.schema();
+    let text = format!(in alloc; "{schema:08x}")?;
+    add_word(answer, text.as_bytes())?;
+    for _ in 0..MOST_BLOCKS {
+        let at = blocks.next_at();
+        let next = blocks.next();
+        match next {
+            Ok(Some(block)) => add_block(alloc, at, &block, answer)?,
+            _ => return add_end(alloc, &mut blocks, fault_of(next), answer),
+        }
+    }
+    Ok(())
+}
+
+/// Adds a block: its kind, where it stands, and its payload.
+fn add_block(
+    alloc: Global,
+    at: Option<u64>,
+    block: &Block<'_>,
+    answer: &mut Vec<u8>,
+) -> Result<(), AllocError> {
+    add_word(answer, kind_name(block.kind))?;
+    if at != Some(block.at) {
+        add_word(answer, b"elsewhere")?;
+    }
+    add_word(answer, b"at ")?;
+    add_number(alloc, answer, u128::from(block.at))?;
+    add_word(answer, block.payload)
+}
+
+fn kind_name(kind: BlockKind) -> &'static [u8] {
+    match kind {
+        BlockKind::Adb => b"adb",
+        BlockKind::Signature => b"signature",
+        BlockKind::Contents => b"contents",
+    }
+}
+
+/// The fault of an answer that is no block.
+fn fault_of(answer: Result<Option<Block<'_>>, Cause>) -> Option<Cause> {
+    answer.err()
+}
+
+/// Adds the answer behind the last block, which comes again, and where the next block would stand.
+fn add_end(
+    alloc: Global,
+    blocks: &mut Blocks<'_>,
+    fault: Option<Cause>,
+    answer: &mut Vec<u8>,
+) -> Result<(), AllocError> {
+    if fault_of(blocks.next()) != fault {
+        return add_word(answer, b"another answer");
+    }
+    match fault {
+        None => add_word(answer, b"end")?,
+        Some(cause) => add_cause(alloc, cause, answer)?,
+    }
+    match blocks.next_at() {
+        Some(at) => {
+            add_word(answer, b"next at ")?;
+            add_number(alloc, answer, u128::from(at))
+        }
+        None => Ok(()),
+    }
+}
+
+/// Adds a cause, as its variant and its fields.
+fn add_cause(alloc: Global, cause: Cause, answer: &mut Vec<u8>) -> Result<(), AllocError> {
+    let text = format!(in alloc; "{cause:?}")?;
+    add_word(answer, text.as_bytes())
+}
+
+/// Adds the first answer of a file that is cut at each length, and each length at which the answer
+/// is another than at the length before.
+fn add_cuts(alloc: Global, file: &[u8], answer: &mut Vec<u8>) -> Result<(), AllocError> {
+    let mut last = None;
+    for len in 0..=file.len() {
+        let found = first_fault(&file[..len]);
+        if last != Some(found) {
+            add_word(answer, b"from ")?;
+            add_number(alloc, answer, len as u128)?;
+            add_fault(alloc, found, answer)?;
+        }
+        last = Some(found);
+    }
+    Ok(())
+}
+
+fn add_fault(alloc: Global, fault: Option<Cause>, answer: &mut Vec<u8>) -> Result<(), AllocError> {
+    match fault {
+        Some(cause) => add_cause(alloc, cause, answer),
+        None => add_word(answer, b"a block"),
+    }
+}
+
+/// Why a file has no first block; none where it has one.
+fn first_fault(file: &[u8]) -> Option<Cause> {
+    match Blocks::new(file) {
+        Ok(mut blocks) => fault_of(blocks.next()),
+        Err(cause) => Some(cause),
+    }
+}
+
+/// Adds the header that is written of `head KIND LEN`, a block whose payload has so many bytes.
+fn add_head(words: &Words, answer: &mut Vec<u8>) -> Result<(), AllocError> {
+    let kind = value_named(&KINDS, word_at(words, 1)).unwrap_or(BlockKind::Adb);
+    let len = number_of(word_at(words, 2)).unwrap_or(0);
+    let len = u64::try_from(len).unwrap_or(0).min(u64::MAX - 16);
+    answer.extend_from_slice(block_head(kind, len).bytes())
+}
+
+fn main(rt: HostRuntime) -> io::Result<ExitCode> {
+    let alloc = rt.alloc();
+    let mut text = Vec::new(alloc);
+    rt.stdin().read_to_end(&mut text)?;
+    let mut report = Vec::new(alloc);
+    let passed = run_lines(alloc, &mut Containers, &text, &mut report)?;
+    rt.stdout().write_all(&report)?;
+    Ok(ExitCode::from(if passed { 0 } else { 1 }))
+}

@@ -1,0 +1,150 @@
+//! Answers questions to `base_core` and `tree_memory`: names and lists of them, a sink in memory,
+//! and a tree in memory with its misuses, its planned failures and what a crash leaves of it. Its
+//! stored run has all rows; `tests/lines.md` describes their form. The tree and the sink stay from
+//! one row to the next.
+#![tactic(auto)]
+
+mod calls;
+mod names;
+mod sinks;
+mod trees;
+
+use base_core::Words;
+use calls::{add_call, add_read, add_sync_names, make_turns};
+use names::{add_is_name, add_names};
+use row_lines::{Subject, run_lines, value_named, word_at};
+use sinks::{add_sink_bytes, add_write, set_sink};
+use std::alloc::{AllocError, Global};
+use std::io;
+use std::io::{Read, Write};
+use std::process::ExitCode;
+use tree_memory::{MemorySink, MemoryTree};
+use trees::{add_counts, add_file, add_image, add_list, add_put, add_size, plan_failures};
+
+/// What is asked.
+#[derive(Clone, Copy)]
+enum Question {
+    Name,
+    Names,
+    NewSink,
+    SetSink,
+    Write,
+    SinkBytes,
+    NewTree,
+    Put,
+    File,
+    Size,
+    Read,
+    List,
+    Plan,
+    Counts,
+    Image,
+    Turns,
+    SyncNames,
+    Call,
+}
+
+#[rattlefmt::skip]
+const QUESTIONS: [(&[u8], Question); 26] = [
+    (b"name", Question::Name),
+    (b"names", Question::Names),
+    (b"new_sink", Question::NewSink),
+    (b"fail_after", Question::SetSink),
+    (b"take_at_most", Question::SetSink),
+    (b"write", Question::Write),
+    (b"write_all", Question::Write),
+    (b"sink_bytes", Question::SinkBytes),
+    (b"new_tree", Question::NewTree),
+    (b"put", Question::Put),
+    (b"can_put", Question::Put),
+    (b"file", Question::File),
+    (b"size", Question::Size),
+    (b"read", Question::Read),
+    (b"list", Question::List),
+    (b"fail_at", Question::Plan),
+    (b"stop_after", Question::Plan),
+    (b"counts", Question::Counts),
+    (b"image", Question::Image),
+    (b"turns", Question::Turns),
+    (b"sync_names", Question::SyncNames),
+    (b"create", Question::Call),
+    (b"append", Question::Call),
+    (b"sync", Question::Call),
+    (b"remove", Question::Call),
+    (b"rename", Question::Call),
+];
+
+/// The tree and the sink that rows speak of.
+#[derive(Drop)]
+struct InMemory {
+    tree: MemoryTree,
+    sink: MemorySink,
+}
+
+impl Subject for InMemory {
+    fn answer(
+        &mut self,
+        alloc: Global,
+        words: &Words,
+        answer: &mut Vec<u8>,
+    ) -> Result<(), AllocError> {
+        let Some(question) = value_named(&QUESTIONS, word_at(words, 0)) else {
+            return answer.extend_from_slice(b"no question");
+        };
+        match question {
+            Question::Name => add_is_name(alloc, words, answer),
+            Question::Names => add_names(alloc, words, answer),
+            Question::NewSink => {
+                self.sink = MemorySink::new(alloc);
+                Ok(())
+            }
+            Question::SetSink => {
+                set_sink(&mut self.sink, words);
+                Ok(())
+            }
+            Question::Write => add_write(alloc, &mut self.sink, words, answer),
+            Question::SinkBytes => add_sink_bytes(alloc, &self.sink, answer),
+            Question::NewTree => {
+                self.tree = MemoryTree::new(alloc);
+                Ok(())
+            }
+            _ => answer_of_tree(alloc, &mut self.tree, question, words, answer),
+        }
+    }
+}
+
+fn answer_of_tree(
+    alloc: Global,
+    tree: &mut MemoryTree,
+    question: Question,
+    words: &Words,
+    answer: &mut Vec<u8>,
+) -> Result<(), AllocError> {
+    match question {
+        Question::Put => add_put(alloc, tree, words, answer),
+        Question::File => add_file(alloc, tree, words, answer),
+        Question::Size => add_size(alloc, tree, words, answer),
+        Question::Read => add_read(alloc, tree, words, answer),
+        Question::List => add_list(alloc, tree, words, answer),
+        Question::Plan => plan_failures(alloc, tree, words),
+        Question::Counts => add_counts(alloc, tree, answer),
+        Question::Image => add_image(alloc, tree, words, answer),
+        Question::Turns => make_turns(alloc, tree, words),
+        Question::SyncNames => add_sync_names(alloc, tree, answer),
+        _ => add_call(alloc, tree, words, answer),
+    }
+}
+
+fn main(rt: HostRuntime) -> io::Result<ExitCode> {
+    let alloc = rt.alloc();
+    let mut text = Vec::new(alloc);
+    rt.stdin().read_to_end(&mut text)?;
+    let mut in_memory = InMemory {
+        tree: MemoryTree::new(alloc),
+        sink: MemorySink::new(alloc),
+    };
+    let mut report = Vec::new(alloc);
+    let passed = run_lines(alloc, &mut in_memory, &text, &mut report)?;
+    rt.stdout().write_all(&report)?;
+    Ok(ExitCode::from(if passed { 0 } else { 1 }))
+}

@@ -1,0 +1,82 @@
+//! Answers questions to `command_core`, `words_core` and `report_core`: command lines, kinds of
+//! operands and values, the lines of refusals, and reports. Its stored run has all rows;
+//! `tests/lines.md` describes their form.
+#![tactic(auto)]
+
+mod lines;
+mod texts;
+
+use base_core::Words;
+use lines::{add_command, add_letters, add_many, add_place, add_values, is_operand, is_value};
+use row_lines::{Subject, add_yes_or_no, run_lines, value_named, word_at, words_behind};
+use std::alloc::{AllocError, Global};
+use std::io;
+use std::io::{Read, Write};
+use std::process::ExitCode;
+use texts::{add_refusal, add_report};
+
+/// What is asked.
+#[derive(Clone, Copy)]
+enum Question {
+    Line,
+    Many,
+    Command,
+    Values,
+    Letters,
+    Value,
+    Operand,
+    Refusal,
+    Report,
+}
+
+#[rattlefmt::skip]
+const QUESTIONS: [(&[u8], Question); 9] = [
+    (b"line", Question::Line),
+    (b"many", Question::Many),
+    (b"command", Question::Command),
+    (b"values", Question::Values),
+    (b"letters", Question::Letters),
+    (b"value", Question::Value),
+    (b"operand", Question::Operand),
+    (b"refusal", Question::Refusal),
+    (b"report", Question::Report),
+];
+
+/// What the three crates answer.
+#[derive(Drop)]
+struct CommandLines;
+
+impl Subject for CommandLines {
+    fn answer(
+        &mut self,
+        alloc: Global,
+        words: &Words,
+        answer: &mut Vec<u8>,
+    ) -> Result<(), AllocError> {
+        let Some(question) = value_named(&QUESTIONS, word_at(words, 0)) else {
+            return answer.extend_from_slice(b"no question");
+        };
+        let rest = words_behind(alloc, words, 1)?;
+        match question {
+            Question::Line => add_place(alloc, &rest, answer),
+            Question::Many => add_many(alloc, &rest, answer),
+            Question::Command => add_command(alloc, &rest, answer),
+            Question::Values => add_values(alloc, &rest, answer),
+            Question::Letters => add_letters(alloc, &rest, answer),
+            Question::Value => add_yes_or_no(answer, is_value(&rest)),
+            Question::Operand => add_yes_or_no(answer, is_operand(&rest)),
+            Question::Refusal => add_refusal(alloc, &rest, answer),
+            Question::Report => add_report(alloc, &rest, answer),
+        }
+    }
+}
+
+fn main(rt: HostRuntime) -> io::Result<ExitCode> {
+    let alloc = rt.alloc();
+    let mut text = Vec::new(alloc);
+    rt.stdin().read_to_end(&mut text)?;
+    let mut report = Vec::new(alloc);
+    let passed = run_lines(alloc, &mut CommandLines, &text, &mut report)?;
+    rt.stdout().write_all(&report)?;
+    Ok(ExitCode::from(if passed { 0 } else { 1 }))
+}
