@@ -71,8 +71,8 @@ pub fn publish(stage: &mut Stage, tree: &mut MemoryTree) -> Result<(), Disk>
     stage.publish(tree)
 }
 
-/// What the calls for the two actions and for none behind them answer, once the change is finished.
-pub fn act(stage: &mut Stage, tree: &mut MemoryTree) -> Result<[bool; 3], Disk>
+/// Does both actions, and finishes the change; whether the calls told that two actions were left.
+pub fn act(stage: &mut Stage, tree: &mut MemoryTree) -> Result<bool, Disk>
     requires { stage.old ≡ record (new_stage (codes "x" ∷ []) (codes "y" ∷ [])) {
       staged = 1;
       published = true;
@@ -82,7 +82,7 @@ pub fn act(stage: &mut Stage, tree: &mut MemoryTree) -> Result<[bool; 3], Disk>
     let second = stage.apply_one(tree)?;
     let third = stage.apply_one(tree)?;
     stage.finish(tree)?;
-    Ok([first, second, third])
+    Ok(first && second && !third)
 }
 
 /// Whether the tree is that behind the change; else it is the one before it. No other name stands.

@@ -1,6 +1,5 @@
 //! A change by a stage, cut off behind each call and with each call failing, and recovered twice.
 use crate::changing::{act, is_changed, new_change, old_tree, publish};
-use base_core::Disk;
 use journal_core::{RecoverFault, recover};
 use std::alloc::Global;
 use std::test::Fail;
@@ -27,9 +26,9 @@ fn change(alloc: Global, tree: &mut MemoryTree) -> Result<Reached, Fail> {
         return Ok(Reached::Nothing);
     }
     match act(&mut stage, tree) {
-        Ok([true, true, false]) => Ok(Reached::Finished),
-        Ok(_) => Err("another number of actions")?,
-        Err(Disk) => Ok(Reached::Published),
+        Ok(true) => Ok(Reached::Finished),
+        Ok(false) => Err("another number of actions")?,
+        Err(_) => Ok(Reached::Published),
     }
 }
 
@@ -65,20 +64,23 @@ fn images_of(alloc: Global, tree: &MemoryTree) -> Result<(u64, u64), Fail> {
 #[test]
 fn each_stop_recovers_to_the_old_files_or_the_new(rt: HostRuntime) -> Result<(), Fail> {
     let alloc = rt.alloc();
-    let mut undecided = 0;
+    let mut undecided: u64 = 0;
     for stop in 0..CALLS {
         let mut tree = old_tree(alloc)?;
         tree.stop_after(stop);
         let reached = change(alloc, &mut tree)?;
         let (old, new) = images_of(alloc, &tree)?;
-        assert!(rt; reached == Reached::Nothing || old == 0, "at {stop}");
+        if reached != Reached::Nothing && old > 0 {
+            Err("an old state behind the publishing")?
+        }
         if old > 0 && new > 0 {
-            undecided += 1;
+            undecided = undecided.saturating_add(1);
         }
         if reached == Reached::Finished {
-            assert_eq!(rt; tree.faults(), 0);
-            assert_eq!(rt; undecided, 1);
-            return Ok(());
+            if tree.faults() == 0 && undecided == 1 {
+                return Ok(());
+            }
+            Err("another count of undecided moments")?
         }
     }
     Err("never finished")?
@@ -116,8 +118,10 @@ fn each_fault_recovers_though_its_recovery_fails_twice(rt: HostRuntime) -> Resul
     let mut runs: u64 = 0;
     for call in 1..CALLS {
         if failed_tree(alloc, call)?.is_none() {
-            assert!(rt; runs > 500);
-            return Ok(());
+            if runs > 500 {
+                return Ok(());
+            }
+            Err("too few runs")?
         }
         for first in 1..CALLS {
             let mut tree = failed_tree(alloc, call)?.ok_or("no fault")?;
