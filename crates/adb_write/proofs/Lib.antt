@@ -1,3 +1,7 @@
+pub mod Found
+pub mod Rising
+pub mod Pages
+pub mod Compared
 pub mod Placed
 pub mod RoundTrip
 pub mod Limits

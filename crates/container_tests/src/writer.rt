@@ -148,7 +148,7 @@ fn the_counts_just_past_a_limit(rt: HostRuntime) -> Result<(), Fail> {
     assert!(rt; root.is_null());
     assert!(rt; writer.int(1)?.is_null());
     let counts = WriteFault::TooLarge {
-        bytes: 16_793_608,
+        bytes: 8_208,
         values: 4_196_353,
     };
     assert_eq!(rt; writer.finish(root).err(), Some(counts));

@@ -1,0 +1,158 @@
+-- Words in pages: where a key would stand, and what changes of the pages do.
+use Rattle.std.proofs.Common.{◌≡◌, ◌≢◌, ℕ, zero, suc, ◌+◌, ◌-◌, ◌<◌, ◌≤◌, Bool, true, false, List, [], ◌∷◌, ◌++◌, length, get_or, set, map, take, drop, refl, sym, ap, subst, ◌∙◌, arith, append_assoc, take-append-drop}
+use Rattle.std.specs.Prelude.{not}
+use Rattle.std.specs.List.{AllByRecursion, concat, insert}
+use Rattle.std.specs.List.Sorted.{IsPartitionPoint}
+use Rattle.std.specs.Ordering.{nat_cmp, ordering_reverse, is_lt}
+use Rattle.std.specs.Cmp.Lexicographic.{slice_cmp}
+use Rattle.std.specs.declared.cmp.Ordering.{Ordering}
+use Rattle.std.specs.declared.cmp.Ordering.TheVariants.{Less, Equal, Greater}
+use Rattle.std.proofs.lemmas.Cmp.{nat_list_cmp_total}
+use Rattle.std.proofs.lemmas.List.{append-nil}
+use Rattle.adb_write.specs.Keys.{key_at, AreRising}
+use Rattle.adb_write.specs.Table.{words_before, words_behind, IsPlaceIn, AreFilled, HALF, with_split, begins_above, AllCompare}
+use Rattle.adb_write.proofs.Rising.{cmp, flipped, IsBelow, less_chain, all_both, all_first, all_last, all_into, rising_head, rising_rest, rising_last, rising_before}
+
+abbrev pub page_at : List (List ℕ) → ℕ → List ℕ
+page_at pages k = get_or pages k []
+
+-- ---- a place parts the words
+
+pub parts_at : (pages : List (List ℕ)) (k index : ℕ) → words_before pages k index ++ words_behind pages k index ≡ concat pages
+parts_at [] k index = refl
+parts_at (page ∷ pages) zero index = sym (append_assoc (take index page) (drop index page) (concat pages)) ∙ ap (λ (x : List ℕ). x ++ concat pages) (take-append-drop index page)
+parts_at (page ∷ pages) (suc k) index = append_assoc page (words_before pages k index) (words_behind pages k index) ∙ ap (λ (x : List ℕ). page ++ x) (parts_at pages k index)
+
+pub before_split : (pages : List (List ℕ)) (k index : ℕ) → words_before pages k index ≡ words_before pages k 0 ++ take index (page_at pages k)
+before_split [] k zero = refl
+before_split [] k (suc index) = refl
+before_split (page ∷ pages) zero index = refl
+before_split (page ∷ pages) (suc k) index = ap (λ (x : List ℕ). page ++ x) (before_split pages k index) ∙ sym (append_assoc page (words_before pages k 0) (take index (page_at pages k)))
+
+from_start : (pages : List (List ℕ)) → words_behind pages 0 0 ≡ concat pages
+from_start [] = refl
+from_start (page ∷ pages) = refl
+
+pub behind_split : (pages : List (List ℕ)) (k index : ℕ) → words_behind pages k index ≡ drop index (page_at pages k) ++ words_behind pages (suc k) 0
+behind_split [] k zero = refl
+behind_split [] k (suc index) = refl
+behind_split (page ∷ pages) zero index = ap (λ (x : List ℕ). drop index page ++ x) (sym (from_start pages))
+behind_split (page ∷ pages) (suc k) index = behind_split pages k index
+
+-- ---- pages that begin above a key
+
+above : (p key : List ℕ) (page : List ℕ) (rest : List ℕ) → AreRising p (page ++ rest) → begins_above p key page ≡ true → AllCompare Less p key (page ++ rest)
+above p key [] rest r e = absurd cc
+above p key (w ∷ page) rest r e =
+    let first : cmp key (key_at p w) ≡ Less = is_less (cmp key (key_at p w)) e in
+    (first, all_into (IsBelow p w) (λ v. cmp key (key_at p v) ≡ Less) (λ v below. less_chain key (key_at p w) (key_at p v) first below) (page ++ rest) (rising_head p w (page ++ rest) r))
+  where
+    is_less : (o : Ordering) → is_lt o ≡ true → o ≡ Less
+    is_less Less is = refl
+    is_less Equal is = absurd cc
+    is_less Greater is = absurd cc
+
+-- where all words are above it, each page begins so
+all_above : (p key : List ℕ) (pages : List (List ℕ)) → AreFilled pages → AllCompare Less p key (concat pages) → (k : ℕ) → k < length pages → begins_above p key (page_at pages k) ≡ true
+all_above p key [] f a k within = absurd (omega arith)
+all_above p key ([] ∷ pages) f a zero within = absurd (let some = f.0 in omega arith)
+all_above p key ((w ∷ page) ∷ pages) f a zero within = ap is_lt a.0
+all_above p key (page ∷ pages) f a (suc k) within = all_above p key pages f.1 (all_last (λ v. cmp key (key_at p v) ≡ Less) page (concat pages) a) k (omega arith)
+
+pub above_on : (p key : List ℕ) (pages : List (List ℕ)) → AreFilled pages → AreRising p (concat pages) → (i j : ℕ) → i ≤ j → j < length pages → begins_above p key (page_at pages i) ≡ true → begins_above p key (page_at pages j) ≡ true
+above_on p key [] f r i j upto within e = absurd (omega arith)
+above_on p key (page ∷ pages) f r zero j upto within e = all_above p key (page ∷ pages) f (above p key page (concat pages) r e) j within
+above_on p key (page ∷ pages) f r (suc i) zero upto within e = absurd (omega arith)
+above_on p key (page ∷ pages) f r (suc i) (suc j) upto within e = above_on p key pages f.1 (rising_last p page (concat pages) r) i j (omega arith) (omega arith) e
+
+pub above_behind : (p key : List ℕ) (pages : List (List ℕ)) (k : ℕ) → AreRising p (concat pages) → k < length pages → begins_above p key (page_at pages k) ≡ true → AllCompare Less p key (words_behind pages k 0)
+above_behind p key [] k r within e = absurd (omega arith)
+above_behind p key (page ∷ pages) zero r within e = above p key page (concat pages) r e
+above_behind p key (page ∷ pages) (suc k) r within e = above_behind p key pages k (rising_last p page (concat pages) r) (omega arith) e
+
+pub behind_last : (pages : List (List ℕ)) (k : ℕ) → length pages ≤ k → words_behind pages k 0 ≡ []
+behind_last [] k past = refl
+behind_last (page ∷ pages) zero past = absurd (omega arith)
+behind_last (page ∷ pages) (suc k) past = behind_last pages k (omega arith)
+
+pub behind_less : (p key : List ℕ) (pages : List (List ℕ)) (k : ℕ) → AllCompare Less p key (words_behind pages k 0) → AllCompare Less p key (words_behind pages (suc k) 0)
+behind_less p key [] k a = tt
+behind_less p key (page ∷ pages) zero a = subst (AllCompare Less p key) (sym (from_start pages)) (all_last (λ v. cmp key (key_at p v) ≡ Less) page (concat pages) a)
+behind_less p key (page ∷ pages) (suc k) a = behind_less p key pages k a
+
+-- ---- pages in front of one that does not begin above a key
+
+-- a word below another one, at which the key is or above which it is, is below the key
+below_key : (key a b : List ℕ) → cmp a b ≡ Less → is_lt (cmp key b) ≡ false → cmp key a ≡ Greater
+below_key key a b less upto = go (cmp key b) refl upto
+  where
+    go : (o : Ordering) → cmp key b ≡ o → is_lt o ≡ false → cmp key a ≡ Greater
+    go Less is f = absurd cc
+    go Equal is f = nat_list_cmp_total.congr key b a is ∙ flipped a b Less less
+    go Greater is f = flipped a key Less (less_chain a b key less (flipped key b Greater is))
+
+-- a word below all others is below those of the key
+first_of : (p key : List ℕ) (v : ℕ) (pages : List (List ℕ)) (k : ℕ) → AreFilled pages → k < length pages → begins_above p key (page_at pages k) ≡ false → AllByRecursion (IsBelow p v) (concat pages) → cmp key (key_at p v) ≡ Greater
+first_of p key v [] k f within e a = absurd (omega arith)
+first_of p key v ([] ∷ pages) zero f within e a = absurd (let some = f.0 in omega arith)
+first_of p key v ((w ∷ page) ∷ pages) zero f within e a = below_key key (key_at p v) (key_at p w) a.0 e
+first_of p key v (page ∷ pages) (suc k) f within e a = first_of p key v pages k f.1 (omega arith) e (all_last (IsBelow p v) page (concat pages) a)
+
+page_lower : (p key : List ℕ) (page : List ℕ) (pages : List (List ℕ)) (k : ℕ) → AreFilled pages → k < length pages → begins_above p key (page_at pages k) ≡ false → AreRising p (page ++ concat pages) → AllCompare Greater p key page
+page_lower p key [] pages k f within e r = tt
+page_lower p key (v ∷ page) pages k f within e r =
+    (first_of p key v pages k f within e (all_last (IsBelow p v) page (concat pages) (rising_head p v (page ++ concat pages) r)), page_lower p key page pages k f within e (rising_rest p v (page ++ concat pages) r))
+
+pub lower_before : (p key : List ℕ) (pages : List (List ℕ)) (k : ℕ) → AreFilled pages → AreRising p (concat pages) → k < length pages → begins_above p key (page_at pages k) ≡ false → AllCompare Greater p key (words_before pages k 0)
+lower_before p key [] k f r within e = tt
+lower_before p key (page ∷ pages) zero f r within e = tt
+lower_before p key (page ∷ pages) (suc k) f r within e =
+    all_both (λ v. cmp key (key_at p v) ≡ Greater) page (words_before pages k 0) (page_lower p key page pages k f.1 (omega arith) e r) (lower_before p key pages k f.1 (rising_last p page (concat pages) r) (omega arith) e)
+
+pub start_lower : (p key : List ℕ) (pages : List (List ℕ)) → AllCompare Greater p key (words_before pages 0 0)
+start_lower p key [] = tt
+start_lower p key (page ∷ pages) = tt
+
+-- ---- places
+
+pub place_in : (pages : List (List ℕ)) (k index : ℕ) → k < length pages → index ≤ length (page_at pages k) → IsPlaceIn pages k index
+place_in [] k index within upto = absurd (omega arith)
+place_in (page ∷ pages) zero index within upto = upto
+place_in (page ∷ []) (suc k) index within upto = absurd (omega arith)
+place_in (page ∷ next ∷ pages) (suc k) index within upto = place_in (next ∷ pages) k index (omega arith) upto
+
+pub place_page : (pages : List (List ℕ)) (k index : ℕ) → 0 < length pages → IsPlaceIn pages k index → k < length pages
+place_page [] k index some i = absurd (omega arith)
+place_page (page ∷ pages) zero index some i = omega arith
+place_page (page ∷ []) (suc k) index some i = absurd i
+place_page (page ∷ next ∷ pages) (suc k) index some i = let m = place_page (next ∷ pages) k index (omega arith) i in omega arith
+
+pub place_index : (pages : List (List ℕ)) (k index : ℕ) → 0 < length pages → IsPlaceIn pages k index → index ≤ length (page_at pages k)
+place_index [] k index some i = absurd (omega arith)
+place_index (page ∷ pages) zero index some i = i
+place_index (page ∷ []) (suc k) index some i = absurd i
+place_index (page ∷ next ∷ pages) (suc k) index some i = place_index (next ∷ pages) k index (omega arith) i
+
+-- ---- one word more in a page
+
+pub inserted : (pages : List (List ℕ)) (k index w : ℕ) → k < length pages → concat (set pages k (insert (page_at pages k) index w)) ≡ words_before pages k index ++ w ∷ words_behind pages k index
+inserted [] k index w within = absurd (omega arith)
+inserted (page ∷ pages) zero index w within = append_assoc (take index page) (w ∷ drop index page) (concat pages)
+inserted (page ∷ pages) (suc k) index w within = ap (λ (x : List ℕ). page ++ x) (inserted pages k index w (omega arith)) ∙ sym (append_assoc page (words_before pages k index) (w ∷ words_behind pages k index))
+
+pub filled_set : (pages : List (List ℕ)) (k : ℕ) (page : List ℕ) → AreFilled pages → 0 < length page → AreFilled (set pages k page)
+filled_set [] k page f some = tt
+filled_set (x ∷ pages) zero page f some = (some, f.1)
+filled_set (x ∷ pages) (suc k) page f some = (f.0, filled_set pages k page f.1 some)
+
+-- ---- a page in two
+
+pub split_is : (pages : List (List ℕ)) (k : ℕ) → k < length pages → set (insert pages (k + 1) (drop HALF (page_at pages k))) k (take HALF (page_at pages k)) ≡ with_split pages k
+split_is [] k within = absurd (omega arith)
+split_is (page ∷ pages) zero within = refl
+split_is (page ∷ pages) (suc k) within = ap (λ (x : List (List ℕ)). page ∷ x) (split_is pages k (omega arith))
+
+pub split_whole : (pages : List (List ℕ)) (k : ℕ) → concat (with_split pages k) ≡ concat pages
+split_whole [] k = refl
+split_whole (page ∷ pages) zero = sym (append_assoc (take HALF page) (drop HALF page) (concat pages)) ∙ ap (λ (x : List ℕ). x ++ concat pages) (take-append-drop HALF page)
+split_whole (page ∷ pages) (suc k) = ap (λ (x : List ℕ). page ++ x) (split_whole pages k)
