@@ -42,6 +42,10 @@ by_length (x ∷ xs) [] n h = nat_cmp_total.antisymm (n + suc (length xs)) (n + 
 by_length (x ∷ xs) (y ∷ ys) n (inl h) = absurd (omega arith)
 by_length (x ∷ xs) (y ∷ ys) n (inr h) = absurd (omega arith)
 
+pub by_none : (ws : List ℕ) → nat_cmp (length ws) 0 ≡ cmp (low_words ws) []
+by_none [] = refl
+by_none (w ∷ ws) = nat_cmp_total.antisymm (suc (length ws)) 0 ∙ ap ordering_reverse (lower 0 (suc (length ws)) (omega arith))
+
 pub last_step : (ws es : List ℕ) (i : ℕ) → i ≤ length ws → i ≤ length es → (length ws ≡ i) ⊎ (length es ≡ i)
     → nat_cmp (length ws) (length es) ≡ cmp (drop i (low_words ws)) (drop i es)
 last_step ws es i in_words in_entries h =
@@ -49,7 +53,7 @@ last_step ws es i in_words in_entries h =
     let b : length (drop i es) ≡ length es - i = length-drop i es in
     let c : length ws ≡ i + length (drop i (low_words ws)) = omega arith in
     let d : length es ≡ i + length (drop i es) = omega arith in
-    rw (c, d) (by_length (drop i (low_words ws)) (drop i es) i (elim h [ | inl e ↦ inl (omega arith) | inr e ↦ inr (omega arith) ]))
+    rw (c, d) (by_length (drop i (low_words ws)) (drop i es) i (elim h [ inl e ↦ inl (omega arith) | inr e ↦ inr (omega arith) ]))
 
 -- an element that was read, whatever would stand for one past the end
 pub read_at : (xs : List ℕ) (i x y d : ℕ) → x ≡ y → i < length xs → y ≡ get_or xs i d → x ≡ get_or xs i x

@@ -8,13 +8,11 @@ use Rattle.std.specs.Cmp.Lexicographic.{slice_cmp}
 use Rattle.std.specs.declared.cmp.Ordering.{Ordering}
 use Rattle.std.specs.declared.cmp.Ordering.TheVariants.{Less, Equal, Greater}
 use Rattle.std.proofs.lemmas.Cmp.{nat_list_cmp_total}
-use Rattle.std.proofs.lemmas.List.{append-nil}
+use Rattle.std.proofs.lemmas.List.{append-nil, length-take, length-drop, drop-drop, get_or-map, length-map, map-set}
+use Rattle.std.proofs.lemmas.List.Edits.{get_or-insert_below}
 use Rattle.adb_write.specs.Keys.{key_at, AreRising}
-use Rattle.adb_write.specs.Table.{words_before, words_behind, IsPlaceIn, AreFilled, HALF, with_split, begins_above, AllCompare}
+use Rattle.adb_write.specs.Table.{page_at, words_before, words_behind, IsPlaceIn, AreFilled, HALF, with_split, begins_above, AllCompare}
 use Rattle.adb_write.proofs.Rising.{cmp, flipped, IsBelow, less_chain, all_both, all_first, all_last, all_into, rising_head, rising_rest, rising_last, rising_before}
-
-abbrev pub page_at : List (List ℕ) → ℕ → List ℕ
-page_at pages k = get_or pages k []
 
 -- ---- a place parts the words
 
@@ -147,7 +145,7 @@ filled_set (x ∷ pages) (suc k) page f some = (f.0, filled_set pages k page f.1
 
 -- ---- a page in two
 
-pub split_is : (pages : List (List ℕ)) (k : ℕ) → k < length pages → set (insert pages (k + 1) (drop HALF (page_at pages k))) k (take HALF (page_at pages k)) ≡ with_split pages k
+pub split_is : (pages : List (List ℕ)) (k : ℕ) → k < length pages → set (insert pages (suc k) (drop HALF (page_at pages k))) k (take HALF (page_at pages k)) ≡ with_split pages k
 split_is [] k within = absurd (omega arith)
 split_is (page ∷ pages) zero within = refl
 split_is (page ∷ pages) (suc k) within = ap (λ (x : List (List ℕ)). page ∷ x) (split_is pages k (omega arith))
@@ -156,3 +154,131 @@ pub split_whole : (pages : List (List ℕ)) (k : ℕ) → concat (with_split pag
 split_whole [] k = refl
 split_whole (page ∷ pages) zero = sym (append_assoc (take HALF page) (drop HALF page) (concat pages)) ∙ ap (λ (x : List ℕ). x ++ concat pages) (take-append-drop HALF page)
 split_whole (page ∷ pages) (suc k) = ap (λ (x : List ℕ). page ++ x) (split_whole pages k)
+
+pub split_long : (pages : List (List ℕ)) (k : ℕ) → k < length pages → length (with_split pages k) ≡ suc (length pages)
+split_long [] k within = absurd (omega arith)
+split_long (page ∷ pages) zero within = refl
+split_long (page ∷ pages) (suc k) within = ap suc (split_long pages k (omega arith))
+
+pub split_filled : (pages : List (List ℕ)) (k : ℕ) → AreFilled pages → HALF < length (page_at pages k) → AreFilled (with_split pages k)
+split_filled [] k f full = tt
+split_filled (page ∷ pages) zero f full = (omega (arith, length-take HALF page), (omega (arith, length-drop HALF page), f.1))
+split_filled (page ∷ pages) (suc k) f full = (f.0, split_filled pages k f.1 full)
+
+pub split_lower : (pages : List (List ℕ)) (k : ℕ) → page_at (with_split pages k) k ≡ take HALF (page_at pages k)
+split_lower [] zero = refl
+split_lower [] (suc k) = refl
+split_lower (page ∷ pages) zero = refl
+split_lower (page ∷ pages) (suc k) = split_lower pages k
+
+pub split_upper : (pages : List (List ℕ)) (k : ℕ) → page_at (with_split pages k) (suc k) ≡ drop HALF (page_at pages k)
+split_upper [] zero = refl
+split_upper [] (suc k) = refl
+split_upper (page ∷ pages) zero = refl
+split_upper (page ∷ pages) (suc k) = split_upper pages k
+
+-- ---- a list in two at h, seen from a place before it or behind it
+
+take_take : (i h : ℕ) (xs : List ℕ) → i ≤ h → take i (take h xs) ≡ take i xs
+take_take zero h xs upto = refl
+take_take (suc i) zero xs upto = absurd (omega arith)
+take_take (suc i) (suc h) [] upto = refl
+take_take (suc i) (suc h) (x ∷ xs) upto = ap (λ (ys : List ℕ). x ∷ ys) (take_take i h xs (omega arith))
+
+drop_take : (i h : ℕ) (xs : List ℕ) → i ≤ h → drop i (take h xs) ++ drop h xs ≡ drop i xs
+drop_take zero h xs upto = take-append-drop h xs
+drop_take (suc i) zero xs upto = absurd (omega arith)
+drop_take (suc i) (suc h) [] upto = refl
+drop_take (suc i) (suc h) (x ∷ xs) upto = drop_take i h xs (omega arith)
+
+take_on : (h n i : ℕ) (xs : List ℕ) → i ≡ h + n → take h xs ++ take n (drop h xs) ≡ take i xs
+take_on zero n i xs is = ap (λ (m : ℕ). take m xs) (omega arith)
+take_on (suc h) n zero xs is = absurd (omega arith)
+take_on (suc h) zero (suc i) [] is = refl
+take_on (suc h) (suc n) (suc i) [] is = refl
+take_on (suc h) n (suc i) (x ∷ xs) is = ap (λ (ys : List ℕ). x ∷ ys) (take_on h n i xs (omega arith))
+
+lower_before_same : (pages : List (List ℕ)) (k index : ℕ) → index ≤ HALF → words_before (with_split pages k) k index ≡ words_before pages k index
+lower_before_same [] k index upto = refl
+lower_before_same (page ∷ pages) zero index upto = take_take index HALF page upto
+lower_before_same (page ∷ pages) (suc k) index upto = ap (λ (x : List ℕ). page ++ x) (lower_before_same pages k index upto)
+
+lower_behind_same : (pages : List (List ℕ)) (k index : ℕ) → index ≤ HALF → words_behind (with_split pages k) k index ≡ words_behind pages k index
+lower_behind_same [] k index upto = refl
+lower_behind_same (page ∷ pages) zero index upto = sym (append_assoc (drop index (take HALF page)) (drop HALF page) (concat pages)) ∙ ap (λ (x : List ℕ). x ++ concat pages) (drop_take index HALF page upto)
+lower_behind_same (page ∷ pages) (suc k) index upto = lower_behind_same pages k index upto
+
+upper_before_same : (pages : List (List ℕ)) (k n i : ℕ) → i ≡ HALF + n → words_before (with_split pages k) (suc k) n ≡ words_before pages k i
+upper_before_same [] k n i is = refl
+upper_before_same (page ∷ pages) zero n i is = take_on HALF n i page is
+upper_before_same (page ∷ pages) (suc k) n i is = ap (λ (x : List ℕ). page ++ x) (upper_before_same pages k n i is)
+
+upper_behind_same : (pages : List (List ℕ)) (k n i : ℕ) → i ≡ HALF + n → words_behind (with_split pages k) (suc k) n ≡ words_behind pages k i
+upper_behind_same [] k n i is = refl
+upper_behind_same (page ∷ pages) zero n i is = ap (λ (x : List ℕ). x ++ concat pages) (drop-drop n HALF page ∙ ap (λ (m : ℕ). drop m page) (sym is))
+upper_behind_same (page ∷ pages) (suc k) n i is = upper_behind_same pages k n i is
+
+pub lower_place : (pages new : List (List ℕ)) (k index : ℕ) → new ≡ with_split pages k → k < length pages → HALF < length (page_at pages k) → index ≤ HALF
+    → IsPlaceIn new k index × (words_before new k index ≡ words_before pages k index) × (words_behind new k index ≡ words_behind pages k index)
+lower_place pages new k index is within full upto =
+    let long : index ≤ length (page_at (with_split pages k) k) = omega (arith, ap length (split_lower pages k), length-take HALF (page_at pages k)) in
+    subst (λ (ps : List (List ℕ)). IsPlaceIn ps k index × (words_before ps k index ≡ words_before pages k index) × (words_behind ps k index ≡ words_behind pages k index)) (sym is)
+    (place_in (with_split pages k) k index (omega (arith, split_long pages k within)) long, lower_before_same pages k index upto, lower_behind_same pages k index upto)
+
+pub upper_place : (pages new : List (List ℕ)) (k index : ℕ) → new ≡ with_split pages k → k < length pages → index ≤ length (page_at pages k) → HALF < index
+    → IsPlaceIn new (k + 1) (index - HALF) × (words_before new (k + 1) (index - HALF) ≡ words_before pages k index) × (words_behind new (k + 1) (index - HALF) ≡ words_behind pages k index)
+upper_place pages new k index is within upto past =
+    let n : ℕ = index - HALF in
+    let whole : index ≡ HALF + n = omega arith in
+    let next : suc k ≡ k + 1 = omega arith in
+    let long : n ≤ length (page_at (with_split pages k) (suc k)) = omega (arith, ap length (split_upper pages k), length-drop HALF (page_at pages k)) in
+    subst (λ (ps : List (List ℕ)). IsPlaceIn ps (k + 1) n × (words_before ps (k + 1) n ≡ words_before pages k index) × (words_behind ps (k + 1) n ≡ words_behind pages k index)) (sym is)
+    (subst (λ (m : ℕ). IsPlaceIn (with_split pages k) m n × (words_before (with_split pages k) m n ≡ words_before pages k index) × (words_behind (with_split pages k) m n ≡ words_behind pages k index)) next
+    (place_in (with_split pages k) (suc k) n (omega (arith, split_long pages k within)) long, upper_before_same pages k n index whole, upper_behind_same pages k n index whole))
+
+-- ---- the pages as vectors have them
+
+pub page_of_map : {V : Type 0} (f : V → List ℕ) (vs : List V) (k : ℕ) (d : V) → k < length vs → page_at (map f vs) k ≡ f (get_or vs k d)
+page_of_map f vs k d within = get_or-map f vs k d [] within
+
+map_insert : {V : Type 0} (f : V → List ℕ) (vs : List V) (i : ℕ) (v : V) → map f (insert vs i v) ≡ insert (map f vs) i (f v)
+map_insert f [] zero v = refl
+map_insert f [] (suc i) v = refl
+map_insert f (x ∷ vs) zero v = refl
+map_insert f (x ∷ vs) (suc i) v = ap (λ (ps : List (List ℕ)). f x ∷ ps) (map_insert f vs i v)
+
+inserted_below : {V : Type 0} (f : V → List ℕ) (old new : List V) (k : ℕ) (u r : V) → k < length old → new ≡ insert old (suc k) u → r ≡ get_or new k r → f r ≡ page_at (map f old) k
+inserted_below f old new k u r within is here =
+    ap f (here ∙ ap (λ vs. get_or vs k r) is ∙ get_or-insert_below old (suc k) u r k (omega arith) (omega arith)) ∙ sym (page_of_map f old k r within)
+
+pub split_vectors : {V : Type 0} (f : V → List ℕ) (old new : List V) (k : ℕ) (u t r : V) → k < length old → new ≡ insert old (k + 1) u → r ≡ get_or new k r
+    → f t ≡ take HALF (f r) → f u ≡ drop HALF (page_at (map f old) k) → map f (set new k t) ≡ with_split (map f old) k
+split_vectors f old new k u t r within is here lower upper =
+    let next : k + 1 ≡ suc k = omega arith in
+    let new_is : new ≡ insert old (suc k) u = is ∙ ap (λ (m : ℕ). insert old m u) next in
+    map-set f new k t
+    ∙ ap (λ (ps : List (List ℕ)). set ps k (f t)) (ap (map f) new_is ∙ map_insert f old (suc k) u)
+    ∙ ap (λ (p : List ℕ). set (insert (map f old) (suc k) (f u)) k p) (lower ∙ ap (take HALF) (inserted_below f old new k u r within new_is here))
+    ∙ ap (λ (p : List ℕ). set (insert (map f old) (suc k) p) k (take HALF (page_at (map f old) k))) upper
+    ∙ split_is (map f old) k (omega (arith, length-map old f))
+
+take_whole : (n : ℕ) (xs : List ℕ) → length xs ≤ n → take n xs ≡ xs
+take_whole zero [] long = refl
+take_whole zero (x ∷ xs) long = absurd (omega arith)
+take_whole (suc n) [] long = refl
+take_whole (suc n) (x ∷ xs) long = ap (λ (ys : List ℕ). x ∷ ys) (take_whole n xs (omega arith))
+
+-- what is copied into the upper page
+pub upper_copy : {V : Type 0} (f : V → List ℕ) (old : List V) (k : ℕ) (front xs : List ℕ) (r : V) → k < length old → front ≡ [] → xs ≡ f r → r ≡ get_or old k r
+    → front ++ take (length xs - HALF) (drop HALF xs) ≡ drop HALF (page_at (map f old) k)
+upper_copy f old k front xs r within none is here =
+    ap (λ (ys : List ℕ). ys ++ take (length xs - HALF) (drop HALF xs)) none
+    ∙ take_whole (length xs - HALF) (drop HALF xs) (omega (arith, length-drop HALF xs))
+    ∙ ap (drop HALF) (is ∙ ap f here ∙ sym (page_of_map f old k r within))
+
+-- one word more in a vector
+pub insert_vectors : {V : Type 0} (f : V → List ℕ) (old : List V) (k index w : ℕ) (t r : V) → k < length old → r ≡ get_or old k r → f t ≡ insert (f r) index w
+    → concat (map f (set old k t)) ≡ words_before (map f old) k index ++ w ∷ words_behind (map f old) k index
+insert_vectors f old k index w t r within here is =
+    ap concat (map-set f old k t ∙ ap (set (map f old) k) (is ∙ ap (λ (p : List ℕ). insert p index w) (ap f here ∙ sym (page_of_map f old k r within))))
+    ∙ inserted (map f old) k index w (omega (arith, length-map old f))

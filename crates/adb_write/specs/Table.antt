@@ -1,5 +1,5 @@
 -- The table of a writer: words in pages.
-use Rattle.std.specs.Prelude.{◌≡◌, ℕ, zero, suc, Bool, false, ◌≤◌, ◌<◌, List, [], ◌∷◌, ◌++◌, length, map, take, drop, Result, Ok, Err}
+use Rattle.std.specs.Prelude.{◌≡◌, ℕ, zero, suc, Bool, false, ◌≤◌, ◌<◌, List, [], ◌∷◌, ◌++◌, length, get_or, map, take, drop, Result, Ok, Err}
 use Rattle.std.specs.List.{AllByRecursion, concat}
 use Rattle.std.specs.Ordering.{nat_cmp, is_lt}
 use Rattle.std.specs.Cmp.Lexicographic.{slice_cmp}
@@ -23,6 +23,10 @@ abbrev pub words_behind : List (List ℕ) → ℕ → ℕ → List ℕ
 words_behind [] k index = []
 words_behind (page ∷ pages) zero index = drop index page ++ concat pages
 words_behind (page ∷ pages) (suc k) index = words_behind pages k index
+
+-- the words of the page at k
+abbrev pub page_at : List (List ℕ) → ℕ → List ℕ
+page_at pages k = get_or pages k []
 
 -- a place in one of the pages, or the only one where there are none
 abbrev pub IsPlaceIn : List (List ℕ) → ℕ → ℕ → Type 0

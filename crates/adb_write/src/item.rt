@@ -8,6 +8,7 @@ ghost use Rattle.adb_view.specs.Adb.{payload_of};
 ghost use Rattle.adb_view.specs.Entries.{array_entries};
 ghost use Rattle.adb_view.specs.Gives.{Gives};
 ghost use Rattle.adb_view.specs.Readers.{run_of};
+ghost use Rattle.adb_view.specs.Visits.{or_empty};
 ghost use Rattle.adb_write.specs.Items.{width_len, list_kind, content_bytes, item_of};
 ghost use Rattle.adb_write.specs.Keys.{low_words, key_of, key_at};
 
@@ -172,10 +173,7 @@ impl Parts<'_> {
                 Err(_) => Ordering::Greater,
             },
             Parts::Blob(bytes) => (*bytes).cmp(adb.blob(word).unwrap_or(&[])),
-            Parts::List(list, words) => match entries(adb, *list, word) {
-                Ok(found) => compare_words(words, &found),
-                Err(_) => words.len().cmp(&0),
-            },
+            Parts::List(list, words) => compare_list(adb, *list, words, word),
         }
     }
 
@@ -211,6 +209,18 @@ impl Parts<'_> {
             Parts::Blob(bytes) => out.extend_from_slice(bytes),
             Parts::List(_, words) => add_words(out, words),
         }
+    }
+}
+
+/// Compares words with the entries of the written list to which a word leads.
+#[tactic(auto, using(crate::proofs::Compared::by_none))]
+fn compare_list(adb: &Adb<'_>, list: ListKind, words: &[Val], word: Val) -> Ordering
+    ensures { result ≡ slice_cmp nat_cmp (low_words words.now)
+        (or_empty (run_of (list_kind list) (payload_of adb.now) word)) }
+{
+    match entries(adb, list, word) {
+        Ok(found) => compare_words(words, &found),
+        Err(_) => words.len().cmp(&0),
     }
 }
 

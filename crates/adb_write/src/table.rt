@@ -7,7 +7,7 @@ ghost use Rattle.std.specs.Prelude.{◌≡◌, ◌≤◌, ◌<◌, ℕ, List, []
 ghost use Rattle.std.specs.List.{concat};
 ghost use Rattle.adb_view.specs.Adb.{payload_of};
 ghost use Rattle.adb_write.specs.Keys.{key_of, AreRising};
-ghost use Rattle.adb_write.specs.Table.{AreFilled, pages_of, words_before, words_behind, with_split, IsPlaceIn, IsSamePlace, FindsIn, IsPageFor, begins_above};
+ghost use Rattle.adb_write.specs.Table.{AreFilled, HALF, page_at, pages_of, words_before, words_behind, with_split, IsPlaceIn, IsSamePlace, FindsIn, IsPageFor, begins_above};
 
 use crate::item::Parts;
 use adb_view::{Adb, Val};
@@ -127,7 +127,8 @@ impl Table {
 
     /// Moves the upper half of a full page into a page of its own.
     fn split(&mut self, page: usize) -> Result<(), AllocError>
-        requires { page < length (pages_of self.old) }
+        requires inside { page < length (pages_of self.old) }
+        requires full { HALF < length (page_at (pages_of self.old) page) }
         ensures ok { OnOk result (pages_of self.new ≡ with_split (pages_of self.old) page) }
         ensures err { OnErr result (pages_of self.new ≡ pages_of self.old) }
     {
