@@ -2,6 +2,7 @@ pub mod Found
 pub mod Rising
 pub mod Pages
 pub mod Compared
+pub mod StoredWords
 pub mod Placed
 pub mod RoundTrip
 pub mod Limits

@@ -1,18 +1,20 @@
 -- Words in pages: where a key would stand, and what changes of the pages do.
-use Rattle.std.proofs.Common.{◌≡◌, ◌≢◌, ℕ, zero, suc, ◌+◌, ◌-◌, ◌<◌, ◌≤◌, Bool, true, false, List, [], ◌∷◌, ◌++◌, length, get_or, set, map, take, drop, refl, sym, ap, subst, ◌∙◌, arith, append_assoc, take-append-drop}
+use Rattle.std.proofs.Common.{◌≡◌, ◌≢◌, ℕ, zero, suc, ◌+◌, ◌-◌, ◌<◌, ◌≤◌, Bool, true, false, List, [], ◌∷◌, ◌++◌, length, get_or, set, map, take, drop, refl, sym, ap, subst, ◌∙◌, arith, inl, inr, append_assoc, take-append-drop}
 use Rattle.std.specs.Prelude.{not}
-use Rattle.std.specs.List.{AllByRecursion, concat, insert}
-use Rattle.std.specs.List.Sorted.{IsPartitionPoint}
+use Rattle.std.specs.List.{AllByRecursion, AllWithin, HoldsAt, concat, insert}
+use Rattle.std.specs.List.Sorted.{IsPartitionPoint, IsPartitionedBy}
+use Rattle.std.proofs.lemmas.Bool.{cases_lt}
 use Rattle.std.specs.Ordering.{nat_cmp, ordering_reverse, is_lt}
 use Rattle.std.specs.Cmp.Lexicographic.{slice_cmp}
 use Rattle.std.specs.declared.cmp.Ordering.{Ordering}
 use Rattle.std.specs.declared.cmp.Ordering.TheVariants.{Less, Equal, Greater}
 use Rattle.std.proofs.lemmas.Cmp.{nat_list_cmp_total}
-use Rattle.std.proofs.lemmas.List.{append-nil, length-take, length-drop, drop-drop, get_or-map, length-map, map-set}
+use Rattle.std.proofs.lemmas.List.{drop_more, length-append, length-take, length-drop, drop-drop, get_or-map, length-map, map-set}
 use Rattle.std.proofs.lemmas.List.Edits.{get_or-insert_below}
 use Rattle.adb_write.specs.Keys.{key_at, AreRising}
-use Rattle.adb_write.specs.Table.{page_at, words_before, words_behind, IsPlaceIn, AreFilled, HALF, with_split, begins_above, AllCompare}
-use Rattle.adb_write.proofs.Rising.{cmp, flipped, IsBelow, less_chain, all_both, all_first, all_last, all_into, rising_head, rising_rest, rising_last, rising_before}
+use Rattle.adb_write.specs.Table.{page_at, words_before, words_behind, IsPlaceIn, IsSamePlace, AreFilled, HALF, with_split, begins_above, AllCompare, IsPageFor, IsFoundIn, IsBetween}
+use Rattle.adb_write.specs.declared.table.Place.{Place}
+use Rattle.adb_write.proofs.Rising.{cmp, flipped, IsBelow, less_chain, all_both, all_first, all_last, all_into, all_front, all_back, rising_none, rising_head, rising_rest, rising_first, rising_last, rising_before}
 
 -- ---- a place parts the words
 
@@ -282,3 +284,140 @@ pub insert_vectors : {V : Type 0} (f : V → List ℕ) (old : List V) (k index w
 insert_vectors f old k index w t r within here is =
     ap concat (map-set f old k t ∙ ap (set (map f old) k) (is ∙ ap (λ (p : List ℕ). insert p index w) (ap f here ∙ sym (page_of_map f old k r within))))
     ∙ inserted (map f old) k index w (omega (arith, length-map old f))
+
+-- a vector with one of its own
+pub same_vectors : {V : Type 0} (f : V → List ℕ) (old : List V) (k : ℕ) (t r : V) → k < length old → r ≡ get_or old k r → f t ≡ f r → map f (set old k t) ≡ map f old
+same_vectors f old k t r within here same =
+    map-set f old k t ∙ ap (set (map f old) k) (same ∙ ap f here ∙ sym (page_of_map f old k r within)) ∙ set_own (map f old) k
+  where
+    set_own : (pages : List (List ℕ)) (k : ℕ) → set pages k (page_at pages k) ≡ pages
+    set_own [] k = refl
+    set_own (page ∷ pages) zero = refl
+    set_own (page ∷ pages) (suc k) = ap (λ (ps : List (List ℕ)). page ∷ ps) (set_own pages k)
+
+pub filled_vectors : {V : Type 0} (f : V → List ℕ) (old : List V) (k index w : ℕ) (t r : V) → AreFilled (map f old) → f t ≡ insert (f r) index w → AreFilled (map f (set old k t))
+filled_vectors f old k index w t r filled is =
+    subst AreFilled (sym (map-set f old k t)) (filled_set (map f old) k (f t) filled (omega (arith, ap length is, length-append (take index (f r)) (w ∷ drop index (f r)))))
+
+pub place_long : {V : Type 0} (f : V → List ℕ) (old : List V) (k index : ℕ) (r : V) → k < length old → r ≡ get_or old k r → IsPlaceIn (map f old) k index → index ≤ length (f r)
+place_long f old k index r within here inside =
+    let long = place_index (map f old) k index (omega (arith, length-map old f)) inside in
+    omega (arith, ap length (page_of_map f old k r within ∙ ap f (sym here)))
+
+pub same_words : (pages new : List (List ℕ)) (place there : Place) → IsSamePlace pages place new there → concat new ≡ concat pages
+same_words pages new place there same =
+    sym (parts_at new there.page there.index) ∙ ap (λ (x : List ℕ). x ++ words_behind new there.page there.index) same.before
+    ∙ ap (λ (x : List ℕ). words_before pages place.page place.index ++ x) same.behind ∙ parts_at pages place.page place.index
+
+-- ---- the page for a key
+
+pub page_for_first : (p key : List ℕ) (pages : List (List ℕ)) → AreRising p (concat pages) → (0 < length pages → begins_above p key (page_at pages 0) ≡ true) → IsPageFor p pages key 0
+page_for_first p key [] r e = record { inside = (refl, refl); lower = tt; higher = tt }
+page_for_first p key (page ∷ pages) r e = record {
+  inside = omega arith;
+  lower = tt;
+  higher = behind_less p key (page ∷ pages) 0 (above_behind p key (page ∷ pages) 0 r (omega arith) (e (omega arith)));
+}
+
+pub page_for_next : (p key : List ℕ) (pages : List (List ℕ)) (k : ℕ) → AreFilled pages → AreRising p (concat pages) → k < length pages → begins_above p key (page_at pages k) ≡ false
+    → (suc k < length pages → begins_above p key (page_at pages (suc k)) ≡ true) → IsPageFor p pages key k
+page_for_next p key pages k f r within low high = record {
+  inside = place_in pages k 0 within (omega arith);
+  lower = lower_before p key pages k f r within low;
+  higher = elim (cases_lt (suc k) (length pages)) [
+    | inl more ↦ above_behind p key pages (suc k) r more (high more)
+    | inr last ↦ subst (AllCompare Less p key) (sym (behind_last pages (suc k) last)) tt
+  ];
+}
+
+not_true : (b : Bool) → not b ≡ true → b ≡ false
+not_true true e = absurd cc
+not_true false e = refl
+
+not_false : (b : Bool) → not b ≡ false → b ≡ true
+not_false true e = refl
+not_false false e = absurd cc
+
+-- the pages that do not begin above a key stand in front
+pub parted : {V : Type 0} (f : V → List ℕ) (p key : List ℕ) (vs : List V) → AreFilled (map f vs) → AreRising p (concat (map f vs)) → IsPartitionedBy (λ v. not (begins_above p key (f v))) vs
+parted f p key vs filled rising i j d upto within e =
+    let a = page_of_map f vs i d (omega arith) in
+    let b = page_of_map f vs j d within in
+    go (begins_above p key (f (get_or vs i d))) refl
+  where
+    go : (b : Bool) → begins_above p key (f (get_or vs i d)) ≡ b → not (begins_above p key (f (get_or vs i d))) ≡ true
+    go false is = ap not is
+    go true is =
+        let at_i : begins_above p key (page_at (map f vs) i) ≡ true = ap (begins_above p key) (page_of_map f vs i d (omega arith)) ∙ is in
+        let at_j : begins_above p key (page_at (map f vs) j) ≡ true = above_on p key (map f vs) filled rising i j upto (omega (arith, length-map vs f)) at_i in
+        let same : true ≡ begins_above p key (f (get_or vs j d)) = sym at_j ∙ ap (begins_above p key) (page_of_map f vs j d within) in
+        let no : false ≡ true = ap not same ∙ e in
+        absurd cc
+
+pub page_for : {V : Type 0} (f : V → List ℕ) (p key : List ℕ) (vs : List V) (r k : ℕ) → AreFilled (map f vs) → AreRising p (concat (map f vs)) → r ≤ length vs → k ≡ r - 1
+    → IsPartitionPoint (λ v. not (begins_above p key (f v)) ≡ true) (λ v. not (begins_above p key (f v)) ≡ false) vs r → IsPageFor p (map f vs) key k
+page_for f p key vs zero k filled rising upto is point =
+    subst (IsPageFor p (map f vs) key) {x = 0} (omega arith) (page_for_first p key (map f vs) rising (λ some. begin vs (λ d within. point.1 0 d (omega arith) within) (omega (arith, length-map vs f))))
+  where
+    begin : (us : List _) → ((d : _) → 0 < length us → not (begins_above p key (f (get_or us 0 d))) ≡ false) → 0 < length us → begins_above p key (page_at (map f us) 0) ≡ true
+    begin [] h some = absurd (omega arith)
+    begin (u ∷ us) h some = not_false _ (h u (omega arith))
+page_for f p key vs (suc r) k filled rising upto is point =
+    let long = length-map vs f in
+    subst (IsPageFor p (map f vs) key) {x = r} (omega arith)
+    (page_for_next p key (map f vs) r filled rising (omega arith)
+    (at_page r (omega arith) (λ b. b ≡ false) (λ d. not_true _ (point.0 r d (omega arith) (omega arith))))
+    (λ more. at_page (suc r) (omega arith) (λ b. b ≡ true) (λ d. not_false _ (point.1 (suc r) d (omega arith) (omega arith)))))
+  where
+    at_page : (i : ℕ) → i < length vs → (P : Bool → Type 0) → ((d : _) → P (begins_above p key (f (get_or vs i d)))) → P (begins_above p key (page_at (map f vs) i))
+    at_page i within P h = go vs refl
+      where
+        go : (us : List _) → us ≡ vs → P (begins_above p key (page_at (map f vs) i))
+        go [] e = absurd (omega (arith, ap length e))
+        go (u ∷ us) e = subst (λ (q : List ℕ). P (begins_above p key q)) (sym (page_of_map f vs i u within)) (h u)
+
+-- ---- the place in the page
+
+pub found_at : (p : List ℕ) (pages : List (List ℕ)) (key : List ℕ) (k index w : ℕ) → index < length (page_at pages k) → w ≡ get_or (page_at pages k) index w → cmp key (key_at p w) ≡ Equal → IsFoundIn p (concat pages) key w
+found_at p pages key k index w within here equal = record {
+  before = words_before pages k index;
+  behind = drop (index + 1) (page_at pages k) ++ words_behind pages (suc k) 0;
+  is = sym (parts_at pages k index)
+      ∙ ap (λ (x : List ℕ). words_before pages k index ++ x) (behind_split pages k index
+      ∙ ap (λ (x : List ℕ). x ++ words_behind pages (suc k) 0) (drop_more (page_at pages k) index w within ∙ ap (λ (v : ℕ). v ∷ drop (index + 1) (page_at pages k)) (sym here)));
+  equal = equal;
+}
+
+pub between_at : (p : List ℕ) (pages : List (List ℕ)) (key : List ℕ) (k index : ℕ) → IsPageFor p pages key k → IsPlaceIn pages k index
+    → AllCompare Greater p key (take index (page_at pages k)) → AllCompare Less p key (drop index (page_at pages k)) → IsBetween p pages key (record { page = k; index = index })
+between_at p pages key k index page inside low high = record {
+  inside = inside;
+  lower = subst (AllCompare Greater p key) (sym (before_split pages k index)) (all_both (λ v. cmp key (key_at p v) ≡ Greater) (words_before pages k 0) (take index (page_at pages k)) page.lower low);
+  higher = subst (AllCompare Less p key) (sym (behind_split pages k index)) (all_both (λ v. cmp key (key_at p v) ≡ Less) (drop index (page_at pages k)) (words_behind pages (suc k) 0) high page.higher);
+}
+
+-- the words of one page rise
+pub page_rising : (p : List ℕ) (pages : List (List ℕ)) (k : ℕ) → AreRising p (concat pages) → AreRising p (page_at pages k)
+page_rising p [] zero r = rising_none p
+page_rising p [] (suc k) r = rising_none p
+page_rising p (page ∷ pages) zero r = rising_first p page (concat pages) r
+page_rising p (page ∷ pages) (suc k) r = page_rising p pages k (rising_last p page (concat pages) r)
+
+-- what a search in halves tells
+reversed : (o q : Ordering) → ordering_reverse o ≡ q → o ≡ ordering_reverse q
+reversed Less q e = ap ordering_reverse e
+reversed Equal q e = ap ordering_reverse e
+reversed Greater q e = ap ordering_reverse e
+
+pub searched_low : (p key ws : List ℕ) (i : ℕ) → AllWithin (λ w. ordering_reverse (cmp key (key_at p w)) ≡ Less) ws 0 i → AllCompare Greater p key (take i ws)
+searched_low p key ws i h = all_front (λ w. cmp key (key_at p w) ≡ Greater) ws i (λ k d low high. reversed (cmp key (key_at p (get_or ws k d))) Less (h k d low high))
+
+pub searched_high : (p key ws : List ℕ) (i : ℕ) → AllWithin (λ w. ordering_reverse (cmp key (key_at p w)) ≡ Greater) ws i (length ws) → AllCompare Less p key (drop i ws)
+searched_high p key ws i h = all_back (λ w. cmp key (key_at p w) ≡ Less) ws i (λ k d low high. reversed (cmp key (key_at p (get_or ws k d))) Greater (h k d low high))
+
+pub searched_equal : (p key ws : List ℕ) (i w : ℕ) → w ≡ get_or ws i w → HoldsAt (λ v. ordering_reverse (cmp key (key_at p v)) ≡ Equal) ws i → cmp key (key_at p w) ≡ Equal
+searched_equal p key ws i w here h = ap (λ v. cmp key (key_at p v)) here ∙ reversed (cmp key (key_at p (get_or ws i w))) Equal (h w)
+
+pub no_page : (p key : List ℕ) (pages : List (List ℕ)) (k : ℕ) → IsPageFor p pages key k → length pages ≤ k → IsBetween p pages key (record { page = k; index = 0 })
+no_page p key [] k page past = record { inside = page.inside; lower = tt; higher = tt }
+no_page p key (first ∷ pages) k page past = absurd (let within = place_page (first ∷ pages) k 0 (omega arith) page.inside in omega arith)
