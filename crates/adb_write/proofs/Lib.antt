@@ -3,6 +3,7 @@ pub mod Rising
 pub mod Pages
 pub mod Compared
 pub mod StoredWords
+pub mod Held
 pub mod Placed
 pub mod RoundTrip
 pub mod Limits

@@ -280,13 +280,13 @@ Leads-append p q i w l =
     let (back, s) = l.stands in
     record { nonzero = l.nonzero; small = l.small; kind_is = l.kind_is; stands = (back ++ q, subst (Stands (p ++ q) (low_of w)) (append_assoc i.bytes back q) (Stands-append p q (low_of w) (i.bytes ++ back) s)) }
 
-int_of-32 : (p : List ℕ) (w n : ℕ) → n < 2 ^ 32 → Leads p (record { kind = 2; align = 4; bytes = to_le_bytes w32 n; entries = 0 }) w → int_of p w ≡ Ok n
+pub int_of-32 : (p : List ℕ) (w n : ℕ) → n < 2 ^ 32 → Leads p (record { kind = 2; align = 4; bytes = to_le_bytes w32 n; entries = 0 }) w → int_of p w ≡ Ok n
 unfolding int_of
 int_of-32 p w n lt l =
     let t0 : eqb w 0 ≡ false = neq-eqb w 0 l.nonzero in
     rw (t0, l.kind_is, number_stands w32 (2 ^ 32) wide32 p (low_of w) n l.stands.0 lt l.stands.1) refl
 
-int_of-64 : (p : List ℕ) (w n : ℕ) → n < 2 ^ 64 → Leads p (record { kind = 3; align = 8; bytes = to_le_bytes w64 n; entries = 0 }) w → int_of p w ≡ Ok n
+pub int_of-64 : (p : List ℕ) (w n : ℕ) → n < 2 ^ 64 → Leads p (record { kind = 3; align = 8; bytes = to_le_bytes w64 n; entries = 0 }) w → int_of p w ≡ Ok n
 unfolding int_of
 int_of-64 p w n lt l =
     let t0 : eqb w 0 ≡ false = neq-eqb w 0 l.nonzero in
@@ -300,19 +300,19 @@ int_of-short p n lt =
     let t2 : low_of (2 ^ 28 + n) ≡ n = omega arith in
     rw (t0, t1, t2) refl
 
-blob_of-8 : (p : List ℕ) (w : ℕ) (b : List ℕ) → length b < 2 ^ 8 → Leads p (record { kind = 8; align = 1; bytes = to_le_bytes w8 (length b) ++ b; entries = 0 }) w → blob_of p w ≡ Ok b
+pub blob_of-8 : (p : List ℕ) (w : ℕ) (b : List ℕ) → length b < 2 ^ 8 → Leads p (record { kind = 8; align = 1; bytes = to_le_bytes w8 (length b) ++ b; entries = 0 }) w → blob_of p w ≡ Ok b
 unfolding blob_of
 blob_of-8 p w b lt l = let t0 : eqb w 0 ≡ false = neq-eqb w 0 l.nonzero in rw (t0, l.kind_is, counted_stands w8 (2 ^ 8) wide8 p (low_of w) b l.stands.0 lt l.stands.1) refl
 
-blob_of-16 : (p : List ℕ) (w : ℕ) (b : List ℕ) → length b < 2 ^ 16 → Leads p (record { kind = 9; align = 2; bytes = to_le_bytes w16 (length b) ++ b; entries = 0 }) w → blob_of p w ≡ Ok b
+pub blob_of-16 : (p : List ℕ) (w : ℕ) (b : List ℕ) → length b < 2 ^ 16 → Leads p (record { kind = 9; align = 2; bytes = to_le_bytes w16 (length b) ++ b; entries = 0 }) w → blob_of p w ≡ Ok b
 unfolding blob_of
 blob_of-16 p w b lt l = let t0 : eqb w 0 ≡ false = neq-eqb w 0 l.nonzero in rw (t0, l.kind_is, counted_stands w16 (2 ^ 16) wide16 p (low_of w) b l.stands.0 lt l.stands.1) refl
 
-blob_of-32 : (p : List ℕ) (w : ℕ) (b : List ℕ) → length b < 2 ^ 32 → Leads p (record { kind = 10; align = 4; bytes = to_le_bytes w32 (length b) ++ b; entries = 0 }) w → blob_of p w ≡ Ok b
+pub blob_of-32 : (p : List ℕ) (w : ℕ) (b : List ℕ) → length b < 2 ^ 32 → Leads p (record { kind = 10; align = 4; bytes = to_le_bytes w32 (length b) ++ b; entries = 0 }) w → blob_of p w ≡ Ok b
 unfolding blob_of
 blob_of-32 p w b lt l = let t0 : eqb w 0 ≡ false = neq-eqb w 0 l.nonzero in rw (t0, l.kind_is, counted_stands w32 (2 ^ 32) wide32 p (low_of w) b l.stands.0 lt l.stands.1) refl
 
-run_of-placed : (kind : ℕ) (p : List ℕ) (w : ℕ) (ws : List ℕ) → AllByRecursion (λ w. w < 2 ^ 32) ws → suc (length ws) < 2 ^ 32 → Leads p (record { kind = kind; align = 4; bytes = run_bytes ws; entries = length ws }) w → run_of kind p w ≡ Ok ws
+pub run_of-placed : (kind : ℕ) (p : List ℕ) (w : ℕ) (ws : List ℕ) → AllByRecursion (λ w. w < 2 ^ 32) ws → suc (length ws) < 2 ^ 32 → Leads p (record { kind = kind; align = 4; bytes = run_bytes ws; entries = length ws }) w → run_of kind p w ≡ Ok ws
 unfolding run_of
 run_of-placed kind p w ws small few l =
     let t0 : eqb w 0 ≡ false = neq-eqb w 0 l.nonzero in

@@ -1,9 +1,10 @@
 -- One call of the writer, as the code makes it.
 use Rattle.std.proofs.Common.{◌≡◌, ◌<◌, ℕ, ◌+◌, ◌*◌, ◌^◌, Bool, true, false, List, [], ◌∷◌, ◌++◌, length, replicate, if◌then◌else◌, Option, Some, None, Result, Ok, Err, OnErr, refl, sym, ap, ◌∙◌, arith}
-use Rattle.std.specs.Prelude.{find}
+use Rattle.std.specs.Prelude.{find, option_map}
 use Rattle.std.proofs.lemmas.List.{length-append, length-replicate}
 use Rattle.adb_write.specs.Canonical.{gap, Item, WrittenItem, apart, in_place, is_equal_item, word_of_item, blob_cell, run_cell, Layout, put_new, put_unless, put_item, layout_counts, passes}
 use Rattle.adb_write.specs.Writing.{Writing, Grows, layout_of, writing_of, unless_over, call, writing_by}
+use Rattle.adb_write.specs.WriterState.{FindsWord}
 
 pub call_past : (i : Item) (body : List ℕ) (items : List WrittenItem) (bytes values : ℕ) → passes (bytes, values) ≡ true → call (apart i) (writing_by body items bytes values) ≡ (0, writing_by body items bytes values)
 unfolding call
@@ -109,3 +110,24 @@ blob_null (x ∷ xs) w e = absurd (omega arith)
 pub run_null : (kind : ℕ) (ws : List ℕ) (w : Writing) → length ws ≡ 0 → call (run_cell kind ws) w ≡ (0, w)
 run_null kind [] w e = call_null w
 run_null kind (x ∷ xs) w e = absurd (omega arith)
+
+found_there : (i : Item) (w : Writing) (word : ℕ) → FindsWord i w word → (there : WrittenItem) × (find (is_equal_item w.body i) w.items ≡ Some there) × (word_of_item there ≡ word)
+found_there i w word e = go (find (is_equal_item w.body i) w.items) refl e
+  where
+    go : (o : Option WrittenItem) → find (is_equal_item w.body i) w.items ≡ o → option_map word_of_item o ≡ Some word → (there : WrittenItem) × (find (is_equal_item w.body i) w.items ≡ Some there) × (word_of_item there ≡ word)
+    go None is f = absurd cc
+    go (Some there) is f = (there, is, cc)
+
+pub repeat_past : (i : Item) (body : List ℕ) (items : List WrittenItem) (bytes values word : ℕ) → passes (bytes, values) ≡ false → bytes ≡ 8 + length body
+    → FindsWord i (writing_by body items bytes values) word → passes (bytes, values + i.entries) ≡ true
+    → call (apart i) (writing_by body items bytes values) ≡ (0, writing_by body items bytes (values + i.entries))
+repeat_past i body items bytes values word fine agree f past =
+    let found = found_there i (writing_by body items bytes values) word f in
+    repeat_stops i body items bytes values found.0 fine agree found.1 past
+
+pub repeat_word : (i : Item) (body : List ℕ) (items : List WrittenItem) (bytes values word : ℕ) → passes (bytes, values) ≡ false → bytes ≡ 8 + length body
+    → FindsWord i (writing_by body items bytes values) word → passes (bytes, values + i.entries) ≡ false
+    → call (apart i) (writing_by body items bytes values) ≡ (word, writing_by body items bytes (values + i.entries))
+repeat_word i body items bytes values word fine agree f fits =
+    let found = found_there i (writing_by body items bytes values) word f in
+    repeat_fits i body items bytes values found.0 fine agree found.1 fits ∙ ap (λ (x : ℕ). (x, writing_by body items bytes (values + i.entries))) found.2

@@ -1,5 +1,5 @@
 -- An item of the program as the layout has it.
-use Rattle.std.specs.Prelude.{ℕ, List, [], ◌++◌, length, take}
+use Rattle.std.specs.Prelude.{ℕ, ◌<◌, ◌^◌, List, []}
 use Rattle.std.specs.List.{flat_map}
 use Rattle.std.specs.Int.{w32, to_le_bytes}
 use Rattle.adb_view.specs.Readers.{ARRAY, OBJECT}
@@ -33,3 +33,9 @@ abbrev pub item_of : Parts → Item
 item_of (Int n) = int_item n
 item_of (Blob b) = blob_item b.now
 item_of (Listed kind ws) = run_item (list_kind kind) ws.now
+
+-- an integer of the program has 64 bits
+abbrev pub HasRoom : Parts → Type 0
+HasRoom (Int n) = n < 2 ^ 64
+HasRoom (Blob b) = Unit {0}
+HasRoom (Listed kind ws) = Unit {0}

@@ -5,7 +5,7 @@ ghost use Rattle.adb_write.specs.Canonical.{passes, gap, in_place, apart, run_ce
 ghost use Rattle.adb_view.specs.Plain.{Plains, int, blob_value, arr_value, obj_value};
 ghost use Rattle.adb_write.specs.DepthFirst.{WritesValue, WritesValues};
 ghost use Rattle.adb_write.specs.Writing.{Writing, Grows, empty_writing, is_over, call, int_call, blob_call, arr_call, obj_call, finish_result};
-ghost use Rattle.adb_write.specs.Items.{list_kind, item_of};
+ghost use Rattle.adb_write.specs.Items.{list_kind, item_of, HasRoom};
 ghost use Rattle.adb_write.specs.WriterState.{IsFinished, FindsWord};
 ghost use Rattle.adb_write.specs.File.{file_of};
 
@@ -127,7 +127,7 @@ impl Writer {
 
     /// Writes a blob, with its length in one byte below 256 bytes, in two below 65,536, else in
     /// four. An empty one is NULL.
-    #[tactic(auto, using(crate::proofs::WriterSteps::blob_null))]
+    #[tactic(auto, using(crate::proofs::WriterSteps::blob_null, crate::proofs::Cells::blob_is))]
     pub fn blob(&mut self, bytes: &[u8]) -> Result<Val, AllocError>
         ensures ok { IfOk result (λ word. (word, self.new) ≡ blob_call bytes.now self.old) }
         ensures written { IfOk result
@@ -187,7 +187,7 @@ impl Writer {
     }
 
     /// Writes a list; an empty one is NULL.
-    #[tactic(auto, using(crate::proofs::WriterSteps::run_null))]
+    #[tactic(auto, using(crate::proofs::WriterSteps::run_null, crate::proofs::Cells::run_is))]
     fn list(&mut self, kind: ListKind, words: &[Val]) -> Result<Val, AllocError>
         ensures ok { IfOk result
             (λ word. (word, self.new) ≡ call (run_cell (list_kind kind) words.now) self.old) }
@@ -215,6 +215,7 @@ impl Writer {
     /// Adds an item, unless an equal one was written: its word, or NULL from the first value on
     /// that passes a limit.
     fn add(&mut self, parts: &Parts<'_>) -> Result<Val, AllocError>
+        requires { HasRoom parts.now }
         ensures ok { IfOk result
             (λ word. (word, self.new) ≡ call (apart (item_of parts.now)) self.old) }
         ensures err { OnErr result (self.new ≡ self.old) }
