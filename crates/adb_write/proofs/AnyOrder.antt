@@ -19,7 +19,7 @@ pub record Stored (c : Cell) (w : Writing) : Type 0 where
   pub state : layout_of (call c w).1 ≡ (put_cell c (layout_of w)).1
   pub fits : Fits c (layout_of w)
 
-fits_of : (c : ℕ × ℕ) → passes c ≡ false → c.0 ≤ MOST_BYTES
+pub fits_of : (c : ℕ × ℕ) → passes c ≡ false → c.0 ≤ MOST_BYTES
 fits_of c e = go (ltb MOST_BYTES c.0) refl e
   where
     go : (b : Bool) → ltb MOST_BYTES c.0 ≡ b → (b || ltb MOST_VALUES c.1) ≡ false → c.0 ≤ MOST_BYTES

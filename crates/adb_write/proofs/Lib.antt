@@ -4,6 +4,7 @@ pub mod Pages
 pub mod Compared
 pub mod StoredWords
 pub mod Held
+pub mod Appended
 pub mod Placed
 pub mod RoundTrip
 pub mod Limits
