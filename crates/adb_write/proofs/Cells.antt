@@ -16,6 +16,10 @@ pub blob_is : (b : List ℕ) → 0 < length b → apart (blob_item b) ≡ blob_c
 blob_is [] some = absurd (omega arith)
 blob_is (x ∷ xs) some = refl
 
+pub blob_filled : (b : List ℕ) → eqb (length b) 0 ≡ false → apart (blob_item b) ≡ blob_cell b
+blob_filled [] some = absurd cc
+blob_filled (x ∷ xs) some = refl
+
 pub run_is : (kind : ℕ) (ws : List ℕ) → 0 < length ws → apart (run_item kind ws) ≡ run_cell kind ws
 run_is kind [] some = absurd (omega arith)
 run_is kind (w ∷ ws) some = refl

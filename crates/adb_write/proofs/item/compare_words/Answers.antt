@@ -1,9 +1,7 @@
-use Rattle.std.proofs.Common.{◌≡◌, ◌≢◌, ◌<◌, ◌^◌, ◌+◌, ℕ, List, length, get_or, sym, ap, ◌∙◌, arith, inl, inr, ◌⊎◌}
+use Rattle.std.proofs.Common.{◌≡◌, ◌≢◌, ◌<◌, ◌^◌, ℕ, length, get_or, sym, ap, ◌∙◌, arith, inl, inr, ◌⊎◌}
 use Rattle.std.specs.Ordering.{nat_cmp}
-use Rattle.std.specs.declared.cmp.Ordering.{Ordering}
 use Rattle.std.specs.declared.cmp.Ordering.TheVariants.{Equal}
 use Rattle.adb_view.specs.Entries.{array_entries}
-use Rattle.adb_write.specs.Keys.{low_words}
 use Rattle.adb_write.proofs.Compared.{equal_step, other_step, last_step, read_at}
 use Rattle.adb_write.proofs.item.compare_words.Goals.{then-loop-i-test+else-i-len, else-loop-i-test}
 use Rattle.adb_write.proofs.item.compare_words.Goals as goal

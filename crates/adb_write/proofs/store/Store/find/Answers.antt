@@ -1,4 +1,4 @@
-use Rattle.std.proofs.Common.{◌≡◌, ap, ◌∙◌}
+use Rattle.std.proofs.Common.{ap, ◌∙◌}
 use Rattle.adb_view.specs.Head.{head_fault}
 use Rattle.adb_write.specs.Keys.{key_of}
 use Rattle.adb_write.specs.Table.{pages_of}

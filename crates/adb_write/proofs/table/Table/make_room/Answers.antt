@@ -1,6 +1,6 @@
-use Rattle.std.proofs.Common.{◌≡◌, ◌<◌, ◌≤◌, ℕ, List, length, sym, ap, subst, ◌∙◌, arith}
+use Rattle.std.proofs.Common.{◌≡◌, ◌<◌, length, sym, ap, subst, ◌∙◌, arith}
 use Rattle.std.proofs.lemmas.List.{length-map}
-use Rattle.adb_write.specs.Table.{AreFilled, HALF, page_at, pages_of, with_split}
+use Rattle.adb_write.specs.Table.{AreFilled, HALF, page_at, pages_of}
 use Rattle.adb_write.proofs.Pages.{place_page, place_index, page_of_map, split_filled, lower_place, upper_place}
 use Rattle.adb_write.proofs.table.Table.make_room.Goals as goal
 

@@ -1,7 +1,7 @@
-use Rattle.std.proofs.Common.{◌≡◌, ◌<◌, ℕ, List, length, take, drop, sym, ap, ◌∙◌, arith}
+use Rattle.std.proofs.Common.{◌≡◌, ◌<◌, length, drop, ◌∙◌, arith}
 use Rattle.std.proofs.lemmas.List.{length-map}
 use Rattle.adb_write.specs.Table.{HALF, page_at, pages_of}
-use Rattle.adb_write.proofs.Pages.{page_of_map, split_vectors, upper_copy}
+use Rattle.adb_write.proofs.Pages.{split_vectors, upper_copy}
 use Rattle.adb_write.proofs.table.Table.split.Goals as goal
 
 pub returns-clause-ok : goal.returns-clause-ok
