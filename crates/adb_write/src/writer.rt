@@ -178,7 +178,8 @@ impl Writer {
                 values: self.counts.values,
             });
         }
-        let mut payload = self.store.payload;
+        let store = self.store;
+        let mut payload = store.payload;
         if payload.is_empty() {
             payload.resize(HEAD as usize, 0)?;
         }
