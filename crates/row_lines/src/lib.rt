@@ -8,7 +8,7 @@
 mod reading;
 
 use base_core::Words;
-pub use reading::{number_of, word_at, words_behind};
+pub use reading::{number_of, value_named, word_at, words_behind};
 use reading::{bytes_of, words_of};
 use std::alloc::{AllocError, Global};
 

@@ -39,6 +39,16 @@ pub fn words_behind(alloc: Global, words: &Words, first: usize) -> Result<Words,
     Ok(rest)
 }
 
+/// What stands beside a word in a table.
+pub fn value_named<T: Copy>(table: &[(&[u8], T)], word: &[u8]) -> Option<T> {
+    for (name, value) in table {
+        if *name == word {
+            return Some(*value);
+        }
+    }
+    None
+}
+
 /// The number that a word is: in decimal digits, or behind `0x` in hexadecimal ones.
 pub fn number_of(word: &[u8]) -> Option<u128> {
     match word.strip_prefix(b"0x") {
@@ -83,8 +93,8 @@ struct Unescaped {
 }
 
 /// The bytes that a text stands for: `\n` is a line's end, `\s` a space, `\e` nothing, `\x` and two
-/// hexadecimal digits that byte, a byte and `\{n}` that byte n times, and a backslash and another byte
-/// that byte.
+/// hexadecimal digits that byte, a byte and `\{n}` that byte n times, and a backslash and another
+/// byte that byte.
 pub(crate) fn bytes_of(alloc: Global, text: &[u8]) -> Result<Vec<u8>, AllocError> {
     let mut unescaped = Unescaped {
         bytes: Vec::new(alloc),
