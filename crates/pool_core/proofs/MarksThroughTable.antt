@@ -1,5 +1,5 @@
 -- Marks that are set through the table of names.
-use Rattle.std.proofs.Common.{◌≡◌, inl, inr, ℕ, zero, suc, ◌+◌, ◌<◌, Bool, true, false, List, [], ◌∷◌, ◌++◌, length, map, refl, sym, subst, ap, ◌∙◌, arith}
+use Rattle.std.proofs.Common.{◌≡◌, inl, inr, ℕ, zero, suc, Bool, true, false, List, [], ◌∷◌, ◌++◌, length, map, refl, sym, subst, ap, ◌∙◌, arith}
 use Rattle.std.specs.Prelude.{Option, Some, None, slice_get, ◌&&◌, ◌||◌, not}
 use Rattle.std.specs.Option.{option_map_or}
 use Rattle.std.specs.Cmp.Lexicographic.{bytes_decides}
@@ -9,7 +9,7 @@ use Rattle.std.proofs.Math.ListN.{set}
 use Rattle.dep_core.specs.Dependency.{Dependency}
 use Rattle.pool_core.specs.declared.marks.Effect.{Effect}
 use Rattle.pool_core.specs.declared.marks.Effect.TheVariants.{Exclusion, Pin}
-use Rattle.pool_core.specs.Candidates.{Candidate, is_allowed, is_excluded_by, meets_dependency, offers_name}
+use Rattle.pool_core.specs.Candidates.{Candidate, is_allowed, is_excluded_by, offers_name}
 use Rattle.pool_core.specs.Marks.{affects, is_affected, mark_at, marks_with}
 use Rattle.pool_core.specs.Options.{places_from}
 use Rattle.pool_core.specs.Rank.{is_pinned, is_pinned_to}

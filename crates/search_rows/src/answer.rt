@@ -60,6 +60,9 @@ fn answer_of(alloc: Global, row: &Row<'_>, query: &[u8]) -> Result<Vec<u8>, RowF
         payloads.push(index_payload(alloc, repository.packages)?)?;
     }
     let installed = index_payload(alloc, row.installed)?;
+    if query == b"bytes".as_slice() {
+        return byte_count(alloc, &payloads);
+    }
     let Ok(world) = World::read(alloc, row.world) else {
         return Err(RowFault::Text);
     };
@@ -75,6 +78,16 @@ fn answer_of(alloc: Global, row: &Row<'_>, query: &[u8]) -> Result<Vec<u8>, RowF
         text = packages.answer(alloc, &world, query)?;
     }
     Ok(text)
+}
+
+// How many bytes the payloads of the repositories have.
+fn byte_count(alloc: Global, payloads: &[Vec<u8>]) -> Result<Vec<u8>, RowFault> {
+    let mut count = 0u64;
+    for payload in payloads {
+        count = count.saturating_add(payload.len() as u64);
+    }
+    let text = format!(in alloc; "{count}")?;
+    Ok(Vec::from_slice(alloc, text.as_bytes())?)
 }
 
 /// The packages of a row, as payloads, and what the command upgrades.

@@ -45,6 +45,7 @@ impl<'t> Run<'t> {
                 Ok(())
             }
             b">" => self.compare(rest, report),
+            b"?" => self.print(report),
             _ => self.take_row_line(line, report),
         }
     }
@@ -86,12 +87,26 @@ impl<'t> Run<'t> {
         self.fail(query, found.as_slice(), report)
     }
 
-    fn fail(&mut self, what: &[u8], why: &[u8], report: &mut Vec<u8>) -> Result<(), AllocError> {
-        self.failed = self.failed.saturating_add(1);
-        for part in [b"FAILED ", self.row.name, b": ", what, b": ", why, b"\n"] {
+    // Prints the answer of the last question.
+    fn print(&mut self, report: &mut Vec<u8>) -> Result<(), AllocError> {
+        let Some(query) = self.query.take() else {
+            return self.fail(b"?", b"nothing is asked", report);
+        };
+        self.answers = self.answers.saturating_add(1);
+        let found = answer(self.alloc, &self.row, query)?;
+        self.add_line(&[self.row.name, b": ", query, b": ", found.as_slice()], report)
+    }
+
+    fn add_line(&self, parts: &[&[u8]], report: &mut Vec<u8>) -> Result<(), AllocError> {
+        for part in parts {
             report.extend_from_slice(part)?;
         }
-        Ok(())
+        report.extend_from_slice(b"\n")
+    }
+
+    fn fail(&mut self, what: &[u8], why: &[u8], report: &mut Vec<u8>) -> Result<(), AllocError> {
+        self.failed = self.failed.saturating_add(1);
+        self.add_line(&[b"FAILED ", self.row.name, b": ", what, b": ", why], report)
     }
 
     fn add_counts(&self, report: &mut Vec<u8>) -> Result<(), AllocError> {

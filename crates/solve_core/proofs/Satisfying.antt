@@ -49,9 +49,9 @@ bytes_same a b e = (bytes_decides a b).1 e
 provides_alone : List ℕ → Dependency → Bool
 provides_alone name p = not p.conflict && (is_some p.version && bytes_eq name p.name)
 
-held_holds : (k : Candidate) (name : List ℕ) → IsMember name (occupied_names k) → occupies_name name k ≡ true
-held_holds k name (inl e) = true_or (bytes_eq name k.name) _ (inl (bytes_same name k.name e))
-held_holds k name (inr h) =
+listed_is_occupied : (k : Candidate) (name : List ℕ) → IsMember name (occupied_names k) → occupies_name name k ≡ true
+listed_is_occupied k name (inl e) = true_or (bytes_eq name k.name) _ (inl (bytes_same name k.name e))
+listed_is_occupied k name (inr h) =
     let of : Dependency → List ℕ = λ (p : Dependency). p.name in
     let alone : Dependency → Bool = λ (p : Dependency). not p.conflict && is_some p.version in
     let m = map_in of name (filter alone k.provides) h in
@@ -79,7 +79,7 @@ module _ (pool : SealedPool) where
     where
       by : (o : Option Candidate) → IsMember name (option_map_or occupied_names o []) → option_map_or (occupies_name name) o false ≡ true
       by None h = absurd h
-      by (Some k) h = held_holds k name h
+      by (Some k) h = listed_is_occupied k name h
 
   pub occupied_is_listed_at : (a : ℕ) (name : List ℕ) → is_at pool (occupies_name name) a ≡ true → IsMember name (occupied_names_at pool a)
   occupied_is_listed_at a name h = by (candidate_at pool a) h
