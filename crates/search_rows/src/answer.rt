@@ -123,10 +123,8 @@ impl<'a> Packages<'a> {
     // The pool of all packages.
     fn pool(&self, alloc: Global) -> Result<Pool<'a>, RowFault> {
         let mut pool = Pool::new(alloc);
-        let mut number = 0u64;
         for (repository, payload) in self.repositories.iter().zip(self.payloads) {
-            number = number.saturating_add(1);
-            pool.add_index(view_of(payload)?, number, repository.tag)?;
+            pool.add_index(view_of(payload)?, repository.number, repository.tag)?;
         }
         let packages = view_of(self.installed)?.packages();
         for i in 0..packages.len() {
@@ -212,8 +210,8 @@ fn selection(
     texts_of(alloc, pool, ids.as_slice())
 }
 
-// The names and versions of candidates, and for each that is no first repository's a mark: the
-// number of its repository behind `/`, or `/0` where it has none.
+// The names and versions of candidates, each with the number of its repository behind `/` unless it
+// is 1; it is 0 where it has none.
 fn texts_of(alloc: Global, pool: &Sealed<'_>, ids: &[CandId]) -> Result<Vec<u8>, RowFault> {
     let mut text = Vec::new(alloc);
     for id in ids {

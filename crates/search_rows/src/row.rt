@@ -4,6 +4,8 @@ use std::alloc::{AllocError, Global};
 /// The packages of a repository.
 #[derive(Clone, Copy)]
 pub struct Repository<'t> {
+    /// Its number; where the row says none, how many there are with it.
+    pub number: u64,
     /// Its tag, if it has one.
     pub tag: Option<&'t [u8]>,
     /// Its packages, as `package` reads them.
@@ -53,7 +55,8 @@ impl<'t> Row<'t> {
         let (word, rest) = split_word(line);
         match word {
             b"repository" => {
-                self.repositories.push(repository_of(rest))?;
+                let number = (self.repositories.len() as u64).saturating_add(1);
+                self.repositories.push(repository_of(rest, number))?;
             }
             b"installed" => self.installed = rest,
             b"world" => self.world = rest,
@@ -65,15 +68,22 @@ impl<'t> Row<'t> {
     }
 }
 
-// The repository of a line, whose tag stands first behind `@`.
-fn repository_of<'t>(text: &'t [u8]) -> Repository<'t> {
+// The repository of a line, whose tag stands first behind `@`, or its number behind `/`.
+fn repository_of<'t>(text: &'t [u8], number: u64) -> Repository<'t> {
     let (word, rest) = split_word(text);
     match word {
         [b'@', tag @ ..] => Repository {
+            number,
             tag: Some(tag),
             packages: rest,
         },
+        [b'/', digits @ ..] => Repository {
+            number: number_of(digits),
+            tag: None,
+            packages: rest,
+        },
         _ => Repository {
+            number,
             tag: None,
             packages: text,
         },
