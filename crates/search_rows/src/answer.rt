@@ -1,4 +1,6 @@
 //! What is asked of a row, and the answers as texts.
+ghost use Rattle.std.specs.Prelude.{◌≡◌};
+
 use crate::package::index_payload;
 use crate::row::{Repository, Row, split_word};
 use adb_schema::{Checked, IndexView, Which, shape};
@@ -100,12 +102,7 @@ struct Packages<'a> {
 }
 
 impl<'a> Packages<'a> {
-    fn answer(
-        &self,
-        alloc: Global,
-        world: &'a World,
-        query: &[u8],
-    ) -> Result<Vec<u8>, RowFault> {
+    fn answer(&self, alloc: Global, world: &'a World, query: &[u8]) -> Result<Vec<u8>, RowFault> {
         let pool = self.pool(alloc)?;
         let sealed = pool.seal(world, self.upgrade)?;
         let (word, rest) = split_word(query);

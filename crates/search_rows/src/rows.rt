@@ -94,7 +94,10 @@ impl<'t> Run<'t> {
         };
         self.answers = self.answers.saturating_add(1);
         let found = answer(self.alloc, &self.row, query)?;
-        self.add_line(&[self.row.name, b": ", query, b": ", found.as_slice()], report)
+        self.add_line(
+            &[self.row.name, b": ", query, b": ", found.as_slice()],
+            report,
+        )
     }
 
     fn add_line(&self, parts: &[&[u8]], report: &mut Vec<u8>) -> Result<(), AllocError> {
@@ -106,12 +109,17 @@ impl<'t> Run<'t> {
 
     fn fail(&mut self, what: &[u8], why: &[u8], report: &mut Vec<u8>) -> Result<(), AllocError> {
         self.failed = self.failed.saturating_add(1);
-        self.add_line(&[b"FAILED ", self.row.name, b": ", what, b": ", why], report)
+        self.add_line(
+            &[b"FAILED ", self.row.name, b": ", what, b": ", why],
+            report,
+        )
     }
 
     fn add_counts(&self, report: &mut Vec<u8>) -> Result<(), AllocError> {
-        let line = format!(in self.alloc; "{} rows, {} answers, {} failed\n",
-            self.rows, self.answers, self.failed)?;
+        let line = format!(in self.alloc;
+            "{} rows, {} answers, {} failed\n",
+            self.rows, self.answers, self.failed
+        )?;
         report.extend_from_slice(line.as_bytes())
     }
 }
