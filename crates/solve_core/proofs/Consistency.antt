@@ -1,4 +1,4 @@
--- What a search keeps, when a choice is made and when one is taken back.
+-- Choices stay consistent when one is made and when one is taken back.
 use Rattle.std.proofs.Common.{◌≡◌, inl, inr, ℕ, zero, suc, ◌+◌, ◌≤◌, ◌<◌, Bool, true, false, List, [], ◌∷◌, ◌++◌, length, take, refl, sym, subst, ap, ◌∙◌, arith, append_assoc, append-nil}
 use Rattle.std.specs.Prelude.{Option, Some, None, slice_get, if◌then◌else◌, option_to_list, map, is_some, MatchOption, not}
 use Rattle.std.specs.Bool.{MatchBool}
@@ -24,26 +24,26 @@ use Rattle.solve_core.proofs.Queued.{filter_twice, filtered, find_here, past_end
 abbrev pub IsBefore : SealedPool → List ℕ → Checkpoint → Type 0
 IsBefore pool u b = (b.queue ≡ length (queue_of pool u)) × AreMet pool u b.at × (b.with_conflicts ≡ length (filter (has_conflict_at pool) u))
 
-pub saved_more : (pool : SealedPool) (u cs : List ℕ) (bs : List Checkpoint) (c : ℕ) (b : Checkpoint) → AreCheckpoints pool u cs bs → IsBefore pool (u ++ cs) b → AreCheckpoints pool u (cs ++ c ∷ []) (bs ++ b ∷ [])
-saved_more pool u [] [] c b checkpoints last =
+pub checkpoints_more : (pool : SealedPool) (u cs : List ℕ) (bs : List Checkpoint) (c : ℕ) (b : Checkpoint) → AreCheckpoints pool u cs bs → IsBefore pool (u ++ cs) b → AreCheckpoints pool u (cs ++ c ∷ []) (bs ++ b ∷ [])
+checkpoints_more pool u [] [] c b checkpoints last =
     let l : IsBefore pool u b = subst (λ (z : List ℕ). IsBefore pool z b) (append-nil u) last in
     (l.0, l.1, l.2, tt)
-saved_more pool u [] (x ∷ bs) c b checkpoints last = absurd checkpoints
-saved_more pool u (d ∷ cs) [] c b checkpoints last = absurd checkpoints
-saved_more pool u (d ∷ cs) (x ∷ bs) c b checkpoints last =
-    (checkpoints.0, checkpoints.1, checkpoints.2, saved_more pool (u ++ d ∷ []) cs bs c b checkpoints.3 (subst (λ (z : List ℕ). IsBefore pool z b) (sym (append_assoc u (d ∷ []) cs)) last))
+checkpoints_more pool u [] (x ∷ bs) c b checkpoints last = absurd checkpoints
+checkpoints_more pool u (d ∷ cs) [] c b checkpoints last = absurd checkpoints
+checkpoints_more pool u (d ∷ cs) (x ∷ bs) c b checkpoints last =
+    (checkpoints.0, checkpoints.1, checkpoints.2, checkpoints_more pool (u ++ d ∷ []) cs bs c b checkpoints.3 (subst (λ (z : List ℕ). IsBefore pool z b) (sym (append_assoc u (d ∷ []) cs)) last))
 
-pub saved_none : (pool : SealedPool) (u cs : List ℕ) → AreCheckpoints pool u cs [] → cs ≡ []
-saved_none pool u [] checkpoints = refl
-saved_none pool u (c ∷ cs) checkpoints = absurd checkpoints
+pub checkpoints_none : (pool : SealedPool) (u cs : List ℕ) → AreCheckpoints pool u cs [] → cs ≡ []
+checkpoints_none pool u [] checkpoints = refl
+checkpoints_none pool u (c ∷ cs) checkpoints = absurd checkpoints
 
-pub saved_less : (pool : SealedPool) (u cs : List ℕ) (bs : List Checkpoint) (b : Checkpoint) → AreCheckpoints pool u cs (bs ++ b ∷ []) → (rest : List ℕ) × (c : ℕ) × (cs ≡ rest ++ c ∷ []) × AreCheckpoints pool u rest bs × IsBefore pool (u ++ rest) b
-saved_less pool u [] [] b checkpoints = absurd checkpoints
-saved_less pool u [] (x ∷ bs) b checkpoints = absurd checkpoints
-saved_less pool u (d ∷ cs) [] b checkpoints =
-    ([], d, ap (λ (z : List ℕ). d ∷ z) (saved_none pool (u ++ d ∷ []) cs checkpoints.3), tt, subst (λ (z : List ℕ). IsBefore pool z b) (sym (append-nil u)) (checkpoints.0, checkpoints.1, checkpoints.2))
-saved_less pool u (d ∷ cs) (x ∷ bs) b checkpoints =
-    let r = saved_less pool (u ++ d ∷ []) cs bs b checkpoints.3 in
+pub checkpoints_less : (pool : SealedPool) (u cs : List ℕ) (bs : List Checkpoint) (b : Checkpoint) → AreCheckpoints pool u cs (bs ++ b ∷ []) → (rest : List ℕ) × (c : ℕ) × (cs ≡ rest ++ c ∷ []) × AreCheckpoints pool u rest bs × IsBefore pool (u ++ rest) b
+checkpoints_less pool u [] [] b checkpoints = absurd checkpoints
+checkpoints_less pool u [] (x ∷ bs) b checkpoints = absurd checkpoints
+checkpoints_less pool u (d ∷ cs) [] b checkpoints =
+    ([], d, ap (λ (z : List ℕ). d ∷ z) (checkpoints_none pool (u ++ d ∷ []) cs checkpoints.3), tt, subst (λ (z : List ℕ). IsBefore pool z b) (sym (append-nil u)) (checkpoints.0, checkpoints.1, checkpoints.2))
+checkpoints_less pool u (d ∷ cs) (x ∷ bs) b checkpoints =
+    let r = checkpoints_less pool (u ++ d ∷ []) cs bs b checkpoints.3 in
     (d ∷ r.0, r.1, ap (λ (z : List ℕ). d ∷ z) r.2, (checkpoints.0, checkpoints.1, checkpoints.2, r.3), subst (λ (z : List ℕ). IsBefore pool z b) (append_assoc u (d ∷ []) r.0) r.4)
 
 pub never_empty : (rest : List ℕ) (c : ℕ) → [] ≡ rest ++ c ∷ [] → ⊥
@@ -58,29 +58,29 @@ at_within p [] (suc k) h = absurd (cc)
 at_within p (x ∷ xs) zero h = omega arith
 at_within p (x ∷ xs) (suc k) h = let r = at_within p xs k h in omega arith
 
-pub holds_within : (pool : SealedPool) (p : Candidate → Bool) (k : ℕ) → is_at pool p k ≡ true → k < length pool.candidates
-holds_within pool p k h = at_within p pool.candidates k h
+pub passing_is_within : (pool : SealedPool) (p : Candidate → Bool) (k : ℕ) → is_at pool p k ≡ true → k < length pool.candidates
+passing_is_within pool p k h = at_within p pool.candidates k h
 
 -- ---- a choice is made
 
-armed_one : (pool : SealedPool) (c : ℕ) → filter (has_conflict_at pool) (c ∷ []) ≡ (if list_any (λ (d : Dependency). d.conflict) (depends_at pool c) then c ∷ [] else [])
-armed_one pool c = refl
+conflicting_one : (pool : SealedPool) (c : ℕ) → filter (has_conflict_at pool) (c ∷ []) ≡ (if list_any (λ (d : Dependency). d.conflict) (depends_at pool c) then c ∷ [] else [])
+conflicting_one pool c = refl
 
-pub kept_more : (old new : Choices) (c : ℕ) (deps : List Dependency) (b : Checkpoint) → IsConsistent old → c < length (pool_of old).candidates → deps ≡ depends_at (pool_of old) c → pool_of new ≡ pool_of old → choices_of new ≡ choices_of old ++ c ∷ [] → new.queue.items ≡ old.queue.items ++ raised_deps (Some c) deps → new.at ≡ old.at → new.with_conflicts.items ≡ old.with_conflicts.items ++ (if list_any (λ (d : Dependency). d.conflict) deps then c ∷ [] else []) → new.checkpoints.items ≡ old.checkpoints.items ++ b ∷ [] → b.queue ≡ length old.queue.items → b.at ≡ old.at → b.with_conflicts ≡ length old.with_conflicts.items → IsConsistent new
-kept_more old new c deps b consistent small is pool choices queue at with_conflicts checkpoints b_queue b_at b_armed =
+pub consistent_more : (old new : Choices) (c : ℕ) (deps : List Dependency) (b : Checkpoint) → IsConsistent old → c < length (pool_of old).candidates → deps ≡ depends_at (pool_of old) c → pool_of new ≡ pool_of old → choices_of new ≡ choices_of old ++ c ∷ [] → new.queue.items ≡ old.queue.items ++ raised_deps (Some c) deps → new.at ≡ old.at → new.with_conflicts.items ≡ old.with_conflicts.items ++ (if list_any (λ (d : Dependency). d.conflict) deps then c ∷ [] else []) → new.checkpoints.items ≡ old.checkpoints.items ++ b ∷ [] → b.queue ≡ length old.queue.items → b.at ≡ old.at → b.with_conflicts ≡ length old.with_conflicts.items → IsConsistent new
+consistent_more old new c deps b consistent small is pool choices queue at with_conflicts checkpoints b_queue b_at b_conflicts =
     let p = pool_of old in
     let t = choices_of old in
     let t' = t ++ c ∷ [] in
     let before : IsBefore p t b =
-    (b_queue ∙ ap length consistent.queue, subst (λ (k : ℕ). AreMet p t k) (sym b_at) consistent.met, b_armed ∙ ap length consistent.with_conflicts) in
+    (b_queue ∙ ap length consistent.queue, subst (λ (k : ℕ). AreMet p t k) (sym b_at) consistent.met, b_conflicts ∙ ap length consistent.with_conflicts) in
     let all_queue : new.queue.items ≡ queue_of p t' =
     queue ∙ (ap (λ (z : List RaisedDepValue). z ++ raised_deps (Some c) deps) consistent.queue ∙ (ap (λ (z : List Dependency). queue_of p t ++ raised_deps (Some c) z) is ∙ sym (queue_more p t c))) in
-    let all_armed : new.with_conflicts.items ≡ filter (has_conflict_at p) t' =
+    let all_conflicting : new.with_conflicts.items ≡ filter (has_conflict_at p) t' =
     with_conflicts ∙ (ap (λ (z : List ℕ). z ++ (if list_any (λ (d : Dependency). d.conflict) deps then c ∷ [] else [])) consistent.with_conflicts
     ∙ (ap (λ (z : List Dependency). filter (has_conflict_at p) t ++ (if list_any (λ (d : Dependency). d.conflict) z then c ∷ [] else [])) is ∙ sym (filtered (has_conflict_at p) t (c ∷ [])))) in
     let all_met : AreMet p t' new.at = subst (λ (k : ℕ). AreMet p t' k) (sym at) (met_more p t c old.at consistent.met) in
     let all_saved : AreCheckpoints p [] t' new.checkpoints.items =
-    subst (λ (z : List Checkpoint). AreCheckpoints p [] t' z) (sym checkpoints) (saved_more p [] t old.checkpoints.items c b consistent.checkpoints before) in
+    subst (λ (z : List Checkpoint). AreCheckpoints p [] t' z) (sym checkpoints) (checkpoints_more p [] t old.checkpoints.items c b consistent.checkpoints before) in
     let all_within : (k : ℕ) → IsMember k t' → k < length p.candidates = λ k h. elim (in_append k t (c ∷ []) h) [
       | inl a ↦ consistent.within k a
       | inr d ↦ elim d [ inl e ↦ subst (λ (z : ℕ). z < length p.candidates) (sym e) small | inr bad ↦ absurd bad ]
@@ -89,7 +89,7 @@ kept_more old new c deps b consistent small is pool choices queue at with_confli
       within = λ k h. subst (λ (q : SealedPool). k < length q.candidates) (sym pool) (all_within k (subst (λ (z : List ℕ). IsMember k z) choices h));
       queue = all_queue ∙ (ap (queue_of p) (sym choices) ∙ ap (λ (q : SealedPool). queue_of q (choices_of new)) (sym pool));
       met = subst (λ (q : SealedPool). AreMet q (choices_of new) new.at) (sym pool) (subst (λ (z : List ℕ). AreMet p z new.at) (sym choices) all_met);
-      with_conflicts = all_armed ∙ (ap (filter (has_conflict_at p)) (sym choices) ∙ ap (λ (q : SealedPool). filter (has_conflict_at q) (choices_of new)) (sym pool));
+      with_conflicts = all_conflicting ∙ (ap (filter (has_conflict_at p)) (sym choices) ∙ ap (λ (q : SealedPool). filter (has_conflict_at q) (choices_of new)) (sym pool));
       checkpoints = subst (λ (q : SealedPool). AreCheckpoints q [] (choices_of new) new.checkpoints.items) (sym pool) (subst (λ (z : List ℕ). AreCheckpoints p [] z new.checkpoints.items) (sym choices) all_saved);
     }
 
@@ -105,8 +105,8 @@ met_start pool t = (omega arith, ap (find (is_unmet_dep pool t)) (take_none (que
 abbrev of_world : Dependency → RaisedDepValue
 of_world d = (d, None)
 
-pub kept_start : (chosen : Choices) → choices_of chosen ≡ [] → chosen.queue.items ≡ [] ++ raised_deps None (positive_entries_of (pool_of chosen).world) → chosen.at ≡ 0 → chosen.with_conflicts.items ≡ [] → chosen.checkpoints.items ≡ [] → IsConsistent chosen
-kept_start chosen none queue at with_conflicts checkpoints =
+pub consistent_start : (chosen : Choices) → choices_of chosen ≡ [] → chosen.queue.items ≡ [] ++ raised_deps None (positive_entries_of (pool_of chosen).world) → chosen.at ≡ 0 → chosen.with_conflicts.items ≡ [] → chosen.checkpoints.items ≡ [] → IsConsistent chosen
+consistent_start chosen none queue at with_conflicts checkpoints =
     let p = pool_of chosen in
     let all : raised_deps None (positive_entries_of p.world) ≡ queue_of p [] =
     ap (map of_world) (filter_twice (λ (d : Dependency). not d.conflict) p.world) ∙ sym (append-nil (raised_deps None p.world)) in
@@ -120,8 +120,8 @@ kept_start chosen none queue at with_conflicts checkpoints =
 
 -- ---- the cursor
 
-pub kept_on : (old new : Choices) → IsConsistent old → pool_of new ≡ pool_of old → choices_of new ≡ choices_of old → new.queue.items ≡ old.queue.items → new.with_conflicts.items ≡ old.with_conflicts.items → new.checkpoints.items ≡ old.checkpoints.items → AreMet (pool_of old) (choices_of old) new.at → IsConsistent new
-kept_on old new consistent pool choices queue with_conflicts checkpoints met =
+pub consistent_on : (old new : Choices) → IsConsistent old → pool_of new ≡ pool_of old → choices_of new ≡ choices_of old → new.queue.items ≡ old.queue.items → new.with_conflicts.items ≡ old.with_conflicts.items → new.checkpoints.items ≡ old.checkpoints.items → AreMet (pool_of old) (choices_of old) new.at → IsConsistent new
+consistent_on old new consistent pool choices queue with_conflicts checkpoints met =
     let p = pool_of old in
     let t = choices_of old in
     record {
@@ -245,7 +245,7 @@ past_by pool t queue at is met none =
 pub taken_within : (pool : SealedPool) → ((need : Need) → HasOptions pool need) → (t : List ℕ) (f : FrameValue) (id : ℕ) → IsFrameTaking pool t f id → id < length pool.candidates
 taken_within pool has t f id taken =
     let there : IsMember id (options_for pool taken.0) = subst (λ (z : List ℕ). IsMember id z) (sym taken.2) (in_right id (options_in f.0) (id ∷ f.1) (inl refl)) in
-    holds_within pool (is_eligible pool.world) id ((has taken.0).those id there).0
+    passing_is_within pool (is_eligible pool.world) id ((has taken.0).those id there).0
 
 pub item_in : (xs : List ℕ) (i x : ℕ) → i < length xs → x ≡ get_or xs i x → IsMember x xs
 item_in [] i x h e = absurd (omega arith)

@@ -1,4 +1,4 @@
--- Names that two candidates hold alone.
+-- Names that two candidates occupy.
 use Rattle.std.proofs.Common.{◌≡◌, inl, inr, ℕ, Bool, true, false, List, [], ◌∷◌, map, refl, sym, ap, ◌∙◌}
 use Rattle.std.specs.Prelude.{not, ◌&&◌, ◌||◌, is_some}
 use Rattle.std.specs.List.{filter, list_any}
@@ -16,12 +16,12 @@ any_filtered q f (p ∷ ps) = elim (bool_cases (q p)) [
 ]
 
 -- it holds the other's name
-pub held_first : (one other : Candidate) → occupies_name one.name other ≡ true → list_any (λ name. occupies_name name other) (occupied_names one) ≡ true
-held_first one other h = rw h refl
+pub occupied_first : (one other : Candidate) → occupies_name one.name other ≡ true → list_any (λ name. occupies_name name other) (occupied_names one) ≡ true
+occupied_first one other h = rw h refl
 
 -- it does not, so what counts are the names that the other provides with a version
-pub held_rest : (X : Type 0) (seen : X → Dependency) (one other : Candidate) (ps : List X) → map seen ps ≡ one.provides → occupies_name one.name other ≡ false → list_any (λ x. (not (seen x).conflict && is_some (seen x).version) && occupies_name (seen x).name other) ps ≡ list_any (λ name. occupies_name name other) (occupied_names one)
-held_rest X seen one other ps is h =
+pub occupied_rest : (X : Type 0) (seen : X → Dependency) (one other : Candidate) (ps : List X) → map seen ps ≡ one.provides → occupies_name one.name other ≡ false → list_any (λ x. (not (seen x).conflict && is_some (seen x).version) && occupies_name (seen x).name other) ps ≡ list_any (λ name. occupies_name name other) (occupied_names one)
+occupied_rest X seen one other ps is h =
     let test : Dependency → Bool = λ (p : Dependency). (not p.conflict && is_some p.version) && occupies_name p.name other in
     sym (any_map test seen ps) ∙ (ap (list_any test) is
     ∙ (sym (any_filtered (λ (p : Dependency). not p.conflict && is_some p.version) (λ name. occupies_name name other) one.provides)
