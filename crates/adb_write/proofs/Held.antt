@@ -12,9 +12,9 @@ use Rattle.base_core.specs.declared.cause.Cause.{Cause}
 use Rattle.adb_view.specs.Head.{head_fault}
 use Rattle.adb_view.specs.Readers.{kind_of, low_of}
 use Rattle.adb_write.specs.Canonical.{Item, WrittenItem, is_equal_item, word_of_item, MOST_BYTES}
-use Rattle.adb_write.specs.Items.{item_of, HasRoom}
+use Rattle.adb_write.specs.Items.{item_of, HasNumbersInRange}
 use Rattle.adb_write.specs.declared.item.Parts.{Parts}
-use Rattle.adb_write.specs.Keys.{key_of, key_at, AreRising}
+use Rattle.adb_write.specs.Keys.{key_of, key_at, HaveRisingKeys}
 use Rattle.adb_write.specs.Table.{AreFilled, AllCompare, IsFoundIn, IsBetween}
 use Rattle.adb_write.specs.WriterState.{HasHead, IsStored, AreStored, written_item, with_item, items_of_words}
 use Rattle.adb_write.proofs.Found.{find-none, Has}
@@ -85,7 +85,7 @@ new_item (v ∷ before) w behind a =
 -- ---- what the table tells of the items
 
 -- no item equals one that is neither lower nor higher
-pub not_found : (p : List ℕ) (parts : Parts) (ws : List ℕ) (before behind : List ℕ) → before ++ behind ≡ ws → AreStored p ws → HasRoom parts → length p ≤ MOST_BYTES
+pub not_found : (p : List ℕ) (parts : Parts) (ws : List ℕ) (before behind : List ℕ) → before ++ behind ≡ ws → AreStored p ws → HasNumbersInRange parts → length p ≤ MOST_BYTES
     → AllCompare Greater p (key_of parts) before → AllCompare Less p (key_of parts) behind → find (is_equal_item (drop 8 p) (item_of parts)) (items_of_words ws) ≡ None
 not_found p parts ws before behind is stored room few low high =
     find-none (is_equal_item (drop 8 p) (item_of parts)) (items_of_words ws)
@@ -101,10 +101,10 @@ not_found p parts ws before behind is stored room few low high =
     not_equal w s ne false e = e
 
 -- the words with the key of the one that is found
-pub found_item : (p : List ℕ) (parts : Parts) (ws : List ℕ) (w : ℕ) → AreStored p ws → AreRising p ws → HasRoom parts → length p ≤ MOST_BYTES → IsFoundIn p ws (key_of parts) w
+pub found_item : (p : List ℕ) (parts : Parts) (ws : List ℕ) (w : ℕ) → AreStored p ws → HaveRisingKeys p ws → HasNumbersInRange parts → length p ≤ MOST_BYTES → IsFoundIn p ws (key_of parts) w
     → find (is_equal_item (drop 8 p) (item_of parts)) (items_of_words ws) ≡ Some (written_item w)
 found_item p parts ws w stored rising room few f =
-    let rs = subst (AreRising p) f.is rising in
+    let rs = subst (HaveRisingKeys p) f.is rising in
     let ss = subst (AreStored p) f.is stored in
     let own : IsStored p w = (all_last (IsStored p) f.before (w ∷ f.behind) ss).0 in
     let below = all_into (λ v. IsBelow p v w) (λ v. cmp (key_of parts) (key_at p v) ≢ Equal) (λ v b e. differ v b e) f.before (rising_before p f.before w f.behind rs) in
@@ -140,15 +140,15 @@ stored_with p q w before behind s new =
     (all_into (IsStored p) (IsStored (p ++ q)) (λ v t. stored_more p q v t) before (all_first (IsStored p) before behind s))
     (new, all_into (IsStored p) (IsStored (p ++ q)) (λ v t. stored_more p q v t) behind (all_last (IsStored p) before behind s))
 
-rising_on : (p q : List ℕ) (ws : List ℕ) → AreStored p ws → AreRising p ws → AreRising (p ++ q) ws
+rising_on : (p q : List ℕ) (ws : List ℕ) → AreStored p ws → HaveRisingKeys p ws → HaveRisingKeys (p ++ q) ws
 rising_on p q [] s r = rising_none (p ++ q)
 rising_on p q (w ∷ ws) s r =
     rising_more (p ++ q) w ws
     (all_two (IsStored p) (IsBelow p w) (IsBelow (p ++ q) w) (λ v t b. ap (λ (k : List ℕ). cmp k (key_at (p ++ q) v)) (key_more p q w s.0) ∙ ap (cmp (key_at p w)) (key_more p q v t) ∙ b) ws s.1 (rising_head p w ws r))
     (rising_on p q ws s.1 (rising_rest p w ws r))
 
-pub rising_new : (p q : List ℕ) (key : List ℕ) (w : ℕ) (before behind : List ℕ) → AreStored p (before ++ behind) → AreRising p (before ++ behind) → key_at (p ++ q) w ≡ key
-    → AllCompare Greater p key before → AllCompare Less p key behind → AreRising (p ++ q) (before ++ w ∷ behind)
+pub rising_new : (p q : List ℕ) (key : List ℕ) (w : ℕ) (before behind : List ℕ) → AreStored p (before ++ behind) → HaveRisingKeys p (before ++ behind) → key_at (p ++ q) w ≡ key
+    → AllCompare Greater p key before → AllCompare Less p key behind → HaveRisingKeys (p ++ q) (before ++ w ∷ behind)
 rising_new p q key w before behind s r is low high =
     rising_with (p ++ q) before w behind (rising_on p q (before ++ behind) s r)
     (all_two (IsStored p) (λ v. cmp key (key_at p v) ≡ Greater) (λ v. IsBelow (p ++ q) v w)

@@ -11,7 +11,7 @@ use Rattle.std.specs.declared.cmp.Ordering.TheVariants.{Less, Equal, Greater}
 use Rattle.std.proofs.lemmas.Cmp.{nat_list_cmp_total}
 use Rattle.std.proofs.lemmas.List.{drop_more, length-append, length-take, length-drop, drop-drop, get_or-map, length-map, map-set}
 use Rattle.std.proofs.lemmas.List.Edits.{get_or-insert_below}
-use Rattle.adb_write.specs.Keys.{key_at, AreRising}
+use Rattle.adb_write.specs.Keys.{key_at, HaveRisingKeys}
 use Rattle.adb_write.specs.Table.{page_at, words_before, words_behind, IsPlaceIn, IsSamePlace, AreFilled, HALF, with_split, begins_above, AllCompare, IsPageFor, IsFoundIn, IsBetween}
 use Rattle.adb_write.specs.declared.table.Place.{Place}
 use Rattle.adb_write.proofs.Rising.{cmp, flipped, IsBelow, less_chain, all_both, all_first, all_last, all_into, all_front, all_back, rising_none, rising_head, rising_rest, rising_first, rising_last, rising_before}
@@ -41,7 +41,7 @@ behind_split (page ∷ pages) (suc k) index = behind_split pages k index
 
 -- ---- pages that begin above a key
 
-above : (p key : List ℕ) (page : List ℕ) (rest : List ℕ) → AreRising p (page ++ rest) → begins_above p key page ≡ true → AllCompare Less p key (page ++ rest)
+above : (p key : List ℕ) (page : List ℕ) (rest : List ℕ) → HaveRisingKeys p (page ++ rest) → begins_above p key page ≡ true → AllCompare Less p key (page ++ rest)
 above p key [] rest r e = absurd cc
 above p key (w ∷ page) rest r e =
     let first : cmp key (key_at p w) ≡ Less = is_less (cmp key (key_at p w)) e in
@@ -59,13 +59,13 @@ all_above p key ([] ∷ pages) f a zero within = absurd (let some = f.0 in omega
 all_above p key ((w ∷ page) ∷ pages) f a zero within = ap is_lt a.0
 all_above p key (page ∷ pages) f a (suc k) within = all_above p key pages f.1 (all_last (λ v. cmp key (key_at p v) ≡ Less) page (concat pages) a) k (omega arith)
 
-pub above_on : (p key : List ℕ) (pages : List (List ℕ)) → AreFilled pages → AreRising p (concat pages) → (i j : ℕ) → i ≤ j → j < length pages → begins_above p key (page_at pages i) ≡ true → begins_above p key (page_at pages j) ≡ true
+pub above_on : (p key : List ℕ) (pages : List (List ℕ)) → AreFilled pages → HaveRisingKeys p (concat pages) → (i j : ℕ) → i ≤ j → j < length pages → begins_above p key (page_at pages i) ≡ true → begins_above p key (page_at pages j) ≡ true
 above_on p key [] f r i j upto within e = absurd (omega arith)
 above_on p key (page ∷ pages) f r zero j upto within e = all_above p key (page ∷ pages) f (above p key page (concat pages) r e) j within
 above_on p key (page ∷ pages) f r (suc i) zero upto within e = absurd (omega arith)
 above_on p key (page ∷ pages) f r (suc i) (suc j) upto within e = above_on p key pages f.1 (rising_last p page (concat pages) r) i j (omega arith) (omega arith) e
 
-pub above_behind : (p key : List ℕ) (pages : List (List ℕ)) (k : ℕ) → AreRising p (concat pages) → k < length pages → begins_above p key (page_at pages k) ≡ true → AllCompare Less p key (words_behind pages k 0)
+pub above_behind : (p key : List ℕ) (pages : List (List ℕ)) (k : ℕ) → HaveRisingKeys p (concat pages) → k < length pages → begins_above p key (page_at pages k) ≡ true → AllCompare Less p key (words_behind pages k 0)
 above_behind p key [] k r within e = absurd (omega arith)
 above_behind p key (page ∷ pages) zero r within e = above p key page (concat pages) r e
 above_behind p key (page ∷ pages) (suc k) r within e = above_behind p key pages k (rising_last p page (concat pages) r) (omega arith) e
@@ -98,12 +98,12 @@ first_of p key v ([] ∷ pages) zero f within e a = absurd (let some = f.0 in om
 first_of p key v ((w ∷ page) ∷ pages) zero f within e a = below_key key (key_at p v) (key_at p w) a.0 e
 first_of p key v (page ∷ pages) (suc k) f within e a = first_of p key v pages k f.1 (omega arith) e (all_last (IsBelow p v) page (concat pages) a)
 
-page_lower : (p key : List ℕ) (page : List ℕ) (pages : List (List ℕ)) (k : ℕ) → AreFilled pages → k < length pages → begins_above p key (page_at pages k) ≡ false → AreRising p (page ++ concat pages) → AllCompare Greater p key page
+page_lower : (p key : List ℕ) (page : List ℕ) (pages : List (List ℕ)) (k : ℕ) → AreFilled pages → k < length pages → begins_above p key (page_at pages k) ≡ false → HaveRisingKeys p (page ++ concat pages) → AllCompare Greater p key page
 page_lower p key [] pages k f within e r = tt
 page_lower p key (v ∷ page) pages k f within e r =
     (first_of p key v pages k f within e (all_last (IsBelow p v) page (concat pages) (rising_head p v (page ++ concat pages) r)), page_lower p key page pages k f within e (rising_rest p v (page ++ concat pages) r))
 
-pub lower_before : (p key : List ℕ) (pages : List (List ℕ)) (k : ℕ) → AreFilled pages → AreRising p (concat pages) → k < length pages → begins_above p key (page_at pages k) ≡ false → AllCompare Greater p key (words_before pages k 0)
+pub lower_before : (p key : List ℕ) (pages : List (List ℕ)) (k : ℕ) → AreFilled pages → HaveRisingKeys p (concat pages) → k < length pages → begins_above p key (page_at pages k) ≡ false → AllCompare Greater p key (words_before pages k 0)
 lower_before p key [] k f r within e = tt
 lower_before p key (page ∷ pages) zero f r within e = tt
 lower_before p key (page ∷ pages) (suc k) f r within e =
@@ -311,7 +311,7 @@ same_words pages new place there same =
 
 -- ---- the page for a key
 
-pub page_for_first : (p key : List ℕ) (pages : List (List ℕ)) → AreRising p (concat pages) → (0 < length pages → begins_above p key (page_at pages 0) ≡ true) → IsPageFor p pages key 0
+pub page_for_first : (p key : List ℕ) (pages : List (List ℕ)) → HaveRisingKeys p (concat pages) → (0 < length pages → begins_above p key (page_at pages 0) ≡ true) → IsPageFor p pages key 0
 page_for_first p key [] r e = record { inside = (refl, refl); lower = tt; higher = tt }
 page_for_first p key (page ∷ pages) r e = record {
   inside = omega arith;
@@ -319,7 +319,7 @@ page_for_first p key (page ∷ pages) r e = record {
   higher = behind_less p key (page ∷ pages) 0 (above_behind p key (page ∷ pages) 0 r (omega arith) (e (omega arith)));
 }
 
-pub page_for_next : (p key : List ℕ) (pages : List (List ℕ)) (k : ℕ) → AreFilled pages → AreRising p (concat pages) → k < length pages → begins_above p key (page_at pages k) ≡ false
+pub page_for_next : (p key : List ℕ) (pages : List (List ℕ)) (k : ℕ) → AreFilled pages → HaveRisingKeys p (concat pages) → k < length pages → begins_above p key (page_at pages k) ≡ false
     → (suc k < length pages → begins_above p key (page_at pages (suc k)) ≡ true) → IsPageFor p pages key k
 page_for_next p key pages k f r within low high = record {
   inside = place_in pages k 0 within (omega arith);
@@ -339,7 +339,7 @@ not_false true e = refl
 not_false false e = absurd cc
 
 -- the pages that do not begin above a key stand in front
-pub parted : {V : Type 0} (f : V → List ℕ) (p key : List ℕ) (vs : List V) → AreFilled (map f vs) → AreRising p (concat (map f vs)) → IsPartitionedBy (λ v. not (begins_above p key (f v))) vs
+pub parted : {V : Type 0} (f : V → List ℕ) (p key : List ℕ) (vs : List V) → AreFilled (map f vs) → HaveRisingKeys p (concat (map f vs)) → IsPartitionedBy (λ v. not (begins_above p key (f v))) vs
 parted f p key vs filled rising i j d upto within e =
     let a = page_of_map f vs i d (omega arith) in
     let b = page_of_map f vs j d within in
@@ -354,7 +354,7 @@ parted f p key vs filled rising i j d upto within e =
         let no : false ≡ true = ap not same ∙ e in
         absurd cc
 
-pub page_for : {V : Type 0} (f : V → List ℕ) (p key : List ℕ) (vs : List V) (r k : ℕ) → AreFilled (map f vs) → AreRising p (concat (map f vs)) → r ≤ length vs → k ≡ r - 1
+pub page_for : {V : Type 0} (f : V → List ℕ) (p key : List ℕ) (vs : List V) (r k : ℕ) → AreFilled (map f vs) → HaveRisingKeys p (concat (map f vs)) → r ≤ length vs → k ≡ r - 1
     → IsPartitionPoint (λ v. not (begins_above p key (f v)) ≡ true) (λ v. not (begins_above p key (f v)) ≡ false) vs r → IsPageFor p (map f vs) key k
 page_for f p key vs zero k filled rising upto is point =
     subst (IsPageFor p (map f vs) key) {x = 0} (omega arith) (page_for_first p key (map f vs) rising (λ some. begin vs (λ d within. point.1 0 d (omega arith) within) (omega (arith, length-map vs f))))
@@ -397,7 +397,7 @@ between_at p pages key k index page inside low high = record {
 }
 
 -- the words of one page rise
-pub page_rising : (p : List ℕ) (pages : List (List ℕ)) (k : ℕ) → AreRising p (concat pages) → AreRising p (page_at pages k)
+pub page_rising : (p : List ℕ) (pages : List (List ℕ)) (k : ℕ) → HaveRisingKeys p (concat pages) → HaveRisingKeys p (page_at pages k)
 page_rising p [] zero r = rising_none p
 page_rising p [] (suc k) r = rising_none p
 page_rising p (page ∷ pages) zero r = rising_first p page (concat pages) r

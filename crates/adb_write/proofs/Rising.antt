@@ -8,7 +8,7 @@ use Rattle.std.specs.declared.cmp.Ordering.{Ordering}
 use Rattle.std.specs.declared.cmp.Ordering.TheVariants.{Less, Equal, Greater}
 use Rattle.std.proofs.lemmas.Cmp.{nat_list_cmp_total}
 use Rattle.std.proofs.lemmas.List.Sorted.{searchable_from_sorted}
-use Rattle.adb_write.specs.Keys.{key_at, AreRising}
+use Rattle.adb_write.specs.Keys.{key_at, HaveRisingKeys}
 
 abbrev pub cmp : List ℕ → List ℕ → Ordering
 cmp = slice_cmp nat_cmp
@@ -69,43 +69,43 @@ all_back P (x ∷ xs) (suc i) h = all_back P xs i (λ k d low high. h (suc k) d 
 abbrev pub IsBelow : List ℕ → ℕ → ℕ → Type 0
 IsBelow p v w = cmp (key_at p v) (key_at p w) ≡ Less
 
-pub rising_head : (p : List ℕ) (w : ℕ) (ws : List ℕ) → AreRising p (w ∷ ws) → AllByRecursion (IsBelow p w) ws
+pub rising_head : (p : List ℕ) (w : ℕ) (ws : List ℕ) → HaveRisingKeys p (w ∷ ws) → AllByRecursion (IsBelow p w) ws
 unfolding IsStrictlySortedBy
 rising_head p w ws r = all_mapped (key_at p) (λ k. cmp (key_at p w) k ≡ Less) ws r.0
 
-pub rising_rest : (p : List ℕ) (w : ℕ) (ws : List ℕ) → AreRising p (w ∷ ws) → AreRising p ws
+pub rising_rest : (p : List ℕ) (w : ℕ) (ws : List ℕ) → HaveRisingKeys p (w ∷ ws) → HaveRisingKeys p ws
 unfolding IsStrictlySortedBy
 rising_rest p w ws r = r.1
 
-pub rising_more : (p : List ℕ) (w : ℕ) (ws : List ℕ) → AllByRecursion (IsBelow p w) ws → AreRising p ws → AreRising p (w ∷ ws)
+pub rising_more : (p : List ℕ) (w : ℕ) (ws : List ℕ) → AllByRecursion (IsBelow p w) ws → HaveRisingKeys p ws → HaveRisingKeys p (w ∷ ws)
 unfolding IsStrictlySortedBy
 rising_more p w ws a r = (map_all (key_at p) (λ k. cmp (key_at p w) k ≡ Less) ws a, r)
 
-pub rising_none : (p : List ℕ) → AreRising p []
+pub rising_none : (p : List ℕ) → HaveRisingKeys p []
 unfolding IsStrictlySortedBy
 rising_none p = tt
 
-pub rising_last : (p : List ℕ) (vs ws : List ℕ) → AreRising p (vs ++ ws) → AreRising p ws
+pub rising_last : (p : List ℕ) (vs ws : List ℕ) → HaveRisingKeys p (vs ++ ws) → HaveRisingKeys p ws
 rising_last p [] ws r = r
 rising_last p (v ∷ vs) ws r = rising_last p vs ws (rising_rest p v (vs ++ ws) r)
 
-pub rising_first : (p : List ℕ) (vs ws : List ℕ) → AreRising p (vs ++ ws) → AreRising p vs
+pub rising_first : (p : List ℕ) (vs ws : List ℕ) → HaveRisingKeys p (vs ++ ws) → HaveRisingKeys p vs
 rising_first p [] ws r = rising_none p
 rising_first p (v ∷ vs) ws r = rising_more p v vs (all_first (IsBelow p v) vs ws (rising_head p v (vs ++ ws) r)) (rising_first p vs ws (rising_rest p v (vs ++ ws) r))
 
 -- the words in front of one are below it
-pub rising_before : (p : List ℕ) (vs : List ℕ) (w : ℕ) (ws : List ℕ) → AreRising p (vs ++ w ∷ ws) → AllByRecursion (λ v. IsBelow p v w) vs
+pub rising_before : (p : List ℕ) (vs : List ℕ) (w : ℕ) (ws : List ℕ) → HaveRisingKeys p (vs ++ w ∷ ws) → AllByRecursion (λ v. IsBelow p v w) vs
 rising_before p [] w ws r = tt
 rising_before p (v ∷ vs) w ws r = ((all_last (IsBelow p v) vs (w ∷ ws) (rising_head p v (vs ++ w ∷ ws) r)).0, rising_before p vs w ws (rising_rest p v (vs ++ w ∷ ws) r))
 
 -- one more word, above those in front of it and below those behind
-pub rising_with : (p : List ℕ) (vs : List ℕ) (w : ℕ) (ws : List ℕ) → AreRising p (vs ++ ws) → AllByRecursion (λ v. IsBelow p v w) vs → AllByRecursion (IsBelow p w) ws → AreRising p (vs ++ w ∷ ws)
+pub rising_with : (p : List ℕ) (vs : List ℕ) (w : ℕ) (ws : List ℕ) → HaveRisingKeys p (vs ++ ws) → AllByRecursion (λ v. IsBelow p v w) vs → AllByRecursion (IsBelow p w) ws → HaveRisingKeys p (vs ++ w ∷ ws)
 rising_with p [] w ws r a b = rising_more p w ws b r
 rising_with p (v ∷ vs) w ws r a b =
     let head = rising_head p v (vs ++ ws) r in
     rising_more p v (vs ++ w ∷ ws) (all_both (IsBelow p v) vs (w ∷ ws) (all_first (IsBelow p v) vs ws head) (a.0, all_last (IsBelow p v) vs ws head)) (rising_with p vs w ws (rising_rest p v (vs ++ ws) r) a.1 b)
 
-pub rising_pair : (p : List ℕ) (ws : List ℕ) → AreRising p ws → (i j : ℕ) (d : ℕ) → i < j → j < length ws → IsBelow p (get_or ws i d) (get_or ws j d)
+pub rising_pair : (p : List ℕ) (ws : List ℕ) → HaveRisingKeys p ws → (i j : ℕ) (d : ℕ) → i < j → j < length ws → IsBelow p (get_or ws i d) (get_or ws j d)
 rising_pair p [] r i j d less within = absurd (omega arith)
 rising_pair p (w ∷ ws) r zero zero d less within = absurd (omega arith)
 rising_pair p (w ∷ ws) r zero (suc j) d less within = all_at (IsBelow p w) ws j d (omega arith) (rising_head p w ws r)
@@ -113,7 +113,7 @@ rising_pair p (w ∷ ws) r (suc i) zero d less within = absurd (omega arith)
 rising_pair p (w ∷ ws) r (suc i) (suc j) d less within = rising_pair p ws (rising_rest p w ws r) i j d (omega arith) (omega arith)
 
 -- rising words may be searched in halves
-pub searchable : (p : List ℕ) (ws key : List ℕ) → AreRising p ws → IsNonDecreasingBy (λ w. ordering_index (ordering_reverse (cmp key (key_at p w)))) ws
+pub searchable : (p : List ℕ) (ws key : List ℕ) → HaveRisingKeys p ws → IsNonDecreasingBy (λ w. ordering_index (ordering_reverse (cmp key (key_at p w)))) ws
 searchable p ws key r i j d upto within =
     let by = searchable_from_sorted nat_list_cmp_total (key_at p) ws key (λ k d low high. ap is_lt (flipped (key_at p (get_or ws k d)) (key_at p (get_or ws (k + 1) d)) Less (rising_pair p ws r k (k + 1) d (omega arith) high))) i j d upto within in
     omega (arith, ap ordering_index (nat_list_cmp_total.antisymm (key_at p (get_or ws i d)) key), ap ordering_index (nat_list_cmp_total.antisymm (key_at p (get_or ws j d)) key))

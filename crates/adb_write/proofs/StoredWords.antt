@@ -15,12 +15,12 @@ use Rattle.std.proofs.lemmas.Map.Lookups.{exact_bytes}
 use Rattle.adb_view.specs.Readers.{kind_of, low_of, int_of, blob_of, run_of, ARRAY, OBJECT}
 use Rattle.adb_view.specs.Visits.{or_empty}
 use Rattle.adb_write.specs.Canonical.{Item, WrittenItem, int_item, blob_item, run_item, run_bytes, is_equal_item, word_of_item, MOST_BYTES}
-use Rattle.adb_write.specs.Items.{list_kind, item_of, HasRoom}
+use Rattle.adb_write.specs.Items.{list_kind, item_of, HasNumbersInRange}
 use Rattle.adb_write.specs.declared.item.ListKind.{ListKind}
 use Rattle.adb_write.specs.declared.item.ListKind.TheVariants.{Array, Object}
 use Rattle.adb_write.specs.declared.item.Parts.{Parts}
 use Rattle.adb_write.specs.declared.item.Parts.TheVariants.{Int, Blob, List as Listed}
-use Rattle.adb_write.specs.Keys.{low_words, content_of, key_of, content_at, key_at, AreRising, single_or_empty}
+use Rattle.adb_write.specs.Keys.{low_words, content_of, key_of, content_at, key_at, HaveRisingKeys, single_or_empty}
 use Rattle.adb_write.specs.WriterState.{Stored, stored_int, stored_blob, stored_list, item_of_stored, IsSmall, IsStored, AreStored, written_item, with_item, items_of_words}
 use Rattle.adb_write.proofs.Rising.{cmp}
 use Rattle.adb_write.proofs.Placed.{Stands, words_len}
@@ -210,7 +210,7 @@ low_small : (ws : List ℕ) → AllByRecursion (λ w. w < 2 ^ 32) (low_words ws)
 low_small [] = tt
 low_small (w ∷ ws) = (omega arith, low_small ws)
 
-pub parts_small : (parts : Parts) → HasRoom parts → length (item_of parts).bytes ≤ MOST_BYTES → IsSmall (stored_of parts)
+pub parts_small : (parts : Parts) → HasNumbersInRange parts → length (item_of parts).bytes ≤ MOST_BYTES → IsSmall (stored_of parts)
 parts_small (Int n) room few = room
 parts_small (Blob b) room few = omega (arith, blob_long b.now)
 parts_small (Listed kind ws) room few = (low_small ws.now, omega (arith, run_long ws.now, length-map ws.now (λ w. w % 2 ^ 32)))
@@ -239,7 +239,7 @@ parts_key p w parts small kind head there =
 there_is : (p : List ℕ) (w : ℕ) → 8 ≤ low_of w → drop (low_of w - 8) (drop 8 p) ≡ drop (low_of w) p
 there_is p w head = drop-drop (low_of w - 8) 8 p ∙ ap (λ (k : ℕ). drop k p) (omega arith)
 
-pub equal_key : (p : List ℕ) (w : ℕ) (parts : Parts) → IsStored p w → HasRoom parts → length p ≤ MOST_BYTES → is_equal_item (drop 8 p) (item_of parts) (written_item w) ≡ true → cmp (key_of parts) (key_at p w) ≡ Equal
+pub equal_key : (p : List ℕ) (w : ℕ) (parts : Parts) → IsStored p w → HasNumbersInRange parts → length p ≤ MOST_BYTES → is_equal_item (drop 8 p) (item_of parts) (written_item w) ≡ true → cmp (key_of parts) (key_at p w) ≡ Equal
 equal_key p w parts s room few e =
     let head = s.behind_head in
     let bytes = equal_bytes (drop 8 p) (item_of parts) (written_item w) e in

@@ -35,7 +35,7 @@ item_of (Blob b) = blob_item b.now
 item_of (Listed kind ws) = run_item (list_kind kind) ws.now
 
 -- an integer of the program has 64 bits
-abbrev pub HasRoom : Parts → Type 0
-HasRoom (Int n) = n < 2 ^ 64
-HasRoom (Blob b) = Unit {0}
-HasRoom (Listed kind ws) = Unit {0}
+abbrev pub HasNumbersInRange : Parts → Type 0
+HasNumbersInRange (Int n) = n < 2 ^ 64
+HasNumbersInRange (Blob b) = Unit {0}
+HasNumbersInRange (Listed kind ws) = Unit {0}

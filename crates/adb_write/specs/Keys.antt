@@ -38,5 +38,5 @@ abbrev pub key_at : List ℕ → ℕ → List ℕ
 key_at payload word = kind_of word ∷ content_at (kind_of word) payload word
 
 -- each word leads to a lower key than all behind it
-abbrev pub AreRising : List ℕ → List ℕ → Type 0
-AreRising payload words = IsStrictlySortedBy (slice_cmp nat_cmp) (map (key_at payload) words)
+abbrev pub HaveRisingKeys : List ℕ → List ℕ → Type 0
+HaveRisingKeys payload words = IsStrictlySortedBy (slice_cmp nat_cmp) (map (key_at payload) words)

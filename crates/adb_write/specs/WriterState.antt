@@ -6,7 +6,7 @@ use Rattle.adb_view.specs.Readers.{kind_of, low_of}
 use Rattle.adb_write.specs.Canonical.{Item, WrittenItem, is_equal_item, word_of_item, int_item, blob_item, run_item, PayloadCounts, passes}
 use Rattle.adb_write.specs.Writing.{Writing, is_over}
 use Rattle.adb_write.specs.Items.{list_kind}
-use Rattle.adb_write.specs.Keys.{AreRising}
+use Rattle.adb_write.specs.Keys.{HaveRisingKeys}
 use Rattle.adb_write.specs.Table.{AreFilled}
 use Rattle.adb_write.specs.declared.item.ListKind.{ListKind}
 use Rattle.adb_write.specs.declared.writer.WriteFault.{WriteFault}
@@ -67,7 +67,7 @@ pub record IsWriterState (payload : List ℕ) (pages : List (List ℕ)) (bytes v
   pub head : HasHead payload
   pub agree : passes (bytes, values) ≡ false → bytes ≡ 8 + length (drop 8 payload)
   pub filled : AreFilled pages
-  pub rising : AreRising payload (concat pages)
+  pub rising : HaveRisingKeys payload (concat pages)
   pub stored : AreStored payload (concat pages)
 
 -- a word is the one of the written item that is equal to this one

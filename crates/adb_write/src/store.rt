@@ -3,7 +3,7 @@
 ghost use Rattle.std.specs.Prelude.{◌≡◌, ◌≤◌, ◌-◌, [], ◌∷◌, ◌++◌, length, replicate, OnOk, OnErr};
 ghost use Rattle.std.specs.List.{concat};
 ghost use Rattle.adb_write.specs.Items.{item_of};
-ghost use Rattle.adb_write.specs.Keys.{key_of, AreRising};
+ghost use Rattle.adb_write.specs.Keys.{key_of, HaveRisingKeys};
 ghost use Rattle.adb_write.specs.Table.{AreFilled, pages_of, words_before, words_behind, IsPlaceIn, FindsIn};
 ghost use Rattle.adb_write.specs.WriterState.{HasHead, AreStored};
 
@@ -38,7 +38,7 @@ impl Store {
     pub(crate) fn find(&self, parts: &Parts<'_>) -> Result<Val, Place>
         requires head { HasHead self.now.payload.items }
         requires filled { AreFilled (pages_of self.now.table) }
-        requires rising { AreRising self.now.payload.items (concat (pages_of self.now.table)) }
+        requires rising { HaveRisingKeys self.now.payload.items (concat (pages_of self.now.table)) }
         requires stored { AreStored self.now.payload.items (concat (pages_of self.now.table)) }
         ensures { FindsIn self.now.payload.items (pages_of self.now.table) (key_of parts.now) result }
     {

@@ -6,7 +6,7 @@
 ghost use Rattle.std.specs.Prelude.{◌≡◌, ◌≤◌, ◌<◌, ℕ, List, [], ◌∷◌, ◌++◌, length, IfOk, OnOk, OnErr};
 ghost use Rattle.std.specs.List.{concat};
 ghost use Rattle.adb_view.specs.Adb.{payload_of};
-ghost use Rattle.adb_write.specs.Keys.{key_of, AreRising};
+ghost use Rattle.adb_write.specs.Keys.{key_of, HaveRisingKeys};
 ghost use Rattle.adb_write.specs.Table.{AreFilled, HALF, page_at, pages_of, words_before, words_behind, with_split, IsPlaceIn, IsSamePlace, FindsIn, IsPageFor, begins_above};
 
 use crate::item::Parts;
@@ -48,7 +48,7 @@ impl Table {
     /// The word that leads to an item like this one, or the place where one would stand.
     pub(crate) fn find(&self, adb: &Adb<'_>, parts: &Parts<'_>) -> Result<Val, Place>
         requires filled { AreFilled (pages_of self.now) }
-        requires rising { AreRising (payload_of adb.now) (concat (pages_of self.now)) }
+        requires rising { HaveRisingKeys (payload_of adb.now) (concat (pages_of self.now)) }
         ensures { FindsIn (payload_of adb.now) (pages_of self.now) (key_of parts.now) result }
     {
         let page = self.page_of(adb, parts);
@@ -64,7 +64,7 @@ impl Table {
     /// The last page that does not begin behind the item, or the first.
     fn page_of(&self, adb: &Adb<'_>, parts: &Parts<'_>) -> usize
         requires filled { AreFilled (pages_of self.now) }
-        requires rising { AreRising (payload_of adb.now) (concat (pages_of self.now)) }
+        requires rising { HaveRisingKeys (payload_of adb.now) (concat (pages_of self.now)) }
         ensures { IsPageFor (payload_of adb.now) (pages_of self.now) (key_of parts.now) result }
     {
         self.pages
@@ -102,7 +102,7 @@ impl Table {
         Ok(())
     }
 
-    /// Splits the page of a place if it is full, and tells where the place is then.
+    /// Splits the page of a place if it is full, and answers where the place is then.
     fn make_room(&mut self, place: Place) -> Result<Place, AllocError>
         requires filled { AreFilled (pages_of self.old) }
         requires inside { IsPlaceIn (pages_of self.old) place.page place.index }

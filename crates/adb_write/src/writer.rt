@@ -5,7 +5,7 @@ ghost use Rattle.adb_write.specs.Canonical.{passes, gap, in_place, apart, run_ce
 ghost use Rattle.adb_view.specs.Plain.{Plains, int, blob_value, arr_value, obj_value};
 ghost use Rattle.adb_write.specs.DepthFirst.{WritesValue, WritesValues};
 ghost use Rattle.adb_write.specs.Writing.{Writing, Grows, empty_writing, is_over, call, int_call, blob_call, arr_call, obj_call, finish_result};
-ghost use Rattle.adb_write.specs.Items.{list_kind, item_of, HasRoom};
+ghost use Rattle.adb_write.specs.Items.{list_kind, item_of, HasNumbersInRange};
 ghost use Rattle.adb_write.specs.WriterState.{IsFinished, FindsWord};
 ghost use Rattle.adb_write.specs.File.{file_of};
 
@@ -216,7 +216,7 @@ impl Writer {
     /// Adds an item, unless an equal one was written: its word, or NULL from the first value on
     /// that passes a limit.
     fn add(&mut self, parts: &Parts<'_>) -> Result<Val, AllocError>
-        requires { HasRoom parts.now }
+        requires { HasNumbersInRange parts.now }
         ensures ok { IfOk result
             (λ word. (word, self.new) ≡ call (apart (item_of parts.now)) self.old) }
         ensures err { OnErr result (self.new ≡ self.old) }

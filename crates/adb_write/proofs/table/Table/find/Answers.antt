@@ -4,7 +4,7 @@ use Rattle.std.specs.declared.cmp.Ordering.TheVariants.{Less, Greater}
 use Rattle.std.proofs.lemmas.Fn.{always_returns_same}
 use Rattle.std.proofs.lemmas.List.{length-map}
 use Rattle.adb_view.specs.Adb.{payload_of}
-use Rattle.adb_write.specs.Keys.{key_of, key_at, AreRising}
+use Rattle.adb_write.specs.Keys.{key_of, key_at, HaveRisingKeys}
 use Rattle.adb_write.specs.Table.{AllCompare, page_at, pages_of}
 use Rattle.adb_write.proofs.Rising.{cmp, searchable}
 use Rattle.adb_write.proofs.Pages.{page_of_map, page_rising, place_in, found_at, between_at, no_page, searched_low, searched_high, searched_equal}
@@ -39,7 +39,7 @@ returns-in-Err c =
     let found = c.in-Err.ensures.position (λ w. ordering_reverse (cmp key (key_at p w))) (always_returns_same _ _ _ (λ a r f k. search rules)) in
     let ws : List ℕ = c.deref-2.result.now in
     let i : ℕ = c.in-Err.index in
-    let point = found (searchable p ws key (subst (AreRising p) page (page_rising p (pages_of c.args.self.now) k c.requires.rising))) in
+    let point = found (searchable p ws key (subst (HaveRisingKeys p) page (page_rising p (pages_of c.args.self.now) k c.requires.rising))) in
     let within : k < length (pages_of c.args.self.now) = omega (arith, look.0, length-map c.args.self.now.pages.items (λ page. page.items)) in
     let upto : i ≤ length (page_at (pages_of c.args.self.now) k) = omega (arith, ap length page, c.in-Err.ensures.bound) in
     between_at p (pages_of c.args.self.now) key k i c.page_of-page.ensures (place_in (pages_of c.args.self.now) k i within upto)

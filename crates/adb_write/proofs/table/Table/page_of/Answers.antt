@@ -3,7 +3,7 @@ use Rattle.std.specs.Prelude.{not}
 use Rattle.std.specs.List.{concat}
 use Rattle.std.proofs.lemmas.List.Sorted.{IsPartitionPoint-from_clause}
 use Rattle.adb_view.specs.Adb.{payload_of}
-use Rattle.adb_write.specs.Keys.{key_of, AreRising}
+use Rattle.adb_write.specs.Keys.{key_of, HaveRisingKeys}
 use Rattle.adb_write.specs.Table.{AreFilled, IsPageFor, begins_above}
 use Rattle.adb_write.proofs.Pages.{parted, page_for}
 use Rattle.adb_write.proofs.table.Table.page_of.Goals as goal
@@ -13,7 +13,7 @@ returns c =
     let p : List ℕ = payload_of c.args.adb.now in
     let key : List ℕ = key_of c.args.parts.now in
     let filled = subst (λ vs. AreFilled (map (λ page. page.items) vs)) (sym c.deref.ensures.value) c.requires.filled in
-    let rising = subst (λ vs. AreRising p (concat (map (λ page. page.items) vs))) (sym c.deref.ensures.value) c.requires.rising in
+    let rising = subst (λ vs. HaveRisingKeys p (concat (map (λ page. page.items) vs))) (sym c.deref.ensures.value) c.requires.rising in
     let point =
     IsPartitionPoint-from_clause (λ page. not (begins_above p key page.items)) _ _ c.partition_point.ensures.partitioned (parted (λ page. page.items) p key c.deref.result.now filled rising)
     (λ a r f k. search rules) in
