@@ -2,9 +2,9 @@
 //! changed by a stage; and the recovery of a root, which finishes what an earlier run left.
 //!
 //! The contracts cite `Recovery` (the state that files stand for, and what a crash leaves of it),
-//! `Replacing` and `Reading` (a whole file in the place of another), `Staged` (a stage, its moments,
-//! and what a recovery leaves) and `Quiet` (moments at which nothing happens to the state) of
-//! `specs/`, and `Intent` of `journal_intent`.
+//! `Replacing` and `Reading` (a whole file in the place of another), `Staged` (a stage, its
+//! moments, and what a recovery leaves) and `Quiet` (moments at which nothing happens to the state)
+//! of `specs/`, and `Intent` of `journal_intent`.
 #![tactic(auto)]
 
 mod acting;

@@ -84,39 +84,43 @@ impl From<TreeFault> for RecoverFault {
 ///
 /// `IntentBad` where the intent is no intent container; then nothing has changed.
 pub fn recover<T: Tree>(alloc: Global, tree: &mut T) -> Result<(), RecoverFault>
-    // At each moment the tree is orderly and nothing has happened to the state, also to that of the files as read.
-    ensures moments { IfObservable (T.history tree.old) (λ v. (ignored : List ℕ → Bool) → IsOrderly
-        (RestsOn ignored) v → Since (IsStill ignored v) (T.history tree.old) (T.history tree.new)) }
+    // At each moment the tree is orderly and nothing has happened to the state, also to that of the
+    // files as read.
+    ensures moments { IfObservable (T.history tree.old) (λ v. (ignored : List ℕ → Bool)
+        → IsOrderly (RestsOn ignored) v
+        → Since (IsStill ignored v) (T.history tree.old) (T.history tree.new)) }
 
-    // Once it has answered Ok, the files as read have the intent done and nothing that waits; and no intent is read.
-    ensures files { IfObservable (T.history tree.old) (λ v. OnOk result (HasNow (T.history tree.new)
-        (λ w. (files_of w ≡ unstaged_files (files_of v)) × (w.names intent_name ≡ None)))) }
+    // Once it has answered Ok, the files as read have the intent done and nothing that waits; and
+    // no intent is read.
+    ensures files { IfObservable (T.history tree.old) (λ v.
+        OnOk result (HasNow (T.history tree.new) (λ w. (files_of w ≡ unstaged_files (files_of v))
+        × (w.names intent_name ≡ None)))) }
 
     // Where it found an intent, each crash leaves their state.
-    ensures settled { IfObservable (T.history tree.old) (λ v. (ignored : List ℕ → Bool) → IsOrderly
-        (RestsOn ignored) v → IsSome (intent_of (files_of v)) → OnOk result (HasNow (T.history
-        tree.new) (IsSettled ignored (files_of v)))) }
+    ensures settled { IfObservable (T.history tree.old) (λ v. (ignored : List ℕ → Bool)
+        → IsOrderly (RestsOn ignored) v → IsSome (intent_of (files_of v))
+        → OnOk result (HasNow (T.history tree.new) (IsSettled ignored (files_of v)))) }
 
     // Where there is nothing to do, no writing call is made.
-    ensures idle { IfObservable (T.history tree.old) (λ v. v.names intent_name ≡ None → IsEmptyStage
-        v.names → T.history tree.new ≡ T.history tree.old) }
+    ensures idle { IfObservable (T.history tree.old) (λ v. v.names intent_name ≡ None
+        → IsEmptyStage v.names → T.history tree.new ≡ T.history tree.old) }
 
     // The intent is refused exactly where it is no intent container, and nothing changes.
-    ensures bad { (cause : Cause) → IsErrOf result (RecoverFault.IntentBad cause) → (T.history
-        tree.new ≡ T.history tree.old) × IfObservable (T.history tree.old) (λ v. IsIntentFault
-        (files_of v) cause) }
+    ensures bad { (cause : Cause) → IsErrOf result (RecoverFault.IntentBad cause)
+        → (T.history tree.new ≡ T.history tree.old)
+        × IfObservable (T.history tree.old) (λ v. IsIntentFault (files_of v) cause) }
     ensures good { IfObservable (T.history tree.old) (λ v. OnOk result ((cause : Cause)
         → IsIntentFault (files_of v) cause → ⊥)) }
     ensures found { (cause : Cause) → IsErrOf result (RecoverFault.IntentBad cause)
         → (file : List ℕ) × (first_fault IntentTable file ≡ Some cause) }
     ensures goes_on { GoesOn (T.counts tree.old) (T.counts tree.new) }
-    ensures disk { IsErrOf result RecoverFault.Disk → HasCause (T.counts tree.old) (T.counts
-        tree.new) }
+    ensures disk { IsErrOf result RecoverFault.Disk
+        → HasCause (T.counts tree.old) (T.counts tree.new) }
     ensures kept { OnOk result (IsNoFault (T.counts tree.old) (T.counts tree.new)) }
-    ensures memory { IsErrOf result RecoverFault.Memory → IsNoFault (T.counts tree.old) (T.counts
-        tree.new) }
-    ensures refused { (cause : Cause) → IsErrOf result (RecoverFault.IntentBad cause) → IsNoFault
-        (T.counts tree.old) (T.counts tree.new) }
+    ensures memory { IsErrOf result RecoverFault.Memory
+        → IsNoFault (T.counts tree.old) (T.counts tree.new) }
+    ensures refused { (cause : Cause) → IsErrOf result (RecoverFault.IntentBad cause)
+        → IsNoFault (T.counts tree.old) (T.counts tree.new) }
 
     // Where an intent that is found has room for its actions, no call is a misuse.
     ensures proper { IfObservable (T.history tree.old) (λ v. HasRoomToReplay (files_of v)
@@ -129,30 +133,32 @@ pub fn recover<T: Tree>(alloc: Global, tree: &mut T) -> Result<(), RecoverFault>
 
 /// Finishes what the intent says, if there is one.
 fn replay<T: Tree>(alloc: Global, tree: &mut T) -> Result<(), RecoverFault>
-    ensures moments { IfObservable (T.history tree.old) (λ v. (ignored : List ℕ → Bool) → IsOrderly
-        (RestsOn ignored) v → Since (IsStill ignored v) (T.history tree.old) (T.history tree.new)) }
-    ensures replayed { IfObservable (T.history tree.old) (λ v. OnOk result (HasNow (T.history
-        tree.new) (IsReplayed v))) }
-    ensures settled { IfObservable (T.history tree.old) (λ v. (ignored : List ℕ → Bool) → IsOrderly
-        (RestsOn ignored) v → IsSome (intent_of (files_of v)) → OnOk result (HasNow (T.history
-        tree.new) (IsSettled ignored (recovered_files (files_of v))))) }
-    ensures idle { IfObservable (T.history tree.old) (λ v. v.names intent_name ≡ None → T.history
-        tree.new ≡ T.history tree.old) }
-    ensures bad { (cause : Cause) → IsErrOf result (RecoverFault.IntentBad cause) → (T.history
-        tree.new ≡ T.history tree.old) × IfObservable (T.history tree.old) (λ v. IsIntentFault
-        (files_of v) cause) }
+    ensures moments { IfObservable (T.history tree.old) (λ v. (ignored : List ℕ → Bool)
+        → IsOrderly (RestsOn ignored) v
+        → Since (IsStill ignored v) (T.history tree.old) (T.history tree.new)) }
+    ensures replayed { IfObservable (T.history tree.old) (λ v.
+        OnOk result (HasNow (T.history tree.new) (IsReplayed v))) }
+    ensures settled { IfObservable (T.history tree.old) (λ v. (ignored : List ℕ → Bool)
+        → IsOrderly (RestsOn ignored) v → IsSome (intent_of (files_of v))
+        → OnOk result (HasNow (T.history tree.new)
+        (IsSettled ignored (recovered_files (files_of v))))) }
+    ensures idle { IfObservable (T.history tree.old) (λ v. v.names intent_name ≡ None
+        → T.history tree.new ≡ T.history tree.old) }
+    ensures bad { (cause : Cause) → IsErrOf result (RecoverFault.IntentBad cause)
+        → (T.history tree.new ≡ T.history tree.old)
+        × IfObservable (T.history tree.old) (λ v. IsIntentFault (files_of v) cause) }
     ensures good { IfObservable (T.history tree.old) (λ v. OnOk result ((cause : Cause)
         → IsIntentFault (files_of v) cause → ⊥)) }
     ensures found { (cause : Cause) → IsErrOf result (RecoverFault.IntentBad cause)
         → (file : List ℕ) × (first_fault IntentTable file ≡ Some cause) }
     ensures goes_on { GoesOn (T.counts tree.old) (T.counts tree.new) }
-    ensures disk { IsErrOf result RecoverFault.Disk → HasCause (T.counts tree.old) (T.counts
-        tree.new) }
+    ensures disk { IsErrOf result RecoverFault.Disk
+        → HasCause (T.counts tree.old) (T.counts tree.new) }
     ensures kept { OnOk result (IsNoFault (T.counts tree.old) (T.counts tree.new)) }
-    ensures memory { IsErrOf result RecoverFault.Memory → IsNoFault (T.counts tree.old) (T.counts
-        tree.new) }
-    ensures refused { (cause : Cause) → IsErrOf result (RecoverFault.IntentBad cause) → IsNoFault
-        (T.counts tree.old) (T.counts tree.new) }
+    ensures memory { IsErrOf result RecoverFault.Memory
+        → IsNoFault (T.counts tree.old) (T.counts tree.new) }
+    ensures refused { (cause : Cause) → IsErrOf result (RecoverFault.IntentBad cause)
+        → IsNoFault (T.counts tree.old) (T.counts tree.new) }
     ensures proper { IfObservable (T.history tree.old) (λ v. HasRoomToReplay (files_of v)
         → (T.counts tree.new).misuses ≡ (T.counts tree.old).misuses) }
 {
@@ -165,28 +171,30 @@ fn replay<T: Tree>(alloc: Global, tree: &mut T) -> Result<(), RecoverFault>
 
 /// Does what the intent of this file says.
 fn replay_file<T: Tree>(alloc: Global, tree: &mut T, file: Vec<u8>) -> Result<(), RecoverFault>
-    ensures moments { IfObservable (T.history tree.old) (λ v. (ignored : List ℕ → Bool) → IsOrderly
-        (RestsOn ignored) v → files_of v intent_name ≡ Some file.items → Since (IsStill ignored v)
-        (T.history tree.old) (T.history tree.new)) }
-    ensures replayed { IfObservable (T.history tree.old) (λ v. files_of v intent_name ≡ Some
-        file.items → OnOk result (HasNow (T.history tree.new) (IsReplayed v))) }
-    ensures settled { IfObservable (T.history tree.old) (λ v. (ignored : List ℕ → Bool) → IsOrderly
-        (RestsOn ignored) v → files_of v intent_name ≡ Some file.items → OnOk result (HasNow
-        (T.history tree.new) (IsSettled ignored (recovered_files (files_of v))))) }
-    ensures bad { (cause : Cause) → IsErrOf result (RecoverFault.IntentBad cause) → (T.history
-        tree.new ≡ T.history tree.old) × (first_fault IntentTable file.items ≡ Some cause) }
+    ensures moments { IfObservable (T.history tree.old) (λ v. (ignored : List ℕ → Bool)
+        → IsOrderly (RestsOn ignored) v → files_of v intent_name ≡ Some file.items
+        → Since (IsStill ignored v) (T.history tree.old) (T.history tree.new)) }
+    ensures replayed { IfObservable (T.history tree.old) (λ v. files_of v intent_name
+        ≡ Some file.items → OnOk result (HasNow (T.history tree.new) (IsReplayed v))) }
+    ensures settled { IfObservable (T.history tree.old) (λ v. (ignored : List ℕ → Bool)
+        → IsOrderly (RestsOn ignored) v → files_of v intent_name ≡ Some file.items
+        → OnOk result (HasNow (T.history tree.new)
+        (IsSettled ignored (recovered_files (files_of v))))) }
+    ensures bad { (cause : Cause) → IsErrOf result (RecoverFault.IntentBad cause)
+        → (T.history tree.new ≡ T.history tree.old)
+        × (first_fault IntentTable file.items ≡ Some cause) }
     ensures good { OnOk result (first_fault IntentTable file.items ≡ None) }
     ensures goes_on { GoesOn (T.counts tree.old) (T.counts tree.new) }
-    ensures disk { IsErrOf result RecoverFault.Disk → HasCause (T.counts tree.old) (T.counts
-        tree.new) }
+    ensures disk { IsErrOf result RecoverFault.Disk
+        → HasCause (T.counts tree.old) (T.counts tree.new) }
     ensures kept { OnOk result (IsNoFault (T.counts tree.old) (T.counts tree.new)) }
-    ensures memory { IsErrOf result RecoverFault.Memory → IsNoFault (T.counts tree.old) (T.counts
-        tree.new) }
-    ensures refused { (cause : Cause) → IsErrOf result (RecoverFault.IntentBad cause) → IsNoFault
-        (T.counts tree.old) (T.counts tree.new) }
-    ensures proper { IfObservable (T.history tree.old) (λ v. files_of v intent_name ≡ Some
-        file.items → HasRoomToReplay (files_of v) → (T.counts tree.new).misuses ≡ (T.counts
-        tree.old).misuses) }
+    ensures memory { IsErrOf result RecoverFault.Memory
+        → IsNoFault (T.counts tree.old) (T.counts tree.new) }
+    ensures refused { (cause : Cause) → IsErrOf result (RecoverFault.IntentBad cause)
+        → IsNoFault (T.counts tree.old) (T.counts tree.new) }
+    ensures proper { IfObservable (T.history tree.old) (λ v. files_of v intent_name
+        ≡ Some file.items → HasRoomToReplay (files_of v)
+        → (T.counts tree.new).misuses ≡ (T.counts tree.old).misuses) }
 {
     let mut stage = Stage::found(alloc, file)?;
     apply_all(&mut stage, tree)?;
@@ -198,18 +206,20 @@ fn replay_file<T: Tree>(alloc: Global, tree: &mut T, file: Vec<u8>) -> Result<()
 fn apply_all<T: Tree>(stage: &mut Stage, tree: &mut T) -> Result<(), Disk>
     requires published { stage.old.published ≡ true }
     requires within { stage.old.acted ≤ action_count stage.old.intent }
-    ensures moments { IfObservable (T.history tree.old) (λ v. (ignored : List ℕ → Bool) (files :
-        Files) → IsOrderly (RestsOn ignored) v → IsActing stage.old files v → Since (IsStill ignored
-        v) (T.history tree.old) (T.history tree.new)) }
-    ensures acting { IfObservable (T.history tree.old) (λ v. (files : Files) → IsActing stage.old
-        files v → OnOk result (HasNow (T.history tree.new) (IsActing stage.new files))) }
+    ensures moments { IfObservable (T.history tree.old) (λ v. (ignored : List ℕ
+        → Bool) (files : Files) → IsOrderly (RestsOn ignored) v → IsActing stage.old files v
+        → Since (IsStill ignored v) (T.history tree.old) (T.history tree.new)) }
+    ensures acting { IfObservable (T.history tree.old) (λ v. (files : Files)
+        → IsActing stage.old files v
+        → OnOk result (HasNow (T.history tree.new) (IsActing stage.new files))) }
     ensures all { OnOk result (stage.new.acted ≡ action_count stage.new.intent) }
     ensures published { OnOk result (stage.new.published ≡ true) }
     ensures goes_on { GoesOn (T.counts tree.old) (T.counts tree.new) }
     ensures cause { OnErr result (HasCause (T.counts tree.old) (T.counts tree.new)) }
     ensures kept { OnOk result (IsNoFault (T.counts tree.old) (T.counts tree.new)) }
-    ensures proper { IfObservable (T.history tree.old) (λ v. (files : Files) → IsActing stage.old
-        files v → HasRoomBeside files → (T.counts tree.new).misuses ≡ (T.counts tree.old).misuses) }
+    ensures proper { IfObservable (T.history tree.old) (λ v. (files : Files)
+        → IsActing stage.old files v → HasRoomBeside files
+        → (T.counts tree.new).misuses ≡ (T.counts tree.old).misuses) }
 {
     while stage.has_more() {
         stage.apply_one(tree)?;
@@ -219,20 +229,22 @@ fn apply_all<T: Tree>(stage: &mut Stage, tree: &mut T) -> Result<(), Disk>
 
 /// Takes away all that waits.
 fn empty_stage<T: Tree>(alloc: Global, tree: &mut T) -> Result<(), TreeFault>
-    ensures moments { IfObservable (T.history tree.old) (λ v. (ignored : List ℕ → Bool) → IsOrderly
-        (RestsOn ignored) v → v.names intent_name ≡ None → Since (IsStill ignored v) (T.history
-        tree.old) (T.history tree.new)) }
-    ensures emptied { IfObservable (T.history tree.old) (λ v. OnOk result (HasNow (T.history
-        tree.new) (IsEmptied v))) }
-    ensures idle { IfObservable (T.history tree.old) (λ v. IsEmptyStage v.names → T.history tree.new
-        ≡ T.history tree.old) }
+    ensures moments { IfObservable (T.history tree.old) (λ v. (ignored : List ℕ → Bool)
+        → IsOrderly (RestsOn ignored) v → v.names intent_name ≡ None
+        → Since (IsStill ignored v) (T.history tree.old) (T.history tree.new)) }
+    ensures emptied { IfObservable (T.history tree.old) (λ v.
+        OnOk result (HasNow (T.history tree.new) (IsEmptied v))) }
+    ensures idle { IfObservable (T.history tree.old) (λ v. IsEmptyStage v.names
+        → T.history tree.new ≡ T.history tree.old) }
     ensures goes_on { GoesOn (T.counts tree.old) (T.counts tree.new) }
-    ensures disk { IsErrOf result TreeFault.Disk → HasCause (T.counts tree.old) (T.counts tree.new) }
+    ensures disk { IsErrOf result TreeFault.Disk
+        → HasCause (T.counts tree.old) (T.counts tree.new) }
     ensures kept { OnOk result (IsNoFault (T.counts tree.old) (T.counts tree.new)) }
-    ensures memory { IsErrOf result TreeFault.Memory → (T.history tree.new ≡ T.history tree.old) ×
-        IsNoFault (T.counts tree.old) (T.counts tree.new) }
-    ensures proper { IfObservable (T.history tree.old) (λ v. (T.counts tree.new).misuses ≡ (T.counts
-        tree.old).misuses) }
+    ensures memory { IsErrOf result TreeFault.Memory
+        → (T.history tree.new ≡ T.history tree.old)
+        × IsNoFault (T.counts tree.old) (T.counts tree.new) }
+    ensures proper { IfObservable (T.history tree.old) (λ v. (T.counts tree.new).misuses
+        ≡ (T.counts tree.old).misuses) }
 {
     let folder = stage_folder(alloc)?;
     let names = tree.list(alloc, &folder)?;
@@ -242,17 +254,17 @@ fn empty_stage<T: Tree>(alloc: Global, tree: &mut T) -> Result<(), TreeFault>
 
 /// Takes these names away.
 fn remove_all<T: Tree>(tree: &mut T, names: &Names) -> Result<(), Disk>
-    ensures moments { IfObservable (T.history tree.old) (λ v. (ignored : List ℕ → Bool) → IsOrderly
-        (RestsOn ignored) v → v.names intent_name ≡ None → AllStaged names.now → Since (IsStill
-        ignored v) (T.history tree.old) (T.history tree.new)) }
-    ensures cleared { IfObservable (T.history tree.old) (λ v. OnOk result (HasNow (T.history
-        tree.new) (IsWithout names.now v))) }
+    ensures moments { IfObservable (T.history tree.old) (λ v. (ignored : List ℕ → Bool)
+        → IsOrderly (RestsOn ignored) v → v.names intent_name ≡ None → AllStaged names.now
+        → Since (IsStill ignored v) (T.history tree.old) (T.history tree.new)) }
+    ensures cleared { IfObservable (T.history tree.old) (λ v.
+        OnOk result (HasNow (T.history tree.new) (IsWithout names.now v))) }
     ensures none { names.now ≡ [] → T.history tree.new ≡ T.history tree.old }
     ensures goes_on { GoesOn (T.counts tree.old) (T.counts tree.new) }
     ensures cause { OnErr result (HasCause (T.counts tree.old) (T.counts tree.new)) }
     ensures kept { OnOk result (IsNoFault (T.counts tree.old) (T.counts tree.new)) }
-    ensures proper { IfObservable (T.history tree.old) (λ v. (T.counts tree.new).misuses ≡ (T.counts
-        tree.old).misuses) }
+    ensures proper { IfObservable (T.history tree.old) (λ v. (T.counts tree.new).misuses
+        ≡ (T.counts tree.old).misuses) }
 {
     a_crash_may_leave_the_files_as_read();
     order_outlasts_a_crash::<Journal>();
