@@ -19,7 +19,7 @@ pub record Stored (c : Cell) (w : Writing) : Type 0 where
   pub state : layout_of (call c w).1 ≡ (put_cell c (layout_of w)).1
   pub fits : Fits c (layout_of w)
 
-fits_of : (c : ℕ × ℕ) → passes c ≡ false → c.0 ≤ MOST_BYTES
+pub fits_of : (c : ℕ × ℕ) → passes c ≡ false → c.0 ≤ MOST_BYTES
 fits_of c e = go (ltb MOST_BYTES c.0) refl e
   where
     go : (b : Bool) → ltb MOST_BYTES c.0 ≡ b → (b || ltb MOST_VALUES c.1) ≡ false → c.0 ≤ MOST_BYTES
@@ -32,8 +32,8 @@ call_stored (in_place word) w e = record { before = e; word = rw e refl; state =
 call_stored (apart i) w e = go (is_over w) refl e
   where
     past : (b : Bool) → passes (layout_counts (put_item i (layout_of w)).1) ≡ b
-        → is_over (cond {A = ℕ × Writing} b (0, record (writing_of (put_item i (layout_of w)).1) { body = w.body }) ((put_item i (layout_of w)).0, writing_of (put_item i (layout_of w)).1)).1 ≡ false
-        → (◌≡◌ {A = ℕ × Writing} (cond {A = ℕ × Writing} b (0, record (writing_of (put_item i (layout_of w)).1) { body = w.body }) ((put_item i (layout_of w)).0, writing_of (put_item i (layout_of w)).1)) ((put_item i (layout_of w)).0, writing_of (put_item i (layout_of w)).1)) × (end_offset (put_item i (layout_of w)).1 ≤ MOST_BYTES)
+        → is_over (cond {A = ℕ × Writing} b (0, record (writing_of (put_item i (layout_of w)).1) { body = w.body; items = w.items }) ((put_item i (layout_of w)).0, writing_of (put_item i (layout_of w)).1)).1 ≡ false
+        → (◌≡◌ {A = ℕ × Writing} (cond {A = ℕ × Writing} b (0, record (writing_of (put_item i (layout_of w)).1) { body = w.body; items = w.items }) ((put_item i (layout_of w)).0, writing_of (put_item i (layout_of w)).1)) ((put_item i (layout_of w)).0, writing_of (put_item i (layout_of w)).1)) × (end_offset (put_item i (layout_of w)).1 ≤ MOST_BYTES)
     past true q f = absurd cc
     past false q f = (refl, fits_of (layout_counts (put_item i (layout_of w)).1) q)
 

@@ -1,45 +1,53 @@
 -- The items that the code makes are those of the layout.
-use Rattle.std.proofs.Common.{◌≡◌, ◌≢◌, ℕ, suc, ◌+◌, ◌-◌, ◌^◌, ◌<◌, ◌≤◌, true, false, eqb, ltb, List, [], ◌∷◌, ◌++◌, length, take, get_or, refl, sym, ap, ◌∙◌, arith}
+use Rattle.std.proofs.Common.{◌≡◌, ◌≢◌, ℕ, suc, ◌+◌, ◌-◌, ◌^◌, ◌<◌, ◌≤◌, Bool, true, false, cond, eqb, ltb, List, [], ◌∷◌, ◌++◌, length, take, get_or, refl, sym, ap, ◌∙◌, arith}
 use Rattle.std.specs.List.{flat_map}
-use Rattle.std.specs.Int.{w32, w64, to_le_bytes}
+use Rattle.std.specs.Int.{w8, w16, w32, w64, to_le_bytes}
 use Rattle.std.proofs.lemmas.Bool.{lt-ltb, le-ltb}
 use Rattle.std.proofs.lemmas.List.{take_more}
-use Rattle.adb_write.specs.Canonical.{apart, int_cell, blob_cell, run_cell, keep_word, trimmed_words}
+use Rattle.adb_write.specs.Canonical.{Item, apart, int_item, int_cell, blob_item, blob_cell, run_item, run_bytes, run_cell, keep_word, trimmed_words}
 use Rattle.adb_write.proofs.RoundTrip.{neq-eqb}
 
-pub int_32 : (n : ℕ) → 2 ^ 28 ≤ n → n < 2 ^ 32 → apart (record { kind = 2; align = 4; bytes = take 4 (to_le_bytes w64 n) ++ []; entries = 0 }) ≡ int_cell n
-int_32 n a b =
-    let t : ltb n (2 ^ 28) ≡ false = le-ltb _ _ a in
-    let u : ltb n (2 ^ 32) ≡ true = lt-ltb _ _ b in
-    rw (t, u) refl
+-- ---- the number in an item's front, and what stands behind it
 
-pub int_64 : (n : ℕ) → 2 ^ 32 ≤ n → apart (record { kind = 3; align = 8; bytes = take 8 (to_le_bytes w64 n) ++ []; entries = 0 }) ≡ int_cell n
-int_64 n a =
-    let t : ltb n (2 ^ 28) ≡ false = le-ltb _ _ (omega arith) in
-    let u : ltb n (2 ^ 32) ≡ false = le-ltb _ _ a in
-    rw (t, u) refl
+pub int_is : (n : ℕ) → 2 ^ 28 ≤ n → apart (int_item n) ≡ int_cell n
+int_is n a = let t : ltb n (2 ^ 28) ≡ false = le-ltb _ _ a in rw t refl
 
-pub blob_8 : (b : List ℕ) → 0 < length b → length b < 2 ^ 8 → apart (record { kind = 8; align = 1; bytes = take 1 (to_le_bytes w64 (length b)) ++ b; entries = 0 }) ≡ blob_cell b
-blob_8 [] some few = absurd (omega arith)
-blob_8 (x ∷ xs) some few = let t : ltb (length (x ∷ xs)) (2 ^ 8) ≡ true = lt-ltb _ _ few in rw t refl
+pub blob_is : (b : List ℕ) → 0 < length b → apart (blob_item b) ≡ blob_cell b
+blob_is [] some = absurd (omega arith)
+blob_is (x ∷ xs) some = refl
 
-pub blob_16 : (b : List ℕ) → 2 ^ 8 ≤ length b → length b < 2 ^ 16 → apart (record { kind = 9; align = 2; bytes = take 2 (to_le_bytes w64 (length b)) ++ b; entries = 0 }) ≡ blob_cell b
-blob_16 [] some few = absurd (omega arith)
-blob_16 (x ∷ xs) some few =
-    let t : ltb (length (x ∷ xs)) (2 ^ 8) ≡ false = le-ltb _ _ some in
-    let u : ltb (length (x ∷ xs)) (2 ^ 16) ≡ true = lt-ltb _ _ few in
-    rw (t, u) refl
+pub blob_filled : (b : List ℕ) → eqb (length b) 0 ≡ false → apart (blob_item b) ≡ blob_cell b
+blob_filled [] some = absurd cc
+blob_filled (x ∷ xs) some = refl
 
-pub blob_32 : (b : List ℕ) → 2 ^ 16 ≤ length b → apart (record { kind = 10; align = 4; bytes = take 4 (to_le_bytes w64 (length b)) ++ b; entries = 0 }) ≡ blob_cell b
-blob_32 [] some = absurd (omega arith)
-blob_32 (x ∷ xs) some =
-    let t : ltb (length (x ∷ xs)) (2 ^ 8) ≡ false = le-ltb _ _ (omega arith) in
-    let u : ltb (length (x ∷ xs)) (2 ^ 16) ≡ false = le-ltb _ _ some in
-    rw (t, u) refl
+pub run_is : (kind : ℕ) (ws : List ℕ) → 0 < length ws → apart (run_item kind ws) ≡ run_cell kind ws
+run_is kind [] some = absurd (omega arith)
+run_is kind (w ∷ ws) some = refl
 
-pub run_is : (kind : ℕ) (ws : List ℕ) (n : ℕ) → 0 < length ws → n ≡ length ws + 1 → apart (record { kind = kind; align = 4; bytes = take 4 (to_le_bytes w64 n) ++ flat_map (to_le_bytes w32) ws; entries = length ws }) ≡ run_cell kind ws
-run_is kind [] n some e = absurd (omega arith)
-run_is kind (w ∷ ws) n some e = let is : n ≡ suc (length (w ∷ ws)) = omega arith in rw is refl
+-- the items, by the tests of their sizes
+abbrev int_by : Bool → ℕ → Item
+int_by a n = cond a (record { kind = 2; align = 4; bytes = to_le_bytes w32 n; entries = 0 }) (record { kind = 3; align = 8; bytes = to_le_bytes w64 n; entries = 0 })
+
+abbrev blob_by : Bool → Bool → List ℕ → Item
+blob_by a c b = cond a (record { kind = 8; align = 1; bytes = to_le_bytes w8 (length b) ++ b; entries = 0 }) (cond c (record { kind = 9; align = 2; bytes = to_le_bytes w16 (length b) ++ b; entries = 0 }) (record { kind = 10; align = 4; bytes = to_le_bytes w32 (length b) ++ b; entries = 0 }))
+
+pub int_bytes : (n : ℕ) → (int_item n).bytes ≡ take (int_item n).align (to_le_bytes w64 n) ++ []
+int_bytes n = go (ltb n (2 ^ 32))
+  where
+    go : (a : Bool) → (int_by a n).bytes ≡ take (int_by a n).align (to_le_bytes w64 n) ++ []
+    go true = refl
+    go false = refl
+
+pub blob_bytes : (b : List ℕ) → (blob_item b).bytes ≡ take (blob_item b).align (to_le_bytes w64 (length b)) ++ b
+blob_bytes b = go (ltb (length b) (2 ^ 8)) (ltb (length b) (2 ^ 16))
+  where
+    go : (a c : Bool) → (blob_by a c b).bytes ≡ take (blob_by a c b).align (to_le_bytes w64 (length b)) ++ b
+    go true c = refl
+    go false true = refl
+    go false false = refl
+
+pub run_bytes_are : (ws : List ℕ) (n : ℕ) → n ≡ length ws + 1 → run_bytes ws ≡ take 4 (to_le_bytes w64 n) ++ flat_map (to_le_bytes w32) ws
+run_bytes_are ws n e = let is : n ≡ suc (length ws) = omega arith in rw is refl
 
 -- ---- an object's words without the NULLs that stand last
 

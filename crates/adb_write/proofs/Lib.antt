@@ -1,3 +1,10 @@
+pub mod Found
+pub mod Rising
+pub mod Pages
+pub mod Compared
+pub mod StoredWords
+pub mod Held
+pub mod Appended
 pub mod Placed
 pub mod RoundTrip
 pub mod Limits

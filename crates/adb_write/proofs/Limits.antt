@@ -63,7 +63,7 @@ call-ends (in_place word) out w = rw w.fine (inl (refl, refl, refl, w))
 call-ends (apart i) out w = rw w.fine (go (passes (layout_counts (put_cell (apart i) out).1)) refl)
   where
     go : (b : Bool) → passes (layout_counts (put_cell (apart i) out).1) ≡ b
-        → Ends (layout_counts (put_cell (apart i) out).1 ∷ []) (cond b (0, record (writing_of (put_cell (apart i) out).1) { body = out.body }) ((put_cell (apart i) out).0, writing_of (put_cell (apart i) out).1)) (put_cell (apart i) out)
+        → Ends (layout_counts (put_cell (apart i) out).1 ∷ []) (cond b (0, record (writing_of (put_cell (apart i) out).1) { body = out.body; items = out.items }) ((put_cell (apart i) out).0, writing_of (put_cell (apart i) out).1)) (put_cell (apart i) out)
     go true e = inr (layout_counts (put_cell (apart i) out).1, rw e refl, refl, e)
     go false e = inl (rw e refl, refl, refl, record { fine = e })
 

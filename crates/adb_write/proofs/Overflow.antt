@@ -1,11 +1,11 @@
 -- A value overflows exactly where its size or the number of its values passes a limit.
-use Rattle.std.proofs.Common.{◌≡◌, ℕ, suc, ◌+◌, ◌^◌, ◌≤◌, Bool, true, false, cond, ltb, List, [], ◌∷◌, ◌++◌, length, Some, None, refl, sym, ap, ◌∙◌, arith, inl, inr, ◌⊎◌, le_trans}
+use Rattle.std.proofs.Common.{◌≡◌, ℕ, suc, ◌+◌, ◌^◌, ◌≤◌, Bool, true, false, cond, ltb, List, [], ◌∷◌, ◌++◌, length, Option, Some, None, refl, sym, ap, ◌∙◌, arith, inl, inr, ◌⊎◌, le_trans}
 use Rattle.std.specs.Prelude.{find, is_some, ◌||◌}
 use Rattle.std.specs.Int.{w8, w16, w32, w64, to_le_bytes}
 use Rattle.std.proofs.lemmas.Bool.{cases_lt, lt-ltb, ltb-true}
 use Rattle.adb_view.specs.Plain.{Plain, null, int, blob, arr, obj, Plains, none, more, IsNormal, AreNormal}
 use Rattle.adb_view.specs.Readers.{ARRAY, OBJECT}
-use Rattle.adb_write.specs.Canonical.{Cell, in_place, apart, int_cell, blob_cell, run_cell, trimmed_words, Layout, empty_layout, end_offset, put_cell, write, write_all, payload_with_root, PayloadCounts, layout_counts, passes, trace, trace_all, overflow_of, MOST_BYTES, MOST_VALUES}
+use Rattle.adb_write.specs.Canonical.{Item, WrittenItem, Cell, in_place, apart, int_item, int_cell, blob_item, blob_cell, run_cell, trimmed_words, Layout, empty_layout, end_offset, is_equal_item, put_unless, put_cell, write, write_all, payload_with_root, PayloadCounts, layout_counts, passes, trace, trace_all, overflow_of, MOST_BYTES, MOST_VALUES}
 use Rattle.adb_write.specs.Size.{size_of, entry_count, entries_of, entries_of_all, value_count}
 use Rattle.adb_write.specs.Writing.{empty_writing, calls}
 use Rattle.adb_write.proofs.RoundTrip.{Grows-here, stored-grows, put_run-grows, write_all-grows, write_all-made, words_stay}
@@ -17,14 +17,18 @@ abbrev entries_in : Cell → ℕ
 entries_in (in_place w) = 0
 entries_in (apart i) = i.entries
 
+unless_values : (found : Option WrittenItem) (i : Item) (out : Layout) → (put_unless found i out).1.values ≡ out.values + i.entries
+unless_values None i out = refl
+unless_values (Some there) i out = refl
+
 stored_values : (c : Cell) (out : Layout) → (put_cell c out).1.values ≡ out.values + entries_in c
 stored_values (in_place w) out = omega arith
-stored_values (apart i) out = refl
+stored_values (apart i) out = unless_values (find (is_equal_item out.body i) out.items) i out
 
 int_entries : (n : ℕ) → entries_in (int_cell n) ≡ 0
 int_entries n = go (ltb n (2 ^ 28)) (ltb n (2 ^ 32))
   where
-    go : (a b : Bool) → entries_in (cond a (in_place (2 ^ 28 + n)) (cond b (apart (record { kind = 2; align = 4; bytes = to_le_bytes w32 n; entries = 0 })) (apart (record { kind = 3; align = 8; bytes = to_le_bytes w64 n; entries = 0 })))) ≡ 0
+    go : (a b : Bool) → entries_in (cond a (in_place (2 ^ 28 + n)) (apart (cond b (record { kind = 2; align = 4; bytes = to_le_bytes w32 n; entries = 0 }) (record { kind = 3; align = 8; bytes = to_le_bytes w64 n; entries = 0 })))) ≡ 0
     go true b = refl
     go false true = refl
     go false false = refl
@@ -33,7 +37,7 @@ blob_entries : (b : List ℕ) → entries_in (blob_cell b) ≡ 0
 blob_entries [] = refl
 blob_entries (x ∷ xs) = go (ltb (length (x ∷ xs)) (2 ^ 8)) (ltb (length (x ∷ xs)) (2 ^ 16))
   where
-    go : (a b : Bool) → entries_in (cond a (apart (record { kind = 8; align = 1; bytes = to_le_bytes w8 (length (x ∷ xs)) ++ x ∷ xs; entries = 0 })) (cond b (apart (record { kind = 9; align = 2; bytes = to_le_bytes w16 (length (x ∷ xs)) ++ x ∷ xs; entries = 0 })) (apart (record { kind = 10; align = 4; bytes = to_le_bytes w32 (length (x ∷ xs)) ++ x ∷ xs; entries = 0 })))) ≡ 0
+    go : (a b : Bool) → (cond {A = Item} a (record { kind = 8; align = 1; bytes = to_le_bytes w8 (length (x ∷ xs)) ++ x ∷ xs; entries = 0 }) (cond b (record { kind = 9; align = 2; bytes = to_le_bytes w16 (length (x ∷ xs)) ++ x ∷ xs; entries = 0 }) (record { kind = 10; align = 4; bytes = to_le_bytes w32 (length (x ∷ xs)) ++ x ∷ xs; entries = 0 }))).entries ≡ 0
     go true b = refl
     go false true = refl
     go false false = refl

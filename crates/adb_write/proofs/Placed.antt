@@ -8,7 +8,7 @@ use Rattle.std.proofs.lemmas.List.Concat.{flat_map-cons}
 use Rattle.std.proofs.lemmas.Nat.{from_le_bytes-to_le_bytes_2, from_le_bytes-to_le_bytes_4, from_le_bytes-to_le_bytes_8}
 use Rattle.adb_view.specs.Bytes.{range_at, number_at, words}
 use Rattle.adb_view.specs.Readers.{kind_of, low_of, counted_at, counted_words, run_at}
-use Rattle.adb_write.specs.Canonical.{gap, Item, Layout, end_offset, put_item, payload_with_root, run_bytes}
+use Rattle.adb_write.specs.Canonical.{gap, Item, Layout, end_offset, put_new, payload_with_root, run_bytes}
 
 -- the payload ends with these bytes, which begin at the offset
 pub record Stands (p : List ℕ) (at : ℕ) (bytes : List ℕ) : Type 0 where
@@ -98,10 +98,10 @@ Stands-append p q at bytes s = record { inside = (let i = s.inside in omega (ari
 abbrev pub place : Item → Layout → ℕ
 place i out = end_offset out + gap i.align (end_offset out)
 
-pub placed_stands : (i : Item) (out : Layout) (root : ℕ) → Stands (payload_with_root root (put_item i out).1) (place i out) i.bytes
+pub placed_stands : (i : Item) (out : Layout) (root : ℕ) → Stands (payload_with_root root (put_new i out).1) (place i out) i.bytes
 placed_stands i out root =
     let zeros : List ℕ = replicate (gap i.align (end_offset out)) 0 in
-    let regroup : payload_with_root root (put_item i out).1 ≡ (payload_with_root root out ++ zeros) ++ i.bytes = sym (append_assoc (payload_with_root root out) zeros i.bytes) in
+    let regroup : payload_with_root root (put_new i out).1 ≡ (payload_with_root root out ++ zeros) ++ i.bytes = sym (append_assoc (payload_with_root root out) zeros i.bytes) in
     let len : length (payload_with_root root out ++ zeros) ≡ place i out = omega (arith, length-append (payload_with_root root out) zeros, length-replicate {A = ℕ} (gap i.align (end_offset out)) 0) in
     record {
       inside = omega (arith, ap length regroup, length-append (payload_with_root root out ++ zeros) i.bytes);

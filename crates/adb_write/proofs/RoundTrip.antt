@@ -1,5 +1,6 @@
 -- The value of a canonical payload is the value.
 use Rattle.std.proofs.Common.{◌≡◌, ◌≢◌, ◌⊎◌, ℕ, zero, suc, ◌+◌, ◌*◌, ◌^◌, ◌<◌, ◌≤◌, Bool, true, false, cond, eqb, leb, ltb, List, [], ◌∷◌, ◌++◌, length, take, drop, replicate, Option, Some, None, option_map, option_and_then, Ok, refl, sym, ap, subst, ◌∙◌, append_assoc, arith, inl, inr, lit<, eq-eqb, le_trans}
+use Rattle.std.specs.Prelude.{find}
 use Rattle.std.specs.List.{flat_map, AllByRecursion}
 use Rattle.std.specs.Int.{Width, w8, w16, w32, w64, byte_len, from_le_bytes, to_le_bytes}
 use Rattle.std.proofs.lemmas.Bool.{cases_lt, leb-true, le-leb, lt-ltb, le-ltb}
@@ -8,9 +9,10 @@ use Rattle.adb_view.specs.Bytes.{range_at, number_at, words}
 use Rattle.adb_view.specs.Plain.{IsNormal, AreNormal, Plain, null, int, blob, arr, obj, Plains, none, more, without_last_nulls, keep, blob_value, arr_value, obj_of, obj_value, Shape, number, text, hash, array, object, Fields, no_fields, field, unless_null, from_answer, each_plain, plain_of, plains_of, value_of}
 use Rattle.adb_view.specs.Head.{root_of}
 use Rattle.adb_view.specs.Readers.{kind_of, low_of, inside, counted_at, counted_words, run_at, int_of, blob_of, run_of, ARRAY, OBJECT}
-use Rattle.adb_write.specs.Canonical.{gap, Item, Cell, in_place, apart, int_cell, blob_cell, run_cell, run_bytes, keep_word, trimmed_words, Layout, empty_layout, end_offset, put_item, put_cell, put_run, write, write_all, payload_with_root, canonical, MOST_BYTES}
+use Rattle.adb_write.specs.Canonical.{gap, Item, WrittenItem, Cell, in_place, apart, int_cell, blob_cell, run_cell, run_bytes, keep_word, trimmed_words, Layout, empty_layout, end_offset, is_equal_item, word_of_item, put_new, put_unless, put_item, put_cell, put_run, write, write_all, payload_with_root, canonical, MOST_BYTES}
 use Rattle.adb_view.specs.Shaped.{Each, HasShape, HaveShapes}
 use Rattle.adb_write.specs.StandsFor.{Holds, HoldAll, IsWordOf}
+use Rattle.adb_write.proofs.Found.{find-passes, equal_kind, equal_bytes, equal_within, equal_stands}
 use Rattle.adb_write.proofs.Placed.{Stands, Stands-append, wide8, wide16, wide32, wide64, number_stands, counted_stands, run_stands, words_len, place, placed_stands, word_kind, word_low}
 
 chosen : {A : Type 0} (b : Bool) (x y z : A) → cond b x y ≡ z → ((b ≡ true) × (x ≡ z)) ⊎ ((b ≡ false) × (y ≡ z))
@@ -194,9 +196,13 @@ Grows-then a b c p q = record { more = p.more ++ q.more; is = q.is ∙ ap (λ (x
 pub Grows-here : (a b : Layout) → Grows a b → end_offset a ≤ end_offset b
 Grows-here a b g = omega (arith, ap length g.is, length-append a.body g.more)
 
+unless-grows : (found : Option WrittenItem) (i : Item) (out : Layout) → Grows out (put_unless found i out).1
+unless-grows None i out = record { more = replicate (gap i.align (end_offset out)) 0 ++ i.bytes; is = refl }
+unless-grows (Some there) i out = record { more = []; is = sym (append-nil out.body) }
+
 pub stored-grows : (c : Cell) (out : Layout) → Grows out (put_cell c out).1
 stored-grows (in_place w) out = Grows-refl out
-stored-grows (apart i) out = record { more = replicate (gap i.align (end_offset out)) 0 ++ i.bytes; is = refl }
+stored-grows (apart i) out = unless-grows (find (is_equal_item out.body i) out.items) i out
 
 pub put_run-grows : (kind : ℕ) (ws : List ℕ) (out : Layout) → Grows out (put_run kind ws out).1
 put_run-grows kind ws out = stored-grows (run_cell kind ws) out
@@ -232,8 +238,8 @@ pub record Leads (p : List ℕ) (i : Item) (w : ℕ) : Type 0 where
   pub kind_is : kind_of w ≡ i.kind
   pub stands : (back : List ℕ) × Stands p (low_of w) (i.bytes ++ back)
 
-pub placed_leads : (i : Item) (out : Layout) (root : ℕ) → 0 < i.kind → i.kind < 15 → end_offset (put_item i out).1 ≤ MOST_BYTES → Leads (payload_with_root root (put_item i out).1) i (put_item i out).0
-placed_leads i out root pos few fits =
+new_leads : (i : Item) (out : Layout) (root : ℕ) → 0 < i.kind → i.kind < 15 → end_offset (put_new i out).1 ≤ MOST_BYTES → Leads (payload_with_root root (put_new i out).1) i (put_new i out).0
+new_leads i out root pos few fits =
     let zeros : List ℕ = replicate (gap i.align (end_offset out)) 0 in
     let total = length-append out.body (zeros ++ i.bytes) in
     let mid = length-append zeros i.bytes in
@@ -246,19 +252,41 @@ placed_leads i out root pos few fits =
       stands = ([], rw (word_low i.kind (place i out) at, append-nil) (placed_stands i out root));
     }
 
+-- a written item's word leads to each item that is equal to it
+found_leads : (i : Item) (out : Layout) (root : ℕ) (there : WrittenItem) → 0 < i.kind → i.kind < 15 → 0 < length i.bytes → end_offset out ≤ MOST_BYTES → is_equal_item out.body i there ≡ true
+    → Leads (payload_with_root root out) i (word_of_item there)
+found_leads i out root there pos few some fits e =
+    let kind = equal_kind out.body i there e in
+    let within = equal_within out.body there.offset i.bytes some (equal_bytes out.body i there e) in
+    let at : 8 + there.offset < 2 ^ 28 = omega arith in
+    record {
+      nonzero = λ z. absurd (omega arith);
+      small = omega arith;
+      kind_is = word_kind there.kind (8 + there.offset) at ∙ kind;
+      stands = (drop (length i.bytes) (drop there.offset out.body), rw (word_low there.kind (8 + there.offset) at) (equal_stands out i there root some e));
+    }
+
+pub placed_leads : (i : Item) (out : Layout) (root : ℕ) → 0 < i.kind → i.kind < 15 → 0 < length i.bytes → end_offset (put_item i out).1 ≤ MOST_BYTES → Leads (payload_with_root root (put_item i out).1) i (put_item i out).0
+placed_leads i out root pos few some fits = go (find (is_equal_item out.body i) out.items) refl fits
+  where
+    go : (found : Option WrittenItem) → find (is_equal_item out.body i) out.items ≡ found → end_offset (put_unless found i out).1 ≤ MOST_BYTES
+        → Leads (payload_with_root root (put_unless found i out).1) i (put_unless found i out).0
+    go None is within = new_leads i out root pos few within
+    go (Some there) is within = found_leads i out root there pos few some within (find-passes (is_equal_item out.body i) out.items there is)
+
 -- more bytes at the end change nothing
 pub Leads-append : (p q : List ℕ) (i : Item) (w : ℕ) → Leads p i w → Leads (p ++ q) i w
 Leads-append p q i w l =
     let (back, s) = l.stands in
     record { nonzero = l.nonzero; small = l.small; kind_is = l.kind_is; stands = (back ++ q, subst (Stands (p ++ q) (low_of w)) (append_assoc i.bytes back q) (Stands-append p q (low_of w) (i.bytes ++ back) s)) }
 
-int_of-32 : (p : List ℕ) (w n : ℕ) → n < 2 ^ 32 → Leads p (record { kind = 2; align = 4; bytes = to_le_bytes w32 n; entries = 0 }) w → int_of p w ≡ Ok n
+pub int_of-32 : (p : List ℕ) (w n : ℕ) → n < 2 ^ 32 → Leads p (record { kind = 2; align = 4; bytes = to_le_bytes w32 n; entries = 0 }) w → int_of p w ≡ Ok n
 unfolding int_of
 int_of-32 p w n lt l =
     let t0 : eqb w 0 ≡ false = neq-eqb w 0 l.nonzero in
     rw (t0, l.kind_is, number_stands w32 (2 ^ 32) wide32 p (low_of w) n l.stands.0 lt l.stands.1) refl
 
-int_of-64 : (p : List ℕ) (w n : ℕ) → n < 2 ^ 64 → Leads p (record { kind = 3; align = 8; bytes = to_le_bytes w64 n; entries = 0 }) w → int_of p w ≡ Ok n
+pub int_of-64 : (p : List ℕ) (w n : ℕ) → n < 2 ^ 64 → Leads p (record { kind = 3; align = 8; bytes = to_le_bytes w64 n; entries = 0 }) w → int_of p w ≡ Ok n
 unfolding int_of
 int_of-64 p w n lt l =
     let t0 : eqb w 0 ≡ false = neq-eqb w 0 l.nonzero in
@@ -272,19 +300,19 @@ int_of-short p n lt =
     let t2 : low_of (2 ^ 28 + n) ≡ n = omega arith in
     rw (t0, t1, t2) refl
 
-blob_of-8 : (p : List ℕ) (w : ℕ) (b : List ℕ) → length b < 2 ^ 8 → Leads p (record { kind = 8; align = 1; bytes = to_le_bytes w8 (length b) ++ b; entries = 0 }) w → blob_of p w ≡ Ok b
+pub blob_of-8 : (p : List ℕ) (w : ℕ) (b : List ℕ) → length b < 2 ^ 8 → Leads p (record { kind = 8; align = 1; bytes = to_le_bytes w8 (length b) ++ b; entries = 0 }) w → blob_of p w ≡ Ok b
 unfolding blob_of
 blob_of-8 p w b lt l = let t0 : eqb w 0 ≡ false = neq-eqb w 0 l.nonzero in rw (t0, l.kind_is, counted_stands w8 (2 ^ 8) wide8 p (low_of w) b l.stands.0 lt l.stands.1) refl
 
-blob_of-16 : (p : List ℕ) (w : ℕ) (b : List ℕ) → length b < 2 ^ 16 → Leads p (record { kind = 9; align = 2; bytes = to_le_bytes w16 (length b) ++ b; entries = 0 }) w → blob_of p w ≡ Ok b
+pub blob_of-16 : (p : List ℕ) (w : ℕ) (b : List ℕ) → length b < 2 ^ 16 → Leads p (record { kind = 9; align = 2; bytes = to_le_bytes w16 (length b) ++ b; entries = 0 }) w → blob_of p w ≡ Ok b
 unfolding blob_of
 blob_of-16 p w b lt l = let t0 : eqb w 0 ≡ false = neq-eqb w 0 l.nonzero in rw (t0, l.kind_is, counted_stands w16 (2 ^ 16) wide16 p (low_of w) b l.stands.0 lt l.stands.1) refl
 
-blob_of-32 : (p : List ℕ) (w : ℕ) (b : List ℕ) → length b < 2 ^ 32 → Leads p (record { kind = 10; align = 4; bytes = to_le_bytes w32 (length b) ++ b; entries = 0 }) w → blob_of p w ≡ Ok b
+pub blob_of-32 : (p : List ℕ) (w : ℕ) (b : List ℕ) → length b < 2 ^ 32 → Leads p (record { kind = 10; align = 4; bytes = to_le_bytes w32 (length b) ++ b; entries = 0 }) w → blob_of p w ≡ Ok b
 unfolding blob_of
 blob_of-32 p w b lt l = let t0 : eqb w 0 ≡ false = neq-eqb w 0 l.nonzero in rw (t0, l.kind_is, counted_stands w32 (2 ^ 32) wide32 p (low_of w) b l.stands.0 lt l.stands.1) refl
 
-run_of-placed : (kind : ℕ) (p : List ℕ) (w : ℕ) (ws : List ℕ) → AllByRecursion (λ w. w < 2 ^ 32) ws → suc (length ws) < 2 ^ 32 → Leads p (record { kind = kind; align = 4; bytes = run_bytes ws; entries = length ws }) w → run_of kind p w ≡ Ok ws
+pub run_of-placed : (kind : ℕ) (p : List ℕ) (w : ℕ) (ws : List ℕ) → AllByRecursion (λ w. w < 2 ^ 32) ws → suc (length ws) < 2 ^ 32 → Leads p (record { kind = kind; align = 4; bytes = run_bytes ws; entries = length ws }) w → run_of kind p w ≡ Ok ws
 unfolding run_of
 run_of-placed kind p w ws small few l =
     let t0 : eqb w 0 ≡ false = neq-eqb w 0 l.nonzero in
@@ -322,22 +350,29 @@ int_made n out lt =
                 let u : ltb n (2 ^ 32) ≡ true = lt-ltb _ _ b in
                 let is : int_cell n ≡ apart (record { kind = 2; align = 4; bytes = to_le_bytes w32 n; entries = 0 }) = rw (t, u) refl in
                 subst P (sym is) (λ fits.
-                let l : (root : ℕ) → Leads (payload_with_root root (put_item (record { kind = 2; align = 4; bytes = to_le_bytes w32 n; entries = 0 }) out).1) (record { kind = 2; align = 4; bytes = to_le_bytes w32 n; entries = 0 }) (put_item (record { kind = 2; align = 4; bytes = to_le_bytes w32 n; entries = 0 }) out).0 = λ root. placed_leads _ out root (lit< tt) (lit< tt) fits in
+                let l : (root : ℕ) → Leads (payload_with_root root (put_item (record { kind = 2; align = 4; bytes = to_le_bytes w32 n; entries = 0 }) out).1) (record { kind = 2; align = 4; bytes = to_le_bytes w32 n; entries = 0 }) (put_item (record { kind = 2; align = 4; bytes = to_le_bytes w32 n; entries = 0 }) out).0 = λ root. placed_leads _ out root (lit< tt) (lit< tt) (lit< tt) fits in
                 record { holds = λ root. ((l root).nonzero, int_of-32 _ _ n b (l root)); small = (l 0).small })
             | inr b ↦
                 let u : ltb n (2 ^ 32) ≡ false = le-ltb _ _ b in
                 let is : int_cell n ≡ apart (record { kind = 3; align = 8; bytes = to_le_bytes w64 n; entries = 0 }) = rw (t, u) refl in
                 subst P (sym is) (λ fits.
-                let l : (root : ℕ) → Leads (payload_with_root root (put_item (record { kind = 3; align = 8; bytes = to_le_bytes w64 n; entries = 0 }) out).1) (record { kind = 3; align = 8; bytes = to_le_bytes w64 n; entries = 0 }) (put_item (record { kind = 3; align = 8; bytes = to_le_bytes w64 n; entries = 0 }) out).0 = λ root. placed_leads _ out root (lit< tt) (lit< tt) fits in
+                let l : (root : ℕ) → Leads (payload_with_root root (put_item (record { kind = 3; align = 8; bytes = to_le_bytes w64 n; entries = 0 }) out).1) (record { kind = 3; align = 8; bytes = to_le_bytes w64 n; entries = 0 }) (put_item (record { kind = 3; align = 8; bytes = to_le_bytes w64 n; entries = 0 }) out).0 = λ root. placed_leads _ out root (lit< tt) (lit< tt) (lit< tt) fits in
                 record { holds = λ root. ((l root).nonzero, int_of-64 _ _ n lt (l root)); small = (l 0).small })
           ]
     ]
 
 -- an item's bytes are in the payload, so there are not too many
-pub placed_len : (i : Item) (out : Layout) → end_offset out + gap i.align (end_offset out) + length i.bytes ≡ end_offset (put_item i out).1
-placed_len i out =
+pub new_len : (i : Item) (out : Layout) → end_offset out + gap i.align (end_offset out) + length i.bytes ≡ end_offset (put_new i out).1
+new_len i out =
     let zeros : List ℕ = replicate (gap i.align (end_offset out)) 0 in
     omega (arith, length-append out.body (zeros ++ i.bytes), length-append zeros i.bytes, length-replicate {A = ℕ} (gap i.align (end_offset out)) 0)
+
+pub item_within : (i : Item) (out : Layout) → 0 < length i.bytes → length i.bytes ≤ end_offset (put_item i out).1
+item_within i out some = go (find (is_equal_item out.body i) out.items) refl
+  where
+    go : (found : Option WrittenItem) → find (is_equal_item out.body i) out.items ≡ found → length i.bytes ≤ end_offset (put_unless found i out).1
+    go None is = omega (arith, new_len i out)
+    go (Some there) is = omega (arith, equal_within out.body there.offset i.bytes some (equal_bytes out.body i there (find-passes (is_equal_item out.body i) out.items there is)))
 
 pub blob_made : (b : List ℕ) (out : Layout) → b ≢ [] → Fits (blob_cell b) out → Made (blob b) (put_cell (blob_cell b) out)
 unfolding Holds
@@ -351,7 +386,7 @@ blob_made (x ∷ xs) out ne =
           let i : Item = record { kind = 8; align = 1; bytes = to_le_bytes w8 (length b) ++ b; entries = 0 } in
           let is : blob_cell b ≡ apart i = rw t refl in
           subst P (sym is) (λ fits.
-          let l : (root : ℕ) → Leads (payload_with_root root (put_item i out).1) i (put_item i out).0 = λ root. placed_leads i out root (lit< tt) (lit< tt) fits in
+          let l : (root : ℕ) → Leads (payload_with_root root (put_item i out).1) i (put_item i out).0 = λ root. placed_leads i out root (lit< tt) (lit< tt) (omega arith) fits in
           record { holds = λ root. ((l root).nonzero, blob_of-8 _ _ b a (l root)); small = (l 0).small })
       | inr a ↦
           let t : ltb (length b) (2 ^ 8) ≡ false = le-ltb _ _ a in
@@ -361,15 +396,15 @@ blob_made (x ∷ xs) out ne =
                 let i : Item = record { kind = 9; align = 2; bytes = to_le_bytes w16 (length b) ++ b; entries = 0 } in
                 let is : blob_cell b ≡ apart i = rw (t, u) refl in
                 subst P (sym is) (λ fits.
-                let l : (root : ℕ) → Leads (payload_with_root root (put_item i out).1) i (put_item i out).0 = λ root. placed_leads i out root (lit< tt) (lit< tt) fits in
+                let l : (root : ℕ) → Leads (payload_with_root root (put_item i out).1) i (put_item i out).0 = λ root. placed_leads i out root (lit< tt) (lit< tt) (omega arith) fits in
                 record { holds = λ root. ((l root).nonzero, blob_of-16 _ _ b c (l root)); small = (l 0).small })
             | inr c ↦
                 let u : ltb (length b) (2 ^ 16) ≡ false = le-ltb _ _ c in
                 let i : Item = record { kind = 10; align = 4; bytes = to_le_bytes w32 (length b) ++ b; entries = 0 } in
                 let is : blob_cell b ≡ apart i = rw (t, u) refl in
                 subst P (sym is) (λ fits.
-                let l : (root : ℕ) → Leads (payload_with_root root (put_item i out).1) i (put_item i out).0 = λ root. placed_leads i out root (lit< tt) (lit< tt) fits in
-                let few : length b < 2 ^ 32 = omega (arith, placed_len i out, length-append (to_le_bytes w32 (length b)) b) in
+                let l : (root : ℕ) → Leads (payload_with_root root (put_item i out).1) i (put_item i out).0 = λ root. placed_leads i out root (lit< tt) (lit< tt) (omega arith) fits in
+                let few : length b < 2 ^ 32 = omega (arith, item_within i out (omega arith), length-append (to_le_bytes w32 (length b)) b) in
                 record { holds = λ root. ((l root).nonzero, blob_of-32 _ _ b few (l root)); small = (l 0).small })
           ]
     ]
@@ -383,8 +418,8 @@ pub record MadeRun (kind : ℕ) (ws : List ℕ) (r : ℕ × Layout) : Type 0 whe
 pub run_made : (kind : ℕ) (w : ℕ) (ws : List ℕ) (out : Layout) → 0 < kind → kind < 15 → AllByRecursion (λ w. w < 2 ^ 32) (w ∷ ws) → end_offset (put_run kind (w ∷ ws) out).1 ≤ MOST_BYTES → MadeRun kind (w ∷ ws) (put_run kind (w ∷ ws) out)
 run_made kind w ws out pos lt15 small fits =
     let i : Item = record { kind = kind; align = 4; bytes = run_bytes (w ∷ ws); entries = length (w ∷ ws) } in
-    let l : (root : ℕ) → Leads (payload_with_root root (put_item i out).1) i (put_item i out).0 = λ root. placed_leads i out root pos lt15 fits in
-    let few : suc (length (w ∷ ws)) < 2 ^ 32 = omega (arith, placed_len i out, length-append (to_le_bytes w32 (suc (length (w ∷ ws)))) (flat_map (to_le_bytes w32) (w ∷ ws)), words_len (w ∷ ws)) in
+    let l : (root : ℕ) → Leads (payload_with_root root (put_item i out).1) i (put_item i out).0 = λ root. placed_leads i out root pos lt15 (omega arith) fits in
+    let few : suc (length (w ∷ ws)) < 2 ^ 32 = omega (arith, item_within i out (omega arith), length-append (to_le_bytes w32 (suc (length (w ∷ ws)))) (flat_map (to_le_bytes w32) (w ∷ ws)), words_len (w ∷ ws)) in
     record { nonzero = (l 0).nonzero; small = (l 0).small; reads = λ root. run_of-placed kind _ _ (w ∷ ws) small few (l root) }
 
 -- ---- an object's words end as its values do

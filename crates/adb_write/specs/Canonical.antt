@@ -1,5 +1,5 @@
 -- The canonical layout of a payload: what writing a value adds, value by value.
-use Rattle.std.specs.Prelude.{ℕ, suc, ◌+◌, ◌-◌, ◌*◌, ◌%◌, ◌^◌, Bool, ◌||◌, List, [], ◌∷◌, ◌++◌, length, replicate, Option, Some, None, Result, Ok, Err, nat_lt, ◌==◌, find, if◌then◌else◌}
+use Rattle.std.specs.Prelude.{ℕ, suc, ◌+◌, ◌-◌, ◌*◌, ◌%◌, ◌^◌, Bool, ◌&&◌, ◌||◌, List, [], ◌∷◌, ◌++◌, length, take, drop, replicate, Option, Some, None, Result, Ok, Err, nat_lt, ◌==◌, bytes_eq, find, if◌then◌else◌}
 use Rattle.std.specs.List.{flat_map}
 use Rattle.std.specs.Int.{w8, w16, w32, w64, to_le_bytes}
 use Rattle.adb_view.specs.Plain.{Plain, null, int, blob, arr, obj, Plains, none, more}
@@ -22,47 +22,43 @@ pub data Cell : Type 0 where
   in_place : ℕ → Cell
   apart : Item → Cell
 
-abbrev pub int_cell : ℕ → Cell
-int_cell n =
-    if nat_lt n (2 ^ 28) then in_place (2 ^ 28 + n)
-    else if nat_lt n (2 ^ 32)
-    then apart (record { kind = 2; align = 4; bytes = to_le_bytes w32 n; entries = 0 })
-    else apart (record { kind = 3; align = 8; bytes = to_le_bytes w64 n; entries = 0 })
+-- an integer, in 32 or 64 bits
+abbrev pub int_item : ℕ → Item
+int_item n =
+    if nat_lt n (2 ^ 32)
+    then record { kind = 2; align = 4; bytes = to_le_bytes w32 n; entries = 0 }
+    else record { kind = 3; align = 8; bytes = to_le_bytes w64 n; entries = 0 }
 
--- a blob: its length, and its bytes; an empty one is NULL
+-- an integer below 2^28 stands in its word
+abbrev pub int_cell : ℕ → Cell
+int_cell n = if nat_lt n (2 ^ 28) then in_place (2 ^ 28 + n) else apart (int_item n)
+
+-- a blob: its length, and its bytes
+abbrev pub blob_item : List ℕ → Item
+blob_item b =
+    if nat_lt (length b) (2 ^ 8)
+    then record { kind = 8; align = 1; bytes = to_le_bytes w8 (length b) ++ b; entries = 0 }
+    else if nat_lt (length b) (2 ^ 16)
+    then record { kind = 9; align = 2; bytes = to_le_bytes w16 (length b) ++ b; entries = 0 }
+    else record { kind = 10; align = 4; bytes = to_le_bytes w32 (length b) ++ b; entries = 0 }
+
+-- an empty blob is NULL
 abbrev pub blob_cell : List ℕ → Cell
 blob_cell [] = in_place 0
-blob_cell (b ∷ bs) =
-    if nat_lt (length (b ∷ bs)) (2 ^ 8)
-    then apart (record {
-      kind = 8;
-      align = 1;
-      bytes = to_le_bytes w8 (length (b ∷ bs)) ++ b ∷ bs;
-      entries = 0;
-    })
-    else if nat_lt (length (b ∷ bs)) (2 ^ 16)
-    then apart (record {
-      kind = 9;
-      align = 2;
-      bytes = to_le_bytes w16 (length (b ∷ bs)) ++ b ∷ bs;
-      entries = 0;
-    })
-    else apart (record {
-      kind = 10;
-      align = 4;
-      bytes = to_le_bytes w32 (length (b ∷ bs)) ++ b ∷ bs;
-      entries = 0;
-    })
+blob_cell (b ∷ bs) = apart (blob_item (b ∷ bs))
 
 -- the number of the words with this one, and the words
 abbrev pub run_bytes : List ℕ → List ℕ
 run_bytes ws = to_le_bytes w32 (suc (length ws)) ++ flat_map (to_le_bytes w32) ws
 
--- an array or an object of these words; an empty one is NULL
+-- an array or an object of these words, by the kind of its word
+abbrev pub run_item : ℕ → List ℕ → Item
+run_item kind ws = record { kind = kind; align = 4; bytes = run_bytes ws; entries = length ws }
+
+-- an empty one is NULL
 abbrev pub run_cell : ℕ → List ℕ → Cell
 run_cell kind [] = in_place 0
-run_cell kind (w ∷ ws) =
-    apart (record { kind = kind; align = 4; bytes = run_bytes (w ∷ ws); entries = length (w ∷ ws) })
+run_cell kind (w ∷ ws) = apart (run_item kind (w ∷ ws))
 
 -- the words of an object without the NULLs that stand last
 abbrev pub keep_word : ℕ → List ℕ → List ℕ
@@ -75,27 +71,57 @@ trimmed_words (w ∷ ws) = keep_word w (trimmed_words ws)
 
 -- ---- what was written so far
 
--- the payload behind its first eight bytes, and the number of values with the root
+-- an item that was written: the kind of the words that lead to it, and its offset behind the
+-- payload's first eight bytes
+pub record WrittenItem : Type 0 where
+  pub kind : ℕ
+  pub offset : ℕ
+
+-- the payload behind its first eight bytes, its items, the latest first, and the number of values
+-- with the root
 pub record Layout : Type 0 where
   pub body : List ℕ
+  pub items : List WrittenItem
   pub values : ℕ
 
 abbrev pub empty_layout : Layout
-empty_layout = record { body = []; values = 1 }
+empty_layout = record { body = []; items = []; values = 1 }
 
 -- the offset of the payload's end
 abbrev pub end_offset : Layout → ℕ
 end_offset out = 8 + length out.body
 
--- an item goes to the next offset that its alignment allows, with zeros before it
-abbrev pub put_item : Item → Layout → ℕ × Layout
-put_item i out = (
+-- a written item is equal to this one: it is of its kind, and there stand its bytes
+abbrev pub is_equal_item : List ℕ → Item → WrittenItem → Bool
+is_equal_item body i there =
+    there.kind == i.kind && bytes_eq (take (length i.bytes) (drop there.offset body)) i.bytes
+
+-- the word that leads to a written item
+abbrev pub word_of_item : WrittenItem → ℕ
+word_of_item there = there.kind * 2 ^ 28 + (8 + there.offset)
+
+-- a new item goes to the next offset that its alignment allows, with zeros before it
+abbrev pub put_new : Item → Layout → ℕ × Layout
+put_new i out = (
   i.kind * 2 ^ 28 + (end_offset out + gap i.align (end_offset out)),
   record {
     body = out.body ++ (replicate (gap i.align (end_offset out)) 0 ++ i.bytes);
+    items = (record {
+      kind = i.kind;
+      offset = length out.body + gap i.align (end_offset out);
+    }) ∷ out.items;
     values = out.values + i.entries;
   },
 )
+
+-- an item that is equal to a written one has its word, and only its entries are counted
+abbrev pub put_unless : Option WrittenItem → Item → Layout → ℕ × Layout
+put_unless None i out = put_new i out
+put_unless (Some there) i out =
+    (word_of_item there, record out { values = out.values + i.entries })
+
+abbrev pub put_item : Item → Layout → ℕ × Layout
+put_item i out = put_unless (find (is_equal_item out.body i) out.items) i out
 
 abbrev pub put_cell : Cell → Layout → ℕ × Layout
 put_cell (in_place w) out = (w, out)

@@ -1,13 +1,15 @@
 -- An item of the program as the layout has it.
-use Rattle.std.specs.Prelude.{ℕ, List, ◌++◌, length, take}
+use Rattle.std.specs.Prelude.{ℕ, ◌<◌, ◌^◌, List, []}
 use Rattle.std.specs.List.{flat_map}
-use Rattle.std.specs.Int.{w32, w64, to_le_bytes}
-use Rattle.adb_write.specs.Canonical.{Item}
+use Rattle.std.specs.Int.{w32, to_le_bytes}
+use Rattle.adb_view.specs.Readers.{ARRAY, OBJECT}
+use Rattle.adb_write.specs.Canonical.{Item, int_item, blob_item, run_item}
 use Rattle.adb_write.specs.declared.item.Width.{Width}
 use Rattle.adb_write.specs.declared.item.Width.TheVariants.{One, Two, Four, Eight}
-use Rattle.adb_write.specs.declared.item.Content.{Content}
-use Rattle.adb_write.specs.declared.item.Content.TheVariants.{Bytes, Words}
+use Rattle.adb_write.specs.declared.item.ListKind.{ListKind}
+use Rattle.adb_write.specs.declared.item.ListKind.TheVariants.{Array, Object}
 use Rattle.adb_write.specs.declared.item.Parts.{Parts}
+use Rattle.adb_write.specs.declared.item.Parts.TheVariants.{Int, Blob, List as Listed}
 
 -- how many bytes a number of this width has
 abbrev pub width_len : Width → ℕ
@@ -16,20 +18,24 @@ width_len Two = 2
 width_len Four = 4
 width_len Eight = 8
 
-abbrev pub content_bytes : Content → List ℕ
-content_bytes (Bytes b) = b.now
-content_bytes (Words ws) = flat_map (to_le_bytes w32) ws.now
+-- the kind of the words that lead to a list
+abbrev pub list_kind : ListKind → ℕ
+list_kind Array = ARRAY
+list_kind Object = OBJECT
 
-abbrev pub content_entries : Content → ℕ
-content_entries (Bytes b) = 0
-content_entries (Words ws) = length ws.now
+-- what stands behind the number in its front
+abbrev pub content_bytes : Parts → List ℕ
+content_bytes (Int n) = []
+content_bytes (Blob b) = b.now
+content_bytes (Listed kind ws) = flat_map (to_le_bytes w32) ws.now
 
--- a number, at whose width the item stands, and its content
 abbrev pub item_of : Parts → Item
-item_of parts = record {
-  kind = parts.kind;
-  align = width_len parts.width;
-  bytes = take (width_len parts.width) (to_le_bytes w64 parts.number)
-      ++ content_bytes parts.content;
-  entries = content_entries parts.content;
-}
+item_of (Int n) = int_item n
+item_of (Blob b) = blob_item b.now
+item_of (Listed kind ws) = run_item (list_kind kind) ws.now
+
+-- an integer of the program has 64 bits
+abbrev pub HasNumbersInRange : Parts → Type 0
+HasNumbersInRange (Int n) = n < 2 ^ 64
+HasNumbersInRange (Blob b) = Unit {0}
+HasNumbersInRange (Listed kind ws) = Unit {0}

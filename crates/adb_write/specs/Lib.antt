@@ -7,4 +7,6 @@ pub mod Writing
 pub mod DepthFirst
 pub mod StandsFor
 pub mod Items
+pub mod Keys
+pub mod Table
 pub mod WriterState

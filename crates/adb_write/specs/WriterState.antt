@@ -1,7 +1,14 @@
--- What a writer keeps: the payload with its head, once anything was written, and the two counts.
-use Rattle.std.specs.Prelude.{◌≡◌, ℕ, ◌+◌, ◌⊎◌, false, List, [], length, take, drop, replicate, Result, Ok, Err}
-use Rattle.adb_write.specs.Canonical.{PayloadCounts, passes}
+-- What a writer keeps: the payload with its head, once anything was written, the words that lead to
+-- its items, and the two counts.
+use Rattle.std.specs.Prelude.{◌≡◌, ℕ, ◌+◌, ◌*◌, ◌-◌, ◌^◌, ◌<◌, ◌≤◌, ◌⊎◌, ◌%◌, suc, false, List, [], ◌∷◌, length, map, take, drop, replicate, nat_lt, find, option_map, Some, Result, Ok, Err, if◌then◌else◌}
+use Rattle.std.specs.List.{AllByRecursion, concat}
+use Rattle.adb_view.specs.Readers.{kind_of, low_of}
+use Rattle.adb_write.specs.Canonical.{Item, WrittenItem, is_equal_item, word_of_item, int_item, blob_item, run_item, PayloadCounts, passes}
 use Rattle.adb_write.specs.Writing.{Writing, is_over}
+use Rattle.adb_write.specs.Items.{list_kind}
+use Rattle.adb_write.specs.Keys.{HaveRisingKeys}
+use Rattle.adb_write.specs.Table.{AreFilled}
+use Rattle.adb_write.specs.declared.item.ListKind.{ListKind}
 use Rattle.adb_write.specs.declared.writer.WriteFault.{WriteFault}
 use Rattle.adb_write.specs.declared.writer.WriteFault.TheVariants.{TooLarge, Memory}
 
@@ -9,9 +16,64 @@ use Rattle.adb_write.specs.declared.writer.WriteFault.TheVariants.{TooLarge, Mem
 abbrev pub HasHead : List ℕ → Type 0
 HasHead payload = (payload ≡ []) ⊎ (take 8 payload ≡ replicate 8 0)
 
-pub record IsWriterState (payload : List ℕ) (bytes values : ℕ) : Type 0 where
+-- ---- what a word of the table leads to
+
+pub data Stored : Type 0 where
+  stored_int : ℕ → Stored
+  stored_blob : List ℕ → Stored
+  stored_list : ListKind → List ℕ → Stored
+
+abbrev pub item_of_stored : Stored → Item
+item_of_stored (stored_int n) = int_item n
+item_of_stored (stored_blob b) = blob_item b
+item_of_stored (stored_list kind ws) = run_item (list_kind kind) ws
+
+-- its numbers have room
+abbrev pub IsSmall : Stored → Type 0
+IsSmall (stored_int n) = n < 2 ^ 64
+IsSmall (stored_blob b) = length b < 2 ^ 32
+IsSmall (stored_list kind ws) = AllByRecursion (λ w. w < 2 ^ 32) ws × (suc (length ws) < 2 ^ 32)
+
+-- the word leads to this in the payload, behind the head
+pub record IsStored (payload : List ℕ) (word : ℕ) : Type 0 where
+  pub what : Stored
+  pub small : IsSmall what
+  pub kind : kind_of word ≡ (item_of_stored what).kind
+  pub behind_head : 8 ≤ low_of word
+  pub there : take (length (item_of_stored what).bytes) (drop (low_of word) payload)
+      ≡ (item_of_stored what).bytes
+
+abbrev pub AreStored : List ℕ → List ℕ → Type 0
+AreStored payload words = AllByRecursion (IsStored payload) words
+
+-- ---- the items as contracts see them: the latest first, which stands behind the others
+
+abbrev pub written_item : ℕ → WrittenItem
+written_item word = record { kind = kind_of word; offset = low_of word - 8 }
+
+abbrev pub with_item : WrittenItem → List WrittenItem → List WrittenItem
+with_item item [] = item ∷ []
+with_item item (other ∷ others) =
+    if nat_lt other.offset item.offset then item ∷ other ∷ others
+    else other ∷ with_item item others
+
+abbrev pub items_of_words : List ℕ → List WrittenItem
+items_of_words [] = []
+items_of_words (word ∷ words) = with_item (written_item word) (items_of_words words)
+
+-- ---- the writer
+
+pub record IsWriterState (payload : List ℕ) (pages : List (List ℕ)) (bytes values : ℕ) : Type 0 where
   pub head : HasHead payload
   pub agree : passes (bytes, values) ≡ false → bytes ≡ 8 + length (drop 8 payload)
+  pub filled : AreFilled pages
+  pub rising : HaveRisingKeys payload (concat pages)
+  pub stored : AreStored payload (concat pages)
+
+-- a word is the one of the written item that is equal to this one
+abbrev pub FindsWord : Item → Writing → ℕ → Type 0
+FindsWord i w word =
+    option_map word_of_item (find (is_equal_item w.body i) w.items) ≡ Some word
 
 -- the answer of a writer's end, seen by a view of what it gives; want of memory is answered only
 -- where nothing was written

@@ -2,21 +2,23 @@
 use Rattle.std.specs.Prelude.{ℕ, ◌<◌, Bool, List, [], ◌∷◌, length, Result, Ok, Err, if◌then◌else◌}
 use Rattle.adb_view.specs.Plain.{Plain, null, int, blob, arr, obj, Plains, none, more}
 use Rattle.adb_view.specs.Readers.{ARRAY, OBJECT}
-use Rattle.adb_write.specs.Canonical.{Cell, in_place, apart, int_cell, blob_cell, run_cell, trimmed_words, Layout, put_cell, PayloadCounts, layout_counts, passes, payload_with_root}
+use Rattle.adb_write.specs.Canonical.{WrittenItem, Cell, in_place, apart, int_cell, blob_cell, run_cell, trimmed_words, Layout, put_cell, PayloadCounts, layout_counts, passes, payload_with_root}
 
--- The payload behind its first eight bytes. The counts are those of what was written, or, once a
--- value passed a limit, the ones just behind that value.
+-- The payload behind its first eight bytes, and its items. The counts are those of what was written,
+-- or, once a value passed a limit, the ones just behind that value.
 pub record Writing : Type 0 where
   pub body : List ℕ
+  pub items : List WrittenItem
   pub bytes : ℕ
   pub values : ℕ
 
 -- the writer that has these parts
-abbrev pub writing_by : List ℕ → ℕ → ℕ → Writing
-writing_by body bytes values = record { body = body; bytes = bytes; values = values }
+abbrev pub writing_by : List ℕ → List WrittenItem → ℕ → ℕ → Writing
+writing_by body items bytes values =
+    record { body = body; items = items; bytes = bytes; values = values }
 
 abbrev pub empty_writing : Writing
-empty_writing = writing_by [] 8 1
+empty_writing = writing_by [] [] 8 1
 
 abbrev pub writing_counts : Writing → PayloadCounts
 writing_counts w = (w.bytes, w.values)
@@ -26,15 +28,15 @@ abbrev pub is_over : Writing → Bool
 is_over w = passes (writing_counts w)
 
 abbrev pub layout_of : Writing → Layout
-layout_of w = record { body = w.body; values = w.values }
+layout_of w = record { body = w.body; items = w.items; values = w.values }
 
 abbrev pub writing_of : Layout → Writing
-writing_of out = writing_by out.body (layout_counts out).0 (layout_counts out).1
+writing_of out = writing_by out.body out.items (layout_counts out).0 (layout_counts out).1
 
 -- past a limit the value is only counted
 abbrev pub unless_over : Writing → ℕ × Layout → ℕ × Writing
 unless_over w r =
-    if passes (layout_counts r.1) then (0, record (writing_of r.1) { body = w.body })
+    if passes (layout_counts r.1) then (0, record (writing_of r.1) { body = w.body; items = w.items })
     else (r.0, writing_of r.1)
 
 -- One call: the value's word, or NULL from the first value on that passes a limit. A value that its

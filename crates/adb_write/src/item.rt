@@ -1,28 +1,37 @@
-//! What a value takes outside its word.
+//! What a value takes outside its word, and how it compares with what was written.
 ghost use Rattle.std.specs.Prelude.{◌≡◌, ◌≤◌, ◌<◌, ◌+◌, ◌-◌, ◌^◌, ◌++◌, length, replicate, take, OnOk, OnErr};
 ghost use Rattle.std.specs.List.{flat_map};
-ghost use Rattle.std.specs.Int.{w32, to_le_bytes};
-ghost use Rattle.adb_write.specs.Canonical.{apart, int_cell, blob_cell, run_cell};
-ghost use Rattle.adb_write.specs.Items.{width_len, content_bytes, content_entries, item_of};
+ghost use Rattle.std.specs.Int.{w32, w64, to_le_bytes};
+ghost use Rattle.std.specs.Ordering.{nat_cmp};
+ghost use Rattle.std.specs.Cmp.Lexicographic.{slice_cmp};
+ghost use Rattle.adb_view.specs.Adb.{payload_of};
+ghost use Rattle.adb_view.specs.Entries.{array_entries};
+ghost use Rattle.adb_view.specs.Gives.{Gives};
+ghost use Rattle.adb_view.specs.Readers.{run_of};
+ghost use Rattle.adb_view.specs.Visits.{or_empty};
+ghost use Rattle.adb_write.specs.Items.{width_len, list_kind, content_bytes, item_of};
+ghost use Rattle.adb_write.specs.Keys.{low_words, key_of, key_at};
 
-use adb_view::Val;
+use adb_view::{Adb, Arr, Val};
+use base_core::Cause;
 use std::alloc::AllocError;
+use std::cmp::Ordering;
 
 /// The kinds of words that lead to an item, by their top 4 bits.
-pub(crate) mod kind {
-    pub(crate) const INT_32: u32 = 0x2;
+mod kind {
+    pub(super) const INT_32: u32 = 0x2;
 
-    pub(crate) const INT_64: u32 = 0x3;
+    pub(super) const INT_64: u32 = 0x3;
 
-    pub(crate) const BLOB_8: u32 = 0x8;
+    pub(super) const BLOB_8: u32 = 0x8;
 
-    pub(crate) const BLOB_16: u32 = 0x9;
+    pub(super) const BLOB_16: u32 = 0x9;
 
-    pub(crate) const BLOB_32: u32 = 0xa;
+    pub(super) const BLOB_32: u32 = 0xa;
 
-    pub(crate) const ARRAY: u32 = 0xd;
+    pub(super) const ARRAY: u32 = 0xd;
 
-    pub(crate) const OBJECT: u32 = 0xe;
+    pub(super) const OBJECT: u32 = 0xe;
 }
 
 /// How many bytes a number has.
@@ -49,117 +58,93 @@ impl Width {
     }
 }
 
-/// What stands behind an item's number.
+/// The two kinds of lists.
 #[derive(Clone, Copy)]
-pub(crate) enum Content<'a> {
-    /// The bytes of a blob; nothing behind an integer.
-    Bytes(&'a [u8]),
-    /// The entries of an array or an object.
-    Words(&'a [Val]),
+pub(crate) enum ListKind {
+    Array,
+    Object,
 }
 
-impl Content<'_> {
-    /// How many bytes it takes.
-    #[tactic(auto, using(crate::proofs::Placed::words_len))]
-    fn len(&self) -> u64
-        ensures value { result ≡ length (content_bytes self.now) }
-        ensures small { result < 2 ^ 63 }
+impl ListKind {
+    /// The kind of its words.
+    fn number(self) -> u32
+        ensures { result ≡ list_kind self }
     {
         match self {
-            Content::Bytes(bytes) => bytes.len() as u64,
-            Content::Words(words) => 4 * words.len() as u64,
+            ListKind::Array => kind::ARRAY,
+            ListKind::Object => kind::OBJECT,
         }
     }
+}
 
-    /// How many entries it has.
-    fn entries(&self) -> u64
-        ensures value { result ≡ content_entries self.now }
-        ensures small { result < 2 ^ 63 }
+/// An item: what a value takes outside its word.
+#[derive(Clone, Copy)]
+pub(crate) enum Parts<'a> {
+    /// An integer.
+    Int(u64),
+    /// The bytes of a blob.
+    Blob(&'a [u8]),
+    /// The entries of a list.
+    List(ListKind, &'a [Val]),
+}
+
+impl Parts<'_> {
+    /// The kind of the words that lead to it.
+    pub(crate) fn kind(&self) -> u32
+        ensures value { result ≡ (item_of self.now).kind }
+        ensures some { 0 < result }
+        ensures few { result < 15 }
     {
         match self {
-            Content::Bytes(_) => 0,
-            Content::Words(words) => words.len() as u64,
-        }
-    }
-}
-
-/// An item: a number, at whose width it stands, and its content.
-#[derive(Clone, Copy)]
-pub(crate) struct Parts<'a> {
-    /// The kind of the word that leads to it.
-    pub kind: u32,
-    pub width: Width,
-    /// The integer itself, the length of the bytes, or the number of the words with one for itself.
-    pub number: u64,
-    pub content: Content<'a>,
-}
-
-impl<'a> Parts<'a> {
-    /// An integer that its word cannot hold.
-    #[tactic(auto, using(crate::proofs::Cells::int_32, crate::proofs::Cells::int_64))]
-    pub(crate) fn int(n: u64) -> Parts<'a>
-        requires { 2 ^ 28 ≤ n }
-        ensures kind { result.kind < 15 }
-        ensures is { apart (item_of result) ≡ int_cell n }
-    {
-        let (kind, width) = if n < 1 << 32 {
-            (kind::INT_32, Width::Four)
-        } else {
-            (kind::INT_64, Width::Eight)
-        };
-        Parts {
-            kind,
-            width,
-            number: n,
-            content: Content::Bytes(&[]),
+            Parts::Int(n) if *n < 1 << 32 => kind::INT_32,
+            Parts::Int(_) => kind::INT_64,
+            Parts::Blob(bytes) if bytes.len() < 1 << 8 => kind::BLOB_8,
+            Parts::Blob(bytes) if bytes.len() < 1 << 16 => kind::BLOB_16,
+            Parts::Blob(_) => kind::BLOB_32,
+            Parts::List(list, _) => list.number(),
         }
     }
 
-    /// A blob that is not empty.
-    #[tactic(auto, using(crate::proofs::Cells::blob_8, crate::proofs::Cells::blob_16, crate::proofs::Cells::blob_32))]
-    pub(crate) fn blob(bytes: &'a [u8]) -> Parts<'a>
-        requires { 0 < length bytes.now }
-        ensures kind { result.kind < 15 }
-        ensures is { apart (item_of result) ≡ blob_cell bytes.entry.now }
+    /// The width of the number in its front, at a multiple of which it stands.
+    pub(crate) fn width(&self) -> Width
+        ensures { width_len result ≡ (item_of self.now).align }
     {
-        let len = bytes.len();
-        let (kind, width) = if len < 1 << 8 {
-            (kind::BLOB_8, Width::One)
-        } else if len < 1 << 16 {
-            (kind::BLOB_16, Width::Two)
-        } else {
-            (kind::BLOB_32, Width::Four)
-        };
-        Parts {
-            kind,
-            width,
-            number: len as u64,
-            content: Content::Bytes(bytes),
+        match self {
+            Parts::Int(n) if *n < 1 << 32 => Width::Four,
+            Parts::Int(_) => Width::Eight,
+            Parts::Blob(bytes) if bytes.len() < 1 << 8 => Width::One,
+            Parts::Blob(bytes) if bytes.len() < 1 << 16 => Width::Two,
+            Parts::Blob(_) | Parts::List(_, _) => Width::Four,
         }
     }
 
-    /// An array or an object that is not empty, by the kind of its word.
-    #[tactic(auto, using(crate::proofs::Cells::run_is))]
-    pub(crate) fn run(kind: u32, words: &'a [Val]) -> Parts<'a>
-        requires { 0 < length words.now }
-        ensures kind { result.kind ≡ kind }
-        ensures is { apart (item_of result) ≡ run_cell kind words.entry.now }
+    /// The number in its front: the integer, the length of the blob, or how many words the list
+    /// has, with one for the number.
+    #[tactic(auto, using(crate::proofs::Cells::int_bytes, crate::proofs::Cells::blob_bytes, crate::proofs::Cells::run_bytes_are))]
+    fn number(&self) -> u64
+        ensures { (item_of self.now).bytes
+            ≡ take ((item_of self.now).align) (to_le_bytes w64 result) ++ content_bytes self.now }
     {
-        Parts {
-            kind,
-            width: Width::Four,
-            number: words.len() as u64 + 1,
-            content: Content::Words(words),
+        match self {
+            Parts::Int(n) => *n,
+            Parts::Blob(bytes) => bytes.len() as u64,
+            Parts::List(_, words) => words.len() as u64 + 1,
         }
     }
 
     /// How many bytes it takes.
+    #[tactic(auto, using(crate::proofs::Placed::words_len))]
     pub(crate) fn len(&self) -> u64
         ensures value { result ≡ length (item_of self.now).bytes }
         ensures some { 0 < result }
         ensures small { result < 2 ^ 63 + 8 }
     {
-        self.width.len() as u64 + self.content.len()
+        let content = match self {
+            Parts::Int(_) => 0,
+            Parts::Blob(bytes) => bytes.len() as u64,
+            Parts::List(_, words) => 4 * words.len() as u64,
+        };
+        self.width().len() as u64 + content
     }
 
     /// How many entries it has.
@@ -167,7 +152,29 @@ impl<'a> Parts<'a> {
         ensures value { result ≡ (item_of self.now).entries }
         ensures small { result < 2 ^ 63 }
     {
-        self.content.entries()
+        match self {
+            Parts::List(_, words) => words.len() as u64,
+            _ => 0,
+        }
+    }
+
+    /// How it compares with the written item to which a word leads: first by kind, then by what it
+    /// holds. So equal is what has one kind and one value.
+    pub(crate) fn compare(&self, adb: &Adb<'_>, word: Val) -> Ordering
+        ensures { result ≡ slice_cmp nat_cmp (key_of self.now) (key_at (payload_of adb.now) word) }
+    {
+        let by_kind = self.kind().cmp(&(word.word() >> 28));
+        if by_kind != Ordering::Equal {
+            return by_kind;
+        }
+        match self {
+            Parts::Int(n) => match adb.int(word) {
+                Ok(found) => n.cmp(&found),
+                Err(_) => Ordering::Greater,
+            },
+            Parts::Blob(bytes) => (*bytes).cmp(adb.blob(word).unwrap_or(&[])),
+            Parts::List(list, words) => compare_list(adb, *list, words, word),
+        }
     }
 
     /// Adds zeros up to an offset, and the item there. A refused growth leaves the bytes as they
@@ -196,12 +203,50 @@ impl<'a> Parts<'a> {
         ensures kept { take (length out.old.items) out.new.items ≡ out.old.items }
     {
         out.resize(at, 0)?;
-        out.extend_from_slice(&self.number.to_le_bytes()[..self.width.len()])?;
-        match self.content {
-            Content::Bytes(bytes) => out.extend_from_slice(bytes),
-            Content::Words(words) => add_words(out, words),
+        out.extend_from_slice(&self.number().to_le_bytes()[..self.width().len()])?;
+        match self {
+            Parts::Int(_) => Ok(()),
+            Parts::Blob(bytes) => out.extend_from_slice(bytes),
+            Parts::List(_, words) => add_words(out, words),
         }
     }
+}
+
+/// Compares words with the entries of the written list to which a word leads.
+#[tactic(auto, using(crate::proofs::Compared::by_none))]
+fn compare_list(adb: &Adb<'_>, list: ListKind, words: &[Val], word: Val) -> Ordering
+    ensures { result ≡ slice_cmp nat_cmp (low_words words.now)
+        (or_empty (run_of (list_kind list) (payload_of adb.now) word)) }
+{
+    match entries(adb, list, word) {
+        Ok(found) => compare_words(words, &found),
+        Err(_) => words.len().cmp(&0),
+    }
+}
+
+/// The entries of a written list of this kind.
+fn entries<'a>(adb: &Adb<'a>, list: ListKind, word: Val) -> Result<Arr<'a>, Cause>
+    ensures { Gives array_entries result (run_of (list_kind list) (payload_of adb.now) word) }
+{
+    match list {
+        ListKind::Array => adb.arr(word),
+        ListKind::Object => Ok(adb.obj::<0>(word)?.entries()),
+    }
+}
+
+/// Compares words with the entries of a written list: the first that differ decide, and else their
+/// number.
+fn compare_words(words: &[Val], entries: &Arr<'_>) -> Ordering
+    ensures { result ≡ slice_cmp nat_cmp (low_words words.now) (array_entries entries.now) }
+{
+    let mut i = 0;
+    while i < words.len() && i < entries.len() {
+        match words[i].word().cmp(&entries.get(i + 1).word()) {
+            Ordering::Equal => i += 1,
+            by_word => return by_word,
+        }
+    }
+    words.len().cmp(&entries.len())
 }
 
 /// Adds words, of four bytes each. A refused growth leaves those that were added before it.

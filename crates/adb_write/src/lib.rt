@@ -12,6 +12,8 @@
 
 mod item;
 mod laws;
+mod store;
+mod table;
 mod writer;
 
 pub use laws::{

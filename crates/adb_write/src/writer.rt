@@ -1,15 +1,16 @@
 //! The writer of a payload with its limits and its refusals, and the file around a payload.
 
-ghost use Rattle.std.specs.Prelude.{◌≡◌, ◌<◌, ◌≤◌, ◌+◌, ◌^◌, IfOk, OnErr, length};
+ghost use Rattle.std.specs.Prelude.{◌≡◌, ◌<◌, ◌≤◌, ◌+◌, ◌^◌, false, IfOk, OnErr, length};
 ghost use Rattle.adb_write.specs.Canonical.{passes, gap, in_place, apart, run_cell, trimmed_words};
 ghost use Rattle.adb_view.specs.Plain.{Plains, int, blob_value, arr_value, obj_value};
 ghost use Rattle.adb_write.specs.DepthFirst.{WritesValue, WritesValues};
-ghost use Rattle.adb_write.specs.Writing.{Writing, Grows, empty_writing, call, int_call, blob_call, arr_call, obj_call, finish_result};
-ghost use Rattle.adb_write.specs.Items.{item_of};
-ghost use Rattle.adb_write.specs.WriterState.{IsFinished};
+ghost use Rattle.adb_write.specs.Writing.{Writing, Grows, empty_writing, is_over, call, int_call, blob_call, arr_call, obj_call, finish_result};
+ghost use Rattle.adb_write.specs.Items.{list_kind, item_of, HasNumbersInRange};
+ghost use Rattle.adb_write.specs.WriterState.{IsFinished, FindsWord};
 ghost use Rattle.adb_write.specs.File.{file_of};
 
-use crate::item::{Parts, kind};
+use crate::item::{ListKind, Parts};
+use crate::store::Store;
 use adb_block::{BlockKind, block_head, padding_of};
 use adb_view::Val;
 use std::alloc::{AllocError, Global};
@@ -77,21 +78,24 @@ const HEAD: u64 = 8;
 /// counts. Contracts see what was written and the counts: `Writing` of `specs/`.
 #[derive(Drop)]
 pub struct Writer {
-    // Nothing, or the head with zeros in it and what was written behind it.
-    payload: Vec<u8>,
+    store: Store,
     counts: PayloadCounts,
 }
 
 impl Model for Writer {
     ghost use Rattle.std.specs.Prelude.{drop};
     ghost use Rattle.adb_write.specs.Writing.{Writing, writing_by};
-    ghost use Rattle.adb_write.specs.WriterState.{IsWriterState};
+    ghost use Rattle.std.specs.List.{concat};
+    ghost use Rattle.adb_write.specs.Table.{pages_of};
+    ghost use Rattle.adb_write.specs.WriterState.{IsWriterState, items_of_words};
 
     ghost Value = { Writing };
 
-    ghost view = { λ w. writing_by (drop 8 w.payload.items) w.counts.bytes w.counts.values };
+    ghost view = { λ w. writing_by (drop 8 w.store.payload.items)
+        (items_of_words (concat (pages_of w.store.table))) w.counts.bytes w.counts.values };
 
-    ghost invariant = { λ w. IsWriterState w.payload.items w.counts.bytes w.counts.values };
+    ghost invariant = { λ w. IsWriterState w.store.payload.items (pages_of w.store.table)
+        w.counts.bytes w.counts.values };
 }
 
 impl Writer {
@@ -100,7 +104,7 @@ impl Writer {
         ensures { result ≡ empty_writing }
     {
         Writer {
-            payload: Vec::new(alloc),
+            store: Store::new(alloc),
             counts: PayloadCounts {
                 bytes: HEAD,
                 values: 1,
@@ -118,12 +122,12 @@ impl Writer {
         if n < 1 << 28 {
             return Ok(self.in_word(0x1000_0000 + n as u32));
         }
-        self.add(&Parts::int(n))
+        self.add(&Parts::Int(n))
     }
 
     /// Writes a blob, with its length in one byte below 256 bytes, in two below 65,536, else in
     /// four. An empty one is NULL.
-    #[tactic(auto, using(crate::proofs::WriterSteps::blob_null))]
+    #[tactic(auto, using(crate::proofs::WriterSteps::blob_null, crate::proofs::Cells::blob_is))]
     pub fn blob(&mut self, bytes: &[u8]) -> Result<Val, AllocError>
         ensures ok { IfOk result (λ word. (word, self.new) ≡ blob_call bytes.now self.old) }
         ensures written { IfOk result
@@ -134,7 +138,7 @@ impl Writer {
         if bytes.is_empty() {
             return Ok(Val::of(0));
         }
-        self.add(&Parts::blob(bytes))
+        self.add(&Parts::Blob(bytes))
     }
 
     /// Writes an array of values of this writer, or NULLs. An empty one is NULL.
@@ -146,7 +150,7 @@ impl Writer {
         ensures err { OnErr result (self.new ≡ self.old) }
         ensures wants { OnErr result (Grows self.old (arr_call entries.now self.old).1) }
     {
-        self.run(kind::ARRAY, entries)
+        self.list(ListKind::Array, entries)
     }
 
     /// Writes an object of values of this writer, or NULLs, one for each field from the first on.
@@ -159,7 +163,7 @@ impl Writer {
         ensures err { OnErr result (self.new ≡ self.old) }
         ensures wants { OnErr result (Grows self.old (obj_call fields.now self.old).1) }
     {
-        self.run(kind::OBJECT, trimmed(fields))
+        self.list(ListKind::Object, trimmed(fields))
     }
 
     /// The payload with this root, a value of this writer or NULL; the counts of a writer that
@@ -174,7 +178,8 @@ impl Writer {
                 values: self.counts.values,
             });
         }
-        let mut payload = self.payload;
+        let store = self.store;
+        let mut payload = store.payload;
         if payload.is_empty() {
             payload.resize(HEAD as usize, 0)?;
         }
@@ -182,19 +187,19 @@ impl Writer {
         Ok(payload)
     }
 
-    /// Writes an array or an object, by the kind of its word.
-    #[tactic(auto, using(crate::proofs::WriterSteps::run_null))]
-    fn run(&mut self, kind: u32, words: &[Val]) -> Result<Val, AllocError>
-        requires { kind < 15 }
+    /// Writes a list; an empty one is NULL.
+    #[tactic(auto, using(crate::proofs::WriterSteps::run_null, crate::proofs::Cells::run_is))]
+    fn list(&mut self, kind: ListKind, words: &[Val]) -> Result<Val, AllocError>
         ensures ok { IfOk result
-            (λ word. (word, self.new) ≡ call (run_cell kind words.now) self.old) }
+            (λ word. (word, self.new) ≡ call (run_cell (list_kind kind) words.now) self.old) }
         ensures err { OnErr result (self.new ≡ self.old) }
-        ensures wants { OnErr result (Grows self.old (call (run_cell kind words.now) self.old).1) }
+        ensures wants { OnErr result
+            (Grows self.old (call (run_cell (list_kind kind) words.now) self.old).1) }
     {
         if words.is_empty() {
             return Ok(Val::of(0));
         }
-        self.add(&Parts::run(kind, words))
+        self.add(&Parts::List(kind, words))
     }
 
     /// A value that its word holds whole, or NULL once a limit was passed.
@@ -208,20 +213,25 @@ impl Writer {
         Val::of(word)
     }
 
-    /// Adds an item: its word, or NULL from the first value on that passes a limit.
+    /// Adds an item, unless an equal one was written: its word, or NULL from the first value on
+    /// that passes a limit.
     fn add(&mut self, parts: &Parts<'_>) -> Result<Val, AllocError>
-        requires { parts.now.kind < 15 }
+        requires { HasNumbersInRange parts.now }
         ensures ok { IfOk result
             (λ word. (word, self.new) ≡ call (apart (item_of parts.now)) self.old) }
         ensures err { OnErr result (self.new ≡ self.old) }
         ensures wants { OnErr result
             (Grows self.old (call (apart (item_of parts.now)) self.old).1) }
     {
-        let before = self.counts;
-        if before.passes() {
+        if self.counts.passes() {
             return Ok(Val::of(0));
         }
-        let at = before.bytes + gap(parts.width.len() as u64, before.bytes);
+        let place = match self.store.find(parts) {
+            Ok(word) => return Ok(self.repeat(parts, word)),
+            Err(place) => place,
+        };
+        let before = self.counts;
+        let at = before.bytes + gap(parts.width().len() as u64, before.bytes);
         let counts = PayloadCounts {
             bytes: at + parts.len(),
             values: before.values + parts.entries(),
@@ -230,9 +240,24 @@ impl Writer {
             self.counts = counts;
             return Ok(Val::of(0));
         }
-        parts.append(&mut self.payload, at as usize)?;
+        let word = Val::of(parts.kind() * 0x1000_0000 + at as u32);
+        self.store.append(parts, at as usize, place, word)?;
         self.counts = counts;
-        Ok(Val::of(parts.kind * 0x1000_0000 + at as u32))
+        Ok(word)
+    }
+
+    /// Counts an item that equals a written one: the written one's word, or NULL where its entries
+    /// pass the limit.
+    fn repeat(&mut self, parts: &Parts<'_>, word: Val) -> Val
+        requires fine { is_over self.old ≡ false }
+        requires found { FindsWord (item_of parts.now) self.old word }
+        ensures { (result, self.new) ≡ call (apart (item_of parts.now)) self.old }
+    {
+        self.counts.values += parts.entries();
+        if self.counts.passes() {
+            return Val::of(0);
+        }
+        word
     }
 }
 

@@ -1,15 +1,15 @@
 //! The program `apk`: the top call over the folder that it runs in and the two standard streams.
 //!
-//! This crate is trusted: its tree and its sinks meet their traits, and what the host did of it is not seen by a
-//! proof. All else is decided below it.
+//! This crate is trusted, as is `host_tree`: its tree and its sinks meet their traits, and what the
+//! host did of it is not seen by a proof. All else is decided below it.
 #![tactic(auto)]
 
-mod host;
 mod stream;
 mod words;
 
-use apk_front::{Answer, access_for, apk, status};
-use host::HostTree;
+use apk_front::{Access, Answer, access_for, apk, status};
+use host_files::Lock;
+use host_tree::HostTree;
 use std::io;
 use std::io::Write;
 use std::process::ExitCode;
@@ -34,7 +34,7 @@ fn main(rt: HostRuntime) -> ExitCode {
     let Ok(access) = access_for(rt.alloc(), &words) else {
         return out_of_memory(&rt);
     };
-    let mut tree = HostTree::new(&rt, rt.alloc(), access);
+    let mut tree = HostTree::new(&rt, rt.alloc(), lock_for(access));
     let mut out = HostSink::new(rt.stdout());
     let mut err = HostSink::new(rt.stderr());
     let answer = apk(rt.alloc(), &words, &mut tree, &mut out, &mut err);
@@ -49,13 +49,21 @@ fn out_of_memory(rt: &HostRuntime) -> ExitCode {
     ExitCode::from(NO_MEMORY)
 }
 
+/// A run that writes has the root alone.
+fn lock_for(access: Access) -> Lock {
+    match access {
+        Access::Read => Lock::Shared,
+        Access::Write => Lock::Exclusive,
+    }
+}
+
 /// Prints what failed first on the host, and whether the new file may stand already.
 fn tell_why(rt: &HostRuntime, tree: &HostTree<'_, HostRuntime>) -> io::Result<()> {
     let mut to = rt.stderr();
     if let Some(failure) = tree.failure() {
         failure.print(rt.alloc(), &mut to)?;
     }
-    if let Some(name) = tree.moved() {
+    if let Some(name) = tree.unsynced_target() {
         to.write_all(b"apk: ")?;
         to.write_all(name)?;
         to.write_all(b" may have its new contents already\n")?;

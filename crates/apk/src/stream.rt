@@ -1,7 +1,7 @@
 //! A standard stream, as a sink.
 ghost use Rattle.std.specs.Prelude.{◌≡◌, ◌≤◌, ◌<◌, None, IfSome, length};
 ghost use Rattle.base_core.specs.Faults.{next_count};
-ghost use Rattle.apk.specs.Host.{host_counts};
+ghost use Rattle.host_tree.specs.Host.{host_counts};
 
 use base_core::{Sink, SinkFault};
 use std::io::{ErrorKind, Write};
@@ -45,8 +45,8 @@ impl<W: Write + Drop> Sink for HostSink<W> {
     }
 }
 
-/// How much of a piece the host took, at least one byte, or None where it failed. A write that a signal interrupts is
-/// tried again.
+/// How much of a piece the host took, at least one byte, or None where it failed. A write that a
+/// signal interrupts is tried again.
 fn write_some<W: Write>(inner: &mut W, piece: &[u8]) -> Option<usize>
     ensures { IfSome result (λ n. (0 < n) × (n ≤ length piece.now)) }
 {

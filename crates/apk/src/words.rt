@@ -9,7 +9,8 @@ use std::env::{Env, FillError};
 /// The most words that a command line may have.
 const MOST_WORDS: usize = 4294967294;
 
-/// How often the buffer for a word is doubled before it counts as want of memory: a word may have some gigabytes.
+/// How often the buffer for a word is doubled before it counts as want of memory: a word may have
+/// some gigabytes.
 const MOST_DOUBLINGS: u32 = 20;
 
 /// Why the words are not read.
@@ -25,7 +26,8 @@ impl From<AllocError> for WordsFault {
     }
 }
 
-/// The words of the command line, without the program's name, as the bytes that the host handed over.
+/// The words of the command line, without the program's name, as the bytes that the host handed
+/// over.
 pub fn words_of(rt: &impl Env, alloc: Global) -> Result<Words, WordsFault> {
     let mut words = Words::new(alloc);
     let mut buffer = vec![in alloc; 0u8; 4096]?;
@@ -41,7 +43,8 @@ pub fn words_of(rt: &impl Env, alloc: Global) -> Result<Words, WordsFault> {
     Err(WordsFault::TooMany)
 }
 
-// Reads a word into the buffer, which grows until it fits, and tells its length, or None where there is no such word.
+// Reads a word into the buffer, which grows until it fits, and tells its length, or None where
+// there is no such word.
 fn read_word(rt: &impl Env, i: usize, buffer: &mut Vec<u8>) -> Result<Option<usize>, AllocError>
     ensures { IfOk result (λ found. IfSome found (λ len. len ≤ vec_len buffer.new)) }
 {

@@ -125,6 +125,132 @@ fn blobs_of_each_width(rt: HostRuntime) -> Result<(), Fail> {
     Ok(())
 }
 
+/// A package whose origin is its name, so that the text stands once.
+const SHARED: &[u8] =
+    b"\0\0\0\0\x2c\0\0\xe0\x01a\x011\x08\0\0\0\x08\0\0\x80\x0a\0\0\x80\0\0\0\0\0\0\0\0\0\0\0\0\0\0\0\0\x08\0\0\x80\x02\0\0\0\x0c\0\0\xe0";
+
+#[test]
+fn a_name_and_an_equal_origin_stand_once(rt: HostRuntime) -> Result<(), Fail> {
+    let mut writer = Writer::new(rt.alloc());
+    let name = writer.blob(b"a")?;
+    let version = writer.blob(b"1")?;
+    let origin = writer.blob(b"a")?;
+    let info = writer.obj(&[name, version, null(), null(), null(), null(), origin])?;
+    let root = writer.obj(&[info])?;
+    let payload = payload(writer, root)?;
+    assert_eq!(rt; payload.as_slice(), SHARED);
+    Ok(())
+}
+
+/// Two integers, the second equal to the first or not, and the word of the second.
+#[rattlefmt::skip]
+const TWO_INTEGERS: [(u64, u64, u32); 4] = [
+    (0x1000_0000, 0x1000_0000, 0x2000_0008),
+    (0x1000_0000, 0x1000_0001, 0x2000_000c),
+    (0x1_0000_0000, 0x1_0000_0000, 0x3000_0008),
+    (0x1000_0000, 0x1_0000_0000, 0x3000_0010),
+];
+
+#[test]
+fn integers_are_equal_by_width_and_number(rt: HostRuntime) -> Result<(), Fail> {
+    for (first, second, word) in TWO_INTEGERS {
+        let mut writer = Writer::new(rt.alloc());
+        writer.int(first)?;
+        assert_eq!(rt; writer.int(second)?.word(), word, "{first} {second}");
+        assert_eq!(rt; writer.int(first)?.word() % 0x1000_0000, 8, "{first} {second}");
+    }
+    Ok(())
+}
+
+#[test]
+fn blobs_are_equal_to_their_last_byte(rt: HostRuntime) -> Result<(), Fail> {
+    let mut text = Vec::new(rt.alloc());
+    text.resize(300, b'x')?;
+    let mut writer = Writer::new(rt.alloc());
+    let first = writer.blob(&text)?;
+    text[299] = b'y';
+    let other = writer.blob(&text)?;
+    assert!(rt; first.word() != other.word());
+    assert_eq!(rt; writer.blob(&text)?, other);
+    text[299] = b'x';
+    assert_eq!(rt; writer.blob(&text)?, first);
+    assert!(rt; writer.blob(text.get(..299).ok_or("a front")?)?.word() != first.word());
+    Ok(())
+}
+
+#[test]
+fn lists_are_equal_by_kind_and_entries(rt: HostRuntime) -> Result<(), Fail> {
+    let mut writer = Writer::new(rt.alloc());
+    let one = writer.int(1)?;
+    let array = writer.arr(&[one, null()])?;
+    let object = writer.obj(&[one, null()])?;
+    assert!(rt; array.word() % 0x1000_0000 != object.word() % 0x1000_0000);
+    assert_eq!(rt; writer.arr(&[one, null()])?, array);
+    assert_eq!(rt; writer.obj(&[one])?, object);
+    assert!(rt; writer.arr(&[one])?.word() != array.word());
+    assert!(rt; writer.arr(&[null(), one])?.word() != array.word());
+    assert!(rt; writer.arr(&[one, null(), null()])?.word() != array.word());
+    Ok(())
+}
+
+/// How many blobs are written in each order; they take many pages of the writer's table.
+const BLOBS_IN_ORDER: u32 = 5000;
+
+/// A number for each, in an order that neither rises nor falls.
+fn scattered(n: u32) -> u32 {
+    (n * 7919) % 65_536
+}
+
+#[test]
+fn each_of_many_blobs_is_found_again(rt: HostRuntime) -> Result<(), Fail> {
+    for order in 0..3u32 {
+        let mut writer = Writer::new(rt.alloc());
+        let mut words = Vec::new(rt.alloc());
+        for i in 0..BLOBS_IN_ORDER {
+            let n = match order {
+                0 => i,
+                1 => BLOBS_IN_ORDER - i,
+                _ => scattered(i),
+            };
+            words.push(writer.blob(&n.to_be_bytes())?)?;
+        }
+        for i in 0..BLOBS_IN_ORDER {
+            let n = match order {
+                0 => i,
+                1 => BLOBS_IN_ORDER - i,
+                _ => scattered(i),
+            };
+            let again = writer.blob(&n.to_be_bytes())?;
+            assert_eq!(rt; Some(&again), words.get(i as usize), "{order} {i}");
+        }
+        // A head, and five bytes for each blob.
+        let payload = payload(writer, null())?;
+        assert_eq!(rt; payload.len(), 8 + 5 * BLOBS_IN_ORDER as usize, "{order}");
+    }
+    Ok(())
+}
+
+/// How many equal entries an array has that still is within the limit of values.
+const MOST_ENTRIES: usize = 4_194_303;
+
+#[test]
+fn the_limit_of_values_met_and_passed_by_equal_entries(rt: HostRuntime) -> Result<(), Fail> {
+    let mut writer = Writer::new(rt.alloc());
+    let text = writer.blob(b"a")?;
+    let mut entries = Vec::new(rt.alloc());
+    entries.resize(MOST_ENTRIES, text)?;
+    let most = writer.arr(&entries)?;
+    assert!(rt; !most.is_null());
+    assert!(rt; writer.arr(&[text])?.is_null());
+    assert!(rt; writer.blob(b"a")?.is_null());
+    let counts = WriteFault::TooLarge {
+        bytes: 10 + 2 + 4 * MOST_ENTRIES as u64 + 4 + 8,
+        values: 4_194_305,
+    };
+    assert_eq!(rt; writer.finish(most).err(), Some(counts));
+    Ok(())
+}
+
 /// How many entries each array has, and how many arrays there are.
 const MANY: usize = 2049;
 
@@ -148,7 +274,7 @@ fn the_counts_just_past_a_limit(rt: HostRuntime) -> Result<(), Fail> {
     assert!(rt; root.is_null());
     assert!(rt; writer.int(1)?.is_null());
     let counts = WriteFault::TooLarge {
-        bytes: 16_793_608,
+        bytes: 8_208,
         values: 4_196_353,
     };
     assert_eq!(rt; writer.finish(root).err(), Some(counts));

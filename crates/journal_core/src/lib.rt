@@ -1,19 +1,30 @@
-//! Changes of a tree that a crash cannot cut in two: a whole file replaced.
+//! Changes of a tree that a crash cannot cut in two: a whole file replaced, and several files
+//! changed by a stage; and the recovery of a root, which finishes what an earlier run left.
 //!
-//! The contracts cite `Recovery` (the intent, the state that files stand for, and what a crash
-//! leaves of it), `Replacing` and `Reading` (a whole file in the place of another) and `Quiet`
-//! (moments at which nothing happens to the state) of `specs/`.
+//! The contracts cite `Recovery` (the state that files stand for, and what a crash leaves of it),
+//! `Replacing` and `Reading` (a whole file in the place of another), `Staged` (a stage, its moments,
+//! and what a recovery leaves) and `Quiet` (moments at which nothing happens to the state) of
+//! `specs/`, and `Intent` of `journal_intent`.
 #![tactic(auto)]
 
+mod acting;
+mod calls;
 mod laws;
+mod publishing;
+mod recovering;
 mod replacing;
+mod stage;
 
-pub use laws::{
-    Journal, a_crash_leaves_an_orderly_settled_tree, an_image_has_the_state_of_its_map,
+pub use journal_intent::{
     an_intent_is_read_from_a_sound_container, each_waiting_file_has_its_own_name,
-    more_names_may_be_ignored, old_or_new_then_quiet_is_old_or_new, quiet_moments_join,
-    quiet_then_old_or_new_is_old_or_new, settled_then_old_or_new_is_one_of_two,
-    settled_then_quiet_is_settled, still_moments_join, the_files_as_read_have_the_settled_state,
-    what_is_not_synced_is_not_safe,
 };
+pub use laws::{
+    Journal, a_crash_leaves_an_orderly_settled_tree, a_new_stage_has_staged_nothing,
+    an_image_has_the_state_of_its_map, moments_on_the_way_join, more_names_may_be_ignored,
+    old_or_new_then_quiet_is_old_or_new, quiet_moments_join, quiet_then_old_or_new_is_old_or_new,
+    settled_then_old_or_new_is_one_of_two, settled_then_quiet_is_settled, still_moments_join,
+    the_files_as_read_have_the_settled_state, what_is_not_synced_is_not_safe,
+};
+pub use recovering::{RecoverFault, recover};
 pub use replacing::replace;
+pub use stage::Stage;

@@ -14,7 +14,7 @@ module _ (too_long : Bool) where
     value : OptionValue
     after : List OptionValue
     stands : values ≡ before ++ value ∷ after
-    told : value.place ≡ place
+    reported : value.place ≡ place
     bad : offends too_long (done ++ before) value ≡ true
     first : NoneBehind done before
 
@@ -48,7 +48,7 @@ module _ (too_long : Bool) where
             value = v;
             after = vs;
             stands = refl;
-            told = cc (e);
+            reported = cc (e);
             bad = ap (λ (d : List OptionValue). offends too_long d v) (append-nil done) ∙ t;
             first = no_none done;
           }
@@ -59,7 +59,7 @@ module _ (too_long : Bool) where
             value = rest.value;
             after = rest.after;
             stands = ap (λ (l : List OptionValue). v ∷ l) rest.stands;
-            told = rest.told;
+            reported = rest.reported;
             bad = ap (λ (d : List OptionValue). offends too_long d rest.value) (sym (shifted done v rest.before)) ∙ rest.bad;
             first = one_more done v rest.before t rest.first;
           }
@@ -77,7 +77,7 @@ module _ (too_long : Bool) where
   unfolding NoneBehind
   first_is values place e =
       let is = found [] values place e in
-      record { before = is.before; value = is.value; after = is.after; stands = is.stands; told = is.told; offends = is.bad; first = is.first }
+      record { before = is.before; value = is.value; after = is.after; stands = is.stands; reported = is.reported; offends = is.bad; first = is.first }
 
   pub none_is : (values : List OptionValue) → first_offence too_long [] values ≡ None → NoneOffends too_long values
   unfolding NoneBehind

@@ -15,6 +15,6 @@ pub record IsFirstOffence (too_long : Bool) (values : List OptionValue) (place :
   pub value : OptionValue
   pub after : List OptionValue
   pub stands : values ≡ before ++ value ∷ after
-  pub told : value.place ≡ place
+  pub reported : value.place ≡ place
   pub offends : offends too_long before value ≡ true
   pub first : NoneOffends too_long before

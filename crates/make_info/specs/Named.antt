@@ -10,11 +10,11 @@ use Rattle.make_info.specs.Fields.{is_list, kind_of_field}
 use Rattle.make_info.specs.Information.{InfoItem, value_of_list, value_of_single}
 
 -- of values in the order of a table's fields, the one at the field of a name
-abbrev pub value_at : List ℕ → List Field → Plains → Option Plain
-value_at word [] values = None
-value_at word (f ∷ fields) none = None
-value_at word (f ∷ fields) (more v values) =
-    if bytes_eq (field_name_text f.name) word then Some v else value_at word fields values
+abbrev pub value_by_name : List ℕ → List Field → Plains → Option Plain
+value_by_name word [] values = None
+value_by_name word (f ∷ fields) none = None
+value_by_name word (f ∷ fields) (more v values) =
+    if bytes_eq (field_name_text f.name) word then Some v else value_by_name word fields values
 
 -- the value of a field that `-I` gives: of a list its items, else the one. The priority in
 -- replacing is none of a package's information.

@@ -14,7 +14,7 @@ mod writing;
 pub use fault::MakeFault;
 pub use field::Kind;
 pub use information::{Information, read_information};
-pub use laws::{an_option_gives_the_field_of_its_name, the_first_value_that_offends_is_told};
+pub use laws::{an_option_gives_the_field_of_its_name, the_first_value_that_offends_is_reported};
 pub use output::{
     a_package_with_information_has_an_output, an_index_has_an_output, an_output_is_short,
     output_name,

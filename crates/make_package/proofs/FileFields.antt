@@ -4,7 +4,7 @@ use Rattle.sha2.specs.Sha256.{sha256}
 use Rattle.adb_tables.specs.Schema.{table}
 use Rattle.adb_tables.specs.declared.tables.Which.TheVariants.{File}
 use Rattle.adb_view.specs.Plain.{Plain, blob_value, null}
-use Rattle.make_info.specs.Named.{value_at}
+use Rattle.make_info.specs.Named.{value_by_name}
 use Rattle.make_info.specs.Values.{size_value}
 use Rattle.make_package.specs.Package.{file_fields, hash_of_kind, is_link_file, kind_of_file, link_text, size_of_kind, target_of_kind}
 use Rattle.make_package.specs.declared.file.FileKind.{FileKind}
@@ -13,9 +13,9 @@ use Rattle.make_package.specs.declared.file.FileKind.TheVariants.{Link, Regular}
 -- whether what stands in the fields of a kind is this size, this hash and this target
 abbrev AreFields : List ℕ → FileKind → Plain → Plain → Plain → Type 0
 AreFields name kind size hash target =
-    (value_at (codes "size") (table File) (file_fields name kind) ≡ Some size)
-    × (value_at (codes "hashes") (table File) (file_fields name kind) ≡ Some hash)
-    × (value_at (codes "target") (table File) (file_fields name kind) ≡ Some target)
+    (value_by_name (codes "size") (table File) (file_fields name kind) ≡ Some size)
+    × (value_by_name (codes "hashes") (table File) (file_fields name kind) ≡ Some hash)
+    × (value_by_name (codes "target") (table File) (file_fields name kind) ≡ Some target)
 
 kind_by : (bytes : List ℕ) (b : Bool) → is_link_file bytes ≡ b → kind_of_file bytes ≡ (if b then Link (0 ∷ 160 ∷ link_text bytes) else Regular (length bytes) (sha256 bytes))
 unfolding kind_of_file

@@ -5,7 +5,7 @@ ghost use Rattle.adb_view.specs.Plain.{Plain, arr_value, blob_value, null};
 ghost use Rattle.command_core.specs.Values.{script_types};
 ghost use Rattle.make_info.specs.declared.field.Field.TheVariants.{ReplacesPriority};
 ghost use Rattle.make_info.specs.Fields.{field_word};
-ghost use Rattle.make_info.specs.Named.{value_at};
+ghost use Rattle.make_info.specs.Named.{value_by_name};
 ghost use Rattle.make_info.specs.Values.{number_value, plains_of, size_value};
 ghost use Rattle.make_package.specs.Folders.{folder_names, folders_of, folders_over};
 ghost use Rattle.make_package.specs.Package.{Script, access_value, file_fields, folder_fields, is_link_file, kind_of_file, link_text, package_fields, script_fields, script_in};
@@ -23,11 +23,11 @@ ghost use Rattle.std.specs.Prelude.{◌≡◌, ◌∷◌, ℕ, All, Any, Contain
 pub fn a_part_stands_in_the_field_of_its_name()
     ensures types { script_types ≡ map (λ field. field_name_text field.name) (table Scripts) }
     ensures scripts { (scripts : List Script) → All (λ type.
-        value_at type (table Scripts) (script_fields scripts)
+        value_by_name type (table Scripts) (script_fields scripts)
         ≡ Some (blob_value (script_in scripts type))) script_types }
     ensures priority { (info : Plain) (paths : List Plain) (scripts : List Script)
         (triggers : List (List ℕ)) (priority : Option ℕ)
-        → value_at (field_word ReplacesPriority) (table Package)
+        → value_by_name (field_word ReplacesPriority) (table Package)
         (package_fields info paths scripts triggers priority)
         ≡ Some (number_value priority) }
 {}
@@ -52,28 +52,28 @@ pub fn each_name_stands_in_one_folder()
 /// read by all and written by root (0644), and a folder may be entered too (0755).
 pub fn the_fields_of_a_file_are_those_of_its_bytes()
     ensures regular { (name bytes : List ℕ) → is_link_file bytes ≡ false
-        → (value_at (codes "size") (table File) (file_fields name (kind_of_file bytes))
+        → (value_by_name (codes "size") (table File) (file_fields name (kind_of_file bytes))
         ≡ Some (size_value (length bytes)))
-        × (value_at (codes "hashes") (table File) (file_fields name (kind_of_file bytes))
+        × (value_by_name (codes "hashes") (table File) (file_fields name (kind_of_file bytes))
         ≡ Some (blob_value (sha256 bytes)))
-        × (value_at (codes "target") (table File) (file_fields name (kind_of_file bytes))
+        × (value_by_name (codes "target") (table File) (file_fields name (kind_of_file bytes))
         ≡ Some null) }
     ensures link { (name bytes : List ℕ) → is_link_file bytes ≡ true
-        → (value_at (codes "size") (table File) (file_fields name (kind_of_file bytes))
+        → (value_by_name (codes "size") (table File) (file_fields name (kind_of_file bytes))
         ≡ Some null)
-        × (value_at (codes "hashes") (table File) (file_fields name (kind_of_file bytes))
+        × (value_by_name (codes "hashes") (table File) (file_fields name (kind_of_file bytes))
         ≡ Some null)
-        × (value_at (codes "target") (table File) (file_fields name (kind_of_file bytes))
+        × (value_by_name (codes "target") (table File) (file_fields name (kind_of_file bytes))
         ≡ Some (blob_value (0 ∷ 160 ∷ link_text bytes))) }
     ensures named { (name : List ℕ) (kind : FileKind)
-        → (value_at (codes "name") (table File) (file_fields name kind) ≡ Some (blob_value name))
-        × (value_at (codes "acl") (table File) (file_fields name kind)
+        → (value_by_name (codes "name") (table File) (file_fields name kind) ≡ Some (blob_value name))
+        × (value_by_name (codes "acl") (table File) (file_fields name kind)
         ≡ Some (access_value 420)) }
     ensures folder { (name : List ℕ) (files : List Plain)
-        → (value_at (codes "name") (table Dir) (folder_fields name files)
+        → (value_by_name (codes "name") (table Dir) (folder_fields name files)
         ≡ Some (blob_value name))
-        × (value_at (codes "acl") (table Dir) (folder_fields name files)
+        × (value_by_name (codes "acl") (table Dir) (folder_fields name files)
         ≡ Some (access_value 493))
-        × (value_at (codes "files") (table Dir) (folder_fields name files)
+        × (value_by_name (codes "files") (table Dir) (folder_fields name files)
         ≡ Some (arr_value (plains_of files))) }
 {}

@@ -31,7 +31,7 @@ and_weaker : (a b c : Bool) → (b ≡ true → c ≡ true) → (a && b) ≡ tru
 and_weaker true b c f h = f h
 and_weaker false b c f h = h
 
-meeting_offers : (d : Dependency) (c : Candidate) → meets_dependency d c ≡ true → offers_name d.name c ≡ true
+pub meeting_offers : (d : Dependency) (c : Candidate) → meets_dependency d c ≡ true → offers_name d.name c ≡ true
 meeting_offers d c h =
     or_weaker _ _ (bytes_eq d.name c.name) (list_any (λ (p : Dependency). not p.conflict && bytes_eq d.name p.name) c.provides)
     (λ e. wanted_alone (bytes_eq d.name c.name) (is_wanted d.version d.bits c.version) e)

@@ -13,3 +13,4 @@ pub mod Steps
 pub mod Sealing
 pub mod TableAdding
 pub mod CandidateLists
+pub mod MarksThroughTable

@@ -1,6 +1,6 @@
 -- One more element of a list, as a loop over it goes on.
 use Rattle.std.proofs.Common.{◌≡◌, inl, inr, ℕ, zero, suc, ◌+◌, ◌≤◌, ◌<◌, Bool, List, [], ◌∷◌, ◌++◌, length, take, map, get_or, refl, sym, subst, ap, ◌∙◌, arith}
-use Rattle.std.specs.Prelude.{Result, Ok, Err, OnOk, IfErr, slice_get, Some, if◌then◌else◌, ◌&&◌, ◌||◌, ◌==◌, not}
+use Rattle.std.specs.Prelude.{Result, Ok, Err, OnOk, IfErr, IfOk, slice_get, Some, if◌then◌else◌, ◌&&◌, ◌||◌, ◌==◌, not}
 use Rattle.std.specs.List.{filter, list_all, list_any}
 use Rattle.std.proofs.lemmas.List.{length-map}
 use Rattle.pool_core.specs.Candidates.{Candidate}
@@ -98,3 +98,7 @@ if_err (Err e) P Q to h = to e h
 pub fault_more : (fault : PoolFault) (m n : ℕ) → m ≤ n → IsPoolFault fault m → IsPoolFault fault n
 fault_more (TooMany count) m n h f = (omega (arith, f.0), f.1)
 fault_more Memory m n h f = tt
+
+pub if_ok : {X E : Type 0} (r : Result X E) (P Q : X → Type 0) → ((x : X) → P x → Q x) → IfOk r P → IfOk r Q
+if_ok (Ok x) P Q to h = to x h
+if_ok (Err e) P Q to h = h

@@ -7,3 +7,4 @@ pub mod Values
 pub mod Table
 pub mod World
 pub mod Listing
+pub mod Marks

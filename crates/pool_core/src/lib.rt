@@ -7,6 +7,7 @@
 
 mod candidate;
 mod laws;
+mod marks;
 mod need;
 mod pool;
 mod rank;

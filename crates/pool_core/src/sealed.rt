@@ -16,6 +16,7 @@ ghost use Rattle.pool_core.specs.World.{entries_of_kind, has_positive_install_if
 
 use crate::candidate::{CandId, Candidate, Details};
 use crate::laws::rank_is_total;
+use crate::marks::{eligible_marks, pinned_marks};
 use crate::need::{Need, NeedRef, Options, Upgrade};
 use crate::pool::Listing;
 use crate::rank::by_details;
@@ -253,8 +254,8 @@ pub(crate) fn seal_listing<'a>(
     let positive_entries = entries_of_kind(alloc, world, EntryKind::Positive)?;
     let conflicts = entries_of_kind(alloc, world, EntryKind::Conflict)?;
     let tagged = entries_of_kind(alloc, world, EntryKind::Tagged)?;
-    let eligible = eligible_marks(alloc, &details, &tagged, &conflicts)?;
-    let pinned = pinned_marks(alloc, &details, &tagged)?;
+    let eligible = eligible_marks(alloc, &details, &table, &tagged, &conflicts)?;
+    let pinned = pinned_marks(alloc, &details, &table, &tagged)?;
     let install_ifs = install_ifs_among(alloc, &details, &eligible)?;
     Ok(Sealed {
         details,
@@ -304,137 +305,6 @@ fn is_entry_of_kind(kind: EntryKind, dep: &Dep<'_>) -> bool
         EntryKind::Conflict => dep.conflict,
         EntryKind::Tagged => dep.tag.is_some(),
     }
-}
-
-// For each candidate, whether it may be selected.
-fn eligible_marks(
-    alloc: Global,
-    details: &[Details<'_>],
-    tagged: &[Dep<'_>],
-    conflicts: &[Dep<'_>],
-) -> Result<Vec<bool>, AllocError>
-    ensures { IfOk result (λ marks. marks.items ≡ map (λ one.
-        is_allowed (map dependency tagged.now) one
-        && not (is_excluded_by (map dependency conflicts.now) one)) details.now) }
-{
-    details
-        .iter()
-        .map(|one| is_eligible(one, tagged, conflicts))
-        .collect(alloc)
-}
-
-fn is_eligible(one: &Details<'_>, tagged: &[Dep<'_>], conflicts: &[Dep<'_>]) -> bool
-    ensures { result ≡ (is_allowed (map dependency tagged.now) one.now
-        && not (is_excluded_by (map dependency conflicts.now) one.now)) }
-{
-    if !is_allowed(one, tagged) {
-        return false;
-    }
-    !is_excluded(one, conflicts)
-}
-
-// Whether a candidate is installed, or of an untagged repository, or of one whose tag is used.
-fn is_allowed(one: &Details<'_>, tagged: &[Dep<'_>]) -> bool
-    ensures { result ≡ is_allowed (map dependency tagged.now) one.now }
-{
-    if one.is_installed() {
-        return true;
-    }
-    if one.repo().is_none() {
-        return true;
-    }
-    match one.tag() {
-        None => true,
-        Some(tag) => uses_tag(tagged, tag),
-    }
-}
-
-#[tactic(auto, using(crate::proofs::Anyone::any_map))]
-fn uses_tag(tagged: &[Dep<'_>], tag: &[u8]) -> bool
-    ensures { result ≡ uses_tag (map dependency tagged.now) tag.now }
-{
-    any_has_tag(tagged, tag)
-}
-
-fn any_has_tag(tagged: &[Dep<'_>], tag: &[u8]) -> bool
-    ensures { result ≡ list_any
-        (λ dep. option_map_or (bytes_eq tag.now) (dependency dep).tag false) tagged.now }
-{
-    tagged.iter().any(|dep| has_tag(dep, tag))
-}
-
-fn has_tag(dep: &Dep<'_>, tag: &[u8]) -> bool
-    ensures { result ≡ option_map_or (bytes_eq tag.now) (dependency dep.now).tag false }
-{
-    match dep.tag {
-        None => false,
-        Some(other) => tag == other,
-    }
-}
-
-// Whether a candidate meets a conflict of world.
-#[tactic(auto, using(crate::proofs::Anyone::any_map))]
-fn is_excluded(one: &Details<'_>, conflicts: &[Dep<'_>]) -> bool
-    ensures { result ≡ is_excluded_by (map dependency conflicts.now) one.now }
-{
-    any_excludes(one, conflicts)
-}
-
-fn any_excludes(one: &Details<'_>, conflicts: &[Dep<'_>]) -> bool
-    ensures { result ≡ list_any (λ dep. (dependency dep).conflict
-        && meets_dependency (dependency dep) one.now) conflicts.now }
-{
-    conflicts.iter().any(|dep| excludes(dep, one))
-}
-
-fn excludes(dep: &Dep<'_>, one: &Details<'_>) -> bool
-    ensures { result ≡ ((dependency dep.now).conflict
-        && meets_dependency (dependency dep.now) one.now) }
-{
-    if !dep.conflict {
-        return false;
-    }
-    one.meets(dep)
-}
-
-// For each candidate, whether world pins its name to its tag.
-fn pinned_marks(
-    alloc: Global,
-    details: &[Details<'_>],
-    tagged: &[Dep<'_>],
-) -> Result<Vec<bool>, AllocError>
-    ensures { IfOk result (λ marks. marks.items
-        ≡ map (λ one. is_pinned (map dependency tagged.now) one) details.now) }
-{
-    details
-        .iter()
-        .map(|one| is_pinned(one, tagged))
-        .collect(alloc)
-}
-
-fn is_pinned(one: &Details<'_>, tagged: &[Dep<'_>]) -> bool
-    ensures { result ≡ is_pinned (map dependency tagged.now) one.now }
-{
-    match one.tag() {
-        None => false,
-        Some(tag) => pins(tagged, one.name(), tag),
-    }
-}
-
-#[tactic(auto, using(crate::proofs::Anyone::any_map))]
-fn pins(tagged: &[Dep<'_>], name: &[u8], tag: &[u8]) -> bool
-    ensures { result ≡ is_pinned_to (map dependency tagged.now) name.now tag.now }
-{
-    any_pins(tagged, name, tag)
-}
-
-fn any_pins(tagged: &[Dep<'_>], name: &[u8], tag: &[u8]) -> bool
-    ensures { result ≡ list_any (λ dep. bytes_eq name.now (dependency dep).name
-        && option_map_or (bytes_eq tag.now) (dependency dep).tag false) tagged.now }
-{
-    tagged
-        .iter()
-        .any(|dep| name == dep.name && has_tag(dep, tag))
 }
 
 // The places of the candidates that may be selected and have an install-if without conflict.

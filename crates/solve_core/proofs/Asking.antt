@@ -14,7 +14,7 @@ use Rattle.solve_core.specs.Queue.{is_unmet_dep, queue_of}
 use Rattle.solve_core.proofs.Theory.{in_right}
 use Rattle.solve_core.proofs.PoolFacts.{bool_cases, in_filter, in_map}
 use Rattle.solve_core.proofs.Satisfying.{and_true}
-use Rattle.solve_core.proofs.Kept.{holds_within, none_raised}
+use Rattle.solve_core.proofs.Consistency.{passing_is_within, none_raised}
 
 name_of : Candidate → List ℕ
 name_of c = c.name
@@ -151,7 +151,7 @@ drop_past (x ∷ xs) zero h = absurd (omega arith)
 drop_past (x ∷ xs) (suc i) h = drop_past xs i (omega arith)
 
 pub least_within : (pool : SealedPool) (t : List ℕ) (k : ℕ) → least_at pool t (install_ifs_of pool) ≡ Some k → k < length pool.candidates
-least_within pool t k h = holds_within pool (asks_for_name pool t) k (least_wants pool t (install_ifs_of pool) k h).1
+least_within pool t k h = passing_is_within pool (asks_for_name pool t) k (least_wants pool t (install_ifs_of pool) k h).1
 
 pub none_by : (pool : SealedPool) (t : List ℕ) (o : Option ℕ) → o ≡ least_at pool t (install_ifs_of pool) → find (is_unmet_dep pool t) (queue_of pool t) ≡ None → o ≡ None → next_need pool t ≡ None
 none_by pool t o is met none = none_asked pool t met (sym is ∙ none)

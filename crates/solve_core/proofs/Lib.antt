@@ -9,10 +9,10 @@ pub mod Satisfying
 pub mod FirstFound
 pub mod Offered
 pub mod Queued
-pub mod Kept
-pub mod HeldNames
+pub mod Consistency
+pub mod OccupiedNames
 pub mod Asking
 pub mod Raisers
-pub mod Foes
+pub mod Excluders
 pub mod Existence
 pub mod WalkLaws

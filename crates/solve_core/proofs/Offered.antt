@@ -6,7 +6,7 @@ use Rattle.std.specs.List.{list_any}
 use Rattle.std.specs.Str.{bytes_eq}
 use Rattle.dep_core.specs.Dependency.{Dependency}
 use Rattle.dep_core.specs.Meets.{is_wanted}
-use Rattle.pool_core.specs.Candidates.{Candidate, entry, is_met_by_entry, meets_dependency, meets_itself, offers_name}
+use Rattle.pool_core.specs.Candidates.{Candidate, entry, is_met_by_entry, named, meets_dependency, meets_itself, offers_name}
 use Rattle.pool_core.specs.Rank.{SealedPool, meets_at}
 use Rattle.pool_core.specs.Options.{IsMember, places_offering, places_from}
 use Rattle.solve_core.specs.Selection.{is_met}
@@ -77,4 +77,17 @@ pub in_more : (P : ℕ → Type 0) (xs : List ℕ) (x : ℕ) → ((k : ℕ) → 
 in_more P xs x all here k h = elim (in_append k xs (x ∷ []) h) [
   | inl a ↦ all k a
   | inr b ↦ elim b [ inl e ↦ subst P (sym e) here | inr bad ↦ absurd bad ]
+]
+
+pub named_offered : (pool : SealedPool) (name : List ℕ) (m : ℕ) → meets_at pool m (named name) ≡ true → IsMember m (places_offering name pool.candidates)
+named_offered pool name m h =
+    let z : 0 + m ≡ m = omega arith in
+    subst (λ (o : ℕ). IsMember o (places_offering name pool.candidates)) z
+    (in_places 0 (offers_name name) pool.candidates m (mono_at (λ (c : Candidate). bytes_eq name c.name) (offers_name name) (slice_get pool.candidates m) (λ c e. true_or (bytes_eq name c.name) _ (inl e)) h))
+
+-- no choice that offers the name has it, so none has
+pub unnamed_if : (pool : SealedPool) (chosen : List ℕ) (name : List ℕ) → ((k : ℕ) → IsMember k (places_offering name pool.candidates) → IsMember k chosen → meets_at pool k (named name) ≡ true → ⊥) → is_met pool chosen (named name) ≡ false
+unnamed_if pool chosen name none = elim (bool_cases (is_met pool chosen (named name))) [
+  | inl e ↦ let r = any_in (λ c. meets_at pool c (named name)) chosen e in absurd (none r.0 (named_offered pool name r.0 r.2) r.1 r.2)
+  | inr e ↦ e
 ]

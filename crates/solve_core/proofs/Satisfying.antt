@@ -49,9 +49,9 @@ bytes_same a b e = (bytes_decides a b).1 e
 provides_alone : List ℕ → Dependency → Bool
 provides_alone name p = not p.conflict && (is_some p.version && bytes_eq name p.name)
 
-held_holds : (k : Candidate) (name : List ℕ) → IsMember name (occupied_names k) → occupies_name name k ≡ true
-held_holds k name (inl e) = true_or (bytes_eq name k.name) _ (inl (bytes_same name k.name e))
-held_holds k name (inr h) =
+listed_is_occupied : (k : Candidate) (name : List ℕ) → IsMember name (occupied_names k) → occupies_name name k ≡ true
+listed_is_occupied k name (inl e) = true_or (bytes_eq name k.name) _ (inl (bytes_same name k.name e))
+listed_is_occupied k name (inr h) =
     let of : Dependency → List ℕ = λ (p : Dependency). p.name in
     let alone : Dependency → Bool = λ (p : Dependency). not p.conflict && is_some p.version in
     let m = map_in of name (filter alone k.provides) h in
@@ -60,8 +60,8 @@ held_holds k name (inr h) =
     true_or (bytes_eq name k.name) (list_any (λ (p : Dependency). not p.conflict && (is_some p.version && bytes_eq name p.name)) k.provides)
     (inr (one_any (λ (p : Dependency). not p.conflict && (is_some p.version && bytes_eq name p.name)) k.provides m.0 f.0 (rw both.0 (rw both.1 (bytes_same name m.0.name m.2)))))
 
-holds_held : (k : Candidate) (name : List ℕ) → occupies_name name k ≡ true → IsMember name (occupied_names k)
-holds_held k name h = elim (or_true (bytes_eq name k.name) (list_any (λ (p : Dependency). not p.conflict && (is_some p.version && bytes_eq name p.name)) k.provides) h) [
+occupied_is_listed : (k : Candidate) (name : List ℕ) → occupies_name name k ≡ true → IsMember name (occupied_names k)
+occupied_is_listed k name h = elim (or_true (bytes_eq name k.name) (list_any (λ (p : Dependency). not p.conflict && (is_some p.version && bytes_eq name p.name)) k.provides) h) [
   | inl e ↦ inl (same_bytes name k.name e)
   | inr e ↦
       let of : Dependency → List ℕ = λ (p : Dependency). p.name in
@@ -74,19 +74,19 @@ holds_held k name h = elim (or_true (bytes_eq name k.name) (list_any (λ (p : De
 ]
 
 module _ (pool : SealedPool) where
-  pub held_at_holds : (a : ℕ) (name : List ℕ) → IsMember name (occupied_names_at pool a) → is_at pool (occupies_name name) a ≡ true
-  held_at_holds a name h = by (candidate_at pool a) h
+  pub listed_is_occupied_at : (a : ℕ) (name : List ℕ) → IsMember name (occupied_names_at pool a) → is_at pool (occupies_name name) a ≡ true
+  listed_is_occupied_at a name h = by (candidate_at pool a) h
     where
       by : (o : Option Candidate) → IsMember name (option_map_or occupied_names o []) → option_map_or (occupies_name name) o false ≡ true
       by None h = absurd h
-      by (Some k) h = held_holds k name h
+      by (Some k) h = listed_is_occupied k name h
 
-  pub holds_held_at : (a : ℕ) (name : List ℕ) → is_at pool (occupies_name name) a ≡ true → IsMember name (occupied_names_at pool a)
-  holds_held_at a name h = by (candidate_at pool a) h
+  pub occupied_is_listed_at : (a : ℕ) (name : List ℕ) → is_at pool (occupies_name name) a ≡ true → IsMember name (occupied_names_at pool a)
+  occupied_is_listed_at a name h = by (candidate_at pool a) h
     where
       by : (o : Option Candidate) → option_map_or (occupies_name name) o false ≡ true → IsMember name (option_map_or occupied_names o [])
       by None h = absurd (cc)
-      by (Some k) h = holds_held k name h
+      by (Some k) h = occupied_is_listed k name h
 
   module _ (S : List ℕ) where
     kept_out : IsSatisfying pool S → (a b : ℕ) → IsMember a S → IsMember b S → a ≢ b → keeps_out pool a b ≡ true → ⊥
@@ -94,7 +94,7 @@ module _ (pool : SealedPool) where
       | inl e ↦ let no_way : true ≡ false = sym e ∙ s.no_conflict a b ha hb n in absurd (cc)
       | inr e ↦
           let one = any_one (λ name. is_at pool (occupies_name name) b) (occupied_names_at pool a) e in
-          n (s.names_alone a b one.0 ha hb (held_at_holds a one.0 one.1) one.2)
+          n (s.names_alone a b one.0 ha hb (listed_is_occupied_at a one.0 one.1) one.2)
     ]
 
     find_nothing : {X : Type 0} (p : X → Bool) (xs : List X) → ((x : X) → IsMember x xs → p x ≡ false) → find p xs ≡ None
@@ -156,7 +156,7 @@ module _ (pool : SealedPool) where
           ];
           names_alone = λ a b name ha hb holds_a holds_b. elim (eqb_tells a b) [
             | inl e ↦ e.1
-            | inr n ↦ absurd (clean.2 a b ha hb (apart_of a b n.1 (true_or (conflicts_with pool a b) (share_a_name pool a b) (inr (one_any (λ x. is_at pool (occupies_name x) b) (occupied_names_at pool a) name (holds_held_at a name holds_a) holds_b)))))
+            | inr n ↦ absurd (clean.2 a b ha hb (apart_of a b n.1 (true_or (conflicts_with pool a b) (share_a_name pool a b) (inr (one_any (λ x. is_at pool (occupies_name x) b) (occupied_names_at pool a) name (occupied_is_listed_at a name holds_a) holds_b)))))
           ];
           asked_met = λ name h. all (named name) (in_right (named name) (raised_needs pool S) (map named (names_by_install_if pool S)) (in_map named name (names_by_install_if pool S) h));
         }

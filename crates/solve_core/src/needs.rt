@@ -55,7 +55,7 @@ fn wants(pool: &Sealed<'_>, choices: &CandidateSet, details: &Details<'_>) -> bo
     if !all_met(pool, choices, details.install_if().as_slice()) {
         return false;
     }
-    !has_name(pool, choices.as_slice(), details.name())
+    !has_name(pool, choices, details.name())
 }
 
 // Whether each of some dependencies is met.
@@ -80,10 +80,17 @@ fn is_met(pool: &Sealed<'_>, choices: &CandidateSet, dep: &Dep<'_>) -> bool
 }
 
 // Whether a choice has a name.
-fn has_name(pool: &Sealed<'_>, choices: &[CandId], name: &[u8]) -> bool
+fn has_name(pool: &Sealed<'_>, choices: &CandidateSet, name: &[u8]) -> bool
     ensures { result ≡ is_met pool.now choices.now (named name.now) }
 {
-    choices.iter().any(|id| is_named(pool, *id, name))
+    for id in pool.offers(name) {
+        if choices.has(*id) {
+            if is_named(pool, *id, name) {
+                return true;
+            }
+        }
+    }
+    false
 }
 
 fn is_named(pool: &Sealed<'_>, id: CandId, name: &[u8]) -> bool

@@ -7,7 +7,7 @@ use Rattle.solve_core.specs.Choices.{choices_of, pool_of}
 use Rattle.solve_core.specs.Queue.{has_conflict_at}
 use Rattle.solve_core.proofs.FirstFound.{none_of}
 use Rattle.solve_core.proofs.PoolFacts.{filter_in}
-use Rattle.solve_core.proofs.Foes.{match_none, no_foe}
+use Rattle.solve_core.proofs.Excluders.{match_none, no_excluder}
 use Rattle.solve_core.proofs.choices.Choices.excluder.Goals as goal
 
 pub excluder_among-requires-clause-ids : goal.excluder_among-requires-clause-ids
@@ -28,7 +28,7 @@ returns c =
     let provides = none_of c.excluder_offering.result _ _ c.in_default-excluder_offering.not-Some c.excluder_offering.ensures in
     let provided : map dependency c.as_slice-2.result.now ≡ details.provides = c.as_slice-2.ensures ∙ c.provides.ensures in
     let needed : map dependency c.as_slice-3.result.now ≡ details.depends = c.as_slice-3.ensures ∙ c.depends.ensures in
-    match_none c.excluder_offering-2.result _ _ _ (λ depends. no_foe pool t id details c.details-details.ensures
+    match_none c.excluder_offering-2.result _ _ _ (λ depends. no_excluder pool t id details c.details-details.ensures
     (λ k h. with_conflicts k (subst (λ (z : List ℕ). IsMember k z) (sym slice) h))
     (λ k h. named k (subst (λ (n : List ℕ). IsMember k (places_offering n pool.candidates)) (sym c.name.ensures) h))
     (λ d k h. provides d k (subst (λ (z : List Dependency). IsMember d z) (sym provided) h))

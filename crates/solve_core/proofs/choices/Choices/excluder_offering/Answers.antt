@@ -6,7 +6,7 @@ use Rattle.dep_core.specs.declared.dep.Dep.{Dep}
 use Rattle.pool_core.specs.Options.{IsMember, places_offering}
 use Rattle.solve_core.specs.Selection.{exclude_each_other}
 use Rattle.solve_core.specs.Choices.{choices_of, pool_of}
-use Rattle.solve_core.proofs.Foes.{each_more}
+use Rattle.solve_core.proofs.Excluders.{each_more}
 use Rattle.solve_core.proofs.choices.Choices.excluder_offering.Goals as goal
 
 pub loop-dep-preserved : goal.loop-dep-preserved

@@ -9,7 +9,7 @@ use Rattle.pool_core.specs.Rank.{meets_at}
 use Rattle.solve_core.specs.Selection.{is_met}
 use Rattle.solve_core.specs.Choices.{choices_of, pool_of}
 use Rattle.solve_core.specs.Queue.{AreMet, RaisedDepValue, is_unmet_dep, queue_of}
-use Rattle.solve_core.proofs.Kept.{met_by, past_by}
+use Rattle.solve_core.proofs.Consistency.{met_by, past_by}
 use Rattle.solve_core.proofs.choices.Choices.is_front_met.Goals as goal
 
 pub returns-in-Some : goal.returns-in-Some

@@ -3,11 +3,11 @@ use Rattle.std.specs.Prelude.{None}
 use Rattle.dep_core.specs.Dependency.{Dependency}
 use Rattle.dep_core.specs.Meets.{dependency}
 use Rattle.solve_core.specs.Queue.{RaisedDepValue, raised_deps}
-use Rattle.solve_core.proofs.Kept.{kept_start}
+use Rattle.solve_core.proofs.Consistency.{consistent_start}
 use Rattle.solve_core.proofs.choices.Choices.new.Goals as goal
 
 pub returns-clause-consistent : goal.returns-clause-consistent
 returns-clause-consistent c =
-    kept_start _ c.new.ensures
+    consistent_start _ c.new.ensures
     (c.in_ok-queue_world.ensures ∙ (ap (λ (z : List RaisedDepValue). z ++ raised_deps None (map dependency c.positive_entries.result.now)) c.new-queue.ensures.items ∙ ap (λ (d : List Dependency). [] ++ raised_deps None d) c.positive_entries.ensures))
     refl c.new-3.ensures.items c.new-2.ensures.items

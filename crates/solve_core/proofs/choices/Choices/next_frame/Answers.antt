@@ -5,7 +5,7 @@ use Rattle.pool_core.specs.Options.{options_for}
 use Rattle.pool_core.specs.Rank.{SealedPool}
 use Rattle.solve_core.specs.Choices.{choices_of, pool_of}
 use Rattle.solve_core.specs.Queue.{RaisedDepValue}
-use Rattle.solve_core.proofs.Kept.{open_raised}
+use Rattle.solve_core.proofs.Consistency.{open_raised}
 use Rattle.solve_core.proofs.choices.Choices.next_frame.Goals as goal
 
 pub returns-in_ok-frame-in-Some-clause-frame : goal.returns-in_ok-frame-in-Some-clause-frame

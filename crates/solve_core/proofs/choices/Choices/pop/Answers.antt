@@ -7,7 +7,7 @@ use Rattle.solve_core.specs.declared.queue.Checkpoint.{Checkpoint}
 use Rattle.solve_core.proofs.Theory.{in_left}
 use Rattle.solve_core.proofs.Steps.{empty_list}
 use Rattle.solve_core.proofs.Queued.{filtered, queue_more, take_front}
-use Rattle.solve_core.proofs.Kept.{never_empty, saved_less, saved_none}
+use Rattle.solve_core.proofs.Consistency.{never_empty, checkpoints_less, checkpoints_none}
 use Rattle.solve_core.proofs.choices.Choices.pop.Goals as goal
 
 pub returns-in-Some-clause-consistent : goal.returns-in-Some-clause-consistent
@@ -15,7 +15,7 @@ returns-in-Some-clause-consistent c =
     let pool = pool_of c.args.self.now in
     let old : List ℕ = choices_of c.args.self.now in
     let before = c.in-Some.before in
-    let less = saved_less pool [] old c.pop.new.self.items before (subst (λ (z : List Checkpoint). AreCheckpoints pool [] old z) c.in-Some.ensures.items c.requires.checkpoints) in
+    let less = checkpoints_less pool [] old c.pop.new.self.items before (subst (λ (z : List Checkpoint). AreCheckpoints pool [] old z) c.in-Some.ensures.items c.requires.checkpoints) in
     let rest = less.0 in
     let is : c.pop-in-Some.new.self ≡ rest = c.pop-in-Some.ensures rest less.1 less.2 in
     let queue : c.truncate.new.self.items ≡ queue_of pool rest =
@@ -35,4 +35,4 @@ returns-in_default-clause-choices c = λ rest last e.
     let pool = pool_of c.args.self.now in
     let old : List ℕ = choices_of c.args.self.now in
     let none : c.args.self.now.checkpoints.items ≡ [] = empty_list c.args.self.now.checkpoints.items (omega (arith, c.in_default.ensures.cases.0, c.args.self.now.checkpoints.ok)) in
-    absurd (never_empty rest last (sym (saved_none pool [] old (subst (λ (z : List Checkpoint). AreCheckpoints pool [] old z) none c.requires.checkpoints)) ∙ e))
+    absurd (never_empty rest last (sym (checkpoints_none pool [] old (subst (λ (z : List Checkpoint). AreCheckpoints pool [] old z) none c.requires.checkpoints)) ∙ e))

@@ -1,10 +1,10 @@
 use Rattle.std.proofs.Common.{refl}
-use Rattle.solve_core.proofs.Kept.{kept_on}
+use Rattle.solve_core.proofs.Consistency.{consistent_on}
 use Rattle.solve_core.proofs.choices.Choices.skip_met.Goals as goal
 
 pub loop-self-preserved : goal.loop-self-preserved
 loop-self-preserved c = record {
-  consistent = kept_on c.loop-self.self _ c.loop-self.invariant.consistent refl refl refl refl refl (rw c.loop-self-test.true at c.is_front_met.ensures);
+  consistent = consistent_on c.loop-self.self _ c.loop-self.invariant.consistent refl refl refl refl refl (rw c.loop-self-test.true at c.is_front_met.ensures);
   pool = c.loop-self.invariant.pool;
   choices = c.loop-self.invariant.choices;
 }

@@ -3,7 +3,7 @@ use Rattle.pool_core.specs.Candidates.{is_eligible}
 use Rattle.solve_core.specs.Choices.{choices_of, pool_of}
 use Rattle.solve_core.proofs.Theory.{in_right}
 use Rattle.solve_core.proofs.Marks.{distinct_front}
-use Rattle.solve_core.proofs.Kept.{holds_within}
+use Rattle.solve_core.proofs.Consistency.{passing_is_within}
 use Rattle.solve_core.proofs.Steps.{searching_more}
 use Rattle.solve_core.specs.Choices.{IsSearch}
 use Rattle.solve_core.specs.Reasons.{FrameValue}
@@ -18,7 +18,7 @@ returns-clause-search c =
 pub push-requires-clause-within : goal.push-requires-clause-within
 push-requires-clause-within c =
     let pool = pool_of c.args.self.now.chosen in
-    holds_within pool (is_eligible pool.world) c.args.choice (c.requires.clean.1 c.args.choice (in_right c.args.choice (choices_of c.args.self.now.chosen) (c.args.choice ∷ []) (inl refl)))
+    passing_is_within pool (is_eligible pool.world) c.args.choice (c.requires.clean.1 c.args.choice (in_right c.args.choice (choices_of c.args.self.now.chosen) (c.args.choice ∷ []) (inl refl)))
 
 pub push-requires-clause-once : goal.push-requires-clause-once
 push-requires-clause-once c = (distinct_front (choices_of c.args.self.now.chosen) c.args.choice c.requires.clean.0).1

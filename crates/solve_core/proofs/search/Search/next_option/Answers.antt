@@ -4,7 +4,7 @@ use Rattle.solve_core.specs.declared.choices.Choices.{Choices}
 use Rattle.solve_core.specs.Reasons.{FrameValue, IsConflictFree, IsFrameOf, IsSpentFrame, IsFrameTaking}
 use Rattle.solve_core.proofs.Steps.{taken_of_open, spent_of_open, fits_in}
 use Rattle.solve_core.proofs.Turns.{passed_over}
-use Rattle.solve_core.proofs.Kept.{taken_within}
+use Rattle.solve_core.proofs.Consistency.{taken_within}
 use Rattle.solve_core.proofs.search.Search.next_option.Goals as goal
 
 pub returns-in-None-clause-found : goal.returns-in-None-clause-found

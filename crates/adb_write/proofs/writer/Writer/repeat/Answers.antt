@@ -1,0 +1,33 @@
+use Rattle.std.proofs.Common.{◌≡◌, ℕ, ◌+◌, true, false, List, drop, sym, ap, subst, ◌∙◌}
+use Rattle.std.specs.List.{concat}
+use Rattle.adb_write.specs.Canonical.{Item, WrittenItem, apart, passes}
+use Rattle.adb_write.specs.Writing.{Writing, is_over, call, writing_by}
+use Rattle.adb_write.specs.Items.{item_of}
+use Rattle.adb_write.specs.Table.{pages_of}
+use Rattle.adb_write.specs.WriterState.{items_of_words, FindsWord}
+use Rattle.adb_write.proofs.WriterSteps.{repeat_past, repeat_word}
+use Rattle.adb_write.proofs.writer.Writer.repeat.Goals as goal
+
+pub returns-then-passes : goal.returns-then-passes
+returns-then-passes c =
+    let s = c.self.inside in
+    let i : Item = item_of c.args.parts.now in
+    let body : List ℕ = drop 8 s.store.payload.items in
+    let items : List WrittenItem = items_of_words (concat (pages_of s.store.table)) in
+    let fine : passes (s.counts.bytes, s.counts.values) ≡ false = subst (λ (x : Writing). is_over x ≡ false) (sym c.self.view_is) c.requires.fine in
+    let found : FindsWord i (writing_by body items s.counts.bytes s.counts.values) c.args.word = subst (λ (x : Writing). FindsWord i x c.args.word) (sym c.self.view_is) c.requires.found in
+    let count : s.counts.values + c.entries.result ≡ s.counts.values + i.entries = ap (λ (k : ℕ). s.counts.values + k) c.entries.ensures.value in
+    let past : passes (s.counts.bytes, s.counts.values + i.entries) ≡ true = rw (sym count) (sym c.passes.ensures ∙ c.if-passes.true) in
+    rw (c.of.ensures, count) (subst (λ (x : Writing). ◌≡◌ {A = ℕ × Writing} (0, writing_by body items s.counts.bytes (s.counts.values + i.entries)) (call (apart i) x)) c.self.view_is (sym (repeat_past i body items s.counts.bytes s.counts.values c.args.word fine (c.self.invariant.agree fine) found past)))
+
+pub returns : goal.returns
+returns c =
+    let s = c.self.inside in
+    let i : Item = item_of c.args.parts.now in
+    let body : List ℕ = drop 8 s.store.payload.items in
+    let items : List WrittenItem = items_of_words (concat (pages_of s.store.table)) in
+    let fine : passes (s.counts.bytes, s.counts.values) ≡ false = subst (λ (x : Writing). is_over x ≡ false) (sym c.self.view_is) c.requires.fine in
+    let found : FindsWord i (writing_by body items s.counts.bytes s.counts.values) c.args.word = subst (λ (x : Writing). FindsWord i x c.args.word) (sym c.self.view_is) c.requires.found in
+    let count : s.counts.values + c.entries.result ≡ s.counts.values + i.entries = ap (λ (k : ℕ). s.counts.values + k) c.entries.ensures.value in
+    let fits : passes (s.counts.bytes, s.counts.values + i.entries) ≡ false = rw (sym count) (sym c.passes.ensures ∙ c.if-passes.false) in
+    rw count (subst (λ (x : Writing). ◌≡◌ {A = ℕ × Writing} (c.args.word, writing_by body items s.counts.bytes (s.counts.values + i.entries)) (call (apart i) x)) c.self.view_is (sym (repeat_word i body items s.counts.bytes s.counts.values c.args.word fine (c.self.invariant.agree fine) found fits)))

@@ -1,0 +1,179 @@
+//! Why a call on the host fails, and what of it the program tells.
+
+use std::alloc::{AllocError, Global};
+use std::io;
+use std::io::{ErrorKind, Write};
+
+/// A reason of this program for a failed call.
+#[derive(Clone, Copy)]
+pub enum Reason {
+    /// A path is a symbolic link, which is never followed.
+    Link,
+    /// A path is a pipe, a device or a socket.
+    Special,
+    /// A folder stands where a file is to be.
+    Folder,
+    /// A file stands where a folder is to be.
+    NoFolder,
+    /// Nothing stands at a path.
+    Nothing,
+    /// A file is not as long as what is read of it.
+    EndsEarly,
+    /// What was opened is not the file that was looked at.
+    Swapped,
+    /// A path is no name of a file.
+    NoName,
+    /// The host once failed to write something through.
+    LostWrite,
+    /// Another run of this program works in the folder.
+    Locked,
+    /// Both names of a rename are one.
+    SameName,
+}
+
+impl Reason {
+    /// The reason as it is told.
+    pub fn text(self) -> &'static str {
+        match self {
+            Reason::Link => "Is a symbolic link",
+            Reason::Special => "Is neither a file nor a directory",
+            Reason::Folder => "Is a directory",
+            Reason::NoFolder => "Not a directory",
+            Reason::Nothing => "No such file or directory",
+            Reason::EndsEarly => "Ends too early",
+            Reason::Swapped => "Was another file a moment ago",
+            Reason::NoName => "Is no name of a file",
+            Reason::LostWrite => "An earlier write was lost",
+            Reason::Locked => "Another run holds this folder",
+            Reason::SameName => "Is the same name",
+        }
+    }
+}
+
+/// Why something on the host fails.
+#[derive(Drop)]
+pub enum HostFault {
+    /// There was no memory.
+    Memory,
+    /// The host's own reason.
+    Host(io::Error),
+    /// A reason of this program, and the path that it holds of, where that is not the call's own.
+    Own { reason: Reason, at: Option<Vec<u8>> },
+}
+
+impl HostFault {
+    /// A reason of this program that holds of the call's own path.
+    pub fn own(reason: Reason) -> HostFault {
+        HostFault::Own { reason, at: None }
+    }
+
+    /// A reason of this program that holds of a path. Where there is no memory for the path it goes
+    /// untold.
+    pub fn at(alloc: Global, reason: Reason, path: &[u8]) -> HostFault {
+        HostFault::Own {
+            reason,
+            at: Vec::from_slice(alloc, path).ok(),
+        }
+    }
+}
+
+impl From<AllocError> for HostFault {
+    fn from(_: AllocError) -> HostFault {
+        HostFault::Memory
+    }
+}
+
+impl From<io::Error> for HostFault {
+    fn from(error: io::Error) -> HostFault {
+        if error.kind() == ErrorKind::OutOfMemory {
+            return HostFault::Memory;
+        }
+        HostFault::Host(error)
+    }
+}
+
+/// The call that failed first, the paths that it was given, and why it failed.
+#[derive(Drop)]
+pub struct Failure {
+    call: &'static str,
+    path: Vec<u8>,
+    target: Vec<u8>,
+    fault: HostFault,
+}
+
+impl Failure {
+    /// What is told of a call on a path, and on a second path or none. Where there is no memory a
+    /// path goes untold.
+    pub fn new(
+        alloc: Global,
+        call: &'static str,
+        path: &[u8],
+        target: &[u8],
+        fault: HostFault,
+    ) -> Failure {
+        Failure {
+            call,
+            path: copy_or_empty(alloc, path),
+            target: copy_or_empty(alloc, target),
+            fault,
+        }
+    }
+
+    /// Prints one line: `apk: CALL PATH: REASON`, or `apk: CALL PATH to TARGET: REASON`. A stream
+    /// that fails ends it.
+    pub fn print<W: Write>(&self, alloc: Global, to: &mut W) -> io::Result<()> {
+        to.write_all(b"apk: ")?;
+        to.write_all(self.call.as_bytes())?;
+        if !self.path.is_empty() {
+            to.write_all(b" ")?;
+            to.write_all(&self.path)?;
+        }
+        if !self.target.is_empty() {
+            to.write_all(b" to ")?;
+            to.write_all(&self.target)?;
+        }
+        to.write_all(b": ")?;
+        self.print_reason(alloc, to)?;
+        to.write_all(b"\n")
+    }
+
+    fn print_reason<W: Write>(&self, alloc: Global, to: &mut W) -> io::Result<()> {
+        match &self.fault {
+            HostFault::Memory => to.write_all(b"Cannot allocate memory"),
+            HostFault::Host(error) => print_host_reason(alloc, error, to),
+            HostFault::Own { reason, at } => {
+                if let Some(at) = at
+                    && !self.names(at)
+                {
+                    to.write_all(at)?;
+                    to.write_all(b": ")?;
+                }
+                to.write_all(reason.text().as_bytes())
+            }
+        }
+    }
+
+    /// Whether a path is one of the call's own.
+    fn names(&self, path: &[u8]) -> bool {
+        path == self.path.as_slice() || path == self.target.as_slice()
+    }
+}
+
+/// The host's text for its error, without the error's number.
+fn print_host_reason<W: Write>(alloc: Global, error: &io::Error, to: &mut W) -> io::Result<()> {
+    let Ok(text) = format!(in alloc; "{error}") else {
+        return to.write_all(b"Unknown error");
+    };
+    let text = text.as_str();
+    match text.find(" (os error ") {
+        Some(end) => to.write_all(text.as_bytes().get(..end).unwrap_or(b"Unknown error")),
+        None => to.write_all(text.as_bytes()),
+    }
+}
+
+fn copy_or_empty(alloc: Global, path: &[u8]) -> Vec<u8> {
+    match Vec::from_slice(alloc, path) {
+        Ok(copy) => copy,
+        Err(_) => Vec::new(alloc),
+    }
+}

@@ -1,0 +1,111 @@
+//! What the host has at a path, and what its errors mean.
+
+use super::failure::{HostFault, Reason};
+use std::alloc::Global;
+use std::fs::{Files, Metadata};
+use std::io::ErrorKind;
+use std::os::unix::fs::MetadataExt;
+use std::{fs, str};
+
+/// What the host has at a path.
+#[derive(Clone, Copy)]
+pub enum Found {
+    Nothing,
+    Folder,
+    File(LookedAt),
+}
+
+/// A regular file as it was looked at: its length in bytes, and what tells it from every other file
+/// of the host.
+#[derive(Clone, Copy)]
+pub struct LookedAt {
+    pub len: u64,
+    device: u64,
+    number: u64,
+}
+
+impl LookedAt {
+    fn of(data: &Metadata) -> LookedAt {
+        LookedAt {
+            len: data.len(),
+            device: data.dev(),
+            number: data.ino(),
+        }
+    }
+
+    /// Whether what the host tells of an open file is that regular file.
+    pub fn is(&self, data: &Metadata) -> bool {
+        data.is_file() && data.dev() == self.device && data.ino() == self.number
+    }
+}
+
+impl Found {
+    pub fn is_folder(&self) -> bool {
+        matches!(self, Found::Folder)
+    }
+}
+
+/// What stands at a path itself, which the host takes as `host_path`. A symbolic link is not
+/// followed: it is a fault, as is all else that is neither a regular file nor a folder.
+pub fn look<R: Files>(
+    rt: &R,
+    alloc: Global,
+    path: &[u8],
+    host_path: &str,
+) -> Result<Found, HostFault> {
+    let data = match fs::symlink_metadata(rt, host_path) {
+        Ok(data) => data,
+        Err(e) if is_absence(e.kind()) => return Ok(Found::Nothing),
+        Err(e) => return Err(e.into()),
+    };
+    if data.is_file() {
+        return Ok(Found::File(LookedAt::of(&data)));
+    }
+    if data.is_dir() {
+        return Ok(Found::Folder);
+    }
+    let reason = if data.is_symlink() {
+        Reason::Link
+    } else {
+        Reason::Special
+    };
+    Err(HostFault::at(alloc, reason, path))
+}
+
+/// Whether the host tells the same file or folder twice.
+pub fn is_same(a: &Metadata, b: &Metadata) -> bool {
+    a.dev() == b.dev() && a.ino() == b.ino()
+}
+
+/// Whether an error says that there is nothing at a path; no file has a name that is too long for
+/// the host.
+fn is_absence(kind: ErrorKind) -> bool {
+    matches!(
+        kind,
+        ErrorKind::NotFound | ErrorKind::NotADirectory | ErrorKind::InvalidFilename
+    )
+}
+
+/// A path as the host takes it.
+pub fn path_text(path: &[u8]) -> Result<&str, HostFault> {
+    match str::from_utf8(path) {
+        Ok(text) => Ok(text),
+        Err(_) => Err(HostFault::own(Reason::NoName)),
+    }
+}
+
+/// The folder that a path stands in. The root is the empty path.
+pub fn parent_of(path: &[u8]) -> &[u8] {
+    match path.iter().rposition(|byte| *byte == b'/') {
+        Some(end) => &path[..end],
+        None => &[],
+    }
+}
+
+/// What a path has behind its folder.
+pub fn last_part_of(path: &[u8]) -> &[u8] {
+    match path.iter().rposition(|byte| *byte == b'/') {
+        Some(end) => &path[end + 1..],
+        None => path,
+    }
+}

@@ -1,0 +1,25 @@
+//! Files of the host: what stands at a path, files that stay open, the lock on the folder that the
+//! program runs in, and why a call fails.
+//!
+//! This crate is trusted: no contract can say what a host does. It is to be read with `host_tree`,
+//! which stands on it.
+#![tactic(auto)]
+
+mod failure;
+mod found;
+mod lock;
+mod nearby;
+mod opened;
+
+pub use failure::{Failure, HostFault, Reason};
+pub use found::{Found, LookedAt, look, parent_of, path_text};
+pub use lock::{Lock, lock_root};
+pub use nearby::LastFolder;
+pub use opened::{Opened, close, is_open};
+use std::fs::{File, Files};
+use std::time::Clock;
+
+/// What is needed of a runtime: files, sleep, and memory.
+pub trait Host: Files<File = File> + Clock + AllocGlobal + Clone + Drop {}
+
+impl<R: Files<File = File> + Clock + AllocGlobal + Clone + Drop> Host for R {}

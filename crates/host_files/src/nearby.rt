@@ -1,0 +1,112 @@
+//! The folder that the last paths stood in, and a shorter way to its files where it is deep.
+
+use super::Host;
+use super::failure::HostFault;
+use super::found::{is_same, last_part_of, path_text};
+use std::alloc::Global;
+use std::fs;
+use std::fs::{File, OpenFile};
+use std::os::fd::AsRawFd;
+
+/// The fewest folders around a file at which it is reached through its open folder: the host walks
+/// a shorter path as fast as that detour.
+const DEEP: usize = 32;
+
+/// How many paths in a row stand in a folder until it is opened.
+const PATHS_IN_A_ROW: u32 = 4;
+
+/// The folder that the last paths stood in. The root is the empty path.
+#[derive(Drop)]
+pub struct LastFolder {
+    path: Vec<u8>,
+    // How many paths in a row stood in it.
+    paths: u32,
+    opened: Option<OpenFolder>,
+}
+
+impl LastFolder {
+    /// A folder that no path stood in so far.
+    pub fn new(path: Vec<u8>) -> LastFolder {
+        LastFolder {
+            path,
+            paths: 0,
+            opened: None,
+        }
+    }
+
+    /// Whether it is the folder at a path.
+    pub fn is(&self, path: &[u8]) -> bool {
+        self.path.as_slice() == path
+    }
+
+    /// A path in this folder as the host takes it.
+    pub fn host_path<'b, R: Host>(
+        &'b mut self,
+        rt: &R,
+        alloc: Global,
+        path: &'b [u8],
+    ) -> Result<&'b str, HostFault> {
+        self.paths = self.paths.saturating_add(1);
+        if self.paths == PATHS_IN_A_ROW && is_deep(&self.path) {
+            self.opened = OpenFolder::open(rt, alloc, &self.path)?;
+        }
+        match &mut self.opened {
+            Some(folder) => folder.path_to(last_part_of(path)),
+            None => path_text(path),
+        }
+    }
+}
+
+fn is_deep(folder: &[u8]) -> bool {
+    folder.iter().filter(|byte| **byte == b'/').count() >= DEEP - 1
+}
+
+/// An open folder, and the path by which the host leads to it in one step.
+#[derive(Drop)]
+struct OpenFolder {
+    // It stays open as long as the path is used.
+    _file: File,
+    // The path of the folder and a slash, with the part that was asked for last.
+    path: Vec<u8>,
+    folder_len: usize,
+}
+
+impl OpenFolder {
+    /// Opens a folder, or nothing where the host has no such path or shows something else there:
+    /// the plain path serves too.
+    fn open<R: Host>(
+        rt: &R,
+        alloc: Global,
+        folder: &[u8],
+    ) -> Result<Option<OpenFolder>, HostFault> {
+        let Ok(file) = fs::open(rt, path_text(folder)?) else {
+            return Ok(None);
+        };
+        let number = file.as_raw_fd();
+        let path = format!(in alloc; "/proc/self/fd/{number}/")?;
+        if !leads_to(rt, path.as_str(), &file) || !leads_to(rt, path_text(folder)?, &file) {
+            return Ok(None);
+        }
+        let path = Vec::from_slice(alloc, path.as_str().as_bytes())?;
+        Ok(Some(OpenFolder {
+            _file: file,
+            folder_len: path.len(),
+            path,
+        }))
+    }
+
+    /// The path to a part of the folder.
+    fn path_to(&mut self, part: &[u8]) -> Result<&str, HostFault> {
+        self.path.truncate(self.folder_len);
+        self.path.extend_from_slice(part)?;
+        path_text(&self.path)
+    }
+}
+
+/// Whether what stands at a path itself is an open file.
+fn leads_to<R: Host>(rt: &R, path: &str, file: &File) -> bool {
+    match (fs::symlink_metadata(rt, path), file.metadata()) {
+        (Ok(found), Ok(opened)) => is_same(&found, &opened),
+        _ => false,
+    }
+}

@@ -1,0 +1,101 @@
+//! Files that stay open between calls.
+
+use super::Host;
+use super::failure::{HostFault, Reason};
+use super::found::{LookedAt, path_text};
+use std::alloc::Global;
+use std::fs::{File, OpenOptions};
+use std::io::{Read, Seek, SeekFrom, Write};
+
+/// An open file, with the path under which it was opened, its length, and where the next read goes
+/// on, if that is known.
+#[derive(Drop)]
+pub struct Opened {
+    path: Vec<u8>,
+    file: File,
+    len: u64,
+    at: Option<u64>,
+}
+
+impl Opened {
+    /// The file that was opened at a path. It is the regular file that was looked at there.
+    pub fn of(
+        alloc: Global,
+        path: &[u8],
+        file: File,
+        looked_at: LookedAt,
+    ) -> Result<Opened, HostFault> {
+        let data = file.metadata()?;
+        if !looked_at.is(&data) {
+            return Err(HostFault::own(Reason::Swapped));
+        }
+        Ok(Opened {
+            path: Vec::from_slice(alloc, path)?,
+            file,
+            len: data.len(),
+            at: Some(0),
+        })
+    }
+
+    /// Makes a file at a path where nothing stands, to append to it.
+    pub fn make<R: Host>(rt: &R, alloc: Global, path: &[u8]) -> Result<Opened, HostFault> {
+        let copy = Vec::from_slice(alloc, path)?;
+        let mut how = OpenOptions::new();
+        let file = how
+            .append(true)
+            .create_new(true)
+            .open(rt, path_text(path)?)?;
+        Ok(Opened {
+            path: copy,
+            file,
+            len: 0,
+            at: Some(0),
+        })
+    }
+
+    /// Fills the buffer with the bytes from `at` on.
+    pub fn fill(&mut self, at: u64, into: &mut [u8]) -> Result<(), HostFault> {
+        if at > self.len || into.len() as u64 > self.len - at {
+            return Err(HostFault::own(Reason::EndsEarly));
+        }
+        if self.at != Some(at) {
+            self.file.seek(SeekFrom::Start(at))?;
+        }
+        self.at = None;
+        self.file.read_exact(into)?;
+        self.at = Some(at + into.len() as u64);
+        Ok(())
+    }
+
+    /// Adds a piece at the end.
+    pub fn add(&mut self, piece: &[u8]) -> Result<(), HostFault> {
+        self.file.write_all(piece)?;
+        self.len = self.len.saturating_add(piece.len() as u64);
+        Ok(())
+    }
+
+    /// Cuts off what a failed `add` has written. It answers whether that is done.
+    pub fn cut_back(&mut self) -> bool {
+        self.file.set_len(self.len).is_ok()
+    }
+
+    /// Lets the host write the file through.
+    pub fn write_through(&self) -> Result<(), HostFault> {
+        Ok(self.file.sync_all()?)
+    }
+}
+
+/// Whether the file at a path is the open one.
+pub fn is_open(slot: &Option<Opened>, path: &[u8]) -> bool {
+    match slot {
+        Some(opened) => opened.path.as_slice() == path,
+        None => false,
+    }
+}
+
+/// Closes the file at a path, if it is open.
+pub fn close(slot: &mut Option<Opened>, path: &[u8]) {
+    if is_open(slot, path) {
+        *slot = None;
+    }
+}

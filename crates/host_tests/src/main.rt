@@ -1,0 +1,171 @@
+//! Answers questions to `host_tree` on the folder that it runs in. Its stored run has all rows;
+//! `tests/lines.md` describes their form.
+#![tactic(auto)]
+
+use base_core::{Disk, Name, Tree, TreeFault, Words};
+use host_files::{Host, Lock};
+use host_tree::HostTree;
+use row_lines::{Subject, add_number, add_word, add_yes_or_no, number_of, run_lines, word_at};
+use std::alloc::{AllocError, Global};
+use std::io::{Read, Write};
+use std::os::unix::fs::symlink;
+use std::process::ExitCode;
+use std::{fs, io, str};
+
+/// The most bytes that a row reads.
+const MOST_BYTES: u128 = 1_000_000;
+
+/// The folder that the program runs in, and the tree that stands for it.
+#[derive(Drop)]
+struct HostFolder<'a, R: Host> {
+    rt: &'a R,
+    tree: HostTree<'a, R>,
+}
+
+impl<'a, R: Host> Subject for HostFolder<'a, R> {
+    fn answer(
+        &mut self,
+        alloc: Global,
+        words: &Words,
+        answer: &mut Vec<u8>,
+    ) -> Result<(), AllocError> {
+        let question = word_at(words, 0);
+        if question == b"sync_names".as_slice() {
+            return add_outcome(answer, self.tree.sync_names());
+        }
+        let Some(name) = Name::read(alloc, word_at(words, 1))? else {
+            return answer.extend_from_slice(b"no name");
+        };
+        match question {
+            b"create" => add_outcome(answer, self.tree.create(&name)),
+            b"append" => add_outcome(answer, self.tree.append(&name, word_at(words, 2))),
+            b"sync" => add_outcome(answer, self.tree.sync(&name)),
+            b"write" => add_outcome(answer, self.write(&name, word_at(words, 2))),
+            b"remove" => add_outcome(answer, self.tree.remove(&name)),
+            b"rename" => self.add_rename(alloc, &name, word_at(words, 2), answer),
+            b"size" => self.add_size(alloc, &name, answer),
+            b"read" => self.add_read(alloc, &name, words, answer),
+            b"list" => self.add_list(alloc, &name, answer),
+            _ => self.add_host_answer(question, &name, word_at(words, 2), answer),
+        }
+    }
+}
+
+impl<'a, R: Host> HostFolder<'a, R> {
+    /// Makes a synced file.
+    fn write(&mut self, name: &Name, bytes: &[u8]) -> Result<(), Disk> {
+        self.tree.create(name)?;
+        self.tree.append(name, bytes)?;
+        self.tree.sync(name)
+    }
+
+    fn add_rename(
+        &mut self,
+        alloc: Global,
+        from: &Name,
+        to: &[u8],
+        answer: &mut Vec<u8>,
+    ) -> Result<(), AllocError> {
+        match Name::read(alloc, to)? {
+            Some(to) => add_outcome(answer, self.tree.rename(from, &to)),
+            None => answer.extend_from_slice(b"no name"),
+        }
+    }
+
+    /// Adds the length of a file.
+    fn add_size(
+        &mut self,
+        alloc: Global,
+        name: &Name,
+        answer: &mut Vec<u8>,
+    ) -> Result<(), AllocError> {
+        match self.tree.size(name) {
+            Ok(Some(len)) => add_number(alloc, answer, u128::from(len)),
+            Ok(None) => answer.extend_from_slice(b"none"),
+            Err(_) => answer.extend_from_slice(b"fault"),
+        }
+    }
+
+    /// Adds the bytes of a file, from an offset on, so many as the row says.
+    fn add_read(
+        &mut self,
+        alloc: Global,
+        name: &Name,
+        words: &Words,
+        answer: &mut Vec<u8>,
+    ) -> Result<(), AllocError> {
+        let (Some(at), Some(len)) = (number_of(word_at(words, 2)), number_of(word_at(words, 3)))
+        else {
+            return answer.extend_from_slice(b"no number");
+        };
+        if at > MOST_BYTES || len > MOST_BYTES {
+            return answer.extend_from_slice(b"too many bytes");
+        }
+        let mut bytes = vec![in alloc; 0u8; len as usize]?;
+        match self.tree.read_at(name, at as u64, &mut bytes) {
+            Ok(()) => answer.extend_from_slice(&bytes),
+            Err(_) => answer.extend_from_slice(b"fault"),
+        }
+    }
+
+    /// Adds the names of a listing.
+    fn add_list(
+        &mut self,
+        alloc: Global,
+        folder: &Name,
+        answer: &mut Vec<u8>,
+    ) -> Result<(), AllocError> {
+        match self.tree.list(alloc, folder) {
+            Ok(names) => {
+                for i in 0..names.len() {
+                    add_word(answer, names.get(i).as_bytes())?;
+                }
+                Ok(())
+            }
+            Err(TreeFault::Memory) => answer.extend_from_slice(b"no memory"),
+            Err(TreeFault::Disk) => answer.extend_from_slice(b"fault"),
+        }
+    }
+
+    /// Asks the host itself: whether a path leads to something, to make a symbolic link there, or
+    /// to take a file away.
+    fn add_host_answer(
+        &self,
+        question: &[u8],
+        path: &Name,
+        target: &[u8],
+        answer: &mut Vec<u8>,
+    ) -> Result<(), AllocError> {
+        let (Ok(path), Ok(target)) = (str::from_utf8(path.as_bytes()), str::from_utf8(target))
+        else {
+            return answer.extend_from_slice(b"no text");
+        };
+        match question {
+            b"stands" => add_yes_or_no(answer, matches!(fs::exists(self.rt, path), Ok(true))),
+            b"link" => add_outcome(answer, symlink(self.rt, target, path)),
+            b"unlink" => add_outcome(answer, fs::remove_file(self.rt, path)),
+            _ => answer.extend_from_slice(b"no question"),
+        }
+    }
+}
+
+fn add_outcome<E: Drop>(answer: &mut Vec<u8>, outcome: Result<(), E>) -> Result<(), AllocError> {
+    match outcome {
+        Ok(()) => answer.extend_from_slice(b"ok"),
+        Err(_) => answer.extend_from_slice(b"fault"),
+    }
+}
+
+fn main(rt: HostRuntime) -> io::Result<ExitCode> {
+    let alloc = rt.alloc();
+    let mut text = Vec::new(alloc);
+    rt.stdin().read_to_end(&mut text)?;
+    let mut report = Vec::new(alloc);
+    let mut folder = HostFolder {
+        rt: &rt,
+        tree: HostTree::new(&rt, alloc, Lock::Exclusive),
+    };
+    let passed = run_lines(alloc, &mut folder, &text, &mut report)?;
+    rt.stdout().write_all(&report)?;
+    Ok(ExitCode::from(if passed { 0 } else { 1 }))
+}

@@ -1,0 +1,263 @@
+//! Folders: those on the way to a file, those that hold nothing, and those whose names changed.
+
+use host_files::{Found, Host, HostFault, LastFolder, Reason, look, parent_of, path_text};
+use std::alloc::Global;
+use std::collections::BTreeSet;
+use std::fs;
+use std::fs::{Files, OpenFile};
+use std::io::ErrorKind;
+
+/// What is known of the folders below the root. Only this run writes there, so what was looked at
+/// once stays so.
+#[derive(Drop)]
+pub struct Folders {
+    alloc: Global,
+    // Those that were looked at or made.
+    known: BTreeSet<Vec<u8>>,
+    // A known one, or the root.
+    last: LastFolder,
+    // Those whose names changed since they were last written through.
+    changed: BTreeSet<Vec<u8>>,
+}
+
+impl Folders {
+    pub fn new(alloc: Global) -> Folders {
+        Folders {
+            alloc,
+            known: BTreeSet::new(alloc),
+            last: LastFolder::new(Vec::new(alloc)),
+            changed: BTreeSet::new(alloc),
+        }
+    }
+
+    /// Whether all on the way to a path are folders.
+    pub fn have_way<R: Files>(&mut self, rt: &R, path: &[u8]) -> Result<bool, HostFault> {
+        if self.knows_way(path)? {
+            return Ok(true);
+        }
+        for (i, byte) in path.iter().enumerate() {
+            if *byte == b'/' && !self.has(rt, &path[..i])? {
+                return Ok(false);
+            }
+        }
+        Ok(true)
+    }
+
+    /// What a path leads to: nothing where something on the way is no folder.
+    pub fn find<R: Host>(&mut self, rt: &R, path: &[u8]) -> Result<Found, HostFault> {
+        if !self.have_way(rt, path)? {
+            return Ok(Found::Nothing);
+        }
+        let alloc = self.alloc;
+        look(rt, alloc, path, self.host_path(rt, path)?)
+    }
+
+    /// A path as the host takes it: the shorter way, where the folder that it stands in is the last
+    /// one.
+    pub fn host_path<'b, R: Host>(
+        &'b mut self,
+        rt: &R,
+        path: &'b [u8],
+    ) -> Result<&'b str, HostFault> {
+        let folder = parent_of(path);
+        if folder.is_empty() || !self.last.is(folder) {
+            return path_text(path);
+        }
+        self.last.host_path(rt, self.alloc, path)
+    }
+
+    /// Makes the folders on the way to a path that are absent. A file on the way is a fault.
+    pub fn make_way<R: Files>(&mut self, rt: &R, path: &[u8]) -> Result<(), HostFault> {
+        if self.knows_way(path)? {
+            return Ok(());
+        }
+        for (i, byte) in path.iter().enumerate() {
+            if *byte == b'/' {
+                self.make(rt, &path[..i])?;
+            }
+        }
+        Ok(())
+    }
+
+    /// Keeps that a folder stands at a path.
+    pub fn keep_known(&mut self, folder: &[u8]) -> Result<(), HostFault> {
+        let folder = Vec::from_slice(self.alloc, folder)?;
+        keep(&mut self.known, folder)
+    }
+
+    /// Notes a folder whose names are to change. It is noted before they do, so that none is
+    /// forgotten.
+    pub fn note(&mut self, folder: &[u8]) -> Result<(), HostFault> {
+        let folder = Vec::from_slice(self.alloc, folder)?;
+        keep(&mut self.changed, folder)
+    }
+
+    /// Takes folders away that hold nothing and stand where a file is to be. Where a file or
+    /// anything else is below them it is a fault, and nothing changes.
+    pub fn clear<R: Host>(&mut self, rt: &R, path: &[u8]) -> Result<(), HostFault> {
+        let folders = empty_tree(rt, self.alloc, path)?;
+        for folder in folders.iter().rev() {
+            self.note(parent_of(folder))?;
+            fs::remove_dir(rt, path_text(folder)?)?;
+            self.forget(folder);
+        }
+        Ok(())
+    }
+
+    /// Takes the folders away that a file was the last to stand in, the deepest first. The root
+    /// stays.
+    pub fn prune<R: Files>(&mut self, rt: &R, path: &[u8]) -> Result<(), HostFault> {
+        for i in (0..path.len()).rev() {
+            if path[i] == b'/' && !self.take_away(rt, &path[..i])? {
+                break;
+            }
+        }
+        Ok(())
+    }
+
+    /// Lets the host write each folder through, once, whose names changed.
+    pub fn write_through<R: Files>(&mut self, rt: &R) -> Result<(), HostFault> {
+        for folder in &self.changed {
+            write_folder(rt, folder)?;
+        }
+        self.changed.clear();
+        Ok(())
+    }
+
+    /// Whether the folder of a path is known, which is then the last one.
+    fn knows_way(&mut self, path: &[u8]) -> Result<bool, HostFault> {
+        let folder = parent_of(path);
+        if self.last.is(folder) {
+            return Ok(true);
+        }
+        if !folder.is_empty() && !self.is_known(folder) {
+            return Ok(false);
+        }
+        self.last = LastFolder::new(Vec::from_slice(self.alloc, folder)?);
+        Ok(true)
+    }
+
+    fn is_known(&self, folder: &[u8]) -> bool {
+        self.known.contains(folder)
+    }
+
+    /// Whether a folder stands at a path.
+    fn has<R: Files>(&mut self, rt: &R, path: &[u8]) -> Result<bool, HostFault> {
+        if self.is_known(path) {
+            return Ok(true);
+        }
+        if !look(rt, self.alloc, path, path_text(path)?)?.is_folder() {
+            return Ok(false);
+        }
+        self.keep_known(path)?;
+        Ok(true)
+    }
+
+    fn make<R: Files>(&mut self, rt: &R, folder: &[u8]) -> Result<(), HostFault> {
+        if self.is_known(folder) {
+            return Ok(());
+        }
+        match look(rt, self.alloc, folder, path_text(folder)?)? {
+            Found::Folder => {}
+            Found::File(_) => return Err(HostFault::at(self.alloc, Reason::NoFolder, folder)),
+            Found::Nothing => {
+                self.note(parent_of(folder))?;
+                fs::create_dir(rt, path_text(folder)?)?;
+            }
+        }
+        self.keep_known(folder)
+    }
+
+    /// Takes a folder away if it is empty. It answers whether it did.
+    fn take_away<R: Files>(&mut self, rt: &R, folder: &[u8]) -> Result<bool, HostFault> {
+        let around = parent_of(folder);
+        let was_noted = self.changed.contains(around);
+        self.note(around)?;
+        match fs::remove_dir(rt, path_text(folder)?) {
+            Ok(()) => {}
+            Err(e) if stays(e.kind()) => {
+                if !was_noted {
+                    self.changed.remove(around);
+                }
+                return Ok(false);
+            }
+            Err(e) => return Err(e.into()),
+        }
+        self.forget(folder);
+        Ok(true)
+    }
+
+    /// Forgets a folder that is gone.
+    fn forget(&mut self, folder: &[u8]) {
+        self.known.remove(folder);
+        self.changed.remove(folder);
+        if self.last.is(folder) {
+            self.last = LastFolder::new(Vec::new(self.alloc));
+        }
+    }
+}
+
+fn keep(folders: &mut BTreeSet<Vec<u8>>, folder: Vec<u8>) -> Result<(), HostFault> {
+    match folders.insert(folder) {
+        Ok(_) => Ok(()),
+        Err(_) => Err(HostFault::Memory),
+    }
+}
+
+/// The folders of a tree of folders that hold no file and nothing else, each behind the one that it
+/// stands in.
+fn empty_tree<R: Host>(rt: &R, alloc: Global, root: &[u8]) -> Result<Vec<Vec<u8>>, HostFault> {
+    let mut folders = Vec::new(alloc);
+    push(&mut folders, Vec::from_slice(alloc, root)?)?;
+    for next in 0..usize::MAX {
+        if next >= folders.len() {
+            break;
+        }
+        let found = folders_in(rt, alloc, &folders[next])?;
+        for folder in found {
+            push(&mut folders, folder)?;
+        }
+    }
+    Ok(folders)
+}
+
+/// The folders in a folder that holds nothing else.
+fn folders_in<R: Host>(rt: &R, alloc: Global, folder: &[u8]) -> Result<Vec<Vec<u8>>, HostFault> {
+    let mut found = Vec::new(alloc);
+    for entry in fs::read_dir(rt, path_text(folder)?)? {
+        let entry = entry?;
+        let path = entry.path();
+        let path = path.as_str().as_bytes();
+        if !look(rt, alloc, path, path_text(path)?)?.is_folder() {
+            return Err(HostFault::own(Reason::Folder));
+        }
+        push(&mut found, Vec::from_slice(alloc, path)?)?;
+    }
+    Ok(found)
+}
+
+fn push(list: &mut Vec<Vec<u8>>, path: Vec<u8>) -> Result<(), HostFault> {
+    match list.push(path) {
+        Ok(()) => Ok(()),
+        Err(_) => Err(HostFault::Memory),
+    }
+}
+
+fn write_folder<R: Files>(rt: &R, folder: &[u8]) -> Result<(), HostFault> {
+    let path: &[u8] = if folder.is_empty() { b"." } else { folder };
+    Ok(fs::open(rt, path_text(path)?)?.sync_all()?)
+}
+
+/// Whether an error says that a folder is not empty, that another file system stands on it, or that
+/// the one around it may not be written, which the host may say before it looks whether the folder
+/// is empty.
+fn stays(kind: ErrorKind) -> bool {
+    matches!(
+        kind,
+        ErrorKind::DirectoryNotEmpty
+            | ErrorKind::AlreadyExists
+            | ErrorKind::ResourceBusy
+            | ErrorKind::PermissionDenied
+            | ErrorKind::ReadOnlyFilesystem
+    )
+}

@@ -1,0 +1,138 @@
+//! The files below a folder.
+ghost use Rattle.std.specs.Prelude.{◌≡◌, ◌↔◌, ◌-◌, [], ◌∷◌, ◌++◌, ℕ, List, All, Contains, IfOk, IsTrue, OnErr, OnOk, Some, length, slice_get};
+ghost use Rattle.std.specs.Cmp.Lexicographic.{slice_cmp};
+ghost use Rattle.std.specs.List.Sorted.{IsSorted};
+ghost use Rattle.std.specs.Ordering.{nat_cmp};
+ghost use Rattle.base_core.specs.Files.{IsFolderOf};
+ghost use Rattle.base_core.specs.Listed.{AreNamesBelow, IsRising};
+
+use super::folders::Folders;
+use base_core::{Name, Names, is_folder_of};
+use host_files::{Found, Host, HostFault, Reason, path_text};
+use std::alloc::{AllocError, Global};
+use std::fs;
+
+/// The names of all regular files below a folder, at any depth, in byte order, each once.
+pub fn list_below<R: Host>(
+    rt: &R,
+    alloc: Global,
+    known: &mut Folders,
+    folder: &Name,
+) -> Result<Names, HostFault>
+    ensures { IfOk result (AreNamesBelow folder.now) }
+{
+    let mut walk = Walk {
+        alloc,
+        folders: Vec::new(alloc),
+        files: Vec::new(alloc),
+    };
+    if known.find(rt, folder.as_bytes())?.is_folder() {
+        keep(&mut walk.folders, folder.copy(alloc)?)?;
+    }
+    for _ in 0..u64::MAX {
+        let Some(next) = walk.folders.pop() else {
+            break;
+        };
+        known.keep_known(next.as_bytes())?;
+        walk.visit(rt, known, folder, &next)?;
+    }
+    Ok(walk.into_names()?)
+}
+
+/// The folders that are still to be visited, and the files that were found.
+#[derive(Drop)]
+struct Walk {
+    alloc: Global,
+    folders: Vec<Name>,
+    files: Vec<Name>,
+}
+
+impl Walk {
+    /// Finds what stands in a folder, which is the root or below it.
+    fn visit<R: Host>(
+        &mut self,
+        rt: &R,
+        known: &mut Folders,
+        root: &Name,
+        folder: &Name,
+    ) -> Result<(), HostFault>
+        requires { All (IsFolderOf root.now) self.old.files.items }
+        ensures { All (IsFolderOf root.now) self.new.files.items }
+    {
+        for entry in fs::read_dir(rt, path_text(folder.as_bytes())?)? {
+            let entry = entry?;
+            self.meet(rt, known, root, entry.path().as_str().as_bytes())?;
+        }
+        Ok(())
+    }
+
+    /// Keeps what stands at a path. A path that is no name is a fault, so the walk is as deep as a
+    /// name at most, and so is a path that is not below the root.
+    fn meet<R: Host>(
+        &mut self,
+        rt: &R,
+        known: &mut Folders,
+        root: &Name,
+        path: &[u8],
+    ) -> Result<(), HostFault>
+        requires { All (IsFolderOf root.now) self.old.files.items }
+        ensures { All (IsFolderOf root.now) self.new.files.items }
+    {
+        let Some(name) = Name::read(self.alloc, path)? else {
+            return Err(HostFault::at(self.alloc, Reason::NoName, path));
+        };
+        if !is_folder_of(root.as_bytes(), path) {
+            return Err(HostFault::at(self.alloc, Reason::NoName, path));
+        }
+        match known.find(rt, path)? {
+            Found::Folder => Ok(keep(&mut self.folders, name)?),
+            Found::File(_) => Ok(keep(&mut self.files, name)?),
+            Found::Nothing => Ok(()),
+        }
+    }
+
+    /// The files that were found, in byte order, each once: a host that changes under a walk may
+    /// show one twice.
+    fn into_names(mut self) -> Result<Names, AllocError>
+        ensures { (root : List ℕ) → All (IsFolderOf root) self.files.items → IfOk result (AreNamesBelow root) }
+    {
+        self.files.sort_by(|a, b| a.as_bytes().cmp(b.as_bytes()))?;
+        let names = each_once(self.alloc, self.files)?;
+        names.are_names();
+        Ok(names)
+    }
+}
+
+/// Names in order, each once.
+fn each_once(alloc: Global, sorted: Vec<Name>) -> Result<Names, AllocError>
+    requires { IsSorted (slice_cmp nat_cmp) sorted.items }
+    ensures rising { IfOk result IsRising }
+    ensures each { IfOk result (All (Contains sorted.items)) }
+{
+    let mut names = Names::new(alloc);
+    for name in sorted {
+        if is_last(&names, &name) {
+            continue;
+        }
+        names.push(name)?;
+    }
+    Ok(names)
+}
+
+/// Whether a name is the last one of the list.
+fn is_last(names: &Names, name: &Name) -> bool
+    ensures { IsTrue result ↔ (slice_get names.now (length names.now - 1) ≡ Some name.now) }
+{
+    if names.is_empty() {
+        return false;
+    }
+    names.get(names.len() - 1).as_bytes() == name.as_bytes()
+}
+
+fn keep(list: &mut Vec<Name>, name: Name) -> Result<(), AllocError>
+    ensures ok { OnOk result (list.new.items ≡ list.old.items ++ name ∷ []) }
+    ensures err { OnErr result (list.new.items ≡ list.old.items) }
+{
+    list.push(name)?;
+    Ok(())
+}

@@ -1,0 +1,228 @@
+//! The root: the folder that the program runs in, with the files that stay open between calls.
+ghost use Rattle.std.specs.Prelude.{IfOk};
+ghost use Rattle.base_core.specs.Listed.{AreNamesBelow};
+
+use super::folders::Folders;
+use super::listing::list_below;
+use base_core::{Name, Names};
+use host_files::{
+    Found, Host, HostFault, Lock, LookedAt, Opened, Reason, close, is_open, lock_root, look,
+    parent_of, path_text,
+};
+use std::alloc::Global;
+use std::fs;
+use std::fs::{File, OpenOptions};
+
+/// The root. From its first call on it holds a lock on the folder, so that it is the only run of
+/// this program that writes there.
+#[derive(Drop)]
+pub struct Root<'a, R: Host> {
+    rt: &'a R,
+    alloc: Global,
+    lock: Lock,
+    // The folder itself, open while this run holds the lock on it.
+    held: Option<File>,
+    // The file that was read last, and the one that is being written.
+    reader: Option<Opened>,
+    writer: Option<Opened>,
+    // The file that was looked at last, unless something was written since.
+    seen: Option<(Vec<u8>, LookedAt)>,
+    folders: Folders,
+    // Whether the host once failed to write something through, or to cut off the front of a piece.
+    // It may have dropped what it could not write, so that a second try would succeed for nothing:
+    // it is not believed again.
+    has_lost: bool,
+    // The target of a rename that is not written through yet.
+    unsynced_target: Option<Vec<u8>>,
+}
+
+impl<'a, R: Host> Root<'a, R> {
+    pub fn new(rt: &'a R, alloc: Global, lock: Lock) -> Root<'a, R> {
+        Root {
+            rt,
+            alloc,
+            lock,
+            held: None,
+            reader: None,
+            writer: None,
+            seen: None,
+            folders: Folders::new(alloc),
+            has_lost: false,
+            unsynced_target: None,
+        }
+    }
+
+    /// The name that may have its new file although the run failed: it was renamed, and that was
+    /// not written through.
+    pub fn unsynced_target(&self) -> Option<&[u8]> {
+        match &self.unsynced_target {
+            Some(name) => Some(name),
+            None => None,
+        }
+    }
+
+    /// The names of the files below a folder, in byte order, each once.
+    pub fn list(&mut self, alloc: Global, folder: &Name) -> Result<Names, HostFault>
+        ensures { IfOk result (AreNamesBelow folder.now) }
+    {
+        self.enter()?;
+        list_below(self.rt, alloc, &mut self.folders, folder)
+    }
+
+    /// Takes the lock on the folder, if it is not held yet.
+    fn enter(&mut self) -> Result<(), HostFault> {
+        if self.held.is_none() {
+            self.held = Some(lock_root(self.rt, self.lock)?);
+        }
+        Ok(())
+    }
+
+    /// The length of the regular file at a path, or None where there is none.
+    pub fn length_of(&mut self, path: &[u8]) -> Result<Option<u64>, HostFault> {
+        self.enter()?;
+        match self.folders.find(self.rt, path)? {
+            Found::File(looked_at) => {
+                self.seen = Some((Vec::from_slice(self.alloc, path)?, looked_at));
+                Ok(Some(looked_at.len))
+            }
+            Found::Folder | Found::Nothing => Ok(None),
+        }
+    }
+
+    /// The regular file at a path, as it was looked at just before, or as it is now.
+    fn look_at(&mut self, path: &[u8]) -> Result<LookedAt, HostFault> {
+        if let Some((seen, looked_at)) = &self.seen
+            && seen.as_slice() == path
+        {
+            return Ok(*looked_at);
+        }
+        match self.folders.find(self.rt, path)? {
+            Found::File(looked_at) => Ok(looked_at),
+            Found::Folder => Err(HostFault::own(Reason::Folder)),
+            Found::Nothing => Err(HostFault::own(Reason::Nothing)),
+        }
+    }
+
+    /// Fills the buffer with the bytes of the file at a path.
+    pub fn fill(&mut self, path: &[u8], at: u64, into: &mut [u8]) -> Result<(), HostFault> {
+        self.enter()?;
+        if !is_open(&self.reader, path) {
+            let looked_at = self.look_at(path)?;
+            let file = fs::open(self.rt, self.folders.host_path(self.rt, path)?)?;
+            self.reader = Some(Opened::of(self.alloc, path, file, looked_at)?);
+        }
+        match &mut self.reader {
+            Some(reader) => reader.fill(at, into),
+            None => Err(HostFault::own(Reason::Nothing)),
+        }
+    }
+
+    /// Makes an empty file at a path, which stays open, with the folders on the way to it. Folders
+    /// that hold nothing give way; what else stands there stays, and is a fault.
+    pub fn begin(&mut self, path: &[u8]) -> Result<(), HostFault> {
+        self.enter()?;
+        self.seen = None;
+        self.folders.make_way(self.rt, path)?;
+        if look(self.rt, self.alloc, path, path_text(path)?)?.is_folder() {
+            self.folders.clear(self.rt, path)?;
+        }
+        self.folders.note(parent_of(path))?;
+        self.writer = Some(Opened::make(self.rt, self.alloc, path)?);
+        Ok(())
+    }
+
+    /// The file at a path, open for writing.
+    fn open_to_write(&mut self, path: &[u8]) -> Result<&mut Opened, HostFault> {
+        if self.has_lost {
+            return Err(HostFault::own(Reason::LostWrite));
+        }
+        close(&mut self.reader, path);
+        if !is_open(&self.writer, path) {
+            let looked_at = self.look_at(path)?;
+            let file = OpenOptions::new()
+                .append(true)
+                .open(self.rt, path_text(path)?)?;
+            self.writer = Some(Opened::of(self.alloc, path, file, looked_at)?);
+        }
+        self.seen = None;
+        match &mut self.writer {
+            Some(writer) => Ok(writer),
+            None => Err(HostFault::own(Reason::Nothing)),
+        }
+    }
+
+    /// Adds a piece to the file at a path. Where that fails, the front of the piece that was
+    /// written is cut off again.
+    pub fn add(&mut self, path: &[u8], piece: &[u8]) -> Result<(), HostFault> {
+        self.enter()?;
+        let writer = self.open_to_write(path)?;
+        let added = writer.add(piece);
+        if added.is_err() && !writer.cut_back() {
+            self.has_lost = true;
+        }
+        added
+    }
+
+    /// Lets the host write the file at a path through, and closes it.
+    pub fn write_file_through(&mut self, path: &[u8]) -> Result<(), HostFault> {
+        self.enter()?;
+        let written = self.open_to_write(path)?.write_through();
+        self.has_lost = written.is_err();
+        self.writer = None;
+        written
+    }
+
+    /// Lets `to` lead to the file of `from`, in one step of the host. Folders at `to` that hold
+    /// nothing give way.
+    pub fn move_file(&mut self, from: &[u8], to: &[u8]) -> Result<(), HostFault> {
+        self.enter()?;
+        self.forget(from);
+        self.forget(to);
+        if from == to {
+            return Err(HostFault::own(Reason::SameName));
+        }
+        self.look_at(from)?;
+        let target = Vec::from_slice(self.alloc, to)?;
+        self.folders.make_way(self.rt, to)?;
+        if look(self.rt, self.alloc, to, path_text(to)?)?.is_folder() {
+            self.folders.clear(self.rt, to)?;
+        }
+        self.folders.note(parent_of(from))?;
+        self.folders.note(parent_of(to))?;
+        fs::rename(self.rt, path_text(from)?, path_text(to)?)?;
+        self.unsynced_target = Some(target);
+        Ok(())
+    }
+
+    /// Takes the file at a path away, if there is one, and the folders that held nothing else.
+    pub fn take_off(&mut self, path: &[u8]) -> Result<(), HostFault> {
+        if self.length_of(path)?.is_none() {
+            return Ok(());
+        }
+        self.forget(path);
+        self.folders.note(parent_of(path))?;
+        fs::remove_file(self.rt, path_text(path)?)?;
+        self.folders.prune(self.rt, path)
+    }
+
+    /// Lets the host write through the folders whose names changed.
+    pub fn write_names_through(&mut self) -> Result<(), HostFault> {
+        self.enter()?;
+        if self.has_lost {
+            return Err(HostFault::own(Reason::LostWrite));
+        }
+        let written = self.folders.write_through(self.rt);
+        self.has_lost = written.is_err();
+        if written.is_ok() {
+            self.unsynced_target = None;
+        }
+        written
+    }
+
+    /// Forgets the file at a path, since the path is to lead elsewhere.
+    fn forget(&mut self, path: &[u8]) {
+        self.seen = None;
+        close(&mut self.reader, path);
+        close(&mut self.writer, path);
+    }
+}

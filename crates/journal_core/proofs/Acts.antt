@@ -1,0 +1,351 @@
+-- Each action of an intent leaves what the files stand for.
+use Rattle.std.proofs.Common.{◌≡◌, ◌||◌, ◌⊎◌, ◌≢◌, inl, inr, ⊎_elim, ℕ, zero, suc, ◌+◌, ◌≤◌, ◌<◌, ◌^◌, Bool, true, false, cond, List, [], ◌∷◌, length, slice_get, Option, None, Some, refl, sym, ap, subst, ◌∙◌, arith}
+use Rattle.std.proofs.Math.Nat.{eq-or-lt_of_le}
+use Rattle.std.specs.List.{list_any}
+use Rattle.std.specs.Str.{bytes_eq}
+use Rattle.base_core.specs.Files.{Files, NameMap, drop_name, move_name}
+use Rattle.base_core.specs.Tree.{TreeState, File, IsMapOf, bytes_at, files_by, files_of, with_names, move_at, remove_at, after_remove, after_rename, after_sync_names}
+use Rattle.base_core.specs.Crash.{IsImage, IsOrderly}
+use Rattle.journal_core.specs.Recovery.{Intent, IsPlaceOf, IsSettled, RestsOn, intent_name, intent_at, intent_of, is_hidden, move_if, recovered_files, stage_name, state_of, without_names}
+use Rattle.journal_core.specs.Quiet.{IsStill}
+use Rattle.journal_core.specs.Staged.{Staging, AreDone, IsActing, action_count}
+use Rattle.journal_core.proofs.AtName.{name_cases, same_name, off_name, put_name-off, drop_name-at, drop_name-off}
+use Rattle.journal_core.proofs.Images.{CrashLaws, quiet_by_maps, quiet_on, settled_by_maps}
+use Rattle.journal_core.proofs.Simulate.{rests_same}
+use Rattle.journal_core.proofs.StageNames.{stage_name_no_intent}
+use Rattle.journal_core.proofs.Waiting.{still_self}
+use Rattle.journal_core.proofs.Replayed.{IsProper, IsNumbered, here, later, moved, move_if-off, recovered-removed, recovered-moved, recovered-done, recovered-dropped}
+use Rattle.journal_intent.specs.FreeNames.{IsOneOf, IsNoneOf, IsFreeName, AreFreeNames, AreOnce}
+
+-- ---- one map more
+
+pub state_same : (ignored : List ℕ → Bool) (F G : Files) → recovered_files F ≡ recovered_files G → state_of ignored F ≡ state_of ignored G
+state_same ignored F G same i q = cond (is_hidden ignored q) None (same i q)
+
+-- one map more, by which the files stand for the same
+pub still_more : CrashLaws → (ignored : List ℕ → Bool) (v : TreeState) (m : NameMap) → IsOrderly (RestsOn ignored) v → recovered_files (files_by v m) ≡ recovered_files (files_of v)
+    → ((q : List ℕ) (n : ℕ) → RestsOn ignored (files_by v m) q → m q ≡ Some n → (v.files n).synced ≡ true) → IsStill ignored v (with_names v m)
+still_more laws ignored v m was same synced =
+    let orderly : IsOrderly (RestsOn ignored) (with_names v m) = record { each = each } in
+    record {
+      orderly = orderly;
+      quiet = quiet_by_maps laws ignored v (with_names v m) orderly states;
+      reads = state_same ignored (files_by v m) (files_of v) same;
+      made = omega arith;
+    }
+  where
+    each : (x : NameMap) → IsMapOf (with_names v m) x → (q : List ℕ) (n : ℕ) → RestsOn ignored (files_by v x) q → x q ≡ Some n → (v.files n).synced ≡ true
+    each x (inl new) q n rests at = synced q n (subst (λ (y : NameMap). RestsOn ignored (files_by v y) q) new rests) (sym (ap (λ (y : NameMap). y q) new) ∙ at)
+    each x (inr old) q n rests at = was.each x old q n rests at
+
+    states : (x : NameMap) → IsMapOf (with_names v m) x → (before : Files) × IsImage v before × (state_of ignored (files_by v x) ≡ state_of ignored before)
+    states x (inl new) = (files_of v, laws.left v v.names (inl refl), ap (λ (y : NameMap). state_of ignored (files_by v y)) new ∙ state_same ignored (files_by v m) (files_of v) same)
+    states x (inr old) = (files_by v x, laws.left v x old, refl)
+
+bytes_cond : (files : ℕ → File) (b : Bool) (o p : Option ℕ) → bytes_at files (cond b o p) ≡ cond b (bytes_at files o) (bytes_at files p)
+bytes_cond files true o p = refl
+bytes_cond files false o p = refl
+
+pub files-dropped : (v : TreeState) (name : List ℕ) → files_by v (drop_name v.names name) ≡ drop_name (files_of v) name
+files-dropped v name i q = bytes_cond v.files (bytes_eq q name) None (v.names q) i
+
+pub files-moved : (v : TreeState) (from to : List ℕ) (n : ℕ) → files_by v (move_name v.names from to n) ≡ move_name (files_of v) from to (v.files n).bytes
+files-moved v from to n i q = (bytes_cond v.files (bytes_eq q to) (Some n) (drop_name v.names from q) ∙ ap (cond (bytes_eq q to) (Some (v.files n).bytes)) (bytes_cond v.files (bytes_eq q from) None (v.names q))) i
+
+dropped_some : (b : Bool) (o : Option ℕ) (n : ℕ) → cond b None o ≡ Some n → o ≡ Some n
+dropped_some true o n is = absurd (cc)
+dropped_some false o n is = is
+
+moved_some : (a b : Bool) (o : Option ℕ) (n k : ℕ) → cond a (Some n) (cond b None o) ≡ Some k → (n ≡ k) ⊎ (o ≡ Some k)
+moved_some true b o n k is = inl (cc)
+moved_some false true o n k is = absurd (cc)
+moved_some false false o n k is = inr is
+
+true_false : true ≡ false → ⊥
+true_false e = cc
+
+-- ---- names of an intent
+
+pub free_at : (names : List (List ℕ)) (i : ℕ) (name : List ℕ) → AreFreeNames names → slice_get names i ≡ Some name → IsFreeName name
+free_at [] i name free at = absurd (cc)
+free_at (n ∷ ns) zero name free at = let same : n ≡ name = cc in subst IsFreeName same free.0
+free_at (n ∷ ns) (suc i) name free at = free_at ns i name free.1 at
+
+or_true : (a b : Bool) → b ≡ true → (a || b) ≡ true
+or_true true b e = refl
+or_true false b e = e
+
+pub among_at : (names : List (List ℕ)) (i : ℕ) (name : List ℕ) → slice_get names i ≡ Some name → IsOneOf name names
+among_at [] i name at = absurd (cc)
+among_at (n ∷ ns) zero name at = let same : n ≡ name = cc in ap (λ b. b || list_any (bytes_eq name) ns) (same_name name n (sym same))
+among_at (n ∷ ns) (suc i) name at = or_true (bytes_eq name n) (list_any (bytes_eq name) ns) (among_at ns i name at)
+
+pub numbered_at : (names : List (List ℕ)) (k i : ℕ) (name : List ℕ) → AreFreeNames names → AreOnce names → slice_get names i ≡ Some name → IsNumbered k names (k + i) name
+numbered_at [] k i name free once at = absurd (cc)
+numbered_at (n ∷ ns) k zero name free once at =
+    let same : n ≡ name = cc in
+    let first : IsNumbered k (n ∷ ns) k n = here k n ns in
+    subst (λ (x : List ℕ). IsNumbered k (n ∷ ns) (k + 0) x) same (subst (λ j. IsNumbered k (n ∷ ns) j n) (omega arith) first)
+numbered_at (n ∷ ns) k (suc i) name free once at =
+    let rest : IsNumbered (k + 1) ns (k + 1 + i) name = numbered_at ns (k + 1) i name free.1 once.1 at in
+    let moved_on : IsNumbered (k + 1) ns (k + suc i) name = subst (λ j. IsNumbered (k + 1) ns j name) (omega arith) rest in
+    later k n ns (k + suc i) name (omega arith) (λ is. true_false (sym (ap (λ (x : List ℕ). list_any (bytes_eq x) ns) is ∙ among_at ns i name at) ∙ once.0)) free.0 moved_on
+
+omega_split : (i n : ℕ) → i < n + 1 → (i ≡ n) ⊎ (i < n)
+omega_split i n below = eq-or-lt_of_le (omega (arith, below))
+
+get_below : (names : List (List ℕ)) (i : ℕ) (name : List ℕ) → slice_get names i ≡ Some name → i < length names
+get_below [] i name at = absurd (cc)
+get_below (n ∷ ns) zero name at = omega arith
+get_below (n ∷ ns) (suc i) name at = let less = get_below ns i name at in omega (arith, less)
+
+-- ---- a removal
+
+removed_still_at : CrashLaws → (ignored : List ℕ → Bool) (intent : Intent) (v : TreeState) (r : List ℕ) (o : Option ℕ) → IsOrderly (RestsOn ignored) v → intent_of (files_of v) ≡ Some intent → r ≢ intent_name → IsOneOf r intent.removals → IsStill ignored v (remove_at r v o)
+removed_still_at laws ignored intent v r None orderly has ne among = still_self ignored v orderly
+removed_still_at laws ignored intent v r (Some n) orderly has ne among =
+    let is = files-dropped v r in
+    let same : recovered_files (files_by v (drop_name v.names r)) ≡ recovered_files (files_of v) = ap recovered_files is ∙ recovered-removed (files_of v) intent r has ne among in
+    let at_intent : files_by v (drop_name v.names r) intent_name ≡ files_of v intent_name = ap (λ (F : Files). F intent_name) is ∙ drop_name-off (files_of v) r intent_name (λ e. ne (sym e)) in
+    still_more laws ignored v (drop_name v.names r) orderly same
+    (λ q k rests at. orderly.each v.names (inl refl) q k (rests_same ignored (files_by v (drop_name v.names r)) (files_of v) at_intent q rests) (dropped_some (bytes_eq q r) (v.names q) k at))
+
+pub removed_still : CrashLaws → (ignored : List ℕ → Bool) (intent : Intent) (v : TreeState) (r : List ℕ) → IsOrderly (RestsOn ignored) v → intent_of (files_of v) ≡ Some intent → r ≢ intent_name → IsOneOf r intent.removals → IsStill ignored v (after_remove r v)
+removed_still laws ignored intent v r = removed_still_at laws ignored intent v r (v.names r)
+
+-- the files as read behind it
+removed_reads_at : (v : TreeState) (r : List ℕ) (o : Option ℕ) → v.names r ≡ o → files_of (remove_at r v o) ≡ drop_name (files_of v) r
+removed_reads_at v r None none = λ i q. at q (name_cases q r) i
+  where
+    at : (q : List ℕ) → (q ≡ r) ⊎ (bytes_eq q r ≡ false) → files_of v q ≡ drop_name (files_of v) r q
+    at q (inl is) = ap (files_of v) is ∙ ap (bytes_at v.files) none ∙ sym (drop_name-at (files_of v) r q is)
+    at q (inr off) = sym (drop_name-off (files_of v) r q (off_name q r off))
+removed_reads_at v r (Some n) some = files-dropped v r
+
+pub removed_reads : (v : TreeState) (r : List ℕ) → files_of (after_remove r v) ≡ drop_name (files_of v) r
+removed_reads v r = removed_reads_at v r (v.names r) refl
+
+dropped_none : (F : Files) (r q : List ℕ) → F q ≡ None → drop_name F r q ≡ None
+dropped_none F r q none = by (bytes_eq q r)
+  where
+    by : (b : Bool) → cond b None (F q) ≡ None
+    by true = refl
+    by false = none
+
+-- behind the removal at its place, one action more is done
+module _ (laws : CrashLaws) (stage now : Staging) (files : Files) (v : TreeState) (r : List ℕ) (acting : IsActing stage files v) (proper : IsProper stage.intent)
+    (at : slice_get stage.intent.removals stage.acted ≡ Some r) (within : stage.acted < length stage.intent.removals) (same : now.intent ≡ stage.intent) (more : now.acted ≡ stage.acted + 1) where
+  free : IsFreeName r
+  free = free_at stage.intent.removals stage.acted r proper.removals at
+
+  pub remove_still : (ignored : List ℕ → Bool) → IsOrderly (RestsOn ignored) v → IsStill ignored v (after_remove r v)
+  remove_still ignored orderly = removed_still laws ignored stage.intent v r orderly acting.stands free.no_intent (among_at stage.intent.removals stage.acted r at)
+
+  done_more : AreDone stage.intent (stage.acted + 1) (drop_name (files_of v) r)
+  done_more = record { removed = removed; moved = λ k from until. absurd (omega (arith, within, from, until)) }
+    where
+      removed : (i : ℕ) (name : List ℕ) → i < stage.acted + 1 → slice_get stage.intent.removals i ≡ Some name → drop_name (files_of v) r name ≡ None
+      removed i name below is = ⊎_elim
+          (λ this. let e : Some name ≡ Some r = sym is ∙ ap (slice_get stage.intent.removals) this ∙ at in drop_name-at (files_of v) r name (cc))
+          (λ before. dropped_none (files_of v) r name (acting.done.removed i name before is))
+          (split i below)
+        where
+          split : (i : ℕ) → i < stage.acted + 1 → (i ≡ stage.acted) ⊎ (i < stage.acted)
+          split i below = omega_split i stage.acted below
+
+  pub remove_acting : IsActing now files (after_remove r v)
+  remove_acting =
+      let reads = removed_reads v r in
+      record {
+        stands = ap intent_of reads ∙ ap intent_at (drop_name-off (files_of v) r intent_name (λ e. free.no_intent (sym e))) ∙ acting.stands ∙ ap Some (sym same);
+        reads = ap recovered_files reads ∙ recovered-removed (files_of v) stage.intent r acting.stands free.no_intent (among_at stage.intent.removals stage.acted r at) ∙ acting.reads;
+        done = subst (λ (F : Files). AreDone now.intent now.acted F) (sym reads)
+            (subst (λ n. AreDone now.intent n (drop_name (files_of v) r)) (sym more) (subst (λ (i : Intent). AreDone i (stage.acted + 1) (drop_name (files_of v) r)) (sym same) done_more));
+      }
+
+-- ---- a waiting file moves
+
+moved_still_at : CrashLaws → (ignored : List ℕ → Bool) (intent : Intent) (v : TreeState) (k : ℕ) (name : List ℕ) (o : Option ℕ) → v.names (stage_name k) ≡ o → IsOrderly (RestsOn ignored) v → intent_of (files_of v) ≡ Some intent → IsProper intent → k < 2 ^ 64 → IsPlaceOf (Some intent) (stage_name k)
+    → IsFreeName name → IsNumbered 1 intent.writes k name → IsNoneOf name intent.removals → IsStill ignored v (move_at (stage_name k) name v o)
+moved_still_at laws ignored intent v k name None is orderly has proper small place free numbered out = still_self ignored v orderly
+moved_still_at laws ignored intent v k name (Some n) there orderly has proper small place free numbered out =
+    let m : NameMap = move_name v.names (stage_name k) name n in
+    let waits : files_of v (stage_name k) ≡ Some (v.files n).bytes = ap (bytes_at v.files) there in
+    let is : files_by v m ≡ moved (files_of v) (stage_name k) name = files-moved v (stage_name k) name n ∙ sym (ap (λ p. move_if (files_of v) (stage_name k) name p) waits) in
+    let same : recovered_files (files_by v m) ≡ recovered_files (files_of v) = ap recovered_files is ∙ recovered-moved (files_of v) intent k name has proper small free numbered out in
+    let at_intent : files_by v m intent_name ≡ files_of v intent_name =
+    ap (λ (F : Files). F intent_name) is ∙ move_if-off (files_of v) (stage_name k) name (files_of v (stage_name k)) intent_name (λ e. stage_name_no_intent k (sym e)) (λ e. free.no_intent (sym e)) in
+    let synced : (v.files n).synced ≡ true = orderly.each v.names (inl refl) (stage_name k) n (inr (inr (subst (λ p. IsPlaceOf p (stage_name k)) (sym has) place))) there in
+    still_more laws ignored v m orderly same
+    (λ q j rests at. ⊎_elim (λ e. subst (λ x. (v.files x).synced ≡ true) e synced)
+    (λ old. orderly.each v.names (inl refl) q j (rests_same ignored (files_by v m) (files_of v) at_intent q rests) old)
+    (moved_some (bytes_eq q name) (bytes_eq q (stage_name k)) (v.names q) n j at))
+
+moved_reads_at : (v : TreeState) (from to : List ℕ) (o : Option ℕ) → v.names from ≡ o → files_of (move_at from to v o) ≡ moved (files_of v) from to
+moved_reads_at v from to None none = sym (ap (λ p. move_if (files_of v) from to p) (ap (bytes_at v.files) none))
+moved_reads_at v from to (Some n) there = files-moved v from to n ∙ sym (ap (λ p. move_if (files_of v) from to p) (ap (bytes_at v.files) there))
+
+pub moved_reads : (v : TreeState) (from to : List ℕ) → files_of (after_rename from to v) ≡ moved (files_of v) from to
+moved_reads v from to = moved_reads_at v from to (v.names from) refl
+
+-- what is absent elsewhere stays so
+moved_none : (F : Files) (a b q : List ℕ) → F q ≡ None → q ≢ b → moved F a b q ≡ None
+moved_none F a b q none ne = by (F a)
+  where
+    by : (o : Option (List ℕ)) → move_if F a b o q ≡ None
+    by None = none
+    by (Some x) = put_name-off (drop_name F a) b x q ne ∙ dropped_none F a q none
+
+moved_away : (F : Files) (a b : List ℕ) → a ≢ b → moved F a b a ≡ None
+moved_away F a b ne = by (F a) refl
+  where
+    by : (o : Option (List ℕ)) → F a ≡ o → move_if F a b o a ≡ None
+    by None none = none
+    by (Some x) some = put_name-off (drop_name F a) b x a ne ∙ drop_name-at F a a refl
+
+module _ (laws : CrashLaws) (stage now : Staging) (files : Files) (v : TreeState) (place name : List ℕ) (j k : ℕ) (acting : IsActing stage files v) (proper : IsProper stage.intent)
+    (place_is : place ≡ stage_name k) (number : k ≡ j + 1) (at : slice_get stage.intent.writes j ≡ Some name) (within : j < length stage.intent.writes)
+    (behind : stage.acted ≡ length stage.intent.removals + j) (same : now.intent ≡ stage.intent) (more : now.acted ≡ stage.acted + 1) where
+  open_name : IsFreeName name
+  open_name = free_at stage.intent.writes j name proper.writes at
+
+  small : k < 2 ^ 64
+  small = let few = proper.few in omega (arith, number, within, few)
+
+  numbered : IsNumbered 1 stage.intent.writes k name
+  numbered = subst (λ i. IsNumbered 1 stage.intent.writes i name) (omega (arith, number)) (numbered_at stage.intent.writes 1 j name proper.writes proper.once at)
+
+  out : IsNoneOf name stage.intent.removals
+  out = proper.apart name (among_at stage.intent.writes j name at)
+
+  is_place : IsPlaceOf (Some stage.intent) (stage_name k)
+  is_place = (k, omega (arith, number), omega (arith, number, within), refl)
+
+  pub move_still : (ignored : List ℕ → Bool) → IsOrderly (RestsOn ignored) v → IsStill ignored v (after_rename place name v)
+  move_still ignored orderly = subst (λ (p : List ℕ). IsStill ignored v (after_rename p name v)) (sym place_is)
+      (moved_still_at laws ignored stage.intent v k name (v.names (stage_name k)) refl orderly acting.stands proper small is_place open_name numbered out)
+
+  done_moved : AreDone stage.intent (stage.acted + 1) (moved (files_of v) (stage_name k) name)
+  done_moved = record { removed = removed; moved = moved_before }
+    where
+      removed : (i : ℕ) (r : List ℕ) → i < stage.acted + 1 → slice_get stage.intent.removals i ≡ Some r → moved (files_of v) (stage_name k) name r ≡ None
+      removed i r below is =
+          moved_none (files_of v) (stage_name k) name r (acting.done.removed i r (removal_below i r is) is)
+          (λ e. true_false (sym (ap (λ (x : List ℕ). list_any (bytes_eq x) stage.intent.removals) (sym e) ∙ among_at stage.intent.removals i r is) ∙ out))
+        where
+          removal_below : (i : ℕ) (r : List ℕ) → slice_get stage.intent.removals i ≡ Some r → i < stage.acted
+          removal_below i r is = let low = get_below stage.intent.removals i r is in omega (arith, low, behind)
+
+      moved_before : (i : ℕ) → 1 ≤ i → length stage.intent.removals + i ≤ stage.acted + 1 → moved (files_of v) (stage_name k) name (stage_name i) ≡ None
+      moved_before i from until = ⊎_elim
+          (λ this. ap (λ n. moved (files_of v) (stage_name k) name (stage_name n)) this ∙ moved_away (files_of v) (stage_name k) name (λ e. open_name.no_place k (sym e)))
+          (λ before. moved_none (files_of v) (stage_name k) name (stage_name i) (acting.done.moved i from (omega (arith, before, behind, number))) (λ e. open_name.no_place i (sym e)))
+          (omega_split i k (omega (arith, until, behind, number)))
+
+  pub move_acting : IsActing now files (after_rename place name v)
+  move_acting = subst (λ (p : List ℕ). IsActing now files (after_rename p name v)) (sym place_is)
+      (let reads = moved_reads v (stage_name k) name in
+      record {
+        stands = ap intent_of reads ∙ ap intent_at (move_if-off (files_of v) (stage_name k) name (files_of v (stage_name k)) intent_name (λ e. stage_name_no_intent k (sym e)) (λ e. open_name.no_intent (sym e))) ∙ acting.stands ∙ ap Some (sym same);
+        reads = ap recovered_files reads ∙ recovered-moved (files_of v) stage.intent k name acting.stands proper small open_name numbered out ∙ acting.reads;
+        done = subst (λ (F : Files). AreDone now.intent now.acted F) (sym reads)
+            (subst (λ n. AreDone now.intent n (moved (files_of v) (stage_name k) name)) (sym more) (subst (λ (i : Intent). AreDone i (stage.acted + 1) (moved (files_of v) (stage_name k) name)) (sym same) done_moved));
+      })
+
+  -- it was moved before
+  pub absent_acting : v.names place ≡ None → IsActing now files v
+  absent_acting none =
+      let gone : moved (files_of v) (stage_name k) name ≡ files_of v = ap (λ o. move_if (files_of v) (stage_name k) name o) (ap (λ (p : List ℕ). files_of v p) (sym place_is) ∙ ap (bytes_at v.files) none) in
+      record {
+        stands = acting.stands ∙ ap Some (sym same);
+        reads = acting.reads;
+        done = subst (λ n. AreDone now.intent n (files_of v)) (sym more) (subst (λ (i : Intent). AreDone i (stage.acted + 1) (files_of v)) (sym same) (subst (λ (F : Files). AreDone stage.intent (stage.acted + 1) F) gone done_moved));
+      }
+
+-- ---- all actions are done
+
+among_index : (names : List (List ℕ)) (q : List ℕ) → IsOneOf q names → (i : ℕ) × (slice_get names i ≡ Some q)
+among_index [] q among = absurd (true_false (sym among))
+among_index (n ∷ ns) q among = ⊎_elim
+    (λ is. (0, ap Some (sym is)))
+    (λ off. let rest = among_index ns q (sym (ap (λ b. b || list_any (bytes_eq q) ns) off) ∙ among) in (suc rest.0, rest.1))
+    (name_cases q n)
+
+module _ (stage : Staging) (files : Files) (v : TreeState) (acting : IsActing stage files v) (behind : length stage.intent.removals ≤ stage.acted) where
+  pub removal_absent : (q : List ℕ) → IsOneOf q stage.intent.removals → files_of v q ≡ None
+  removal_absent q among =
+      let at = among_index stage.intent.removals q among in
+      let low = get_below stage.intent.removals at.0 q at.1 in
+      acting.done.removed at.0 q (omega (arith, low, behind)) at.1
+
+  without_same : without_names stage.intent.removals (files_of v) ≡ files_of v
+  without_same i q = by (list_any (bytes_eq q) stage.intent.removals) refl i
+    where
+      by : (b : Bool) → list_any (bytes_eq q) stage.intent.removals ≡ b → without_names stage.intent.removals (files_of v) q ≡ files_of v q
+      by true is = ap (λ b. cond b None (files_of v q)) is ∙ sym (removal_absent q is)
+      by false is = ap (λ b. cond b None (files_of v q)) is
+
+-- behind the removal of the intent
+pub record IsGone (files : Files) (v : TreeState) : Type 0 where
+  pub reads : files_of v ≡ files
+  pub absent : v.names intent_name ≡ None
+
+module _ (laws : CrashLaws) (stage : Staging) (files : Files) (v : TreeState) (acting : IsActing stage files v) (all : stage.acted ≡ action_count stage.intent) where
+  stands_alone : recovered_files (files_of v) ≡ drop_name (files_of v) intent_name
+  stands_alone = recovered-done (files_of v) stage.intent acting.stands (without_same stage files v acting (omega (arith, all))) (λ i from below. acting.done.moved i from (omega (arith, all, below)))
+
+  drop_still_at : (ignored : List ℕ → Bool) (o : Option ℕ) → IsOrderly (RestsOn ignored) v → IsStill ignored v (remove_at intent_name v o)
+  drop_still_at ignored None orderly = still_self ignored v orderly
+  drop_still_at ignored (Some n) orderly =
+      let m : NameMap = drop_name v.names intent_name in
+      let is = files-dropped v intent_name in
+      still_more laws ignored v m orderly (ap recovered_files is ∙ recovered-dropped (files_of v) ∙ sym stands_alone) (synced m refl is)
+    where
+      no_more_place : (m : NameMap) → files_by v m ≡ drop_name (files_of v) intent_name → (q : List ℕ) → IsPlaceOf (intent_of (files_by v m)) q → ⊥
+      no_more_place m is q place =
+          subst (λ o. IsPlaceOf o q) (ap intent_of is ∙ ap intent_at (drop_name-at (files_of v) intent_name intent_name refl)) place
+
+      synced : (m : NameMap) → m ≡ drop_name v.names intent_name → files_by v m ≡ drop_name (files_of v) intent_name → (q : List ℕ) (k : ℕ) → RestsOn ignored (files_by v m) q → m q ≡ Some k → (v.files k).synced ≡ true
+      synced m m_is is q k (inl intent) at = let none : m q ≡ None = ap (λ (f : NameMap). f q) m_is ∙ drop_name-at v.names intent_name q intent in absurd (cc (none, at))
+      synced m m_is is q k (inr (inl shown)) at = orderly.each v.names (inl refl) q k (inr (inl shown)) (dropped_some (bytes_eq q intent_name) (v.names q) k (sym (ap (λ (f : NameMap). f q) m_is) ∙ at))
+      synced m m_is is q k (inr (inr place)) at = absurd (no_more_place m is q place)
+
+  pub drop_still : (ignored : List ℕ → Bool) → IsOrderly (RestsOn ignored) v → IsStill ignored v (after_remove intent_name v)
+  drop_still ignored = drop_still_at ignored (v.names intent_name)
+
+  absent_at : (o : Option ℕ) → v.names intent_name ≡ o → (remove_at intent_name v o).names intent_name ≡ None
+  absent_at None none = none
+  absent_at (Some n) some = drop_name-at v.names intent_name intent_name refl
+
+  pub drop_gone : IsGone files (after_remove intent_name v)
+  drop_gone = record { reads = removed_reads v intent_name ∙ sym stands_alone ∙ acting.reads; absent = absent_at (v.names intent_name) refl }
+
+-- ---- the names are synced
+
+only_map : (v : TreeState) (m : NameMap) → IsMapOf (after_sync_names v) m → IsMapOf v m
+only_map v m (inl is) = inl is
+only_map v m (inr none) = absurd none
+
+pub sync_still : (ignored : List ℕ → Bool) (v : TreeState) → IsOrderly (RestsOn ignored) v → IsStill ignored v (after_sync_names v)
+sync_still ignored v orderly = record {
+  orderly = record { each = λ m among q n rests is. orderly.each m (only_map v m among) q n rests is };
+  quiet = λ image (m, among, by). (image, (m, only_map v m among, by), refl);
+  reads = refl;
+  made = omega arith;
+}
+
+pub sync_settled : CrashLaws → (ignored : List ℕ → Bool) (v : TreeState) → IsOrderly (RestsOn ignored) v → IsSettled ignored (files_of v) (after_sync_names v)
+sync_settled laws ignored v orderly = settled_by_maps laws ignored (files_of v) (after_sync_names v) (sync_still ignored v orderly).orderly each
+  where
+    each : (m : NameMap) → IsMapOf (after_sync_names v) m → state_of ignored (files_by v m) ≡ state_of ignored (files_of v)
+    each m (inl is) = ap (λ (x : NameMap). state_of ignored (files_by v x)) is
+    each m (inr none) = absurd none
+
+pub sync_acting : (stage : Staging) (files : Files) (v : TreeState) → IsActing stage files v → IsActing stage files (after_sync_names v)
+sync_acting stage files v acting = record { stands = acting.stands; reads = acting.reads; done = acting.done }
+
+pub sync_gone : (files : Files) (v : TreeState) → IsGone files v → IsGone files (after_sync_names v)
+sync_gone files v gone = record { reads = gone.reads; absent = gone.absent }
+
+pub still_on : (ignored : List ℕ → Bool) (a b c : TreeState) → IsStill ignored a b → IsStill ignored b c → IsStill ignored a c
+still_on ignored a b c first then = record { orderly = then.orderly; quiet = quiet_on ignored a b c first.quiet then.quiet; reads = then.reads ∙ first.reads; made = omega (arith, first.made, then.made) }

@@ -1,0 +1,180 @@
+-- Behind a recovery nothing waits.
+use Rattle.std.proofs.Common.{◌≡◌, ◌||◌, ⊎_elim, ℕ, Bool, true, false, cond, List, [], ◌∷◌, ◌++◌, codes, Option, Some, None, IsSome, refl, sym, ap, subst, ◌∙◌}
+use Rattle.std.specs.Prelude.{nat_eq, Contains}
+use Rattle.std.specs.List.{list_any, starts_with}
+use Rattle.std.specs.Str.{bytes_eq}
+use Rattle.std.proofs.lemmas.Bool.{and_parts, and_from, eqb-true, eq-eqb}
+use Rattle.std.proofs.lemmas.List.Elements.{All-weaker}
+use Rattle.std.proofs.lemmas.Map.Views.{Contains-from_any, list_any-from_Contains}
+use Rattle.std.specs.Cmp.{IsEquivalence}
+use Rattle.base_core.specs.Files.{Files, IsFolderOf}
+use Rattle.base_core.specs.Listed.{AreNamesBelow, IsListOf, IsNameBelow}
+use Rattle.base_core.specs.Tree.{TreeState, File, bytes_at, files_of}
+use Rattle.base_core.specs.Calls.{IfObservable, HasNow}
+use Rattle.base_core.specs.Crash.{IsOrderly, Since}
+use Rattle.journal_core.specs.Recovering.{AllStaged, IsEmptied, IsReplayed, IsWithout, unless_staged}
+use Rattle.journal_core.specs.Recovery.{Intent, IsSettled, RestsOn, intent_name, intent_at, intent_of, is_staged, recovered_files, recovered_files_by, after_actions, stage_folder, state_of}
+use Rattle.journal_core.specs.Quiet.{IsStill}
+use Rattle.journal_core.specs.Staged.{IsEmptyStage, unstaged_files}
+use Rattle.journal_core.proofs.Acts.{state_same, still_on}
+use Rattle.journal_core.proofs.AtName.{drop_name-at, name_cases, off_name, other_name, same_name}
+use Rattle.journal_core.proofs.Chain.{by_now, now_both}
+use Rattle.journal_core.proofs.Compose.{settled_quiet}
+use Rattle.journal_core.proofs.History.{History, no_more, none_since, now_map, now_since, on_observable, since_on, since_weaker, observable_at, observable_map}
+use Rattle.journal_core.proofs.Waiting.{still_self}
+
+-- ---- a name below the stage
+
+begins : (folder q : List ℕ) → IsFolderOf folder q → starts_with nat_eq q (folder ++ codes "/") ≡ true
+begins [] q (rest, is) = ap (λ (p : List ℕ). starts_with nat_eq p (codes "/")) is
+begins (b ∷ folder) q (rest, is) =
+    ap (λ (p : List ℕ). starts_with nat_eq p (b ∷ folder ++ codes "/")) is
+    ∙ and_from (nat_eq b b) (starts_with nat_eq (folder ++ 47 ∷ rest) (folder ++ codes "/")) (eq-eqb b b refl) (begins folder (folder ++ 47 ∷ rest) (rest, refl))
+
+is_below : (folder q : List ℕ) → starts_with nat_eq q (folder ++ codes "/") ≡ true → IsFolderOf folder q
+is_below [] [] h = cc
+is_below [] (x ∷ q) h =
+    let same : x ≡ 47 = sym (eqb-true 47 x (and_parts (nat_eq 47 x) true h).0) in
+    (q, ap (λ y. y ∷ q) same)
+is_below (b ∷ folder) [] h = cc
+is_below (b ∷ folder) (x ∷ q) h =
+    let parts = and_parts (nat_eq b x) (starts_with nat_eq q (folder ++ codes "/")) h in
+    let same : x ≡ b = sym (eqb-true b x parts.0) in
+    let more = is_below folder q parts.1 in
+    (more.0, ap (λ y. y ∷ q) same ∙ ap (λ p. b ∷ p) more.1)
+
+pub all_staged : (folder : List ℕ) (names : List (List ℕ)) → folder ≡ stage_folder → AreNamesBelow folder names → AllStaged names
+all_staged folder names is below = All-weaker (IsNameBelow folder) (λ name. is_staged name ≡ true) (λ name at. begins stage_folder name (subst (λ (f : List ℕ). IsFolderOf f name) is at.below)) names below.each
+
+-- ---- what is listed is what waits
+
+true_false : true ≡ false → ⊥
+true_false e = cc
+
+same_bytes : (x y : List ℕ) → bytes_eq x y ≡ true → x ≡ y
+same_bytes x y h = ⊎_elim (λ is. is) (λ off. absurd (true_false (sym h ∙ off))) (name_cases x y)
+
+alike : IsEquivalence bytes_eq
+alike = record {
+  refl = λ x. same_name x x refl;
+  symm = λ x y. ⊎_elim (λ is. same_name x y is ∙ sym (same_name y x (sym is))) (λ off. off ∙ sym (other_name y x (λ e. off_name x y off (sym e)))) (name_cases x y);
+  congr = λ x y z e. ap (λ (w : List ℕ). bytes_eq w z) (same_bytes x y e);
+}
+
+any_of : (q : List ℕ) (names : List (List ℕ)) → Contains names q → list_any (bytes_eq q) names ≡ true
+any_of q names has = list_any-from_Contains alike q names has
+
+module _ (names : List (List ℕ)) (folder : List ℕ) (folder_is : folder ≡ stage_folder) (v : TreeState) (listed : IsListOf folder v names) where
+  listed_cond : (q : List ℕ) → cond (list_any (bytes_eq q) names) None (v.names q) ≡ unless_staged v.names q
+  listed_cond q = by (list_any (bytes_eq q) names) refl (is_staged q) refl (v.names q) refl
+    where
+      by : (a : Bool) → list_any (bytes_eq q) names ≡ a → (b : Bool) → is_staged q ≡ b → (o : Option ℕ) → v.names q ≡ o → cond a None o ≡ cond b None o
+      by true x true y o z = refl
+      by true x false y o z =
+          let at = (listed.each q).0 (Contains-from_any same_bytes q names x) in
+          absurd (true_false (sym (begins stage_folder q (subst (λ (f : List ℕ). IsFolderOf f q) folder_is at.1)) ∙ y))
+      by false x true y None z = refl
+      by false x true y (Some n) z =
+          let has = (listed.each q).1 (subst IsSome (sym z) refl, subst (λ (f : List ℕ). IsFolderOf f q) (sym folder_is) (is_below stage_folder q y)) in
+          absurd (true_false (sym (any_of q names has) ∙ x))
+      by false x false y o z = refl
+
+  pub emptied : (w : TreeState) → IsWithout names v w → IsEmptied v w
+  emptied w without_names = record { map = λ q. without_names.map q ∙ listed_cond q; files = without_names.files }
+
+pub none_listed : (names : List (List ℕ)) (folder : List ℕ) → folder ≡ stage_folder → (v : TreeState) → IsListOf folder v names → IsEmptyStage v.names → names ≡ []
+none_listed [] folder is v listed none = refl
+none_listed (n ∷ ns) folder is v listed none =
+    let at = (listed.each n).0 (Contains-from_any same_bytes n (n ∷ ns) (ap (λ b. b || list_any (bytes_eq n) ns) (same_name n n refl))) in
+    absurd (let gone = none n (begins stage_folder n (subst (λ (f : List ℕ). IsFolderOf f n) is at.1)) in let some = at.0 in cc (gone, some))
+
+-- ---- the calls of the emptying
+
+module _ (names : List (List ℕ)) (folder : List ℕ) (folder_is : folder ≡ stage_folder) (old mid new : History) (same : mid ≡ old) where
+  back : (B : TreeState → Type 0) → IfObservable mid B → IfObservable old B
+  back B told = subst (λ (l : History). IfObservable l B) same told
+
+  pub empty_moments : AreNamesBelow folder names → IfObservable mid (λ v. (ignored : List ℕ → Bool) → IsOrderly (RestsOn ignored) v → v.names intent_name ≡ None → AllStaged names → Since (IsStill ignored v) mid new)
+      → IfObservable old (λ v. (ignored : List ℕ → Bool) → IsOrderly (RestsOn ignored) v → v.names intent_name ≡ None → Since (IsStill ignored v) old new)
+  empty_moments below told = observable_map old _ _ (back _ told) (λ v t ignored orderly none. subst (λ (l : History). Since (IsStill ignored v) l new) same (t ignored orderly none (all_staged folder names folder_is below)))
+
+  both_told : (h : History) (A B C : TreeState → Type 0) → ((v : TreeState) → A v → B v → C v) → IfObservable h A → IfObservable h B → IfObservable h C
+  both_told [] A B C f a b = tt
+  both_told (v ∷ h) A B C f a b = f v a b
+
+  pub empty_emptied : IfObservable old (λ v. IsListOf folder v names) → IfObservable mid (λ v. HasNow new (IsWithout names v)) → IfObservable old (λ v. HasNow new (IsEmptied v))
+  empty_emptied listed told = both_told old _ _ _ (λ v l t. now_map new (IsWithout names v) (IsEmptied v) t (λ w. emptied names folder folder_is v l w)) listed (back _ told)
+
+  pub empty_idle : IfObservable old (λ v. IsListOf folder v names) → (names ≡ [] → new ≡ mid) → IfObservable old (λ v. IsEmptyStage v.names → new ≡ old)
+  empty_idle listed told = observable_map old _ _ listed (λ v l none. told (none_listed names folder folder_is v l none) ∙ same)
+
+-- ---- all of a recovery
+
+intent_gone : (F : Files) (o : Option Intent) → intent_of F ≡ o → intent_of (recovered_files_by o F) ≡ None
+intent_gone F None none = none
+intent_gone F (Some intent) some = ap intent_at (drop_name-at (after_actions intent F) intent_name intent_name refl)
+
+pub state_recovered : (ignored : List ℕ → Bool) (F : Files) → state_of ignored (recovered_files F) ≡ state_of ignored F
+state_recovered ignored F = state_same ignored (recovered_files F) F (ap (λ o. recovered_files_by o (recovered_files F)) (intent_gone F (intent_of F) refl))
+
+read_emptied : (F G : ℕ → File) (same : F ≡ G) (b : Bool) (m n : Option ℕ) → m ≡ cond b None n → bytes_at F m ≡ cond b None (bytes_at G n)
+read_emptied F G same true m n is = ap (bytes_at F) is
+read_emptied F G same false m n is = ap (bytes_at F) is ∙ ap (λ (f : ℕ → File). bytes_at f n) same
+
+pub cleaned_of : (v u w : TreeState) → IsReplayed v u → IsEmptied u w → (files_of w ≡ unstaged_files (files_of v)) × (w.names intent_name ≡ None)
+cleaned_of v u w replayed emptied = (
+  λ i q. (read_emptied w.files u.files emptied.files (is_staged q) (w.names q) (u.names q) (emptied.map q) ∙ ap (λ (F : Files). cond (is_staged q) None (F q)) replayed.reads) i,
+  emptied.map intent_name ∙ replayed.absent,
+)
+
+module _ (old mid new : History) where
+  abbrev Empties : Type 0
+  Empties = IfObservable mid (λ u. (ignored : List ℕ → Bool) → IsOrderly (RestsOn ignored) u → u.names intent_name ≡ None → Since (IsStill ignored u) mid new)
+
+  abbrev Replays : Type 0
+  Replays = IfObservable old (λ v. (ignored : List ℕ → Bool) → IsOrderly (RestsOn ignored) v → Since (IsStill ignored v) old mid)
+
+  pub all_moments : Replays → IfObservable old (λ v. HasNow mid (IsReplayed v)) → Empties → IfObservable old (λ v. (ignored : List ℕ → Bool) → IsOrderly (RestsOn ignored) v → Since (IsStill ignored v) old new)
+  all_moments replays replayed empties = on_observable old _ (λ v rest is ignored orderly.
+      let first = observable_at old v rest is (λ u. (Y : List ℕ → Bool) → IsOrderly (RestsOn Y) u → Since (IsStill Y u) old mid) replays ignored orderly in
+      let here = now_both mid (IsStill ignored v) (IsReplayed v) (now_since (IsStill ignored v) old mid v rest is (still_self ignored v orderly) first) (observable_at old v rest is (λ u. HasNow mid (IsReplayed u)) replayed) in
+      since_on (IsStill ignored v) old mid new first
+      (by_now mid (λ u. IsStill ignored v u × IsReplayed v u) (Since (IsStill ignored v) mid new) here
+      (observable_map mid _ (λ u. IsStill ignored v u × IsReplayed v u → Since (IsStill ignored v) mid new) empties (λ u t q. since_weaker (IsStill ignored u) (IsStill ignored v) mid new (λ w. still_on ignored v u w q.0) (t ignored q.0.orderly q.1.absent)))))
+
+  pub all_files : IfObservable old (λ v. HasNow mid (IsReplayed v)) → IfObservable mid (λ u. HasNow new (IsEmptied u)) → IfObservable old (λ v. HasNow new (λ w. (files_of w ≡ unstaged_files (files_of v)) × (w.names intent_name ≡ None)))
+  all_files replayed emptied = observable_map old _ _ replayed (λ v here.
+      by_now mid (IsReplayed v) (HasNow new (λ w. (files_of w ≡ unstaged_files (files_of v)) × (w.names intent_name ≡ None))) here
+      (observable_map mid _ (λ u. IsReplayed v u → HasNow new (λ w. (files_of w ≡ unstaged_files (files_of v)) × (w.names intent_name ≡ None))) emptied (λ u now replay. now_map new (IsEmptied u) (λ w. (files_of w ≡ unstaged_files (files_of v)) × (w.names intent_name ≡ None)) now (λ w e. cleaned_of v u w replay e))))
+
+  pub all_settled : Replays → IfObservable old (λ v. HasNow mid (IsReplayed v)) → IfObservable old (λ v. (ignored : List ℕ → Bool) → IsOrderly (RestsOn ignored) v → IsSome (intent_of (files_of v)) → HasNow mid (IsSettled ignored (recovered_files (files_of v)))) → Empties
+      → IfObservable old (λ v. (ignored : List ℕ → Bool) → IsOrderly (RestsOn ignored) v → IsSome (intent_of (files_of v)) → HasNow new (IsSettled ignored (files_of v)))
+  all_settled replays replayed settled empties = on_observable old _ (λ v rest is ignored orderly some.
+      let first = observable_at old v rest is (λ u. (Y : List ℕ → Bool) → IsOrderly (RestsOn Y) u → Since (IsStill Y u) old mid) replays ignored orderly in
+      let still = now_both mid (IsStill ignored v) (IsReplayed v) (now_since (IsStill ignored v) old mid v rest is (still_self ignored v orderly) first) (observable_at old v rest is (λ u. HasNow mid (IsReplayed u)) replayed) in
+      let here = now_both mid (IsSettled ignored (recovered_files (files_of v))) (λ u. IsStill ignored v u × IsReplayed v u) (observable_at old v rest is (λ u. (Y : List ℕ → Bool) → IsOrderly (RestsOn Y) u → IsSome (intent_of (files_of u)) → HasNow mid (IsSettled Y (recovered_files (files_of u)))) settled ignored orderly some) still in
+      settled_at mid refl ignored v empties here)
+    where
+      settled_at : (m : History) → m ≡ mid → (ignored : List ℕ → Bool) (v : TreeState) → IfObservable m (λ u. (Y : List ℕ → Bool) → IsOrderly (RestsOn Y) u → u.names intent_name ≡ None → Since (IsStill Y u) mid new)
+          → HasNow m (λ u. IsSettled ignored (recovered_files (files_of v)) u × (IsStill ignored v u × IsReplayed v u)) → HasNow new (IsSettled ignored (files_of v))
+      settled_at [] is ignored v told here = absurd here
+      settled_at (u ∷ m) is ignored v told here =
+          let since = told ignored here.1.0.orderly here.1.1.absent in
+          now_map new (IsStill ignored u) (IsSettled ignored (files_of v)) (now_since (IsStill ignored u) mid new u m (sym is) (still_self ignored u here.1.0.orderly) since)
+          (λ w still image at. settled_quiet ignored (recovered_files (files_of v)) u w here.0 still.quiet image at ∙ state_recovered ignored (files_of v))
+
+  pub all_idle : IfObservable old (λ v. v.names intent_name ≡ None → mid ≡ old) → IfObservable mid (λ u. IsEmptyStage u.names → new ≡ mid) → IfObservable old (λ v. v.names intent_name ≡ None → IsEmptyStage v.names → new ≡ old)
+  all_idle first then = on_observable old _ (λ v rest is none empty.
+      let same = observable_at old v rest is (λ u. u.names intent_name ≡ None → mid ≡ old) first none in
+      observable_at mid v rest (same ∙ is) (λ u. IsEmptyStage u.names → new ≡ mid) then empty ∙ same)
+
+  pub all_proper : (a b c : ℕ) (P : TreeState → Type 0) → IfObservable old (λ v. P v → b ≡ a) → IfObservable old (λ v. HasNow mid (IsReplayed v)) → IfObservable mid (λ u. c ≡ b) → IfObservable old (λ v. P v → c ≡ a)
+  all_proper a b c P first replayed then = on_observable old _ (λ v rest is room.
+      by_now mid (IsReplayed v) (c ≡ b) (observable_at old v rest is (λ u. HasNow mid (IsReplayed u)) replayed) (observable_map mid _ (λ u. IsReplayed v u → c ≡ b) then (λ u t q. t))
+      ∙ observable_at old v rest is (λ u. P u → b ≡ a) first room)
+
+pub empty_none : (old new : History) → new ≡ old → IfObservable old (λ v. (ignored : List ℕ → Bool) → IsOrderly (RestsOn ignored) v → v.names intent_name ≡ None → Since (IsStill ignored v) old new)
+empty_none old new same = on_observable old _ (λ v rest is ignored orderly none. no_more (IsStill ignored v) old old new (none_since (IsStill ignored v) old) same)
+
+pub empty_idle_none : (old new : History) → new ≡ old → IfObservable old (λ v. IsEmptyStage v.names → new ≡ old)
+empty_idle_none old new same = on_observable old _ (λ v rest is none. same)

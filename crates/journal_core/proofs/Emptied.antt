@@ -1,0 +1,173 @@
+-- What waits is taken away where no intent is read.
+use Rattle.std.proofs.Common.{◌≡◌, ◌||◌, ◌≢◌, inl, inr, ⊎_elim, ℕ, zero, suc, ◌+◌, ◌≤◌, Bool, true, false, cond, List, [], ◌∷◌, ◌++◌, take, length, slice_get, Option, None, Some, Result, Ok, Err, refl, sym, ap, subst, ◌∙◌, arith}
+use Rattle.std.specs.List.{list_any}
+use Rattle.std.specs.Str.{bytes_eq}
+use Rattle.std.proofs.lemmas.List.Elements.{All-head, All-tail}
+use Rattle.base_core.specs.Files.{NameMap, drop_name}
+use Rattle.base_core.specs.Tree.{TreeState, bytes_at, files_of, remove_at, after_remove, Anywhere}
+use Rattle.base_core.specs.Calls.{IfObservable, HasNow, Moves, IsCounted}
+use Rattle.base_core.specs.Faults.{Counts}
+use Rattle.base_core.specs.Crash.{IsOrderly, Since}
+use Rattle.journal_core.specs.Recovering.{AllStaged, IsWithout}
+use Rattle.journal_core.specs.Recovery.{RestsOn, intent_name, is_staged}
+use Rattle.journal_core.specs.Quiet.{IsStill}
+use Rattle.journal_core.proofs.Acts.{still_on}
+use Rattle.journal_core.proofs.AtName.{name_cases, off_name, drop_name-at, drop_name-off}
+use Rattle.journal_core.proofs.Chain.{Runs, proper_now, run_begun, run_done, run_failed, step_now}
+use Rattle.journal_core.proofs.History.{History, on_observable, observable_map}
+use Rattle.journal_core.proofs.OneCall.{now_is}
+use Rattle.journal_core.proofs.Simulate.{file_at, Simulates}
+use Rattle.journal_core.proofs.Waiting.{IsOff, off_none, off_rests, off_state, still_by, still_self}
+use Rattle.journal_core.proofs.Images.{CrashLaws}
+
+-- ---- one name
+
+true_false : true ≡ false → ⊥
+true_false e = cc
+
+staged_no_intent : (name : List ℕ) → is_staged name ≡ true → name ≢ intent_name
+staged_no_intent name waiting is = true_false (sym waiting ∙ ap is_staged is)
+
+removed_simulates : (ignored : List ℕ → Bool) (name : List ℕ) (v : TreeState) (o : Option ℕ) → IsOff (files_of v) name → Simulates ignored v (remove_at name v o)
+removed_simulates ignored name v None off m among = (m, among, λ q rests. refl)
+removed_simulates ignored name v (Some n) off m (inl new) =
+    (v.names, inl refl, λ q rests. ap (file_at v.files) (sym (ap (λ (f : NameMap). f q) new ∙ drop_name-off v.names name q (off_rests ignored (files_of v) name off q rests))))
+removed_simulates ignored name v (Some n) off m (inr old) = (m, old, λ q rests. refl)
+
+removed_others : (name : List ℕ) (v : TreeState) (o : Option ℕ) (q : List ℕ) → q ≢ name → files_of (remove_at name v o) q ≡ files_of v q
+removed_others name v None q ne = refl
+removed_others name v (Some n) q ne = ap (bytes_at v.files) (drop_name-off v.names name q ne)
+
+removed_made : (name : List ℕ) (v : TreeState) (o : Option ℕ) → v.made ≤ (remove_at name v o).made
+removed_made name v None = omega arith
+removed_made name v (Some n) = omega arith
+
+pub cleared_still : CrashLaws → (ignored : List ℕ → Bool) (name : List ℕ) (v : TreeState) → is_staged name ≡ true → v.names intent_name ≡ None → IsOrderly (RestsOn ignored) v → IsStill ignored v (after_remove name v)
+cleared_still laws ignored name v waiting none orderly =
+    let off = off_none (files_of v) name waiting (staged_no_intent name waiting) (ap (bytes_at v.files) none) in
+    still_by laws ignored v (after_remove name v) orderly (removed_simulates ignored name v (v.names name) off) (off_state ignored (files_of v) (files_of (after_remove name v)) name off (removed_others name v (v.names name))) (removed_made name v (v.names name))
+
+removed_intent_at : (name : List ℕ) (v : TreeState) (o : Option ℕ) → name ≢ intent_name → v.names intent_name ≡ None → (remove_at name v o).names intent_name ≡ None
+removed_intent_at name v None ne none = none
+removed_intent_at name v (Some n) ne none = drop_name-off v.names name intent_name (λ e. ne (sym e)) ∙ none
+
+-- ---- one name after another
+
+pub without_none : (v : TreeState) → IsWithout [] v v
+without_none v = record { map = λ q. refl; files = refl }
+
+any_more : (names : List (List ℕ)) (name q : List ℕ) → list_any (bytes_eq q) (names ++ name ∷ []) ≡ (list_any (bytes_eq q) names || bytes_eq q name)
+any_more [] name q = or_false (bytes_eq q name)
+  where
+    or_false : (b : Bool) → (b || false) ≡ b
+    or_false true = refl
+    or_false false = refl
+any_more (n ∷ ns) name q = ap (λ b. bytes_eq q n || b) (any_more ns name q) ∙ or_assoc (bytes_eq q n) (list_any (bytes_eq q) ns) (bytes_eq q name)
+  where
+    or_assoc : (a b c : Bool) → (a || (b || c)) ≡ ((a || b) || c)
+    or_assoc true b c = refl
+    or_assoc false b c = refl
+
+removed_map_at : (name : List ℕ) (v : TreeState) (o : Option ℕ) → v.names name ≡ o → (q : List ℕ) → (remove_at name v o).names q ≡ drop_name v.names name q
+removed_map_at name v None none q = ⊎_elim (λ is. ap v.names is ∙ none ∙ sym (drop_name-at v.names name q is)) (λ off. sym (drop_name-off v.names name q (off_name q name off))) (name_cases q name)
+removed_map_at name v (Some n) some q = refl
+
+removed_files : (name : List ℕ) (v : TreeState) (o : Option ℕ) → (remove_at name v o).files ≡ v.files
+removed_files name v None = refl
+removed_files name v (Some n) = refl
+
+cond_or : (a b : Bool) (o : Option ℕ) → cond b None (cond a None o) ≡ cond (a || b) None o
+cond_or true true o = refl
+cond_or true false o = refl
+cond_or false true o = refl
+cond_or false false o = refl
+
+pub without_more : (names more : List (List ℕ)) (name : List ℕ) (start v : TreeState) → more ≡ names ++ name ∷ [] → IsWithout names start v → IsWithout more start (after_remove name v)
+without_more names more name start v is was = record {
+  map = λ q.
+      removed_map_at name v (v.names name) refl q ∙ ap (cond (bytes_eq q name) None) (was.map q) ∙ cond_or (list_any (bytes_eq q) names) (bytes_eq q name) (start.names q)
+      ∙ ap (λ b. cond b None (start.names q)) (sym (ap (λ (l : List (List ℕ)). list_any (bytes_eq q) l) is ∙ any_more names name q));
+  files = removed_files name v (v.names name) ∙ was.files;
+}
+
+pub staged_at : (names : List (List ℕ)) (i : ℕ) (name : List ℕ) → AllStaged names → slice_get names i ≡ Some name → is_staged name ≡ true
+staged_at [] i name all at = absurd (cc)
+staged_at (n ∷ ns) zero name all at = let same : n ≡ name = cc in subst (λ (x : List ℕ). is_staged x ≡ true) same (All-head (λ x. is_staged x ≡ true) n ns all)
+staged_at (n ∷ ns) (suc i) name all at = staged_at ns i name (All-tail (λ x. is_staged x ≡ true) n ns all) at
+
+pub take_more : (names : List (List ℕ)) (i : ℕ) (name : List ℕ) → slice_get names i ≡ Some name → take (i + 1) names ≡ take i names ++ name ∷ []
+take_more [] i name at = absurd (cc)
+take_more (n ∷ ns) zero name at = let same : n ≡ name = cc in ap (λ (x : List ℕ). x ∷ []) same
+take_more (n ∷ ns) (suc i) name at =
+    let next : suc i + 1 ≡ suc (i + 1) = omega arith in
+    ap (λ k. take k (n ∷ ns)) next ∙ ap (λ (l : List (List ℕ)). n ∷ l) (take_more ns i name at)
+
+-- ---- the loop
+
+-- so far nothing has happened to the state, and these names are gone
+pub record Clears (ignored : List ℕ → Bool) (start v : TreeState) : Type 0 where
+  pub still : IsStill ignored start v
+  pub absent : v.names intent_name ≡ None
+
+abbrev pub Cleared : List (List ℕ) → History → History → Type 0
+Cleared all old h = IfObservable old (λ v. (ignored : List ℕ → Bool) → IsOrderly (RestsOn ignored) v → v.names intent_name ≡ None → AllStaged all → Runs (IsStill ignored v) (Clears ignored v) old h)
+
+abbrev pub Gone : List (List ℕ) → History → History → Type 0
+Gone names old h = IfObservable old (λ v. HasNow h (IsWithout names v))
+
+pub cleared_start : (all : List (List ℕ)) (old : History) → Cleared all old old
+cleared_start all old = on_observable old _ (λ v rest is ignored orderly none staged. run_begun (IsStill ignored v) (Clears ignored v) old v rest is (record { still = still_self ignored v orderly; absent = none }))
+
+pub gone_start : (names : List (List ℕ)) (old : History) → names ≡ [] → Gone names old old
+gone_start names old is = on_observable old _ (λ v rest at. now_is old v rest (IsWithout names v) at (subst (λ (l : List (List ℕ)). IsWithout l v v) (sym is) (without_none v)))
+
+module _ (laws : CrashLaws) (all : List (List ℕ)) (old h new : History) (i : ℕ) (name : List ℕ) (at : slice_get all i ≡ Some name) where
+  step : (ignored : List ℕ → Bool) (start v : TreeState) → AllStaged all → Clears ignored start v → Clears ignored start (after_remove name v)
+  step ignored start v staged q =
+      let waiting = staged_at all i name staged at in
+      record {
+        still = still_on ignored start v (after_remove name v) q.still (cleared_still laws ignored name v waiting q.absent q.still.orderly);
+        absent = removed_intent_at name v (v.names name) (staged_no_intent name waiting) q.absent;
+      }
+
+  pub cleared_failed : {T E : Type 0} (e : E) → Cleared all old h → Moves {T = T} Anywhere (after_remove name) (after_remove name) h new (Err e)
+      → IfObservable old (λ v. (ignored : List ℕ → Bool) → IsOrderly (RestsOn ignored) v → v.names intent_name ≡ None → AllStaged all → Since (IsStill ignored v) old new)
+  cleared_failed e cleared moves = observable_map old _ _ cleared (λ v runs ignored orderly none staged. run_failed (IsStill ignored v) (Clears ignored v) old h new e (runs ignored orderly none staged) moves (λ w may q. (step ignored v w staged q).still))
+
+  pub cleared_done : {T E : Type 0} (x : T) → Cleared all old h → Moves {E = E} Anywhere (after_remove name) (after_remove name) h new (Ok x) → Cleared all old new
+  cleared_done x cleared moves = observable_map old _ _ cleared (λ v runs ignored orderly none staged. run_done (IsStill ignored v) (Clears ignored v) (Clears ignored v) old h new x (runs ignored orderly none staged) moves (λ w q. q.still) (λ w q. step ignored v w staged q))
+
+  pub gone_done : {T E : Type 0} (x : T) (names more : List (List ℕ)) → more ≡ names ++ name ∷ [] → Gone names old h → Moves {E = E} Anywhere (after_remove name) (after_remove name) h new (Ok x) → Gone more old new
+  gone_done x names more is gone moves = observable_map old _ _ gone (λ v now. step_now (IsWithout names v) (IsWithout more v) new x h now moves (λ w q. without_more names more name v w is q))
+
+pub cleared_ends : (all : List (List ℕ)) (old h : History) → Cleared all old h → IfObservable old (λ v. (ignored : List ℕ → Bool) → IsOrderly (RestsOn ignored) v → v.names intent_name ≡ None → AllStaged all → Since (IsStill ignored v) old h)
+cleared_ends all old h cleared = observable_map old _ _ cleared (λ v runs ignored orderly none staged. (runs ignored orderly none staged).since)
+
+-- ---- its counts and its end
+
+pub any_told : (old : History) (a b : ℕ) → b ≡ a → IfObservable old (λ v. b ≡ a)
+any_told [] a b is = tt
+any_told (v ∷ old) a b is = is
+
+pub not_empty : (names : List (List ℕ)) (i : ℕ) (name : List ℕ) → slice_get names i ≡ Some name → names ≡ [] → ⊥
+not_empty [] i name at e = absurd (cc)
+not_empty (n ∷ ns) i name at e = absurd (cc)
+
+pub told_misuses : {T E : Type 0} (names : List (List ℕ)) (old h : History) (a : ℕ) (before now : Counts) {r : Result T E} → Gone names old h → IfObservable old (λ v. before.misuses ≡ a) → IsCounted Anywhere h before now r → IfObservable old (λ v. now.misuses ≡ a)
+told_misuses names old h a before now {r} gone so_far counted = by old gone so_far
+  where
+    by : (o : History) → IfObservable o (λ v. HasNow h (IsWithout names v)) → IfObservable o (λ v. before.misuses ≡ a) → IfObservable o (λ v. now.misuses ≡ a)
+    by [] g s = tt
+    by (v ∷ o) g s = proper_now (IsWithout names v) before now h r g counted (λ w q. tt) ∙ s
+
+take_whole : (names : List (List ℕ)) (n : ℕ) → length names ≤ n → take n names ≡ names
+take_whole [] n le = take_nil n
+  where
+    take_nil : (n : ℕ) → let none : List (List ℕ) = [] in take n none ≡ none
+    take_nil zero = refl
+    take_nil (suc n) = refl
+take_whole (x ∷ xs) zero le = absurd (omega (arith, le))
+take_whole (x ∷ xs) (suc n) le = ap (λ (l : List (List ℕ)). x ∷ l) (take_whole xs n (omega (arith, le)))
+
+pub take_all : (names : List (List ℕ)) (n : ℕ) (old h : History) → length names ≤ n → Gone (take n names) old h → Gone names old h
+take_all names n old h le gone = subst (λ (l : List (List ℕ)). Gone l old h) (take_whole names n le) gone

@@ -1,0 +1,293 @@
+-- What each call keeps while an intent comes to stand under its name.
+use Rattle.std.proofs.Common.{◌≡◌, ◌≢◌, ◌⊎◌, ◌||◌, inl, inr, ⊎_elim, ℕ, ◌+◌, Bool, true, false, cond, List, [], ◌∷◌, Option, None, Some, Result, Ok, Err, OnOk, refl, sym, ap, subst, ◌∙◌, arith}
+use Rattle.std.specs.List.{list_any}
+use Rattle.std.specs.Str.{bytes_eq}
+use Rattle.base_core.specs.Files.{Files, NameMap, put_name, drop_name, move_name}
+use Rattle.base_core.specs.Tree.{TreeState, File, IsMapOf, bytes_at, files_by, files_of, with_names, after_rename, move_at, after_sync_names, same_state, Anywhere, CanRename}
+use Rattle.base_core.specs.Calls.{HasNow, Moves}
+use Rattle.base_core.specs.Crash.{IsImage, IsOrderly, Since}
+use Rattle.journal_core.specs.Entering.{IsEntered, IsEntering, IsReady, Leads}
+use Rattle.journal_core.specs.Acting.{acting_stage}
+use Rattle.journal_core.specs.Recovery.{Intent, IsPlaceOf, RestsOn, after_actions, intent_name, intent_at, intent_of, is_staged, read_intent, recovered_files, recovered_files_by, stage_name, state_of, after_moves, without_names}
+use Rattle.journal_core.specs.Quiet.{IsStill}
+use Rattle.journal_core.specs.Staged.{IsActing}
+use Rattle.journal_core.proofs.Agree.{agree-without, agree-unstaged}
+use Rattle.journal_core.proofs.AtName.{name_cases, off_name, put_name-at, put_name-off, drop_name-at, drop_name-off}
+use Rattle.journal_core.proofs.Acts.{files-moved, state_same, still_on, sync_acting, sync_still}
+use Rattle.journal_core.proofs.Chain.{Runs, run_begun, run_failed, run_called, run_done, step_now, step_called}
+use Rattle.journal_core.proofs.History.{History}
+use Rattle.journal_core.proofs.Images.{CrashLaws, old_or_new_by_maps, old_or_new_from_quiet, settled_by_maps}
+use Rattle.journal_core.proofs.OneCall.{now_is}
+use Rattle.journal_intent.specs.FreeNames.{AreFreeNames}
+use Rattle.journal_core.proofs.Replayed.{IsProper, proper_of, move_if-off}
+use Rattle.journal_core.proofs.StageNames.{stage_names_apart, stage_name_no_intent}
+use Rattle.journal_core.proofs.Waiting.{still_self}
+
+-- ---- the state once an intent stands is that of its actions done
+
+unstaged_intent : (names : List (List ℕ)) (k : ℕ) (F : Files) → AreFreeNames names → after_moves k names F intent_name ≡ F intent_name
+unstaged_intent [] k F free = refl
+unstaged_intent (name ∷ names) k F free =
+    unstaged_intent names (k + 1) _ free.1 ∙ move_if-off F (stage_name k) name (F (stage_name k)) intent_name (λ e. stage_name_no_intent k (sym e)) (λ e. free.0.no_intent (sym e))
+
+module _ (F : Files) (intent : Intent) (bytes : List ℕ) (spells : read_intent bytes ≡ Some intent) (proper : IsProper intent) (absent : F intent_name ≡ None) where
+  none_both : (b : Bool) (o : Option (List ℕ)) → o ≡ None → cond b None o ≡ None
+  none_both true o none = refl
+  none_both false o none = none
+
+  gone : after_actions intent F intent_name ≡ None
+  gone = unstaged_intent intent.writes 1 (without_names intent.removals F) proper.writes ∙ none_both (list_any (bytes_eq intent_name) intent.removals) (F intent_name) absent
+
+  has : intent_of (put_name F intent_name bytes) ≡ Some intent
+  has = ap intent_at (put_name-at F intent_name bytes intent_name refl) ∙ spells
+
+  abbrev Off : List ℕ → Type 0
+  Off q = q ≢ intent_name
+
+  agrees : (q : List ℕ) → q ≢ intent_name → after_actions intent (put_name F intent_name bytes) q ≡ after_actions intent F q
+  agrees q ne =
+      agree-unstaged Off intent.writes 1 (without_names intent.removals (put_name F intent_name bytes)) (without_names intent.removals F) (λ j from below. stage_name_no_intent j)
+      (agree-without Off intent.removals (put_name F intent_name bytes) F (λ r off. put_name-off F intent_name bytes r off)) q ne
+
+  pub recovered_published : recovered_files (put_name F intent_name bytes) ≡ after_actions intent F
+  recovered_published i q = (ap (λ o. recovered_files_by o (put_name F intent_name bytes) q) has ∙ by (name_cases q intent_name)) i
+    where
+      by : (q ≡ intent_name) ⊎ (bytes_eq q intent_name ≡ false) → drop_name (after_actions intent (put_name F intent_name bytes)) intent_name q ≡ after_actions intent F q
+      by (inl is) = drop_name-at (after_actions intent (put_name F intent_name bytes)) intent_name q is ∙ sym (ap (after_actions intent F) is ∙ gone)
+      by (inr off) = drop_name-off (after_actions intent (put_name F intent_name bytes)) intent_name q (off_name q intent_name off) ∙ agrees q (off_name q intent_name off)
+
+  pub state_published : (ignored : List ℕ → Bool) → state_of ignored (put_name F intent_name bytes) ≡ state_of ignored (after_actions intent F)
+  state_published ignored = state_same ignored (put_name F intent_name bytes) (after_actions intent F) (recovered_published ∙ sym (ap (λ o. recovered_files_by o (after_actions intent F)) (ap intent_at gone)))
+
+-- ---- the rename
+
+some_same : (a c : ℕ) → Some a ≡ Some c → a ≡ c
+some_same a c e = cc
+
+staged_shown : (a c : Bool) → a ≡ true → (a || c) ≡ false → ⊥
+staged_shown true c t f = cc (f, f)
+staged_shown false c t f = cc (t, t)
+
+module _ (intent : Intent) (base : Files) (made : ℕ) (v : TreeState) (ready : IsReady intent base made v) where
+  abbrev pub entered_map : NameMap
+  entered_map = move_name v.names (stage_name 0) intent_name ready.number
+
+  proper : IsProper intent
+  proper = proper_of intent ready.free ready.few
+
+  none : base intent_name ≡ None
+  none = sym (ready.reads intent_name (λ e. stage_name_no_intent 0 (sym e))) ∙ ap (bytes_at v.files) ready.absent
+
+  files : files_by v entered_map ≡ put_name base intent_name ready.bytes
+  files i q = (ap (λ (F : Files). F q) (files-moved v (stage_name 0) intent_name ready.number) ∙ ap (λ (f : File). move_name (files_of v) (stage_name 0) intent_name f.bytes q) ready.holds
+      ∙ ap (cond (bytes_eq q intent_name) (Some ready.bytes)) (by (name_cases q (stage_name 0)))) i
+    where
+      by : (q ≡ stage_name 0) ⊎ (bytes_eq q (stage_name 0) ≡ false) → drop_name (files_of v) (stage_name 0) q ≡ base q
+      by (inl is) = drop_name-at (files_of v) (stage_name 0) q is ∙ sym (ap base is ∙ ready.none_waits)
+      by (inr off) = drop_name-off (files_of v) (stage_name 0) q (off_name q (stage_name 0) off) ∙ ready.reads q (off_name q (stage_name 0) off)
+
+  stands : intent_of (files_by v entered_map) ≡ Some intent
+  stands = ap intent_of files ∙ has base intent ready.bytes ready.spells proper none
+
+  -- all actions are left
+  acting_at : IsActing (acting_stage intent 0) (after_actions intent base) (with_names v entered_map)
+  acting_at = record {
+    stands = stands;
+    reads = ap recovered_files files ∙ recovered_published base intent ready.bytes ready.spells proper none;
+    done = record { removed = λ i name below is. absurd (omega (arith, below)); moved = λ k from until. absurd (omega (arith, from, until)) };
+  }
+
+  leads_at : Leads made (with_names v entered_map)
+  leads_at = (ready.number, put_name-at (drop_name v.names (stage_name 0)) intent_name ready.number intent_name refl, ready.later)
+
+  module _ (ignored : List ℕ → Bool) (orderly : IsOrderly (RestsOn ignored) v) where
+    state_new : state_of ignored (files_by v entered_map) ≡ state_of ignored (after_actions intent base)
+    state_new = ap (state_of ignored) files ∙ state_published base intent ready.bytes ready.spells proper none ignored
+
+    synced_number : (v.files ready.number).synced ≡ true
+    synced_number = ap (λ (f : File). f.synced) ready.holds
+
+    off_intent : (q : List ℕ) (n : ℕ) → q ≢ intent_name → q ≢ stage_name 0 → entered_map q ≡ Some n → v.names q ≡ Some n
+    off_intent q n ni n0 is = sym (put_name-off (drop_name v.names (stage_name 0)) intent_name ready.number q ni ∙ drop_name-off v.names (stage_name 0) q n0) ∙ is
+
+    at_intent : (q : List ℕ) (n : ℕ) → q ≡ intent_name → entered_map q ≡ Some n → (v.files n).synced ≡ true
+    at_intent q n at is =
+        let e : ready.number ≡ n = some_same ready.number n (sym (put_name-at (drop_name v.names (stage_name 0)) intent_name ready.number q at) ∙ is) in
+        subst (λ k. (v.files k).synced ≡ true) e synced_number
+
+    place_synced : (q : List ℕ) (n : ℕ) → IsPlaceOf (Some intent) q → entered_map q ≡ Some n → (v.files n).synced ≡ true
+    place_synced q n (k, from, within, is) at =
+        let few = ready.few in
+        ready.synced k n from within (sym (ap v.names is) ∙ off_intent q n (λ e. stage_name_no_intent k (sym is ∙ e))
+        (λ e. absurd (let same = stage_names_apart k 0 (omega (arith, within, few)) (omega arith) (sym is ∙ e) in omega (arith, from, same))) at)
+
+    shown_synced : (q : List ℕ) (n : ℕ) → (is_staged q || ignored q) ≡ false → (bytes_eq q intent_name ≡ false) → entered_map q ≡ Some n → (v.files n).synced ≡ true
+    shown_synced q n shown off is =
+        orderly.each v.names (inl refl) q n (inr (inl shown)) (off_intent q n (off_name q intent_name off) (λ e. staged_shown (is_staged q) (ignored q) (ap is_staged e) shown) is)
+
+    synced : (q : List ℕ) (n : ℕ) → RestsOn ignored (files_by v entered_map) q → entered_map q ≡ Some n → (v.files n).synced ≡ true
+    synced q n (inl at) is = at_intent q n at is
+    synced q n (inr (inl shown)) is = ⊎_elim (λ at. at_intent q n at is) (λ off. shown_synced q n shown off is) (name_cases q intent_name)
+    synced q n (inr (inr place)) is = place_synced q n (subst (λ o. IsPlaceOf o q) stands place) is
+
+    orderly_at : IsOrderly (RestsOn ignored) (with_names v entered_map)
+    orderly_at = record { each = each }
+      where
+        each : (x : NameMap) → IsMapOf (with_names v entered_map) x → (q : List ℕ) (n : ℕ) → RestsOn ignored (files_by v x) q → x q ≡ Some n → (v.files n).synced ≡ true
+        each x (inl new) q n rests at = synced q n (subst (λ (y : NameMap). RestsOn ignored (files_by v y) q) new rests) (sym (ap (λ (y : NameMap). y q) new) ∙ at)
+        each x (inr old) q n rests at = orderly.each x old q n rests at
+
+-- ---- the calls
+
+module _ (laws : CrashLaws) (ignored : List ℕ → Bool) (intent : Intent) (base : Files) (made : ℕ) (start : TreeState) where
+  abbrev G : Files
+  G = after_actions intent base
+
+  abbrev P : TreeState → Type 0
+  P = IsEntering ignored G made start
+
+  pub record Before (w : TreeState) : Type 0 where
+    ready : IsReady intent base made w
+    still : IsStill ignored start w
+
+  pub before_moment : (w : TreeState) → Before w → P w
+  before_moment w b = record { orderly = b.still.orderly; old_or_new = old_or_new_from_quiet ignored start G w b.still.quiet; unpublished = λ _. b.still.quiet; made = b.still.made }
+
+  before_synced : (w : TreeState) → Before w → Before (after_sync_names w)
+  before_synced w b = record { ready = ready_synced; still = still_on ignored start w (after_sync_names w) b.still (sync_still ignored w b.still.orderly) }
+    where
+      ready_synced : IsReady intent base made (after_sync_names w)
+      ready_synced = record {
+        absent = b.ready.absent;
+        none_waits = b.ready.none_waits;
+        reads = b.ready.reads;
+        bytes = b.ready.bytes;
+        spells = b.ready.spells;
+        number = b.ready.number;
+        later = b.ready.later;
+        there = b.ready.there;
+        holds = b.ready.holds;
+        synced = b.ready.synced;
+        few = b.ready.few;
+        free = b.ready.free;
+      }
+
+  pub record Behind (w : TreeState) : Type 0 where
+    orderly : IsOrderly (RestsOn ignored) w
+    moment : P w
+    state : state_of ignored (files_of w) ≡ state_of ignored G
+    leads : Leads made w
+
+  behind_at : (v : TreeState) (b : Before v) → Behind (with_names v (entered_map intent base made v b.ready))
+  behind_at v b =
+      let orderly = orderly_at intent base made v b.ready ignored b.still.orderly in
+      let new_state = state_new intent base made v b.ready ignored b.still.orderly in
+      let leads = leads_at intent base made v b.ready in
+      record {
+        orderly = orderly;
+        moment = record {
+          orderly = orderly;
+          old_or_new = old_or_new_by_maps laws ignored start G (with_names v (entered_map intent base made v b.ready)) orderly (states new_state);
+          unpublished = λ unled. absurd (unled leads);
+          made = b.still.made;
+        };
+        state = new_state;
+        leads = leads;
+      }
+    where
+      states : state_of ignored (files_by v (entered_map intent base made v b.ready)) ≡ state_of ignored G → (x : NameMap) → IsMapOf (with_names v (entered_map intent base made v b.ready)) x
+          → ((was : Files) × IsImage start was × (state_of ignored (files_by v x) ≡ state_of ignored was)) ⊎ (state_of ignored (files_by v x) ≡ state_of ignored G)
+      states is x (inl new) = inr (ap (λ (y : NameMap). state_of ignored (files_by v y)) new ∙ is)
+      states is x (inr old) = inl (b.still.quiet (files_by v x) (laws.left v x old))
+
+  behind_renamed_at : (v : TreeState) → Before v → Behind (after_rename (stage_name 0) intent_name v)
+  behind_renamed_at v b = subst (λ o. Behind (move_at (stage_name 0) intent_name v o)) (sym b.ready.there) (behind_at v b)
+
+  behind_renamed : (place name : List ℕ) → place ≡ stage_name 0 → name ≡ intent_name → (v : TreeState) → Before v → Behind (after_rename place name v)
+  behind_renamed place name place_is name_is v b =
+      subst (λ (p : List ℕ). Behind (after_rename p name v)) (sym place_is) (subst (λ (n : List ℕ). Behind (after_rename (stage_name 0) n v)) (sym name_is) (behind_renamed_at v b))
+
+  only_map : (v : TreeState) (m : NameMap) → IsMapOf (after_sync_names v) m → IsMapOf v m
+  only_map v m (inl is) = inl is
+  only_map v m (inr none) = absurd none
+
+  behind_synced : (w : TreeState) → Behind w → Behind (after_sync_names w)
+  behind_synced w b =
+      let orderly : IsOrderly (RestsOn ignored) (after_sync_names w) = record { each = λ m among q n rests is. b.orderly.each m (only_map w m among) q n rests is } in
+      record {
+        orderly = orderly;
+        moment = record {
+          orderly = orderly;
+          old_or_new = λ image (m, among, by). b.moment.old_or_new image (m, only_map w m among, by);
+          unpublished = λ unled. absurd (unled b.leads);
+          made = b.moment.made;
+        };
+        state = b.state;
+        leads = b.leads;
+      }
+
+  entered : (w : TreeState) → Behind w → IsEntered ignored G made (after_sync_names w)
+  entered w b = record { settled = settled_by_maps laws ignored G (after_sync_names w) (behind_synced w b).orderly only; leads = b.leads }
+    where
+      only : (m : NameMap) → IsMapOf (after_sync_names w) m → state_of ignored (files_by w m) ≡ state_of ignored G
+      only m (inl is) = ap (λ (y : NameMap). state_of ignored (files_by w y)) is ∙ b.state
+      only m (inr none) = absurd none
+
+  module _ (old rest : History) (is : old ≡ start ∷ rest) (orderly : IsOrderly (RestsOn ignored) start) (ready : IsReady intent base made start) where
+    pub begun : Runs P Before old old
+    begun = run_begun P Before old start rest is (record { ready = ready; still = still_self ignored start orderly })
+
+    module _ {T E : Type 0} (h new : History) where
+      pub first_failed : (e : E) → Moves {T = T} Anywhere after_sync_names same_state old new (Err e) → Since P old new
+      first_failed e moves = run_failed P Before old old new e begun moves (λ v may b. before_moment v b)
+
+      pub first_done : (x : T) → Moves {E = E} Anywhere after_sync_names same_state old new (Ok x) → Runs P Before old new
+      first_done x moves = run_done P Before Before old old new x begun moves before_moment before_synced
+
+    module _ {T E : Type 0} (place name : List ℕ) (place_is : place ≡ stage_name 0) (name_is : name ≡ intent_name) (h new : History) where
+      pub rename_failed : (e : E) → Runs P Before old h → Moves {T = T} (CanRename place name) (after_rename place name) (after_rename place name) h new (Err e) → Since P old new
+      rename_failed e runs moves = run_failed P Before old h new e runs moves (λ v may b. (behind_renamed place name place_is name_is v b).moment)
+
+      pub rename_done : (x : T) → Runs P Before old h → Moves {E = E} (CanRename place name) (after_rename place name) (after_rename place name) h new (Ok x) → Runs P Behind old new
+      rename_done x runs moves = run_done P Before Behind old h new x runs moves (λ v b. b.moment) (behind_renamed place name place_is name_is)
+
+    module _ {T E : Type 0} (h new : History) where
+      pub last_called : (r : Result T E) → Runs P Behind old h → Moves Anywhere after_sync_names same_state h new r → Since P old new
+      last_called r runs moves = run_called P Behind old h new r runs moves (λ v b. (behind_synced v b).moment) (λ v may b. b.moment)
+
+      pub last_entered : (r : Result T E) → Runs P Behind old h → Moves Anywhere after_sync_names same_state h new r → OnOk r (HasNow new (IsEntered ignored G made))
+      last_entered r runs moves = step_called Behind (IsEntered ignored G made) new r h runs.now moves entered
+
+-- what is read behind them
+module _ (intent : Intent) (base : Files) (made : ℕ) (start : TreeState) (ready : IsReady intent base made start) where
+  ready_synced : (v : TreeState) → IsReady intent base made v → IsReady intent base made (after_sync_names v)
+  ready_synced v b = record {
+    absent = b.absent;
+    none_waits = b.none_waits;
+    reads = b.reads;
+    bytes = b.bytes;
+    spells = b.spells;
+    number = b.number;
+    later = b.later;
+    there = b.there;
+    holds = b.holds;
+    synced = b.synced;
+    few = b.few;
+    free = b.free;
+  }
+
+  abbrev After : TreeState → Type 0
+  After = IsActing (acting_stage intent 0) (after_actions intent base)
+
+  acting_renamed : (place name : List ℕ) → place ≡ stage_name 0 → name ≡ intent_name → (v : TreeState) → IsReady intent base made v → After (after_rename place name v)
+  acting_renamed place name place_is name_is v b =
+      subst (λ (p : List ℕ). After (after_rename p name v)) (sym place_is) (subst (λ (n : List ℕ). After (after_rename (stage_name 0) n v)) (sym name_is)
+      (subst (λ o. After (move_at (stage_name 0) intent_name v o)) (sym b.there) (acting_at intent base made v b)))
+
+  pub last_acting : {T E : Type 0} (place name : List ℕ) → place ≡ stage_name 0 → name ≡ intent_name → (old rest h k new : History) → old ≡ start ∷ rest → (x y : T) (r : Result T E)
+      → Moves {E = E} Anywhere after_sync_names same_state old h (Ok x) → Moves {E = E} (CanRename place name) (after_rename place name) (after_rename place name) h k (Ok y) → Moves Anywhere after_sync_names same_state k new r
+      → OnOk r (HasNow new After)
+  last_acting place name place_is name_is old rest h k new is x y r first second last =
+      let a = step_now (IsReady intent base made) (IsReady intent base made) h x old (now_is old start rest (IsReady intent base made) is ready) first ready_synced in
+      let b = step_now (IsReady intent base made) After k y h a second (acting_renamed place name place_is name_is) in
+      step_called After After new r k b last (λ v q. sync_acting (acting_stage intent 0) (after_actions intent base) v q)

@@ -1,0 +1,68 @@
+-- The end of a stage, call by call.
+use Rattle.std.proofs.Common.{◌≡◌, ℕ, Bool, List, ◌∷◌, None, Result, Ok, Err, OnOk, sym, subst}
+use Rattle.base_core.specs.Files.{Files}
+use Rattle.base_core.specs.Tree.{TreeState, files_of, after_remove, after_sync_names, same_state, Anywhere}
+use Rattle.base_core.specs.Calls.{HasNow, Moves}
+use Rattle.base_core.specs.Crash.{IsOrderly, Since}
+use Rattle.journal_core.specs.Recovery.{IsSettled, RestsOn, intent_name}
+use Rattle.journal_core.specs.Quiet.{IsStill}
+use Rattle.journal_core.specs.Staged.{Staging, IsActing, action_count}
+use Rattle.journal_core.proofs.History.{History}
+use Rattle.journal_core.proofs.OneCall.{now_is}
+use Rattle.journal_core.proofs.Chain.{Runs, run_begun, run_failed, run_called, run_done, step_now, step_called}
+use Rattle.journal_core.proofs.Waiting.{still_self}
+use Rattle.journal_core.proofs.Acts.{IsGone, drop_gone, drop_still, still_on, sync_acting, sync_settled, sync_still}
+use Rattle.journal_core.proofs.Images.{CrashLaws}
+
+module _ (laws : CrashLaws) (stage : Staging) (all : stage.acted ≡ action_count stage.intent) (name : List ℕ) (name_is : name ≡ intent_name) (ignored : List ℕ → Bool) (files : Files) (start : TreeState) (old rest : History) (is : old ≡ start ∷ rest) (orderly : IsOrderly (RestsOn ignored) start) (acting : IsActing stage files start) where
+  abbrev P : TreeState → Type 0
+  P = IsStill ignored start
+
+  pub record Acting (v : TreeState) : Type 0 where
+    still : P v
+    acts : IsActing stage files v
+
+  pub record Gone (v : TreeState) : Type 0 where
+    still : P v
+    gone : IsGone files v
+
+  synced : (v : TreeState) → Acting v → Acting (after_sync_names v)
+  synced v q = record { still = still_on ignored start v (after_sync_names v) q.still (sync_still ignored v q.still.orderly); acts = sync_acting stage files v q.acts }
+
+  dropped : (v : TreeState) → Acting v → Gone (after_remove name v)
+  dropped v q = subst (λ (n : List ℕ). Gone (after_remove n v)) (sym name_is) (record {
+    still = still_on ignored start v (after_remove intent_name v) q.still (drop_still laws stage files v q.acts all ignored q.still.orderly);
+    gone = drop_gone laws stage files v q.acts all;
+  })
+
+  pub begun : Runs P Acting old old
+  begun = run_begun P Acting old start rest is (record { still = still_self ignored start orderly; acts = acting })
+
+  module _ {T E : Type 0} (h new : History) where
+    pub sync_failed : (e : E) → Moves {T = T} Anywhere after_sync_names same_state old new (Err e) → Since P old new
+    sync_failed e moves = run_failed P Acting old old new e begun moves (λ v may q. q.still)
+
+    pub sync_done : (x : T) → Moves {E = E} Anywhere after_sync_names same_state old new (Ok x) → Runs P Acting old new
+    sync_done x moves = run_done P Acting Acting old old new x begun moves (λ v q. q.still) synced
+
+    pub drop_failed : (e : E) → Runs P Acting old h → Moves {T = T} Anywhere (after_remove name) (after_remove name) h new (Err e) → Since P old new
+    drop_failed e runs moves = run_failed P Acting old h new e runs moves (λ v may q. (dropped v q).still)
+
+    pub drop_done : (x : T) → Runs P Acting old h → Moves {E = E} Anywhere (after_remove name) (after_remove name) h new (Ok x) → Runs P Gone old new
+    drop_done x runs moves = run_done P Acting Gone old h new x runs moves (λ v q. q.still) dropped
+
+    pub last_called : (r : Result T E) → Runs P Gone old h → Moves Anywhere after_sync_names same_state h new r → Since P old new
+    last_called r runs moves = run_called P Gone old h new r runs moves (λ v q. still_on ignored start v (after_sync_names v) q.still (sync_still ignored v q.still.orderly)) (λ v may q. q.still)
+
+    pub last_settled : (r : Result T E) → Runs P Gone old h → Moves Anywhere after_sync_names same_state h new r → OnOk r (HasNow new (IsSettled ignored files))
+    last_settled r runs moves = step_called Gone (IsSettled ignored files) new r h runs.now moves (λ v q. subst (λ (F : Files). IsSettled ignored F (after_sync_names v)) q.gone.reads (sync_settled laws ignored v q.still.orderly))
+
+-- what is read, whatever the order
+module _ (laws : CrashLaws) (stage : Staging) (all : stage.acted ≡ action_count stage.intent) (name : List ℕ) (name_is : name ≡ intent_name) (files : Files) (start : TreeState) (old rest : History) (is : old ≡ start ∷ rest) (acting : IsActing stage files start) where
+  module _ {T E : Type 0} (h k new : History) where
+    pub last_files : (x y : T) (r : Result T E) → Moves {E = E} Anywhere after_sync_names same_state old h (Ok x) → Moves {E = E} Anywhere (after_remove name) (after_remove name) h k (Ok y) → Moves Anywhere after_sync_names same_state k new r
+        → OnOk r (HasNow new (λ w. (files_of w ≡ files) × (w.names intent_name ≡ None)))
+    last_files x y r first second last =
+        let a = step_now (IsActing stage files) (IsActing stage files) h x old (now_is old start rest (IsActing stage files) is acting) first (sync_acting stage files) in
+        let b = step_now (IsActing stage files) (IsGone files) k y h a second (λ v q. subst (λ (n : List ℕ). IsGone files (after_remove n v)) (sym name_is) (drop_gone laws stage files v q all)) in
+        step_called (IsGone files) (λ w. (files_of w ≡ files) × (w.names intent_name ≡ None)) new r k b last (λ v q. (q.reads, q.absent))

@@ -1,0 +1,97 @@
+-- The intent that is found is done, and nothing is where none is found.
+use Rattle.std.proofs.Common.{◌≡◌, ℕ, Bool, List, [], ◌∷◌, Option, Some, None, IsSome, Result, Ok, Err, OnOk, refl, sym, ap, subst, ◌∙◌}
+use Rattle.base_core.specs.declared.cause.Cause.{Cause}
+use Rattle.base_core.specs.Tree.{TreeState, File, bytes_at, files_of}
+use Rattle.std.specs.Prelude.{Vec}
+use Rattle.std.specs.declared.alloc.Global.{Global}
+use Rattle.base_core.specs.Read.{bytes_in}
+use Rattle.base_core.specs.Calls.{IfObservable, HasNow}
+use Rattle.base_core.specs.Crash.{IsOrderly, Since}
+use Rattle.adb_schema.specs.Soundness.{first_fault}
+use Rattle.adb_tables.specs.declared.tables.Which.TheVariants.{Intent as IntentTable}
+use Rattle.journal_core.specs.Recovering.{IsReplayed}
+use Rattle.journal_core.specs.Recovery.{IsSettled, RestsOn, intent_name, intent_at, intent_of, recovered_files, recovered_files_by}
+use Rattle.journal_core.specs.Quiet.{IsStill}
+use Rattle.journal_core.specs.Staged.{HasRoomToReplay, IsIntentFault}
+use Rattle.journal_core.proofs.History.{History, no_more, none_since, on_observable, observable_map}
+use Rattle.journal_core.proofs.OneCall.{now_is}
+
+-- no call was made
+pub still_none : (old new : History) → new ≡ old → IfObservable old (λ v. (ignored : List ℕ → Bool) → IsOrderly (RestsOn ignored) v → Since (IsStill ignored v) old new)
+still_none old new same = on_observable old _ (λ v rest is ignored orderly. no_more (IsStill ignored v) old old new (none_since (IsStill ignored v) old) same)
+
+both_told : (h : History) (A B C : TreeState → Type 0) → ((v : TreeState) → A v → B v → C v) → IfObservable h A → IfObservable h B → IfObservable h C
+both_told [] A B C f a b = tt
+both_told (v ∷ h) A B C f a b = f v a b
+
+module _ (old mid new : History) (same : mid ≡ old) (name file : List ℕ) (name_is : name ≡ intent_name) (found : IfObservable old (λ v. Some file ≡ files_of v name)) where
+  abbrev There : TreeState → Type 0
+  There v = files_of v intent_name ≡ Some file
+
+  pub there : IfObservable old There
+  there = observable_map old _ There found (λ v is. ap (files_of v) (sym name_is) ∙ sym is)
+
+  back : (B : TreeState → Type 0) → IfObservable mid B → IfObservable old B
+  back B told = subst (λ (l : History). IfObservable l B) same told
+
+  pub found_moments : IfObservable mid (λ v. (ignored : List ℕ → Bool) → IsOrderly (RestsOn ignored) v → There v → Since (IsStill ignored v) mid new) → IfObservable old (λ v. (ignored : List ℕ → Bool) → IsOrderly (RestsOn ignored) v → Since (IsStill ignored v) old new)
+  found_moments told =
+      both_told old (λ v. (ignored : List ℕ → Bool) → IsOrderly (RestsOn ignored) v → There v → Since (IsStill ignored v) mid new) There _
+      (λ v t at ignored orderly. subst (λ (l : History). Since (IsStill ignored v) l new) same (t ignored orderly at)) (back _ told) there
+
+  pub found_replayed : {T E : Type 0} (r : Result T E) → IfObservable mid (λ v. There v → OnOk r (HasNow new (IsReplayed v))) → IfObservable old (λ v. OnOk r (HasNow new (IsReplayed v)))
+  found_replayed r told = both_told old (λ v. There v → OnOk r (HasNow new (IsReplayed v))) There _ (λ v t at. t at) (back _ told) there
+
+  pub found_settled : {T E : Type 0} (r : Result T E) → IfObservable mid (λ v. (ignored : List ℕ → Bool) → IsOrderly (RestsOn ignored) v → There v → OnOk r (HasNow new (IsSettled ignored (recovered_files (files_of v)))))
+      → IfObservable old (λ v. (ignored : List ℕ → Bool) → IsOrderly (RestsOn ignored) v → IsSome (intent_of (files_of v)) → OnOk r (HasNow new (IsSettled ignored (recovered_files (files_of v)))))
+  found_settled r told = both_told old (λ v. (ignored : List ℕ → Bool) → IsOrderly (RestsOn ignored) v → There v → OnOk r (HasNow new (IsSettled ignored (recovered_files (files_of v))))) There _ (λ v t at ignored orderly some. t ignored orderly at) (back _ told) there
+
+  pub found_proper : (a b c : ℕ) → IfObservable old (λ v. b ≡ a) → IfObservable mid (λ v. There v → HasRoomToReplay (files_of v) → c ≡ b) → IfObservable old (λ v. HasRoomToReplay (files_of v) → c ≡ a)
+  found_proper a b c first told = both_told old (λ v. (b ≡ a) × (There v → HasRoomToReplay (files_of v) → c ≡ b)) There _ (λ v t at room. t.1 at room ∙ t.0)
+      (both_told old (λ v. b ≡ a) (λ v. There v → HasRoomToReplay (files_of v) → c ≡ b) _ (λ v x y. (x, y)) first (back _ told)) there
+
+  pub found_idle : (B : Type 0) → IfObservable old (λ v. v.names intent_name ≡ None → B)
+  found_idle B = observable_map old There _ there (λ v at none. absurd (let here : files_of v intent_name ≡ None = ap (bytes_at v.files) none in cc (here, at)))
+
+  pub found_bad : (cause : Cause) → (new ≡ mid) × (first_fault IntentTable file ≡ Some cause) → (new ≡ old) × IfObservable old (λ v. IsIntentFault (files_of v) cause)
+  found_bad cause bad = (bad.0 ∙ same, observable_map old There _ there (λ v at. (file, at, bad.1)))
+
+  pub found_good : first_fault IntentTable file ≡ None → IfObservable old (λ v. (cause : Cause) → IsIntentFault (files_of v) cause → ⊥)
+  found_good good = observable_map old There _ there (λ v at cause fault.
+      let equal : fault.0 ≡ file = cc (at, fault.1) in
+      absurd (let again : first_fault IntentTable file ≡ Some cause = sym (ap (first_fault IntentTable) equal) ∙ fault.2 in cc (again, good)))
+
+module _ (old mid new : History) (same : mid ≡ old) (name file : List ℕ) (name_is : name ≡ intent_name) (found : IfObservable old (λ v. Some file ≡ files_of v name)) where
+  pub found_good_called : {T E : Type 0} (r : Result T E) → OnOk r (first_fault IntentTable file ≡ None) → IfObservable old (λ v. OnOk r ((cause : Cause) → IsIntentFault (files_of v) cause → ⊥))
+  found_good_called (Ok x) good = found_good old mid new same name file name_is found good
+  found_good_called (Err e) good = observable_map old (λ v. Some file ≡ files_of v name) _ found (λ v at. tt)
+
+-- none is found
+module _ (old new : History) (same : new ≡ old) (name : List ℕ) (name_is : name ≡ intent_name) (found : IfObservable old (λ v. None ≡ files_of v name)) where
+  abbrev Absent : TreeState → Type 0
+  Absent v = files_of v intent_name ≡ None
+
+  absent : IfObservable old Absent
+  absent = observable_map old _ Absent found (λ v is. ap (files_of v) (sym name_is) ∙ sym is)
+
+  names_none : (files : ℕ → File) (n : Option ℕ) → bytes_at files n ≡ None → n ≡ None
+  names_none files None e = refl
+  names_none files (Some n) e = absurd (cc)
+
+  pub absent_replayed : IfObservable old (λ v. HasNow new (IsReplayed v))
+  absent_replayed = on_observable old _ (λ v rest is.
+      let none = subst (λ (l : History). IfObservable l Absent) is absent in
+      now_is new v rest (IsReplayed v) (same ∙ is) (record { reads = sym (ap (λ o. recovered_files_by o (files_of v)) (ap intent_at none)); absent = names_none v.files (v.names intent_name) none }))
+
+  pub absent_settled : IfObservable old (λ v. (ignored : List ℕ → Bool) → IsOrderly (RestsOn ignored) v → IsSome (intent_of (files_of v)) → HasNow new (IsSettled ignored (recovered_files (files_of v))))
+  absent_settled = observable_map old Absent _ absent (λ v none ignored orderly some. absurd (let gone : intent_of (files_of v) ≡ None = ap intent_at none in cc (gone, some)))
+
+  pub absent_good : IfObservable old (λ v. (cause : Cause) → IsIntentFault (files_of v) cause → ⊥)
+  absent_good = observable_map old Absent _ absent (λ v none cause fault. absurd (let there = fault.1 in cc (none, there)))
+
+-- as the reading tells it
+pub some_found : (old : History) (name : List ℕ) (o : Option (Vec ℕ Global)) (file : Vec ℕ Global) → IfObservable old (λ v. bytes_in o ≡ files_of v name) → o ≡ Some file → IfObservable old (λ v. Some file.items ≡ files_of v name)
+some_found old name o file told is = subst (λ (x : Option (Vec ℕ Global)). IfObservable old (λ v. bytes_in x ≡ files_of v name)) is told
+
+pub none_found : (old : History) (name : List ℕ) (o : Option (Vec ℕ Global)) → IfObservable old (λ v. bytes_in o ≡ files_of v name) → o ≡ None → IfObservable old (λ v. None ≡ files_of v name)
+none_found old name o told is = subst (λ (x : Option (Vec ℕ Global)). IfObservable old (λ v. bytes_in x ≡ files_of v name)) is told

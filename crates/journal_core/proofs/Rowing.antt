@@ -1,0 +1,97 @@
+-- The actions of a stage, one after another.
+use Rattle.std.proofs.Common.{◌≡◌, ◌≤◌, ◌<◌, ◌+◌, ℕ, nat_lt, Bool, true, List, refl, sym, ap, subst, ◌∙◌, arith}
+use Rattle.std.proofs.lemmas.Bool.{ltb-true}
+use Rattle.base_core.specs.Faults.{Counts, GoesOn, IsNoFault}
+use Rattle.base_core.specs.Files.{Files}
+use Rattle.base_core.specs.Tree.{TreeState}
+use Rattle.base_core.specs.Calls.{IfObservable, HasNow}
+use Rattle.base_core.specs.Crash.{IsOrderly, Since}
+use Rattle.journal_core.specs.Recovery.{RestsOn}
+use Rattle.journal_core.specs.Quiet.{IsStill}
+use Rattle.journal_core.specs.Staged.{Staging, HasRoomBeside, IsActing, action_count}
+use Rattle.journal_core.specs.Acting.{GoesWith}
+use Rattle.journal_core.proofs.Acts.{still_on}
+use Rattle.journal_core.proofs.Chain.{Runs, by_now, now_both, run_begun}
+use Rattle.journal_core.proofs.History.{History, now_map, now_since, on_observable, since_on, since_weaker, observable_at, observable_map}
+use Rattle.journal_core.proofs.OneCall.{now_is}
+use Rattle.journal_core.proofs.Waiting.{still_self}
+
+abbrev pub Rowed : Staging → Staging → History → History → Type 0
+Rowed first now old h = IfObservable old (λ v. (ignored : List ℕ → Bool) (files : Files) → IsOrderly (RestsOn ignored) v → IsActing first files v → Runs (IsStill ignored v) (GoesWith ignored files now v) old h)
+
+abbrev pub ActsOn : Staging → Staging → History → History → Type 0
+ActsOn first now old h = IfObservable old (λ v. (files : Files) → IsActing first files v → HasNow h (IsActing now files))
+
+abbrev pub Proper : Staging → History → ℕ → ℕ → Type 0
+Proper first old a b = IfObservable old (λ v. (files : Files) → IsActing first files v → HasRoomBeside files → b ≡ a)
+
+pub rowed_start : (s : Staging) (old : History) → Rowed s s old old
+rowed_start s old = on_observable old _ (λ v rest is ignored files orderly acting. run_begun (IsStill ignored v) (GoesWith ignored files s v) old v rest is (record { still = still_self ignored v orderly; acting = acting }))
+
+pub acts_start : (s : Staging) (old : History) → ActsOn s s old old
+acts_start s old = on_observable old _ (λ v rest is files acting. now_is old v rest (IsActing s files) is acting)
+
+pub proper_start : (s : Staging) (old : History) (a : ℕ) → Proper s old a a
+proper_start s old a = on_observable old _ (λ v rest is files acting room. refl)
+
+module _ (first now : Staging) (old h new : History) where
+  abbrev Moments : Type 0
+  Moments = IfObservable h (λ u. (ignored : List ℕ → Bool) (files : Files) → IsOrderly (RestsOn ignored) u → IsActing now files u → Since (IsStill ignored u) h new)
+
+  since_more : (ignored : List ℕ → Bool) (files : Files) (v : TreeState) → Runs (IsStill ignored v) (GoesWith ignored files now v) old h → Moments → Since (IsStill ignored v) old new
+  since_more ignored files v runs moments =
+      since_on (IsStill ignored v) old h new runs.since
+      (by_now h (GoesWith ignored files now v) (Since (IsStill ignored v) h new) runs.now
+      (observable_map h _ (λ u. GoesWith ignored files now v u → Since (IsStill ignored v) h new) moments (λ u t goes. since_weaker (IsStill ignored u) (IsStill ignored v) h new (λ w. still_on ignored v u w goes.still) (t ignored files goes.still.orderly goes.acting))))
+
+  pub rowed_called : Rowed first now old h → Moments → IfObservable old (λ v. (ignored : List ℕ → Bool) (files : Files) → IsOrderly (RestsOn ignored) v → IsActing first files v → Since (IsStill ignored v) old new)
+  rowed_called rowed moments = observable_map old _ _ rowed (λ v r ignored files orderly acting. since_more ignored files v (r ignored files orderly acting) moments)
+
+  module _ (next : Staging) (acting : IfObservable h (λ u. (files : Files) → IsActing now files u → HasNow new (IsActing next files))) where
+    pub rowed_done : Rowed first now old h → Moments → Rowed first next old new
+    rowed_done rowed moments = on_observable old _ (λ v rest is ignored files orderly at.
+        let runs = observable_at old v rest is (λ u. (Y : List ℕ → Bool) (F : Files) → IsOrderly (RestsOn Y) u → IsActing first F u → Runs (IsStill Y u) (GoesWith Y F now u) old h) rowed ignored files orderly at in
+        let since = since_more ignored files v runs moments in
+        record {
+          since = since;
+          now = now_map new (λ w. IsStill ignored v w × IsActing next files w) (GoesWith ignored files next v)
+              (now_both new (IsStill ignored v) (IsActing next files) (now_since (IsStill ignored v) old new v rest is (still_self ignored v orderly) since)
+              (by_now h (GoesWith ignored files now v) (HasNow new (IsActing next files)) runs.now (observable_map h _ (λ u. GoesWith ignored files now v u → HasNow new (IsActing next files)) acting (λ u t goes. t files goes.acting))))
+              (λ w q. record { still = q.0; acting = q.1 });
+        })
+
+    pub acts_done : ActsOn first now old h → ActsOn first next old new
+    acts_done acts = observable_map old _ _ acts (λ v a files at. by_now h (IsActing now files) (HasNow new (IsActing next files)) (a files at) (observable_map h _ (λ u. IsActing now files u → HasNow new (IsActing next files)) acting (λ u t. t files)))
+
+-- the misuses so far
+module _ (first now : Staging) (old h : History) (a b c : ℕ) where
+  pub proper_done : ActsOn first now old h → Proper first old a b → IfObservable h (λ u. (files : Files) → IsActing now files u → HasRoomBeside files → c ≡ b) → Proper first old a c
+  proper_done acts so_far more = on_observable old _ (λ v rest is files at room.
+      by_now h (IsActing now files) (c ≡ b) (observable_at old v rest is (λ u. (F : Files) → IsActing first F u → HasNow h (IsActing now F)) acts files at) (observable_map h _ (λ u. IsActing now files u → c ≡ b) more (λ u t acting. t files acting room))
+      ∙ observable_at old v rest is (λ u. (F : Files) → IsActing first F u → HasRoomBeside F → b ≡ a) so_far files at room)
+
+pub rowed_ends : (first now : Staging) (old h : History) → Rowed first now old h → IfObservable old (λ v. (ignored : List ℕ → Bool) (files : Files) → IsOrderly (RestsOn ignored) v → IsActing first files v → Since (IsStill ignored v) old h)
+rowed_ends first now old h rowed = observable_map old _ _ rowed (λ v r ignored files orderly acting. (r ignored files orderly acting).since)
+
+-- ---- counts, and how many are left
+
+pub left_of : (b : Bool) (n m : ℕ) → b ≡ nat_lt n m → b ≡ true → n < m
+left_of b n m is holds = ltb-true n m (sym is ∙ holds)
+
+pub within_next : (old new : Staging) → old.acted < action_count old.intent → new ≡ record old { acted = old.acted + 1 } → new.acted ≤ action_count new.intent
+within_next old new less is = subst (λ (s : Staging). s.acted ≤ action_count s.intent) (sym is) (omega (arith, less))
+
+pub goes_same : (a : Counts) → GoesOn a a
+goes_same a = record { faults = omega arith; misuses = omega arith; wants = omega arith; fallible = λ x. x }
+
+pub goes_through : (a b c : Counts) → GoesOn a b → GoesOn b c → GoesOn a c
+goes_through a b c first then = record { faults = omega (arith, first.faults, then.faults); misuses = omega (arith, first.misuses, then.misuses); wants = omega (arith, first.wants, then.wants); fallible = λ x. first.fallible (then.fallible x) }
+
+pub none_same : (a : Counts) → IsNoFault a a
+none_same a = record { faults = refl; wants = refl }
+
+pub none_through : (a b c : Counts) → IsNoFault a b → IsNoFault b c → IsNoFault a c
+none_through a b c first then = record { faults = then.faults ∙ first.faults; wants = then.wants ∙ first.wants }
+
+pub published_next : (now next : Staging) → now.published ≡ true → next ≡ record now { acted = now.acted + 1 } → next.published ≡ true
+published_next now next published is = ap (λ (s : Staging). s.published) is ∙ published

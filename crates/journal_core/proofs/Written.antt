@@ -1,0 +1,128 @@
+-- A waiting file is made, filled and synced.
+use Rattle.std.proofs.Common.{◌≡◌, ◌≢◌, inl, ℕ, Bool, true, false, List, [], ◌∷◌, ◌++◌, Option, None, Some, IsSome, Result, Ok, Err, OnOk, refl, sym, ap, subst, ◌∙◌, arith}
+use Rattle.base_core.specs.Tree.{TreeState, File, IsWhole, files_of, change_at, after_create, after_append, after_failed_append, after_sync, same_state, CanCreate, HasName}
+use Rattle.base_core.specs.Calls.{HasNow, Moves}
+use Rattle.base_core.specs.Crash.{IsOrderly, Since}
+use Rattle.journal_core.specs.Entering.{IsWritten}
+use Rattle.journal_core.specs.Filling.{synced_file}
+use Rattle.journal_core.specs.Recovery.{RestsOn, intent_name, stage_name}
+use Rattle.journal_core.specs.Quiet.{IsStill}
+use Rattle.journal_core.specs.Staged.{IsAlone}
+use Rattle.journal_core.proofs.Acts.{still_on}
+use Rattle.journal_core.proofs.AtName.{put_name-at, put_name-off}
+use Rattle.journal_core.proofs.Chain.{Runs, run_begun, run_failed, run_called, run_done, step_now, step_called}
+use Rattle.journal_core.proofs.History.{History}
+use Rattle.journal_core.proofs.OneCall.{now_is}
+use Rattle.journal_core.proofs.StageNames.{stage_name_no_intent}
+use Rattle.journal_core.proofs.Steps.{set_file-at, file_at-set_file, made_later}
+use Rattle.journal_core.proofs.Waiting.{IsOff, off_none, still_self, still_created, alone_created, still_changed, alone_changed}
+use Rattle.journal_core.proofs.Images.{CrashLaws}
+
+-- ---- no state rests on it
+
+module _ (laws : CrashLaws) (place : List ℕ) (k : ℕ) (place_is : place ≡ stage_name k) (ignored : List ℕ → Bool) (start : TreeState) (old rest : History) (is : old ≡ start ∷ rest) (whole : IsWhole start) (orderly : IsOrderly (RestsOn ignored) start) (none : files_of start intent_name ≡ None) where
+  abbrev P : TreeState → Type 0
+  P = IsStill ignored start
+
+  pub record Open (v : TreeState) : Type 0 where
+    still : P v
+    off : IsOff (files_of v) place
+    entire : IsWhole v
+
+  pub record Made (v : TreeState) : Type 0 where
+    still : P v
+    alone : IsAlone place v
+
+  no_intent : place ≢ intent_name
+  no_intent e = stage_name_no_intent k (sym place_is ∙ e)
+
+  off : IsOff (files_of start) place
+  off = subst (λ (n : List ℕ). IsOff (files_of start) n) (sym place_is) (off_none (files_of start) (stage_name k) refl (stage_name_no_intent k) none)
+
+  created : (v : TreeState) → Open v → Made (after_create place v)
+  created v q = record { still = still_on ignored start v (after_create place v) q.still (still_created laws ignored place v q.off q.entire q.still.orderly); alone = alone_created place v q.off q.entire }
+
+  changed : (change : File → File) (v : TreeState) → Made v → Made (change_at change v (v.names place))
+  changed change v q = record {
+    still = still_on ignored start v (change_at change v (v.names place)) q.still (still_changed laws place off.waiting no_intent change v q.alone ignored q.still.orderly);
+    alone = alone_changed laws place off.waiting no_intent change v q.alone;
+  }
+
+  pub begun : Runs P Open old old
+  begun = run_begun P Open old start rest is (record { still = still_self ignored start orderly; off = off; entire = whole })
+
+  module _ {T E : Type 0} (h new : History) where
+    pub make_failed : (e : E) → Moves {T = T} (CanCreate place) (after_create place) (after_create place) old new (Err e) → Since P old new
+    make_failed e moves = run_failed P Open old old new e begun moves (λ v may q. (created v q).still)
+
+    pub make_done : (x : T) → Moves {E = E} (CanCreate place) (after_create place) (after_create place) old new (Ok x) → Runs P Made old new
+    make_done x moves = run_done P Open Made old old new x begun moves (λ v q. q.still) created
+
+    pub extend_failed : (piece : List ℕ) (e : E) → Runs P Made old h → Moves {T = T} (HasName place) (after_append place piece) (after_failed_append place) h new (Err e) → Since P old new
+    extend_failed piece e runs moves = run_failed P Made old h new e runs moves (λ v may q. (changed (λ f. record { bytes = f.bytes; synced = false }) v q).still)
+
+    pub extend_done : (piece : List ℕ) (x : T) → Runs P Made old h → Moves {E = E} (HasName place) (after_append place piece) (after_failed_append place) h new (Ok x) → Runs P Made old new
+    extend_done piece x runs moves = run_done P Made Made old h new x runs moves (λ v q. q.still) (changed (λ f. record { bytes = f.bytes ++ piece; synced = false }))
+
+    pub sync_called : (r : Result T E) → Runs P Made old h → Moves (HasName place) (after_sync place) same_state h new r → Since P old new
+    sync_called r runs moves = run_called P Made old h new r runs moves (λ v q. (changed (λ f. record { bytes = f.bytes; synced = true }) v q).still) (λ v may q. q.still)
+
+-- ---- what it holds
+
+module _ (place : List ℕ) (start : TreeState) (whole : IsWhole start) where
+  written_created : start.names place ≡ None → IsWritten place (record { bytes = []; synced = false }) start (after_create place start)
+  written_created absent = record {
+    absent = absent;
+    number = start.made;
+    later = omega arith;
+    there = put_name-at start.names place start.made place refl;
+    holds = set_file-at start.files start.made _ start.made refl;
+    names = λ q ne. put_name-off start.names place start.made q ne;
+    kept = λ q n ne at.
+        let here : start.names q ≡ Some n = sym (put_name-off start.names place start.made q ne) ∙ at in
+        let same : Some ((after_create place start).files n) ≡ Some (start.files n) = file_at-set_file start.files start.made _ (Some n) (λ e. made_later start whole start.names (inl refl) q (here ∙ e)) in
+        cc;
+  }
+
+  written_at : (change : File → File) (file : File) (v : TreeState) → (was : IsWritten place file start v) → IsWritten place (change file) start (change_at change v (Some was.number))
+  written_at change file v was = record {
+    absent = was.absent;
+    number = was.number;
+    later = was.later;
+    there = was.there;
+    holds = set_file-at v.files was.number _ was.number refl ∙ ap change was.holds;
+    names = was.names;
+    kept = λ q n ne at.
+        let here : start.names q ≡ Some n = sym (was.names q ne) ∙ at in
+        let below = whole.made start.names (inl refl) q n here in
+        let late = was.later in
+        let same : Some ((change_at change v (Some was.number)).files n) ≡ Some (v.files n) = file_at-set_file v.files was.number _ (Some n) (λ e. let equal : n ≡ was.number = cc in absurd (omega (arith, below, late, equal))) in
+        let first : (change_at change v (Some was.number)).files n ≡ v.files n = cc in
+        first ∙ was.kept q n ne at;
+  }
+
+  written_on : (change : File → File) (file : File) (v : TreeState) → IsWritten place file start v → IsWritten place (change file) start (change_at change v (v.names place))
+  written_on change file v was = subst (λ o. IsWritten place (change file) start (change_at change v o)) (sym was.there) (written_at change file v was)
+
+  pub last_written : {T E : Type 0} (bytes : List ℕ) (old rest h k new : History) → old ≡ start ∷ rest → start.names place ≡ None → (x y : T) (r : Result T E)
+      → Moves {E = E} (CanCreate place) (after_create place) (after_create place) old h (Ok x) → Moves {E = E} (HasName place) (after_append place bytes) (after_failed_append place) h k (Ok y) → Moves (HasName place) (after_sync place) same_state k new r
+      → OnOk r (HasNow new (IsWritten place (synced_file bytes) start))
+  last_written bytes old rest h k new is absent x y r first second last =
+      let a = step_now (λ w. w ≡ start) (IsWritten place (record { bytes = []; synced = false }) start) h x old (now_is old start rest (λ w. w ≡ start) is refl) first
+      (λ v e. subst (λ (u : TreeState). IsWritten place (record { bytes = []; synced = false }) start (after_create place u)) (sym e) (written_created absent)) in
+      let b = step_now (IsWritten place (record { bytes = []; synced = false }) start) (IsWritten place (record { bytes = bytes; synced = false }) start) k y h a second
+      (written_on (λ f. record { bytes = f.bytes ++ bytes; synced = false }) (record { bytes = []; synced = false })) in
+      step_called (IsWritten place (record { bytes = bytes; synced = false }) start) (IsWritten place (synced_file bytes) start) new r k b last
+      (written_on (λ f. record { bytes = f.bytes; synced = true }) (record { bytes = bytes; synced = false }))
+
+-- ---- it is there
+
+pub some_created : (place : List ℕ) (v : TreeState) → HasName place (after_create place v)
+some_created place v = subst IsSome (sym (put_name-at v.names place v.made place refl)) refl
+
+pub some_changed : (change : File → File) (place : List ℕ) (v : TreeState) → HasName place v → HasName place (change_at change v (v.names place))
+some_changed change place v some = by (v.names place)
+  where
+    by : (o : Option ℕ) → IsSome ((change_at change v o).names place)
+    by None = some
+    by (Some n) = some

@@ -1,0 +1,14 @@
+use Rattle.journal_core.proofs.Acted.{move_moments, moved_acting, move_proper}
+use Rattle.journal_core.proofs.acting.move_one.Goals as goal
+
+pub returns-clause-moments : goal.returns-clause-moments
+returns-clause-moments g c =
+    move_moments (record { left = c.a_crash_may_leave_the_files_as_read.ensures.by_map; outlasts = c.order_outlasts_a_crash.ensures }) _ c.names_are_free.ensures.free c.names_are_free.ensures.few _ _ _ _ c.requires.within c.requires.behind _ _ c.stage_name.ensures c.write.ensures c.move_waiting.result c.move_waiting.ensures.moves
+
+pub returns-clause-acting : goal.returns-clause-acting
+returns-clause-acting g c =
+    moved_acting (record { left = c.a_crash_may_leave_the_files_as_read.ensures.by_map; outlasts = c.order_outlasts_a_crash.ensures }) _ c.names_are_free.ensures.free c.names_are_free.ensures.few _ _ _ _ c.requires.within c.requires.behind _ _ c.stage_name.ensures c.write.ensures c.move_waiting.result c.move_waiting.ensures.moves
+
+pub returns-clause-proper : goal.returns-clause-proper
+returns-clause-proper g c =
+    move_proper (record { left = c.a_crash_may_leave_the_files_as_read.ensures.by_map; outlasts = c.order_outlasts_a_crash.ensures }) _ c.names_are_free.ensures.free c.names_are_free.ensures.few (g.T.Tree.history c.args.tree.now) (g.T.Tree.history c.args.tree.now) _ _ c.requires.within c.requires.behind _ _ c.stage_name.ensures c.write.ensures _ _ c.move_waiting.ensures.proper

@@ -1,0 +1,10 @@
+use Rattle.journal_core.proofs.Acted.{remove_moments, removed_acting}
+use Rattle.journal_core.proofs.acting.remove_one.Goals as goal
+
+pub returns-clause-moments : goal.returns-clause-moments
+returns-clause-moments g c =
+    remove_moments (record { left = c.a_crash_may_leave_the_files_as_read.ensures.by_map; outlasts = c.order_outlasts_a_crash.ensures }) _ c.names_are_free.ensures.free c.names_are_free.ensures.few _ _ _ c.requires _ c.removal.ensures c.remove.result c.remove.ensures.moves
+
+pub returns-clause-acting : goal.returns-clause-acting
+returns-clause-acting g c =
+    removed_acting (record { left = c.a_crash_may_leave_the_files_as_read.ensures.by_map; outlasts = c.order_outlasts_a_crash.ensures }) _ c.names_are_free.ensures.free c.names_are_free.ensures.few _ _ _ c.requires _ c.removal.ensures c.remove.result c.remove.ensures.moves

@@ -1,0 +1,51 @@
+use Rattle.std.proofs.Common.{◌∙◌}
+use Rattle.base_core.specs.Tree.{CanRename}
+use Rattle.journal_core.proofs.History.{on_observable}
+use Rattle.journal_core.proofs.OneCall.{now_is}
+use Rattle.journal_core.proofs.Chain.{IsAny, any_now, proper_now, step_now}
+use Rattle.journal_core.proofs.Entered.{first_failed, first_done, rename_failed, rename_done, last_called, last_entered, last_acting}
+use Rattle.journal_core.proofs.publishing.enter.Goals as goal
+
+pub returns-in_err-sync_all_names-clause-moments : goal.returns-in_err-sync_all_names-clause-moments
+returns-in_err-sync_all_names-clause-moments g c =
+    on_observable (g.T.Tree.history c.args.tree.now) _ (λ v rest is ignored intent base made orderly ready.
+    first_failed (record { left = c.a_crash_may_leave_the_files_as_read.ensures.by_map; outlasts = c.order_outlasts_a_crash.ensures }) ignored intent base made v _ rest is orderly ready (g.T.Tree.history c.args.tree.now) _ _ c.in_err-sync_all_names.ensures.moves)
+
+pub returns-in_err-rename-clause-moments : goal.returns-in_err-rename-clause-moments
+returns-in_err-rename-clause-moments g c =
+    on_observable (g.T.Tree.history c.args.tree.now) _ (λ v rest is ignored intent base made orderly ready.
+    rename_failed (record { left = c.a_crash_may_leave_the_files_as_read.ensures.by_map; outlasts = c.order_outlasts_a_crash.ensures }) ignored intent base made v _ rest is orderly ready _ _ c.requires.place c.requires.name _ _ _
+    (first_done (record { left = c.a_crash_may_leave_the_files_as_read.ensures.by_map; outlasts = c.order_outlasts_a_crash.ensures }) ignored intent base made v _ rest is orderly ready (g.T.Tree.history c.args.tree.now) _ _ c.in_ok-sync_all_names.ensures.moves) c.in_err-rename.ensures.moves)
+
+pub returns-clause-moments : goal.returns-clause-moments
+returns-clause-moments g c =
+    on_observable (g.T.Tree.history c.args.tree.now) _ (λ v rest is ignored intent base made orderly ready.
+    last_called (record { left = c.a_crash_may_leave_the_files_as_read.ensures.by_map; outlasts = c.order_outlasts_a_crash.ensures }) ignored intent base made v _ rest is orderly ready _ _ c.sync_all_names-2.result
+    (rename_done (record { left = c.a_crash_may_leave_the_files_as_read.ensures.by_map; outlasts = c.order_outlasts_a_crash.ensures }) ignored intent base made v _ rest is orderly ready _ _ c.requires.place c.requires.name _ _ _
+    (first_done (record { left = c.a_crash_may_leave_the_files_as_read.ensures.by_map; outlasts = c.order_outlasts_a_crash.ensures }) ignored intent base made v _ rest is orderly ready (g.T.Tree.history c.args.tree.now) _ _ c.in_ok-sync_all_names.ensures.moves) c.in_ok-rename.ensures.moves) c.sync_all_names-2.ensures.moves)
+
+pub returns-clause-entered : goal.returns-clause-entered
+returns-clause-entered g c =
+    on_observable (g.T.Tree.history c.args.tree.now) _ (λ v rest is ignored intent base made orderly ready.
+    last_entered (record { left = c.a_crash_may_leave_the_files_as_read.ensures.by_map; outlasts = c.order_outlasts_a_crash.ensures }) ignored intent base made v _ rest is orderly ready _ _ c.sync_all_names-2.result
+    (rename_done (record { left = c.a_crash_may_leave_the_files_as_read.ensures.by_map; outlasts = c.order_outlasts_a_crash.ensures }) ignored intent base made v _ rest is orderly ready _ _ c.requires.place c.requires.name _ _ _
+    (first_done (record { left = c.a_crash_may_leave_the_files_as_read.ensures.by_map; outlasts = c.order_outlasts_a_crash.ensures }) ignored intent base made v _ rest is orderly ready (g.T.Tree.history c.args.tree.now) _ _ c.in_ok-sync_all_names.ensures.moves) c.in_ok-rename.ensures.moves) c.sync_all_names-2.ensures.moves)
+
+pub returns-clause-acting : goal.returns-clause-acting
+returns-clause-acting g c =
+    on_observable (g.T.Tree.history c.args.tree.now) _ (λ v rest is intent base made ready.
+    last_acting intent base made v ready _ _ c.requires.place c.requires.name _ rest _ _ _ is _ _ c.sync_all_names-2.result c.in_ok-sync_all_names.ensures.moves c.in_ok-rename.ensures.moves c.sync_all_names-2.ensures.moves)
+
+pub returns-in_err-rename-clause-proper : goal.returns-in_err-rename-clause-proper
+returns-in_err-rename-clause-proper g c =
+    on_observable (g.T.Tree.history c.args.tree.now) _ (λ v rest is may.
+    proper_now (CanRename c.args.place.now c.args.name.now) _ _ _ _ (step_now (CanRename c.args.place.now c.args.name.now) (CanRename c.args.place.now c.args.name.now) _ _ _ (now_is _ v rest _ is may) c.in_ok-sync_all_names.ensures.moves (λ w q. record { present = q.present; apart = q.apart; folders = q.folders })) c.in_err-rename.ensures.counts (λ w q. q)
+    ∙ proper_now IsAny _ _ _ _ (any_now _ v rest is) c.in_ok-sync_all_names.ensures.counts (λ w q. tt))
+
+pub returns-clause-proper : goal.returns-clause-proper
+returns-clause-proper g c =
+    on_observable (g.T.Tree.history c.args.tree.now) _ (λ v rest is may.
+    let can = step_now (CanRename c.args.place.now c.args.name.now) (CanRename c.args.place.now c.args.name.now) _ _ _ (now_is _ v rest _ is may) c.in_ok-sync_all_names.ensures.moves (λ w q. record { present = q.present; apart = q.apart; folders = q.folders }) in
+    proper_now IsAny _ _ _ c.sync_all_names-2.result (step_now (CanRename c.args.place.now c.args.name.now) IsAny _ _ _ can c.in_ok-rename.ensures.moves (λ w q. tt)) c.sync_all_names-2.ensures.counts (λ w q. tt)
+    ∙ proper_now (CanRename c.args.place.now c.args.name.now) _ _ _ _ can c.in_ok-rename.ensures.counts (λ w q. q)
+    ∙ proper_now IsAny _ _ _ _ (any_now _ v rest is) c.in_ok-sync_all_names.ensures.counts (λ w q. tt))

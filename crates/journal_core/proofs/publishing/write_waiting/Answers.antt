@@ -1,0 +1,53 @@
+use Rattle.std.proofs.Common.{◌∙◌, ◌++◌, false}
+use Rattle.base_core.specs.Tree.{CanCreate, HasName, File}
+use Rattle.journal_core.proofs.History.{on_observable, observable_at}
+use Rattle.journal_core.proofs.OneCall.{now_is, whole_now}
+use Rattle.journal_core.proofs.Chain.{proper_now, step_now}
+use Rattle.journal_core.proofs.Written.{make_failed, make_done, extend_failed, extend_done, sync_called, last_written, some_created, some_changed}
+use Rattle.journal_core.proofs.publishing.write_waiting.Goals as goal
+
+pub returns-in_err-create-clause-moments : goal.returns-in_err-create-clause-moments
+returns-in_err-create-clause-moments g c =
+    on_observable (g.T.Tree.history c.args.tree.now) _ (λ v rest is ignored orderly none.
+    make_failed (record { left = c.a_crash_may_leave_the_files_as_read.ensures.by_map; outlasts = c.order_outlasts_a_crash.ensures }) c.args.place.now 0 c.requires ignored v _ rest is (whole_now _ v rest is (g.met.T.Tree.whole c.args.tree.now)) orderly none (g.T.Tree.history c.args.tree.now) _ _ c.in_err-create.ensures.moves)
+
+pub returns-in_err-append-clause-moments : goal.returns-in_err-append-clause-moments
+returns-in_err-append-clause-moments g c =
+    on_observable (g.T.Tree.history c.args.tree.now) _ (λ v rest is ignored orderly none.
+    let whole = whole_now _ v rest is (g.met.T.Tree.whole c.args.tree.now) in
+    extend_failed (record { left = c.a_crash_may_leave_the_files_as_read.ensures.by_map; outlasts = c.order_outlasts_a_crash.ensures }) c.args.place.now 0 c.requires ignored v _ rest is whole orderly none _ _ c.args.bytes.now _
+    (make_done (record { left = c.a_crash_may_leave_the_files_as_read.ensures.by_map; outlasts = c.order_outlasts_a_crash.ensures }) c.args.place.now 0 c.requires ignored v _ rest is whole orderly none (g.T.Tree.history c.args.tree.now) _ _ c.in_ok-create.ensures.moves) c.in_err-append.ensures.moves)
+
+pub returns-clause-moments : goal.returns-clause-moments
+returns-clause-moments g c =
+    on_observable (g.T.Tree.history c.args.tree.now) _ (λ v rest is ignored orderly none.
+    let whole = whole_now _ v rest is (g.met.T.Tree.whole c.args.tree.now) in
+    sync_called (record { left = c.a_crash_may_leave_the_files_as_read.ensures.by_map; outlasts = c.order_outlasts_a_crash.ensures }) c.args.place.now 0 c.requires ignored v _ rest is whole orderly none _ _ c.sync_file.result
+    (extend_done (record { left = c.a_crash_may_leave_the_files_as_read.ensures.by_map; outlasts = c.order_outlasts_a_crash.ensures }) c.args.place.now 0 c.requires ignored v _ rest is whole orderly none _ _ c.args.bytes.now _
+    (make_done (record { left = c.a_crash_may_leave_the_files_as_read.ensures.by_map; outlasts = c.order_outlasts_a_crash.ensures }) c.args.place.now 0 c.requires ignored v _ rest is whole orderly none (g.T.Tree.history c.args.tree.now) _ _ c.in_ok-create.ensures.moves) c.in_ok-append.ensures.moves) c.sync_file.ensures.moves)
+
+pub returns-clause-written : goal.returns-clause-written
+returns-clause-written g c =
+    on_observable (g.T.Tree.history c.args.tree.now) _ (λ v rest is none.
+    let may = observable_at _ v rest is (CanCreate c.args.place.now) c.in_ok-create.ensures.counts.allowed in
+    last_written c.args.place.now v (whole_now _ v rest is (g.met.T.Tree.whole c.args.tree.now)) c.args.bytes.now _ rest _ _ _ is may.absent _ _ c.sync_file.result c.in_ok-create.ensures.moves c.in_ok-append.ensures.moves c.sync_file.ensures.moves)
+
+pub returns-in_err-create-clause-proper : goal.returns-in_err-create-clause-proper
+returns-in_err-create-clause-proper g c =
+    on_observable (g.T.Tree.history c.args.tree.now) _ (λ v rest is may.
+    proper_now (CanCreate c.args.place.now) _ _ _ _ (now_is _ v rest _ is may) c.in_err-create.ensures.counts (λ w q. q))
+
+pub returns-in_err-append-clause-proper : goal.returns-in_err-append-clause-proper
+returns-in_err-append-clause-proper g c =
+    on_observable (g.T.Tree.history c.args.tree.now) _ (λ v rest is may.
+    proper_now (HasName c.args.place.now) _ _ _ _ (step_now (CanCreate c.args.place.now) (HasName c.args.place.now) _ _ _ (now_is _ v rest _ is may) c.in_ok-create.ensures.moves (λ w q. some_created c.args.place.now w)) c.in_err-append.ensures.counts (λ w q. q)
+    ∙ proper_now (CanCreate c.args.place.now) _ _ _ _ (now_is _ v rest _ is may) c.in_ok-create.ensures.counts (λ w q. q))
+
+pub returns-clause-proper : goal.returns-clause-proper
+returns-clause-proper g c =
+    on_observable (g.T.Tree.history c.args.tree.now) _ (λ v rest is may.
+    let made = step_now (CanCreate c.args.place.now) (HasName c.args.place.now) _ _ _ (now_is _ v rest _ is may) c.in_ok-create.ensures.moves (λ w q. some_created c.args.place.now w) in
+    let full_stage = step_now (HasName c.args.place.now) (HasName c.args.place.now) _ _ _ made c.in_ok-append.ensures.moves (some_changed (λ (f : File). record { bytes = f.bytes ++ c.args.bytes.now; synced = false }) c.args.place.now) in
+    proper_now (HasName c.args.place.now) _ _ _ c.sync_file.result full_stage c.sync_file.ensures.counts (λ w q. q)
+    ∙ proper_now (HasName c.args.place.now) _ _ _ _ made c.in_ok-append.ensures.counts (λ w q. q)
+    ∙ proper_now (CanCreate c.args.place.now) _ _ _ _ (now_is _ v rest _ is may) c.in_ok-create.ensures.counts (λ w q. q))

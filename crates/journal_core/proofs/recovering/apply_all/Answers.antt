@@ -1,0 +1,33 @@
+use Rattle.journal_core.proofs.Rowing.{acts_done, acts_start, goes_same, goes_through, left_of, none_same, none_through, proper_done, proper_start, published_next, rowed_called, rowed_done, rowed_ends, rowed_start, within_next}
+use Rattle.journal_core.proofs.recovering.apply_all.Goals as goal
+
+pub loop-stage-init : goal.loop-stage-init
+loop-stage-init g c = (c.requires.published, c.requires.within, rowed_start _ _, acts_start _ _, proper_start _ _ _, goes_same _, none_same _)
+
+pub loop-stage-preserved : goal.loop-stage-preserved
+loop-stage-preserved g c =
+    let (published, within, rowed, acts, proper, goes, none) = c.loop-stage.invariant in
+    let less = left_of _ _ _ c.has_more.ensures c.loop-stage-test.true in (
+      published_next _ _ published (c.in_ok-apply_one.ensures.more less),
+      within_next _ _ less (c.in_ok-apply_one.ensures.more less),
+      rowed_done _ _ _ _ _ _ c.in_ok-apply_one.ensures.acting rowed c.in_ok-apply_one.ensures.moments,
+      acts_done _ _ _ _ _ _ c.in_ok-apply_one.ensures.acting acts,
+      proper_done _ _ _ _ _ _ _ acts proper c.in_ok-apply_one.ensures.proper,
+      goes_through _ _ _ goes c.in_ok-apply_one.ensures.goes_on,
+      none_through _ _ _ none c.in_ok-apply_one.ensures.kept,
+    )
+
+pub returns-in_err-apply_one-clause-moments : goal.returns-in_err-apply_one-clause-moments
+returns-in_err-apply_one-clause-moments g c =
+    let (published, within, rowed, acts, proper, goes, none) = c.loop-stage.invariant in
+    rowed_called _ _ _ _ _ rowed c.in_err-apply_one.ensures.moments
+
+pub returns-in_err-apply_one-clause-proper : goal.returns-in_err-apply_one-clause-proper
+returns-in_err-apply_one-clause-proper g c =
+    let (published, within, rowed, acts, proper, goes, none) = c.loop-stage.invariant in
+    proper_done _ _ _ _ _ _ _ acts proper c.in_err-apply_one.ensures.proper
+
+pub returns-clause-moments : goal.returns-clause-moments
+returns-clause-moments g c =
+    let (published, within, rowed, acts, proper, goes, none) = c.loop-stage.invariant in
+    rowed_ends _ _ _ _ rowed

@@ -1,0 +1,29 @@
+use Rattle.std.proofs.Common.{refl}
+use Rattle.journal_core.proofs.Cleaned.{empty_emptied, empty_idle, empty_moments, empty_none}
+use Rattle.journal_core.proofs.recovering.empty_stage.Goals as goal
+
+pub returns-in_err-folder-clause-moments : goal.returns-in_err-folder-clause-moments
+returns-in_err-folder-clause-moments g c = empty_none _ _ refl
+
+pub returns-in_err-names-clause-moments : goal.returns-in_err-names-clause-moments
+returns-in_err-names-clause-moments g c = empty_none _ _ c.list.ensures.same
+
+pub returns-in_err-remove_all-clause-moments : goal.returns-in_err-remove_all-clause-moments
+returns-in_err-remove_all-clause-moments g c =
+    empty_moments _ _ c.in_ok-folder.ensures _ _ _ c.list.ensures.same c.in_ok-names.ensures.order c.remove_all.ensures.moments
+
+pub returns-clause-moments : goal.returns-clause-moments
+returns-clause-moments g c =
+    empty_moments _ _ c.in_ok-folder.ensures _ _ _ c.list.ensures.same c.in_ok-names.ensures.order c.remove_all.ensures.moments
+
+pub returns-clause-emptied : goal.returns-clause-emptied
+returns-clause-emptied g c =
+    empty_emptied _ _ c.in_ok-folder.ensures _ _ _ c.list.ensures.same c.in_ok-names.ensures.value c.in_ok-remove_all.ensures.cleared
+
+pub returns-in_err-remove_all-clause-idle : goal.returns-in_err-remove_all-clause-idle
+returns-in_err-remove_all-clause-idle g c =
+    empty_idle _ _ c.in_ok-folder.ensures _ _ _ c.list.ensures.same c.in_ok-names.ensures.value c.remove_all.ensures.none
+
+pub returns-clause-idle : goal.returns-clause-idle
+returns-clause-idle g c =
+    empty_idle _ _ c.in_ok-folder.ensures _ _ _ c.list.ensures.same c.in_ok-names.ensures.value c.remove_all.ensures.none

@@ -1,0 +1,18 @@
+use Rattle.std.proofs.Common.{rules}
+use Rattle.journal_core.proofs.Cleaned.{all_files, all_moments, all_settled}
+use Rattle.journal_core.proofs.recovering.recover.Goals as goal
+
+pub returns-in_err-empty_stage-clause-moments : goal.returns-in_err-empty_stage-clause-moments
+returns-in_err-empty_stage-clause-moments g c = all_moments _ _ _ c.replay.ensures.moments c.in_ok-replay.ensures.replayed c.empty_stage.ensures.moments
+
+pub returns-clause-moments : goal.returns-clause-moments
+returns-clause-moments g c = all_moments _ _ _ c.replay.ensures.moments c.in_ok-replay.ensures.replayed c.empty_stage.ensures.moments
+
+pub returns-clause-files : goal.returns-clause-files
+returns-clause-files g c = all_files _ _ _ c.in_ok-replay.ensures.replayed c.in_ok-empty_stage.ensures.emptied
+
+pub returns-clause-settled : goal.returns-clause-settled
+returns-clause-settled g c = all_settled _ _ _ c.replay.ensures.moments c.in_ok-replay.ensures.replayed c.in_ok-replay.ensures.settled c.empty_stage.ensures.moments
+
+pub returns-in_err-replay-clause-bad : goal.returns-in_err-replay-clause-bad
+returns-in_err-replay-clause-bad g c = λ cause e. c.in_err-replay.ensures.bad cause (search rules)

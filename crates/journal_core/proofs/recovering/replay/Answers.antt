@@ -1,0 +1,32 @@
+use Rattle.journal_core.proofs.Replaying.{absent_good, absent_replayed, absent_settled, found_bad, found_good_called, found_idle, found_moments, found_proper, found_replayed, found_settled, none_found, some_found}
+use Rattle.journal_core.proofs.recovering.replay.Goals as goal
+
+pub returns-in-Some-clause-moments : goal.returns-in-Some-clause-moments
+returns-in-Some-clause-moments g c = found_moments _ _ _ c.read_all.ensures.tree.same _ _ c.in_ok-name.ensures (some_found _ _ _ _ c.in_ok-file.ensures.answer c.in-Some.is) c.replay_file.ensures.moments
+
+pub returns-in-Some-clause-replayed : goal.returns-in-Some-clause-replayed
+returns-in-Some-clause-replayed g c = found_replayed _ _ _ c.read_all.ensures.tree.same _ _ c.in_ok-name.ensures (some_found _ _ _ _ c.in_ok-file.ensures.answer c.in-Some.is) c.replay_file.result c.replay_file.ensures.replayed
+
+pub returns-in-Some-clause-settled : goal.returns-in-Some-clause-settled
+returns-in-Some-clause-settled g c = found_settled _ _ _ c.read_all.ensures.tree.same _ _ c.in_ok-name.ensures (some_found _ _ _ _ c.in_ok-file.ensures.answer c.in-Some.is) c.replay_file.result c.replay_file.ensures.settled
+
+pub returns-in-Some-clause-idle : goal.returns-in-Some-clause-idle
+returns-in-Some-clause-idle g c = found_idle _ _ (g.T.Tree.history c.replay_file.new.tree) c.read_all.ensures.tree.same _ _ c.in_ok-name.ensures (some_found _ _ _ _ c.in_ok-file.ensures.answer c.in-Some.is) _
+
+pub returns-in-Some-clause-bad : goal.returns-in-Some-clause-bad
+returns-in-Some-clause-bad g c = λ cause e. found_bad _ _ _ c.read_all.ensures.tree.same _ _ c.in_ok-name.ensures (some_found _ _ _ _ c.in_ok-file.ensures.answer c.in-Some.is) cause (c.replay_file.ensures.bad cause e)
+
+pub returns-in-Some-clause-good : goal.returns-in-Some-clause-good
+returns-in-Some-clause-good g c = found_good_called _ _ (g.T.Tree.history c.replay_file.new.tree) c.read_all.ensures.tree.same _ _ c.in_ok-name.ensures (some_found _ _ _ _ c.in_ok-file.ensures.answer c.in-Some.is) c.replay_file.result c.replay_file.ensures.good
+
+pub returns-in-Some-clause-proper : goal.returns-in-Some-clause-proper
+returns-in-Some-clause-proper g c = found_proper _ _ (g.T.Tree.history c.replay_file.new.tree) c.read_all.ensures.tree.same _ _ c.in_ok-name.ensures (some_found _ _ _ _ c.in_ok-file.ensures.answer c.in-Some.is) _ _ _ c.read_all.ensures.tree.proper c.replay_file.ensures.proper
+
+pub returns-clause-replayed : goal.returns-clause-replayed
+returns-clause-replayed g c = absent_replayed _ _ c.read_all.ensures.tree.same _ c.in_ok-name.ensures (none_found _ _ _ c.in_ok-file.ensures.answer c.in-None.is)
+
+pub returns-clause-settled : goal.returns-clause-settled
+returns-clause-settled g c = absent_settled _ _ c.read_all.ensures.tree.same _ c.in_ok-name.ensures (none_found _ _ _ c.in_ok-file.ensures.answer c.in-None.is)
+
+pub returns-clause-good : goal.returns-clause-good
+returns-clause-good g c = absent_good _ _ c.read_all.ensures.tree.same _ c.in_ok-name.ensures (none_found _ _ _ c.in_ok-file.ensures.answer c.in-None.is)

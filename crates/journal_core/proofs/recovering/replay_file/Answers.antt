@@ -1,0 +1,37 @@
+use Rattle.journal_core.proofs.Carried.{act_failed, act_proper, end_moments, end_proper, end_replayed, end_settled, none_acted}
+use Rattle.journal_core.proofs.recovering.replay_file.Goals as goal
+
+pub apply_all-requires-clause-within : goal.apply_all-requires-clause-within
+apply_all-requires-clause-within g c = none_acted c.in_ok-stage.stage c.in_ok-stage.ensures.none
+
+pub returns-in_err-apply_all-clause-moments : goal.returns-in_err-apply_all-clause-moments
+returns-in_err-apply_all-clause-moments g c =
+    act_failed _ c.apply_all.new.stage _ c.in_ok-stage.ensures.intent c.in_ok-stage.ensures.none _ _ c.apply_all.ensures.moments
+
+pub returns-in_err-apply_all-clause-proper : goal.returns-in_err-apply_all-clause-proper
+returns-in_err-apply_all-clause-proper g c =
+    act_proper _ c.apply_all.new.stage _ c.in_ok-stage.ensures.intent c.in_ok-stage.ensures.none _ (g.T.Tree.history c.apply_all.new.tree) _ _ c.apply_all.ensures.proper
+
+pub returns-in_err-finish-clause-moments : goal.returns-in_err-finish-clause-moments
+returns-in_err-finish-clause-moments g c =
+    end_moments _ _ _ c.in_ok-stage.ensures.intent c.in_ok-stage.ensures.none _ _ _ c.apply_all.ensures.moments c.in_ok-apply_all.ensures.acting c.finish.ensures.moments
+
+pub returns-clause-moments : goal.returns-clause-moments
+returns-clause-moments g c =
+    end_moments _ _ _ c.in_ok-stage.ensures.intent c.in_ok-stage.ensures.none _ _ _ c.apply_all.ensures.moments c.in_ok-apply_all.ensures.acting c.finish.ensures.moments
+
+pub returns-in_err-finish-clause-proper : goal.returns-in_err-finish-clause-proper
+returns-in_err-finish-clause-proper g c =
+    end_proper _ _ _ c.in_ok-stage.ensures.intent c.in_ok-stage.ensures.none _ _ (g.T.Tree.history c.finish.new.tree) _ _ _ c.in_ok-apply_all.ensures.acting c.apply_all.ensures.proper c.finish.ensures.proper
+
+pub returns-clause-proper : goal.returns-clause-proper
+returns-clause-proper g c =
+    end_proper _ _ _ c.in_ok-stage.ensures.intent c.in_ok-stage.ensures.none _ _ (g.T.Tree.history c.finish.new.tree) _ _ _ c.in_ok-apply_all.ensures.acting c.apply_all.ensures.proper c.finish.ensures.proper
+
+pub returns-clause-settled : goal.returns-clause-settled
+returns-clause-settled g c =
+    end_settled _ _ _ c.in_ok-stage.ensures.intent c.in_ok-stage.ensures.none _ _ _ c.apply_all.ensures.moments c.in_ok-apply_all.ensures.acting c.in_ok-finish.ensures.settled
+
+pub returns-clause-replayed : goal.returns-clause-replayed
+returns-clause-replayed g c =
+    end_replayed _ _ _ c.in_ok-stage.ensures.intent c.in_ok-stage.ensures.none _ _ _ c.in_ok-apply_all.ensures.acting c.in_ok-finish.ensures.files

@@ -1,0 +1,57 @@
+use Rattle.std.proofs.Common.{◌∙◌}
+use Rattle.journal_core.proofs.History.{on_observable}
+use Rattle.journal_core.specs.Quiet.{IsStill}
+use Rattle.journal_core.proofs.OneCall.{one_failed}
+use Rattle.journal_core.proofs.Waiting.{still_self}
+use Rattle.journal_core.proofs.Chain.{IsAny, any_now, any_step, proper_now}
+use Rattle.journal_core.proofs.Finishing.{sync_done, drop_failed, drop_done, last_called, last_settled, last_files}
+use Rattle.journal_core.proofs.stage.Stage.finish.Goals as goal
+
+pub returns-in_err-sync_all_names-clause-moments : goal.returns-in_err-sync_all_names-clause-moments
+returns-in_err-sync_all_names-clause-moments g c =
+    on_observable (g.T.Tree.history c.args.tree.now) _ (λ v rest is ignored files orderly acting.
+    one_failed _ _ v rest is (IsStill ignored v) _ c.in_err-sync_all_names.ensures.moves (λ may. still_self ignored v orderly))
+
+pub returns-in_err-remove-clause-moments : goal.returns-in_err-remove-clause-moments
+returns-in_err-remove-clause-moments g c =
+    on_observable (g.T.Tree.history c.args.tree.now) _ (λ v rest is ignored files orderly acting.
+    drop_failed (record { left = c.a_crash_may_leave_the_files_as_read.ensures.by_map; outlasts = c.order_outlasts_a_crash.ensures }) _ c.requires.all _ c.name.ensures ignored files v _ rest is orderly acting _ _ _
+    (sync_done (record { left = c.a_crash_may_leave_the_files_as_read.ensures.by_map; outlasts = c.order_outlasts_a_crash.ensures }) _ c.requires.all _ c.name.ensures ignored files v _ rest is orderly acting (g.T.Tree.history c.args.tree.now) _ _ c.in_ok-sync_all_names.ensures.moves) c.in_err-remove.ensures.moves)
+
+pub returns-clause-moments : goal.returns-clause-moments
+returns-clause-moments g c =
+    on_observable (g.T.Tree.history c.args.tree.now) _ (λ v rest is ignored files orderly acting.
+    last_called (record { left = c.a_crash_may_leave_the_files_as_read.ensures.by_map; outlasts = c.order_outlasts_a_crash.ensures }) _ c.requires.all _ c.name.ensures ignored files v _ rest is orderly acting _ _ c.sync_all_names-2.result
+    (drop_done (record { left = c.a_crash_may_leave_the_files_as_read.ensures.by_map; outlasts = c.order_outlasts_a_crash.ensures }) _ c.requires.all _ c.name.ensures ignored files v _ rest is orderly acting _ _ _
+    (sync_done (record { left = c.a_crash_may_leave_the_files_as_read.ensures.by_map; outlasts = c.order_outlasts_a_crash.ensures }) _ c.requires.all _ c.name.ensures ignored files v _ rest is orderly acting (g.T.Tree.history c.args.tree.now) _ _ c.in_ok-sync_all_names.ensures.moves) c.in_ok-remove.ensures.moves) c.sync_all_names-2.ensures.moves)
+
+pub returns-clause-settled : goal.returns-clause-settled
+returns-clause-settled g c =
+    on_observable (g.T.Tree.history c.args.tree.now) _ (λ v rest is ignored files orderly acting.
+    last_settled (record { left = c.a_crash_may_leave_the_files_as_read.ensures.by_map; outlasts = c.order_outlasts_a_crash.ensures }) _ c.requires.all _ c.name.ensures ignored files v _ rest is orderly acting _ _ c.sync_all_names-2.result
+    (drop_done (record { left = c.a_crash_may_leave_the_files_as_read.ensures.by_map; outlasts = c.order_outlasts_a_crash.ensures }) _ c.requires.all _ c.name.ensures ignored files v _ rest is orderly acting _ _ _
+    (sync_done (record { left = c.a_crash_may_leave_the_files_as_read.ensures.by_map; outlasts = c.order_outlasts_a_crash.ensures }) _ c.requires.all _ c.name.ensures ignored files v _ rest is orderly acting (g.T.Tree.history c.args.tree.now) _ _ c.in_ok-sync_all_names.ensures.moves) c.in_ok-remove.ensures.moves) c.sync_all_names-2.ensures.moves)
+
+pub returns-clause-files : goal.returns-clause-files
+returns-clause-files g c =
+    on_observable (g.T.Tree.history c.args.tree.now) _ (λ v rest is files acting.
+    last_files (record { left = c.a_crash_may_leave_the_files_as_read.ensures.by_map; outlasts = c.order_outlasts_a_crash.ensures }) _ c.requires.all _ c.name.ensures files v _ rest is acting _ _ _ _ _ c.sync_all_names-2.result c.in_ok-sync_all_names.ensures.moves c.in_ok-remove.ensures.moves c.sync_all_names-2.ensures.moves)
+
+pub returns-in_err-sync_all_names-clause-proper : goal.returns-in_err-sync_all_names-clause-proper
+returns-in_err-sync_all_names-clause-proper g c =
+    on_observable (g.T.Tree.history c.args.tree.now) _ (λ v rest is.
+    proper_now IsAny _ _ _ _ (any_now _ v rest is) c.in_err-sync_all_names.ensures.counts (λ w q. tt))
+
+pub returns-in_err-remove-clause-proper : goal.returns-in_err-remove-clause-proper
+returns-in_err-remove-clause-proper g c =
+    on_observable (g.T.Tree.history c.args.tree.now) _ (λ v rest is.
+    proper_now IsAny _ _ _ _ (any_step _ _ _ (any_now _ v rest is) c.in_ok-sync_all_names.ensures.moves) c.in_err-remove.ensures.counts (λ w q. tt)
+    ∙ proper_now IsAny _ _ _ _ (any_now _ v rest is) c.in_ok-sync_all_names.ensures.counts (λ w q. tt))
+
+pub returns-clause-proper : goal.returns-clause-proper
+returns-clause-proper g c =
+    on_observable (g.T.Tree.history c.args.tree.now) _ (λ v rest is.
+    let first = any_step _ _ _ (any_now _ v rest is) c.in_ok-sync_all_names.ensures.moves in
+    proper_now IsAny _ _ _ c.sync_all_names-2.result (any_step _ _ _ first c.in_ok-remove.ensures.moves) c.sync_all_names-2.ensures.counts (λ w q. tt)
+    ∙ proper_now IsAny _ _ _ _ first c.in_ok-remove.ensures.counts (λ w q. tt)
+    ∙ proper_now IsAny _ _ _ _ (any_now _ v rest is) c.in_ok-sync_all_names.ensures.counts (λ w q. tt))

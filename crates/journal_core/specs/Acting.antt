@@ -1,0 +1,47 @@
+-- The actions of a stage, one after another.
+use Rattle.std.specs.Prelude.{◌≡◌, ◌⊎◌, ◌<◌, ◌+◌, ◌^◌, ℕ, Bool, true, false, List, ◌∷◌, length, None, Result, OnOk, OnErr}
+use Rattle.base_core.specs.Calls.{IfObservable}
+use Rattle.base_core.specs.Files.{Files}
+use Rattle.base_core.specs.Tree.{TreeState, after_rename}
+use Rattle.journal_core.specs.Quiet.{IsStill}
+use Rattle.journal_core.specs.Recovery.{Intent, stage_name}
+use Rattle.journal_core.specs.Staged.{Staging, IsActing}
+
+-- a stage with this intent, so many of whose actions are done
+abbrev pub acting_stage : Intent → ℕ → Staging
+acting_stage intent acted = record {
+  intent = intent;
+  staged = 0;
+  is_open = false;
+  published = true;
+  acted = acted;
+}
+
+-- a stage with this intent, all of whose files wait
+abbrev pub full_stage : Intent → Staging
+full_stage intent = record {
+  intent = intent;
+  staged = length intent.writes;
+  is_open = false;
+  published = false;
+  acted = 0;
+}
+
+-- a file that is there is moved, and nothing happens where none is there
+pub record MovesIfThere {T E : Type 0} (place name : List ℕ) (old new : List TreeState)
+    (result : Result T E) : Type 0 where
+  pub ok : OnOk result (IfObservable old (λ v.
+      ((v.names place ≡ None) × (new ≡ old)) ⊎ (new ≡ after_rename place name v ∷ old)))
+  pub err : OnErr result (IfObservable old (λ v.
+      (new ≡ old) ⊎ (new ≡ after_rename place name v ∷ old)))
+
+-- the name of the next write's file
+pub record IsNextName (name : List ℕ) (stage : Staging) : Type 0 where
+  pub is : name ≡ stage_name (stage.staged + 1)
+  pub few : stage.staged + 1 < 2 ^ 64
+
+-- from the start on nothing has happened to the state, and the stage goes on
+pub record GoesWith (ignored : List ℕ → Bool) (files : Files) (stage : Staging)
+    (start v : TreeState) : Type 0 where
+  pub still : IsStill ignored start v
+  pub acting : IsActing stage files v

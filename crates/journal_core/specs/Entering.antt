@@ -1,0 +1,54 @@
+-- How an intent comes to stand under its name.
+use Rattle.std.specs.Prelude.{◌≡◌, ◌≢◌, ◌≤◌, ◌<◌, ℕ, ◌+◌, ◌^◌, Bool, true, List, Some, None, length}
+use Rattle.base_core.specs.Files.{Files}
+use Rattle.base_core.specs.Tree.{TreeState, File, files_of}
+use Rattle.base_core.specs.Crash.{IsOrderly}
+use Rattle.journal_core.specs.Filling.{synced_file}
+use Rattle.journal_core.specs.Recovery.{Intent, IsOldOrNew, IsSettled, RestsOn, intent_name, read_intent, stage_name}
+use Rattle.journal_intent.specs.FreeNames.{HasFreeNames}
+use Rattle.journal_core.specs.Quiet.{IsQuiet}
+
+-- a new file stands under the name, where none stood, and nothing else changed
+pub record IsWritten (place : List ℕ) (file : File) (start v : TreeState) : Type 0 where
+  pub absent : start.names place ≡ None
+  pub number : ℕ
+  pub later : start.made ≤ number
+  pub there : v.names place ≡ Some number
+  pub holds : v.files number ≡ file
+  pub names : (q : List ℕ) → q ≢ place → v.names q ≡ start.names q
+  pub kept : (q : List ℕ) (n : ℕ) → q ≢ place → v.names q ≡ Some n → v.files n ≡ start.files n
+
+-- all waits: the intent as number 0, beside these files, which have neither it nor one under its
+-- name; and the files of its writes
+pub record IsReady (intent : Intent) (base : Files) (made : ℕ) (v : TreeState) : Type 0 where
+  pub absent : v.names intent_name ≡ None
+  pub none_waits : base (stage_name 0) ≡ None
+  pub reads : (q : List ℕ) → q ≢ stage_name 0 → files_of v q ≡ base q
+  pub bytes : List ℕ
+  pub spells : read_intent bytes ≡ Some intent
+  pub number : ℕ
+  pub later : made ≤ number
+  pub there : v.names (stage_name 0) ≡ Some number
+  pub holds : v.files number ≡ synced_file bytes
+  pub synced : (k n : ℕ) → 1 ≤ k → k < 1 + length intent.writes → v.names (stage_name k) ≡ Some n
+      → (v.files n).synced ≡ true
+  pub few : length intent.writes < 2 ^ 63
+  pub free : HasFreeNames intent
+
+-- the intent that is read is a file that was made as this number or later
+abbrev pub Leads : ℕ → TreeState → Type 0
+Leads made v = (n : ℕ) × (v.names intent_name ≡ Some n) × (made ≤ n)
+
+-- a moment at which it moves to its name
+pub record IsEntering (ignored : List ℕ → Bool) (files : Files) (number : ℕ)
+    (start v : TreeState) : Type 0 where
+  pub orderly : IsOrderly (RestsOn ignored) v
+  pub old_or_new : IsOldOrNew ignored start files v
+  pub unpublished : (Leads number v → ⊥) → IsQuiet ignored start v
+  pub made : start.made ≤ v.made
+
+-- one at which no crash undoes this
+pub record IsEntered (ignored : List ℕ → Bool) (files : Files) (made : ℕ)
+    (v : TreeState) : Type 0 where
+  pub settled : IsSettled ignored files v
+  pub leads : Leads made v

@@ -1,0 +1,45 @@
+-- What a recovery makes of the tree, and its faults.
+use Rattle.std.specs.Prelude.{◌≡◌, ℕ, true, if◌then◌else◌, List, Option, None, All}
+use Rattle.std.specs.List.{list_any}
+use Rattle.std.specs.Str.{bytes_eq}
+use Rattle.adb_schema.specs.declared.read.ReadFault.{ReadFault}
+use Rattle.adb_schema.specs.declared.read.ReadFault.TheVariants.{Bad, Memory as NoMemoryToRead}
+use Rattle.base_core.specs.Tree.{TreeState, files_of}
+use Rattle.base_core.specs.declared.tree.TreeFault.{TreeFault}
+use Rattle.base_core.specs.declared.tree.TreeFault.TheVariants.{Disk as TreeFailed, Memory as NoMemory}
+use Rattle.journal_core.specs.declared.recovering.RecoverFault.{RecoverFault}
+use Rattle.journal_core.specs.declared.recovering.RecoverFault.TheVariants.{Disk, IntentBad, Memory}
+use Rattle.journal_core.specs.Recovery.{recovered_files, intent_name, is_staged}
+
+-- a recovery's fault for that of a reading
+abbrev pub recover_fault_of : ReadFault → RecoverFault
+recover_fault_of (Bad cause) = IntentBad cause
+recover_fault_of NoMemoryToRead = Memory
+
+-- and for that of a tree
+abbrev pub recover_fault_of_tree : TreeFault → RecoverFault
+recover_fault_of_tree TreeFailed = Disk
+recover_fault_of_tree NoMemory = Memory
+
+-- the files as read are those with the intent done, and no intent is read
+pub record IsReplayed (start v : TreeState) : Type 0 where
+  pub reads : files_of v ≡ recovered_files (files_of start)
+  pub absent : v.names intent_name ≡ None
+
+-- the names of the waiting files lead nowhere
+abbrev pub unless_staged : {X : Type 0} → (List ℕ → Option X) → List ℕ → Option X
+unless_staged map q = if is_staged q then None else map q
+
+abbrev pub AllStaged : List (List ℕ) → Type 0
+AllStaged names = All (λ name. is_staged name ≡ true) names
+
+-- these names lead nowhere, and the others where they led; no file has changed
+pub record IsWithout (names : List (List ℕ)) (start v : TreeState) : Type 0 where
+  pub map : (q : List ℕ) → v.names q
+      ≡ (if list_any (bytes_eq q) names then None else start.names q)
+  pub files : v.files ≡ start.files
+
+-- nothing waits any more, and no file has changed
+pub record IsEmptied (start v : TreeState) : Type 0 where
+  pub map : (q : List ℕ) → v.names q ≡ unless_staged start.names q
+  pub files : v.files ≡ start.files

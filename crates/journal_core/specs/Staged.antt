@@ -1,0 +1,142 @@
+-- A stage: how new files come to wait, what the publishing of the intent does, the actions behind
+-- it, and what a recovery leaves.
+use Rattle.std.specs.Prelude.{◌≡◌, ◌⊎◌, ◌≤◌, ◌<◌, ℕ, ◌+◌, Bool, true, false, if◌then◌else◌, List, [], ◌∷◌, ◌++◌, length, Option, Some, None, IsSome, slice_get}
+use Rattle.base_core.specs.Files.{Files, NameMap, IsFolderOf, put_name}
+use Rattle.base_core.specs.Tree.{TreeState, IsMapOf, files_by, files_of}
+use Rattle.base_core.specs.Crash.{IsOrderly}
+use Rattle.base_core.specs.Restart.{EachMoment, HasLed}
+use Rattle.base_core.specs.declared.cause.Cause.{Cause}
+use Rattle.adb_schema.specs.Soundness.{first_fault}
+use Rattle.adb_tables.specs.declared.tables.Which.TheVariants.{Intent as IntentTable}
+use Rattle.journal_core.specs.Recovery.{Intent, IsOldOrNew, IsPlaceOf, RestsOn, intent_name, intent_of, is_staged, recovered_files, stage_name}
+use Rattle.journal_core.specs.Quiet.{IsQuiet}
+
+-- a stage as its calls see it: what it is to do, how many of its writes have their files, whether
+-- the next one's file is begun, whether the intent is published, and how many actions are done
+pub record Staging : Type 0 where
+  pub intent : Intent
+  pub staged : ℕ
+  pub is_open : Bool
+  pub published : Bool
+  pub acted : ℕ
+
+-- the removals and the writes
+abbrev pub action_count : Intent → ℕ
+action_count intent = length intent.removals + length intent.writes
+
+-- a stage of these actions that has done nothing
+abbrev pub new_stage : List (List ℕ) → List (List ℕ) → Staging
+new_stage removals writes = record {
+  intent = record { removals = removals; writes = writes };
+  staged = 0;
+  is_open = false;
+  published = false;
+  acted = 0;
+}
+
+-- the intent is there and is no intent container, for this cause
+abbrev pub IsIntentFault : Files → Cause → Type 0
+IsIntentFault files cause = (file : List ℕ) × (files intent_name ≡ Some file)
+    × (first_fault IntentTable file ≡ Some cause)
+
+-- ---- staging
+
+-- files with these bytes waiting, from number k on
+abbrev pub with_staged : ℕ → List (List ℕ) → Files → Files
+with_staged k [] files = files
+with_staged k (bytes ∷ contents) files =
+    with_staged (k + 1) contents (put_name files (stage_name k) bytes)
+
+-- and with those of the file that is begun, as number k
+abbrev pub with_begun : ℕ → Option (List ℕ) → Files → Files
+with_begun k None files = files
+with_begun k (Some bytes) files = put_name files (stage_name k) bytes
+
+-- a file stands under the name, and under no other name in any map; and in none of these maps an
+-- action of the intent takes it
+pub record IsAlone (name : List ℕ) (v : TreeState) : Type 0 where
+  pub number : ℕ
+  pub there : v.names name ≡ Some number
+  pub alone : (map : NameMap) → IsMapOf v map → (q : List ℕ) → map q ≡ Some number → q ≡ name
+  pub no_place : (map : NameMap) → IsMapOf v map → map name ≡ Some number
+      → IsPlaceOf (intent_of (files_by v map)) name → ⊥
+
+abbrev pub IsBegun : ℕ → Option (List ℕ) → TreeState → Type 0
+IsBegun k None v = Unit {0}
+IsBegun k (Some bytes) v = IsAlone (stage_name k) v
+
+-- Nothing but a stage's calls has written the tree since the files as read were `base`, and these
+-- held no intent. Files with these bytes wait and are synced, and one with those of the file that
+-- is begun waits.
+pub record IsStaged (stage : Staging) (contents : List (List ℕ)) (begun : Option (List ℕ))
+    (base : Files) (v : TreeState) : Type 0 where
+  pub count : length contents ≡ stage.staged
+  pub absent : base intent_name ≡ None
+  pub reads : files_of v ≡ with_begun (1 + length contents) begun (with_staged 1 contents base)
+  pub synced : (k n : ℕ) → 1 ≤ k → k < 1 + length contents → v.names (stage_name k) ≡ Some n
+      → (v.files n).synced ≡ true
+  pub alone : IsBegun (1 + length contents) begun v
+
+-- ---- the actions
+
+-- the first so many actions are done in these files
+pub record AreDone (intent : Intent) (acted : ℕ) (files : Files) : Type 0 where
+  pub removed : (i : ℕ) (name : List ℕ) → i < acted → slice_get intent.removals i ≡ Some name
+      → files name ≡ None
+  pub moved : (k : ℕ) → 1 ≤ k → length intent.removals + k ≤ acted → files (stage_name k) ≡ None
+
+-- from the publishing on: the intent is read, the files as read stand for these files, and the
+-- stage's actions so far are done
+pub record IsActing (stage : Staging) (files : Files) (v : TreeState) : Type 0 where
+  pub stands : intent_of (files_of v) ≡ Some stage.intent
+  pub reads : recovered_files (files_of v) ≡ files
+  pub done : AreDone stage.intent stage.acted (files_of v)
+
+-- ---- recovery
+
+-- the files as a recovery leaves them: the intent is done, and nothing waits
+abbrev pub unstaged_files : Files → Files
+unstaged_files files q = if is_staged q then None else recovered_files files q
+
+-- nothing waits
+abbrev pub IsEmptyStage : {X : Type 0} → (List ℕ → Option X) → Type 0
+IsEmptyStage files = (q : List ℕ) → is_staged q ≡ true → files q ≡ None
+
+-- ---- moments
+
+-- a moment of a run that leads to these files: a crash leaves a state from before or theirs, and
+-- one from before as long as no file that was made since was read as the intent
+pub record IsOnTheWay (ignored : List ℕ → Bool) (files : Files) (start : TreeState)
+    (earlier : List TreeState) (v : TreeState) : Type 0 where
+  pub orderly : IsOrderly (RestsOn ignored) v
+  pub old_or_new : IsOldOrNew ignored start files v
+  pub unpublished : (HasLed intent_name start.made (v ∷ earlier) → ⊥) → IsQuiet ignored start v
+  pub made : start.made ≤ v.made
+
+-- and by one of the moments one was
+pub record PublishedBy (made : ℕ) (P : List TreeState → TreeState → Type 0)
+    (old new : List TreeState) : Type 0 where
+  pub added : List TreeState
+  pub is : new ≡ added ++ old
+  pub each : EachMoment P added
+  pub published : HasLed intent_name made added
+
+-- ---- room
+
+-- a name that is present, or that a stage may make so
+abbrev pub MayBePresent : Files → List ℕ → Type 0
+MayBePresent files q =
+    IsSome (files q) ⊎ ((q ≡ intent_name) ⊎ ((k : ℕ) × (q ≡ stage_name k)))
+
+-- the files stay folder-like with the intent and all that may wait
+pub record HasRoomBeside (files : Files) : Type 0 where
+  pub folders : (p q : List ℕ) → IsFolderOf p q → MayBePresent files p → MayBePresent files q → ⊥
+
+-- and nothing waits yet
+pub record HasRoomToStage (files : Files) : Type 0 where
+  pub empty : IsEmptyStage files
+  pub beside : HasRoomBeside files
+
+-- where an intent is found, its actions have room
+abbrev pub HasRoomToReplay : Files → Type 0
+HasRoomToReplay files = IsSome (intent_of files) → HasRoomBeside (recovered_files files)

@@ -1,0 +1,123 @@
+//! The actions of an intent, one after another: its removals, and behind them its moves.
+ghost use Rattle.std.specs.Prelude.{◌≡◌, ◌≤◌, ◌<◌, ◌+◌, ℕ, Bool, List, length, IfOk, OnOk, OnErr, IsSome};
+ghost use Rattle.base_core.specs.Calls.{HasNow, IfObservable};
+ghost use Rattle.base_core.specs.Crash.{IsOrderly, Since};
+ghost use Rattle.base_core.specs.Faults.{GoesOn, HasCause, IsNoFault};
+ghost use Rattle.base_core.specs.Files.{Files};
+ghost use Rattle.base_core.specs.Tree.{CanRename};
+ghost use Rattle.journal_core.specs.Acting.{MovesIfThere, acting_stage};
+ghost use Rattle.journal_core.specs.Quiet.{IsStill};
+ghost use Rattle.journal_core.specs.Recovery.{RestsOn};
+ghost use Rattle.journal_core.specs.Staged.{HasRoomBeside, IsActing, action_count};
+
+use crate::calls::{remove, rename};
+use crate::laws::Journal;
+use base_core::{Disk, Name, Tree, a_crash_may_leave_the_files_as_read, order_outlasts_a_crash};
+use journal_intent::PreparedIntent;
+
+/// Does the action behind so many, where there is one; and answers how many are done then.
+pub(crate) fn act<T: Tree>(
+    intent: &PreparedIntent,
+    acted: usize,
+    tree: &mut T,
+) -> Result<usize, Disk>
+    ensures moments { IfObservable (T.history tree.old) (λ v. (ignored : List ℕ → Bool)
+        (files : Files) → IsOrderly (RestsOn ignored) v
+        → IsActing (acting_stage intent.now acted) files v
+        → Since (IsStill ignored v) (T.history tree.old) (T.history tree.new)) }
+    ensures acting { IfObservable (T.history tree.old) (λ v. (files : Files)
+        → IsActing (acting_stage intent.now acted) files v
+        → IfOk result (λ next. HasNow (T.history tree.new)
+        (IsActing (acting_stage intent.now next) files))) }
+    ensures more { acted < action_count intent.now → IfOk result (λ next. next ≡ acted + 1) }
+    ensures none_left { action_count intent.now ≤ acted
+        → IfOk result (λ next. next ≡ acted) × (tree.new ≡ tree.old) }
+    ensures goes_on { GoesOn (T.counts tree.old) (T.counts tree.new) }
+    ensures cause { OnErr result (HasCause (T.counts tree.old) (T.counts tree.new)) }
+    ensures kept { OnOk result (IsNoFault (T.counts tree.old) (T.counts tree.new)) }
+    ensures proper { IfObservable (T.history tree.old) (λ v. (files : Files)
+        → IsActing (acting_stage intent.now acted) files v → HasRoomBeside files
+        → (T.counts tree.new).misuses ≡ (T.counts tree.old).misuses) }
+{
+    intent.names_are_free();
+    let removals = intent.removals_len();
+    if acted < removals {
+        remove_one(intent, acted, tree)?;
+        return Ok(acted + 1);
+    }
+    if acted - removals < intent.writes_len() {
+        move_one(intent, acted - removals, acted, tree)?;
+        return Ok(acted + 1);
+    }
+    Ok(acted)
+}
+
+/// The removal behind so many.
+fn remove_one<T: Tree>(intent: &PreparedIntent, i: usize, tree: &mut T) -> Result<(), Disk>
+    requires { i < length intent.now.removals }
+    ensures moments { IfObservable (T.history tree.old) (λ v. (ignored : List ℕ → Bool)
+        (files : Files) → IsOrderly (RestsOn ignored) v
+        → IsActing (acting_stage intent.now i) files v
+        → Since (IsStill ignored v) (T.history tree.old) (T.history tree.new)) }
+    ensures acting { IfObservable (T.history tree.old) (λ v. (files : Files)
+        → IsActing (acting_stage intent.now i) files v
+        → OnOk result (HasNow (T.history tree.new)
+        (IsActing (acting_stage intent.now (i + 1)) files))) }
+    ensures goes_on { GoesOn (T.counts tree.old) (T.counts tree.new) }
+    ensures cause { OnErr result (HasCause (T.counts tree.old) (T.counts tree.new)) }
+    ensures kept { OnOk result (IsNoFault (T.counts tree.old) (T.counts tree.new)) }
+    ensures proper { IfObservable (T.history tree.old)
+        (λ v. (T.counts tree.new).misuses ≡ (T.counts tree.old).misuses) }
+{
+    a_crash_may_leave_the_files_as_read();
+    order_outlasts_a_crash::<Journal>();
+    intent.names_are_free();
+    remove(tree, intent.removal(i))
+}
+
+/// The move behind so many, and behind the removals.
+fn move_one<T: Tree>(
+    intent: &PreparedIntent,
+    j: usize,
+    acted: usize,
+    tree: &mut T,
+) -> Result<(), Disk>
+    requires within { j < length intent.now.writes }
+    requires behind { acted ≡ length intent.now.removals + j }
+    ensures moments { IfObservable (T.history tree.old) (λ v. (ignored : List ℕ → Bool)
+        (files : Files) → IsOrderly (RestsOn ignored) v
+        → IsActing (acting_stage intent.now acted) files v
+        → Since (IsStill ignored v) (T.history tree.old) (T.history tree.new)) }
+    ensures acting { IfObservable (T.history tree.old) (λ v. (files : Files)
+        → IsActing (acting_stage intent.now acted) files v
+        → OnOk result (HasNow (T.history tree.new)
+        (IsActing (acting_stage intent.now (acted + 1)) files))) }
+    ensures goes_on { GoesOn (T.counts tree.old) (T.counts tree.new) }
+    ensures cause { OnErr result (HasCause (T.counts tree.old) (T.counts tree.new)) }
+    ensures kept { OnOk result (IsNoFault (T.counts tree.old) (T.counts tree.new)) }
+    ensures proper { IfObservable (T.history tree.old) (λ v. (files : Files)
+        → IsActing (acting_stage intent.now acted) files v → HasRoomBeside files
+        → (T.counts tree.new).misuses ≡ (T.counts tree.old).misuses) }
+{
+    a_crash_may_leave_the_files_as_read();
+    order_outlasts_a_crash::<Journal>();
+    intent.names_are_free();
+    move_waiting(tree, intent.stage_name(j + 1), intent.write(j))
+}
+
+/// Moves a waiting file to its name; one that is absent was moved before.
+fn move_waiting<T: Tree>(tree: &mut T, place: &Name, name: &Name) -> Result<(), Disk>
+    ensures moves { MovesIfThere place.now name.now (T.history tree.old) (T.history tree.new)
+        result }
+    ensures goes_on { GoesOn (T.counts tree.old) (T.counts tree.new) }
+    ensures cause { OnErr result (HasCause (T.counts tree.old) (T.counts tree.new)) }
+    ensures kept { OnOk result (IsNoFault (T.counts tree.old) (T.counts tree.new)) }
+    ensures proper { IfObservable (T.history tree.old) (λ v.
+        (IsSome (v.names place.now) → CanRename place.now name.now v)
+        → (T.counts tree.new).misuses ≡ (T.counts tree.old).misuses) }
+{
+    match tree.size(place)? {
+        Some(_) => rename(tree, place, name),
+        None => Ok(()),
+    }
+}

@@ -1,0 +1,67 @@
+//! The calls of a tree that change it, each under a name of its own, so that a caller's proof can
+//! cite their clauses.
+ghost use Rattle.base_core.specs.Calls.{IsCounted, Moves};
+ghost use Rattle.base_core.specs.Tree.{after_append, after_create, after_failed_append, after_remove, after_rename, after_sync, after_sync_names, same_state, Anywhere, CanCreate, CanRename, HasName};
+
+use base_core::{Disk, Name, Tree};
+
+/// Takes away what an earlier run left under the name.
+pub(crate) fn remove<T: Tree>(tree: &mut T, name: &Name) -> Result<(), Disk>
+    ensures moves { Moves Anywhere (after_remove name.now) (after_remove name.now)
+        (T.history tree.old) (T.history tree.new) result }
+    ensures counts { IsCounted Anywhere (T.history tree.old) (T.counts tree.old)
+        (T.counts tree.new) result }
+{
+    tree.remove(name)
+}
+
+/// Makes an empty file.
+pub(crate) fn create<T: Tree>(tree: &mut T, name: &Name) -> Result<(), Disk>
+    ensures moves { Moves (CanCreate name.now) (after_create name.now) (after_create name.now)
+        (T.history tree.old) (T.history tree.new) result }
+    ensures counts { IsCounted (CanCreate name.now) (T.history tree.old) (T.counts tree.old)
+        (T.counts tree.new) result }
+{
+    tree.create(name)
+}
+
+/// Adds the bytes at the file's end.
+pub(crate) fn append<T: Tree>(tree: &mut T, name: &Name, bytes: &[u8]) -> Result<(), Disk>
+    ensures moves { Moves (HasName name.now) (after_append name.now bytes.now)
+        (after_failed_append name.now)
+        (T.history tree.old) (T.history tree.new) result }
+    ensures counts { IsCounted (HasName name.now) (T.history tree.old)
+        (T.counts tree.old) (T.counts tree.new) result }
+{
+    tree.append(name, bytes)
+}
+
+/// Makes the file's bytes last.
+pub(crate) fn sync_file<T: Tree>(tree: &mut T, name: &Name) -> Result<(), Disk>
+    ensures moves { Moves (HasName name.now) (after_sync name.now) same_state
+        (T.history tree.old) (T.history tree.new) result }
+    ensures counts { IsCounted (HasName name.now) (T.history tree.old)
+        (T.counts tree.old) (T.counts tree.new) result }
+{
+    tree.sync(name)
+}
+
+/// Moves the file of `from` to `to`.
+pub(crate) fn rename<T: Tree>(tree: &mut T, from: &Name, to: &Name) -> Result<(), Disk>
+    ensures moves { Moves (CanRename from.now to.now) (after_rename from.now to.now)
+        (after_rename from.now to.now) (T.history tree.old) (T.history tree.new) result }
+    ensures counts { IsCounted (CanRename from.now to.now) (T.history tree.old)
+        (T.counts tree.old) (T.counts tree.new) result }
+{
+    tree.rename(from, to)
+}
+
+/// Makes the names last.
+pub(crate) fn sync_all_names<T: Tree>(tree: &mut T) -> Result<(), Disk>
+    ensures moves { Moves Anywhere after_sync_names same_state (T.history tree.old)
+        (T.history tree.new) result }
+    ensures counts { IsCounted Anywhere (T.history tree.old) (T.counts tree.old)
+        (T.counts tree.new) result }
+{
+    tree.sync_names()
+}

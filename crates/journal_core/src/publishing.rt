@@ -1,0 +1,103 @@
+//! The intent of a stage comes to stand under its name.
+ghost use Rattle.std.specs.Prelude.{◌≡◌, ℕ, Bool, List, None, OnOk, OnErr};
+ghost use Rattle.base_core.specs.Calls.{HasNow, IfObservable};
+ghost use Rattle.base_core.specs.Crash.{IsOrderly, Since};
+ghost use Rattle.base_core.specs.Faults.{GoesOn, HasCause, IsNoFault};
+ghost use Rattle.base_core.specs.Files.{Files};
+ghost use Rattle.base_core.specs.Restart.{SinceBy};
+ghost use Rattle.base_core.specs.Tree.{CanCreate, CanRename, files_of};
+ghost use Rattle.journal_core.specs.Acting.{acting_stage, full_stage};
+ghost use Rattle.journal_core.specs.Entering.{IsEntered, IsEntering, IsReady, IsWritten};
+ghost use Rattle.journal_core.specs.Filling.{synced_file};
+ghost use Rattle.journal_core.specs.Quiet.{IsStill};
+ghost use Rattle.journal_core.specs.Recovery.{Intent, IsSettled, RestsOn, after_actions, intent_name, stage_name};
+ghost use Rattle.journal_core.specs.Staged.{HasRoomToStage, IsActing, IsOnTheWay, IsStaged, PublishedBy};
+
+use crate::calls::{append, create, rename, sync_all_names, sync_file};
+use crate::laws::Journal;
+use base_core::{Disk, Name, Tree, a_crash_may_leave_the_files_as_read, order_outlasts_a_crash};
+use journal_intent::PreparedIntent;
+
+/// Writes the intent as a waiting file, and moves it to its name.
+pub(crate) fn publish_intent<T: Tree>(tree: &mut T, intent: &PreparedIntent) -> Result<(), Disk>
+    ensures moments { IfObservable (T.history tree.old) (λ v. (ignored : List ℕ → Bool)
+        (contents : List (List ℕ)) (base : Files) → IsOrderly (RestsOn ignored) v
+        → IsStaged (full_stage intent.now) contents None base v
+        → SinceBy (IsOnTheWay ignored (after_actions intent.now (files_of v)) v)
+        (T.history tree.old) (T.history tree.new)) }
+    ensures published { IfObservable (T.history tree.old) (λ v. (ignored : List ℕ → Bool)
+        (contents : List (List ℕ)) (base : Files) → IsOrderly (RestsOn ignored) v
+        → IsStaged (full_stage intent.now) contents None base v → OnOk result
+        (PublishedBy v.made (IsOnTheWay ignored (after_actions intent.now (files_of v)) v)
+        (T.history tree.old) (T.history tree.new))) }
+    ensures settled { IfObservable (T.history tree.old) (λ v. (ignored : List ℕ → Bool)
+        (contents : List (List ℕ)) (base : Files) → IsOrderly (RestsOn ignored) v
+        → IsStaged (full_stage intent.now) contents None base v
+        → OnOk result (HasNow (T.history tree.new)
+        (IsSettled ignored (after_actions intent.now (files_of v))))) }
+    ensures acting { IfObservable (T.history tree.old) (λ v. (contents : List (List ℕ))
+        (base : Files) → IsStaged (full_stage intent.now) contents None base v
+        → OnOk result (HasNow (T.history tree.new)
+        (IsActing (acting_stage intent.now 0) (after_actions intent.now (files_of v))))) }
+    ensures goes_on { GoesOn (T.counts tree.old) (T.counts tree.new) }
+    ensures cause { OnErr result (HasCause (T.counts tree.old) (T.counts tree.new)) }
+    ensures kept { OnOk result (IsNoFault (T.counts tree.old) (T.counts tree.new)) }
+    ensures proper { IfObservable (T.history tree.old) (λ v. (contents : List (List ℕ))
+        (base : Files) → IsStaged (full_stage intent.now) contents None base v
+        → HasRoomToStage base → (T.counts tree.new).misuses ≡ (T.counts tree.old).misuses) }
+{
+    intent.names_are_free();
+    write_waiting(tree, intent.stage_name(0), intent.file())?;
+    enter(tree, intent.stage_name(0), intent.name())
+}
+
+/// Makes a waiting file with these bytes, and syncs it.
+fn write_waiting<T: Tree>(tree: &mut T, place: &Name, bytes: &[u8]) -> Result<(), Disk>
+    requires { place.now ≡ stage_name 0 }
+    ensures moments { IfObservable (T.history tree.old) (λ v. (ignored : List ℕ → Bool)
+        → IsOrderly (RestsOn ignored) v → files_of v intent_name ≡ None
+        → Since (IsStill ignored v) (T.history tree.old) (T.history tree.new)) }
+    ensures written { IfObservable (T.history tree.old) (λ v. files_of v intent_name ≡ None
+        → OnOk result (HasNow (T.history tree.new)
+        (IsWritten place.now (synced_file bytes.now) v))) }
+    ensures goes_on { GoesOn (T.counts tree.old) (T.counts tree.new) }
+    ensures cause { OnErr result (HasCause (T.counts tree.old) (T.counts tree.new)) }
+    ensures kept { OnOk result (IsNoFault (T.counts tree.old) (T.counts tree.new)) }
+    ensures proper { IfObservable (T.history tree.old) (λ v. CanCreate place.now v
+        → (T.counts tree.new).misuses ≡ (T.counts tree.old).misuses) }
+{
+    a_crash_may_leave_the_files_as_read();
+    order_outlasts_a_crash::<Journal>();
+    create(tree, place)?;
+    append(tree, place, bytes)?;
+    sync_file(tree, place)
+}
+
+/// Moves the intent that waits to its name, and makes the names last before and behind it.
+fn enter<T: Tree>(tree: &mut T, place: &Name, name: &Name) -> Result<(), Disk>
+    requires place { place.now ≡ stage_name 0 }
+    requires name { name.now ≡ intent_name }
+    ensures moments { IfObservable (T.history tree.old) (λ v. (ignored : List ℕ → Bool)
+        (intent : Intent) (base : Files) (made : ℕ) → IsOrderly (RestsOn ignored) v
+        → IsReady intent base made v
+        → Since (IsEntering ignored (after_actions intent base) made v) (T.history tree.old)
+        (T.history tree.new)) }
+    ensures entered { IfObservable (T.history tree.old) (λ v. (ignored : List ℕ → Bool)
+        (intent : Intent) (base : Files) (made : ℕ) → IsOrderly (RestsOn ignored) v
+        → IsReady intent base made v → OnOk result (HasNow (T.history tree.new)
+        (IsEntered ignored (after_actions intent base) made))) }
+    ensures acting { IfObservable (T.history tree.old) (λ v. (intent : Intent) (base : Files)
+        (made : ℕ) → IsReady intent base made v → OnOk result (HasNow (T.history tree.new)
+        (IsActing (acting_stage intent 0) (after_actions intent base)))) }
+    ensures goes_on { GoesOn (T.counts tree.old) (T.counts tree.new) }
+    ensures cause { OnErr result (HasCause (T.counts tree.old) (T.counts tree.new)) }
+    ensures kept { OnOk result (IsNoFault (T.counts tree.old) (T.counts tree.new)) }
+    ensures proper { IfObservable (T.history tree.old) (λ v. CanRename place.now name.now v
+        → (T.counts tree.new).misuses ≡ (T.counts tree.old).misuses) }
+{
+    a_crash_may_leave_the_files_as_read();
+    order_outlasts_a_crash::<Journal>();
+    sync_all_names(tree)?;
+    rename(tree, place, name)?;
+    sync_all_names(tree)
+}

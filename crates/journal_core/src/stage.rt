@@ -1,0 +1,333 @@
+//! A stage: new files wait under names of their own until one step lets all of them count.
+ghost use Rattle.std.specs.Prelude.{◌≡◌, ◌≢◌, ◌≤◌, ◌<◌, ◌+◌, ◌++◌, ◌∷◌, [], ◌^◌, ℕ, Bool, true, false, List, Some, None, length, IfOk, OnOk, OnErr, IsErrOf, nat_lt};
+ghost use Rattle.adb_schema.specs.Soundness.{first_fault};
+ghost use Rattle.adb_tables.specs.declared.tables.Which.TheVariants.{Intent as IntentTable};
+ghost use Rattle.adb_write.specs.Canonical.{overflow_of};
+ghost use Rattle.base_core.specs.Calls.{HasNow, IfObservable};
+ghost use Rattle.base_core.specs.Crash.{IsOrderly, Since};
+ghost use Rattle.base_core.specs.Faults.{GoesOn, HasCause, IsNoFault};
+ghost use Rattle.base_core.specs.Files.{Files};
+ghost use Rattle.base_core.specs.Restart.{SinceBy};
+ghost use Rattle.base_core.specs.Tree.{files_of};
+ghost use Rattle.base_core.specs.declared.cause.Cause.{Cause};
+ghost use Rattle.journal_core.specs.Acting.{IsNextName};
+ghost use Rattle.journal_core.specs.Quiet.{IsStill};
+ghost use Rattle.journal_core.specs.Recovery.{IsSettled, RestsOn, after_actions, intent_name, read_intent, stage_name};
+ghost use Rattle.journal_core.specs.Staged.{Staging, HasRoomBeside, HasRoomToStage, IsActing, IsOnTheWay, IsStaged, PublishedBy, action_count, new_stage};
+ghost use Rattle.journal_intent.specs.Intent.{AreChangeNames};
+ghost use Rattle.journal_intent.specs.IntentValue.{intent_of_lists, value_of_intent};
+
+use crate::acting::act;
+use crate::calls::{append, create, remove, sync_all_names, sync_file};
+use crate::laws::Journal;
+use crate::publishing::publish_intent;
+use crate::recovering::RecoverFault;
+use adb_write::WriteFault;
+use base_core::{
+    Disk, Name, Names, Tree, a_crash_may_leave_the_files_as_read, order_outlasts_a_crash,
+};
+use journal_intent::PreparedIntent;
+use std::alloc::Global;
+use std::marker::Model;
+
+/// New files that wait for their names, and the actions that are done once all of them wait: names
+/// are removed, and the waiting files are moved to their names.
+///
+/// `begin` takes all the memory that a stage needs. Each write's file is then begun, appended to
+/// and ended, in the order of the writes; `publish` lets all actions count in one step; and
+/// `apply_one` and `finish` do them. After a fault a stage may only be dropped, and the root is
+/// recovered.
+#[derive(Drop)]
+pub struct Stage {
+    pub(crate) intent: PreparedIntent,
+    /// How many writes have their files.
+    pub(crate) staged: usize,
+    /// Whether the file of the next write is begun.
+    pub(crate) is_open: bool,
+    /// Whether the intent is published.
+    pub(crate) published: bool,
+    /// How many actions are done.
+    pub(crate) acted: usize,
+}
+
+impl Model for Stage {
+    ghost use Rattle.std.specs.Prelude.{◌≡◌, ◌<◌, true, length};
+    ghost use Rattle.journal_core.specs.Staged.{Staging};
+
+    ghost Value = { Staging };
+
+    ghost view = { λ s. record {
+      intent = s.intent;
+      staged = s.staged;
+      is_open = s.is_open;
+      published = s.published;
+      acted = s.acted;
+    } };
+
+    // A file is begun only for a write that is left.
+    ghost invariant = { λ s. s.is_open ≡ true → s.staged < length s.intent.writes };
+}
+
+impl Stage {
+    /// A stage of these actions. It takes all the memory that it needs, and touches no tree.
+    ///
+    /// # Errors
+    ///
+    /// `TooLarge` exactly where the payload of the intent's container would pass a limit of the
+    /// writer, with the counts there; or `Memory`.
+    pub fn begin(alloc: Global, removals: &Names, writes: &Names) -> Result<Stage, WriteFault>
+        requires { AreChangeNames (removals.now ++ writes.now) }
+        ensures view { IfOk result (λ stage. stage ≡ new_stage removals.now writes.now) }
+        ensures large { (bytes values : ℕ) → IsErrOf result (WriteFault.TooLarge bytes values)
+            → overflow_of (value_of_intent (intent_of_lists removals.now writes.now))
+            ≡ Some (bytes, values) }
+        ensures fits { OnOk result
+            (overflow_of (value_of_intent (intent_of_lists removals.now writes.now)) ≡ None) }
+    {
+        let intent = PreparedIntent::of_names(alloc, removals, writes)?;
+        Ok(Stage {
+            intent,
+            staged: 0,
+            is_open: false,
+            published: false,
+            acted: 0,
+        })
+    }
+
+    /// The stage whose intent was found in a file, and is published.
+    pub(crate) fn found(alloc: Global, file: Vec<u8>) -> Result<Stage, RecoverFault>
+        ensures intent { IfOk result (λ stage. read_intent file.items ≡ Some stage.intent) }
+        ensures published { IfOk result (λ stage. stage.published ≡ true) }
+        ensures none { IfOk result (λ stage. stage.acted ≡ 0) }
+        ensures bad { (cause : Cause) → IsErrOf result (RecoverFault.IntentBad cause)
+            → first_fault IntentTable file.items ≡ Some cause }
+        ensures good { OnOk result (first_fault IntentTable file.items ≡ None) }
+        ensures only { IsErrOf result RecoverFault.Disk → ⊥ }
+    {
+        let intent = PreparedIntent::of_file(alloc, file)?;
+        let staged = intent.writes_len();
+        Ok(Stage {
+            intent,
+            staged,
+            is_open: false,
+            published: true,
+            acted: 0,
+        })
+    }
+
+    /// Whether an action is left.
+    pub(crate) fn has_more(&self) -> bool
+        ensures { result ≡ nat_lt self.now.acted (action_count self.now.intent) }
+    {
+        self.intent.names_are_free();
+        self.acted < self.intent.removals_len() + self.intent.writes_len()
+    }
+
+    /// The name of the next write's file.
+    fn next_name(&self) -> &Name
+        requires { self.now.staged < length self.now.intent.writes }
+        ensures { IsNextName result.now self.now }
+    {
+        self.intent.names_are_free();
+        self.intent.stage_name(self.staged + 1)
+    }
+
+    /// The name of the file that is begun.
+    fn open_name(&self) -> &Name
+        requires { self.now.is_open ≡ true }
+        ensures { IsNextName result.now self.now }
+    {
+        self.intent.names_are_free();
+        self.intent.stage_name(self.staged + 1)
+    }
+
+    /// Makes an empty file for the next write.
+    pub fn file_begin<T: Tree>(&mut self, tree: &mut T) -> Result<(), Disk>
+        requires closed { self.old.is_open ≡ false }
+        requires more { self.old.staged < length self.old.intent.writes }
+
+        // From an orderly tree on, each moment is orderly, and nothing has happened to the state.
+        ensures moments { IfObservable (T.history tree.old) (λ v. (ignored : List ℕ → Bool)
+            (contents : List (List ℕ)) (base : Files) → IsOrderly (RestsOn ignored) v
+            → IsStaged self.old contents None base v
+            → Since (IsStill ignored v) (T.history tree.old) (T.history tree.new)) }
+        ensures staged { IfObservable (T.history tree.old) (λ v. (contents : List (List ℕ))
+            (base : Files) → IsStaged self.old contents None base v
+            → OnOk result (HasNow (T.history tree.new)
+            (IsStaged self.new contents (Some []) base))) }
+
+        // Whatever it answers, the files as read stay as they are under every other name.
+        ensures others { IfObservable (T.history tree.old) (λ v. (contents : List (List ℕ))
+            (base : Files) → IsStaged self.old contents None base v
+            → HasNow (T.history tree.new) (λ w. (q : List ℕ)
+            → q ≢ stage_name (self.old.staged + 1) → files_of w q ≡ files_of v q)) }
+        ensures view { OnOk result (self.new ≡ record self.old { is_open = true }) }
+        ensures goes_on { GoesOn (T.counts tree.old) (T.counts tree.new) }
+        ensures cause { OnErr result (HasCause (T.counts tree.old) (T.counts tree.new)) }
+        ensures kept { OnOk result (IsNoFault (T.counts tree.old) (T.counts tree.new)) }
+        ensures proper { IfObservable (T.history tree.old) (λ v. (contents : List (List ℕ))
+            (base : Files) → IsStaged self.old contents None base v → HasRoomToStage base
+            → (T.counts tree.new).misuses ≡ (T.counts tree.old).misuses) }
+    {
+        a_crash_may_leave_the_files_as_read();
+        order_outlasts_a_crash::<Journal>();
+        create(tree, self.next_name())?;
+        self.is_open = true;
+        Ok(())
+    }
+
+    /// Adds bytes to the file that is begun.
+    pub fn file_append<T: Tree>(&mut self, tree: &mut T, piece: &[u8]) -> Result<(), Disk>
+        requires { self.old.is_open ≡ true }
+        ensures moments { IfObservable (T.history tree.old) (λ v. (ignored : List ℕ → Bool)
+            (contents : List (List ℕ)) (so_far : List ℕ) (base : Files)
+            → IsOrderly (RestsOn ignored) v → IsStaged self.old contents (Some so_far) base v
+            → Since (IsStill ignored v) (T.history tree.old) (T.history tree.new)) }
+        ensures staged { IfObservable (T.history tree.old) (λ v. (contents : List (List ℕ))
+            (so_far : List ℕ) (base : Files) → IsStaged self.old contents (Some so_far) base v
+            → OnOk result (HasNow (T.history tree.new)
+            (IsStaged self.new contents (Some (so_far ++ piece.now)) base))) }
+        ensures others { IfObservable (T.history tree.old) (λ v. (contents : List (List ℕ))
+            (so_far : List ℕ) (base : Files) → IsStaged self.old contents (Some so_far) base v
+            → HasNow (T.history tree.new) (λ w. (q : List ℕ)
+            → q ≢ stage_name (self.old.staged + 1) → files_of w q ≡ files_of v q)) }
+        ensures view { OnOk result (self.new ≡ self.old) }
+        ensures goes_on { GoesOn (T.counts tree.old) (T.counts tree.new) }
+        ensures cause { OnErr result (HasCause (T.counts tree.old) (T.counts tree.new)) }
+        ensures kept { OnOk result (IsNoFault (T.counts tree.old) (T.counts tree.new)) }
+        ensures proper { IfObservable (T.history tree.old) (λ v. (contents : List (List ℕ))
+            (so_far : List ℕ) (base : Files) → IsStaged self.old contents (Some so_far) base v
+            → (T.counts tree.new).misuses ≡ (T.counts tree.old).misuses) }
+    {
+        a_crash_may_leave_the_files_as_read();
+        order_outlasts_a_crash::<Journal>();
+        append(tree, self.open_name(), piece)
+    }
+
+    /// The file that is begun is whole: its bytes are made to last.
+    pub fn file_end<T: Tree>(&mut self, tree: &mut T) -> Result<(), Disk>
+        requires { self.old.is_open ≡ true }
+        ensures moments { IfObservable (T.history tree.old) (λ v. (ignored : List ℕ → Bool)
+            (contents : List (List ℕ)) (so_far : List ℕ) (base : Files)
+            → IsOrderly (RestsOn ignored) v → IsStaged self.old contents (Some so_far) base v
+            → Since (IsStill ignored v) (T.history tree.old) (T.history tree.new)) }
+        ensures staged { IfObservable (T.history tree.old) (λ v. (contents : List (List ℕ))
+            (so_far : List ℕ) (base : Files) → IsStaged self.old contents (Some so_far) base v
+            → OnOk result (HasNow (T.history tree.new)
+            (IsStaged self.new (contents ++ so_far ∷ []) None base))) }
+        ensures others { IfObservable (T.history tree.old) (λ v. (contents : List (List ℕ))
+            (so_far : List ℕ) (base : Files) → IsStaged self.old contents (Some so_far) base v
+            → HasNow (T.history tree.new) (λ w. files_of w ≡ files_of v)) }
+        ensures view { OnOk result
+            (self.new ≡ record self.old { staged = self.old.staged + 1; is_open = false }) }
+        ensures goes_on { GoesOn (T.counts tree.old) (T.counts tree.new) }
+        ensures cause { OnErr result (HasCause (T.counts tree.old) (T.counts tree.new)) }
+        ensures kept { OnOk result (IsNoFault (T.counts tree.old) (T.counts tree.new)) }
+        ensures proper { IfObservable (T.history tree.old) (λ v. (contents : List (List ℕ))
+            (so_far : List ℕ) (base : Files) → IsStaged self.old contents (Some so_far) base v
+            → (T.counts tree.new).misuses ≡ (T.counts tree.old).misuses) }
+    {
+        a_crash_may_leave_the_files_as_read();
+        order_outlasts_a_crash::<Journal>();
+        sync_file(tree, self.open_name())?;
+        self.staged += 1;
+        self.is_open = false;
+        Ok(())
+    }
+
+    /// The point of no return: the intent is written as a waiting file of its own, and moves to
+    /// its name. No action is done yet.
+    pub fn publish<T: Tree>(&mut self, tree: &mut T) -> Result<(), Disk>
+        requires closed { self.old.is_open ≡ false }
+        requires all { self.old.staged ≡ length self.old.intent.writes }
+
+        // At each moment a crash leaves a state from before or that of the actions done, and one
+        // from before as long as no file that was made since was read as the intent.
+        ensures moments { IfObservable (T.history tree.old) (λ v. (ignored : List ℕ → Bool)
+            (contents : List (List ℕ)) (base : Files) → IsOrderly (RestsOn ignored) v
+            → IsStaged self.old contents None base v
+            → SinceBy (IsOnTheWay ignored (after_actions self.old.intent (files_of v)) v)
+            (T.history tree.old) (T.history tree.new)) }
+        ensures published { IfObservable (T.history tree.old) (λ v. (ignored : List ℕ → Bool)
+            (contents : List (List ℕ)) (base : Files) → IsOrderly (RestsOn ignored) v
+            → IsStaged self.old contents None base v → OnOk result (PublishedBy v.made
+            (IsOnTheWay ignored (after_actions self.old.intent (files_of v)) v)
+            (T.history tree.old) (T.history tree.new))) }
+
+        // Once it has answered Ok, each crash leaves the state of the actions done.
+        ensures settled { IfObservable (T.history tree.old) (λ v. (ignored : List ℕ → Bool)
+            (contents : List (List ℕ)) (base : Files) → IsOrderly (RestsOn ignored) v
+            → IsStaged self.old contents None base v → OnOk result (HasNow (T.history tree.new)
+            (IsSettled ignored (after_actions self.old.intent (files_of v))))) }
+        ensures acting { IfObservable (T.history tree.old) (λ v. (contents : List (List ℕ))
+            (base : Files) → IsStaged self.old contents None base v
+            → OnOk result (HasNow (T.history tree.new)
+            (IsActing self.new (after_actions self.old.intent (files_of v))))) }
+        ensures view { OnOk result (self.new ≡ record self.old { published = true; acted = 0 }) }
+        ensures goes_on { GoesOn (T.counts tree.old) (T.counts tree.new) }
+        ensures cause { OnErr result (HasCause (T.counts tree.old) (T.counts tree.new)) }
+        ensures kept { OnOk result (IsNoFault (T.counts tree.old) (T.counts tree.new)) }
+        ensures proper { IfObservable (T.history tree.old) (λ v. (contents : List (List ℕ))
+            (base : Files) → IsStaged self.old contents None base v → HasRoomToStage base
+            → (T.counts tree.new).misuses ≡ (T.counts tree.old).misuses) }
+    {
+        publish_intent(tree, &self.intent)?;
+        self.published = true;
+        self.acted = 0;
+        Ok(())
+    }
+
+    /// Does the next action; true exactly where one was left.
+    pub fn apply_one<T: Tree>(&mut self, tree: &mut T) -> Result<bool, Disk>
+        requires { self.old.published ≡ true }
+        ensures moments { IfObservable (T.history tree.old) (λ v. (ignored : List ℕ → Bool)
+            (files : Files) → IsOrderly (RestsOn ignored) v → IsActing self.old files v
+            → Since (IsStill ignored v) (T.history tree.old) (T.history tree.new)) }
+        ensures acting { IfObservable (T.history tree.old) (λ v. (files : Files)
+            → IsActing self.old files v
+            → OnOk result (HasNow (T.history tree.new) (IsActing self.new files))) }
+        ensures answer { IfOk result
+            (λ was_left. was_left ≡ nat_lt self.old.acted (action_count self.old.intent)) }
+        ensures more { self.old.acted < action_count self.old.intent
+            → OnOk result (self.new ≡ record self.old { acted = self.old.acted + 1 }) }
+        ensures none_left { action_count self.old.intent ≤ self.old.acted
+            → OnOk result (self.new ≡ self.old) × (tree.new ≡ tree.old) }
+        ensures goes_on { GoesOn (T.counts tree.old) (T.counts tree.new) }
+        ensures cause { OnErr result (HasCause (T.counts tree.old) (T.counts tree.new)) }
+        ensures kept { OnOk result (IsNoFault (T.counts tree.old) (T.counts tree.new)) }
+        ensures proper { IfObservable (T.history tree.old) (λ v. (files : Files)
+            → IsActing self.old files v → HasRoomBeside files
+            → (T.counts tree.new).misuses ≡ (T.counts tree.old).misuses) }
+    {
+        let acted = act(&self.intent, self.acted, tree)?;
+        let was_left = self.acted < acted;
+        self.acted = acted;
+        Ok(was_left)
+    }
+
+    /// Behind the last action: the names are made to last, and the intent goes.
+    pub fn finish<T: Tree>(&mut self, tree: &mut T) -> Result<(), Disk>
+        requires published { self.old.published ≡ true }
+        requires all { self.old.acted ≡ action_count self.old.intent }
+        ensures moments { IfObservable (T.history tree.old) (λ v. (ignored : List ℕ → Bool)
+            (files : Files) → IsOrderly (RestsOn ignored) v → IsActing self.old files v
+            → Since (IsStill ignored v) (T.history tree.old) (T.history tree.new)) }
+        ensures settled { IfObservable (T.history tree.old) (λ v. (ignored : List ℕ → Bool)
+            (files : Files) → IsOrderly (RestsOn ignored) v → IsActing self.old files v
+            → OnOk result (HasNow (T.history tree.new) (IsSettled ignored files))) }
+        ensures files { IfObservable (T.history tree.old) (λ v. (files : Files)
+            → IsActing self.old files v → OnOk result (HasNow (T.history tree.new)
+            (λ w. (files_of w ≡ files) × (w.names intent_name ≡ None)))) }
+        ensures goes_on { GoesOn (T.counts tree.old) (T.counts tree.new) }
+        ensures cause { OnErr result (HasCause (T.counts tree.old) (T.counts tree.new)) }
+        ensures kept { OnOk result (IsNoFault (T.counts tree.old) (T.counts tree.new)) }
+        ensures proper { IfObservable (T.history tree.old)
+            (λ v. (T.counts tree.new).misuses ≡ (T.counts tree.old).misuses) }
+    {
+        a_crash_may_leave_the_files_as_read();
+        order_outlasts_a_crash::<Journal>();
+        sync_all_names(tree)?;
+        remove(tree, self.intent.name())?;
+        sync_all_names(tree)
+    }
+}

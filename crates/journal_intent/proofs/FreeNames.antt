@@ -1,0 +1,130 @@
+-- The names of a sound intent are free, and each stands once.
+use Rattle.std.proofs.Common.{◌≡◌, ◌||◌, inl, inr, ⊎_elim, not, map, ℕ, ◌<◌, ◌+◌, ◌^◌, Bool, true, false, List, [], ◌∷◌, ◌++◌, length, Option, Some, None, refl, ap, sym, subst, ◌∙◌, arith}
+use Rattle.std.proofs.lemmas.Bool.{and_parts}
+use Rattle.std.specs.List.{list_any}
+use Rattle.std.specs.Str.{bytes_eq}
+use Rattle.base_core.specs.Name.{is_name}
+use Rattle.base_core.specs.declared.cause.Cause.{Cause}
+use Rattle.adb_fields.specs.FirstPair.{IsIn}
+use Rattle.adb_fields.specs.Once.{AreDistinctNames}
+use Rattle.adb_fields.specs.Repeated.{entries_at, list_of}
+use Rattle.adb_rules.specs.Rules.{is_change_name}
+use Rattle.adb_rules.specs.Reserved.{is_stage_name}
+use Rattle.adb_rules.specs.SoundValues.{IsChangeName}
+use Rattle.adb_schema.specs.SoundContainers.{IsSound, IsSoundValue}
+use Rattle.adb_schema.specs.Soundness.{first_fault, payload_in, root_value}
+use Rattle.adb_tables.specs.Values.{entries_in, entry_in, text_in}
+use Rattle.adb_tables.specs.declared.tables.Which.{Which}
+use Rattle.adb_tables.specs.declared.tables.Which.TheVariants as Tables
+use Rattle.adb_view.specs.Plain.{Plain, Plains, none, more}
+use Rattle.adb_view.specs.Shaped.{Each}
+use Rattle.journal_intent.specs.FreeNames.{AllNamed, AreFreeNames, AreOnce, HasFreeNames, IsFreeName, IsNoneOf, IsOneOf}
+use Rattle.journal_intent.specs.Intent.{Intent, intent_in, intent_unless, read_intent, stage_name}
+use Rattle.journal_intent.proofs.AtName.{name_cases, other_name}
+use Rattle.journal_intent.proofs.ReadIntent.{spelled}
+
+true_false : true ≡ false → ⊥
+true_false e = cc
+
+not_true : (b : Bool) → not b ≡ true → b ≡ false
+not_true true h = absurd (true_false (sym h))
+not_true false h = refl
+
+place_is_stage : (k : ℕ) → is_stage_name (stage_name k) ≡ true
+place_is_stage k = refl
+
+-- ---- a name that a change may have is free
+
+free_of : (name : List ℕ) → is_change_name name ≡ true → IsFreeName name
+free_of name change =
+    let parts = and_parts (is_name name) (not (is_stage_name name)) change in
+    let open_name = not_true (is_stage_name name) parts.1 in
+    record {
+      no_intent = λ is. true_false (sym (ap is_stage_name is) ∙ open_name);
+      no_place = λ k is. true_false (sym (place_is_stage k) ∙ sym (ap is_stage_name is) ∙ open_name);
+    }
+
+frees : (vs : Plains) → Each IsChangeName vs → AreFreeNames (map text_in (list_of vs))
+frees none all = tt
+frees (more v vs) all = (free_of (text_in v) all.0, frees vs all.1)
+
+-- ---- each stands once
+
+both_false : (a b : Bool) → a ≡ false → b ≡ false → (a || b) ≡ false
+both_false a b x y = ap (λ c. c || b) x ∙ y
+
+none_of : (name : List ℕ) (names : List (List ℕ)) → (IsIn name names → ⊥) → IsNoneOf name names
+none_of name [] out = refl
+none_of name (x ∷ xs) out = both_false (bytes_eq name x) (list_any (bytes_eq name) xs) (other_name name x (λ is. out (inl is))) (none_of name xs (λ at. out (inr at)))
+
+one_of : (name : List ℕ) (names : List (List ℕ)) → IsOneOf name names → IsIn name names
+one_of name [] is = absurd (true_false (sym is))
+one_of name (x ∷ xs) is = ⊎_elim (λ same. inl same) (λ off. inr (one_of name xs (sym (ap (λ b. b || list_any (bytes_eq name) xs) off) ∙ is))) (name_cases name x)
+
+once_of : (names : List (List ℕ)) → AreDistinctNames names → AreOnce names
+once_of [] once = tt
+once_of (x ∷ xs) once = (none_of x xs once.0, once_of xs once.1)
+
+once_right : (rs ws : List (List ℕ)) → AreDistinctNames (rs ++ ws) → AreDistinctNames ws
+once_right [] ws once = once
+once_right (r ∷ rs) ws once = once_right rs ws once.1
+
+in_right : (rs ws : List (List ℕ)) (name : List ℕ) → IsIn name ws → IsIn name (rs ++ ws)
+in_right [] ws name at = at
+in_right (r ∷ rs) ws name at = inr (in_right rs ws name at)
+
+apart_left : (rs ws : List (List ℕ)) (name : List ℕ) → AreDistinctNames (rs ++ ws) → IsIn name ws → IsNoneOf name rs
+apart_left [] ws name once at = refl
+apart_left (r ∷ rs) ws name once at =
+    both_false (bytes_eq name r) (list_any (bytes_eq name) rs) (other_name name r (λ is. once.0 (subst (λ (x : List ℕ). IsIn x (rs ++ ws)) is (in_right rs ws name at)))) (apart_left rs ws name once.1 at)
+
+free_value : (v : Plain) → IsSoundValue Tables.Intent v → HasFreeNames (intent_in v)
+free_value v sound =
+    let removals : List (List ℕ) = map text_in (entries_at 0 v) in
+    let writes : List (List ℕ) = map text_in (entries_at 1 v) in
+    record {
+      removals = frees (entries_in (entry_in v 0)) sound.rules.removals;
+      writes = frees (entries_in (entry_in v 1)) sound.rules.writes;
+      once = once_of writes (once_right removals writes sound.once);
+      apart = λ name at. apart_left removals writes name sound.once (one_of name writes at);
+    }
+
+abbrev pub SoundValues : Type 0
+SoundValues = (which : Which) (file : List ℕ) → IsSound which file → IsSoundValue which (root_value which (payload_in file))
+
+free_by : (fault : Option Cause) (v : Plain) (intent : Intent) → (fault ≡ None → IsSoundValue Tables.Intent v) → intent_unless fault v ≡ Some intent → HasFreeNames intent
+free_by None v intent sound is = let same : intent_in v ≡ intent = cc in subst HasFreeNames same (free_value v (sound refl))
+free_by (Some c) v intent sound is = absurd (cc)
+
+pub free_intent : SoundValues → (file : List ℕ) (intent : Intent) → read_intent file ≡ Some intent → HasFreeNames intent
+unfolding read_intent
+free_intent values file intent is = free_by (first_fault Tables.Intent file) (root_value Tables.Intent (payload_in file)) intent (values Tables.Intent file) is
+
+-- ---- as it is read
+
+all_named : (vs : Plains) → Each IsChangeName vs → AllNamed vs
+all_named none all = tt
+all_named (more v vs) all = ((and_parts (is_name (text_in v)) (not (is_stage_name (text_in v))) all.0).0, all_named vs all.1)
+
+module _ (values : SoundValues) (file : List ℕ) (sound : first_fault Tables.Intent file ≡ None) where
+  abbrev held : Plain
+  held = root_value Tables.Intent (payload_in file)
+
+  pub removals_named : (list v : Plain) → list ≡ entry_in v 0 → v ≡ held → AllNamed (entries_in list)
+  removals_named list v is same = subst (λ (u : Plain). AllNamed (entries_in u)) (sym (is ∙ ap (λ u. entry_in u 0) same)) (all_named (entries_in (entry_in held 0)) (values Tables.Intent file sound).rules.removals)
+
+  pub writes_named : (list v : Plain) → list ≡ entry_in v 1 → v ≡ held → AllNamed (entries_in list)
+  writes_named list v is same = subst (λ (u : Plain). AllNamed (entries_in u)) (sym (is ∙ ap (λ u. entry_in u 1) same)) (all_named (entries_in (entry_in held 1)) (values Tables.Intent file sound).rules.writes)
+
+module _ (file : List ℕ) (sound : first_fault Tables.Intent file ≡ None) where
+  pub lists_spelled : (removals writes : List (List ℕ)) (a b v : Plain) → removals ≡ map text_in (list_of (entries_in a)) → writes ≡ map text_in (list_of (entries_in b)) → a ≡ entry_in v 0 → b ≡ entry_in v 1 → v ≡ root_value Tables.Intent (payload_in file)
+      → read_intent file ≡ Some (record { removals = removals; writes = writes })
+  lists_spelled removals writes a b v r w ra wb same =
+      spelled file sound
+      ∙ ap Some (λ i. record {
+        removals = sym (r ∙ ap (λ u. map text_in (list_of (entries_in u))) (ra ∙ ap (λ u. entry_in u 0) same)) i;
+        writes = sym (w ∙ ap (λ u. map text_in (list_of (entries_in u))) (wb ∙ ap (λ u. entry_in u 1) same)) i;
+      })
+
+pub few_lists : (removals writes : List (List ℕ)) → length removals < 2 ^ 32 → length writes < 2 ^ 32 → length removals + length writes < 2 ^ 63
+few_lists removals writes a b = omega (arith, a, b)

@@ -1,0 +1,13 @@
+pub mod AtName
+pub mod Copies
+pub mod Digits
+pub mod FixedNames
+pub mod FreeNames
+pub mod Limits
+pub mod Places
+pub mod ReadIntent
+pub mod Rooted
+pub mod Sound
+pub mod Spelling
+pub mod StageNames
+pub mod Texts

@@ -1,0 +1,14 @@
+-- An intent is read from a container that passes all tests, and from no other.
+use Rattle.std.proofs.Common.{◌≡◌, ℕ, List, None, Some, ap}
+use Rattle.adb_schema.specs.Soundness.{first_fault, payload_in, root_value}
+use Rattle.adb_tables.specs.declared.tables.Which.TheVariants.{Intent as IntentTable}
+use Rattle.base_core.specs.declared.cause.Cause.{Cause}
+use Rattle.journal_intent.specs.Intent.{intent_in, intent_unless, read_intent}
+
+pub spelled : (file : List ℕ) → first_fault IntentTable file ≡ None → read_intent file ≡ Some (intent_in (root_value IntentTable (payload_in file)))
+unfolding read_intent
+spelled file sound = ap (λ o. intent_unless o (root_value IntentTable (payload_in file))) sound
+
+pub not_spelled : (file : List ℕ) (cause : Cause) → first_fault IntentTable file ≡ Some cause → read_intent file ≡ None
+unfolding read_intent
+not_spelled file cause fault = ap (λ o. intent_unless o (root_value IntentTable (payload_in file))) fault

@@ -1,0 +1,42 @@
+-- The container of an intent's value passes all tests, and is read as this intent.
+use Rattle.std.proofs.Common.{◌≡◌, ◌≢◌, ℕ, ◌≤◌, ◌<◌, ◌^◌, List, [], ◌∷◌, length, Some, None, Ok, sym, ap, ◌∙◌, arith, lit<}
+use Rattle.std.specs.Int.{w32, to_le_bytes}
+use Rattle.std.proofs.lemmas.List.{length-append}
+use Rattle.adb_block.specs.AllBlocks.{blocks_of}
+use Rattle.adb_block.specs.Container.{Spells}
+use Rattle.adb_block.specs.Header.{header_of}
+use Rattle.adb_block.specs.Piece.{Piece}
+use Rattle.adb_view.specs.Plain.{Plain}
+use Rattle.adb_schema.specs.Soundness.{first_fault, payload_in, root_value}
+use Rattle.adb_schema.specs.declared.read.TheConstants.{INTENT_WORD}
+use Rattle.adb_tables.specs.declared.tables.Which.TheVariants.{Intent as Table, Package}
+use Rattle.adb_write.specs.Canonical.{canonical, empty_layout, payload_with_root, write, Layout, MOST_BYTES}
+use Rattle.adb_write.specs.File.{adb_piece, file_of}
+use Rattle.adb_write.specs.Size.{size_of}
+use Rattle.pkg_core.specs.Whole.{container_fault, fault_by_header, whole_fault}
+use Rattle.journal_intent.specs.Intent.{intent_in, intent_unless, read_intent}
+
+payload_long : (root : ℕ) (out : Layout) → 8 ≤ length (payload_with_root root out)
+payload_long root out = omega (arith, length-append (to_le_bytes w32 root) out.body)
+
+pub not_package : Table ≢ Package
+not_package e = cc
+
+-- with the schema of an intent all tests of a container are those of one
+whole_is_first : (file : List ℕ) → header_of file ≡ Ok INTENT_WORD → container_fault file ≡ None → first_fault Table file ≡ None
+unfolding container_fault whole_fault first_fault
+whole_is_first file header sound = sym (ap (fault_by_header file) header) ∙ sound
+
+pub header_is : ((schema : ℕ) (payload : List ℕ) → schema < 2 ^ 32 → 8 ≤ length payload → length payload ≤ MOST_BYTES → Spells (file_of schema payload) schema (adb_piece payload ∷ []))
+    → ((file : List ℕ) (schema : ℕ) (pieces : List Piece) → Spells file schema pieces → (header_of file ≡ Ok schema) × (blocks_of file ≡ Ok pieces))
+    → (v : Plain) → size_of v ≤ MOST_BYTES → header_of (file_of INTENT_WORD (canonical v)) ≡ Ok INTENT_WORD
+header_is spelled read v fits =
+    (read (file_of INTENT_WORD (canonical v)) INTENT_WORD (adb_piece (canonical v) ∷ [])
+    (spelled INTENT_WORD (canonical v) (lit< tt) (payload_long (write v empty_layout).0 (write v empty_layout).1) fits)).0
+
+pub intent_read : (v : Plain) → header_of (file_of INTENT_WORD (canonical v)) ≡ Ok INTENT_WORD → container_fault (file_of INTENT_WORD (canonical v)) ≡ None
+    → root_value Table (payload_in (file_of INTENT_WORD (canonical v))) ≡ v → read_intent (file_of INTENT_WORD (canonical v)) ≡ Some (intent_in v)
+unfolding read_intent
+intent_read v header sound back =
+    ap (λ o. intent_unless o (root_value Table (payload_in (file_of INTENT_WORD (canonical v))))) (whole_is_first (file_of INTENT_WORD (canonical v)) header sound)
+    ∙ ap (λ (u : Plain). Some (intent_in u)) back

@@ -1,0 +1,45 @@
+-- What the actions of an intent need of its names.
+use Rattle.std.specs.Prelude.{◌≡◌, ◌≢◌, ℕ, zero, suc, ◌+◌, true, false, List, [], ◌∷◌}
+use Rattle.std.specs.Str.{bytes_eq}
+use Rattle.std.specs.List.{list_any}
+use Rattle.base_core.specs.Name.{IsName}
+use Rattle.adb_tables.specs.Values.{text_in}
+use Rattle.adb_view.specs.Plain.{Plains, none, more}
+use Rattle.journal_intent.specs.Intent.{Intent, intent_name, stage_name}
+
+abbrev pub IsOneOf : List ℕ → List (List ℕ) → Type 0
+IsOneOf name names = list_any (bytes_eq name) names ≡ true
+
+abbrev pub IsNoneOf : List ℕ → List (List ℕ) → Type 0
+IsNoneOf name names = list_any (bytes_eq name) names ≡ false
+
+-- neither the intent's own name nor that of a waiting file
+pub record IsFreeName (name : List ℕ) : Type 0 where
+  pub no_intent : name ≢ intent_name
+  pub no_place : (k : ℕ) → name ≢ stage_name k
+
+abbrev pub AreFreeNames : List (List ℕ) → Type 0
+AreFreeNames [] = Unit {0}
+AreFreeNames (name ∷ names) = IsFreeName name × AreFreeNames names
+
+-- each name once
+abbrev pub AreOnce : List (List ℕ) → Type 0
+AreOnce [] = Unit {0}
+AreOnce (name ∷ names) = IsNoneOf name names × AreOnce names
+
+-- its names are free, no write stands twice, and none is removed
+pub record HasFreeNames (intent : Intent) : Type 0 where
+  pub removals : AreFreeNames intent.removals
+  pub writes : AreFreeNames intent.writes
+  pub once : AreOnce intent.writes
+  pub apart : (name : List ℕ) → IsOneOf name intent.writes → IsNoneOf name intent.removals
+
+-- the names of so many waiting files, from number k on
+abbrev pub stage_names_from : ℕ → ℕ → List (List ℕ)
+stage_names_from k zero = []
+stage_names_from k (suc n) = stage_name k ∷ stage_names_from (k + 1) n
+
+-- each text is a name
+abbrev pub AllNamed : Plains → Type 0
+AllNamed none = Unit {0}
+AllNamed (more v vs) = IsName (text_in v) × AllNamed vs

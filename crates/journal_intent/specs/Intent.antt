@@ -1,0 +1,58 @@
+-- The intent: what a change of several files has still to do, the file that says so, and the names
+-- under which new files wait.
+use Rattle.std.specs.Prelude.{◌≡◌, ℕ, Bool, List, ◌++◌, map, Option, Some, None, codes, decimal, nat_eq, true, false, AllPairs}
+use Rattle.std.specs.Str.{bytes_eq}
+use Rattle.std.specs.List.{starts_with, All}
+use Rattle.base_core.specs.declared.cause.Cause.{Cause}
+use Rattle.adb_view.specs.Plain.{Plain}
+use Rattle.adb_fields.specs.Repeated.{entries_at}
+use Rattle.adb_rules.specs.Rules.{is_change_name}
+use Rattle.adb_schema.specs.Soundness.{first_fault, payload_in, root_value}
+use Rattle.adb_tables.specs.Values.{text_in}
+use Rattle.adb_tables.specs.declared.tables.Which.TheVariants.{Intent as IntentTable}
+
+-- ---- names
+
+-- the file that says what is left to do
+abbrev pub intent_name : List ℕ
+intent_name = codes "lib/apk/intent"
+
+-- where new files wait for their names
+abbrev pub stage_folder : List ℕ
+stage_folder = codes "lib/apk/stage"
+
+abbrev pub is_staged : List ℕ → Bool
+is_staged name = starts_with nat_eq name (stage_folder ++ codes "/")
+
+-- the name of the file that waits as number k, in decimal digits
+abbrev pub stage_name : ℕ → List ℕ
+stage_name k = stage_folder ++ (codes "/" ++ decimal k)
+
+-- ---- the intent
+
+-- the names to be removed, and the names whose new files wait as number 1, 2, and so on
+pub record Intent : Type 0 where
+  pub removals : List (List ℕ)
+  pub writes : List (List ℕ)
+
+-- the two lists of an intent container's plain value
+abbrev pub intent_in : Plain → Intent
+intent_in v = record {
+  removals = map text_in (entries_at 0 v);
+  writes =
+      map text_in (entries_at 1 v);
+}
+
+abbrev pub intent_unless : Option Cause → Plain → Option Intent
+intent_unless None v = Some (intent_in v)
+intent_unless (Some cause) v = None
+
+-- the intent that a file's bytes spell, or none where they are no intent container
+unfoldable pub read_intent : List ℕ → Option Intent
+read_intent file = intent_unless (first_fault IntentTable file)
+    (root_value IntentTable (payload_in file))
+
+-- each name is one that a change may have, and none stands twice
+pub record AreChangeNames (names : List (List ℕ)) : Type 0 where
+  pub each : All (λ name. is_change_name name ≡ true) names
+  pub once : AllPairs (λ a b. bytes_eq a b ≡ false) names

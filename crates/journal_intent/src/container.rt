@@ -1,0 +1,103 @@
+//! The container of an intent is written.
+ghost use Rattle.std.specs.Prelude.{◌≡◌, ◌++◌, ◌<◌, ◌≤◌, ◌+◌, ◌^◌, ℕ, List, Some, None, length, IfOk, OnOk, IsErrOf};
+ghost use Rattle.adb_schema.specs.declared.read.TheConstants.{INTENT_WORD};
+ghost use Rattle.adb_view.specs.Plain.{arr_value};
+ghost use Rattle.adb_write.specs.Canonical.{canonical, overflow_of, MOST_BYTES};
+ghost use Rattle.adb_write.specs.DepthFirst.{WritesValue};
+ghost use Rattle.adb_write.specs.File.{file_of};
+ghost use Rattle.adb_write.specs.Size.{size_of};
+ghost use Rattle.journal_intent.specs.Intent.{AreChangeNames, read_intent};
+ghost use Rattle.journal_intent.specs.IntentValue.{intent_of_lists, name_plains, value_of_intent};
+
+use adb_block::what_is_spelled_is_read;
+use adb_fields::no_name_is_repeated_where_each_stands_once;
+use adb_rules::no_text_is_bad_where_each_keeps_its_rule;
+use adb_schema::INTENT_WORD;
+use adb_sound::{a_container_of_a_good_value_is_sound, what_a_container_is_made_of_is_read_back};
+use adb_view::Val;
+use adb_write::{
+    WriteFault, Writer, a_file_is_spelled, a_value_overflows_exactly_past_a_limit,
+    a_value_written_depth_first_is_canonical, file_of, values_are_written_depth_first,
+};
+use base_core::Names;
+use std::alloc::{AllocError, Global};
+
+/// The container of an intent with these actions.
+///
+/// # Errors
+///
+/// `TooLarge` exactly where the payload passes a limit of the writer, or `Memory`.
+pub(crate) fn intent_file(
+    alloc: Global,
+    removals: &Names,
+    writes: &Names,
+) -> Result<Vec<u8>, WriteFault>
+    requires { AreChangeNames (removals.now ++ writes.now) }
+    ensures spelled { IfOk result
+        (λ file. read_intent file.items ≡ Some (intent_of_lists removals.now writes.now)) }
+    ensures large { (bytes values : ℕ) → IsErrOf result (WriteFault.TooLarge bytes values)
+        → overflow_of (value_of_intent (intent_of_lists removals.now writes.now))
+        ≡ Some (bytes, values) }
+    ensures fits { OnOk result
+        (overflow_of (value_of_intent (intent_of_lists removals.now writes.now)) ≡ None) }
+    ensures few { OnOk result (length removals.now + length writes.now < 2 ^ 63) }
+{
+    values_are_written_depth_first();
+    a_value_written_depth_first_is_canonical();
+    an_intent_is_read_back();
+    let mut writer = Writer::new(alloc);
+    let removals = write_names(alloc, &mut writer, removals)?;
+    let writes = write_names(alloc, &mut writer, writes)?;
+    let root = writer.obj(&[removals, writes])?;
+    let payload = writer.finish(root)?;
+    let file = file_of(alloc, INTENT_WORD, &payload)?;
+    Ok(file)
+}
+
+/// The container of an intent's canonical payload is read as this intent, and has not too many
+/// names.
+fn an_intent_is_read_back()
+    ensures read { (removals writes : List (List ℕ)) → AreChangeNames (removals ++ writes)
+        → overflow_of (value_of_intent (intent_of_lists removals writes)) ≡ None
+        → read_intent
+        (file_of INTENT_WORD (canonical (value_of_intent (intent_of_lists removals writes))))
+        ≡ Some (intent_of_lists removals writes) }
+    ensures few { (removals writes : List (List ℕ))
+        → overflow_of (value_of_intent (intent_of_lists removals writes)) ≡ None
+        → length removals + length writes < 2 ^ 63 }
+    ensures short { (removals writes : List (List ℕ))
+        → overflow_of (value_of_intent (intent_of_lists removals writes)) ≡ None
+        → size_of (value_of_intent (intent_of_lists removals writes)) ≤ MOST_BYTES }
+{
+    a_file_is_spelled();
+    what_is_spelled_is_read();
+    a_value_overflows_exactly_past_a_limit();
+    no_text_is_bad_where_each_keeps_its_rule();
+    no_name_is_repeated_where_each_stands_once();
+    a_container_of_a_good_value_is_sound();
+    what_a_container_is_made_of_is_read_back();
+}
+
+/// Writes an array of names.
+fn write_names(alloc: Global, writer: &mut Writer, names: &Names) -> Result<Val, AllocError>
+    ensures { IfOk result
+        (λ word. WritesValue writer.old (arr_value (name_plains names.now)) word writer.new) }
+{
+    values_are_written_depth_first();
+    let mut words = Vec::new(alloc);
+    for i in 0..names.len() {
+        words.push(writer.blob(names.get(i).as_bytes())?)?;
+    }
+    writer.arr(&words)
+}
+
+/// Equal names.
+pub(crate) fn copy_of_names(alloc: Global, names: &Names) -> Result<Names, AllocError>
+    ensures { IfOk result (λ copy. copy ≡ names.now) }
+{
+    let mut copy = Names::new(alloc);
+    for i in 0..names.len() {
+        copy.push(names.get(i).copy(alloc)?)?;
+    }
+    Ok(copy)
+}

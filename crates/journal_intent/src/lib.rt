@@ -1,0 +1,21 @@
+//! The intent: the one file that says what a change of several files has still to do, and the names
+//! that its actions need.
+//!
+//! `PreparedIntent` is an intent with all the memory that its actions need: made of two lists of
+//! names, or read from a file. The contracts cite `Intent` (the names, the intent and the file that
+//! spells it), `IntentValue` (the plain value of its container) and `FreeNames` (what the actions
+//! need of the names) of `specs/`.
+#![tactic(auto)]
+
+mod container;
+mod laws;
+mod lists;
+mod names;
+mod prepared;
+
+pub use laws::{
+    a_read_intent_has_free_names, an_intent_is_read_from_a_sound_container,
+    each_waiting_file_has_its_own_name,
+};
+pub use names::{intent_name, stage_folder};
+pub use prepared::PreparedIntent;

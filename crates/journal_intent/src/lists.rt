@@ -1,0 +1,59 @@
+//! The lists of an intent are read from its container.
+ghost use Rattle.std.specs.Prelude.{◌≡◌, ◌<◌, ◌+◌, ◌^◌, Some, None, length, map, IfOk, IfErr, OnOk};
+ghost use Rattle.adb_fields.specs.ListValue.{list_value};
+ghost use Rattle.adb_fields.specs.Repeated.{list_of};
+ghost use Rattle.adb_schema.specs.ReadFaults.{IsReadFault};
+ghost use Rattle.adb_schema.specs.Soundness.{first_fault};
+ghost use Rattle.adb_tables.specs.Values.{entries_in, text_in};
+ghost use Rattle.adb_tables.specs.declared.tables.Which.TheVariants.{Intent as IntentTable};
+ghost use Rattle.journal_intent.specs.FreeNames.{AllNamed};
+ghost use Rattle.journal_intent.specs.Intent.{read_intent};
+ghost use Rattle.journal_intent.specs.IntentValue.{intent_of_lists};
+
+use crate::names::name_of_bytes;
+use adb_fields::List;
+use adb_schema::{ReadFault, Which, read_adb, sound_containers_hold_sound_values};
+use base_core::Names;
+use std::alloc::{AllocError, Global};
+
+/// The two lists of an intent.
+#[derive(Drop)]
+pub(crate) struct IntentLists {
+    pub(crate) removals: Names,
+    pub(crate) writes: Names,
+}
+
+/// The two lists that an intent's container holds.
+///
+/// # Errors
+///
+/// `Bad` exactly where the file is no intent container, with the first test that failed; or
+/// `Memory`.
+pub(crate) fn read_lists(alloc: Global, file: &[u8]) -> Result<IntentLists, ReadFault>
+    ensures intent { IfOk result
+        (λ lists. read_intent file.now ≡ Some (intent_of_lists lists.removals lists.writes)) }
+    ensures few { IfOk result (λ lists. length lists.removals + length lists.writes < 2 ^ 63) }
+    ensures bad { IfErr result (λ fault. IsReadFault fault (first_fault IntentTable file.now)) }
+    ensures good { OnOk result (first_fault IntentTable file.now ≡ None) }
+{
+    sound_containers_hold_sound_values();
+    let checked = read_adb(alloc, file, Which::Intent)?;
+    let intent = checked.intent();
+    let removals = names_in(alloc, intent.removals())?;
+    let writes = names_in(alloc, intent.writes())?;
+    Ok(IntentLists { removals, writes })
+}
+
+/// The names of a list, each of which is one.
+fn names_in<'a>(alloc: Global, list: List<'a, &'a [u8]>) -> Result<Names, AllocError>
+    requires { AllNamed (entries_in (list_value list)) }
+    ensures value { IfOk result
+        (λ names. names ≡ map text_in (list_of (entries_in (list_value list.entry)))) }
+    ensures few { IfOk result (λ names. length names < 2 ^ 32) }
+{
+    let mut names = Names::new(alloc);
+    for i in 0..list.len() {
+        names.push(name_of_bytes(alloc, list.get(i + 1))?)?;
+    }
+    Ok(names)
+}

@@ -1,0 +1,175 @@
+//! An intent with all that its actions need.
+ghost use Rattle.std.specs.Prelude.{◌≡◌, ◌++◌, ◌≤◌, ◌<◌, ◌+◌, ◌^◌, ℕ, List, Some, None, length, slice_get, IfOk, IfErr, OnOk, IsErrOf};
+ghost use Rattle.adb_schema.specs.ReadFaults.{IsReadFault};
+ghost use Rattle.adb_schema.specs.Soundness.{first_fault};
+ghost use Rattle.adb_tables.specs.declared.tables.Which.TheVariants.{Intent as IntentTable};
+ghost use Rattle.adb_write.specs.Canonical.{overflow_of};
+ghost use Rattle.journal_intent.specs.FreeNames.{HasFreeNames, stage_names_from};
+ghost use Rattle.journal_intent.specs.Intent.{AreChangeNames, intent_name, read_intent, stage_name};
+ghost use Rattle.journal_intent.specs.IntentValue.{intent_of_lists, value_of_intent};
+
+use crate::container::{copy_of_names, intent_file};
+use crate::laws::a_read_intent_has_free_names;
+use crate::lists::{IntentLists, read_lists};
+use crate::names::{intent_name, stage_names};
+use adb_schema::ReadFault;
+use adb_write::WriteFault;
+use base_core::{Name, Names};
+use std::alloc::{AllocError, Global};
+use std::marker::Model;
+
+/// An intent with all the memory that its actions need: its lists, its container, and the names of
+/// the files that wait.
+#[derive(Drop)]
+pub struct PreparedIntent {
+    removals: Names,
+    writes: Names,
+    /// The names of the waiting files, from number 0 on, which is the intent's own.
+    stage_names: Names,
+    name: Name,
+    file: Vec<u8>,
+    ghost waiting: { stage_names ≡ stage_names_from 0 (length writes + 1) },
+    ghost named: { name ≡ intent_name },
+    ghost spelled: { read_intent file.items ≡ Some (intent_of_lists removals writes) },
+    ghost few: { length removals + length writes < 2 ^ 63 },
+}
+
+impl Model for PreparedIntent {
+    ghost use Rattle.journal_intent.specs.Intent.{Intent};
+
+    ghost Value = { Intent };
+
+    ghost view = { λ s. record { removals = s.removals; writes = s.writes } };
+}
+
+impl PreparedIntent {
+    /// The intent of these actions.
+    ///
+    /// # Errors
+    ///
+    /// `TooLarge` exactly where the payload of its container passes a limit of the writer, with the
+    /// counts there; or `Memory`.
+    pub fn of_names(
+        alloc: Global,
+        removals: &Names,
+        writes: &Names,
+    ) -> Result<PreparedIntent, WriteFault>
+        requires { AreChangeNames (removals.now ++ writes.now) }
+        ensures intent { IfOk result
+            (λ intent. intent ≡ intent_of_lists removals.now writes.now) }
+        ensures large { (bytes values : ℕ) → IsErrOf result (WriteFault.TooLarge bytes values)
+            → overflow_of (value_of_intent (intent_of_lists removals.now writes.now))
+            ≡ Some (bytes, values) }
+        ensures fits { OnOk result
+            (overflow_of (value_of_intent (intent_of_lists removals.now writes.now)) ≡ None) }
+    {
+        let file = intent_file(alloc, removals, writes)?;
+        let lists = IntentLists {
+            removals: copy_of_names(alloc, removals)?,
+            writes: copy_of_names(alloc, writes)?,
+        };
+        let intent = PreparedIntent::of_lists(alloc, lists, file)?;
+        Ok(intent)
+    }
+
+    /// The intent that this file spells.
+    ///
+    /// # Errors
+    ///
+    /// `Bad` exactly where the file is no intent container, with the first test that failed; or
+    /// `Memory`.
+    pub fn of_file(alloc: Global, file: Vec<u8>) -> Result<PreparedIntent, ReadFault>
+        ensures intent { IfOk result (λ intent. read_intent file.items ≡ Some intent) }
+        ensures bad { IfErr result
+            (λ fault. IsReadFault fault (first_fault IntentTable file.items)) }
+        ensures good { OnOk result (first_fault IntentTable file.items ≡ None) }
+    {
+        let lists = read_lists(alloc, &file)?;
+        let intent = PreparedIntent::of_lists(alloc, lists, file)?;
+        Ok(intent)
+    }
+
+    /// The intent of these lists, and of the file that spells them.
+    fn of_lists(
+        alloc: Global,
+        lists: IntentLists,
+        file: Vec<u8>,
+    ) -> Result<PreparedIntent, AllocError>
+        requires spelled { read_intent file.items
+            ≡ Some (intent_of_lists lists.removals lists.writes) }
+        requires few { length lists.removals + length lists.writes < 2 ^ 63 }
+        ensures { IfOk result (λ intent. intent ≡ intent_of_lists lists.removals lists.writes) }
+    {
+        let stage_names = stage_names(alloc, lists.writes.len() + 1)?;
+        let name = intent_name(alloc)?;
+        Ok(PreparedIntent {
+            removals: lists.removals,
+            writes: lists.writes,
+            stage_names,
+            name,
+            file,
+        })
+    }
+
+    /// How many names are removed.
+    pub fn removals_len(&self) -> usize
+        ensures { result ≡ length self.now.removals }
+    {
+        self.removals.len()
+    }
+
+    /// How many files are written.
+    pub fn writes_len(&self) -> usize
+        ensures { result ≡ length self.now.writes }
+    {
+        self.writes.len()
+    }
+
+    /// The removal with this index.
+    pub fn removal(&self, i: usize) -> &Name
+        requires { i < length self.now.removals }
+        ensures { slice_get self.now.removals i ≡ Some result.now }
+    {
+        self.removals.get(i)
+    }
+
+    /// The write with this index.
+    pub fn write(&self, i: usize) -> &Name
+        requires { i < length self.now.writes }
+        ensures { slice_get self.now.writes i ≡ Some result.now }
+    {
+        self.writes.get(i)
+    }
+
+    /// The name of the waiting file with this number: 0 for the intent's container, and from 1 on
+    /// those of the writes.
+    pub fn stage_name(&self, k: usize) -> &Name
+        requires { k ≤ length self.now.writes }
+        ensures { result.now ≡ stage_name k }
+    {
+        self.stage_names.get(k)
+    }
+
+    /// The name of the intent.
+    pub fn name(&self) -> &Name
+        ensures { result.now ≡ intent_name }
+    {
+        &self.name
+    }
+
+    /// The bytes of its container.
+    pub fn file(&self) -> &[u8]
+        ensures { read_intent result.now ≡ Some self.now }
+    {
+        &self.file
+    }
+
+    /// Its names are free, each write stands once, and it has fewer than 2^63 of them.
+    pub fn names_are_free(&self)
+        ensures free { HasFreeNames self.now }
+        ensures few { length self.now.removals + length self.now.writes < 2 ^ 63 }
+    {
+        a_read_intent_has_free_names();
+        let _ = &self.file;
+    }
+}

@@ -1,0 +1,46 @@
+use Rattle.std.proofs.Common.{◌≡◌, ◌∙◌, ◌≤◌, ◌+◌, ◌++◌, ◌∷◌, [], List, ℕ, Bool, length, take, sym, ap, subst, arith}
+use Rattle.std.proofs.lemmas.List.{take_all, take_more}
+use Rattle.dep_core.specs.Dependency.{Dependency}
+use Rattle.dep_core.specs.Meets.{dependency}
+use Rattle.pool_core.specs.Candidates.{Candidate, offers_name}
+use Rattle.pool_core.specs.Marks.{affects, mark_at}
+use Rattle.pool_core.specs.Options.{IsMember}
+use Rattle.pool_core.proofs.MarksThroughTable.{length-marks_among, marks_among, marks_among-snoc, marks_at_offers}
+use Rattle.pool_core.proofs.OfferLists.{places_below}
+use Rattle.pool_core.proofs.Steps.{member_at}
+use Rattle.pool_core.proofs.marks.mark_among.Goals as goal
+
+pub mark_one-requires-clause-within : goal.mark_one-requires-clause-within
+mark_one-requires-clause-within c =
+    let cs : List Candidate = c.args.details.now in
+    let d : Dependency = dependency c.args.entry.now in
+    let there = member_at c.args.ids.now c.loop-id.id-index c.id-item.result (omega arith) c.id-item.is in
+    let below = places_below 0 (offers_name d.name) cs c.id-item.result (subst (λ (z : List ℕ). IsMember c.id-item.result z) c.requires.offers there) in
+    omega (arith, below)
+
+pub mark_one-requires-clause-each : goal.mark_one-requires-clause-each
+mark_one-requires-clause-each c =
+    let d : Dependency = dependency c.args.entry.now in
+    ap length c.loop-id.invariant ∙ (length-marks_among (affects c.args.effect d) (take c.loop-id.id-index c.args.ids.now) c.args.marks.now.items c.args.details.now ∙ c.requires.each)
+
+pub loop-id-preserved : goal.loop-id-preserved
+loop-id-preserved c =
+    let cs : List Candidate = c.args.details.now in
+    let d : Dependency = dependency c.args.entry.now in
+    let ids : List ℕ = c.args.ids.now in
+    let i : ℕ = c.loop-id.id-index in
+    let id : ℕ = c.id-item.result in
+    let more : take (i + 1) ids ≡ take i ids ++ id ∷ [] = take_more ids i id (omega arith) ∙ ap (λ (k : ℕ). take i ids ++ k ∷ []) (sym c.id-item.is) in
+    c.mark_one.ensures
+    ∙ (ap (λ (ms : List Bool). mark_at (affects c.args.effect d) id ms cs) c.loop-id.invariant
+    ∙ (sym (marks_among-snoc (affects c.args.effect d) (take i ids) id c.args.marks.now.items cs)
+    ∙ ap (λ (ks : List ℕ). marks_among (affects c.args.effect d) ks c.args.marks.now.items cs) (sym more)))
+
+pub returns : goal.returns
+returns c =
+    let cs : List Candidate = c.args.details.now in
+    let d : Dependency = dependency c.args.entry.now in
+    let past : length c.args.ids.now ≤ c.loop-id.id-index = omega arith in
+    c.loop-id.invariant
+    ∙ (ap (λ (ks : List ℕ). marks_among (affects c.args.effect d) ks c.args.marks.now.items cs) (take_all c.loop-id.id-index c.args.ids.now past ∙ c.requires.offers)
+    ∙ marks_at_offers c.args.effect d c.args.marks.now.items cs c.requires.each)

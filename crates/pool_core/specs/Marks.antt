@@ -1,0 +1,32 @@
+-- Marks of candidates, one for each, and what entries of world do to candidates.
+use Rattle.std.specs.Prelude.{ℕ, zero, suc, Bool, false, ◌&&◌, ◌||◌, List, [], ◌∷◌}
+use Rattle.std.specs.Option.{option_map_or}
+use Rattle.std.specs.List.{list_any}
+use Rattle.std.specs.Str.{bytes_eq}
+use Rattle.dep_core.specs.Dependency.{Dependency}
+use Rattle.pool_core.specs.declared.marks.Effect.{Effect}
+use Rattle.pool_core.specs.declared.marks.Effect.TheVariants.{Exclusion, Pin}
+use Rattle.pool_core.specs.Candidates.{Candidate, meets_dependency}
+
+-- whether an entry of world has an effect on a candidate
+abbrev pub affects : Effect → Dependency → Candidate → Bool
+affects Exclusion d c = d.conflict && meets_dependency d c
+affects Pin d c =
+    option_map_or (λ tag. bytes_eq c.name d.name && option_map_or (bytes_eq tag) d.tag false) c.tag
+    false
+
+abbrev pub is_affected : Effect → List Dependency → Candidate → Bool
+is_affected effect entries c = list_any (λ (d : Dependency). affects effect d c) entries
+
+-- the marks, where those of the candidates that pass a test are set
+abbrev pub marks_with : (Candidate → Bool) → List Bool → List Candidate → List Bool
+marks_with test [] cs = []
+marks_with test (m ∷ ms) [] = m ∷ ms
+marks_with test (m ∷ ms) (c ∷ cs) = (m || test c) ∷ marks_with test ms cs
+
+-- the marks, where that of the candidate at a place is set if it passes a test
+abbrev pub mark_at : (Candidate → Bool) → ℕ → List Bool → List Candidate → List Bool
+mark_at test place [] cs = []
+mark_at test place (m ∷ ms) [] = m ∷ ms
+mark_at test zero (m ∷ ms) (c ∷ cs) = (m || test c) ∷ ms
+mark_at test (suc place) (m ∷ ms) (c ∷ cs) = m ∷ mark_at test place ms cs

@@ -1,0 +1,202 @@
+//! What world says of each candidate: whether it may be selected, and whether world pins it. An
+//! entry is tried only on the candidates that offer its name, so all marks take time in proportion
+//! to the candidates, the entries and the offers of their names.
+ghost use Rattle.std.specs.Prelude.{◌≡◌, ◌<◌, ◌&&◌, false, length, map, not, IfOk};
+ghost use Rattle.std.specs.Option.{option_map_or};
+ghost use Rattle.std.specs.List.{list_any};
+ghost use Rattle.std.specs.Str.{bytes_eq};
+ghost use Rattle.dep_core.specs.Meets.{dependency};
+ghost use Rattle.pool_core.specs.Candidates.{is_allowed, is_excluded_by, uses_tag};
+ghost use Rattle.pool_core.specs.Marks.{affects, is_affected, mark_at, marks_with};
+ghost use Rattle.pool_core.specs.Options.{places_offering};
+ghost use Rattle.pool_core.specs.Rank.{is_pinned};
+ghost use Rattle.pool_core.specs.Table.{LeadsToOffers};
+
+use crate::candidate::{CandId, Details};
+use crate::table::Table;
+use dep_core::Dep;
+use std::alloc::{AllocError, Global};
+
+/// What an entry of world does to a candidate.
+#[derive(Clone, Copy)]
+pub(crate) enum Effect {
+    /// It keeps the candidate out.
+    Exclusion,
+    /// It pins the candidate's name to its tag.
+    Pin,
+}
+
+/// For each candidate, whether it may be selected.
+pub(crate) fn eligible_marks(
+    alloc: Global,
+    details: &[Details<'_>],
+    table: &Table<'_>,
+    tagged: &[Dep<'_>],
+    conflicts: &[Dep<'_>],
+) -> Result<Vec<bool>, AllocError>
+    requires { LeadsToOffers table.now details.now }
+    ensures { IfOk result (λ marks. marks.items ≡ map (λ one.
+        is_allowed (map dependency tagged.now) one
+        && not (is_excluded_by (map dependency conflicts.now) one)) details.now) }
+{
+    let mut barred = barred_marks(alloc, details, tagged)?;
+    mark_affected(&mut barred, details, table, conflicts, Effect::Exclusion);
+    opposite_marks(alloc, &barred)
+}
+
+/// For each candidate, whether world pins its name to its tag.
+pub(crate) fn pinned_marks(
+    alloc: Global,
+    details: &[Details<'_>],
+    table: &Table<'_>,
+    tagged: &[Dep<'_>],
+) -> Result<Vec<bool>, AllocError>
+    requires { LeadsToOffers table.now details.now }
+    ensures { IfOk result (λ marks. marks.items
+        ≡ map (λ one. is_pinned (map dependency tagged.now) one) details.now) }
+{
+    let mut marks = no_marks(alloc, details)?;
+    mark_affected(&mut marks, details, table, tagged, Effect::Pin);
+    Ok(marks)
+}
+
+// For each candidate, whether it is of a repository whose tag world does not use.
+fn barred_marks(
+    alloc: Global,
+    details: &[Details<'_>],
+    tagged: &[Dep<'_>],
+) -> Result<Vec<bool>, AllocError>
+    ensures { IfOk result (λ marks. marks.items
+        ≡ map (λ one. not (is_allowed (map dependency tagged.now) one)) details.now) }
+{
+    details
+        .iter()
+        .map(|one| !is_allowed(one, tagged))
+        .collect(alloc)
+}
+
+fn no_marks(alloc: Global, details: &[Details<'_>]) -> Result<Vec<bool>, AllocError>
+    ensures { IfOk result (λ marks. marks.items ≡ map (λ one. false) details.now) }
+{
+    details.iter().map(|_| false).collect(alloc)
+}
+
+fn opposite_marks(alloc: Global, marks: &[bool]) -> Result<Vec<bool>, AllocError>
+    ensures { IfOk result (λ others. others.items ≡ map not marks.now) }
+{
+    marks.iter().map(|mark| !*mark).collect(alloc)
+}
+
+// Marks each candidate on which one of some entries has an effect. Other marks stay.
+fn mark_affected(
+    marks: &mut Vec<bool>,
+    details: &[Details<'_>],
+    table: &Table<'_>,
+    entries: &[Dep<'_>],
+    effect: Effect,
+)
+    requires leads { LeadsToOffers table.now details.now }
+    requires each { length marks.old.items ≡ length details.now }
+    ensures { marks.new.items ≡ marks_with (is_affected effect (map dependency entries.now))
+        marks.old.items details.now }
+{
+    for entry in entries {
+        mark_among(marks, details, table.get(entry.name), entry, effect);
+    }
+}
+
+// Marks those of the candidates that offer an entry's name on which it has the effect.
+fn mark_among(
+    marks: &mut Vec<bool>,
+    details: &[Details<'_>],
+    ids: &[CandId],
+    entry: &Dep<'_>,
+    effect: Effect,
+)
+    requires offers { ids.now ≡ places_offering (dependency entry.now).name details.now }
+    requires each { length marks.old.items ≡ length details.now }
+    ensures { marks.new.items ≡ marks_with (affects effect (dependency entry.now))
+        marks.old.items details.now }
+{
+    for id in ids {
+        mark_one(marks, details, *id, entry, effect);
+    }
+}
+
+fn mark_one(
+    marks: &mut Vec<bool>,
+    details: &[Details<'_>],
+    id: CandId,
+    entry: &Dep<'_>,
+    effect: Effect,
+)
+    requires within { id < length details.now }
+    requires each { length marks.old.items ≡ length details.now }
+    ensures { marks.new.items ≡ mark_at (affects effect (dependency entry.now)) id
+        marks.old.items details.now }
+{
+    let place = id.place as usize;
+    if !affects(effect, entry, &details[place]) {
+        return;
+    }
+    marks[place] = true;
+}
+
+fn affects(effect: Effect, entry: &Dep<'_>, one: &Details<'_>) -> bool
+    ensures { result ≡ affects effect (dependency entry.now) one.now }
+{
+    match effect {
+        Effect::Exclusion => entry.conflict && one.meets(entry),
+        Effect::Pin => pins(entry, one),
+    }
+}
+
+// Whether an entry pins a candidate's name to its tag.
+fn pins(entry: &Dep<'_>, one: &Details<'_>) -> bool
+    ensures { result ≡ option_map_or (λ tag. bytes_eq one.now.name (dependency entry.now).name
+        && option_map_or (bytes_eq tag) (dependency entry.now).tag false) one.now.tag false }
+{
+    match one.tag() {
+        None => false,
+        Some(tag) => one.name() == entry.name && has_tag(entry, tag),
+    }
+}
+
+fn has_tag(dep: &Dep<'_>, tag: &[u8]) -> bool
+    ensures { result ≡ option_map_or (bytes_eq tag.now) (dependency dep.now).tag false }
+{
+    match dep.tag {
+        None => false,
+        Some(other) => tag == other,
+    }
+}
+
+// Whether a candidate is installed, or of an untagged repository, or of one whose tag is used.
+fn is_allowed(one: &Details<'_>, tagged: &[Dep<'_>]) -> bool
+    ensures { result ≡ is_allowed (map dependency tagged.now) one.now }
+{
+    if one.is_installed() {
+        return true;
+    }
+    if one.repo().is_none() {
+        return true;
+    }
+    match one.tag() {
+        None => true,
+        Some(tag) => uses_tag(tagged, tag),
+    }
+}
+
+#[tactic(auto, using(crate::proofs::Anyone::any_map))]
+fn uses_tag(tagged: &[Dep<'_>], tag: &[u8]) -> bool
+    ensures { result ≡ uses_tag (map dependency tagged.now) tag.now }
+{
+    any_has_tag(tagged, tag)
+}
+
+fn any_has_tag(tagged: &[Dep<'_>], tag: &[u8]) -> bool
+    ensures { result ≡ list_any
+        (λ dep. option_map_or (bytes_eq tag.now) (dependency dep).tag false) tagged.now }
+{
+    tagged.iter().any(|dep| has_tag(dep, tag))
+}

@@ -1,0 +1,22 @@
+//! Runs the rows of the search that stand on standard input, and prints what fails and a count.
+//! `README.md` describes their form. It ends with 0 where no row failed, else with 1.
+#![tactic(auto)]
+
+mod answer;
+mod package;
+mod row;
+mod rows;
+
+use std::io;
+use std::io::{Read, Write};
+use std::process::ExitCode;
+
+fn main(rt: HostRuntime) -> io::Result<ExitCode> {
+    let alloc = rt.alloc();
+    let mut text = Vec::new(alloc);
+    rt.stdin().read_to_end(&mut text)?;
+    let mut report = Vec::new(alloc);
+    let passed = rows::run_rows(alloc, &text, &mut report)?;
+    rt.stdout().write_all(&report)?;
+    Ok(ExitCode::from(if passed { 0 } else { 1 }))
+}

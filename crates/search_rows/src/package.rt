@@ -1,0 +1,124 @@
+//! Payloads of indexes, from short texts. Packages stand between `;`, and their parts between
+//! spaces: `NAME=VERSION`, and `N*` before it for N such packages; `d:` and depends, `p:` and
+//! provides, `i:` and install-if, each list with `,` between dependencies; `k:` and the
+//! provider-priority; `h:` and the id, which is the same for all where none stands.
+use crate::row::number_of;
+use adb_view::Val;
+use adb_write::Writer;
+use dep_core::{Dep, read_dep};
+use std::alloc::{AllocError, Global};
+
+/// The payload of an index with these packages. What is no part of a package is passed over, and
+/// an index that passes a limit has none.
+pub fn index_payload(alloc: Global, text: &[u8]) -> Result<Vec<u8>, AllocError> {
+    let mut writer = Writer::new(alloc);
+    let mut packages = Vec::new(alloc);
+    for part in text.split(|byte| *byte == b';') {
+        add_packages(alloc, &mut writer, &mut packages, part)?;
+    }
+    let list = writer.arr(packages.as_slice())?;
+    let root = writer.obj(&[Val::of(0), list])?;
+    match writer.finish(root) {
+        Ok(payload) => Ok(payload),
+        Err(_) => Ok(Vec::new(alloc)),
+    }
+}
+
+// Adds a package, as often as its text says.
+fn add_packages(
+    alloc: Global,
+    writer: &mut Writer,
+    packages: &mut Vec<Val>,
+    part: &[u8],
+) -> Result<(), AllocError> {
+    let (count, text) = match part.iter().position(|byte| *byte == b'*') {
+        Some(at) => (number_of(&part[..at]), &part[at + 1..]),
+        None => (1, part),
+    };
+    let package = package_value(alloc, writer, text)?;
+    if package.is_null() {
+        return Ok(());
+    }
+    for _ in 0..count {
+        packages.push(package)?;
+    }
+    Ok(())
+}
+
+// The value of a package.
+fn package_value(alloc: Global, writer: &mut Writer, part: &[u8]) -> Result<Val, AllocError> {
+    let mut fields = [Val::of(0); 18];
+    for word in part.split(|byte| *byte == b' ') {
+        add_field(alloc, writer, &mut fields, word)?;
+    }
+    if fields[0].is_null() {
+        return Ok(Val::of(0));
+    }
+    if fields[2].is_null() {
+        fields[2] = writer.blob(b"01234567890123456789")?;
+    }
+    writer.obj(&fields)
+}
+
+fn add_field(
+    alloc: Global,
+    writer: &mut Writer,
+    fields: &mut [Val; 18],
+    word: &[u8],
+) -> Result<(), AllocError> {
+    match word {
+        [] => {}
+        [b'd', b':', list @ ..] => fields[14] = list_value(alloc, writer, list)?,
+        [b'p', b':', list @ ..] => fields[15] = list_value(alloc, writer, list)?,
+        [b'i', b':', list @ ..] => fields[17] = list_value(alloc, writer, list)?,
+        [b'k', b':', digits @ ..] => fields[13] = writer.int(number_of(digits))?,
+        [b'h', b':', id @ ..] => fields[2] = writer.blob(id)?,
+        _ => {
+            if let Some(dep) = read_dep(word) {
+                fields[0] = writer.blob(dep.name)?;
+                fields[1] = version_value(writer, &dep)?;
+            }
+        }
+    }
+    Ok(())
+}
+
+// The value of a list of dependencies.
+fn list_value(alloc: Global, writer: &mut Writer, list: &[u8]) -> Result<Val, AllocError> {
+    let mut values = Vec::new(alloc);
+    for text in list.split(|byte| *byte == b',') {
+        if let Some(dep) = read_dep(text) {
+            values.push(dep_value(writer, &dep)?)?;
+        }
+    }
+    writer.arr(values.as_slice())
+}
+
+fn dep_value(writer: &mut Writer, dep: &Dep<'_>) -> Result<Val, AllocError> {
+    let name = writer.blob(dep.name)?;
+    let version = version_value(writer, dep)?;
+    let matching = matching_value(writer, dep)?;
+    writer.obj(&[name, version, matching])
+}
+
+fn version_value(writer: &mut Writer, dep: &Dep<'_>) -> Result<Val, AllocError> {
+    match &dep.version {
+        None => Ok(Val::of(0)),
+        Some(version) => writer.blob(version.text()),
+    }
+}
+
+// The bits of the operator and of a conflict; none where a name alone is asked for.
+fn matching_value(writer: &mut Writer, dep: &Dep<'_>) -> Result<Val, AllocError> {
+    let bits = u64::from(dep.op.bits());
+    let number = match (dep.conflict, dep.version.is_some()) {
+        (false, false) => 0,
+        (false, true) => bits,
+        (true, false) => 23,
+        (true, true) => 16 | bits,
+    };
+    if number == 0 {
+        return Ok(Val::of(0));
+    }
+    writer.int(number)
+}
