@@ -6,11 +6,9 @@
 //! Nothing is proved of what is compared: these are tests.
 #![tactic(auto)]
 
-mod check;
 mod report;
 mod run;
-mod start;
 mod sweep;
 
 pub use report::run_text;
-pub use run::Program;
+pub use row_check::Program;

@@ -1,37 +1,9 @@
-//! What rows run, and one command line over a tree and two sinks.
-use crate::check::{check_images, check_run};
-use crate::report::RowFault;
-use crate::start::{copy_of, tree_of};
+//! A row, and one command line over a tree and two sinks.
 use crate::sweep::{fail_each, stop_each};
-use base_core::Words;
+use row_check::{Program, RowFault, Run, check_images, check_run, copy_of, tree_of};
 use row_text::{Row, SinkPlan, Step, TreePlan};
-use std::alloc::{AllocError, Global};
+use std::alloc::Global;
 use tree_memory::{MemorySink, MemoryTree};
-
-/// A program that rows can run, over a tree and two sinks in memory.
-pub trait Program {
-    /// Runs the words of a command line, without the program's name, and answers the exit status.
-    fn run(
-        &self,
-        alloc: Global,
-        words: &Words,
-        tree: &mut MemoryTree,
-        out: &mut MemorySink,
-        err: &mut MemorySink,
-    ) -> u8;
-
-    /// The container of a dump text, or None where the text is none.
-    fn container_of(&self, alloc: Global, text: &[u8]) -> Result<Option<Vec<u8>>, AllocError>;
-}
-
-/// A run that ended: what it left and what it printed.
-#[derive(Drop)]
-pub(crate) struct Run {
-    pub(crate) tree: MemoryTree,
-    pub(crate) status: u8,
-    pub(crate) out: MemorySink,
-    pub(crate) err: MemorySink,
-}
 
 /// Runs a row, and answers what it leaves.
 pub(crate) fn run_row<P: Program>(

@@ -1,8 +1,9 @@
 //! A command line with each of its calls failing in turn, and cut off behind each of them.
-use crate::check::{check_images, check_run, check_streams};
-use crate::report::{RowFault, compare, compare_numbers, differs, digits};
-use crate::run::{Program, Run, run_once};
-use crate::start::{are_alike, copy_of};
+use crate::run::run_once;
+use row_check::{
+    Program, RowFault, Run, are_alike, check_images, check_run, check_streams, compare,
+    compare_numbers, copy_of, differs, digits,
+};
 use row_text::Step;
 use std::alloc::Global;
 use tree_memory::MemoryTree;

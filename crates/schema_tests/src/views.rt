@@ -1,295 +1,220 @@
 //! Views: each field of each table.
-
+use crate::payloads::{payload_of, table_of};
+use crate::words::add_cause;
 use adb_schema::{
-    AclView, DepView, DirInfo, FileInfo, IdbView, IndexView, IntentView, Kind, List, PackageView,
-    PkgInfo, ScriptsView, View, Which, fields_of, shape,
+    AclView, DepView, DirInfo, FileInfo, IdbView, IndexView, IntentView, List, PackageView,
+    PkgInfo, ScriptsView, View, Which, shape,
 };
 use adb_view::Adb;
+use base_core::Words;
+use row_lines::{add_number, add_word, word_at};
 use std::alloc::{AllocError, Global};
-use std::process::Abort;
-use std::test::Fail;
 
-/// How many bytes the values of a field take in a sample.
-const CELL: u32 = 20;
-
-/// A payload whose root is an object of this table. Its field with the number i holds the integer
-/// i, or the text of one byte that is the letter with this number, or an object whose first field
-/// is that, or an array of one of them.
-fn sample(alloc: Global, which: Which) -> Result<Vec<u8>, AllocError> {
-    let fields = fields_of(which);
-    let count = u32::try_from(fields.len()).unwrap_or(0);
-    let mut payload = Vec::new(alloc);
-    payload.extend_from_slice(b"\0\0\0\0\x08\0\0\xe0")?;
-    payload.extend_from_slice(&count.wrapping_add(1).to_le_bytes())?;
-    let mut cell = count.wrapping_mul(4).wrapping_add(12);
-    let mut cells = Vec::new(alloc);
-    for (i, field) in fields.iter().enumerate() {
-        let number = u32::try_from(i).unwrap_or(0).wrapping_add(1);
-        let letter = b'`'
-            .wrapping_add(u8::try_from(i).unwrap_or(0))
-            .wrapping_add(1);
-        let int = number.wrapping_add(0x1000_0000);
-        let text = cell.wrapping_add(0x8000_0000);
-        let below = cell.wrapping_add(0xe000_0004);
-        let array = cell.wrapping_add(0xd000_000c);
-        let (word, first, entry) = match field.kind {
-            Kind::Int => (int, 0, 0),
-            Kind::Text | Kind::Hash => (text, 0, 0),
-            Kind::Obj(Which::Acl) => (below, int, 0),
-            Kind::Obj(_) => (below, text, 0),
-            Kind::TextArr => (array, 0, text),
-            Kind::ObjArr(Which::Package) => (array, 0, 0),
-            Kind::ObjArr(_) => (array, text, below),
-        };
-        payload.extend_from_slice(&word.to_le_bytes())?;
-        cells.extend_from_slice(&[1, letter, 0, 0, 2, 0, 0, 0])?;
-        cells.extend_from_slice(&first.to_le_bytes())?;
-        cells.extend_from_slice(&[2, 0, 0, 0])?;
-        cells.extend_from_slice(&entry.to_le_bytes())?;
-        cell = cell.wrapping_add(CELL);
-    }
-    payload.extend_from_slice(&cells)?;
-    Ok(payload)
-}
-
-/// The only text of a list, or none.
-fn only_text<'a>(list: List<'a, &'a [u8]>) -> &'a [u8] {
-    if list.len() == 1 { list.get(1) } else { b"" }
-}
-
-/// The name of the only dependency of a list, or none.
-fn only_dependency<'a>(list: List<'a, DepView<'a>>) -> &'a [u8] {
-    if list.len() == 1 {
-        list.get(1).name()
-    } else {
-        b""
+/// Adds each field of the value of `view TABLE VALUE`: of a list what of each entry tells it from
+/// others, between brackets.
+pub fn add_view(alloc: Global, words: &Words, answer: &mut Vec<u8>) -> Result<(), AllocError> {
+    let payload = payload_of(alloc, words, 2)?;
+    let adb = match Adb::new(&payload) {
+        Ok(adb) => adb,
+        Err(cause) => return add_cause(alloc, cause, answer),
+    };
+    match table_of(word_at(words, 1)) {
+        Which::Dep => add_dependency(alloc, adb, answer),
+        Which::Acl => add_rights(alloc, adb, answer),
+        Which::PkgInfo => add_info(alloc, adb, answer),
+        Which::File => add_file(alloc, adb, answer),
+        Which::Dir => add_folder(alloc, adb, answer),
+        Which::Scripts => add_scripts(alloc, adb, answer),
+        Which::Package => add_package(alloc, adb, answer),
+        Which::Index => add_index(alloc, adb, answer),
+        Which::Idb => add_database(alloc, adb, answer),
+        Which::Intent => add_intent(alloc, adb, answer),
     }
 }
 
-/// The name of the only file of a list, or none.
-fn only_file<'a>(list: List<'a, FileInfo<'a>>) -> &'a [u8] {
-    if list.len() == 1 {
-        list.get(1).name()
-    } else {
-        b""
-    }
+fn add_int(alloc: Global, number: u64, answer: &mut Vec<u8>) -> Result<(), AllocError> {
+    add_word(answer, b"")?;
+    add_number(alloc, answer, u128::from(number))
 }
 
-/// The name of the only folder of a list, or none.
-fn only_folder<'a>(list: List<'a, DirInfo<'a>>) -> &'a [u8] {
-    if list.len() == 1 {
-        list.get(1).name()
-    } else {
-        b""
+fn add_texts<'a>(list: List<'a, &'a [u8]>, answer: &mut Vec<u8>) -> Result<(), AllocError> {
+    add_word(answer, b"[")?;
+    for i in 0..list.len() {
+        add_word(answer, list.get(i + 1))?;
     }
+    add_word(answer, b"]")
 }
 
-/// The name of the only package of a list, or none.
-fn only_info<'a>(list: List<'a, PkgInfo<'a>>) -> &'a [u8] {
-    if list.len() == 1 {
-        list.get(1).name()
-    } else {
-        b""
+fn add_dependencies<'a>(
+    list: List<'a, DepView<'a>>,
+    answer: &mut Vec<u8>,
+) -> Result<(), AllocError> {
+    add_word(answer, b"[")?;
+    for i in 0..list.len() {
+        add_word(answer, list.get(i + 1).name())?;
     }
+    add_word(answer, b"]")
 }
 
-/// That each text is the one beside it.
-fn same_texts(rt: &impl Abort, texts: &[(&[u8], &[u8])]) {
-    for (found, want) in texts {
-        assert_eq!(rt; found, want);
+fn add_dependency(alloc: Global, adb: Adb<'_>, answer: &mut Vec<u8>) -> Result<(), AllocError> {
+    if let Err(cause) = shape(adb, Which::Dep) {
+        return add_cause(alloc, cause, answer);
     }
-}
-
-#[test]
-fn each_field_of_a_dependency(rt: HostRuntime) -> Result<(), Fail> {
-    let payload = sample(rt.alloc(), Which::Dep)?;
-    let adb = Adb::new(&payload)?;
-    shape(adb, Which::Dep)?;
     let dep = DepView::of(adb, adb.root());
-    assert_eq!(rt;
-        (dep.name(), dep.version(), dep.matching()),
-        (b"a".as_slice(), b"b".as_slice(), 3)
-    );
-    Ok(())
+    add_word(answer, dep.name())?;
+    add_word(answer, dep.version())?;
+    add_int(alloc, dep.matching(), answer)
 }
 
-#[test]
-fn each_field_of_rights(rt: HostRuntime) -> Result<(), Fail> {
-    let payload = sample(rt.alloc(), Which::Acl)?;
-    let adb = Adb::new(&payload)?;
-    shape(adb, Which::Acl)?;
-    let acl = AclView::of(adb, adb.root());
-    let texts: [(&[u8], &[u8]); 3] = [
-        (acl.user(), b"b"),
-        (acl.group(), b"c"),
-        (only_text(acl.xattrs()), b"d"),
-    ];
-    same_texts(&rt, &texts);
-    assert_eq!(rt; acl.mode(), 1);
-    Ok(())
-}
-
-#[test]
-fn each_field_of_a_file(rt: HostRuntime) -> Result<(), Fail> {
-    let payload = sample(rt.alloc(), Which::File)?;
-    let adb = Adb::new(&payload)?;
-    shape(adb, Which::File)?;
-    let file = FileInfo::of(adb, adb.root());
-    let texts: [(&[u8], &[u8]); 3] = [
-        (file.name(), b"a"),
-        (file.hashes(), b"e"),
-        (file.target(), b"f"),
-    ];
-    same_texts(&rt, &texts);
-    assert_eq!(rt;
-        [file.acl().mode(), file.size(), file.mtime(), file.unused()],
-        [2, 3, 4, 7]
-    );
-    Ok(())
-}
-
-#[test]
-fn each_field_of_a_folder(rt: HostRuntime) -> Result<(), Fail> {
-    let payload = sample(rt.alloc(), Which::Dir)?;
-    let adb = Adb::new(&payload)?;
-    shape(adb, Which::Dir)?;
-    let dir = DirInfo::of(adb, adb.root());
-    let texts: [(&[u8], &[u8]); 2] = [(dir.name(), b"a"), (only_file(dir.files()), b"c")];
-    same_texts(&rt, &texts);
-    assert_eq!(rt; dir.acl().mode(), 2);
-    Ok(())
-}
-
-#[test]
-fn each_field_of_package_info(rt: HostRuntime) -> Result<(), Fail> {
-    let payload = sample(rt.alloc(), Which::PkgInfo)?;
-    let adb = Adb::new(&payload)?;
-    shape(adb, Which::PkgInfo)?;
-    let info = PkgInfo::of(adb, adb.root());
-    texts_of_info(&rt, &info);
-    lists_of_info(&rt, &info);
-    assert_eq!(rt;
-        [
-            info.build_time(),
-            info.installed_size(),
-            info.file_size(),
-            info.provider_priority(),
-            info.layer(),
-            info.unused(),
-        ],
-        [11, 12, 13, 14, 20, 22]
-    );
-    Ok(())
-}
-
-fn texts_of_info(rt: &impl Abort, info: &PkgInfo<'_>) {
-    let texts: [(&[u8], &[u8]); 10] = [
-        (info.name(), b"a"),
-        (info.version(), b"b"),
-        (info.hashes(), b"c"),
-        (info.description(), b"d"),
-        (info.arch(), b"e"),
-        (info.license(), b"f"),
-        (info.origin(), b"g"),
-        (info.maintainer(), b"h"),
-        (info.url(), b"i"),
-        (info.repo_commit(), b"j"),
-    ];
-    same_texts(rt, &texts);
-}
-
-fn lists_of_info(rt: &impl Abort, info: &PkgInfo<'_>) {
-    let texts: [(&[u8], &[u8]); 6] = [
-        (only_dependency(info.depends()), b"o"),
-        (only_dependency(info.provides()), b"p"),
-        (only_dependency(info.replaces()), b"q"),
-        (only_dependency(info.install_if()), b"r"),
-        (only_dependency(info.recommends()), b"s"),
-        (only_text(info.tags()), b"u"),
-    ];
-    same_texts(rt, &texts);
-}
-
-#[test]
-fn each_field_of_scripts(rt: HostRuntime) -> Result<(), Fail> {
-    let payload = sample(rt.alloc(), Which::Scripts)?;
-    let adb = Adb::new(&payload)?;
-    shape(adb, Which::Scripts)?;
-    let scripts = ScriptsView::of(adb, adb.root());
-    let texts: [(&[u8], &[u8]); 7] = [
-        (scripts.trigger(), b"a"),
-        (scripts.pre_install(), b"b"),
-        (scripts.post_install(), b"c"),
-        (scripts.pre_deinstall(), b"d"),
-        (scripts.post_deinstall(), b"e"),
-        (scripts.pre_upgrade(), b"f"),
-        (scripts.post_upgrade(), b"g"),
-    ];
-    same_texts(&rt, &texts);
-    Ok(())
-}
-
-#[test]
-fn each_field_of_a_package(rt: HostRuntime) -> Result<(), Fail> {
-    let payload = sample(rt.alloc(), Which::Package)?;
-    let adb = Adb::new(&payload)?;
-    shape(adb, Which::Package)?;
-    let package = PackageView::of(adb, adb.root());
-    let texts: [(&[u8], &[u8]); 4] = [
-        (package.info().name(), b"a"),
-        (only_folder(package.paths()), b"b"),
-        (package.scripts().trigger(), b"c"),
-        (only_text(package.triggers()), b"d"),
-    ];
-    same_texts(&rt, &texts);
-    assert_eq!(rt; package.replaces_priority(), 5);
-    Ok(())
-}
-
-#[test]
-fn each_field_of_an_index(rt: HostRuntime) -> Result<(), Fail> {
-    let payload = sample(rt.alloc(), Which::Index)?;
-    let adb = Adb::new(&payload)?;
-    shape(adb, Which::Index)?;
-    let index = IndexView::of(adb, adb.root());
-    let texts: [(&[u8], &[u8]); 3] = [
-        (index.description(), b"a"),
-        (only_info(index.packages()), b"b"),
-        (index.pkgname_spec(), b"c"),
-    ];
-    same_texts(&rt, &texts);
-    Ok(())
-}
-
-#[test]
-fn each_field_of_a_database(rt: HostRuntime) -> Result<(), Fail> {
-    let payload = sample(rt.alloc(), Which::Idb)?;
-    let adb = Adb::new(&payload)?;
-    shape(adb, Which::Idb)?;
-    let packages = IdbView::of(adb, adb.root()).packages();
-    assert!(rt; is_one_empty(packages));
-    Ok(())
-}
-
-/// Whether a list has one package, of which nothing is known.
-fn is_one_empty<'a>(packages: List<'a, PackageView<'a>>) -> bool {
-    if packages.len() != 1 {
-        return false;
+fn add_rights(alloc: Global, adb: Adb<'_>, answer: &mut Vec<u8>) -> Result<(), AllocError> {
+    if let Err(cause) = shape(adb, Which::Acl) {
+        return add_cause(alloc, cause, answer);
     }
-    let package = packages.get(1);
-    package.info().name().is_empty() && package.paths().len() == 0
+    let rights = AclView::of(adb, adb.root());
+    add_int(alloc, rights.mode(), answer)?;
+    add_word(answer, rights.user())?;
+    add_word(answer, rights.group())?;
+    add_texts(rights.xattrs(), answer)
 }
 
-#[test]
-fn each_field_of_an_intent(rt: HostRuntime) -> Result<(), Fail> {
-    let payload = sample(rt.alloc(), Which::Intent)?;
-    let adb = Adb::new(&payload)?;
-    shape(adb, Which::Intent)?;
-    let intent = IntentView::of(adb, adb.root());
-    let texts: [(&[u8], &[u8]); 2] = [
-        (only_text(intent.removals()), b"a"),
-        (only_text(intent.writes()), b"b"),
+fn add_file(alloc: Global, adb: Adb<'_>, answer: &mut Vec<u8>) -> Result<(), AllocError> {
+    if let Err(cause) = shape(adb, Which::File) {
+        return add_cause(alloc, cause, answer);
+    }
+    let file = FileInfo::of(adb, adb.root());
+    let mode = file.acl().mode();
+    add_word(answer, file.name())?;
+    add_int(alloc, mode, answer)?;
+    add_int(alloc, file.size(), answer)?;
+    add_int(alloc, file.mtime(), answer)?;
+    add_word(answer, file.hashes())?;
+    add_word(answer, file.target())?;
+    add_int(alloc, file.unused(), answer)
+}
+
+fn add_folder(alloc: Global, adb: Adb<'_>, answer: &mut Vec<u8>) -> Result<(), AllocError> {
+    if let Err(cause) = shape(adb, Which::Dir) {
+        return add_cause(alloc, cause, answer);
+    }
+    let folder = DirInfo::of(adb, adb.root());
+    let mode = folder.acl().mode();
+    add_word(answer, folder.name())?;
+    add_int(alloc, mode, answer)?;
+    add_word(answer, b"[")?;
+    let files = folder.files();
+    for i in 0..files.len() {
+        add_word(answer, files.get(i + 1).name())?;
+    }
+    add_word(answer, b"]")
+}
+
+fn add_info(alloc: Global, adb: Adb<'_>, answer: &mut Vec<u8>) -> Result<(), AllocError> {
+    if let Err(cause) = shape(adb, Which::PkgInfo) {
+        return add_cause(alloc, cause, answer);
+    }
+    let info = PkgInfo::of(adb, adb.root());
+    let texts: [&[u8]; 10] = [
+        info.name(),
+        info.version(),
+        info.hashes(),
+        info.description(),
+        info.arch(),
+        info.license(),
+        info.origin(),
+        info.maintainer(),
+        info.url(),
+        info.repo_commit(),
     ];
-    same_texts(&rt, &texts);
+    for text in texts {
+        add_word(answer, text)?;
+    }
+    add_int(alloc, info.build_time(), answer)?;
+    add_int(alloc, info.installed_size(), answer)?;
+    add_int(alloc, info.file_size(), answer)?;
+    add_int(alloc, info.provider_priority(), answer)?;
+    add_lists(alloc, &info, answer)
+}
+
+fn add_lists(alloc: Global, info: &PkgInfo<'_>, answer: &mut Vec<u8>) -> Result<(), AllocError> {
+    add_dependencies(info.depends(), answer)?;
+    add_dependencies(info.provides(), answer)?;
+    add_dependencies(info.replaces(), answer)?;
+    add_dependencies(info.install_if(), answer)?;
+    add_dependencies(info.recommends(), answer)?;
+    add_int(alloc, info.layer(), answer)?;
+    add_texts(info.tags(), answer)?;
+    add_int(alloc, info.unused(), answer)
+}
+
+fn add_scripts(alloc: Global, adb: Adb<'_>, answer: &mut Vec<u8>) -> Result<(), AllocError> {
+    if let Err(cause) = shape(adb, Which::Scripts) {
+        return add_cause(alloc, cause, answer);
+    }
+    let scripts = ScriptsView::of(adb, adb.root());
+    let texts: [&[u8]; 7] = [
+        scripts.trigger(),
+        scripts.pre_install(),
+        scripts.post_install(),
+        scripts.pre_deinstall(),
+        scripts.post_deinstall(),
+        scripts.pre_upgrade(),
+        scripts.post_upgrade(),
+    ];
+    for text in texts {
+        add_word(answer, text)?;
+    }
     Ok(())
+}
+
+fn add_package(alloc: Global, adb: Adb<'_>, answer: &mut Vec<u8>) -> Result<(), AllocError> {
+    if let Err(cause) = shape(adb, Which::Package) {
+        return add_cause(alloc, cause, answer);
+    }
+    let package = PackageView::of(adb, adb.root());
+    add_word(answer, package.info().name())?;
+    add_word(answer, b"[")?;
+    let folders = package.paths();
+    for i in 0..folders.len() {
+        add_word(answer, folders.get(i + 1).name())?;
+    }
+    add_word(answer, b"]")?;
+    add_word(answer, package.scripts().trigger())?;
+    add_texts(package.triggers(), answer)?;
+    add_int(alloc, package.replaces_priority(), answer)
+}
+
+fn add_index(alloc: Global, adb: Adb<'_>, answer: &mut Vec<u8>) -> Result<(), AllocError> {
+    if let Err(cause) = shape(adb, Which::Index) {
+        return add_cause(alloc, cause, answer);
+    }
+    let index = IndexView::of(adb, adb.root());
+    add_word(answer, index.description())?;
+    add_word(answer, b"[")?;
+    let packages = index.packages();
+    for i in 0..packages.len() {
+        add_word(answer, packages.get(i + 1).name())?;
+    }
+    add_word(answer, b"]")?;
+    add_word(answer, index.pkgname_spec())
+}
+
+fn add_database(alloc: Global, adb: Adb<'_>, answer: &mut Vec<u8>) -> Result<(), AllocError> {
+    if let Err(cause) = shape(adb, Which::Idb) {
+        return add_cause(alloc, cause, answer);
+    }
+    let packages = IdbView::of(adb, adb.root()).packages();
+    add_word(answer, b"[")?;
+    for i in 0..packages.len() {
+        add_word(answer, packages.get(i + 1).info().name())?;
+    }
+    add_word(answer, b"]")
+}
+
+fn add_intent(alloc: Global, adb: Adb<'_>, answer: &mut Vec<u8>) -> Result<(), AllocError> {
+    if let Err(cause) = shape(adb, Which::Intent) {
+        return add_cause(alloc, cause, answer);
+    }
+    let intent = IntentView::of(adb, adb.root());
+    add_texts(intent.removals(), answer)?;
+    add_texts(intent.writes(), answer)
 }

@@ -1,13 +1,13 @@
 //! Trees in memory: what a row begins with, and copies.
-use crate::report::{RowFault, differs};
-use crate::run::Program;
+use crate::differences::{RowFault, differs};
+use crate::program::Program;
 use base_core::Name;
 use row_text::{Content, NamedFile, Row};
 use std::alloc::{AllocError, Global};
 use tree_memory::MemoryTree;
 
 /// The tree that a row begins with: what an earlier row left, and its own files.
-pub(crate) fn tree_of<P: Program>(
+pub fn tree_of<P: Program>(
     alloc: Global,
     program: &P,
     row: &Row,
@@ -69,7 +69,7 @@ pub(crate) fn bytes_of<P: Program>(
 }
 
 /// A tree with the same files, whose counts are 0 and in which all is synced.
-pub(crate) fn copy_of(alloc: Global, tree: &MemoryTree) -> Result<MemoryTree, AllocError> {
+pub fn copy_of(alloc: Global, tree: &MemoryTree) -> Result<MemoryTree, AllocError> {
     tree.pick_image(alloc, tree.maps().saturating_sub(1))
 }
 
@@ -79,11 +79,7 @@ fn is_scratch(name: &Name) -> bool {
 }
 
 /// Whether two trees have the same files, apart from those that are being made.
-pub(crate) fn are_alike(
-    alloc: Global,
-    one: &MemoryTree,
-    other: &MemoryTree,
-) -> Result<bool, AllocError> {
+pub fn are_alike(alloc: Global, one: &MemoryTree, other: &MemoryTree) -> Result<bool, AllocError> {
     Ok(has_all_of(alloc, one, other)? && has_all_of(alloc, other, one)?)
 }
 

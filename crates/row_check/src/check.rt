@@ -1,6 +1,6 @@
 //! What is seen of a run, beside what is wanted.
-use crate::report::{RowFault, compare, compare_numbers, differs};
-use crate::run::{Program, Run};
+use crate::differences::{RowFault, compare, compare_numbers, differs};
+use crate::program::{Program, Run};
 use crate::start::{are_alike, bytes_of};
 use base_core::Name;
 use row_text::{NamedFile, Step};
@@ -8,7 +8,7 @@ use std::alloc::Global;
 use tree_memory::MemoryTree;
 
 /// All that is wanted of a run is seen.
-pub(crate) fn check_run<P: Program>(
+pub fn check_run<P: Program>(
     alloc: Global,
     program: &P,
     step: &Step,
@@ -22,7 +22,7 @@ pub(crate) fn check_run<P: Program>(
 }
 
 /// The streams and the status are those that are wanted.
-pub(crate) fn check_streams(alloc: Global, step: &Step, run: &Run) -> Result<(), RowFault> {
+pub fn check_streams(alloc: Global, step: &Step, run: &Run) -> Result<(), RowFault> {
     let line = step.line;
     compare(alloc, line, b"standard output", run.out.bytes(), &step.out)?;
     compare(alloc, line, b"standard error", run.err.bytes(), &step.err)?;
@@ -129,7 +129,7 @@ fn check_names(alloc: Global, step: &Step, tree: &MemoryTree) -> Result<(), RowF
 }
 
 /// Each image that a crash may leave of a tree has the files of another.
-pub(crate) fn check_images(
+pub fn check_images(
     alloc: Global,
     step: &Step,
     tree: &MemoryTree,

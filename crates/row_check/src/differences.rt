@@ -1,0 +1,137 @@
+//! Why a row fails, and two texts or numbers beside each other.
+use std::alloc::{AllocError, AllocFailed, Global};
+
+/// How many bytes are shown of a text, and how many of them stand before the first that differs.
+const SHOWN: usize = 60;
+
+const BEFORE: usize = 20;
+
+/// Why a row fails.
+#[derive(Drop)]
+pub enum RowFault {
+    /// What differs and where.
+    Differs(Vec<u8>),
+    /// There is no memory to run it.
+    Memory,
+}
+
+impl From<AllocError> for RowFault {
+    fn from(_: AllocError) -> RowFault {
+        RowFault::Memory
+    }
+}
+
+impl<T: Drop> From<AllocFailed<T>> for RowFault {
+    fn from(_: AllocFailed<T>) -> RowFault {
+        RowFault::Memory
+    }
+}
+
+/// A difference, in pieces, at a line of the text.
+pub fn differs(alloc: Global, line: u64, pieces: &[&[u8]]) -> RowFault {
+    match difference(alloc, line, pieces) {
+        Ok(text) => RowFault::Differs(text),
+        Err(AllocError) => RowFault::Memory,
+    }
+}
+
+fn difference(alloc: Global, line: u64, pieces: &[&[u8]]) -> Result<Vec<u8>, AllocError> {
+    let mut text = Vec::from_slice(alloc, b"line ")?;
+    add_number(alloc, &mut text, line)?;
+    text.extend_from_slice(b": ")?;
+    for piece in pieces {
+        text.extend_from_slice(piece)?;
+    }
+    Ok(text)
+}
+
+/// Adds a number in decimal digits.
+pub fn add_number(alloc: Global, text: &mut Vec<u8>, number: u64) -> Result<(), AllocError> {
+    let digits = format!(in alloc; "{number}")?;
+    text.extend_from_slice(digits.as_bytes())
+}
+
+/// A number in decimal digits.
+pub fn digits(alloc: Global, number: u64) -> Result<Vec<u8>, AllocError> {
+    let mut text = Vec::new(alloc);
+    add_number(alloc, &mut text, number)?;
+    Ok(text)
+}
+
+/// Two texts are alike, or the first place at which they differ is reported.
+pub fn compare(
+    alloc: Global,
+    line: u64,
+    what: &[u8],
+    found: &[u8],
+    wanted: &[u8],
+) -> Result<(), RowFault> {
+    if found == wanted {
+        return Ok(());
+    }
+    let at = first_difference(found, wanted);
+    let place = digits(alloc, at as u64)?;
+    let found = shown(alloc, found, at)?;
+    let wanted = shown(alloc, wanted, at)?;
+    let pieces: [&[u8]; 7] = [
+        what,
+        b" differs at byte ",
+        &place,
+        b": ",
+        &found,
+        b" where wanted ",
+        &wanted,
+    ];
+    Err(differs(alloc, line, &pieces))
+}
+
+/// The place of the first byte that differs, or the end of the shorter text.
+fn first_difference(found: &[u8], wanted: &[u8]) -> usize {
+    let mut at = 0usize;
+    for (one, other) in found.iter().zip(wanted.iter()) {
+        if *one != *other {
+            return at;
+        }
+        at = at.saturating_add(1);
+    }
+    at
+}
+
+/// Two numbers are alike, or both are reported.
+pub fn compare_numbers(
+    alloc: Global,
+    line: u64,
+    what: &[u8],
+    found: u64,
+    wanted: u64,
+) -> Result<(), RowFault> {
+    if found == wanted {
+        return Ok(());
+    }
+    let found = digits(alloc, found)?;
+    let wanted = digits(alloc, wanted)?;
+    let pieces: [&[u8]; 5] = [what, b" ", &found, b" where wanted ", &wanted];
+    Err(differs(alloc, line, &pieces))
+}
+
+/// What is shown of a text near a place, between quotes.
+fn shown(alloc: Global, text: &[u8], at: usize) -> Result<Vec<u8>, AllocError> {
+    let mut out = Vec::new(alloc);
+    out.push(b'"')?;
+    for byte in text.iter().skip(at.saturating_sub(BEFORE)).take(SHOWN) {
+        add_escaped(alloc, &mut out, *byte)?;
+    }
+    out.push(b'"')?;
+    Ok(out)
+}
+
+fn add_escaped(alloc: Global, out: &mut Vec<u8>, byte: u8) -> Result<(), AllocError> {
+    match byte {
+        b'\n' => out.extend_from_slice(b"\\n"),
+        0x20..=0x7e => out.extend_from_slice(&[byte]),
+        _ => {
+            let text = format!(in alloc; "\\x{byte:02x}")?;
+            out.extend_from_slice(text.as_bytes())
+        }
+    }
+}

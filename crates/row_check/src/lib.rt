@@ -1,0 +1,15 @@
+//! What a row wants beside what is seen: the tree that it begins with, what a run left and printed,
+//! and what a crash may leave.
+//!
+//! Nothing is proved of what is compared: these are tests.
+#![tactic(auto)]
+
+mod check;
+mod differences;
+mod program;
+mod start;
+
+pub use check::{check_images, check_run, check_streams};
+pub use differences::{RowFault, add_number, compare, compare_numbers, differs, digits};
+pub use program::{Program, Run};
+pub use start::{are_alike, copy_of, tree_of};

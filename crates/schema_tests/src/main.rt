@@ -1,0 +1,98 @@
+//! Answers questions to `adb_view`, `adb_tables`, `adb_fields`, `adb_rules` and `adb_schema`: words
+//! of a payload, the shape of payloads, the rules of texts, views, and whole containers. Its stored
+//! run has all rows; `tests/lines.md` describes their form. A payload stays from one row to the
+//! next.
+#![tactic(auto)]
+
+mod containers;
+mod payloads;
+mod shapes;
+mod views;
+mod words;
+
+use base_core::Words;
+use containers::{add_container, add_rule};
+use row_lines::{Subject, run_lines, value_named, word_at};
+use shapes::{add_faults, add_many_files, add_shape, add_visits};
+use std::alloc::{AllocError, Global};
+use std::io;
+use std::io::{Read, Write};
+use std::process::ExitCode;
+use views::add_view;
+use words::{add_head, add_reads};
+
+/// What is asked.
+#[derive(Clone, Copy)]
+enum Question {
+    Payload,
+    Head,
+    Word,
+    Shape,
+    Faults,
+    Visits,
+    ManyFiles,
+    Rules,
+    View,
+    Container,
+}
+
+#[rattlefmt::skip]
+const QUESTIONS: [(&[u8], Question); 10] = [
+    (b"payload", Question::Payload),
+    (b"head", Question::Head),
+    (b"word", Question::Word),
+    (b"shape", Question::Shape),
+    (b"faults", Question::Faults),
+    (b"visits", Question::Visits),
+    (b"many_files", Question::ManyFiles),
+    (b"rules", Question::Rules),
+    (b"view", Question::View),
+    (b"container", Question::Container),
+];
+
+/// The payload that rows speak of.
+#[derive(Drop)]
+struct CurrentPayload {
+    bytes: Vec<u8>,
+}
+
+impl Subject for CurrentPayload {
+    fn answer(
+        &mut self,
+        alloc: Global,
+        words: &Words,
+        answer: &mut Vec<u8>,
+    ) -> Result<(), AllocError> {
+        let Some(question) = value_named(&QUESTIONS, word_at(words, 0)) else {
+            return answer.extend_from_slice(b"no question");
+        };
+        match question {
+            Question::Payload => {
+                self.bytes.clear();
+                self.bytes.extend_from_slice(word_at(words, 1))
+            }
+            Question::Head => add_head(alloc, &self.bytes, answer),
+            Question::Word => add_reads(alloc, &self.bytes, word_at(words, 1), answer),
+            Question::Shape => add_shape(alloc, words, answer),
+            Question::Faults => add_faults(alloc, word_at(words, 1), answer),
+            Question::Visits => add_visits(alloc, words, answer),
+            Question::ManyFiles => add_many_files(alloc, word_at(words, 1), answer),
+            Question::Rules => add_rule(alloc, words, answer),
+            Question::View => add_view(alloc, words, answer),
+            Question::Container => add_container(alloc, words, answer),
+        }
+    }
+}
+
+fn main(rt: HostRuntime) -> io::Result<ExitCode> {
+    let alloc = rt.alloc();
+    let mut text = Vec::new(alloc);
+    rt.stdin().read_to_end(&mut text)?;
+    let mut payload = CurrentPayload {
+        bytes: Vec::new(alloc),
+    };
+    let mut report = Vec::new(alloc);
+    let passed = run_lines(alloc, &mut payload, &text, &mut report)?;
+    rt.stdout().write_all(&report)?;
+    Ok(ExitCode::from(if passed { 0 } else { 1 }))
+}

@@ -1,0 +1,143 @@
+//! Payloads, from the words of a row.
+use crate::words::int_of;
+use adb_schema::Which;
+use base_core::Words;
+use row_lines::value_named;
+use std::alloc::{AllocError, Global};
+
+const TEXT: u32 = 0x9000_0000;
+
+const ARRAY: u32 = 0xd000_0000;
+
+const OBJECT: u32 = 0xe000_0000;
+
+/// A word that stands for an integer, and the integers that it may stand for.
+const INT: u32 = 0x1000_0000;
+
+/// How many bytes stand before the first value.
+const HEAD: usize = 8;
+
+#[rattlefmt::skip]
+const TABLES: [(&[u8], Which); 10] = [
+    (b"dependency", Which::Dep),
+    (b"rights", Which::Acl),
+    (b"info", Which::PkgInfo),
+    (b"file", Which::File),
+    (b"folder", Which::Dir),
+    (b"scripts", Which::Scripts),
+    (b"package", Which::Package),
+    (b"index", Which::Index),
+    (b"database", Which::Idb),
+    (b"intent", Which::Intent),
+];
+
+/// The table of a name; that of packages where it is none.
+pub fn table_of(name: &[u8]) -> Which {
+    value_named(&TABLES, name).unwrap_or(Which::Package)
+}
+
+/// A payload that is being written: the values behind its head, the entries of the runs that are
+/// open, and the root's word.
+#[derive(Drop)]
+struct Payload {
+    values: Vec<u8>,
+    open: Vec<Vec<u32>>,
+    root: u32,
+}
+
+/// The payload of a value: `.` is null, `#` and a number an integer, `'` and bytes a text, what
+/// stands between `[` and `]` an array, and what stands between `{` and `}` an object.
+pub fn payload_of(alloc: Global, words: &Words, first: usize) -> Result<Vec<u8>, AllocError> {
+    let mut payload = Payload {
+        values: Vec::new(alloc),
+        open: Vec::new(alloc),
+        root: 0,
+    };
+    for i in first..words.len() {
+        payload.add(alloc, words.word(i))?;
+    }
+    let mut bytes = Vec::new(alloc);
+    bytes.extend_from_slice(&[0; 4])?;
+    bytes.extend_from_slice(&payload.root.to_le_bytes())?;
+    bytes.extend_from_slice(&payload.values)?;
+    Ok(bytes)
+}
+
+impl Payload {
+    fn add(&mut self, alloc: Global, word: &[u8]) -> Result<(), AllocError> {
+        match word {
+            [b'{'] | [b'['] => {
+                self.open.push(Vec::new(alloc))?;
+                Ok(())
+            }
+            [b'}'] => self.close(OBJECT),
+            [b']'] => self.close(ARRAY),
+            [b'\'', text @ ..] => self.add_text(text),
+            [b'#', number @ ..] => self.add_entry(INT + int_of(number) % INT),
+            _ => self.add_entry(0),
+        }
+    }
+
+    /// The word of the value of this kind that is written next.
+    fn next_word(&self, kind: u32) -> u32 {
+        kind.wrapping_add((self.values.len() % 0x0100_0000 + HEAD) as u32)
+    }
+
+    fn add_text(&mut self, text: &[u8]) -> Result<(), AllocError> {
+        let word = self.next_word(TEXT);
+        let len = (text.len() % 65_536) as u16;
+        self.values.extend_from_slice(&len.to_le_bytes())?;
+        self.values.extend_from_slice(text)?;
+        self.add_entry(word)
+    }
+
+    /// Writes the run that was opened last.
+    fn close(&mut self, kind: u32) -> Result<(), AllocError> {
+        let Some(entries) = self.open.pop() else {
+            return Ok(());
+        };
+        let word = self.next_word(kind);
+        add_run(&mut self.values, &entries)?;
+        self.add_entry(word)
+    }
+
+    /// Adds an entry to the run that was opened last; with none it is the root.
+    fn add_entry(&mut self, word: u32) -> Result<(), AllocError> {
+        match self.open.pop() {
+            Some(mut entries) => {
+                entries.push(word)?;
+                self.open.push(entries)?;
+            }
+            None => self.root = word,
+        }
+        Ok(())
+    }
+}
+
+/// Writes a run: its count of words, which counts itself, and its entries.
+pub fn add_run(bytes: &mut Vec<u8>, entries: &[u32]) -> Result<(), AllocError> {
+    let count = (entries.len() % 65_536) as u32 + 1;
+    bytes.extend_from_slice(&count.to_le_bytes())?;
+    for entry in entries {
+        bytes.extend_from_slice(&entry.to_le_bytes())?;
+    }
+    Ok(())
+}
+
+/// A payload whose root is an object with these words, and behind it more bytes.
+pub fn object_payload(alloc: Global, entries: &[u32], more: &[u8]) -> Result<Vec<u8>, AllocError> {
+    let mut payload = Vec::new(alloc);
+    payload.extend_from_slice(b"\0\0\0\0\x08\0\0\xe0")?;
+    add_run(&mut payload, entries)?;
+    payload.extend_from_slice(more)?;
+    Ok(payload)
+}
+
+/// The words of a row that are numbers, from a place on.
+pub fn ints_of(alloc: Global, words: &Words, first: usize) -> Result<Vec<u32>, AllocError> {
+    let mut ints = Vec::new(alloc);
+    for i in first..words.len() {
+        ints.push(int_of(words.word(i)))?;
+    }
+    Ok(ints)
+}
