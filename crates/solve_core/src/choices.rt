@@ -244,8 +244,45 @@ impl<'p> Choices<'p> {
         }
     }
 
-    /// A choice that no satisfying selection holds beside the candidate.
+    /// A choice that no satisfying selection holds beside the candidate. It is looked for among all
+    /// choices where these are fewer than the offers of the candidate's name.
     pub(crate) fn excluder(&self, id: CandId) -> Option<CandId>
+        requires consistent { IsConsistent self.now }
+        requires within { id < length (pool_of self.now).candidates }
+        ensures { MatchOption result ((other : ℕ) → IsMember other (choices_of self.now) →
+            exclude_each_other (pool_of self.now) other id
+            ≡ false) (λ other. IsMember other (choices_of self.now)
+            × (exclude_each_other (pool_of self.now) other id ≡ true)) }
+    {
+        if self.are_choices_few(id) {
+            return self.excluder_of_all(id);
+        }
+        self.excluder_by_names(id)
+    }
+
+    // Whether there are fewer choices than offers of a candidate's name.
+    fn are_choices_few(&self, id: CandId) -> bool
+        requires { id < length (pool_of self.now).candidates }
+    {
+        let offers = self.pool.offers(self.pool.details(id).name());
+        self.choices.as_slice().len() < offers.len()
+    }
+
+    // The excluder among all choices.
+    fn excluder_of_all(&self, id: CandId) -> Option<CandId>
+        requires consistent { IsConsistent self.now }
+        requires within { id < length (pool_of self.now).candidates }
+        ensures { MatchOption result ((other : ℕ) → IsMember other (choices_of self.now) →
+            exclude_each_other (pool_of self.now) other id
+            ≡ false) (λ other. IsMember other (choices_of self.now)
+            × (exclude_each_other (pool_of self.now) other id ≡ true)) }
+    {
+        self.excluder_among(self.choices.as_slice(), id)
+    }
+
+    // The excluder among the choices that have conflicts, and those that offer a name which the
+    // candidate has, provides or depends on.
+    fn excluder_by_names(&self, id: CandId) -> Option<CandId>
         requires consistent { IsConsistent self.now }
         requires within { id < length (pool_of self.now).candidates }
         ensures { MatchOption result ((other : ℕ) → IsMember other (choices_of self.now) →

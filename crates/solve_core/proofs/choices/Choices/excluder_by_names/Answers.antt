@@ -8,7 +8,7 @@ use Rattle.solve_core.specs.Queue.{has_conflict_at}
 use Rattle.solve_core.proofs.FirstFound.{none_of}
 use Rattle.solve_core.proofs.PoolFacts.{filter_in}
 use Rattle.solve_core.proofs.Excluders.{match_none, no_excluder}
-use Rattle.solve_core.proofs.choices.Choices.excluder.Goals as goal
+use Rattle.solve_core.proofs.choices.Choices.excluder_by_names.Goals as goal
 
 pub excluder_among-requires-clause-ids : goal.excluder_among-requires-clause-ids
 excluder_among-requires-clause-ids c = λ k h.
