@@ -1,5 +1,5 @@
 -- What stands in the folders of a package: they are in order, each is over a path, and each name stands in just one.
-use Rattle.std.proofs.Common.{◌≡◌, ◌⊎◌, inl, inr, ⊎_elim, ℕ, zero, suc, ◌+◌, ◌-◌, ◌<◌, ◌≤◌, Bool, true, false, cond, not, if◌then◌else◌, List, [], ◌∷◌, ◌++◌, length, take, get_or, map, filter, flat_map, bytes_eq, Any, Contains, IsPermutation, refl, ap, sym, ◌∙◌, subst, arith, true≢false}
+use Rattle.std.proofs.Common.{◌≡◌, ◌⊎◌, inl, inr, ⊎_elim, ℕ, zero, suc, ◌-◌, ◌<◌, ◌≤◌, Bool, true, false, cond, not, if◌then◌else◌, List, [], ◌∷◌, ◌++◌, length, take, get_or, map, filter, flat_map, bytes_eq, Any, Contains, IsPermutation, refl, ap, sym, ◌∙◌, subst, arith, true≢false}
 use Rattle.std.specs.List.{AllByRecursion, suffix_len}
 use Rattle.std.specs.List.Sorted.{IsStrictlySortedBy}
 use Rattle.std.specs.Ordering.{is_eq}
@@ -10,7 +10,6 @@ use Rattle.std.proofs.lemmas.List.Sorted.{IsPermutation-append_right, IsPermutat
 use Rattle.std.proofs.lemmas.List.Sums.{suffix_len_is}
 use Rattle.std.proofs.lemmas.Map.Text.{is_eq-slice_cmp}
 use Rattle.std.proofs.lemmas.Slice.Eq.{bytes_eq-Decides}
-use borrow.Author.Tests.{eq-eqb, eqb-true}
 use Rattle.make_package.specs.Folders.{FolderListing, before_slashes, folder_names, folder_of, folders_of, folders_over, is_slash, listing_of, names_in_folder, path_below, with_folder, with_folder_by, with_folders}
 use Rattle.make_package.proofs.FolderLemmas.{cmp, placed_sorted, turned}
 use Rattle.make_package.proofs.PlaceLemmas.{differs}
@@ -18,16 +17,16 @@ use Rattle.make_package.proofs.PlaceLemmas.{differs}
 -- ---- elements
 
 module _ {X : Type 0} where
-  none_in : (x : X) → Contains [] x → ⊥
+  pub none_in : (x : X) → Contains [] x → ⊥
   none_in x h = let l = h.1 in absurd (omega arith)
 
-  here : (x : X) (xs : List X) → Contains (x ∷ xs) x
+  pub here : (x : X) (xs : List X) → Contains (x ∷ xs) x
   here x xs = (zero, omega arith, refl)
 
-  there : (x y : X) (xs : List X) → Contains xs x → Contains (y ∷ xs) x
+  pub there : (x y : X) (xs : List X) → Contains xs x → Contains (y ∷ xs) x
   there x y xs h = let l = h.1 in (suc h.0, omega arith, h.2)
 
-  either : (x y : X) (xs : List X) → Contains (y ∷ xs) x → (y ≡ x) ⊎ Contains xs x
+  pub either : (x y : X) (xs : List X) → Contains (y ∷ xs) x → (y ≡ x) ⊎ Contains xs x
   either x y xs h = at h.0 h.1 h.2
     where
       at : (k : ℕ) → k < length (y ∷ xs) → get_or (y ∷ xs) k x ≡ x → (y ≡ x) ⊎ Contains xs x
@@ -35,7 +34,7 @@ module _ {X : Type 0} where
       at (suc k) l e = inr (k, omega arith, e)
 
 module _ {X Y : Type 0} (f : X → Y) where
-  mapped : (x : X) (xs : List X) → Contains xs x → Contains (map f xs) (f x)
+  pub mapped : (x : X) (xs : List X) → Contains xs x → Contains (map f xs) (f x)
   mapped x [] h = absurd (none_in x h)
   mapped x (y ∷ ys) h = by (mapped x ys) (either x y ys h)
     where
@@ -132,7 +131,7 @@ none_sorted = tt
 
 -- ---- the folders of paths
 
-rising : (paths : List (List ℕ)) → IsStrictlySortedBy cmp (folder_names paths)
+pub rising : (paths : List (List ℕ)) → IsStrictlySortedBy cmp (folder_names paths)
 rising paths = all_sorted [] (flat_map folders_over paths) none_sorted
 
 pub folder_there : (paths : List (List ℕ)) (path folder : List ℕ) → Contains paths path → Contains (folders_over path) folder → Contains (folder_names paths) folder
@@ -144,7 +143,7 @@ folder_over paths folder h =
 
 -- ---- a path stands in one of the folders over it
 
-before_slash : (path : List ℕ) (i : ℕ) → i < length path → is_slash (get_or path i 0) ≡ true → Contains (before_slashes path) (take i path)
+pub before_slash : (path : List ℕ) (i : ℕ) → i < length path → is_slash (get_or path i 0) ≡ true → Contains (before_slashes path) (take i path)
 before_slash [] i l e = absurd (omega arith)
 before_slash (b ∷ bs) zero l e = subst (λ (c : Bool). Contains (if c then [] ∷ map (λ folder. b ∷ folder) (before_slashes bs) else map (λ folder. b ∷ folder) (before_slashes bs)) []) (sym e) (here [] (map (λ folder. b ∷ folder) (before_slashes bs)))
 before_slash (b ∷ bs) (suc i) l e = by (is_slash b) (mapped (λ folder. b ∷ folder) (take i bs) (before_slashes bs) (before_slash bs i (omega arith) e))
@@ -154,10 +153,10 @@ before_slash (b ∷ bs) (suc i) l e = by (is_slash b) (mapped (λ folder. b ∷ 
     by false h = h
 
 -- where the last part of a path begins
-record IsStart (path : List ℕ) (n : ℕ) : Type 0 where
-  within : n ≤ length path
-  passes : (k : ℕ) → n ≤ k → k < length path → not (is_slash (get_or path k 0)) ≡ true
-  stops : 0 < n → is_slash (get_or path (n - 1) 0) ≡ true
+pub record IsStart (path : List ℕ) (n : ℕ) : Type 0 where
+  pub within : n ≤ length path
+  pub passes : (k : ℕ) → n ≤ k → k < length path → not (is_slash (get_or path k 0)) ≡ true
+  pub stops : 0 < n → is_slash (get_or path (n - 1) 0) ≡ true
 
 from_least : (k m : ℕ) → m ≤ k → (k ≡ m) ⊎ (suc m ≤ k)
 from_least zero zero lo = inl refl
@@ -165,7 +164,7 @@ from_least (suc k) zero lo = inr (omega arith)
 from_least zero (suc m) lo = absurd (omega arith)
 from_least (suc k) (suc m) lo = ⊎_elim (λ e. inl (ap suc e)) (λ l. inr (omega arith)) (from_least k m (omega arith))
 
-start_of : (path : List ℕ) (n : ℕ) → n ≤ length path → ((k : ℕ) → n ≤ k → k < length path → not (is_slash (get_or path k 0)) ≡ true) → (m : ℕ) × IsStart path m
+pub start_of : (path : List ℕ) (n : ℕ) → n ≤ length path → ((k : ℕ) → n ≤ k → k < length path → not (is_slash (get_or path k 0)) ≡ true) → (m : ℕ) × IsStart path m
 start_of path zero l h = (zero, record { within = l; passes = h; stops = λ lt. absurd (omega arith) })
 start_of path (suc n) l h = by (is_slash (get_or path n 0)) refl (start_of path n (omega arith))
   where
@@ -179,6 +178,13 @@ start_of path (suc n) l h = by (is_slash (get_or path n 0)) refl (start_of path 
         (suc n, record { within = l; passes = h; stops = λ lt. subst (λ i. is_slash (get_or path i 0) ≡ true) (sym back) e })
     by false e f = f (λ k lo hi. here_too e k lo hi (from_least k n lo))
 
+pub of_start : (path : List ℕ) (m : ℕ) → IsStart path m → folder_of path ≡ take (m - 1) path
+of_start path m s =
+    let e : suffix_len (λ b. not (is_slash b)) path ≡ length path - m = suffix_len_is (λ b. not (is_slash b)) path m 0 s.within s.passes (λ lt. ap not (s.stops lt)) in
+    let le = s.within in
+    let before : length path - suffix_len (λ b. not (is_slash b)) path - 1 ≡ m - 1 = omega arith in
+    ap (λ n. take n path) before
+
 in_folder : (path : List ℕ) → Contains (folders_over path) (folder_of path)
 in_folder path = by start.0 start.1
   where
@@ -186,11 +192,7 @@ in_folder path = by start.0 start.1
     start = start_of path (length path) (omega arith) (λ k lo hi. absurd (omega arith))
 
     by : (m : ℕ) → IsStart path m → Contains (folders_over path) (folder_of path)
-    by m s =
-        let e : suffix_len (λ b. not (is_slash b)) path ≡ length path - m = suffix_len_is (λ b. not (is_slash b)) path m 0 s.within s.passes (λ lt. ap not (s.stops lt)) in
-        let le = s.within in
-        let before : length path - suffix_len (λ b. not (is_slash b)) path - 1 ≡ m - 1 = omega arith in
-        subst (Contains (folders_over path)) (sym (ap (λ n. take n path) before)) (at m s.within s.stops)
+    by m s = subst (Contains (folders_over path)) (sym (of_start path m s)) (at m s.within s.stops)
       where
         at : (m : ℕ) → m ≤ length path → (0 < m → is_slash (get_or path (m - 1) 0) ≡ true) → Contains (folders_over path) (take (m - 1) path)
         at zero le stops = here [] (before_slashes path)

@@ -18,7 +18,7 @@ cmp = slice_cmp nat_cmp
 pub turned : (a b : List ℕ) (o : Ordering) → cmp a b ≡ o → cmp b a ≡ ordering_reverse o
 turned a b o e = nat_list_cmp_total.antisymm b a ∙ ap ordering_reverse e
 
-placed_as : (o : Ordering) (x y : List ℕ) (ys : List (List ℕ)) → cmp x y ≡ o → with_folder x (y ∷ ys) ≡ with_folder_by o x y ys (with_folder x ys)
+pub placed_as : (o : Ordering) (x y : List ℕ) (ys : List (List ℕ)) → cmp x y ≡ o → with_folder x (y ∷ ys) ≡ with_folder_by o x y ys (with_folder x ys)
 placed_as o x y ys e = ap (λ (r : Ordering). with_folder_by r x y ys (with_folder x ys)) e
 
 module _ {X : Type 0} (key : X → List ℕ) (x : X) where

@@ -2,6 +2,7 @@ pub mod ContentSizes
 pub mod FileFields
 pub mod FolderLaws
 pub mod FolderLemmas
+pub mod FoldersThere
 pub mod MadeParts
 pub mod MadeRuns
 pub mod PackLemmas

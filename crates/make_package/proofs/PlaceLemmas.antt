@@ -1,12 +1,12 @@
 -- Where a folder is found among others, and what one more file adds to the folders' lists.
-use Rattle.std.proofs.Common.{◌≡◌, ℕ, zero, suc, ◌+◌, ◌<◌, ◌⊎◌, inl, inr, ◌==◌, Bool, true, false, List, [], ◌∷◌, ◌++◌, length, take, drop, get_or, set, map, replicate, refl, sym, ap, ◌∙◌, subst, arith, if◌then◌else◌, Bor, Result, Ok, Err, Option, Some, None, add-one, append-nil, slice_get, drop-cons}
+use Rattle.std.proofs.Common.{◌≡◌, ℕ, zero, suc, ◌+◌, ◌<◌, ◌⊎◌, inl, inr, ◌==◌, Bool, true, false, List, [], ◌∷◌, ◌++◌, length, take, get_or, set, map, replicate, refl, sym, ap, ◌∙◌, subst, arith, if◌then◌else◌, Bor, Result, Ok, Err, Option, Some, None, append-nil, slice_get}
 use Rattle.std.proofs.lemmas.List.{take_more, length-map, get_or-map}
 use Rattle.std.proofs.lemmas.List.Elements.{filter-append}
 use Rattle.std.proofs.lemmas.Map.Text.{is_eq-slice_cmp}
 use Rattle.std.proofs.lemmas.Map.Lookups.{exact_bytes}
 use Rattle.std.proofs.lemmas.Slice.Eq.{bytes_eq-Decides}
 use borrow.Author.Tests.{ne_eqb, eq-eqb}
-use Rattle.std.specs.List.{AllWithin, AllByRecursion, filter, flat_map}
+use Rattle.std.specs.List.{AllWithin, AllByRecursion, filter}
 use Rattle.std.specs.List.Sorted.{IsStrictlySortedBy, IsBinarySearchResult, IsSearchInRange}
 use Rattle.std.specs.Ordering.{ordering_reverse, is_eq}
 use Rattle.std.specs.Result.{result_ok}
@@ -14,9 +14,9 @@ use Rattle.std.specs.Str.{bytes_eq}
 use Rattle.std.specs.declared.cmp.Ordering.{Ordering}
 use Rattle.std.specs.declared.cmp.Ordering.TheVariants.{Less, Greater}
 use Rattle.std.proofs.lemmas.Option.{get_or_from_slice_get, slice_get_within}
-use Rattle.make_package.specs.Folders.{folder_of, path_below, names_in_folder, with_folders, folders_over}
+use Rattle.make_package.specs.Folders.{folder_of, path_below, names_in_folder}
 use Rattle.make_package.specs.BorrowedNames.{IsIndexOf}
-use Rattle.make_package.proofs.FolderLemmas.{cmp, turned, against, searchable, all_placed_append}
+use Rattle.make_package.proofs.FolderLemmas.{cmp, turned, against, searchable}
 
 abbrev names_of : List (Bor (List ℕ)) → List (List ℕ)
 names_of xs = map (λ name. name.now) xs
@@ -39,7 +39,7 @@ in_turn (n ∷ ns) j zero jk kn h = absurd (omega arith)
 in_turn (n ∷ ns) zero (suc k) jk kn h = at_all (λ z. cmp n z ≡ Less) ns k h.0 (omega arith)
 in_turn (n ∷ ns) (suc j) (suc k) jk kn h = in_turn ns j k (omega arith) (omega arith) h.1
 
-abbrev Tri : ℕ → ℕ → Type 0
+abbrev pub Tri : ℕ → ℕ → Type 0
 Tri j k = (j < k) ⊎ ((j ≡ k) ⊎ (k < j))
 
 tri_more : (j k : ℕ) → Tri j k → Tri (suc j) (suc k)
@@ -47,7 +47,7 @@ tri_more j k (inl lt) = inl (omega arith)
 tri_more j k (inr (inl e)) = inr (inl (ap suc e))
 tri_more j k (inr (inr lt)) = inr (inr (omega arith))
 
-tri : (j k : ℕ) → Tri j k
+pub tri : (j k : ℕ) → Tri j k
 tri zero zero = inr (inl refl)
 tri zero (suc k) = inl (omega arith)
 tri (suc j) zero = inr (inr (omega arith))
@@ -88,24 +88,6 @@ place_in ds xs x r e sorted bound there =
     let P : List (Bor (List ℕ)) → Type 0 = λ l. IsSearchInRange r (length l) in
     let Q : List (Bor (List ℕ)) → Type 0 = λ l. IsBinarySearchResult (against x.now) l r in
     found_place xs x r sorted (subst P e bound) (subst Q e there)
-
--- ---- one more name
-
-pub drop_here : (names : List (List ℕ)) (i : ℕ) (name : List ℕ) → slice_get names i ≡ Some name → drop i names ≡ name ∷ drop (i + 1) names
-drop_here names i name e =
-    let lt : i < length names = slice_get_within names i name e in
-    drop-cons names i [] lt ∙ (rw add-one (ap (λ (x : List ℕ). x ∷ drop (suc i) names) (get_or_from_slice_get names i name [] e)))
-
-abbrev coming : List ℕ → List (List ℕ) → List (List ℕ)
-coming dir names = flat_map folders_over (map (path_below dir) names)
-
-pub folders_next : (dir : List ℕ) (names before later : List (List ℕ)) (i : ℕ) (name path : List ℕ) → slice_get names i ≡ Some name → path ≡ path_below dir name
-    → later ≡ with_folders before (folders_over path) → with_folders before (coming dir (drop i names)) ≡ with_folders later (coming dir (drop (i + 1) names))
-folders_next dir names before later i name path here is added =
-    ap (λ (l : List (List ℕ)). with_folders before (coming dir l)) (drop_here names i name here)
-    ∙ all_placed_append before (folders_over (path_below dir name)) (coming dir (drop (i + 1) names))
-    ∙ ap (λ (p : List ℕ). with_folders (with_folders before (folders_over p)) (coming dir (drop (i + 1) names))) (sym is)
-    ∙ ap (λ (l : List (List ℕ)). with_folders l (coming dir (drop (i + 1) names))) (sym added)
 
 -- ---- one more file
 

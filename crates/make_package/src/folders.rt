@@ -86,7 +86,8 @@ impl<'a> FolderNames<'a> {
     }
 }
 
-/// The folders of a package, of the names that are listed below a folder of the tree.
+/// The folders of a package, of the names that are listed below a folder of the tree. Where the
+/// folder of a path is there, all that are over the path are: they are not searched for again.
 pub(crate) fn folder_names<'a>(
     alloc: Global,
     dir: &[u8],
@@ -96,7 +97,10 @@ pub(crate) fn folder_names<'a>(
 {
     let mut folders = FolderNames::new(alloc);
     for i in 0..names.len() {
-        folders.add_over(path_below(dir.len(), names.get(i).as_bytes()))?;
+        let path = path_below(dir.len(), names.get(i).as_bytes());
+        if folders.index_of(folder_of(path)).is_none() {
+            folders.add_over(path)?;
+        }
     }
     Ok(folders)
 }
