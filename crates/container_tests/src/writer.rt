@@ -157,7 +157,11 @@ fn integers_are_equal_by_width_and_number(rt: HostRuntime) -> Result<(), Fail> {
         let mut writer = Writer::new(rt.alloc());
         writer.int(first)?;
         assert_eq!(rt; writer.int(second)?.word(), word, "{first} {second}");
-        assert_eq!(rt; writer.int(first)?.word() % 0x1000_0000, 8, "{first} {second}");
+        assert_eq!(rt;
+            writer.int(first)?.word() % 0x1000_0000,
+            8,
+            "{first} {second}"
+        );
     }
     Ok(())
 }
