@@ -202,7 +202,7 @@ const BLOBS_IN_ORDER: u32 = 5000;
 
 /// A number for each, in an order that neither rises nor falls.
 fn scattered(n: u32) -> u32 {
-    (n * 7919) % 65_536
+    n.wrapping_mul(7919) % 65_536
 }
 
 #[test]
