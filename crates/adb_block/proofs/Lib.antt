@@ -1,4 +1,5 @@
 pub mod Choices
+pub mod Heads
 pub mod Sound
 pub mod Again
 pub mod Runs
