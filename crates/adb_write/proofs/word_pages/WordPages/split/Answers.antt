@@ -1,8 +1,8 @@
 use Rattle.std.proofs.Common.{◌≡◌, ◌<◌, length, drop, ◌∙◌, arith}
 use Rattle.std.proofs.lemmas.List.{length-map}
-use Rattle.adb_write.specs.Table.{HALF, page_at, pages_of}
+use Rattle.adb_write.specs.WordPages.{HALF, page_at, pages_of}
 use Rattle.adb_write.proofs.Pages.{split_vectors, upper_copy}
-use Rattle.adb_write.proofs.table.Table.split.Goals as goal
+use Rattle.adb_write.proofs.word_pages.WordPages.split.Goals as goal
 
 pub returns-clause-ok : goal.returns-clause-ok
 returns-clause-ok c =

@@ -5,10 +5,10 @@ use Rattle.std.proofs.lemmas.Fn.{always_returns_same}
 use Rattle.std.proofs.lemmas.List.{length-map}
 use Rattle.adb_view.specs.Adb.{payload_of}
 use Rattle.adb_write.specs.Keys.{key_of, key_at, HaveRisingKeys}
-use Rattle.adb_write.specs.Table.{AllCompare, page_at, pages_of}
+use Rattle.adb_write.specs.WordPages.{AllCompare, page_at, pages_of}
 use Rattle.adb_write.proofs.Rising.{cmp, searchable}
-use Rattle.adb_write.proofs.Pages.{page_of_map, page_rising, place_in, found_at, between_at, no_page, searched_low, searched_high, searched_equal}
-use Rattle.adb_write.proofs.table.Table.find.Goals as goal
+use Rattle.adb_write.proofs.Pages.{page_of_map, page_rising, slot_in, found_at, between_at, no_page, searched_low, searched_high, searched_equal}
+use Rattle.adb_write.proofs.word_pages.WordPages.find.Goals as goal
 
 pub returns-in_default : goal.returns-in_default
 returns-in_default c =
@@ -42,6 +42,6 @@ returns-in-Err c =
     let point = found (searchable p ws key (subst (HaveRisingKeys p) page (page_rising p (pages_of c.args.self.now) k c.requires.rising))) in
     let within : k < length (pages_of c.args.self.now) = omega (arith, look.0, length-map c.args.self.now.pages.items (λ page. page.items)) in
     let upto : i ≤ length (page_at (pages_of c.args.self.now) k) = omega (arith, ap length page, c.in-Err.ensures.bound) in
-    between_at p (pages_of c.args.self.now) key k i c.page_of-page.ensures (place_in (pages_of c.args.self.now) k i within upto)
+    between_at p (pages_of c.args.self.now) key k i c.page_of-page.ensures (slot_in (pages_of c.args.self.now) k i within upto)
     (subst (λ (l : List ℕ). AllCompare Greater p key (take i l)) (sym page) (searched_low p key ws i point.0))
     (subst (λ (l : List ℕ). AllCompare Less p key (drop i l)) (sym page) (searched_high p key ws i point.1))

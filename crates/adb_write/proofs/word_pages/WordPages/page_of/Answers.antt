@@ -4,9 +4,9 @@ use Rattle.std.specs.List.{concat}
 use Rattle.std.proofs.lemmas.List.Sorted.{IsPartitionPoint-from_clause}
 use Rattle.adb_view.specs.Adb.{payload_of}
 use Rattle.adb_write.specs.Keys.{key_of, HaveRisingKeys}
-use Rattle.adb_write.specs.Table.{AreFilled, IsPageFor, begins_above}
+use Rattle.adb_write.specs.WordPages.{AreFilled, IsPageFor, begins_above}
 use Rattle.adb_write.proofs.Pages.{parted, page_for}
-use Rattle.adb_write.proofs.table.Table.page_of.Goals as goal
+use Rattle.adb_write.proofs.word_pages.WordPages.page_of.Goals as goal
 
 pub returns : goal.returns
 returns c =

@@ -7,7 +7,7 @@ ghost use Rattle.std.specs.Prelude.{◌≡◌, ◌≤◌, ◌<◌, ℕ, List, []
 ghost use Rattle.std.specs.List.{concat};
 ghost use Rattle.adb_view.specs.Adb.{payload_of};
 ghost use Rattle.adb_write.specs.Keys.{key_of, HaveRisingKeys};
-ghost use Rattle.adb_write.specs.Table.{AreFilled, HALF, page_at, pages_of, words_before, words_behind, with_split, IsPlaceIn, IsSamePlace, FindsIn, IsPageFor, begins_above};
+ghost use Rattle.adb_write.specs.WordPages.{AreFilled, HALF, page_at, pages_of, words_before, words_behind, with_split, IsSlotIn, IsSameSlot, FindsIn, IsPageFor, begins_above};
 
 use crate::item::Parts;
 use adb_view::{Adb, Val};
@@ -22,42 +22,42 @@ const HALF: usize = FULL / 2;
 
 /// Where a word would stand: its page, and its index there.
 #[derive(Clone, Copy)]
-pub(crate) struct Place {
+pub(crate) struct Slot {
     pub page: usize,
     pub index: usize,
 }
 
 /// Words in rising order, in pages that are not empty.
 #[derive(Drop)]
-pub(crate) struct Table {
+pub(crate) struct WordPages {
     alloc: Global,
     pub pages: Vec<Vec<Val>>,
 }
 
-impl Table {
-    /// A table of no words.
-    pub(crate) fn new(alloc: Global) -> Table
+impl WordPages {
+    /// No words, in no pages.
+    pub(crate) fn new(alloc: Global) -> WordPages
         ensures { pages_of result ≡ [] }
     {
-        Table {
+        WordPages {
             alloc,
             pages: Vec::new(alloc),
         }
     }
 
-    /// The word that leads to an item like this one, or the place where one would stand.
-    pub(crate) fn find(&self, adb: &Adb<'_>, parts: &Parts<'_>) -> Result<Val, Place>
+    /// The word that leads to an item like this one, or the slot where one would stand.
+    pub(crate) fn find(&self, adb: &Adb<'_>, parts: &Parts<'_>) -> Result<Val, Slot>
         requires filled { AreFilled (pages_of self.now) }
         requires rising { HaveRisingKeys (payload_of adb.now) (concat (pages_of self.now)) }
         ensures { FindsIn (payload_of adb.now) (pages_of self.now) (key_of parts.now) result }
     {
         let page = self.page_of(adb, parts);
         let Some(words) = self.pages.get(page) else {
-            return Err(Place { page, index: 0 });
+            return Err(Slot { page, index: 0 });
         };
         match words.binary_search_by(|word| parts.compare(adb, *word).reverse()) {
             Ok(index) => Ok(words[index]),
-            Err(index) => Err(Place { page, index }),
+            Err(index) => Err(Slot { page, index }),
         }
     }
 
@@ -72,21 +72,21 @@ impl Table {
             .saturating_sub(1)
     }
 
-    /// Lets a word stand at a place. A refused growth leaves the words as they were.
-    pub(crate) fn insert(&mut self, place: Place, word: Val) -> Result<(), AllocError>
+    /// Lets a word stand at a slot. A refused growth leaves the words as they were.
+    pub(crate) fn insert(&mut self, slot: Slot, word: Val) -> Result<(), AllocError>
         requires filled { AreFilled (pages_of self.old) }
-        requires inside { IsPlaceIn (pages_of self.old) place.page place.index }
+        requires inside { IsSlotIn (pages_of self.old) slot.page slot.index }
         ensures filled { AreFilled (pages_of self.new) }
         ensures ok { OnOk result (concat (pages_of self.new)
-            ≡ words_before (pages_of self.old) place.page place.index
-            ++ word ∷ words_behind (pages_of self.old) place.page place.index) }
+            ≡ words_before (pages_of self.old) slot.page slot.index
+            ++ word ∷ words_behind (pages_of self.old) slot.page slot.index) }
         ensures err { OnErr result (concat (pages_of self.new) ≡ concat (pages_of self.old)) }
     {
         if self.pages.is_empty() {
             return self.begin(word);
         }
-        let place = self.make_room(place)?;
-        self.pages[place.page].insert(place.index, word)?;
+        let slot = self.make_room(slot)?;
+        self.pages[slot.page].insert(slot.index, word)?;
         Ok(())
     }
 
@@ -102,26 +102,27 @@ impl Table {
         Ok(())
     }
 
-    /// Splits the page of a place if it is full, and answers where the place is then.
-    fn make_room(&mut self, place: Place) -> Result<Place, AllocError>
+    /// Splits the page of a slot if it is full, and answers where the slot is then.
+    fn make_room(&mut self, slot: Slot) -> Result<Slot, AllocError>
         requires filled { AreFilled (pages_of self.old) }
-        requires inside { IsPlaceIn (pages_of self.old) place.page place.index }
+        requires inside { IsSlotIn (pages_of self.old) slot.page slot.index }
         requires some { 0 < length (pages_of self.old) }
         ensures filled { AreFilled (pages_of self.new) }
         ensures some { 0 < length (pages_of self.new) }
-        ensures ok { IfOk result (λ there. IsSamePlace (pages_of self.old) place (pages_of self.new) there) }
+        ensures ok { IfOk result
+            (λ there. IsSameSlot (pages_of self.old) slot (pages_of self.new) there) }
         ensures err { OnErr result (pages_of self.new ≡ pages_of self.old) }
     {
-        if self.pages[place.page].len() < FULL {
-            return Ok(place);
+        if self.pages[slot.page].len() < FULL {
+            return Ok(slot);
         }
-        self.split(place.page)?;
-        if place.index <= HALF {
-            return Ok(place);
+        self.split(slot.page)?;
+        if slot.index <= HALF {
+            return Ok(slot);
         }
-        Ok(Place {
-            page: place.page + 1,
-            index: place.index - HALF,
+        Ok(Slot {
+            page: slot.page + 1,
+            index: slot.index - HALF,
         })
     }
 
