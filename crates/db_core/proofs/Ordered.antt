@@ -1,0 +1,53 @@
+-- One member more, behind the others.
+use Rattle.std.proofs.Common.{◌≡◌, ◌⊎◌, inl, inr, ℕ, List, [], ◌∷◌, ◌++◌, map, refl, ap, sym, ◌∙◌, subst, Ordering, Less}
+use Rattle.std.proofs.lemmas.Cmp.{nat_list_cmp_total}
+use Rattle.base_core.specs.Listed.{IsRising}
+use Rattle.base_core.proofs.Rising.{IsIn, Rises, pairs_from_rises, rises_from_pairs}
+use Rattle.list_order.specs.ByteOrder.{bytes_cmp}
+use Rattle.db_core.specs.Members.{AreInOrder, ComesBehind, Member, member_name}
+
+-- as ComesBehind, of names
+abbrev pub IsBehind : List ℕ → List (List ℕ) → Type 0
+IsBehind name [] = Unit {0}
+IsBehind name (x ∷ []) = bytes_cmp x name ≡ Less
+IsBehind name (x ∷ y ∷ names) = IsBehind name (y ∷ names)
+
+all_before : (name : List ℕ) (names : List (List ℕ)) → Rises names → IsBehind name names → (q : List ℕ) → IsIn q names → bytes_cmp q name ≡ Less
+all_before name [] rises behind q h = absurd h
+all_before name (x ∷ []) rises behind q (inl e) = subst (λ r. bytes_cmp r name ≡ Less) (sym e) behind
+all_before name (x ∷ []) rises behind q (inr h) = absurd h
+all_before name (x ∷ y ∷ names) rises behind q (inl e) =
+    let last : bytes_cmp y name ≡ Less = all_before name (y ∷ names) rises.1 behind y (inl refl) in
+    subst (λ r. bytes_cmp r name ≡ Less) (sym e) (nat_list_cmp_total.trans x y name (rises.0 y (inl refl)) last)
+all_before name (x ∷ y ∷ names) rises behind q (inr h) = all_before name (y ∷ names) rises.1 behind q h
+
+in_more : (name q : List ℕ) (names : List (List ℕ)) → IsIn q (names ++ name ∷ []) → IsIn q names ⊎ (q ≡ name)
+in_more name q [] (inl e) = inr e
+in_more name q [] (inr h) = absurd h
+in_more name q (x ∷ names) (inl e) = inl (inl e)
+in_more name q (x ∷ names) (inr h) = elim (in_more name q names h) [ inl found ↦ inl (inr found) | inr e ↦ inr e ]
+
+rises_more : (name : List ℕ) (names : List (List ℕ)) → Rises names → ((q : List ℕ) → IsIn q names → bytes_cmp q name ≡ Less) → Rises (names ++ name ∷ [])
+rises_more name [] rises before = (λ q h. absurd h, tt)
+rises_more name (x ∷ names) rises before = (
+  λ q h. elim (in_more name q names h) [
+    | inl found ↦ rises.0 q found
+    | inr e ↦ subst (λ r. bytes_cmp x r ≡ Less) (sym e) (before x (inl refl))
+  ],
+  rises_more name names rises.1 (λ q h. before q (inr h)),
+)
+
+names_more : (members : List Member) (m : Member) → map member_name (members ++ m ∷ []) ≡ map member_name members ++ member_name m ∷ []
+names_more [] m = refl
+names_more (x ∷ members) m = ap (λ names. member_name x ∷ names) (names_more members m)
+
+behind_names : (name : List ℕ) (members : List Member) → ComesBehind name members → IsBehind name (map member_name members)
+behind_names name [] h = tt
+behind_names name (m ∷ []) h = h
+behind_names name (m ∷ n ∷ members) h = behind_names name (n ∷ members) h
+
+pub in_order_more : (members : List Member) (m : Member) → AreInOrder members → ComesBehind (member_name m) members → AreInOrder (members ++ m ∷ [])
+in_order_more members m rising behind =
+    let rises : Rises (map member_name members) = rises_from_pairs _ rising in
+    subst IsRising (sym (names_more members m))
+    (pairs_from_rises _ (rises_more (member_name m) (map member_name members) rises (all_before (member_name m) (map member_name members) rises (behind_names (member_name m) members behind))))
