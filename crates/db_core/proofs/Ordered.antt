@@ -1,12 +1,18 @@
 -- One member more, behind the others.
-use Rattle.std.proofs.Common.{◌≡◌, ◌⊎◌, inl, inr, ℕ, List, [], ◌∷◌, ◌++◌, map, refl, ap, sym, ◌∙◌, subst, Ordering, Less}
+use Rattle.std.proofs.Common.{◌≡◌, ◌⊎◌, inl, inr, ℕ, suc, zero, Bool, true, false, List, [], ◌∷◌, ◌++◌, map, length, Option, Some, None, refl, ap, sym, ◌∙◌, subst, arith, true≢false, Ordering, Less, Equal, Greater}
+use Rattle.std.specs.Prelude.{slice_get}
+use Rattle.std.specs.Ordering.{is_lt}
 use Rattle.std.proofs.lemmas.Cmp.{nat_list_cmp_total}
 use Rattle.base_core.specs.Listed.{IsRising}
 use Rattle.base_core.proofs.Rising.{IsIn, Rises, pairs_from_rises, rises_from_pairs}
-use Rattle.list_order.specs.ByteOrder.{bytes_cmp}
-use Rattle.db_core.specs.Members.{AreInOrder, ComesBehind, Member, member_name}
+use Rattle.list_order.specs.ByteOrder.{bytes_cmp, precedes}
+use Rattle.db_core.specs.Members.{AreInOrder, Member, comes_behind, member_name}
 
--- as ComesBehind, of names
+abbrev value_or : Member → Option Member → Member
+value_or d None = d
+value_or d (Some m) = m
+
+-- as comes_behind, of names
 abbrev pub IsBehind : List ℕ → List (List ℕ) → Type 0
 IsBehind name [] = Unit {0}
 IsBehind name (x ∷ []) = bytes_cmp x name ≡ Less
@@ -41,13 +47,26 @@ names_more : (members : List Member) (m : Member) → map member_name (members +
 names_more [] m = refl
 names_more (x ∷ members) m = ap (λ names. member_name x ∷ names) (names_more members m)
 
-behind_names : (name : List ℕ) (members : List Member) → ComesBehind name members → IsBehind name (map member_name members)
+less : (o : Ordering) → is_lt o ≡ true → o ≡ Less
+less Less h = refl
+less Equal h = absurd (true≢false (sym h))
+less Greater h = absurd (true≢false (sym h))
+
+behind_names : (name : List ℕ) (members : List Member) → comes_behind name members ≡ true → IsBehind name (map member_name members)
 behind_names name [] h = tt
-behind_names name (m ∷ []) h = h
+behind_names name (m ∷ []) h = less (bytes_cmp (member_name m) name) h
 behind_names name (m ∷ n ∷ members) h = behind_names name (n ∷ members) h
 
-pub in_order_more : (members : List Member) (m : Member) → AreInOrder members → ComesBehind (member_name m) members → AreInOrder (members ++ m ∷ [])
+pub in_order_more : (members : List Member) (m : Member) → AreInOrder members → comes_behind (member_name m) members ≡ true → AreInOrder (members ++ m ∷ [])
 in_order_more members m rising behind =
     let rises : Rises (map member_name members) = rises_from_pairs _ rising in
     subst IsRising (sym (names_more members m))
     (pairs_from_rises _ (rises_more (member_name m) (map member_name members) rises (all_before (member_name m) (map member_name members) rises (behind_names (member_name m) members behind))))
+
+-- the last one decides
+pub behind_last : (name : List ℕ) (members : List Member) (m : Member) (i : ℕ) → suc i ≡ length members → slice_get members i ≡ Some m → precedes (member_name m) name ≡ comes_behind name members
+behind_last name [] m i h e = absurd (omega (arith, h))
+behind_last name (x ∷ []) m zero h e = ap (λ o. precedes (member_name (value_or x o)) name) (sym e)
+behind_last name (x ∷ []) m (suc i) h e = absurd (omega (arith, h))
+behind_last name (x ∷ y ∷ members) m zero h e = absurd (omega (arith, h))
+behind_last name (x ∷ y ∷ members) m (suc i) h e = behind_last name (y ∷ members) m i (omega (arith, h)) e

@@ -1,9 +1,8 @@
 -- The packages after a change, and the files that they list.
-use Rattle.std.specs.Prelude.{◌≡◌, ℕ, ◌+◌, Bool, List, [], ◌∷◌, ◌++◌, Option, Some, None, is_some, bytes_eq, map}
+use Rattle.std.specs.Prelude.{ℕ, ◌+◌, Bool, true, List, [], ◌∷◌, ◌++◌, Option, Some, None, is_some, bytes_eq, map}
 use Rattle.std.specs.List.{filter}
-use Rattle.std.specs.declared.cmp.Ordering.TheVariants.{Less}
 use Rattle.base_core.specs.Listed.{IsRising}
-use Rattle.list_order.specs.ByteOrder.{bytes_cmp}
+use Rattle.list_order.specs.ByteOrder.{precedes}
 use Rattle.adb_view.specs.Plain.{Plain}
 use Rattle.adb_fields.specs.Paths.{path_of}
 use Rattle.adb_fields.specs.Repeated.{name_of, package_name, folders_in, files_in}
@@ -32,10 +31,10 @@ abbrev pub AreInOrder : List Member → Type 0
 AreInOrder members = IsRising (map member_name members)
 
 -- a name comes behind the last of members, and so behind all of them
-abbrev pub ComesBehind : List ℕ → List Member → Type 0
-ComesBehind name [] = Unit {0}
-ComesBehind name (m ∷ []) = bytes_cmp (member_name m) name ≡ Less
-ComesBehind name (m ∷ n ∷ members) = ComesBehind name (n ∷ members)
+abbrev pub comes_behind : List ℕ → List Member → Bool
+comes_behind name [] = true
+comes_behind name (m ∷ []) = precedes (member_name m) name
+comes_behind name (m ∷ n ∷ members) = comes_behind name (n ∷ members)
 
 -- ---- their files
 

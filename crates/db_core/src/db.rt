@@ -8,7 +8,7 @@ ghost use Rattle.adb_tables.specs.Values.{count_of, entries_in, entry_in};
 ghost use Rattle.adb_tables.specs.declared.tables.Which.TheVariants as Tables;
 ghost use Rattle.db_core.specs.Packages.{is_package_named, lists_path};
 ghost use Rattle.std.specs.List.{position_from};
-ghost use Rattle.std.specs.Prelude.{◌≡◌, ◌<◌, ◌^◌, [], Some, None, IfSome, length, slice_get, IfOk, IfErr};
+ghost use Rattle.std.specs.Prelude.{◌≡◌, ◌<◌, ◌^◌, ◌==◌, [], Some, None, IfSome, length, slice_get, IfOk, IfErr};
 
 use crate::listed_paths::is_path_listed;
 use adb_schema::{IdbView, List, PackageView, ReadFault, Which, read_adb};

@@ -41,11 +41,23 @@ fn is_path_of_any<'a>(files: &List<'a, FileInfo<'a>>, folder: &[u8], path: &[u8]
         (list_of (entries_in (list_value files.now))) }
 {
     for i in 0..files.len() {
-        if is_path(path, folder, files.get(i + 1).name()) {
+        if is_path_of_file(files, i, folder, path) {
             return true;
         }
     }
     false
+}
+
+/// Whether the file at a place of a folder, counted from 0, has this path.
+fn is_path_of_file<'a>(files: &List<'a, FileInfo<'a>>, i: usize, folder: &[u8], path: &[u8]) -> bool
+    requires { i < count_of (entries_in (list_value files.now)) }
+    ensures { result ≡ bytes_eq path.now
+        (path_of folder.now (name_of (entry_in (list_value files.now) i))) }
+{
+    if i >= files.len() {
+        unreachable!();
+    }
+    is_path(path, folder, files.get(i + 1).name())
 }
 
 /// Whether a path is that of the file with this name in this folder.

@@ -4,10 +4,10 @@ ghost use Rattle.adb_schema.specs.Views.{package_value};
 ghost use Rattle.adb_view.specs.Plain.{Plain};
 ghost use Rattle.base_core.specs.Listed.{IsRising};
 ghost use Rattle.db_core.specs.EntrySeen.{member_by};
-ghost use Rattle.db_core.specs.Members.{ComesBehind, Member, coming_member, member_name, staying_member};
+ghost use Rattle.db_core.specs.Members.{Member, comes_behind, coming_member, member_name, staying_member};
 ghost use Rattle.pkg_core.specs.Opened.{opened_payload, opened_value};
 ghost use Rattle.sha2.specs.Sha256.{sha256};
-ghost use Rattle.std.specs.Prelude.{◌≡◌, ◌<◌, ◌++◌, ◌∷◌, [], Some, None, length, map, slice_get, IfOk, OnOk, OnErr};
+ghost use Rattle.std.specs.Prelude.{◌≡◌, ◌<◌, ◌++◌, ◌∷◌, [], true, ◌==◌, Some, None, length, map, slice_get, IfOk, OnOk, OnErr};
 
 use crate::db::Db;
 use adb_schema::PackageView;
@@ -70,7 +70,7 @@ impl<'a> Members<'a> {
     pub fn stays(&mut self, db: &Db<'a>, i: usize) -> Result<(), AllocError>
         requires at { i < length (packages_of db.now) }
         requires behind { (pkg : Plain) → slice_get (packages_of db.now) i ≡ Some pkg
-            → ComesBehind (package_name pkg) (members_of self.old) }
+            → comes_behind (package_name pkg) (members_of self.old) ≡ true }
         requires few { length (members_of self.old) < MOST_MEMBERS }
         ensures ok { OnOk result ((pkg : Plain) → slice_get (packages_of db.now) i ≡ Some pkg
             → members_of self.new ≡ members_of self.old ++ staying_member pkg ∷ []) }
@@ -87,7 +87,8 @@ impl<'a> Members<'a> {
     ///
     /// Want of memory.
     pub fn comes(&mut self, pkg: &Package<'a>) -> Result<(), AllocError>
-        requires behind { ComesBehind (package_name (opened_value pkg.now)) (members_of self.old) }
+        requires behind { comes_behind (package_name (opened_value pkg.now)) (members_of self.old)
+            ≡ true }
         requires few { length (members_of self.old) < MOST_MEMBERS }
         ensures ok { OnOk result (members_of self.new ≡ members_of self.old
             ++ coming_member (opened_value pkg.now) (sha256 (opened_payload pkg.now)) ∷ []) }
@@ -97,6 +98,17 @@ impl<'a> Members<'a> {
         let id = pkg.id();
         self.entries.push(Entry { view, id: Some(id) })?;
         Ok(())
+    }
+
+    /// Whether a package with this name comes behind all others, as one that is added has to.
+    pub fn comes_behind(&self, name: &[u8]) -> bool
+        ensures { result ≡ comes_behind name.now (members_of self.now) }
+    {
+        if self.entries.is_empty() {
+            return true;
+        }
+        let last = self.entries.len() - 1;
+        self.entries[last].view.info().name() < name
     }
 
     /// How many packages there are.

@@ -1,5 +1,5 @@
 //! Which files of the members are theirs.
-ghost use Rattle.std.specs.Prelude.{◌≡◌, ◌<◌, ◌++◌, ◌∷◌, [], Some, length, slice_get, OnOk, OnErr};
+ghost use Rattle.std.specs.Prelude.{◌≡◌, ◌<◌, ◌==◌, ◌++◌, ◌∷◌, [], Some, length, slice_get, OnOk, OnErr};
 
 use std::alloc::{AllocError, Global};
 use std::marker::Model;
