@@ -1,16 +1,13 @@
 -- One member more, behind the others.
-use Rattle.std.proofs.Common.{◌≡◌, ◌⊎◌, inl, inr, ℕ, suc, zero, Bool, true, false, List, [], ◌∷◌, ◌++◌, map, length, Option, Some, None, refl, ap, sym, ◌∙◌, subst, arith, true≢false, Ordering, Less, Equal, Greater}
-use Rattle.std.specs.Prelude.{slice_get}
+use Rattle.std.proofs.Common.{◌≡◌, ◌⊎◌, inl, inr, ℕ, suc, zero, Bool, true, false, List, [], ◌∷◌, ◌++◌, map, length, Option, Some, None, Result, Ok, Err, refl, ap, sym, ◌∙◌, subst, arith, true≢false, Ordering, Less, Equal, Greater}
+use Rattle.std.specs.Prelude.{get_or, if◌then◌else◌, is_ok}
 use Rattle.std.specs.Ordering.{is_lt}
 use Rattle.std.proofs.lemmas.Cmp.{nat_list_cmp_total}
 use Rattle.base_core.specs.Listed.{IsRising}
 use Rattle.base_core.proofs.Rising.{IsIn, Rises, pairs_from_rises, rises_from_pairs}
 use Rattle.list_order.specs.ByteOrder.{bytes_cmp, precedes}
+use Rattle.db_core.specs.EntrySeen.{member_by}
 use Rattle.db_core.specs.Members.{AreInOrder, Member, comes_behind, member_name}
-
-abbrev value_or : Member → Option Member → Member
-value_or d None = d
-value_or d (Some m) = m
 
 -- as comes_behind, of names
 abbrev pub IsBehind : List ℕ → List (List ℕ) → Type 0
@@ -63,10 +60,36 @@ in_order_more members m rising behind =
     subst IsRising (sym (names_more members m))
     (pairs_from_rises _ (rises_more (member_name m) (map member_name members) rises (all_before (member_name m) (map member_name members) rises (behind_names (member_name m) members behind))))
 
+-- ---- as the program keeps them
+
+abbrev pub Kept : Type 0
+Kept = List ℕ × ℕ × Option (List ℕ)
+
+abbrev pub kept_names : List Kept → List (List ℕ)
+kept_names es = map (λ e. member_name (member_by e)) es
+
+names_are : (es : List Kept) → kept_names es ≡ map member_name (map member_by es)
+names_are [] = refl
+names_are (e ∷ es) = ap (λ names. member_name (member_by e) ∷ names) (names_are es)
+
+members_more : (es : List Kept) (e : Kept) → map member_by (es ++ e ∷ []) ≡ map member_by es ++ member_by e ∷ []
+members_more [] e = refl
+members_more (x ∷ es) e = ap (λ ms. member_by x ∷ ms) (members_more es e)
+
+pub members_in_order : (es : List Kept) → IsRising (kept_names es) → AreInOrder (map member_by es)
+members_in_order es h = subst IsRising (names_are es) h
+
+pub kept_more : {A B : Type 0} (r : Result A B) (es new : List Kept) (e : Kept) → new ≡ (if is_ok r then es ++ e ∷ [] else es) → IsRising (kept_names es)
+    → comes_behind (member_name (member_by e)) (map member_by es) ≡ true → IsRising (kept_names new)
+kept_more (Ok x) es new e is h behind =
+    let ordered : AreInOrder (map member_by es ++ member_by e ∷ []) = in_order_more (map member_by es) (member_by e) (members_in_order es h) behind in
+    subst IsRising (sym (ap kept_names is ∙ names_are (es ++ e ∷ []))) (subst AreInOrder (sym (members_more es e)) ordered)
+kept_more (Err x) es new e is h behind = subst IsRising (sym (ap kept_names is)) h
+
 -- the last one decides
-pub behind_last : (name : List ℕ) (members : List Member) (m : Member) (i : ℕ) → suc i ≡ length members → slice_get members i ≡ Some m → precedes (member_name m) name ≡ comes_behind name members
-behind_last name [] m i h e = absurd (omega (arith, h))
-behind_last name (x ∷ []) m zero h e = ap (λ o. precedes (member_name (value_or x o)) name) (sym e)
-behind_last name (x ∷ []) m (suc i) h e = absurd (omega (arith, h))
-behind_last name (x ∷ y ∷ members) m zero h e = absurd (omega (arith, h))
-behind_last name (x ∷ y ∷ members) m (suc i) h e = behind_last name (y ∷ members) m i (omega (arith, h)) e
+pub last_decides : (name : List ℕ) (es : List Kept) (e : Kept) (k : ℕ) → suc k ≡ length (map member_by es) → e ≡ get_or es k e → precedes (member_name (member_by e)) name ≡ comes_behind name (map member_by es)
+last_decides name [] e k h at = absurd (omega (arith, h))
+last_decides name (x ∷ []) e zero h at = ap (λ (z : Kept). precedes (member_name (member_by z)) name) at
+last_decides name (x ∷ []) e (suc k) h at = absurd (omega (arith, h))
+last_decides name (x ∷ y ∷ es) e zero h at = absurd (omega (arith, h))
+last_decides name (x ∷ y ∷ es) e (suc k) h at = last_decides name (y ∷ es) e k (omega (arith, h)) at

@@ -1,6 +1,7 @@
 -- A path is tested part by part.
-use Rattle.std.proofs.Common.{◌≡◌, ℕ, suc, zero, Bool, true, false, List, [], ◌∷◌, ◌++◌, take, drop, length, refl, ap, sym, ◌∙◌, true≢false}
+use Rattle.std.proofs.Common.{◌≡◌, inl, inr, ℕ, suc, zero, Bool, true, false, List, [], ◌∷◌, ◌++◌, take, drop, length, refl, ap, sym, ◌∙◌, arith, true≢false}
 use Rattle.std.specs.Prelude.{◌==◌, ◌&&◌, nat_eq, bytes_eq}
+use Rattle.std.proofs.lemmas.Bool.Decides.{eqb_tells}
 use Rattle.adb_fields.specs.Paths.{path_of}
 
 both_false : (a b c : Bool) → (a && b) ≡ false → (b ≡ false → c ≡ false) → (a && c) ≡ false
@@ -35,7 +36,8 @@ front_same (b ∷ path) (c ∷ front) rest h =
 
 pub path_at_root : (folder name : List ℕ) → (length folder == 0) ≡ true → path_of folder name ≡ name
 path_at_root [] name h = refl
-path_at_root (b ∷ folder) name h = absurd (true≢false (sym h))
+path_at_root (b ∷ folder) name h =
+    elim (eqb_tells (length (b ∷ folder)) 0) [ inl p ↦ absurd (omega (arith, p.1)) | inr p ↦ absurd (true≢false (sym h ∙ p.0)) ]
 
 pub path_below : (folder name : List ℕ) → (length folder == 0) ≡ false → path_of folder name ≡ folder ++ (47 ∷ [] ++ name)
 path_below [] name h = absurd (true≢false h)

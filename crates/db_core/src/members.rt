@@ -104,11 +104,12 @@ impl<'a> Members<'a> {
     pub fn comes_behind(&self, name: &[u8]) -> bool
         ensures { result ≡ comes_behind name.now (members_of self.now) }
     {
-        if self.entries.is_empty() {
+        let count = self.len();
+        if count == 0 {
             return true;
         }
-        let last = self.entries.len() - 1;
-        self.entries[last].view.info().name() < name
+        let order = self.entries[count - 1].view.info().name().cmp(&name);
+        order.is_lt()
     }
 
     /// How many packages there are.

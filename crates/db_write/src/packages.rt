@@ -34,9 +34,9 @@ pub(crate) fn write_packages(
     let mut words = Vec::with_capacity(alloc, members.len())?;
     let mut left = flags;
     for i in 0..members.len() {
-        let package = members.view(i);
-        words.push(write_package(alloc, writer, package, members.id(i), left)?)?;
-        left = flags_behind(&package.paths(), left);
+        let pkg = members.view(i);
+        words.push(write_package(alloc, writer, pkg, members.id(i), left)?)?;
+        left = flags_behind(&pkg.paths(), left);
     }
     writer.arr(&words)
 }
@@ -45,22 +45,22 @@ pub(crate) fn write_packages(
 fn write_package<'a>(
     alloc: Global,
     writer: &mut Writer,
-    package: &PackageView<'a>,
+    pkg: &PackageView<'a>,
     id: Option<[u8; 32]>,
     flags: &[bool],
 ) -> Result<Val, AllocError>
-    requires { total_of file_count (folders_in (package_value package.now)) ≤ length flags.now }
+    requires { total_of file_count (folders_in (package_value pkg.now)) ≤ length flags.now }
     ensures { IfOk result (λ word. WritesValue writer.old
-        (package_after (record { pkg = package_value package.now; id = id }) flags.now)
+        (package_after (record { pkg = package_value pkg.now; id = id }) flags.now)
         word writer.new) }
 {
     values_are_written_depth_first();
-    let info = write_member_info(alloc, writer, package, id)?;
-    let folders = package.paths();
+    let info = write_member_info(alloc, writer, pkg, id)?;
+    let folders = pkg.paths();
     let paths = write_folders(alloc, writer, &folders, flags)?;
-    let scripts = write_package_scripts(writer, package, &folders)?;
-    let triggers = write_tags(alloc, writer, package.triggers())?;
-    let priority = write_int(writer, package.replaces_priority())?;
+    let scripts = write_package_scripts(writer, pkg, &folders)?;
+    let triggers = write_tags(alloc, writer, pkg.triggers())?;
+    let priority = write_int(writer, pkg.replaces_priority())?;
     let fields = [info, paths, scripts, triggers, priority];
     writer.obj(&fields)
 }
@@ -69,13 +69,13 @@ fn write_package<'a>(
 fn write_member_info(
     alloc: Global,
     writer: &mut Writer,
-    package: &PackageView<'_>,
+    pkg: &PackageView<'_>,
     id: Option<[u8; 32]>,
 ) -> Result<Val, AllocError>
     ensures { IfOk result (λ word. WritesValue writer.old
-        (info_after id (entry_in (package_value package.now) 0)) word writer.new) }
+        (info_after id (entry_in (package_value pkg.now) 0)) word writer.new) }
 {
-    let info = package.info();
+    let info = pkg.info();
     match &id {
         Some(id) => write_info(alloc, writer, &info, id, info.file_size()),
         None => write_info(alloc, writer, &info, info.hashes(), info.file_size()),
@@ -86,12 +86,12 @@ fn write_member_info(
 /// that is made and lent here is known to it by them alone.
 fn write_package_scripts<'a>(
     writer: &mut Writer,
-    package: &PackageView<'a>,
+    pkg: &PackageView<'a>,
     _folders: &List<'a, DirInfo<'a>>,
 ) -> Result<Val, AllocError>
     ensures { IfOk result (λ word. WritesValue writer.old
-        (without_zeros (entry_in (package_value package.now) 2)) word writer.new) }
+        (without_zeros (entry_in (package_value pkg.now) 2)) word writer.new) }
 {
-    let scripts = package.scripts();
+    let scripts = pkg.scripts();
     write_scripts(writer, &scripts)
 }

@@ -10,8 +10,8 @@ loop-i-preserved c =
     place_next (lists_path c.args.path.now) (entries_in (list_value c.args.packages.now)) c.loop-i.i c.is_lister.result
     (omega (arith, c.len-i-end.ensures.value, c.loop-i-test.true)) c.is_lister.ensures c.if-is_lister.false c.loop-i.invariant
 
-pub loop-i-returns-in-if-is_lister-clause-found : goal.loop-i-returns-in-if-is_lister-clause-found
-loop-i-returns-in-if-is_lister-clause-found c =
+pub returns-then-is_lister-clause-found : goal.returns-then-is_lister-clause-found
+returns-then-is_lister-clause-found c =
     place_found (lists_path c.args.path.now) (entries_in (list_value c.args.packages.now)) c.loop-i.i c.is_lister.result
     (omega (arith, c.len-i-end.ensures.value, c.loop-i-test.true)) c.is_lister.ensures c.if-is_lister.true c.loop-i.invariant
 

@@ -10,8 +10,8 @@ loop-i-preserved c =
     place_next (is_package_named c.args.name.now) (entries_in (list_value c.args.packages.now)) c.loop-i.i c.is_named.result
     (omega (arith, c.len-i-end.ensures.value, c.loop-i-test.true)) c.is_named.ensures c.if-is_named.false c.loop-i.invariant
 
-pub loop-i-returns-in-if-is_named-clause-found : goal.loop-i-returns-in-if-is_named-clause-found
-loop-i-returns-in-if-is_named-clause-found c =
+pub returns-then-is_named-clause-found : goal.returns-then-is_named-clause-found
+returns-then-is_named-clause-found c =
     place_found (is_package_named c.args.name.now) (entries_in (list_value c.args.packages.now)) c.loop-i.i c.is_named.result
     (omega (arith, c.len-i-end.ensures.value, c.loop-i-test.true)) c.is_named.ensures c.if-is_named.true c.loop-i.invariant
 

@@ -12,8 +12,8 @@ loop-i-preserved c =
     any_next (λ folder. list_any (bytes_eq c.args.path.now) (paths_under folder)) (entries_in (list_value c.args.folders.now)) c.loop-i.i c.is_path_in_folder.result
     (omega (arith, c.len-i-end.ensures.value, c.loop-i-test.true)) c.is_path_in_folder.ensures c.if-is_path_in_folder.false c.loop-i.invariant
 
-pub loop-i-returns-in-if-is_path_in_folder : goal.loop-i-returns-in-if-is_path_in_folder
-loop-i-returns-in-if-is_path_in_folder c =
+pub returns-then-is_path_in_folder : goal.returns-then-is_path_in_folder
+returns-then-is_path_in_folder c =
     any_found (λ folder. list_any (bytes_eq c.args.path.now) (paths_under folder)) (entries_in (list_value c.args.folders.now)) c.loop-i.i c.is_path_in_folder.result
     (omega (arith, c.len-i-end.ensures.value, c.loop-i-test.true)) c.is_path_in_folder.ensures c.if-is_path_in_folder.true c.loop-i.invariant
     ∙ sym (any_flat (bytes_eq c.args.path.now) paths_under (list_of (entries_in (list_value c.args.folders.now))))

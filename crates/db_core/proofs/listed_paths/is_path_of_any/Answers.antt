@@ -12,8 +12,8 @@ loop-i-preserved c =
     any_next (λ file. bytes_eq c.args.path.now (path_of c.args.folder.now (name_of file))) (entries_in (list_value c.args.files.now)) c.loop-i.i c.is_path_of_file.result
     (omega (arith, c.len-i-end.ensures.value, c.loop-i-test.true)) c.is_path_of_file.ensures c.if-is_path_of_file.false c.loop-i.invariant
 
-pub loop-i-returns-in-if-is_path_of_file : goal.loop-i-returns-in-if-is_path_of_file
-loop-i-returns-in-if-is_path_of_file c =
+pub returns-then-is_path_of_file : goal.returns-then-is_path_of_file
+returns-then-is_path_of_file c =
     any_found (λ file. bytes_eq c.args.path.now (path_of c.args.folder.now (name_of file))) (entries_in (list_value c.args.files.now)) c.loop-i.i c.is_path_of_file.result
     (omega (arith, c.len-i-end.ensures.value, c.loop-i-test.true)) c.is_path_of_file.ensures c.if-is_path_of_file.true c.loop-i.invariant
 

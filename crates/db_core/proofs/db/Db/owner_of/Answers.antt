@@ -14,7 +14,7 @@ pub returns-in-Some-clause-found : goal.returns-in-Some-clause-found
 returns-in-Some-clause-found c =
     let e : packages_of c.args.self.now ≡ list_of (entries_in (list_value c.packages.result)) =
     ap (λ o. packages_by (option_map idb_value o)) c.in-Some.is ∙ ap (λ v. list_of (entries_in v)) (sym c.packages.ensures) in
-    c.find_lister.ensures.found ∙ ap (position_from (lists_path c.args.path.now) 0) (sym e)
+    c.find_lister.ensures.found ∙ (λ j. position_from (lists_path (c.as_bytes.ensures.value j)) 0 (sym e j))
 
 pub returns-in-Some-clause-within : goal.returns-in-Some-clause-within
 returns-in-Some-clause-within c =
