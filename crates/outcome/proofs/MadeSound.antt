@@ -16,7 +16,8 @@ use Rattle.command_core.specs.declared.values.TheConstants.{FILES, SCRIPT, TRIGG
 use Rattle.journal_core.specs.Replacing.{replaced_files, scratch_of}
 use Rattle.make_package.specs.Folders.{FolderListing, folders_of, last_part_of}
 use Rattle.make_index.specs.Index.{and_entries, found_entries, found_entry, index_container, index_of, index_of_found, value_of_index, entry_unless, description_in, made_index}
-use Rattle.make_index.specs.EntryOrder.{entry_cmp, sorted_by}
+use Rattle.make_index.specs.EntryOrder.{entry_cmp}
+use Rattle.list_order.specs.Sorted.{sorted_by}
 use Rattle.make_info.specs.Information.{InfoItem, information_value, information, replaces_priority}
 use Rattle.make_package.specs.Making.{container_unless, made_package, or_info_bad, package_container, package_of_parts}
 use Rattle.make_info.specs.Output.{output_name}
