@@ -1,0 +1,31 @@
+-- The last element of a list, changed where it stands.
+use Rattle.std.proofs.Common.{◌≡◌, ℕ, zero, suc, Bool, true, false, cond, List, [], ◌∷◌, length, Option, Some, None, refl, sym, ◌∙◌, ap, arith}
+use Rattle.std.specs.Prelude.{slice_index_or, slice_set}
+use Rattle.std.specs.Option.{option_map}
+use Rattle.v2_core.specs.Records.{with_last_changed}
+
+pub last_changed : {A : Type 0} (change : A → Option A) (xs : List A) (i : ℕ) (x y d : A) → suc i ≡ length xs → x ≡ slice_index_or xs i d → change x ≡ Some y → with_last_changed change xs ≡ Some (slice_set xs i y)
+last_changed change [] i x y d h is c = absurd (omega (arith, h))
+last_changed change (w ∷ []) zero x y d h is c = ap (option_map (λ z. z ∷ [])) (ap change (sym is) ∙ c)
+last_changed change (w ∷ []) (suc i) x y d h is c = absurd (omega (arith, h))
+last_changed change (w ∷ v ∷ vs) zero x y d h is c = absurd (omega (arith, h))
+last_changed change (w ∷ v ∷ vs) (suc i) x y d h is c =
+    ap (option_map (λ rest. w ∷ rest)) (last_changed change (v ∷ vs) i x y d (omega (arith, h)) is c)
+
+pub last_kept : {A : Type 0} (change : A → Option A) (xs : List A) (i : ℕ) (x d : A) → suc i ≡ length xs → x ≡ slice_index_or xs i d → change x ≡ None → with_last_changed change xs ≡ None
+last_kept change [] i x d h is c = absurd (omega (arith, h))
+last_kept change (w ∷ []) zero x d h is c = ap (option_map (λ z. z ∷ [])) (ap change (sym is) ∙ c)
+last_kept change (w ∷ []) (suc i) x d h is c = absurd (omega (arith, h))
+last_kept change (w ∷ v ∷ vs) zero x d h is c = absurd (omega (arith, h))
+last_kept change (w ∷ v ∷ vs) (suc i) x d h is c =
+    ap (option_map (λ rest. w ∷ rest)) (last_kept change (v ∷ vs) i x d (omega (arith, h)) is c)
+
+-- no element, no change
+pub no_last : {A : Type 0} (change : A → Option A) (xs : List A) → length xs ≡ 0 → None ≡ with_last_changed change xs
+no_last change [] h = refl
+no_last change (x ∷ xs) h = absurd (omega (arith, h))
+
+-- the last element was changed, or may not be
+pub last_by : {A : Type 0} (change : A → Option A) (xs ys : List A) (i : ℕ) (b : Bool) (x y d : A) → suc i ≡ length xs → x ≡ slice_index_or xs i d → cond b (Some y) None ≡ change x → ys ≡ slice_set xs i y → cond b (Some ys) None ≡ with_last_changed change xs
+last_by change xs ys i true x y d h is c new = ap Some new ∙ sym (last_changed change xs i x y d h is (sym c))
+last_by change xs ys i false x y d h is c new = sym (last_kept change xs i x d h is (sym c))
