@@ -1,15 +1,18 @@
 -- The lines of records are read as these records.
-use Rattle.std.proofs.Common.{◌≡◌, ℕ, zero, suc, ◌+◌, Bool, true, false, not, cond, eqb, List, [], ◌∷◌, ◌++◌, length, map, Option, Some, None, Result, Ok, Err, refl, sym, ◌∙◌, ap, subst, append-nil, append_assoc, arith}
+use Rattle.std.proofs.Common.{◌≡◌, ℕ, zero, suc, ◌+◌, Bool, true, false, not, cond, eqb, List, [], ◌∷◌, ◌++◌, length, map, get_or, Option, Some, None, Result, Ok, Err, refl, sym, ◌∙◌, ap, subst, append-nil, append_assoc, arith}
 use Rattle.std.specs.Prelude.{◌&&◌, ◌||◌, ⊤}
-use Rattle.std.specs.List.{flat_map}
+use Rattle.std.specs.List.{All, flat_map}
 use Rattle.std.specs.Option.{option_and_then, option_map}
-use Rattle.std.proofs.lemmas.Bool.{and_parts}
+use Rattle.std.proofs.lemmas.Bool.{and_parts, not-true}
+use Rattle.std.proofs.lemmas.List.Splits.{slice_split_at}
+use Rattle.std.proofs.lemmas.List.Sums.{AllPass-from_list_all}
+use Rattle.dep_core.specs.World.{is_line_end, lines_of}
 use Rattle.v2_lines.specs.Accesses.{Access}
 use Rattle.v2_lines.specs.InfoFields.{adds_to_list}
 use Rattle.v2_lines.specs.Lines.{RecordLine, info_line, folder_line, folder_access_line, file_line, file_access_line, file_hash_line, record_line_of}
-use Rattle.v2_core.specs.Reading.{at_record_end, records_from, with_records, with_text}
+use Rattle.v2_core.specs.Reading.{at_record_end, records_from, records_of, with_records, with_text}
 use Rattle.v2_core.specs.Records.{InfoLine, ListedFile, ListedFolder, Record, empty_record, file_by, file_with_access, file_with_hash, folder_by, folder_with_access, folder_with_file, folder_with_last, has_line_of, info_by, lacks_needed_line, record_by, record_of_parts, with_info, with_last_changed, with_record_line, with_path_line}
-use Rattle.v2_core.specs.Spelling.{AreLines, SpellsRecord, SpellsText, access_lines, file_lines, folder_lines, hash_lines, info_lines, record_lines, stand_once}
+use Rattle.v2_core.specs.Spelling.{AreLines, SpellsRecord, SpellsText, access_lines, file_lines, folder_lines, hash_lines, info_lines, is_one_line, lines_before, record_lines, stand_once}
 use Rattle.v2_core.proofs.Lists.{with_last-push}
 use Rattle.v2_core.proofs.RecordEnds.{good_end}
 use Rattle.v2_core.proofs.TextLines.{at_empty_line, at_good_line}
@@ -143,32 +146,49 @@ read_on n r s [] [] rest lines h = ap (λ q. records_from n q rest) (same_record
 read_on n r s [] (l ∷ ls) rest lines h = absurd lines
 read_on n r s (t ∷ ts) [] rest lines h = absurd lines
 read_on n r s (t ∷ ts) (l ∷ ls) rest lines h =
-    read_on_by n r s (with_record_line r l) t ts l ls rest lines.0 refl (λ q g. read_on (n + 1) q s ts ls rest lines.1 g) h
+    read_on_by n r s (with_record_line r l) t ts l ls rest lines.1.0 refl (λ q g. read_on (n + 1) q s ts ls rest lines.1.1 g) h
 
 whole : (r : Record) → r.has_line ≡ true → record_by true r.info r.folders ≡ r
 whole r h = ap (λ b. record_by b r.info r.folders) (sym h)
 
 read_record : (n : ℕ) (r : Record) (texts rest : List (List ℕ)) → SpellsRecord texts r → records_from n empty_record (texts ++ rest) ≡ records_from (n + length texts) r rest
 read_record n r texts rest spells =
-    read_on n empty_record r texts (record_lines r) rest spells.lines
+    read_on n empty_record r texts (record_lines r) rest spells.lines_say
     (after_both empty_record (record_by true r.info []) (info_lines r.info) (flat_map folder_lines r.folders) (after_first r.info spells.complete spells.once)
     ∙ (after_folders r.info [] r.folders ∙ ap Some (whole r spells.begun)))
 
-pub read_back : (n : ℕ) (lines : List (List ℕ)) (rs : List Record) → SpellsText lines rs → records_from n empty_record lines ≡ Ok rs
-read_back n lines [] spelled = ap (records_from n empty_record) spelled
-read_back n lines (r ∷ rs) spelled =
-    let texts = spelled.0 in
+-- ---- the lines of a text
+
+no_line_ends : (t : List ℕ) → is_one_line t ≡ true → All (λ b. is_line_end b ≡ false) t
+no_line_ends t h = λ k d l. not-true (is_line_end (get_or t k d)) (AllPass-from_list_all (λ b. not (is_line_end b)) t h k d l)
+
+split_lines : (ts : List (List ℕ)) (ls : List RecordLine) (rest : List ℕ) → AreLines ts ls → lines_of (lines_before ts rest) ≡ ts ++ lines_of rest
+split_lines [] ls rest lines = refl
+split_lines (t ∷ ts) [] rest lines = absurd lines
+split_lines (t ∷ ts) (l ∷ ls) rest lines =
+    slice_split_at is_line_end t 10 (lines_before ts rest) (no_line_ends t lines.0) refl
+    ∙ ap (λ more. t ∷ more) (split_lines ts ls rest lines.1.1)
+
+read_back : (n : ℕ) (text : List ℕ) (rs : List Record) → SpellsText text rs → records_from n empty_record (lines_of text) ≡ Ok rs
+read_back n text [] spelled = ap (λ t. records_from n empty_record (lines_of t)) spelled
+read_back n text (r ∷ rs) spelled =
+    let lines = spelled.0 in
     let rest = spelled.1.0 in
-    let spells : SpellsRecord texts r = spelled.1.1.1.0 in
-    let m = n + length texts in
-    ap (records_from n empty_record) spelled.1.1.0
-    ∙ (read_record n r texts ([] ∷ rest) spells
-    ∙ (at_empty_line m r [] rest refl
-    ∙ (good_end m r (records_from (m + 1) empty_record rest) spells.begun spells.complete
-    ∙ ap (with_records (r ∷ [])) (read_back (m + 1) rest rs spelled.1.1.1.1))))
+    let spells : SpellsRecord lines r = spelled.1.1.1.0 in
+    let m = n + length lines in
+    ap (λ t. records_from n empty_record (lines_of t)) spelled.1.1.0
+    ∙ (ap (records_from n empty_record) (split_lines lines (record_lines r) (10 ∷ rest) spells.lines_say)
+    ∙ (read_record n r lines ([] ∷ lines_of rest) spells
+    ∙ (at_empty_line m r [] (lines_of rest) refl
+    ∙ (good_end m r (records_from (m + 1) empty_record (lines_of rest)) spells.begun spells.complete
+    ∙ ap (with_records (r ∷ [])) (read_back (m + 1) rest rs spelled.1.1.1.1)))))
+
+pub text_read_back : (text : List ℕ) (rs : List Record) → SpellsText text rs → records_of text ≡ Ok rs
+unfolding records_of
+text_read_back text rs spelled = read_back 0 text rs spelled
 
 same_records : (rs ss : List Record) → ◌≡◌ {A = Result (List Record) ℕ} (Ok rs) (Ok ss) → rs ≡ ss
 same_records rs ss h = cc
 
-pub one_reading : (lines : List (List ℕ)) (rs ss : List Record) → SpellsText lines rs → SpellsText lines ss → rs ≡ ss
-one_reading lines rs ss a b = same_records rs ss (sym (read_back 0 lines rs a) ∙ read_back 0 lines ss b)
+pub one_reading : (text : List ℕ) (rs ss : List Record) → SpellsText text rs → SpellsText text ss → rs ≡ ss
+one_reading text rs ss a b = same_records rs ss (sym (text_read_back text rs a) ∙ text_read_back text ss b)

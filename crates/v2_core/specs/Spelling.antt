@@ -1,7 +1,8 @@
 -- The text that records have: each record's lines in the order of its parts, and an empty line
 -- behind it.
 use Rattle.std.specs.Prelude.{◌≡◌, ℕ, Bool, true, false, not, ◌&&◌, ◌||◌, ⊤, List, [], ◌∷◌, ◌++◌, map, Option, Some, None}
-use Rattle.std.specs.List.{flat_map}
+use Rattle.std.specs.List.{flat_map, list_all}
+use Rattle.dep_core.specs.World.{is_line_end}
 use Rattle.v2_lines.specs.Accesses.{Access}
 use Rattle.v2_lines.specs.InfoFields.{adds_to_list}
 use Rattle.v2_lines.specs.Lines.{RecordLine, info_line, folder_line, folder_access_line, file_line, file_access_line, file_hash_line, record_line_of}
@@ -36,22 +37,32 @@ stand_once before [] = true
 stand_once before (l ∷ ls) =
     (adds_to_list l.field || not (has_line_of l.field before)) && stand_once (before ++ l ∷ []) ls
 
--- texts are lines that say these, one for one
+-- a text that holds no line end
+abbrev pub is_one_line : List ℕ → Bool
+is_one_line text = list_all (λ b. not (is_line_end b)) text
+
+-- lines that say these, one for one
 abbrev pub AreLines : List (List ℕ) → List RecordLine → Type 0
 AreLines [] [] = ⊤
 AreLines [] (l ∷ ls) = ⊥
 AreLines (t ∷ ts) [] = ⊥
-AreLines (t ∷ ts) (l ∷ ls) = (record_line_of t ≡ Some l) × AreLines ts ls
+AreLines (t ∷ ts) (l ∷ ls) =
+    (is_one_line t ≡ true) × (record_line_of t ≡ Some l) × AreLines ts ls
 
--- texts are the lines of a record that has a name and a version
-pub record SpellsRecord (texts : List (List ℕ)) (r : Record) : Type 0 where
+-- the lines of a record that has a name and a version
+pub record SpellsRecord (lines : List (List ℕ)) (r : Record) : Type 0 where
   pub begun : r.has_line ≡ true
   pub complete : lacks_needed_line r.info ≡ false
   pub once : stand_once [] r.info ≡ true
-  pub lines : AreLines texts (record_lines r)
+  pub lines_say : AreLines lines (record_lines r)
 
--- a text's lines are those of records, each ended by an empty line
-abbrev pub SpellsText : List (List ℕ) → List Record → Type 0
-SpellsText lines [] = lines ≡ []
-SpellsText lines (r ∷ rs) = (texts : List (List ℕ)) × (rest : List (List ℕ))
-    × (lines ≡ texts ++ [] ∷ rest) × SpellsRecord texts r × SpellsText rest rs
+-- some lines, each with its line end, and a text behind them
+abbrev pub lines_before : List (List ℕ) → List ℕ → List ℕ
+lines_before [] text = text
+lines_before (line ∷ lines) text = line ++ 10 ∷ lines_before lines text
+
+-- a text is that of records: the lines of each, and an empty line behind them
+abbrev pub SpellsText : List ℕ → List Record → Type 0
+SpellsText text [] = text ≡ []
+SpellsText text (r ∷ rs) = (lines : List (List ℕ)) × (rest : List ℕ)
+    × (text ≡ lines_before lines (10 ∷ rest)) × SpellsRecord lines r × SpellsText rest rs

@@ -13,7 +13,5 @@ mod record;
 mod writing;
 
 pub use fault::V2Fault;
-pub use laws::{
-    the_lines_of_records_are_read_back, the_reported_line_is_the_first_that_no_text_has,
-};
+pub use laws::{the_reported_line_is_the_first_that_no_text_has, the_text_of_records_is_read_back};
 pub use read::read_v2;

@@ -1,8 +1,8 @@
 //! The lines of a text database, as version 2 of apk-tools keeps it in `lib/apk/db/installed`: a
 //! line comes in, and what it says of a package, a folder or a file goes out.
 //!
-//! The contracts cite `InfoFields` (the letters, and what a value of each has to be), `Values`,
-//! `Access` and `Lines` of `specs/`.
+//! The contracts cite `InfoFields` (the letters, and what a value of each has to be), `InfoValues`,
+//! `Accesses` and `Lines` of `specs/`.
 #![tactic(auto)]
 
 mod access;
