@@ -5,7 +5,8 @@ use Rattle.std.specs.List.{list_any}
 use Rattle.std.specs.Option.{option_and_then, option_map}
 use Rattle.std.proofs.lemmas.List.Folds.{list_any-append}
 use Rattle.dep_core.specs.Dependency.{is_package_name}
-use Rattle.version_core.specs.Order.{is_version}
+use Rattle.version_core.specs.Order.{is_version, tokens}
+use Rattle.version_core.specs.Token.{component_lexeme, next_lexeme, number_lexeme}
 use Rattle.make_info.specs.Fields.{FieldValue, text, text_if}
 use Rattle.v2_lines.specs.InfoFields.{field_of_letter, adds_to_list}
 use Rattle.v2_lines.specs.Lines.{RecordLine, info_line, record_line_by, record_line_of}
@@ -15,7 +16,7 @@ use Rattle.v2_core.specs.Reading.{at_record_end, records_from, with_records, wit
 use Rattle.v2_core.specs.Records.{InfoLine, Record, empty_record, has_line_of, info_by, is_line_of, lacks_needed_line, record_by, record_of_parts, with_info, with_record_line}
 use Rattle.v2_core.proofs.FirstBad.{err_is, same_number}
 use Rattle.v2_core.proofs.RecordEnds.{bad_end, good_end, none_ends}
-use Rattle.v2_core.proofs.TextLines.{at_bad_line, at_empty_line, at_good_line}
+use Rattle.v2_core.proofs.TextLines.{at_bad_line, at_empty_line, at_good_line, not_zero}
 
 -- some lines more are read behind a record that began
 pub record Completed (n : ℕ) (r : Record) (front : List (List ℕ)) : Type 0 where
@@ -25,14 +26,12 @@ pub record Completed (n : ℕ) (r : Record) (front : List (List ℕ)) : Type 0 w
 
 -- ---- a name and a version are added where they are lacking
 
-unfolding record_line_by field_of_letter
-
 name_line : (name : List ℕ) → is_package_name name ≡ true → record_line_of (80 ∷ 58 ∷ name) ≡ Some (info_line Fields.Name (text name ∷ []))
+unfolding record_line_by field_of_letter
 name_line name h = ap (λ b. option_map (info_line Fields.Name) (text_if b name)) h
 
-unfolding record_line_by field_of_letter
-
 version_line : (version : List ℕ) → is_version version ≡ true → record_line_of (86 ∷ 58 ∷ version) ≡ Some (info_line Fields.Version (text version ∷ []))
+unfolding record_line_by field_of_letter
 version_line version h = ap (λ b. option_map (info_line Fields.Version) (text_if b version)) h
 
 with_one : (r : Record) (f : InfoField) (values : List FieldValue) → adds_to_list f ≡ false → has_line_of f r.info ≡ false → with_record_line r (info_line f values) ≡ Some (record_by true (r.info ++ info_by f values ∷ []) r.folders)
@@ -76,7 +75,7 @@ completed_named version good n r true a h = completed_end n r r.has_line refl (l
 completed_named version good n r false a h =
     let line : InfoLine = info_by Fields.Version (text version ∷ []) in
     let s : Record = record_by true (r.info ++ line ∷ []) r.folders in
-    completed_behind n r s (86 ∷ 58 ∷ version) refl
+    completed_behind n r s (86 ∷ 58 ∷ version) (not_zero 86 (58 ∷ version))
     (ap (option_and_then (with_record_line r)) (version_line version good) ∙ with_one r Fields.Version (text version ∷ []) refl h)
     (completed_end (n + 1) s true refl (lacks_none s.info (has_same Fields.Name r.info line refl ∙ a) (has_new Fields.Version r.info line refl)))
 
@@ -86,7 +85,7 @@ completed_by name version named good n r true h =
 completed_by name version named good n r false h =
     let line : InfoLine = info_by Fields.Name (text name ∷ []) in
     let s : Record = record_by true (r.info ++ line ∷ []) r.folders in
-    completed_behind n r s (80 ∷ 58 ∷ name) refl
+    completed_behind n r s (80 ∷ 58 ∷ name) (not_zero 80 (58 ∷ name))
     (ap (option_and_then (with_record_line r)) (name_line name named) ∙ with_one r Fields.Name (text name ∷ []) refl h)
     (completed_named version good (n + 1) s (has_line_of Fields.Version s.info) (has_new Fields.Name r.info line refl) refl)
 
@@ -135,7 +134,16 @@ begins all n r (x ∷ lines) m (suc k) h l =
     begins_by n r x lines m k (eqb (length x) 0) refl l h
     (λ s told. begins all (n + 1) s lines m k told (omega (arith, l)))
 
+-- `a` may be a package's name
+named : is_package_name (97 ∷ []) ≡ true
+named = refl
+
+-- `1` is a version
+versioned : is_version (49 ∷ []) ≡ true
+unfolding is_version tokens number_lexeme next_lexeme component_lexeme
+versioned = refl
+
 -- fewer lines than up to the one that is told begin a text
-pub begins_text : (name version : List ℕ) → is_package_name name ≡ true → is_version version ≡ true → (n : ℕ) (r : Record) (lines : List (List ℕ)) (m k : ℕ) → records_from n r lines ≡ Err m → n + k < m → Completed n r (take k lines)
-begins_text name version named good =
-    begins (λ n r. completed_by name version named good n r (has_line_of Fields.Name r.info) refl)
+pub begins_text : (n : ℕ) (r : Record) (lines : List (List ℕ)) (m k : ℕ) → records_from n r lines ≡ Err m → n + k < m → Completed n r (take k lines)
+begins_text =
+    begins (λ n r. completed_by (97 ∷ []) (49 ∷ []) named versioned n r (has_line_of Fields.Name r.info) refl)

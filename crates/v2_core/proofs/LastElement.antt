@@ -1,5 +1,5 @@
 -- The last element of a list, changed where it stands.
-use Rattle.std.proofs.Common.{◌≡◌, ℕ, zero, suc, Bool, true, false, cond, List, [], ◌∷◌, length, Option, Some, None, refl, sym, ◌∙◌, ap, arith}
+use Rattle.std.proofs.Common.{◌≡◌, ℕ, zero, suc, ◌-◌, ◌<◌, Bool, true, false, cond, List, [], ◌∷◌, length, Option, Some, None, refl, sym, ◌∙◌, ap, arith}
 use Rattle.std.specs.Prelude.{slice_index_or, slice_set}
 use Rattle.std.specs.Option.{option_map}
 use Rattle.v2_core.specs.Records.{with_last_changed}
@@ -26,6 +26,10 @@ no_last change [] h = refl
 no_last change (x ∷ xs) h = absurd (omega (arith, h))
 
 -- the last element was changed, or may not be
-pub last_by : {A : Type 0} (change : A → Option A) (xs ys : List A) (i : ℕ) (b : Bool) (x y d : A) → suc i ≡ length xs → x ≡ slice_index_or xs i d → cond b (Some y) None ≡ change x → ys ≡ slice_set xs i y → cond b (Some ys) None ≡ with_last_changed change xs
-last_by change xs ys i true x y d h is c new = ap Some new ∙ sym (last_changed change xs i x y d h is (sym c))
-last_by change xs ys i false x y d h is c new = sym (last_kept change xs i x d h is (sym c))
+pub last_by : {A : Type 0} (change : A → Option A) (xs ys : List A) (n : ℕ) (b : Bool) (x y d : A) → n ≡ length xs → 0 < n → x ≡ slice_index_or xs (n - 1) d → cond b (Some y) None ≡ change x → ys ≡ slice_set xs (n - 1) y → cond b (Some ys) None ≡ with_last_changed change xs
+last_by change xs ys n true x y d h l is c new =
+    let last : suc (n - 1) ≡ length xs = omega (arith, h, l) in
+    ap Some new ∙ sym (last_changed change xs (n - 1) x y d last is (sym c))
+last_by change xs ys n false x y d h l is c new =
+    let last : suc (n - 1) ≡ length xs = omega (arith, h, l) in
+    sym (last_kept change xs (n - 1) x d last is (sym c))

@@ -23,7 +23,7 @@ finished law (Err line) root w answer so is = absurd so
 
 -- a bad line is why there is no payload
 pub line_fault : (fault : V2Fault) (read : Result (List Record) ℕ) → IsLineFault fault read → IsV2Fault fault (written_payload read)
-line_fault (Bad cause) read is = ap written_payload is.1.1 ∙ ap (λ c. Err (Bad c)) (sym is.1.0)
+line_fault (Bad cause) read is = ap written_payload is.2 ∙ ap (λ c. Err (Bad c)) (sym is.1)
 line_fault (TooLarge bytes values) read is = absurd is
 line_fault Memory read is = is
 

@@ -15,7 +15,7 @@ use Rattle.v2_core.specs.Records.{InfoLine, ListedFile, ListedFolder, Record, em
 use Rattle.v2_core.specs.Spelling.{AreLines, SpellsRecord, SpellsText, access_lines, file_lines, folder_lines, hash_lines, info_lines, is_one_line, lines_before, record_lines, stand_once}
 use Rattle.v2_core.proofs.Lists.{with_last-push}
 use Rattle.v2_core.proofs.RecordEnds.{good_end}
-use Rattle.v2_core.proofs.TextLines.{at_empty_line, at_good_line}
+use Rattle.v2_core.proofs.TextLines.{at_empty_line, at_good_line, not_zero}
 
 -- ---- a record with several lines more
 
@@ -55,27 +55,27 @@ after_access : (info : List InfoLine) (done : List ListedFolder) (name : List �
 after_access info done name access before file None = refl
 after_access info done name access before file (Some a) =
     let folder : ListedFolder = folder_by name access (before ++ file_by file None None ∷ []) in
-    after_more _ (with_files info done name access (before ++ file_by file (Some a) None ∷ [])) (file_access_line a) []
+    after_more (with_files info done name access (before ++ file_by file None None ∷ [])) (with_files info done name access (before ++ file_by file (Some a) None ∷ [])) (file_access_line a) []
     (at_folder info done folder _ (folder_with_last (file_with_access a)) (at_file folder before _ _ (file_with_access a) refl refl))
 
 after_hash : (info : List InfoLine) (done : List ListedFolder) (name : List ℕ) (access : Option Access) (before : List ListedFile) (file : List ℕ) (a : Option Access) (hash : Option (List ℕ)) → after (with_files info done name access (before ++ file_by file a None ∷ [])) (hash_lines hash) ≡ Some (with_files info done name access (before ++ file_by file a hash ∷ []))
 after_hash info done name access before file a None = refl
 after_hash info done name access before file a (Some hash) =
     let folder : ListedFolder = folder_by name access (before ++ file_by file a None ∷ []) in
-    after_more _ (with_files info done name access (before ++ file_by file a (Some hash) ∷ [])) (file_hash_line hash) []
+    after_more (with_files info done name access (before ++ file_by file a None ∷ [])) (with_files info done name access (before ++ file_by file a (Some hash) ∷ [])) (file_hash_line hash) []
     (at_folder info done folder _ (folder_with_last (file_with_hash hash)) (at_file folder before _ _ (file_with_hash hash) refl refl))
 
 after_file : (info : List InfoLine) (done : List ListedFolder) (name : List ℕ) (access : Option Access) (before : List ListedFile) (f : ListedFile) → after (with_files info done name access before) (file_lines f) ≡ Some (with_files info done name access (before ++ f ∷ []))
 after_file info done name access before f =
-    after_more (with_files info done name access before) (with_files info done name access (before ++ file_by f.name None None ∷ [])) (file_line f.name) _ (at_folder info done (folder_by name access before) _ (folder_with_file f.name) refl)
-    ∙ (after_both _ _ (access_lines file_access_line f.access) (hash_lines f.hash) (after_access info done name access before f.name f.access)
+    after_more (with_files info done name access before) (with_files info done name access (before ++ file_by f.name None None ∷ [])) (file_line f.name) (access_lines file_access_line f.access ++ hash_lines f.hash) (at_folder info done (folder_by name access before) _ (folder_with_file f.name) refl)
+    ∙ (after_both (with_files info done name access (before ++ file_by f.name None None ∷ [])) (with_files info done name access (before ++ file_by f.name f.access None ∷ [])) (access_lines file_access_line f.access) (hash_lines f.hash) (after_access info done name access before f.name f.access)
     ∙ after_hash info done name access before f.name f.access f.hash)
 
 after_files : (info : List InfoLine) (done : List ListedFolder) (name : List ℕ) (access : Option Access) (before files : List ListedFile) → after (with_files info done name access before) (flat_map file_lines files) ≡ Some (with_files info done name access (before ++ files))
 after_files info done name access before [] =
     ap (λ fs. Some (with_files info done name access fs)) (sym (append-nil before))
 after_files info done name access before (f ∷ fs) =
-    after_both _ _ (file_lines f) (flat_map file_lines fs) (after_file info done name access before f)
+    after_both (with_files info done name access before) (with_files info done name access (before ++ f ∷ [])) (file_lines f) (flat_map file_lines fs) (after_file info done name access before f)
     ∙ (after_files info done name access (before ++ f ∷ []) fs
     ∙ ap (λ fs. Some (with_files info done name access fs)) (append_assoc before (f ∷ []) fs))
 
@@ -84,18 +84,18 @@ after_files info done name access before (f ∷ fs) =
 after_folder_access : (info : List InfoLine) (done : List ListedFolder) (name : List ℕ) (a : Option Access) → after (with_files info done name None []) (access_lines folder_access_line a) ≡ Some (with_files info done name a [])
 after_folder_access info done name None = refl
 after_folder_access info done name (Some a) =
-    after_more _ (with_files info done name (Some a) []) (folder_access_line a) []
+    after_more (with_files info done name None []) (with_files info done name (Some a) []) (folder_access_line a) []
     (at_folder info done (folder_by name None []) _ (folder_with_access a) refl)
 
 after_folder : (info : List InfoLine) (done : List ListedFolder) (f : ListedFolder) → after (record_by true info done) (folder_lines f) ≡ Some (record_by true info (done ++ f ∷ []))
 after_folder info done f =
-    after_both (with_files info done f.name None []) _ (access_lines folder_access_line f.access) (flat_map file_lines f.files) (after_folder_access info done f.name f.access)
+    after_both (with_files info done f.name None []) (with_files info done f.name f.access []) (access_lines folder_access_line f.access) (flat_map file_lines f.files) (after_folder_access info done f.name f.access)
     ∙ after_files info done f.name f.access [] f.files
 
 after_folders : (info : List InfoLine) (done folders : List ListedFolder) → after (record_by true info done) (flat_map folder_lines folders) ≡ Some (record_by true info (done ++ folders))
 after_folders info done [] = ap (λ fs. Some (record_by true info fs)) (sym (append-nil done))
 after_folders info done (f ∷ fs) =
-    after_both _ _ (folder_lines f) (flat_map folder_lines fs) (after_folder info done f)
+    after_both (record_by true info done) (record_by true info (done ++ f ∷ [])) (folder_lines f) (flat_map folder_lines fs) (after_folder info done f)
     ∙ (after_folders info (done ++ f ∷ []) fs
     ∙ ap (λ fs. Some (record_by true info fs)) (append_assoc done (f ∷ []) fs))
 
@@ -114,7 +114,7 @@ after_info : (done info : List InfoLine) → stand_once done info ≡ true → a
 after_info done [] h = ap (λ i. Some (record_by true i [])) (sym (append-nil done))
 after_info done (l ∷ ls) h =
     let once = and_parts (adds_to_list l.field || not (has_line_of l.field done)) (stand_once (done ++ l ∷ []) ls) h in
-    after_more _ (record_by true (done ++ l ∷ []) []) (info_line l.field l.values) (info_lines ls) (with_info_line true done [] l once.0)
+    after_more (record_by true done []) (record_by true (done ++ l ∷ []) []) (info_line l.field l.values) (info_lines ls) (with_info_line true done [] l once.0)
     ∙ (after_info (done ++ l ∷ []) ls once.1
     ∙ ap (λ i. Some (record_by true i [])) (append_assoc done (l ∷ []) ls))
 
@@ -129,7 +129,7 @@ after_first (l ∷ ls) complete h =
 
 not_empty : (t : List ℕ) (l : RecordLine) → record_line_of t ≡ Some l → eqb (length t) 0 ≡ false
 not_empty [] l h = cc
-not_empty (b ∷ bs) l h = refl
+not_empty (b ∷ bs) l h = not_zero b bs
 
 same_record : (r s : Record) → ◌≡◌ {A = Option Record} (Some r) (Some s) → r ≡ s
 same_record r s h = cc
@@ -142,11 +142,13 @@ read_on_by n r s (Some q) t ts l ls rest says is on h =
     ∙ (on q h ∙ ap (λ k. records_from k s rest) count)
 
 read_on : (n : ℕ) (r s : Record) (ts : List (List ℕ)) (ls : List RecordLine) (rest : List (List ℕ)) → AreLines ts ls → after r ls ≡ Some s → records_from n r (ts ++ rest) ≡ records_from (n + length ts) s rest
-read_on n r s [] [] rest lines h = ap (λ q. records_from n q rest) (same_record r s h)
+read_on n r s [] [] rest lines h =
+    let count : n ≡ n + 0 = omega arith in
+    ap (λ q. records_from n q rest) (same_record r s h) ∙ ap (λ k. records_from k s rest) count
 read_on n r s [] (l ∷ ls) rest lines h = absurd lines
 read_on n r s (t ∷ ts) [] rest lines h = absurd lines
 read_on n r s (t ∷ ts) (l ∷ ls) rest lines h =
-    read_on_by n r s (with_record_line r l) t ts l ls rest lines.1.0 refl (λ q g. read_on (n + 1) q s ts ls rest lines.1.1 g) h
+    read_on_by n r s (with_record_line r l) t ts l ls rest lines.1 refl (λ q g. read_on (n + 1) q s ts ls rest lines.2 g) h
 
 whole : (r : Record) → r.has_line ≡ true → record_by true r.info r.folders ≡ r
 whole r h = ap (λ b. record_by b r.info r.folders) (sym h)
@@ -167,21 +169,21 @@ split_lines [] ls rest lines = refl
 split_lines (t ∷ ts) [] rest lines = absurd lines
 split_lines (t ∷ ts) (l ∷ ls) rest lines =
     slice_split_at is_line_end t 10 (lines_before ts rest) (no_line_ends t lines.0) refl
-    ∙ ap (λ more. t ∷ more) (split_lines ts ls rest lines.1.1)
+    ∙ ap (λ more. t ∷ more) (split_lines ts ls rest lines.2)
 
 read_back : (n : ℕ) (text : List ℕ) (rs : List Record) → SpellsText text rs → records_from n empty_record (lines_of text) ≡ Ok rs
 read_back n text [] spelled = ap (λ t. records_from n empty_record (lines_of t)) spelled
 read_back n text (r ∷ rs) spelled =
     let lines = spelled.0 in
-    let rest = spelled.1.0 in
-    let spells : SpellsRecord lines r = spelled.1.1.1.0 in
+    let rest = spelled.1 in
+    let spells : SpellsRecord lines r = spelled.3 in
     let m = n + length lines in
-    ap (λ t. records_from n empty_record (lines_of t)) spelled.1.1.0
+    ap (λ t. records_from n empty_record (lines_of t)) spelled.2
     ∙ (ap (records_from n empty_record) (split_lines lines (record_lines r) (10 ∷ rest) spells.lines_say)
     ∙ (read_record n r lines ([] ∷ lines_of rest) spells
     ∙ (at_empty_line m r [] (lines_of rest) refl
     ∙ (good_end m r (records_from (m + 1) empty_record (lines_of rest)) spells.begun spells.complete
-    ∙ ap (with_records (r ∷ [])) (read_back (m + 1) rest rs spelled.1.1.1.1)))))
+    ∙ ap (with_records (r ∷ [])) (read_back (m + 1) rest rs spelled.4)))))
 
 pub text_read_back : (text : List ℕ) (rs : List Record) → SpellsText text rs → records_of text ≡ Ok rs
 unfolding records_of

@@ -1,6 +1,7 @@
 -- The lines of a text one after the other.
-use Rattle.std.proofs.Common.{◌≡◌, ℕ, ◌+◌, ◌<◌, ◌≤◌, true, false, cond, eqb, List, [], ◌∷◌, ◌++◌, length, map, get_or, drop, Option, Some, None, Result, Ok, Err, refl, sym, ◌∙◌, ap, subst, append-nil}
+use Rattle.std.proofs.Common.{◌≡◌, ℕ, ◌+◌, ◌<◌, ◌≤◌, true, false, cond, eqb, List, [], ◌∷◌, ◌++◌, length, map, get_or, drop, Option, Some, None, Result, Ok, Err, refl, sym, ◌∙◌, ap, subst, append-nil, arith}
 use Rattle.std.specs.Option.{option_map_or}
+use Rattle.std.proofs.lemmas.Bool.Decides.{nat_tests}
 use Rattle.std.proofs.lemmas.List.{at_drop_more, at_drop_all}
 use Rattle.adb_write.specs.Writing.{Writing}
 use Rattle.v2_core.specs.Reading.{at_record_end, records_from, with_records, with_text}
@@ -20,6 +21,10 @@ pub next_line : (start : Writing) (words : List ℕ) (later : Writing) (whole : 
 next_line start words later whole n r lines i x h on =
     subst (λ o. ReadsOn start words later o whole)
     (at_drop_more (λ ls. records_from n r ls) lines i x h.0 ∙ ap (λ y. records_from n r (y ∷ drop (i + 1) lines)) (sym h.1)) on
+
+-- a line with a byte is not empty
+pub not_zero : (b : ℕ) (bs : List ℕ) → eqb (length (b ∷ bs)) 0 ≡ false
+not_zero b bs = grind (arith, nat_tests)
 
 -- an empty line ends a record
 pub at_empty_line : (n : ℕ) (r : Record) (x : List ℕ) (rest : List (List ℕ)) → eqb (length x) 0 ≡ true → records_from n r (x ∷ rest) ≡ at_record_end n r (records_from (n + 1) empty_record rest)

@@ -1,7 +1,5 @@
 -- Which line of a text is reported.
-use Rattle.std.specs.Prelude.{◌≡◌, ℕ, ◌<◌, true, List, [], ◌∷◌, ◌++◌, length, take, OnOk, IsOk, Result, Ok, Err}
-use Rattle.dep_core.specs.Dependency.{is_package_name}
-use Rattle.version_core.specs.Order.{is_version}
+use Rattle.std.specs.Prelude.{◌≡◌, ℕ, ◌<◌, List, [], ◌∷◌, ◌++◌, length, take, OnOk, IsOk, Result, Ok, Err}
 use Rattle.v2_core.specs.Reading.{records_from}
 use Rattle.v2_core.specs.Records.{Record, empty_record}
 
@@ -23,5 +21,4 @@ pub record IsReportedLine (lines : List (List ℕ)) (number : ℕ) : Type 0 wher
   pub stands : lines ≡ front ++ rest
   pub up_to : length front ≡ number
   pub bad : (more : List (List ℕ)) → read_lines (front ++ [] ∷ more) ≡ Err number
-  pub earlier : (name version : List ℕ) → is_package_name name ≡ true → is_version version ≡ true
-      → (k : ℕ) → k < number → BeginsText (take k lines)
+  pub earlier : (k : ℕ) → k < number → BeginsText (take k lines)

@@ -147,7 +147,7 @@ fn end_record(
         → IsLineFault fault (at_record_end lines record.old others)) }
 {
     write_record(alloc, writer, packages, record, lines)?;
-    *record = Record::new(alloc);
+    record.clear();
     Ok(())
 }
 

@@ -169,6 +169,15 @@ impl<'a> Record<'a> {
         }
     }
 
+    /// Drops all that its lines say, so that another record can begin.
+    pub(crate) fn clear(&mut self)
+        ensures { self.new ≡ empty_record }
+    {
+        self.has_line = false;
+        self.info.clear();
+        self.folders.clear();
+    }
+
     /// Whether it has a line.
     pub(crate) fn has_line(&self) -> bool
         ensures { result ≡ self.now.has_line }

@@ -16,7 +16,7 @@ returns c text number h =
       stands = t.stands;
       up_to = omega (arith, t.up_to);
       bad = t.bad;
-      earlier = λ name version named good k l.
-          let b = begins_text name version named good 0 empty_record (lines_of text) number k h (omega (arith, l)) in
+      earlier = λ k l.
+          let b = begins_text 0 empty_record (lines_of text) number k h (omega (arith, l)) in
           record { more = b.more; records = b.records; is_read = b.is_read };
     }

@@ -1,0 +1,4 @@
+use Rattle.v2_core.proofs.writing.write_package.Goals as goal
+
+pub returns : goal.returns
+returns c = ?
