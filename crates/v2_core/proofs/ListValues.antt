@@ -1,14 +1,20 @@
 -- The values of the lines of a field, one line after the other.
 use Rattle.std.proofs.Common.{◌≡◌, ℕ, ◌+◌, ◌<◌, true, false, cond, List, [], ◌∷◌, ◌++◌, length, map, get_or, take, refl, sym, ◌∙◌, ap, append-nil, append_assoc, subst}
+use Rattle.std.specs.Prelude.{Vec}
+use Rattle.std.specs.declared.alloc.Global.{Global}
 use Rattle.std.specs.List.{flat_map}
 use Rattle.std.proofs.lemmas.List.{take_more}
 use Rattle.std.proofs.lemmas.List.Concat.{flat_map-append}
 use Rattle.adb_view.specs.Plain.{Plain}
 use Rattle.adb_write.specs.Writing.{Writing}
+use Rattle.dep_core.specs.declared.dep.Dep.{Dep}
 use Rattle.make_info.specs.Fields.{FieldValue}
 use Rattle.make_info.specs.Information.{plain_value}
 use Rattle.v2_lines.specs.declared.field.InfoField.{InfoField}
-use Rattle.v2_core.specs.Database.{values_for}
+use Rattle.v2_lines.specs.Views.{line_value_view}
+use Rattle.v2_lines.specs.declared.value.Value.{Value}
+use Rattle.v2_lines.specs.declared.value.Value.TheVariants as Values
+use Rattle.v2_core.specs.Database.{value_of_first, values_for}
 use Rattle.v2_core.specs.Records.{InfoLine, is_line_of}
 use Rattle.v2_core.specs.Writing.{WritesList}
 
@@ -39,3 +45,11 @@ line_of_another f info i l d within is other =
 pub written_as : (a : Writing) (vs us : List Plain) (xs ys : List ℕ) (b c : Writing) → us ≡ vs → ys ≡ xs → c ≡ b → WritesList a vs xs b → WritesList a us ys c
 written_as a vs us xs ys b c values words writer so =
     subst (λ w. WritesList a us ys w) (sym writer) (subst (λ w. WritesList a us w b) (sym words) (subst (λ u. WritesList a u xs b) (sym values) so))
+
+-- a text, some bytes or a number is one value
+pub one_value : (v : Value) → ((ds : Vec Dep Global) → v ≡ Values.Needs ds → ⊥) → (v ≡ Values.Nothing → ⊥) → map plain_value (line_value_view v) ≡ value_of_first (line_value_view v) ∷ []
+one_value (Values.Text t) list none = refl
+one_value (Values.Bytes b) list none = refl
+one_value (Values.Number n) list none = refl
+one_value (Values.Needs ds) list none = absurd (list ds refl)
+one_value Values.Nothing list none = absurd (none refl)

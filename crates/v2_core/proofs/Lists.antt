@@ -2,7 +2,7 @@
 use Rattle.std.proofs.Common.{◌≡◌, ℕ, ◌+◌, ◌<◌, List, [], ◌∷◌, ◌++◌, length, map, get_or, take, Option, Some, None, refl, sym, ◌∙◌, ap, subst, append_assoc, append-nil}
 use Rattle.std.specs.Option.{option_map}
 use Rattle.std.proofs.lemmas.List.{take_more}
-use Rattle.adb_view.specs.Plain.{Plain, Plains, none, more}
+use Rattle.adb_view.specs.Plain.{Plain, null, Plains, none, more}
 use Rattle.adb_write.specs.Writing.{Writing}
 use Rattle.adb_write.specs.DepthFirst.{push, WritesValue, WritesValues}
 use Rattle.make_info.specs.Values.{plains_of}
@@ -23,9 +23,13 @@ one_more law v vs us x xs ys a b c e words before one =
     let values : push (plains_of vs) v ≡ plains_of us = sym (ap plains_of e ∙ plains_push vs v) in
     subst (λ y. WritesValues a (plains_of us) y c) (sym words) (subst (λ u. WritesValues a u (xs ++ x ∷ []) c) values r)
 
-map-push : {A B : Type 0} (f : A → B) (xs : List A) (x : A) → map f (xs ++ x ∷ []) ≡ map f xs ++ f x ∷ []
+pub map-push : {A B : Type 0} (f : A → B) (xs : List A) (x : A) → map f (xs ++ x ∷ []) ≡ map f xs ++ f x ∷ []
 map-push f [] x = refl
 map-push f (y ∷ ys) x = ap (λ zs. f y ∷ zs) (map-push f ys x)
+
+pub map-map : {A B C : Type 0} (g : B → C) (f : A → B) (xs : List A) → map g (map f xs) ≡ map (λ x. g (f x)) xs
+map-map g f [] = refl
+map-map g f (x ∷ xs) = ap (λ zs. g (f x) ∷ zs) (map-map g f xs)
 
 -- the images of one element more
 pub map-take_more : {A B : Type 0} (f : A → B) (xs : List A) (i : ℕ) (x d : A) → i < length xs → x ≡ get_or xs i d → map f (take (i + 1) xs) ≡ map f (take i xs) ++ f x ∷ []
@@ -34,6 +38,14 @@ map-take_more f xs i x d l h =
 
 pub map-pushed : {A B : Type 0} (f : A → B) (xs ys : List A) (x : A) → ys ≡ xs ++ x ∷ [] → map f ys ≡ map f xs ++ f x ∷ []
 map-pushed f xs ys x h = ap (map f) h ∙ map-push f xs x
+
+-- a value that was written, in other words
+pub value_as : (a : Writing) (v u : Plain) (x : ℕ) (b : Writing) → v ≡ u → WritesValue a v x b → WritesValue a u x b
+value_as a v u x b h so = subst (λ p. WritesValue a p x b) h so
+
+-- NULL stands for Null
+pub null_as : ((w : Writing) → WritesValue w null 0 w) → (x : ℕ) (w : Writing) → x ≡ 0 → WritesValue w null x w
+null_as law x w h = subst (λ y. WritesValue w null y w) (sym h) (law w)
 
 put_before : {A : Type 0} (y : A) (ys : List A) (o : Option A) → option_map (λ rest. y ∷ rest) (option_map (λ z. ys ++ z ∷ []) o) ≡ option_map (λ z. (y ∷ ys) ++ z ∷ []) o
 put_before y ys None = refl

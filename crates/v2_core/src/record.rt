@@ -121,10 +121,7 @@ impl<'a> Folder<'a> {
         ensures { (if result then Some self.new else None)
             ≡ folder_with_last (file_with_access (access_view access.entry)) self.old }
     {
-        match self.files.last_mut() {
-            Some(file) => file.add_access(access),
-            None => false,
-        }
+        add_access_to_last(&mut self.files, access)
     }
 
     /// Says what the hash of the last file is. False: there is none, or that was said before.
@@ -132,10 +129,29 @@ impl<'a> Folder<'a> {
         ensures { (if result then Some self.new else None)
             ≡ folder_with_last (file_with_hash hash.items) self.old }
     {
-        match self.files.last_mut() {
-            Some(file) => file.add_hash(hash),
-            None => false,
-        }
+        add_hash_to_last(&mut self.files, hash)
+    }
+}
+
+// Says whose the last of some files is. False: there is none, or that was said before.
+fn add_access_to_last<'a>(files: &mut Vec<File<'a>>, access: Access<'a>) -> bool
+    ensures { (if result then Some files.new.items else None)
+        ≡ with_last_changed (file_with_access (access_view access.entry)) files.old.items }
+{
+    match files.last_mut() {
+        Some(file) => file.add_access(access),
+        None => false,
+    }
+}
+
+// Says what the hash of the last of some files is. False: there is none, or that was said before.
+fn add_hash_to_last(files: &mut Vec<File<'_>>, hash: Vec<u8>) -> bool
+    ensures { (if result then Some files.new.items else None)
+        ≡ with_last_changed (file_with_hash hash.items) files.old.items }
+{
+    match files.last_mut() {
+        Some(file) => file.add_hash(hash),
+        None => false,
     }
 }
 

@@ -187,6 +187,7 @@ fn write_values(
         → WritesList before (vs ++ map plain_value (line_value_view value.now)) words.new.items
         writer.new) }
 {
+    values_are_written_depth_first();
     match value {
         Value::Needs(needs) => write_needs(writer, words, needs),
         Value::Nothing => Ok(()),
