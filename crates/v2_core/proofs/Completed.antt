@@ -1,7 +1,6 @@
 -- Lines before the one that is told begin a text that is read.
-use Rattle.std.proofs.Common.{◌≡◌, ℕ, zero, suc, ◌+◌, ◌<◌, Bool, true, false, not, cond, eqb, List, [], ◌∷◌, ◌++◌, length, take, Option, Some, None, Result, Ok, Err, refl, sym, ◌∙◌, ap, arith}
+use Rattle.std.proofs.Common.{◌≡◌, ℕ, zero, suc, ◌+◌, ◌<◌, Bool, true, false, not, cond, eqb, List, [], ◌∷◌, ◌++◌, length, take, Option, Some, None, Ok, Err, refl, sym, ◌∙◌, ap, arith}
 use Rattle.std.specs.Prelude.{◌&&◌, ◌||◌}
-use Rattle.std.specs.List.{list_any}
 use Rattle.std.specs.Option.{option_and_then, option_map}
 use Rattle.std.proofs.lemmas.List.Folds.{list_any-append}
 use Rattle.dep_core.specs.Dependency.{is_package_name}
@@ -9,11 +8,11 @@ use Rattle.version_core.specs.Order.{is_version, tokens}
 use Rattle.version_core.specs.Token.{component_lexeme, next_lexeme, number_lexeme}
 use Rattle.make_info.specs.Fields.{FieldValue, text, text_if}
 use Rattle.v2_lines.specs.InfoFields.{field_of_letter, adds_to_list}
-use Rattle.v2_lines.specs.Lines.{RecordLine, info_line, record_line_by, record_line_of}
+use Rattle.v2_lines.specs.Lines.{info_line, record_line_by, record_line_of}
 use Rattle.v2_lines.specs.declared.field.InfoField.{InfoField}
 use Rattle.v2_lines.specs.declared.field.InfoField.TheVariants as Fields
-use Rattle.v2_core.specs.Reading.{at_record_end, records_from, with_records, with_text}
-use Rattle.v2_core.specs.Records.{InfoLine, Record, empty_record, has_line_of, info_by, is_line_of, lacks_needed_line, record_by, record_of_parts, with_info, with_record_line}
+use Rattle.v2_core.specs.Reading.{records_from, with_records, with_text}
+use Rattle.v2_core.specs.Records.{InfoLine, Record, empty_record, has_line_of, info_by, is_line_of, lacks_needed_line, record_by, record_of_parts, with_record_line}
 use Rattle.v2_core.proofs.FirstBad.{err_is, same_number}
 use Rattle.v2_core.proofs.RecordEnds.{bad_end, good_end, none_ends}
 use Rattle.v2_core.proofs.TextLines.{at_bad_line, at_empty_line, at_good_line, not_zero}

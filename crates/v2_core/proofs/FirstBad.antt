@@ -1,7 +1,5 @@
 -- The line that is told, by the lines before it.
-use Rattle.std.proofs.Common.{◌≡◌, ℕ, zero, suc, ◌+◌, ◌<◌, Bool, true, false, not, cond, eqb, List, [], ◌∷◌, ◌++◌, length, take, Option, Some, None, Result, Ok, Err, refl, sym, ◌∙◌, ap, subst, arith}
-use Rattle.std.specs.Prelude.{is_some}
-use Rattle.std.specs.Option.{option_map_or}
+use Rattle.std.proofs.Common.{◌≡◌, ℕ, ◌+◌, Bool, true, false, eqb, List, [], ◌∷◌, ◌++◌, length, Option, Some, None, Result, Ok, Err, refl, sym, ◌∙◌, ap, arith}
 use Rattle.v2_core.specs.Reading.{at_record_end, records_from, with_records, with_text}
 use Rattle.v2_core.specs.Records.{Record, empty_record, lacks_needed_line}
 use Rattle.v2_core.proofs.RecordEnds.{bad_end, good_end, none_ends}

@@ -1,8 +1,8 @@
 -- Lists of values that are written one after the other, and lists of folders and files.
-use Rattle.std.proofs.Common.{◌≡◌, ℕ, ◌+◌, ◌<◌, List, [], ◌∷◌, ◌++◌, length, map, get_or, take, Option, Some, None, refl, sym, ◌∙◌, ap, subst, append_assoc, append-nil}
+use Rattle.std.proofs.Common.{◌≡◌, ℕ, ◌+◌, ◌<◌, List, [], ◌∷◌, ◌++◌, length, map, get_or, take, Option, Some, None, refl, sym, ◌∙◌, ap, subst}
 use Rattle.std.specs.Option.{option_map}
 use Rattle.std.proofs.lemmas.List.{take_more}
-use Rattle.adb_view.specs.Plain.{Plain, null, Plains, none, more}
+use Rattle.adb_view.specs.Plain.{Plain, null, Plains, more}
 use Rattle.adb_write.specs.Writing.{Writing}
 use Rattle.adb_write.specs.DepthFirst.{push, WritesValue, WritesValues}
 use Rattle.make_info.specs.Values.{plains_of}

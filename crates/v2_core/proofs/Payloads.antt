@@ -1,6 +1,5 @@
 -- The payload of what was read.
-use Rattle.std.proofs.Common.{◌≡◌, ℕ, List, [], ◌∷◌, Result, Ok, Err, refl, sym, ◌∙◌, ap}
-use Rattle.base_core.specs.declared.cause.Cause.{Cause}
+use Rattle.std.proofs.Common.{◌≡◌, ℕ, List, [], ◌∷◌, Result, Ok, Err, sym, ◌∙◌, ap}
 use Rattle.adb_view.specs.Plain.{Plain, Plains, none, more, arr_value, obj_value}
 use Rattle.adb_write.specs.Canonical.{PayloadCounts, written_of}
 use Rattle.adb_write.specs.DepthFirst.{WritesValue, WritesValues}

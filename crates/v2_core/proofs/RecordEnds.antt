@@ -1,8 +1,6 @@
 -- What is read from the end of a record on.
-use Rattle.std.proofs.Common.{◌≡◌, ℕ, true, false, cond, List, [], ◌∷◌, ◌++◌, map, Result, Ok, Err, refl, sym, ◌∙◌, ap, subst, append_assoc}
-use Rattle.adb_view.specs.Plain.{Plain}
+use Rattle.std.proofs.Common.{◌≡◌, ℕ, true, false, cond, List, [], ◌∷◌, ◌++◌, Result, Ok, Err, refl, sym, ◌∙◌, ap, subst, append_assoc}
 use Rattle.adb_write.specs.Writing.{Writing}
-use Rattle.v2_core.specs.Database.{record_value}
 use Rattle.v2_core.specs.Reading.{at_record_end, with_records}
 use Rattle.v2_core.specs.Records.{Record, lacks_needed_line}
 use Rattle.v2_core.specs.Writing.{ReadsOn, WritesPackages}

@@ -1,6 +1,6 @@
 -- The lines of records are read as these records.
-use Rattle.std.proofs.Common.{◌≡◌, ℕ, zero, suc, ◌+◌, Bool, true, false, not, cond, eqb, List, [], ◌∷◌, ◌++◌, length, map, get_or, Option, Some, None, Result, Ok, Err, refl, sym, ◌∙◌, ap, subst, append-nil, append_assoc, arith}
-use Rattle.std.specs.Prelude.{◌&&◌, ◌||◌, ⊤}
+use Rattle.std.proofs.Common.{◌≡◌, ℕ, suc, ◌+◌, Bool, true, false, not, cond, eqb, List, [], ◌∷◌, ◌++◌, length, get_or, Option, Some, None, Result, Ok, refl, sym, ◌∙◌, ap, append-nil, append_assoc, arith}
+use Rattle.std.specs.Prelude.{◌&&◌, ◌||◌}
 use Rattle.std.specs.List.{All, flat_map}
 use Rattle.std.specs.Option.{option_and_then, option_map}
 use Rattle.std.proofs.lemmas.Bool.{and_parts, not-true}
@@ -9,9 +9,9 @@ use Rattle.std.proofs.lemmas.List.Sums.{AllPass-from_list_all}
 use Rattle.dep_core.specs.World.{is_line_end, lines_of}
 use Rattle.v2_lines.specs.Accesses.{Access}
 use Rattle.v2_lines.specs.InfoFields.{adds_to_list}
-use Rattle.v2_lines.specs.Lines.{RecordLine, info_line, folder_line, folder_access_line, file_line, file_access_line, file_hash_line, record_line_of}
-use Rattle.v2_core.specs.Reading.{at_record_end, records_from, records_of, with_records, with_text}
-use Rattle.v2_core.specs.Records.{InfoLine, ListedFile, ListedFolder, Record, empty_record, file_by, file_with_access, file_with_hash, folder_by, folder_with_access, folder_with_file, folder_with_last, has_line_of, info_by, lacks_needed_line, record_by, record_of_parts, with_info, with_last_changed, with_record_line, with_path_line}
+use Rattle.v2_lines.specs.Lines.{RecordLine, info_line, folder_access_line, file_line, file_access_line, file_hash_line, record_line_of}
+use Rattle.v2_core.specs.Reading.{records_from, records_of, with_records}
+use Rattle.v2_core.specs.Records.{InfoLine, ListedFile, ListedFolder, Record, empty_record, file_by, file_with_access, file_with_hash, folder_by, folder_with_access, folder_with_file, folder_with_last, has_line_of, lacks_needed_line, record_by, record_of_parts, with_last_changed, with_record_line}
 use Rattle.v2_core.specs.Spelling.{AreLines, SpellsRecord, SpellsText, access_lines, file_lines, folder_lines, hash_lines, info_lines, is_one_line, lines_before, record_lines, stand_once}
 use Rattle.v2_core.proofs.Lists.{with_last-push}
 use Rattle.v2_core.proofs.RecordEnds.{good_end}

@@ -1,7 +1,7 @@
 -- The installed database that records say (apk-v3(5)).
 use Rattle.std.specs.Prelude.{ℕ, List, [], ◌∷◌, map, Option, Some, None, if◌then◌else◌}
 use Rattle.std.specs.List.{find, flat_map}
-use Rattle.adb_view.specs.Plain.{Plain, null, int, Plains, none, more, blob_value, arr_value, obj_value}
+use Rattle.adb_view.specs.Plain.{Plain, null, int, blob_value, arr_value, obj_value}
 use Rattle.make_info.specs.Fields.{FieldValue}
 use Rattle.make_info.specs.Information.{plain_value}
 use Rattle.make_info.specs.Values.{plains_of}

@@ -1,5 +1,5 @@
 -- Which line of a text is reported.
-use Rattle.std.specs.Prelude.{◌≡◌, ℕ, ◌<◌, List, [], ◌∷◌, ◌++◌, length, take, OnOk, IsOk, Result, Ok, Err}
+use Rattle.std.specs.Prelude.{◌≡◌, ℕ, ◌<◌, List, [], ◌∷◌, ◌++◌, length, take, Result, Ok, Err}
 use Rattle.v2_core.specs.Reading.{records_from}
 use Rattle.v2_core.specs.Records.{Record, empty_record}
 

@@ -8,8 +8,8 @@ use Rattle.make_info.specs.Values.{plains_of}
 use Rattle.v2_core.specs.declared.fault.V2Fault.{V2Fault}
 use Rattle.v2_core.specs.declared.fault.V2Fault.TheVariants.{Bad, TooLarge, Memory}
 use Rattle.v2_core.specs.Database.{database_value, record_value}
-use Rattle.v2_core.specs.Reading.{at_record_end, with_records}
-use Rattle.v2_core.specs.Records.{Record, empty_record}
+use Rattle.v2_core.specs.Reading.{with_records}
+use Rattle.v2_core.specs.Records.{Record}
 
 -- a list of values was written, one after the other
 abbrev pub WritesList : Writing → List Plain → List ℕ → Writing → Type 0

@@ -1,5 +1,5 @@
 -- Each line is the next one of the text.
-use Rattle.std.proofs.Common.{◌≡◌, ◌+◌, IfErr, Err, List, ◌++◌, length, drop, refl, ◌∙◌, ap, sym, subst, rules, arith}
+use Rattle.std.proofs.Common.{IfErr, Err, length, ◌∙◌, ap, sym, subst, rules, arith}
 use Rattle.std.specs.Slice.Iter.{split_rest, split_done, split_callee}
 use Rattle.std.proofs.lemmas.Iterator.Splits.{YieldsList-from_slice_split}
 use Rattle.std.proofs.lemmas.Iterator.Consumers.{YieldsList-turn, YieldsList-end}

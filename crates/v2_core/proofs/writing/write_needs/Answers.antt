@@ -1,4 +1,4 @@
-use Rattle.std.proofs.Common.{◌≡◌, ◌+◌, ◌++◌, map, sym, take, ◌∙◌, ap, append_assoc}
+use Rattle.std.proofs.Common.{◌+◌, ◌++◌, map, sym, take, ◌∙◌, ap, append_assoc}
 use Rattle.adb_view.specs.Plain.{Plain}
 use Rattle.dep_core.specs.Meets.{dependency}
 use Rattle.dep_core.specs.declared.dep.Dep.{Dep}

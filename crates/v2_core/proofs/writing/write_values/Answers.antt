@@ -1,4 +1,4 @@
-use Rattle.std.proofs.Common.{◌≡◌, ◌++◌, ◌∷◌, [], List, OnOk, ap, map, refl, subst, sym, ◌∙◌}
+use Rattle.std.proofs.Common.{◌≡◌, ◌++◌, ◌∷◌, [], List, OnOk, ap, map, subst, sym, ◌∙◌}
 use Rattle.adb_view.specs.Plain.{Plain}
 use Rattle.adb_write.specs.Writing.{Writing}
 use Rattle.dep_core.specs.Meets.{dependency}
