@@ -1,9 +1,9 @@
 -- What holds of each file still holds once a root is recovered.
-use Rattle.std.proofs.Common.{◌≡◌, ◌||◌, ℕ, ◌+◌, ◌<◌, ◌^◌, Bool, true, false, List, [], ◌∷◌, ◌++◌, length, map, not, Option, Some, None, IsSome, All, refl, sym, ap, subst, ◌∙◌}
+use Rattle.std.proofs.Common.{◌≡◌, ◌||◌, ℕ, ◌+◌, Bool, true, false, List, [], ◌∷◌, ◌++◌, map, not, Option, Some, None, IsSome, refl, sym, ap, subst, ◌∙◌}
 use Rattle.std.specs.Prelude.{if◌then◌else◌, is_some}
 use Rattle.std.specs.List.{list_any}
 use Rattle.std.specs.Str.{bytes_eq}
-use Rattle.std.proofs.lemmas.Bool.{and_parts, false≢true}
+use Rattle.std.proofs.lemmas.Bool.{and_parts}
 use Rattle.std.proofs.lemmas.Option.{same_Some}
 use Rattle.std.proofs.lemmas.Slice.Eq.{bytes_eq-Decides}
 use Rattle.adb_fields.specs.Repeated.{list_of}
@@ -106,12 +106,14 @@ writes_of (Some intent) = intent.writes
 
 pub unstaged_within : (files : Files) (within : List (List ℕ)) → IsWithin within files → (names : List (List ℕ)) × IsWithin names (unstaged_files files)
 unstaged_within files within h =
-    let all = writes_of (intent_of files) ++ within in
-    (all, λ q some.
-    let (bytes, is) = some_bytes (unstaged_files files q) some in
-    unstaged_holds (λ p other. list_any (bytes_eq p) all ≡ true) files
-    (λ i is_read. subst (λ (o : Option Intent). Carries (λ p other. list_any (bytes_eq p) (writes_of o ++ within) ≡ true) i.writes) (sym is_read) (carries_in (i.writes ++ within) i.writes (in_itself i.writes within)))
-    (λ p other is_there. within_more (writes_of (intent_of files)) within p (h p (ap (λ (o : Option (List ℕ)). is_some o) is_there))) q bytes is)
+    let all = writes_of (intent_of files) ++ within in (
+      all,
+      λ q some.
+          let (bytes, is) = some_bytes (unstaged_files files q) some in
+          unstaged_holds (λ p other. list_any (bytes_eq p) all ≡ true) files
+          (λ i is_read. subst (λ (o : Option Intent). Carries (λ p other. list_any (bytes_eq p) (writes_of o ++ within) ≡ true) i.writes) (sym is_read) (carries_in (i.writes ++ within) i.writes (in_itself i.writes within)))
+          (λ p other is_there. within_more (writes_of (intent_of files)) within p (h p (ap (λ (o : Option (List ℕ)). is_some o) is_there))) q bytes is,
+    )
 
 -- ---- names
 
