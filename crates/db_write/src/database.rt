@@ -28,7 +28,10 @@ pub fn write_db(alloc: Global, members: &Members<'_>, owned: &Owned) -> Result<V
     ensures { IsWrittenAs (λ file. file.items) result
         (database_of (members_of members.now) owned.now) }
 {
-    let payload = database_payload(alloc, members, owned.as_slice())?;
+    let payload = match database_payload(alloc, members, owned.as_slice()) {
+        Ok(payload) => payload,
+        Err(fault) => return Err(fault),
+    };
     Ok(file_of(alloc, IDB_WORD, &payload)?)
 }
 

@@ -61,8 +61,11 @@ fn flags_behind_folder<'a, 'f>(
     ensures { result.now ≡ drop (file_count (entry_in (list_value folders.now) i)) flags.entry.now }
 {
     let folder = folder_at(folders, i);
-    let files = folder.files();
-    &flags[files.len()..]
+    let count = folder.files().len();
+    if count > flags.len() {
+        unreachable!();
+    }
+    &flags[count..]
 }
 
 /// The folder at a place, counted from 0.
