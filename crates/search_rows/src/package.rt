@@ -1,7 +1,8 @@
 //! Payloads of indexes, from short texts. Packages stand between `;`, and their parts between
 //! spaces: `NAME=VERSION`, and `N*` before it for N such packages; `d:` and depends, `p:` and
 //! provides, `i:` and install-if, each list with `,` between dependencies; `k:` and the
-//! provider-priority; `h:` and the id, which is the same for all where none stands.
+//! provider-priority; `h:` and the id, which is none behind a bare `h:`, and the same for all where
+//! no `h:` stands.
 use crate::row::number_of;
 use adb_view::Val;
 use adb_write::Writer;
@@ -66,14 +67,15 @@ fn add_packages(
 // The value of a package.
 fn package_value(alloc: Global, writer: &mut Writer, part: &[u8]) -> Result<Val, AllocError> {
     let mut fields = [Val::of(0); 18];
+    if part.is_empty() {
+        return Ok(Val::of(0));
+    }
+    fields[2] = writer.blob(b"01234567890123456789")?;
     for word in part.split(|byte| *byte == b' ') {
         add_field(alloc, writer, &mut fields, word)?;
     }
     if fields[0].is_null() {
         return Ok(Val::of(0));
-    }
-    if fields[2].is_null() {
-        fields[2] = writer.blob(b"01234567890123456789")?;
     }
     writer.obj(&fields)
 }
