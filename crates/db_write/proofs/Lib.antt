@@ -1,0 +1,5 @@
+pub mod Container
+pub mod Listed
+pub mod Marking
+pub mod Segments
+pub mod Unchanged
