@@ -12,8 +12,8 @@ use Rattle.dep_core.specs.Meets.{meets}
 use Rattle.dep_core.specs.ValueReading.{dependency_of_value}
 
 -- a package to choose from: what its index, or the database, says of it, and what is read of that.
--- The version is none only where the text is no version, which no tested container has. Repositories
--- count from 1; an installed package that no index has is of none
+-- The version is none only where the text is no version, which no tested container has.
+-- Repositories count from 1; an installed package that no index has is of none
 pub record Candidate : Type 0 where
   pub info : Plain
   pub name : List ℕ
@@ -47,7 +47,8 @@ abbrev pub dependencies_in : Plain → List Dependency
 dependencies_in value = dependencies_of (entries_in value)
 
 abbrev pub candidate_by :
-    Plain → List ℕ → Option (List ℕ) → List ℕ → List Dependency → List Dependency → List Dependency →
+    Plain → List ℕ → Option (List ℕ) → List ℕ →
+    List Dependency → List Dependency → List Dependency →
     ℕ → Option ℕ → Option (List ℕ) → Bool → Candidate
 candidate_by info name version id depends provides install_if priority repository tag installed =
     record {
