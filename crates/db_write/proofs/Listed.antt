@@ -3,28 +3,18 @@ use Rattle.std.proofs.Common.{◌≡◌, ℕ, suc, zero, ◌+◌, ◌<◌, List,
 use Rattle.std.specs.Prelude.{slice_get}
 use Rattle.adb_view.specs.Plain.{Plain}
 use Rattle.adb_fields.specs.Repeated.{files_in, folders_in, name_of}
-use Rattle.db_core.specs.Members.{Member, listings_by, listings_from, listings_in_folder, listings_in_folders, listings_of}
+use Rattle.db_core.specs.Members.{Member, listings_by, listings_from, listings_in_folder, listings_in_folders, member_listings}
 use Rattle.db_write.specs.NewDatabase.{file_count, member_file_count, total_of}
 
-in_folder : (m : Member) (place folder i : ℕ) (above : List ℕ) (entries : List Plain) → length (listings_in_folder m place folder i above entries) ≡ length entries
+pub in_folder : (m : Member) (place folder i : ℕ) (above : List ℕ) (entries : List Plain) → length (listings_in_folder m place folder i above entries) ≡ length entries
 in_folder m place folder i above [] = refl
 in_folder m place folder i above (e ∷ entries) = ap suc (in_folder m place folder (i + 1) above entries)
 
-in_folders : (m : Member) (place i : ℕ) (folders : List Plain) → length (listings_in_folders m place i folders) ≡ total_of file_count folders
+pub in_folders : (m : Member) (place i : ℕ) (folders : List Plain) → length (listings_in_folders m place i folders) ≡ total_of file_count folders
 in_folders m place i [] = refl
 in_folders m place i (d ∷ folders) =
     length-append (listings_in_folder m place i 1 (name_of d) (files_in d)) (listings_in_folders m place (i + 1) folders)
     ∙ (λ j. in_folder m place i 1 (name_of d) (files_in d) j + in_folders m place (i + 1) folders j)
-
-from_place : (place : ℕ) (members : List Member) → length (listings_from place members) ≡ total_of member_file_count members
-from_place place [] = refl
-from_place place (m ∷ members) =
-    length-append (listings_by place m) (listings_from (place + 1) members)
-    ∙ (λ j. in_folders m place 1 (folders_in m.pkg) j + from_place (place + 1) members j)
-
-pub all_listed : (members : List Member) → length (listings_of members) ≡ total_of member_file_count members
-unfolding listings_of
-all_listed members = from_place 0 members
 
 -- ---- a member by its parts
 

@@ -42,6 +42,11 @@ no_more : (n : ℕ) → drop n no_flags ≡ []
 no_more zero = refl
 no_more (suc n) = refl
 
+pub drop_past : (n : ℕ) (bs : List Bool) → length bs ≤ n → drop n bs ≡ []
+drop_past n [] h = no_more n
+drop_past zero (b ∷ bs) h = absurd (omega arith)
+drop_past (suc n) (b ∷ bs) h = drop_past n bs (omega arith)
+
 drop_twice : (m n : ℕ) (bs : List Bool) → drop n (drop m bs) ≡ drop (m + n) bs
 drop_twice zero n bs = let e : n ≡ zero + n = omega arith in ap (λ k. drop k bs) e
 drop_twice (suc m) n [] = no_more n ∙ sym (no_more (suc m + n))
@@ -61,15 +66,6 @@ module _ {X : Type 0} (count : X → ℕ) (value : X → List Bool → Plain) wh
   left_more [] flags i x e = absurd (no_element i x e)
   left_more (y ∷ ys) flags zero x e = ap (λ z. drop (count z) flags) (same_there y x e)
   left_more (y ∷ ys) flags (suc i) x e = left_more ys (drop (count y) flags) i x e
-
-  pub enough_left : (xs : List X) (flags : List Bool) (i : ℕ) (x : X) → slice_get xs i ≡ Some x → total_of count xs ≤ length flags
-      → count x ≤ length (left_flags count i xs flags)
-  enough_left [] flags i x e h = absurd (no_element i x e)
-  enough_left (y ∷ ys) flags zero x e h =
-      let is : count y ≡ count x = ap count (same_there y x e) in omega (arith, is, h)
-  enough_left (y ∷ ys) flags (suc i) x e h =
-      let short : length (drop (count y) flags) ≡ length flags - count y = length-drop (count y) flags in
-      enough_left ys (drop (count y) flags) i x e (omega (arith, short, h))
 
   pub all_left : (xs : List X) (flags : List Bool) (i : ℕ) → length xs ≤ i → left_flags count i xs flags ≡ drop (total_of count xs) flags
   all_left [] flags zero h = refl
@@ -118,6 +114,3 @@ module _ {X : Type 0} (count : X → ℕ) (value : X → List Bool → Plain) wh
   all_so_far xs flags i left ws us a b h so e =
       subst (λ bs. WritesValues a (each_by_flags count value xs flags) bs b) (sym e)
       (subst (λ ys. WritesValues a (each_by_flags count value ys flags) ws b) (all_elements xs i h) so.written)
-
-  pub enough : (xs : List X) (flags : List Bool) (i : ℕ) (left : List Bool) (x : X) → slice_get xs i ≡ Some x → total_of count xs ≤ length flags → left ≡ left_flags count i xs flags → count x ≤ length left
-  enough xs flags i left x at h is = subst (λ bs. count x ≤ length bs) (sym is) (enough_left xs flags i x at h)

@@ -27,7 +27,6 @@ pub(crate) fn write_packages(
     members: &Members<'_>,
     flags: &[bool],
 ) -> Result<Val, AllocError>
-    requires { total_of member_file_count (members_of members.now) ≤ length flags.now }
     ensures { IfOk result (λ word. WritesValue writer.old
         (arr_value (packages_after (members_of members.now) flags.now)) word writer.new) }
 {
@@ -50,7 +49,6 @@ fn write_package<'a>(
     id: Option<[u8; 32]>,
     flags: &[bool],
 ) -> Result<Val, AllocError>
-    requires { total_of file_count (folders_in (package_value pkg.now)) ≤ length flags.now }
     ensures { IfOk result (λ word. WritesValue writer.old
         (package_after (record { pkg = package_value pkg.now; id = id }) flags.now)
         word writer.new) }

@@ -1,11 +1,7 @@
-use Rattle.std.proofs.Common.{ℕ, Vec, Global, ap, arith, length}
+use Rattle.std.proofs.Common.{ℕ, Vec, Global}
 use Rattle.db_core.specs.Seen.{members_of}
 use Rattle.db_write.proofs.Container.{file_refused, file_written}
-use Rattle.db_write.proofs.Listed.{all_listed}
 use Rattle.db_write.proofs.database.write_db.Goals as goal
-
-pub database_payload-requires : goal.database_payload-requires
-database_payload-requires c = omega (arith, ap length c.as_slice.ensures, c.requires, all_listed (members_of c.args.members.now))
 
 pub returns : goal.returns
 returns c = file_written (members_of c.args.members.now) c.args.owned.now c.as_slice.result.now _ _ _ c.as_slice.ensures c.in-Ok.ensures.written c.deref.ensures.value c.in_ok-file_of.ensures

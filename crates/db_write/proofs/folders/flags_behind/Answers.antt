@@ -4,14 +4,8 @@ use Rattle.adb_fields.specs.Repeated.{list_of}
 use Rattle.adb_tables.specs.Values.{entries_in, nth}
 use Rattle.db_core.proofs.Places.{count_listed, nth_listed}
 use Rattle.db_write.specs.NewDatabase.{file_count, folder_after}
-use Rattle.db_write.proofs.Segments.{all_left, enough, left_next}
+use Rattle.db_write.proofs.Segments.{all_left, left_next}
 use Rattle.db_write.proofs.folders.flags_behind.Goals as goal
-
-pub flags_behind_folder-left-requires-clause-enough : goal.flags_behind_folder-left-requires-clause-enough
-flags_behind_folder-left-requires-clause-enough c =
-    let vs = entries_in (list_value c.args.folders.now) in
-    enough file_count folder_after (list_of vs) c.args.flags.now c.loop-i.i c.loop-i.left.now (nth vs c.loop-i.i)
-    (nth_listed vs c.loop-i.i (omega (arith, c.len-i-end.ensures.value, c.loop-i-test.true))) c.requires c.loop-i.invariant
 
 pub loop-i-preserved : goal.loop-i-preserved
 loop-i-preserved c =

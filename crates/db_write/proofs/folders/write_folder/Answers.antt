@@ -1,19 +1,12 @@
-use Rattle.std.proofs.Common.{◌≡◌, ap, sym, arith, ◌∙◌}
+use Rattle.std.proofs.Common.{ap, sym, ◌∙◌}
 use Rattle.adb_view.specs.Plain.{none, more, blob_value, arr_value, obj_value}
 use Rattle.adb_fields.specs.ListValue.{list_value}
 use Rattle.adb_fields.specs.Repeated.{list_of, name_of}
-use Rattle.adb_tables.specs.Values.{count_of, entries_in, entry_in}
+use Rattle.adb_tables.specs.Values.{entries_in, entry_in}
 use Rattle.adb_copy.specs.Zeros.{without_zeros}
 use Rattle.adb_copy.proofs.Lists.{if_ok, zeros_entry}
-use Rattle.db_core.proofs.Places.{count_listed}
-use Rattle.db_write.specs.NewDatabase.{file_count, folder_after, owned_entries}
+use Rattle.db_write.specs.NewDatabase.{folder_after, owned_entries}
 use Rattle.db_write.proofs.folders.write_folder.Goals as goal
-
-pub write_files-requires : goal.write_files-requires
-write_files-requires c =
-    let n : count_of (entries_in (list_value c.files.result)) ≡ file_count (entry_in (list_value c.args.folders.now) c.args.i) =
-    ap (λ v. count_of (entries_in v)) c.files.ensures ∙ (count_listed _ ∙ ap file_count c.folder_at-folder.ensures) in
-    omega (arith, n, c.requires.enough)
 
 pub returns : goal.returns
 returns c =

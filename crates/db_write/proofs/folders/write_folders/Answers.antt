@@ -5,20 +5,8 @@ use Rattle.adb_tables.specs.Values.{entries_in, nth}
 use Rattle.adb_copy.proofs.Lists.{if_ok}
 use Rattle.db_core.proofs.Places.{count_listed, nth_listed}
 use Rattle.db_write.specs.NewDatabase.{file_count, folder_after}
-use Rattle.db_write.proofs.Segments.{all_so_far, enough, one_more}
+use Rattle.db_write.proofs.Segments.{all_so_far, one_more}
 use Rattle.db_write.proofs.folders.write_folders.Goals as goal
-
-pub write_folder-requires-clause-enough : goal.write_folder-requires-clause-enough
-write_folder-requires-clause-enough c =
-    let vs = entries_in (list_value c.args.folders.now) in
-    enough file_count folder_after (list_of vs) c.args.flags.now c.loop-i.i c.loop-i.left.now (nth vs c.loop-i.i)
-    (nth_listed vs c.loop-i.i (omega (arith, c.len-i-end.ensures.value, c.loop-i-test.true))) c.requires c.loop-i.invariant.left_is
-
-pub flags_behind_folder-left-requires-clause-enough : goal.flags_behind_folder-left-requires-clause-enough
-flags_behind_folder-left-requires-clause-enough c =
-    let vs = entries_in (list_value c.args.folders.now) in
-    enough file_count folder_after (list_of vs) c.args.flags.now c.loop-i.i c.loop-i.left.now (nth vs c.loop-i.i)
-    (nth_listed vs c.loop-i.i (omega (arith, c.len-i-end.ensures.value, c.loop-i-test.true))) c.requires c.loop-i.invariant.left_is
 
 pub loop-i-preserved : goal.loop-i-preserved
 loop-i-preserved c =

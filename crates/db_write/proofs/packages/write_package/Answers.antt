@@ -1,4 +1,4 @@
-use Rattle.std.proofs.Common.{◌≡◌, sym, ◌∙◌}
+use Rattle.std.proofs.Common.{sym}
 use Rattle.adb_view.specs.Plain.{none, more, arr_value, obj_value}
 use Rattle.adb_fields.specs.Repeated.{list_of}
 use Rattle.adb_schema.specs.Views.{package_value}

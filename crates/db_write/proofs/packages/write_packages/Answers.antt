@@ -1,4 +1,4 @@
-use Rattle.std.proofs.Common.{◌≡◌, ◌≤◌, arith, ap, sym, subst, length, drop, ◌∙◌}
+use Rattle.std.proofs.Common.{arith, ap, drop, ◌∙◌}
 use Rattle.adb_fields.specs.Repeated.{list_of}
 use Rattle.adb_schema.specs.Views.{package_value}
 use Rattle.adb_tables.specs.Values.{entries_in}
@@ -6,21 +6,8 @@ use Rattle.db_core.specs.Members.{Member}
 use Rattle.db_core.specs.Seen.{members_of}
 use Rattle.db_write.specs.NewDatabase.{file_count, member_file_count, package_after, total_of}
 use Rattle.db_write.proofs.Listed.{member_there}
-use Rattle.db_write.proofs.Segments.{enough, one_more}
+use Rattle.db_write.proofs.Segments.{one_more}
 use Rattle.db_write.proofs.packages.write_packages.Goals as goal
-
-pub write_package-requires : goal.write_package-requires
-write_package-requires c =
-    let m : Member = record { pkg = package_value c.view-pkg.result.now; id = c.id.result } in
-    let at = member_there (members_of c.args.members.now) c.loop-i.i (package_value c.view-pkg.result.now) c.id.result (omega (arith, c.len-i-end.ensures, c.loop-i-test.true)) c.view-pkg.ensures c.id.ensures in
-    enough member_file_count package_after (members_of c.args.members.now) c.args.flags.now c.loop-i.i c.loop-i.left.now m at c.requires c.loop-i.invariant.left_is
-
-pub flags_behind-left-requires : goal.flags_behind-left-requires
-flags_behind-left-requires c =
-    let m : Member = record { pkg = package_value c.view-pkg.result.now; id = c.id.result } in
-    let at = member_there (members_of c.args.members.now) c.loop-i.i (package_value c.view-pkg.result.now) c.id.result (omega (arith, c.len-i-end.ensures, c.loop-i-test.true)) c.view-pkg.ensures c.id.ensures in
-    subst (λ v. total_of file_count (list_of (entries_in v)) ≤ length c.loop-i.left.now) (sym c.paths.ensures)
-    (enough member_file_count package_after (members_of c.args.members.now) c.args.flags.now c.loop-i.i c.loop-i.left.now m at c.requires c.loop-i.invariant.left_is)
 
 pub loop-i-preserved : goal.loop-i-preserved
 loop-i-preserved c =

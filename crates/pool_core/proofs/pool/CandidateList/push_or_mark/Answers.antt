@@ -5,7 +5,7 @@ use Rattle.pool_core.specs.Values.{IsPoolFault}
 use Rattle.pool_core.specs.declared.pool.PoolFault.{PoolFault}
 use Rattle.pool_core.proofs.Installed.{none_same, stands_last}
 use Rattle.pool_core.proofs.Steps.{fault_more, if_err, on_ok}
-use Rattle.pool_core.proofs.pool.Listing.push_or_mark.Goals as goal
+use Rattle.pool_core.proofs.pool.CandidateList.push_or_mark.Goals as goal
 
 pub returns-clause-pushed : goal.returns-clause-pushed
 returns-clause-pushed c =

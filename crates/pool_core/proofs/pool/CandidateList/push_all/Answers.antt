@@ -7,13 +7,13 @@ use Rattle.adb_tables.specs.Values.{count_of, entries_in}
 use Rattle.pool_core.specs.Candidates.{Candidate}
 use Rattle.pool_core.proofs.CandidateLists.{all_candidates, candidates_step, candidates_to, length-candidates_to}
 use Rattle.pool_core.proofs.Steps.{fault_more}
-use Rattle.pool_core.proofs.pool.Listing.push_all.Goals as goal
+use Rattle.pool_core.proofs.pool.CandidateList.push_all.Goals as goal
 
 pub loop-i-preserved : goal.loop-i-preserved
 loop-i-preserved c =
     let infos : Plains = entries_in (list_value c.args.packages) in
     let here : c.loop-i.i < count_of infos = omega arith in (
-      c.in-Ok.ensures.listing,
+      c.in-Ok.ensures.list,
       candidates_step c.args.repo (option_copied c.args.tag) c.loop-i.i infos (info_value c.get.result) c.in_ok-details.details
           c.args.self.now.details.items c.loop-i.self.details.items c.push.new.self.details.items
           here c.get.ensures c.in_ok-details.ensures c.loop-i.invariant.1 c.in-Ok.ensures.pushed,

@@ -1,20 +1,20 @@
 -- The list of candidates in the making.
 use Rattle.std.specs.Prelude.{◌≤◌, ℕ, zero, suc, Bool, false, if◌then◌else◌, List, [], ◌∷◌, length, Option, Some, None, slice_get}
 use Rattle.std.specs.Option.{option_map_or}
-use Rattle.pool_core.specs.declared.pool.Listing.{Listing}
+use Rattle.pool_core.specs.declared.pool.CandidateList.{CandidateList}
 use Rattle.pool_core.specs.declared.pool.TheConstants.{MOST_CANDIDATES}
 use Rattle.pool_core.specs.Candidates.{Candidate, as_installed, is_same_package}
 use Rattle.pool_core.specs.Table.{LeadsToOffers}
 
 -- the table leads each name to the candidates that offer it, and they are not too many
-pub record IsPoolListing (listing : Listing) : Type 0 where
-  pub leads : LeadsToOffers listing.table listing.details.items
-  pub fits : length listing.details.items ≤ MOST_CANDIDATES
+pub record IsCandidateList (list : CandidateList) : Type 0 where
+  pub leads : LeadsToOffers list.table list.details.items
+  pub fits : length list.details.items ≤ MOST_CANDIDATES
 
--- after a refusal there is no listing
-abbrev pub candidates_in : Option Listing → List Candidate
+-- after a refusal there is no list
+abbrev pub candidates_in : Option CandidateList → List Candidate
 candidates_in None = []
-candidates_in (Some listing) = listing.details.items
+candidates_in (Some list) = list.details.items
 
 -- whether the candidate at a place is the installed package
 abbrev pub is_same_at : Candidate → List Candidate → ℕ → Bool

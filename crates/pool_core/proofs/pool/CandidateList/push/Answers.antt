@@ -2,10 +2,10 @@ use Rattle.std.proofs.Common.{◌≡◌, ◌∙◌, ◌+◌, ◌++◌, ◌∷◌
 use Rattle.pool_core.specs.Candidates.{Candidate, offers_name}
 use Rattle.pool_core.specs.Table.{LeadsToOffers, ids_of, with_last_where}
 use Rattle.pool_core.proofs.TableAdding.{leads_on}
-use Rattle.pool_core.proofs.pool.Listing.push.Goals as goal
+use Rattle.pool_core.proofs.pool.CandidateList.push.Goals as goal
 
-pub returns-clause-listing : goal.returns-clause-listing
-returns-clause-listing c =
+pub returns-clause-list : goal.returns-clause-list
+returns-clause-list c =
     let old : List Candidate = c.args.self.now.details.items in
     let d : Candidate = c.args.details in
     let pushed : c.append.new.details.items ≡ old ++ d ∷ [] = c.in_ok-append.ensures in

@@ -5,12 +5,12 @@ use Rattle.pool_core.specs.Candidates.{Candidate, is_eligible}
 use Rattle.pool_core.specs.Rank.{is_pinned}
 use Rattle.pool_core.specs.World.{places_marked}
 use Rattle.pool_core.proofs.Sealing.{eligible_marked, pinned_marked, install_ifs_marked}
-use Rattle.pool_core.proofs.sealed.seal_listing.Goals as goal
+use Rattle.pool_core.proofs.sealed.seal_list.Goals as goal
 
 pub invariant_of-result : goal.invariant_of-result
 invariant_of-result c =
     let world : List Dependency = c.args.world.now in
-    let cs : List Candidate = c.args.listing.details.items in
+    let cs : List Candidate = c.args.list.details.items in
     let marks : List Bool = c.in_ok-eligible.eligible.items in
     let eligible : marks ≡ map (is_eligible world) cs =
     eligible_marked world (map dependency c.deref-2.result.now) (map dependency c.deref-3.result.now) marks c.deref.result.now
