@@ -1,12 +1,12 @@
 //! A block: its kind, its header as it is read and written, its framing, and how far the next one
 //! is.
 
-ghost use Rattle.std.specs.Prelude.{◌≡◌, ◌≤◌, ◌<◌, ◌+◌, IfOk, IfErr, IfSome, length, ◌-◌, ◌^◌};
+ghost use Rattle.std.specs.Prelude.{◌≡◌, ◌≤◌, ◌<◌, ◌+◌, ◌-◌, ◌^◌, ◌⊎◌, ℕ, List, Option, None, true, IfOk, IfSome, IsSome, length, take};
 ghost use Rattle.std.specs.Option.{option_map};
 ghost use Rattle.adb_block.specs.Container.{IsHead};
 ghost use Rattle.adb_block.specs.Piece.{comes_after, least_payload, padding_of, kind_number};
-ghost use Rattle.adb_block.specs.Framing.{head_of, kind_of_number, step_by_order, next_step, failed, block};
-ghost use Rattle.adb_block.specs.Frames.{fields_of, piece_in, IsFramed};
+ghost use Rattle.adb_block.specs.Framing.{HeadFields, head_of, kind_of_number, step_by_order, next_step};
+ghost use Rattle.adb_block.specs.Frames.{HoldsHead, IsFramed, IsFramedBy, IsReadBlock, fields_of, head_len, raw_size};
 ghost use Rattle.adb_block.specs.Written.{head_bytes};
 ghost use Rattle.adb_block.specs.Header.{word_at, long_at};
 
@@ -42,9 +42,18 @@ struct BlockHead {
     raw: u64,
 }
 
+/// A block that passed the tests of its framing: its kind, and how many bytes its header and its
+/// payload have. The payload need not be held.
+#[derive(Clone, Copy)]
+pub struct Frame {
+    pub kind: BlockKind,
+    pub head_len: u64,
+    pub payload_len: u64,
+}
+
 /// A block that passed its tests, and how many bytes it takes with its padding.
 #[derive(Clone, Copy)]
-pub(crate) struct Frame<'a> {
+pub(crate) struct ReadBlock<'a> {
     pub kind: BlockKind,
     pub payload: &'a [u8],
     pub size: usize,
@@ -52,33 +61,87 @@ pub(crate) struct Frame<'a> {
 
 /// The block at an offset, from which on these bytes stand, behind a block of the kind `last`; None
 /// at the end.
-#[tactic(auto, unfolding(crate::specs::Framing::next_step))]
-pub(crate) fn frame_at(
+#[tactic(auto, using(crate::proofs::Heads::begins_whole))]
+pub(crate) fn block_at(
     last: Option<BlockKind>,
     at: u64,
     bytes: &[u8],
-) -> Result<Option<Frame<'_>>, Cause>
-    ensures fits { IfOk result (λ found. IfSome found (λ frame.
-        (0 < length bytes.now) × (frame.size ≤ length bytes.now + 7))) }
-    ensures exact { IsFramed result (next_step last at bytes.now) }
+) -> Result<Option<ReadBlock<'_>>, Cause>
+    ensures fits { IfOk result (λ found. IfSome found (λ block.
+        (0 < length bytes.now) × (block.size ≤ length bytes.now + 7))) }
+    ensures exact { IsReadBlock result (next_step last at bytes.now) }
 {
-    if bytes.is_empty() {
+    match frame_of(last, at, bytes, bytes.len() as u64) {
+        Err(cause) => Err(cause),
+        Ok(None) => Ok(None),
+        Ok(Some(frame)) => {
+            let start = frame.head_len as usize;
+            let raw = start + frame.payload_len as usize;
+            Ok(Some(ReadBlock {
+                kind: frame.kind,
+                payload: &bytes[start..raw],
+                size: raw + padding_of(raw),
+            }))
+        }
+    }
+}
+
+/// How many bytes the header of a block takes that begins with these: 16 where the first four say
+/// so, else 4 (apk-v3(5)).
+pub fn head_len(bytes: &[u8]) -> u64
+    ensures value { result ≡ head_len bytes.now }
+    ensures either { (result ≡ 4) ⊎ (result ≡ 16) }
+{
+    if bytes.len() < 4 {
+        return 4;
+    }
+    if word_at(bytes, 0) >> 30 == 3 { 16 } else { 4 }
+}
+
+/// Frames the block at an offset, behind a block of the kind `last`, by its header: from there on
+/// `left` bytes of the file are left, and `head` is the first of them, as many as the header takes
+/// (`head_len`) where all of it is there. None comes at the end.
+///
+/// # Errors
+///
+/// The first failed test, as `Blocks::next` tells it.
+#[tactic(auto, unfolding(crate::specs::Framing::next_step), using(crate::proofs::Heads::same_head, crate::proofs::Heads::framed_step))]
+pub fn frame_of(
+    last: Option<BlockKind>,
+    at: u64,
+    head: &[u8],
+    left: u64,
+) -> Result<Option<Frame>, Cause>
+    requires { HoldsHead head.now left }
+    // What is left may be any bytes that begin so.
+    ensures exact { (bytes : List ℕ) → length bytes ≡ left → take (length head.now) bytes ≡ head.now
+        → IsFramed result bytes (next_step last at bytes) }
+    ensures first { last ≡ None → IfOk result (λ found. IsSome found) }
+    ensures order { IfOk result (λ found. IfSome found (λ frame.
+        comes_after last frame.kind ≡ true)) }
+    ensures len { IfOk result (λ found. IfSome found (λ frame.
+        frame.head_len ≡ head_len head.now)) }
+    ensures fits { IfOk result (λ found. IfSome found (λ frame.
+        (0 < left) × (raw_size frame ≤ left))) }
+{
+    if left == 0 {
         return match last {
             None => Err(Cause::Truncated { at }),
             Some(_) => Ok(None),
         };
     }
-    let Some(head) = read_head(bytes) else {
+    let Some(fields) = read_head(head) else {
         return Err(Cause::Truncated { at });
     };
-    let frame = frame_of(last, at, bytes, head)?;
+    let frame = frame_by_head(last, at, left, fields)?;
     Ok(Some(frame))
 }
 
 /// The header that the bytes begin with, or None where it is not whole.
 #[tactic(auto, unfolding(crate::specs::Framing::head_of))]
 fn read_head(bytes: &[u8]) -> Option<BlockHead>
-    ensures { option_map fields_of result ≡ head_of bytes.now }
+    ensures exact { option_map fields_of result ≡ head_of bytes.now }
+    ensures len { IfSome result (λ head. head.len ≡ head_len bytes.now) }
 {
     if bytes.len() < 4 {
         return None;
@@ -102,19 +165,17 @@ fn read_head(bytes: &[u8]) -> Option<BlockHead>
 }
 
 /// The block that begins with this header, if it passes the tests.
-fn frame_of(
+fn frame_by_head(
     last: Option<BlockKind>,
     at: u64,
-    bytes: &[u8],
+    left: u64,
     head: BlockHead,
-) -> Result<Frame<'_>, Cause>
-    ensures fits { IfOk result (λ frame. frame.size ≤ length bytes.now + 7) }
-    ensures exact { IfOk result (λ frame.
-        step_by_order last at bytes.now (fields_of head) (kind_of_number head.kind)
-        ≡ block (piece_in frame) frame.size) }
-    ensures cause { IfErr result (λ cause.
-        step_by_order last at bytes.now (fields_of head) (kind_of_number head.kind)
-        ≡ failed cause) }
+) -> Result<Frame, Cause>
+    ensures exact { (bytes : List ℕ) → length bytes ≡ left → IsFramedBy result bytes
+        (step_by_order last at bytes (fields_of head) (kind_of_number head.kind)) }
+    ensures order { IfOk result (λ frame. comes_after last frame.kind ≡ true) }
+    ensures len { IfOk result (λ frame. frame.head_len ≡ head.len) }
+    ensures fits { IfOk result (λ frame. raw_size frame ≤ left) }
 {
     let Some(kind) = kind_of_number(head.kind) else {
         return Err(Cause::BlockOrder { at });
@@ -122,17 +183,16 @@ fn frame_of(
     if !comes_after(last, kind) {
         return Err(Cause::BlockOrder { at });
     }
-    if head.raw < head.len || head.raw > bytes.len() as u64 {
+    if head.raw < head.len || head.raw > left {
         return Err(Cause::Truncated { at });
     }
     if head.raw - head.len < least_payload(kind) {
         return Err(Cause::Truncated { at });
     }
-    let raw = head.raw as usize;
     Ok(Frame {
         kind,
-        payload: &bytes[head.len as usize..raw],
-        size: raw + padding_of(raw),
+        head_len: head.len,
+        payload_len: head.raw - head.len,
     })
 }
 

@@ -7,7 +7,7 @@ ghost use Rattle.adb_block.specs.Reader.{next_offset};
 ghost use Rattle.adb_block.specs.Reading.{reading_of};
 ghost use Rattle.adb_block.specs.AllBlocks.{blocks_of, rest_of};
 
-use crate::block::{Block, BlockKind, frame_at, word_at};
+use crate::block::{Block, BlockKind, block_at, word_at};
 use base_core::Cause;
 use std::marker::Model;
 
@@ -89,7 +89,7 @@ impl<'a> Blocks<'a> {
     {
         let at = self.at as u64;
         let left = left_from(self.bytes, self.at);
-        match frame_at(self.last, at, left) {
+        match block_at(self.last, at, left) {
             Err(cause) => Err(cause),
             Ok(None) => Ok(None),
             Ok(Some(frame)) => {

@@ -1,6 +1,7 @@
 -- A command is run, and its outcome carried out.
-use Rattle.std.proofs.Common.{◌≡◌, ℕ, Bool, true, false, List, [], ◌∷◌, Option, Some, None, IsSome, Result, Ok, Err, refl, sym, ap, subst, ◌∙◌}
-use Rattle.std.specs.Prelude.{if◌then◌else◌, IfOk, IsErrOf, IsTrue, OnOk}
+use Rattle.std.proofs.Common.{◌≡◌, inl, inr, ℕ, Bool, true, false, List, [], ◌∷◌, Option, Some, None, IsSome, Result, Ok, Err, refl, sym, ap, subst, ◌∙◌}
+use Rattle.std.specs.Prelude.{if◌then◌else◌, is_some, IfOk, IsErrOf, IsTrue, OnOk}
+use Rattle.std.proofs.lemmas.List.Elements.{All-nil}
 use Rattle.base_core.specs.Calls.{HasNow, IfObservable}
 use Rattle.base_core.specs.Crash.{IsOrderly, Since}
 use Rattle.base_core.specs.Faults.{Counts, IsNoFault}
@@ -11,8 +12,8 @@ use Rattle.base_core.specs.Tree.{TreeState, files_of}
 use Rattle.base_core.specs.declared.cause.Cause.{Cause}
 use Rattle.base_core.specs.declared.tree.TreeFault.{TreeFault}
 use Rattle.base_core.specs.declared.tree.TreeFault.TheVariants.{Disk, Memory as NoMemory}
+use Rattle.journal_core.specs.Quiet.{IsStill}
 use Rattle.journal_core.specs.Recovery.{IsSettled, RestsOn}
-use Rattle.journal_core.specs.Replacing.{IsReplacing}
 use Rattle.make_info.specs.Output.{output_name}
 use Rattle.make_package.specs.Sources.{AreNamesFor, values_with}
 use Rattle.command_core.specs.declared.values.TheConstants.{FILES}
@@ -37,45 +38,49 @@ use Rattle.command_core.specs.declared.command.Applet.{Applet}
 use Rattle.command_core.specs.declared.command.Applet.TheVariants.{Adbdump, Mkndx, Mkpkg, Verify, Version}
 use Rattle.command_core.specs.declared.operands.Operand.{Operand}
 use Rattle.apk_front.specs.Answers.{answer_by}
-use Rattle.apk_front.specs.Moments.{HasRoomFor, HidesScratchOf, IsReadApart, IsCarriedOut, IsLeftUndone}
+use Rattle.apk_front.specs.Moments.{AreSafe, CommitsNothing, HasRoomFor, HidesScratchOf, IsReadApart, IsLeftUndone, LeavesLasting, Settles}
 use Rattle.apk_front.specs.Runs.{IsRun}
 use Rattle.apk_front.specs.Containers.{IsIndexOutcome, IsPackageOutcome}
-use Rattle.apk_front.specs.Verdicts.{IsShown, Reports, ReportsOne, as_outcome}
+use Rattle.apk_front.specs.Verdicts.{IsPrinted, IsShown, Reports, ReportsOne, as_outcome}
 use Rattle.apk_front.specs.declared.answer.Answer.{Answer}
 use Rattle.apk_front.specs.declared.answer.Answer.TheVariants.{Ok as Done, Refused, TreeFault as TreeFailed, OutFault, Memory}
 use Rattle.apk_front.specs.declared.answer.Verdict.{Verdict}
-use Rattle.apk_front.proofs.Judged.{Runs, no_listing, no_listing_by_some}
+use Rattle.apk_front.proofs.Judged.{Runs, found_at, no_listing, no_listing_by_some}
 use Rattle.apk_front.proofs.Runs.{History, Judged, run_among, failed_at, idle_at, refused_at}
 
 -- ---- an applet that only reads
 
-unless_files : (files : Files) (refusal : Option Refusal) (report : List ℕ) → (report_unless files refusal report).files ≡ files
-unless_files files None report = refl
-unless_files files (Some refusal) report = refl
+-- the files are as they were, and nothing is committed
+abbrev Leaves : Files → Outcome → Type 0
+Leaves files o = (o.files ≡ files) × (o.commits ≡ false)
 
-text_files : (files : Files) (place : ℕ) (text : Result (List ℕ) Cause) → (text_outcome files place text).files ≡ files
-text_files files place (Ok text) = refl
-text_files files place (Err cause) = refl
+unless_leaves : (files : Files) (refusal : Option Refusal) (report : List ℕ) → Leaves files (report_unless files refusal report)
+unless_leaves files None report = (refl, refl)
+unless_leaves files (Some refusal) report = (refl, refl)
 
-found_files : (files : Files) (place : ℕ) (found : Option (List ℕ)) → (dump_outcome files place found).files ≡ files
-found_files files place None = refl
-found_files files place (Some bytes) = text_files files place (dump_of bytes)
+text_leaves : (files : Files) (place : ℕ) (text : Result (List ℕ) Cause) → Leaves files (text_outcome files place text)
+text_leaves files place (Ok text) = (refl, refl)
+text_leaves files place (Err cause) = (refl, refl)
 
-dump_files : (files : Files) (os : List Operand) → (adbdump (reads_in files) files os).files ≡ files
-dump_files files [] = refl
-dump_files files (o ∷ os) = found_files files o.place (files (without_dot o.text))
+found_leaves : (files : Files) (place : ℕ) (found : Option (List ℕ)) → Leaves files (dump_outcome files place found)
+found_leaves files place None = (refl, refl)
+found_leaves files place (Some bytes) = text_leaves files place (dump_of bytes)
 
-left_files : (applet : Applet) (command : CommandLine) (names : List (List ℕ)) (files : Files) → does_only_read (effect_of applet) ≡ true → (applet_outcome applet command names (reads_in files) files).files ≡ files
-left_files Verify command names files reads = unless_files files (verify_refusal (reads_in files) 0 command.operands) (sound_lines command.operands)
-left_files Version command names files reads =
-    elim command.flags.test as (λ b. (if b then report_unless files (version_refusal command.operands) (order_report command.operands) else outcome_of (version_refusal command.operands) (invalid_lines command.operands) files).files ≡ files) [
-      | true ↦ unless_files files (version_refusal command.operands) (order_report command.operands)
-      | false ↦ refl
+dump_leaves : (files : Files) (os : List Operand) → Leaves files (adbdump (reads_in files) files os)
+dump_leaves files [] = (refl, refl)
+dump_leaves files (o ∷ os) = found_leaves files o.place (files (without_dot o.text))
+
+look_leaves : (applet : Applet) (command : CommandLine) (names : List (List ℕ)) (files : Files) → does_only_read (effect_of applet) ≡ true → Leaves files (applet_outcome applet command names (reads_in files) files)
+look_leaves Verify command names files reads = unless_leaves files (verify_refusal (reads_in files) 0 command.operands) (sound_lines command.operands)
+look_leaves Version command names files reads =
+    elim command.flags.test as (λ b. Leaves files (if b then report_unless files (version_refusal command.operands) (order_report command.operands) else outcome_of (version_refusal command.operands) (invalid_lines command.operands) files)) [
+      | true ↦ unless_leaves files (version_refusal command.operands) (order_report command.operands)
+      | false ↦ (refl, refl)
     ]
-left_files Adbdump command names files reads = dump_files files command.operands
-left_files Mkpkg command names files reads = cc
-left_files Mkndx command names files reads = cc
-left_files other command names files reads = refl
+look_leaves Adbdump command names files reads = dump_leaves files command.operands
+look_leaves Mkpkg command names files reads = cc
+look_leaves Mkndx command names files reads = cc
+look_leaves other command names files reads = (refl, refl)
 
 abbrev pub Ones : CommandLine → TreeState → Outcome → Type 0
 Ones command v = IsOutcomeOf (Ok command) (files_of v)
@@ -95,10 +100,10 @@ always P (Ok verdict) p = p
 always P (Err e) p = tt
 
 pub look_run : (command : CommandLine) (old now : History) (judged : Judged) → does_only_read (effect_of command.applet) ≡ true → now ≡ old
-    → IfObservable old (λ v. IsRun (Ones command v) (does_only_read (effect_of command.applet)) (output_if (effect_of command.applet) command) judged v old now)
+    → IfObservable old (λ v. IsRun (Ones command v) (output_if (effect_of command.applet) command) judged v old now)
 look_run command old now judged reads same =
-    idle_at (Ones command) (does_only_read (effect_of command.applet)) (output_if (effect_of command.applet) command) judged old now same
-    (λ v o one none. always ((o.files ≡ files_of v) × (does_only_read (effect_of command.applet) ≡ true)) judged (ap (λ (x : Outcome). x.files) one.2 ∙ left_files command.applet command one.0 (files_of v) reads, reads))
+    idle_at (Ones command) (output_if (effect_of command.applet) command) judged old now same
+    (λ v o one none. always (Leaves (files_of v) o) judged (subst (Leaves (files_of v)) (sym one.2) (look_leaves command.applet command one.0 (files_of v) reads)))
 
 -- ---- an applet that makes
 
@@ -143,22 +148,22 @@ index_read_one command (Err e) same found = tt
 index_read_one command (Ok verdict) same (read, files, reports) =
     (mkndx read no_names command, ([], subst (λ (a : Applet). MayBeListedFor a command []) same refl, read, ap (λ (a : Applet). applet_outcome a command [] read no_names) same), reports)
 
-runs_among : (A B : TreeState → Outcome → Type 0) (reads : Bool) (out : Option (List ℕ)) (judged : Judged) (old now : History) → ((v : TreeState) (o : Outcome) → B v o → A v o) → IfObservable old (λ v. IsRun (A v) reads out judged v old now)
-    → IfObservable old (λ v. IsRun (B v) reads out judged v old now)
-runs_among A B reads out judged [] now f run = tt
-runs_among A B reads out judged (v ∷ rest) now f run = run_among (A v) (B v) reads out judged v (v ∷ rest) now (f v) run
+runs_among : (A B : TreeState → Outcome → Type 0) (out : Option (List ℕ)) (judged : Judged) (old now : History) → ((v : TreeState) (o : Outcome) → A v o → B v o) → ((v : TreeState) (o : Outcome) → B v o → A v o)
+    → IfObservable old (λ v. IsRun (A v) out judged v old now) → IfObservable old (λ v. IsRun (B v) out judged v old now)
+runs_among A B out judged [] now into from run = tt
+runs_among A B out judged (v ∷ rest) now into from run = run_among (A v) (B v) out judged v (v ∷ rest) now (into v) (from v) run
 
-pub package_run : (command : CommandLine) (judged : Judged) (old now : History) → Mkpkg ≡ command.applet → IfObservable old (λ v. IsRun (IsPackageOutcome command (files_of v)) false (output_name command) judged v old now)
-    → IfObservable old (λ v. IsRun (Ones command v) (does_only_read (effect_of command.applet)) (output_if (effect_of command.applet) command) judged v old now)
+pub package_run : (command : CommandLine) (judged : Judged) (old now : History) → Mkpkg ≡ command.applet → IfObservable old (λ v. IsRun (IsPackageOutcome command (files_of v)) (output_name command) judged v old now)
+    → IfObservable old (λ v. IsRun (Ones command v) (output_if (effect_of command.applet) command) judged v old now)
 package_run command judged old now same run =
-    subst (λ (a : Applet). IfObservable old (λ v. IsRun (Ones command v) (does_only_read (effect_of a)) (output_if (effect_of a) command) judged v old now)) same
-    (runs_among (λ v. IsPackageOutcome command (files_of v)) (Ones command) false (output_name command) judged old now (λ v o one. one_package command (files_of v) o same one) run)
+    subst (λ (a : Applet). IfObservable old (λ v. IsRun (Ones command v) (output_if (effect_of a) command) judged v old now)) same
+    (runs_among (λ v. IsPackageOutcome command (files_of v)) (Ones command) (output_name command) judged old now (λ v o one. package_one command (files_of v) o same one) (λ v o one. one_package command (files_of v) o same one) run)
 
-pub index_run : (command : CommandLine) (judged : Judged) (old now : History) → Mkndx ≡ command.applet → IfObservable old (λ v. IsRun (IsIndexOutcome command (files_of v)) false (output_name command) judged v old now)
-    → IfObservable old (λ v. IsRun (Ones command v) (does_only_read (effect_of command.applet)) (output_if (effect_of command.applet) command) judged v old now)
+pub index_run : (command : CommandLine) (judged : Judged) (old now : History) → Mkndx ≡ command.applet → IfObservable old (λ v. IsRun (IsIndexOutcome command (files_of v)) (output_name command) judged v old now)
+    → IfObservable old (λ v. IsRun (Ones command v) (output_if (effect_of command.applet) command) judged v old now)
 index_run command judged old now same run =
-    subst (λ (a : Applet). IfObservable old (λ v. IsRun (Ones command v) (does_only_read (effect_of a)) (output_if (effect_of a) command) judged v old now)) same
-    (runs_among (λ v. IsIndexOutcome command (files_of v)) (Ones command) false (output_name command) judged old now (λ v o one. one_index command (files_of v) o same one) run)
+    subst (λ (a : Applet). IfObservable old (λ v. IsRun (Ones command v) (output_if (effect_of a) command) judged v old now)) same
+    (runs_among (λ v. IsIndexOutcome command (files_of v)) (Ones command) (output_name command) judged old now (λ v o one. index_one command (files_of v) o same one) (λ v o one. one_index command (files_of v) o same one) run)
 
 -- room for each of some outcomes
 abbrev pub RoomFor : (Outcome → Type 0) → Option (List ℕ) → Files → Type 0
@@ -187,8 +192,8 @@ pub by_command : (words : List (List ℕ)) (command : CommandLine) (old : Histor
 by_command words command old judged is found = subst (λ (r : Result CommandLine ℕ). IfOk judged (λ verdict. IfObservable old (λ v. ReportsOne (IsOutcomeOf r (files_of v)) verdict))) (sym is) found
 
 pub run_by_command : (words : List (List ℕ)) (command : CommandLine) (judged : Judged) (old now : History) → command_of words ≡ Ok command
-    → IfObservable old (λ v. IsRun (Ones command v) (does_only_read (effect_of command.applet)) (output_if (effect_of command.applet) command) judged v old now) → Runs words judged old now
-run_by_command words command judged old now is run = subst (λ (r : Result CommandLine ℕ). IfObservable old (λ v. IsRun (IsOutcomeOf r (files_of v)) (reads_only r) (output_by r) judged v old now)) (sym is) run
+    → IfObservable old (λ v. IsRun (Ones command v) (output_if (effect_of command.applet) command) judged v old now) → Runs words judged old now
+run_by_command words command judged old now is run = subst (λ (r : Result CommandLine ℕ). IfObservable old (λ v. IsRun (IsOutcomeOf r (files_of v)) (output_by r) judged v old now)) (sym is) run
 
 pub proper_by_command : (words : List (List ℕ)) (command : CommandLine) (old : History) (P : Type 0) → command_of words ≡ Ok command
     → IfObservable old (λ v. RoomFor (Ones command v) (output_if (effect_of command.applet) command) (files_of v) → P) → IfObservable old (λ v. RoomFor (IsOutcome words (files_of v)) (output words) (files_of v) → P)
@@ -200,12 +205,12 @@ same_by_command words command P is same = subst (λ (r : Result CommandLine ℕ)
 pub usage_run : (words : List (List ℕ)) (q : ℕ) (fault : WordsFault) (judged : Judged) (old : History) → fault ≡ WrongWord q → IsWordsFault fault (command_of words) → Runs words judged old old
 usage_run words q fault judged old is of =
     let read : command_of words ≡ Err q = subst (λ (f : WordsFault). IsWordsFault f (command_of words)) is of in
-    refused_at (λ v. IsOutcome words (files_of v)) (reads_only (command_of words)) (output words) judged old old refl
+    refused_at (λ v. IsOutcome words (files_of v)) (output words) judged old old refl
     (λ v o one. let is_refused : o ≡ just_refusal (files_of v) (Usage q) = subst (λ (r : Result CommandLine ℕ). IsOutcomeOf r (files_of v) o) read one in
     subst (λ (x : Outcome). IsSome x.refusal) (sym is_refused) refl)
 
 pub failed_run : (words : List (List ℕ)) (e : TreeFault) (old : History) → Runs words (Err e) old old
-failed_run words e old = failed_at (λ v. IsOutcome words (files_of v)) (reads_only (command_of words)) (output words) (Err e) e old old refl refl
+failed_run words e old = failed_at (λ v. IsOutcome words (files_of v)) (output words) (Err e) e old old refl refl
 
 -- ---- the answer
 
@@ -214,12 +219,8 @@ pub reads_by : (words : List (List ℕ)) (judged : Judged) (old now : History) �
 reads_by words judged [] now run = tt
 reads_by words judged (v ∷ rest) now run = run.reads
 
-run_at : (old : History) (P Q : TreeState → Type 0) → ((v : TreeState) → P v → Q v) → IfObservable old P → IfObservable old Q
-run_at [] P Q f p = tt
-run_at (v ∷ rest) P Q f p = f v p
-
 pub crash_by : (words : List (List ℕ)) (judged : Judged) (old now : History) → Runs words judged old now
-    → IfObservable old (λ v. (ignored : List ℕ → Bool) (o : Outcome) → IsOrderly (RestsOn ignored) v → HidesScratchOf (output words) ignored → IsOutcome words (files_of v) o → Since (IsReplacing ignored o.files v) old now)
+    → IfObservable old (λ v. (ignored : List ℕ → Bool) → IsOrderly (RestsOn ignored) v → HidesScratchOf (output words) ignored → AreSafe (IsOutcome words (files_of v)) (is_some (output words)) ignored v old now)
 crash_by words judged [] now run = tt
 crash_by words judged (v ∷ rest) now run = run.moments
 
@@ -228,22 +229,36 @@ pub orderly_by : (words : List (List ℕ)) (judged : Judged) (old now : History)
 orderly_by words judged [] now run = tt
 orderly_by words judged (v ∷ rest) now run = run.orderly
 
-pub unwritten_by : (words : List (List ℕ)) (judged : Judged) (old now : History) → Runs words judged old now
-    → IfObservable old (λ v. (o : Outcome) → IsOutcome words (files_of v) o → IsSome o.refusal → now ≡ old)
-unwritten_by words judged [] now run = tt
-unwritten_by words judged (v ∷ rest) now run = run.refused
+-- ---- the outcome is carried out
 
-carried : (judged : Judged) (answer : Answer) (out err : SinkChange) (P : Type 0) → IsShown judged answer out err → IsCarriedOut answer → OnOk judged P → P
-carried (Ok verdict) answer out err P is_shown done p = p
-carried (Err Disk) answer out err P is_shown done p = absurd (subst IsCarriedOut is_shown.0 done)
-carried (Err NoMemory) answer out err P is_shown done p = absurd (subst IsCarriedOut is_shown.0 done)
+no_refusal : (refusal : Option Refusal) → Done ≡ answer_by refusal → refusal ≡ None
+no_refusal None same = refl
+no_refusal (Some r) same = cc
 
-pub settled_by : (words : List (List ℕ)) (judged : Judged) (answer : Answer) (out err : SinkChange) (old now : History) → IsShown judged answer out err → Runs words judged old now
-    → IfObservable old (λ v. (ignored : List ℕ → Bool) (o : Outcome) → IsOrderly (RestsOn ignored) v → HidesScratchOf (output words) ignored → (IsTrue (reads_only (command_of words)) → IsSettled ignored (files_of v) v)
-    → IsOutcome words (files_of v) o → o.refusal ≡ None → IsCarriedOut answer → HasNow now (IsSettled ignored o.files))
-settled_by words judged answer out err [] now is_shown run = tt
-settled_by words judged answer out err (v ∷ rest) now is_shown run = λ ignored o orderly hides before one none done.
-    carried judged answer out err (HasNow now (IsSettled ignored o.files)) is_shown done (run.settled ignored o orderly hides before one none)
+lasting_shown : (IsOne : Outcome → Type 0) (ignored : List ℕ → Bool) (v : TreeState) (now : History) (verdict : Verdict) (o : Outcome) (answer : Answer) (out err : SinkChange) → IsOne o → Reports verdict o
+    → (o.refusal ≡ None → Settles ignored v o → HasNow now (IsSettled ignored o.files)) → IsPrinted (as_outcome o.files verdict) answer out err → LeavesLasting IsOne ignored v now answer
+lasting_shown IsOne ignored v now verdict o Done out err one reports lasts printed =
+    let none : o.refusal ≡ None = sym (ap (λ (x : Outcome). x.refusal) reports) ∙ no_refusal verdict.refusal printed.same in
+    (o, one, none, lasts none)
+lasting_shown IsOne ignored v now verdict o OutFault out err one reports lasts printed = (o, one, lasts)
+lasting_shown IsOne ignored v now verdict o (Refused r) out err one reports lasts printed = tt
+lasting_shown IsOne ignored v now verdict o TreeFailed out err one reports lasts printed = tt
+lasting_shown IsOne ignored v now verdict o Memory out err one reports lasts printed = tt
+
+lasting_judged : (IsOne : Outcome → Type 0) (ignored : List ℕ → Bool) (v : TreeState) (now : History) (judged : Judged) (answer : Answer) (out err : SinkChange) → IfOk judged (ReportsOne IsOne) → IsShown judged answer out err
+    → ((o : Outcome) → IsOne o → o.refusal ≡ None → Settles ignored v o → OnOk judged (HasNow now (IsSettled ignored o.files))) → LeavesLasting IsOne ignored v now answer
+lasting_judged IsOne ignored v now (Ok verdict) answer out err (o, one, reports) is_shown settled = lasting_shown IsOne ignored v now verdict o answer out err one reports (settled o one) (is_shown o.files)
+lasting_judged IsOne ignored v now (Err Disk) answer out err found is_shown settled = subst (LeavesLasting IsOne ignored v now) (sym is_shown.0) tt
+lasting_judged IsOne ignored v now (Err NoMemory) answer out err found is_shown settled = subst (LeavesLasting IsOne ignored v now) (sym is_shown.0) tt
+
+pub settled_by : (words : List (List ℕ)) (judged : Judged) (answer : Answer) (out err : SinkChange) (old now : History) → IsShown judged answer out err → IfOk judged (λ verdict. IfObservable old (λ v. ReportsOne (IsOutcome words (files_of v)) verdict)) → Runs words judged old now
+    → IfObservable old (λ v. (ignored : List ℕ → Bool) → IsOrderly (RestsOn ignored) v → HidesScratchOf (output words) ignored → LeavesLasting (IsOutcome words (files_of v)) ignored v now answer)
+settled_by words judged answer out err [] now is_shown found run = tt
+settled_by words judged answer out err (v ∷ rest) now is_shown found run = λ ignored orderly hides.
+    lasting_judged (IsOutcome words (files_of v)) ignored v now judged answer out err (found_at v rest judged (λ verdict w. ReportsOne (IsOutcome words (files_of w)) verdict) found) is_shown
+    (λ o one none lasts. run.settled ignored o orderly hides one none lasts)
+
+-- ---- nothing is committed
 
 refused_answer : (refusal : Option Refusal) (r : Refusal) → Refused r ≡ answer_by refusal → IsSome refusal
 refused_answer None r same = cc
@@ -257,6 +272,20 @@ undone_by (Ok verdict) OutFault out err P is_shown refused memory undone = absur
 undone_by (Ok verdict) Memory out err P is_shown refused memory undone = absurd (is_shown no_names)
 undone_by (Err Disk) answer out err P is_shown refused memory undone = absurd (subst IsLeftUndone is_shown.0 undone)
 undone_by (Err NoMemory) answer out err P is_shown refused memory undone = memory refl
+
+nothing_by : (IsOne : Outcome → Type 0) (answer : Answer) (P : Type 0) → (IsLeftUndone answer → P) → ((o : Outcome) → IsOne o → o.commits ≡ false → P) → CommitsNothing IsOne answer → P
+nothing_by IsOne answer P undone idle (inl left) = undone left
+nothing_by IsOne answer P undone idle (inr (o, one, nothing)) = idle o one nothing
+
+pub idle_by : (words : List (List ℕ)) (judged : Judged) (answer : Answer) (old now : History) → (IsLeftUndone answer → now ≡ old) → Runs words judged old now
+    → IfObservable old (λ v. CommitsNothing (IsOutcome words (files_of v)) answer → now ≡ old)
+idle_by words judged answer [] now undone run = tt
+idle_by words judged answer (v ∷ rest) now undone run = nothing_by (IsOutcome words (files_of v)) answer (now ≡ v ∷ rest) undone run.idle
+
+pub left_by : (words : List (List ℕ)) (answer : Answer) (old now : History) → IfObservable old (λ v. CommitsNothing (IsOutcome words (files_of v)) answer → now ≡ old)
+    → IfObservable old (λ v. CommitsNothing (IsOutcome words (files_of v)) answer → (ignored : List ℕ → Bool) → IsOrderly (RestsOn ignored) v → Since (IsStill ignored v) old now)
+left_by words answer [] now idle = tt
+left_by words answer (v ∷ rest) now idle = λ nothing ignored orderly. record { added = []; is = idle nothing; each = All-nil (IsStill ignored v) }
 
 pub usage_reported : (words : List (List ℕ)) (old : History) (verdict : Verdict) → ((v : TreeState) → IsOutcome words (files_of v) (as_outcome (files_of v) verdict)) → IfObservable old (λ v. ReportsOne (IsOutcome words (files_of v)) verdict)
 usage_reported words [] verdict is = tt

@@ -10,3 +10,4 @@ pub mod NothingFailed
 pub mod Carried
 pub mod Named
 pub mod Effects
+pub mod EachOutcome

@@ -1,15 +1,15 @@
 //! The top call. Its contract is what this repository proves of a run of `apk`.
-ghost use Rattle.std.specs.Prelude.{◌≡◌, ℕ, Bool, List, None, IsSome, IsTrue};
+ghost use Rattle.std.specs.Prelude.{◌≡◌, ℕ, Bool, List, IsTrue, is_some};
 ghost use Rattle.apk_front.specs.Answers.{name_an_applet, IsAnswerOf, IsAnswerTo, LeavesFiles, LeavesAny, HasCauses, IsFaultless, IsComplete, IsUnplanned, IsOutcomeUnlessMemory};
-ghost use Rattle.apk_front.specs.Moments.{HidesScratchOf, IsCarriedOut, IsLeftUndone, IsReadApart, LeavesRoom};
+ghost use Rattle.apk_front.specs.Moments.{AreSafe, CommitsNothing, HidesScratchOf, IsLeftUndone, IsReadApart, LeavesLasting, LeavesRoom};
 ghost use Rattle.base_core.specs.Calls.{HasNow, IfObservable};
 ghost use Rattle.base_core.specs.Crash.{IsOrderly, Since};
 ghost use Rattle.base_core.specs.Faults.{GoesOn, HasCause};
 ghost use Rattle.base_core.specs.Files.{no_names};
 ghost use Rattle.base_core.specs.Sink.{sink_change, KeepsCount};
 ghost use Rattle.base_core.specs.Tree.{files_of};
-ghost use Rattle.journal_core.specs.Recovery.{IsSettled, RestsOn};
-ghost use Rattle.journal_core.specs.Replacing.{IsReplacing};
+ghost use Rattle.journal_core.specs.Quiet.{IsStill};
+ghost use Rattle.journal_core.specs.Recovery.{RestsOn};
 ghost use Rattle.outcome.specs.Commands.{IsFoundOutcome, IsOutcome};
 ghost use Rattle.outcome.specs.Effect.{output, reads_only, rests_on_words};
 ghost use Rattle.outcome.specs.Outcome.{Outcome};
@@ -110,9 +110,10 @@ pub fn apk<T: Tree, O: Sink, E: Sink>(
         → T.history tree.new ≡ T.history tree.old }
     ensures undone { IsLeftUndone result → T.history tree.new ≡ T.history tree.old }
 
-    // Nothing is written for an outcome that is a refusal, whatever is answered in its place.
-    ensures unwritten { IfObservable (T.history tree.old) (λ v. (outcome : Outcome)
-        → IsOutcome words.now (files_of v) outcome → IsSome outcome.refusal
+    // Nothing is written either where the outcome commits nothing, whatever is answered in its
+    // place: of a refusal, say, that could not be printed.
+    ensures idle { IfObservable (T.history tree.old) (λ v.
+        CommitsNothing (IsOutcome words.now (files_of v)) result
         → T.history tree.new ≡ T.history tree.old) }
 
     // At each moment the files as read are the old ones, but for OUTPUT.apk-tmp, or the outcome's:
@@ -124,26 +125,30 @@ pub fn apk<T: Tree, O: Sink, E: Sink>(
 
     // ---- what a crash leaves, of a tree that was orderly
 
-    // At each moment a crash leaves the old files or the outcome's; OUTPUT.apk-tmp may be left too.
+    // A run that commits nothing leaves the state as it was: at each moment a crash leaves a state
+    // from before, and the files as read have the old one.
+    ensures left { IfObservable (T.history tree.old) (λ v.
+        CommitsNothing (IsOutcome words.now (files_of v)) result → (ignored : List ℕ → Bool)
+        → IsOrderly (RestsOn ignored) v
+        → Since (IsStill ignored v) (T.history tree.old) (T.history tree.new)) }
+
+    // Of each run: so it is, or the run has an outcome that commits, and at each moment a crash
+    // leaves the old files or the outcome's; OUTPUT.apk-tmp may be left too.
     ensures crash { IfObservable (T.history tree.old) (λ v. (ignored : List ℕ → Bool)
-        (outcome : Outcome)
         → IsOrderly (RestsOn ignored) v → HidesScratchOf (output words.now) ignored
-        → IsOutcome words.now (files_of v) outcome
-        → Since (IsReplacing ignored outcome.files v) (T.history tree.old) (T.history tree.new)) }
+        → AreSafe (IsOutcome words.now (files_of v)) (is_some (output words.now)) ignored v
+        (T.history tree.old) (T.history tree.new)) }
 
     // The tree is orderly again, whatever is answered.
     ensures orderly { IfObservable (T.history tree.old) (λ v. (ignored : List ℕ → Bool)
         → IsOrderly (RestsOn ignored) v → HidesScratchOf (output words.now) ignored
         → HasNow (T.history tree.new) (IsOrderly (RestsOn ignored))) }
 
-    // Once the outcome is carried out, each crash leaves its files; of a command that only reads,
-    // where each crash left the old ones before.
+    // Once the outcome is carried out, each crash leaves its files; where it commits nothing, if
+    // each crash left the old ones before.
     ensures settled { IfObservable (T.history tree.old) (λ v. (ignored : List ℕ → Bool)
-        (outcome : Outcome)
         → IsOrderly (RestsOn ignored) v → HidesScratchOf (output words.now) ignored
-        → (IsTrue (reads_only (command_of words.now)) → IsSettled ignored (files_of v) v)
-        → IsOutcome words.now (files_of v) outcome → outcome.refusal ≡ None
-        → IsCarriedOut result → HasNow (T.history tree.new) (IsSettled ignored outcome.files)) }
+        → LeavesLasting (IsOutcome words.now (files_of v)) ignored v (T.history tree.new) result) }
 {
     let judged = judge(alloc, words, tree);
     show(judged, out, err)

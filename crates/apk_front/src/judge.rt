@@ -41,7 +41,7 @@ pub(crate) fn judge<T: Tree>(
         (λ fault. fault ≡ TreeFault.Memory) }
     ensures untouched { IsTrue (rests_on_words (command_of words.now)) → tree.new ≡ tree.old }
     ensures run { IfObservable (T.history tree.old) (λ v. IsRun
-        (IsOutcome words.now (files_of v)) (reads_only (command_of words.now)) (output words.now)
+        (IsOutcome words.now (files_of v)) (output words.now)
         result v (T.history tree.old) (T.history tree.new)) }
     ensures same { IsTrue (reads_only (command_of words.now))
         → T.history tree.new ≡ T.history tree.old }
@@ -81,7 +81,7 @@ fn run<T: Tree>(alloc: Global, command: &Command, tree: &mut T) -> Result<Verdic
     ensures untouched { IsTrue (does_rest_on_words (effect_of command.now.applet))
         → tree.new ≡ tree.old }
     ensures run { IfObservable (T.history tree.old) (λ v. IsRun
-        (IsOutcomeOf (Ok command.now) (files_of v)) (does_only_read (effect_of command.now.applet))
+        (IsOutcomeOf (Ok command.now) (files_of v))
         (output_if (effect_of command.now.applet) command.now)
         result v (T.history tree.old) (T.history tree.new)) }
     ensures same { IsTrue (does_only_read (effect_of command.now.applet))

@@ -2,7 +2,7 @@
 //! that are written. Its stored run has all rows; `tests/lines.md` describes their form.
 #![tactic(auto)]
 
-use adb_block::{Block, BlockKind, Blocks, block_head};
+use adb_block::{Block, BlockKind, Blocks, Frame, block_head, frame_of, head_len};
 use base_core::{Cause, Words};
 use row_lines::{Subject, add_number, add_word, number_of, run_lines, value_named, word_at};
 use std::alloc::{AllocError, Global};
@@ -19,13 +19,15 @@ enum Question {
     Blocks,
     Cuts,
     Head,
+    Frame,
 }
 
 #[rattlefmt::skip]
-const QUESTIONS: [(&[u8], Question); 3] = [
+const QUESTIONS: [(&[u8], Question); 4] = [
     (b"blocks", Question::Blocks),
     (b"cuts", Question::Cuts),
     (b"head", Question::Head),
+    (b"frame", Question::Frame),
 ];
 
 #[rattlefmt::skip]
@@ -50,6 +52,7 @@ impl Subject for Containers {
             Some(Question::Blocks) => add_blocks(alloc, word_at(words, 1), answer),
             Some(Question::Cuts) => add_cuts(alloc, word_at(words, 1), answer),
             Some(Question::Head) => add_head(words, answer),
+            Some(Question::Frame) => add_frame(alloc, words, answer),
             None => answer.extend_from_slice(b"no question"),
         }
     }
@@ -171,6 +174,33 @@ fn add_head(words: &Words, answer: &mut Vec<u8>) -> Result<(), AllocError> {
     let len = number_of(word_at(words, 2)).unwrap_or(0);
     let len = u64::try_from(len).unwrap_or(0).min(u64::MAX - 16);
     answer.extend_from_slice(block_head(kind, len).bytes())
+}
+
+/// Adds how a header frames a block at the offset 8: `frame KIND LEFT HEAD`, behind a block of the
+/// kind or behind none, where so many bytes are left.
+fn add_frame(alloc: Global, words: &Words, answer: &mut Vec<u8>) -> Result<(), AllocError> {
+    let last = value_named(&KINDS, word_at(words, 1));
+    let left = number_of(word_at(words, 2)).unwrap_or(0);
+    let left = u64::try_from(left).unwrap_or(0);
+    let head = word_at(words, 3);
+    let len = head.len() as u64;
+    if len > left || len < head_len(head).min(left) {
+        return add_word(answer, b"no header");
+    }
+    match frame_of(last, 8, head, left) {
+        Ok(Some(frame)) => add_lengths(alloc, frame, answer),
+        Ok(None) => add_word(answer, b"end"),
+        Err(cause) => add_cause(alloc, cause, answer),
+    }
+}
+
+/// Adds the kind of a block, and how long its header and its payload are.
+fn add_lengths(alloc: Global, frame: Frame, answer: &mut Vec<u8>) -> Result<(), AllocError> {
+    add_word(answer, kind_name(frame.kind))?;
+    add_word(answer, b"of ")?;
+    add_number(alloc, answer, u128::from(frame.head_len))?;
+    add_word(answer, b"and ")?;
+    add_number(alloc, answer, u128::from(frame.payload_len))
 }
 
 fn main(rt: HostRuntime) -> io::Result<ExitCode> {

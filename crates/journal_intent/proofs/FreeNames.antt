@@ -10,7 +10,7 @@ use Rattle.adb_fields.specs.FirstPair.{IsIn}
 use Rattle.adb_fields.specs.Once.{AreDistinctNames}
 use Rattle.adb_fields.specs.Repeated.{entries_at, list_of}
 use Rattle.adb_rules.specs.Rules.{is_change_name}
-use Rattle.adb_rules.specs.Reserved.{is_stage_name}
+use Rattle.adb_rules.specs.Reserved.{is_intent_or_stage_name}
 use Rattle.adb_rules.specs.SoundValues.{IsChangeName}
 use Rattle.adb_schema.specs.SoundContainers.{IsSound, IsSoundValue}
 use Rattle.adb_schema.specs.Soundness.{first_fault, payload_in, root_value}
@@ -33,18 +33,18 @@ not_true : (b : Bool) → not b ≡ true → b ≡ false
 not_true true h = absurd (true_false (sym h))
 not_true false h = refl
 
-place_is_stage : (k : ℕ) → is_stage_name (stage_name k) ≡ true
+place_is_stage : (k : ℕ) → is_intent_or_stage_name (stage_name k) ≡ true
 place_is_stage k = refl
 
 -- ---- a name that a change may have is free
 
 free_of : (name : List ℕ) → is_change_name name ≡ true → IsFreeName name
 free_of name change =
-    let parts = and_parts (is_name name) (not (is_stage_name name)) change in
-    let open_name = not_true (is_stage_name name) parts.1 in
+    let parts = and_parts (is_name name) (not (is_intent_or_stage_name name)) change in
+    let open_name = not_true (is_intent_or_stage_name name) parts.1 in
     record {
-      no_intent = λ is. true_false (sym (ap is_stage_name is) ∙ open_name);
-      no_place = λ k is. true_false (sym (place_is_stage k) ∙ sym (ap is_stage_name is) ∙ open_name);
+      no_intent = λ is. true_false (sym (ap is_intent_or_stage_name is) ∙ open_name);
+      no_place = λ k is. true_false (sym (place_is_stage k) ∙ sym (ap is_intent_or_stage_name is) ∙ open_name);
     }
 
 frees : (vs : Plains) → Each IsChangeName vs → AreFreeNames (map text_in (list_of vs))
@@ -134,7 +134,7 @@ free_intent values file intent is = free_by (first_fault Tables.Intent file) (ro
 
 all_named : (vs : Plains) → Each IsChangeName vs → AllNamed vs
 all_named none all = tt
-all_named (more v vs) all = ((and_parts (is_name (text_in v)) (not (is_stage_name (text_in v))) all.0).0, all_named vs all.1)
+all_named (more v vs) all = ((and_parts (is_name (text_in v)) (not (is_intent_or_stage_name (text_in v))) all.0).0, all_named vs all.1)
 
 module _ (values : SoundValues) (file : List ℕ) (sound : first_fault Tables.Intent file ≡ None) where
   abbrev held : Plain

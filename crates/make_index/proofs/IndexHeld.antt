@@ -16,7 +16,8 @@ use Rattle.adb_tables.specs.declared.tables.Which.TheVariants as Tables
 use Rattle.adb_tables.specs.declared.tables.Kind.{Kind}
 use Rattle.adb_tables.specs.declared.tables.Kind.TheVariants as Kinds
 use Rattle.pkg_core.specs.Whole.{package_id}
-use Rattle.make_index.specs.Entries.{entry_of_package, entry_value}
+use Rattle.make_index.specs.Entries.{entry_of_package}
+use Rattle.adb_copy.specs.Zeros.{info_with}
 use Rattle.make_index.specs.Kept.{HoldsEntry, IsKeyed, copy_of_entry}
 use Rattle.version_core.specs.Order.{is_version}
 use Rattle.std.proofs.lemmas.List.{get_or_default}
@@ -24,7 +25,7 @@ use Rattle.make_index.proofs.IndexAgain.{entry_again, entry_id, entry_name, entr
 use Rattle.make_index.proofs.IndexRules.{package_version}
 use Rattle.sha2.specs.Sha256.{sha256}
 use Rattle.std.specs.declared.alloc.Global.{Global}
-use Rattle.make_index.proofs.IndexShapes.{FoundShapes, info_of_package, value_shape}
+use Rattle.adb_copy.proofs.Shapes.{FoundShapes, info_of_package, value_shape}
 use Rattle.make_index.proofs.IndexSound.{payload_all}
 
 -- ---- what was written within the limits
@@ -97,9 +98,9 @@ module _
   entry_in_normal (arr vs) i h = nth_normal vs i h.1
   entry_in_normal (obj vs) i h = nth_normal vs i h.2
 
-  pub holds : (info : Plain) (id : List ℕ) (len : ℕ) (p : List ℕ) → IsNormal info → HasShape (shape_of (Kinds.Obj Tables.PkgInfo)) info → len < 2 ^ 64 → written_of (entry_value info id len) ≡ Ok p → HoldsEntry p (entry_value info id len)
+  pub holds : (info : Plain) (id : List ℕ) (len : ℕ) (p : List ℕ) → IsNormal info → HasShape (shape_of (Kinds.Obj Tables.PkgInfo)) info → len < 2 ^ 64 → written_of (info_with info id len) ≡ Ok p → HoldsEntry p (info_with info id len)
   holds info id len p good shaped small made =
-      let e : Plain = entry_value info id len in
+      let e : Plain = info_with info id len in
       let n : IsNormal e = entry_normal info id len good small in
       let is : p ≡ canonical e = (written_is e p made).0 in
       let back : value_of (canonical e) (shape_of (Kinds.Obj Tables.PkgInfo)) ≡ Some e = read_back (shape_of (Kinds.Obj Tables.PkgInfo)) e n (entry_shape info id len shaped) (within e (overflows e n) (written_is e p made).1) in
@@ -138,14 +139,14 @@ pub holds_found : FoundShapes →
     → ((v : Plain) → IsNormal v → is_some (overflow_of v) ≡ passes (size_of v, value_count v))
     → ((payload : List ℕ) → All (λ b. b < 256) payload → (shape : Shape) (word : ℕ) → IfSome (plain_of payload shape word) IsNormal)
     → (file : List ℕ) (value : Plain) (payload : List ℕ) → value ≡ root_value Tables.Package (payload_in file) → payload ≡ payload_in file → All (λ b. b < 256) file → length file < 2 ^ 64
-    → (found : Option (Vec ℕ Global)) → IfSome found (λ own. written_of (entry_value (entry_in value 0) (sha256 payload) (length file)) ≡ Ok own.items) → IfSome found (λ own. HoldsEntry own.items (entry_of_package file))
+    → (found : Option (Vec ℕ Global)) → IfSome found (λ own. written_of (info_with (entry_in value 0) (sha256 payload) (length file)) ≡ Ok own.items) → IfSome found (λ own. HoldsEntry own.items (entry_of_package file))
 holds_found shapes read_back overflows normal file value payload is_value is_payload bytes small found h =
     let info : Plain = entry_in (root_value Tables.Package (payload_in file)) 0 in
     let value_is_normal : IsNormal (root_value Tables.Package (payload_in file)) = value_normal read_back overflows normal (payload_in file) (Kinds.Obj Tables.Package) (root_of (payload_in file)) (payload_all (λ b. b < 256) file bytes) in
     if_some _ _ found (λ own made. holds read_back overflows normal info (package_id file) (length file) own.items
     (entry_in_normal read_back overflows normal (root_value Tables.Package (payload_in file)) 0 value_is_normal)
     (package_info_shape shapes (payload_in file)) small
-    ((λ j. written_of (entry_value (entry_in (sym is_value j) 0) (sha256 (sym is_payload j)) (length file))) ∙ made)) h
+    ((λ j. written_of (info_with (entry_in (sym is_value j) 0) (sha256 (sym is_payload j)) (length file))) ∙ made)) h
 
 -- ---- the entry of any package
 

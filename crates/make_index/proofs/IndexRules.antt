@@ -18,7 +18,7 @@ use Rattle.adb_tables.specs.Values.{nth, entries_in, entry_in, text_in}
 use Rattle.adb_rules.specs.Texts.{Surroundings, Leaf, text_leaf, keeps_rule, number_of_leaf, leaves, field_leaves, first_bad, text_fault, text_rule, at_root, inside_of}
 use Rattle.adb_fields.specs.Repeated.{repeated_fault}
 use Rattle.adb_schema.specs.Soundness.{blocks_fault, file_fault, first_fault, first_payload, payload_behind, payload_fault, payload_in, rest_fault, root_value, schema_fault}
-use Rattle.make_index.proofs.IndexFields.{INFO}
+use Rattle.adb_copy.proofs.Fields.{INFO}
 use Rattle.adb_tables.specs.declared.tables.Which.{Which}
 use Rattle.adb_tables.specs.declared.tables.Which.TheVariants as Tables
 use Rattle.adb_tables.specs.declared.tables.Kind.TheVariants as Kinds

@@ -1,3 +1,4 @@
 pub mod Listings
 pub mod Existing
 pub mod MadeSound
+pub mod Commits

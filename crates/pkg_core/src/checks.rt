@@ -103,19 +103,19 @@ pub(crate) fn hash_fault(hash: &[u8], bytes: &[u8]) -> Option<Cause>
     ensures { result ≡ hash_fault hash.now bytes.now }
 {
     match hash.len() {
-        20 => sha1_fault(hash, bytes),
-        32 => sha256_fault(hash, bytes),
-        64 => sha512_fault(hash, bytes),
+        20 => sha1_fault(hash, Sha1::digest(bytes)),
+        32 => sha256_fault(hash, Sha256::digest(bytes)),
+        64 => sha512_fault(hash, Sha512::digest(bytes)),
         _ => None,
     }
 }
 
-/// Compares a SHA-1.
-fn sha1_fault(hash: &[u8], bytes: &[u8]) -> Option<Cause>
+/// Why a SHA-1 (FIPS 180-4) is not the one that was found: `HashDiffers`, or None where they are
+/// equal.
+pub fn sha1_fault(hash: &[u8], found: [u8; 20]) -> Option<Cause>
     requires { length hash.now ≡ 20 }
-    ensures { result ≡ digest_fault Digests.Sha1 hash.now (sha1 bytes.now) }
+    ensures { result ≡ digest_fault Digests.Sha1 hash.now found }
 {
-    let found = Sha1::digest(bytes);
     if hash == found.as_slice() {
         return None;
     }
@@ -127,12 +127,12 @@ fn sha1_fault(hash: &[u8], bytes: &[u8]) -> Option<Cause>
     })
 }
 
-/// Compares a SHA-256.
-fn sha256_fault(hash: &[u8], bytes: &[u8]) -> Option<Cause>
+/// Why a SHA-256 (FIPS 180-4) is not the one that was found: `HashDiffers`, or None where they are
+/// equal.
+pub fn sha256_fault(hash: &[u8], found: [u8; 32]) -> Option<Cause>
     requires { length hash.now ≡ 32 }
-    ensures { result ≡ digest_fault Digests.Sha256 hash.now (sha256 bytes.now) }
+    ensures { result ≡ digest_fault Digests.Sha256 hash.now found }
 {
-    let found = Sha256::digest(bytes);
     if hash == found.as_slice() {
         return None;
     }
@@ -144,12 +144,12 @@ fn sha256_fault(hash: &[u8], bytes: &[u8]) -> Option<Cause>
     })
 }
 
-/// Compares a SHA-512.
-fn sha512_fault(hash: &[u8], bytes: &[u8]) -> Option<Cause>
+/// Why a SHA-512 (FIPS 180-4) is not the one that was found: `HashDiffers`, or None where they are
+/// equal.
+pub fn sha512_fault(hash: &[u8], found: [u8; 64]) -> Option<Cause>
     requires { length hash.now ≡ 64 }
-    ensures { result ≡ digest_fault Digests.Sha512 hash.now (sha512 bytes.now) }
+    ensures { result ≡ digest_fault Digests.Sha512 hash.now found }
 {
-    let found = Sha512::digest(bytes);
     if hash == found.as_slice() {
         return None;
     }

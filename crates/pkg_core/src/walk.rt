@@ -16,9 +16,11 @@ use adb_block::{BlockKind, Blocks};
 use adb_schema::{DirInfo, FileInfo, List, file_pair};
 use base_core::Cause;
 
-/// Where a walk stands: behind so many folders, and behind so many files of the next one.
+/// Where a walk over the files of a package that have contents stands: behind so many folders, and
+/// behind so many files of the next one. Contracts see the files that are left, by `left_in` of
+/// `specs/`.
 #[derive(Clone, Copy)]
-pub(crate) struct Walk<'a> {
+pub struct Walk<'a> {
     folders: List<'a, DirInfo<'a>>,
     folder: usize,
     file: usize,
@@ -27,11 +29,11 @@ pub(crate) struct Walk<'a> {
 /// A file whose contents are due: the positions of its folder and of itself in it, which count from
 /// 1, its size in bytes, and its digest.
 #[derive(Clone, Copy)]
-pub(crate) struct Wanted<'a> {
-    pub(crate) folder: u32,
-    pub(crate) file: u32,
-    pub(crate) size: u64,
-    pub(crate) hash: &'a [u8],
+pub struct Wanted<'a> {
+    pub folder: u32,
+    pub file: u32,
+    pub size: u64,
+    pub hash: &'a [u8],
 }
 
 impl<'a> Walk<'a> {
@@ -40,7 +42,7 @@ impl<'a> Walk<'a> {
     ghost use Rattle.pkg_core.specs.Opened.{left_in, TakesFirst};
 
     /// A walk before the first of these folders.
-    pub(crate) fn new(folders: List<'a, DirInfo<'a>>) -> Walk<'a>
+    pub fn new(folders: List<'a, DirInfo<'a>>) -> Walk<'a>
         ensures { left_in result
             ≡ expected_folders 1 (list_of (entries_in (list_value folders.entry))) }
     {
@@ -52,7 +54,7 @@ impl<'a> Walk<'a> {
     }
 
     /// Goes on to the next file that has contents, or None behind the last.
-    pub(crate) fn next(&mut self) -> Option<Wanted<'a>>
+    pub fn next(&mut self) -> Option<Wanted<'a>>
         ensures { TakesFirst (left_in self.old) result (left_in self.new) }
     {
         while self.folder < self.folders.len() {
@@ -145,7 +147,11 @@ impl<'a> Walk<'a> {
     ghost use Rattle.pkg_core.specs.Opened.{left_in, GivesContents};
 
     /// Where the blocks end, no file may be left.
-    pub(crate) fn end(&mut self) -> Result<(), Cause>
+    ///
+    /// # Errors
+    ///
+    /// `DataOrder` with the next file and the pair (0, 0), where one is left.
+    pub fn end(&mut self) -> Result<(), Cause>
         ensures exact { cause_of result ≡ missing_fault (left_in self.old) }
         ensures end { IfOk result (λ _. left_in self.new ≡ []) }
     {

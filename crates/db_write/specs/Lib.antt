@@ -1,0 +1,5 @@
+-- what the contract of `apk` says
+pub mod NewDatabase
+-- what only inner contracts and proofs use
+pub mod Unchanged
+pub mod Written
