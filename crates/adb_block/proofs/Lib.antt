@@ -5,5 +5,6 @@ pub mod Again
 pub mod Runs
 pub mod Calls
 pub mod WholeFiles
+pub mod First
 mod Rows
 pub mod WrittenBlocks

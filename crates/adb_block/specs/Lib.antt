@@ -10,3 +10,4 @@ pub mod AllBlocks
 pub mod Container
 pub mod Reader
 pub mod Frames
+pub mod FirstFraming

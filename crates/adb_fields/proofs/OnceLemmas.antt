@@ -13,7 +13,7 @@ use Rattle.adb_fields.specs.FirstPair.{IsFirstOf}
 use Rattle.adb_fields.specs.FirstPair.{IsFirst}
 use Rattle.adb_fields.specs.FirstPair.{IsPair}
 use Rattle.adb_fields.specs.FirstPair.{IsIn}
-use Rattle.adb_fields.specs.Repeated.{numbered_from, all_at, by_list_from, twice, twice_in_one, in_two, entries_at, files_in, folders_in, name_of, package_name, paths_in, folder_twice, file_twice, package_twice, path_in_two, name_twice, repeated_at, inside_fault, between_fault, repeated_fault}
+use Rattle.adb_fields.specs.Repeated.{field_number, numbered_from, all_at, by_list_from, twice, twice_in_one, in_two, entries_at, files_in, folders_in, name_of, package_name, paths_in, folder_twice, file_twice, package_twice, path_in_two, name_twice, repeated_at, inside_fault, between_fault, repeated_fault}
 use Rattle.adb_fields.specs.Once.{AreDistinctNames, AllDistinct, IsInOneOf, AreApart, StandOnceInside, StandOnceBetween, NamesStandOnce}
 use Rattle.adb_fields.proofs.Members.{in-front, in-behind, in-either, in-map, from-map}
 use Rattle.adb_fields.proofs.FirstPair.{first_pair-first}
@@ -233,21 +233,21 @@ none_both (Some c) b e f = absurd (cc)
 
 inside_once : (packages : List Plain) → inside_fault packages ≡ None → StandOnceInside packages
 inside_once packages e =
-    let (a, b) = both_none (repeated_at 501 (folder_twice packages)) (repeated_at 401 (file_twice packages)) e in
-    record { folders = each_none _ (at_none 501 (folder_twice packages) a); files = each_none _ (at_none 401 (file_twice packages) b) }
+    let (a, b) = both_none (repeated_at (field_number Dir 1) (folder_twice packages)) (repeated_at (field_number File 1) (file_twice packages)) e in
+    record { folders = each_none _ (at_none (field_number Dir 1) (folder_twice packages) a); files = each_none _ (at_none (field_number File 1) (file_twice packages) b) }
 
 once_inside : (packages : List Plain) → StandOnceInside packages → inside_fault packages ≡ None
 once_inside packages d =
-    none_both (repeated_at 501 (folder_twice packages)) (repeated_at 401 (file_twice packages)) (none_at 501 (folder_twice packages) (none_each _ d.folders)) (none_at 401 (file_twice packages) (none_each _ d.files))
+    none_both (repeated_at (field_number Dir 1) (folder_twice packages)) (repeated_at (field_number File 1) (file_twice packages)) (none_at (field_number Dir 1) (folder_twice packages) (none_each _ d.folders)) (none_at (field_number File 1) (file_twice packages) (none_each _ d.files))
 
 between_once : (packages : List Plain) → between_fault packages ≡ None → StandOnceBetween packages
 between_once packages e =
-    let (a, b) = both_none (repeated_at 901 (package_twice packages)) (repeated_at 401 (path_in_two packages)) e in
-    record { packages_once = twice_none _ (at_none 901 (package_twice packages) a); paths_once = two_none _ (at_none 401 (path_in_two packages) b) }
+    let (a, b) = both_none (repeated_at (field_number Idb 1) (package_twice packages)) (repeated_at (field_number File 1) (path_in_two packages)) e in
+    record { packages_once = twice_none _ (at_none (field_number Idb 1) (package_twice packages) a); paths_once = two_none _ (at_none (field_number File 1) (path_in_two packages) b) }
 
 once_between : (packages : List Plain) → StandOnceBetween packages → between_fault packages ≡ None
 once_between packages d =
-    none_both (repeated_at 901 (package_twice packages)) (repeated_at 401 (path_in_two packages)) (none_at 901 (package_twice packages) (none_twice _ d.packages_once)) (none_at 401 (path_in_two packages) (none_two _ d.paths_once))
+    none_both (repeated_at (field_number Idb 1) (package_twice packages)) (repeated_at (field_number File 1) (path_in_two packages)) (none_at (field_number Idb 1) (package_twice packages) (none_twice _ d.packages_once)) (none_at (field_number File 1) (path_in_two packages) (none_two _ d.paths_once))
 
 database_once : (packages : List Plain) → or_else (inside_fault packages) (between_fault packages) ≡ None → StandOnceInside packages × StandOnceBetween packages
 database_once packages e = let (a, b) = both_none (inside_fault packages) (between_fault packages) e in (inside_once packages a, between_once packages b)
@@ -266,4 +266,4 @@ names_once Idb v = (
   database_once (entries_at 0 v),
   λ d. none_both (inside_fault (entries_at 0 v)) (between_fault (entries_at 0 v)) (once_inside (entries_at 0 v) d.0) (once_between (entries_at 0 v) d.1),
 )
-names_once Intent v = (λ e. twice_none _ (at_none 1002 (name_twice v) e), λ d. none_at 1002 (name_twice v) (none_twice _ d))
+names_once Intent v = (λ e. twice_none _ (at_none (field_number Intent 2) (name_twice v) e), λ d. none_at (field_number Intent 2) (name_twice v) (none_twice _ d))

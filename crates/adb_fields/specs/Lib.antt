@@ -2,6 +2,8 @@
 pub mod Paths
 pub mod Pairs
 pub mod Repeated
+-- the order of paths
+pub mod JoinedPath
 -- what only inner contracts and proofs use
 pub mod FirstPair
 pub mod Once

@@ -1,7 +1,7 @@
 -- The names that the program compares, and their order.
 use Rattle.std.specs.Prelude.{ℕ, List, [], ◌∷◌, Option}
 use Rattle.adb_fields.specs.Repeated.{list_of}
-use Rattle.adb_fields.specs.Paths.{path_of}
+use Rattle.adb_fields.specs.JoinedPath.{joined_path}
 use Rattle.std.specs.Ordering.{nat_cmp, ordering_then}
 use Rattle.std.specs.declared.cmp.Ordering.{Ordering}
 use Rattle.std.specs.Cmp.Lexicographic.{slice_cmp}
@@ -15,7 +15,7 @@ use Rattle.adb_fields.specs.declared.pairs.Entry.{Entry}
 
 -- the name that an entry stands for: where there is a folder, a path
 abbrev pub named_by : Entry → Named
-named_by e = record { name = path_of e.folder.now e.name.now; position = e.position }
+named_by e = record { name = joined_path e.path; position = e.position }
 
 -- by name, and equal names by position
 abbrev pub named_cmp : Named → Named → Ordering

@@ -1,16 +1,17 @@
 -- Names that stand twice in a container, kind by kind.
-use Rattle.std.specs.Prelude.{ℕ, ◌+◌, List, [], ◌∷◌, ◌++◌, map, Option, None, option_map}
+use Rattle.std.specs.Prelude.{ℕ, ◌+◌, ◌*◌, List, [], ◌∷◌, ◌++◌, map, Option, None, option_map}
 use Rattle.std.specs.List.{flat_map}
 use Rattle.base_core.specs.declared.cause.Cause.{Cause}
 use Rattle.base_core.specs.declared.cause.Cause.TheVariants.{Repeated}
 use Rattle.adb_view.specs.Plain.{Plain, Plains, none, more}
+use Rattle.adb_tables.specs.Schema.{schema_number}
 use Rattle.adb_tables.specs.Values.{entries_in, entry_in, text_in}
 use Rattle.adb_tables.specs.Walk.{or_else}
 use Rattle.adb_fields.specs.Paths.{path_of}
 use Rattle.adb_fields.specs.Pairs.{Named, first_pair, earliest}
 use Rattle.adb_fields.specs.declared.pairs.Pair.{Pair}
 use Rattle.adb_tables.specs.declared.tables.Which.{Which}
-use Rattle.adb_tables.specs.declared.tables.Which.TheVariants.{Package, Idb, Intent}
+use Rattle.adb_tables.specs.declared.tables.Which.TheVariants.{File, Dir, Package, Idb, Intent}
 
 -- ---- lists of names
 
@@ -88,21 +89,25 @@ name_twice intent = twice (map text_in (entries_at 0 intent) ++ map text_in (ent
 
 -- ---- the fault of a container
 
+-- the number by which a field is reported: its table's, and behind that its place there
+abbrev pub field_number : Which → ℕ → ℕ
+field_number which place = 100 * schema_number which + place
+
 -- a pair that stands is reported with the number of the field
 abbrev pub repeated_at : ℕ → Option Pair → Option Cause
-repeated_at field_number pair = option_map (λ p. Repeated field_number p.first p.second) pair
+repeated_at number pair = option_map (λ p. Repeated number p.first p.second) pair
 
 abbrev pub inside_fault : List Plain → Option Cause
-inside_fault packages = or_else (repeated_at 501 (folder_twice packages))
-    (repeated_at 401 (file_twice packages))
+inside_fault packages = or_else (repeated_at (field_number Dir 1) (folder_twice packages))
+    (repeated_at (field_number File 1) (file_twice packages))
 
 abbrev pub between_fault : List Plain → Option Cause
-between_fault packages = or_else (repeated_at 901 (package_twice packages))
-    (repeated_at 401 (path_in_two packages))
+between_fault packages = or_else (repeated_at (field_number Idb 1) (package_twice packages))
+    (repeated_at (field_number File 1) (path_in_two packages))
 
 -- the first kind that stands
 unfoldable pub repeated_fault : Which → Plain → Option Cause
 repeated_fault Package v = inside_fault (v ∷ [])
 repeated_fault Idb v = or_else (inside_fault (entries_at 0 v)) (between_fault (entries_at 0 v))
-repeated_fault Intent v = repeated_at 1002 (name_twice v)
+repeated_fault Intent v = repeated_at (field_number Intent 2) (name_twice v)
 repeated_fault which v = None

@@ -5,15 +5,17 @@
 //! gives. `repeated_names` answers which name of a package, a database or an intent stands twice.
 //! The contracts cite `Fields` (the words of fields and arrays), `ListValue`, `Pairs` (of the names
 //! that stand twice, which two positions are reported), `Repeated` (the names of a container, kind
-//! by kind) and `Paths`.
+//! by kind), `Paths` and `JoinedPath`.
 #![tactic(auto)]
 
+mod file_path;
 mod list;
 mod name_lists;
 mod pairs;
 mod reads;
 mod repeated;
 
+pub use file_path::FilePath;
 pub use list::{Kinded, List, View};
 pub use pairs::{
     the_first_pair_in_one_of_several_lists_is_reported, the_first_pair_of_a_list_is_reported,

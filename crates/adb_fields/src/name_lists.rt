@@ -12,6 +12,7 @@ ghost use Rattle.adb_fields.specs.NamedTexts.{named_by, plains_at, named_at};
 ghost use Rattle.adb_tables.specs.declared.tables.Kind.TheVariants as Kinds;
 ghost use Rattle.adb_tables.specs.declared.tables.Which.TheVariants as Tables;
 
+use crate::file_path::FilePath;
 use crate::pairs::Entry;
 use crate::reads::{field_word, objects_field, text_field, text_word};
 use adb_tables::{Which, entry_word};
@@ -26,11 +27,8 @@ fn add<'a>(names: &mut Vec<Entry<'a>>, name: &'a [u8]) -> Result<(), AllocError>
     ensures len { IfOk result (λ _. vec_len names.new ≡ vec_len names.old + 1) }
 {
     let position = names.len() as u32 + 1;
-    names.push(Entry {
-        folder: &[],
-        name,
-        position,
-    })?;
+    let path = FilePath { folder: &[], name };
+    names.push(Entry { path, position })?;
     Ok(())
 }
 
@@ -122,11 +120,8 @@ fn add_path<'a>(
     ensures { IfOk result (λ _. map named_by paths.new.items ≡ map named_by paths.old.items
         ++ (named_at (path_of folder.now name.now) position ∷ [])) }
 {
-    paths.push(Entry {
-        folder,
-        name,
-        position,
-    })?;
+    let path = FilePath { folder, name };
+    paths.push(Entry { path, position })?;
     Ok(())
 }
 

@@ -10,6 +10,7 @@ ghost use Rattle.adb_fields.specs.NamedTexts.{named_by, named_cmp, neighbours};
 ghost use Rattle.adb_fields.specs.Repeated.{by_list_from, in_two, numbered_from, twice, twice_in_one};
 ghost use Rattle.adb_fields.specs.FirstPair.{IsPairInOne};
 
+use crate::file_path::FilePath;
 use std::cmp::Ordering;
 
 /// Two positions at which one name stands. They count from 1.
@@ -19,12 +20,10 @@ pub(crate) struct Pair {
     pub second: u32,
 }
 
-/// A name and its position, which counts from 1. Where there is a folder, the name is a path: the
-/// folder's, `/`, and the file's.
+/// A name and its position, which counts from 1. Where there is a folder, the name is a path.
 #[derive(Clone, Copy)]
 pub(crate) struct Entry<'a> {
-    pub folder: &'a [u8],
-    pub name: &'a [u8],
+    pub path: FilePath<'a>,
     pub position: u32,
 }
 
@@ -78,7 +77,7 @@ fn first_of_neighbours(entries: &[Entry<'_>]) -> Option<Pair>
 fn pair_of(one: &Entry<'_>, other: &Entry<'_>) -> Option<Pair>
     ensures { result ≡ pair_of (named_by one.now) (named_by other.now) }
 {
-    if !compared_names(one, other).is_eq() {
+    if !one.path.compare(&other.path).is_eq() {
         return None;
     }
     if one.position >= other.position {
@@ -94,86 +93,8 @@ fn pair_of(one: &Entry<'_>, other: &Entry<'_>) -> Option<Pair>
 fn compared(one: &Entry<'_>, other: &Entry<'_>) -> Ordering
     ensures { result ≡ named_cmp (named_by one.now) (named_by other.now) }
 {
-    compared_names(one, other).then(one.position.cmp(&other.position))
-}
-
-/// The order of two names, byte by byte.
-#[tactic(auto, using(crate::proofs::Compared::apart_in_front, crate::proofs::Compared::same_in_front, crate::proofs::Compared::same_folder))]
-fn compared_names(one: &Entry<'_>, other: &Entry<'_>) -> Ordering
-    ensures { result ≡ slice_cmp nat_cmp (named_by one.now).name (named_by other.now).name }
-{
-    let len = one.folder.len().min(other.folder.len());
-    let front = compared_fronts(one.folder, other.folder, len);
-    if !front.is_eq() {
-        return front;
-    }
-    if one.folder.len() == other.folder.len() {
-        return one.name.cmp(&other.name);
-    }
-    compared_from(one, other, len)
-}
-
-/// The order of the first bytes of two texts.
-fn compared_fronts(one: &[u8], other: &[u8], len: usize) -> Ordering
-    requires one { len ≤ length one.now }
-    requires other { len ≤ length other.now }
-    ensures { result ≡ slice_cmp nat_cmp (take len one.now) (take len other.now) }
-{
-    let front = &one[..len];
-    front.cmp(&&other[..len])
-}
-
-/// The order of what is left of two names from this index on.
-fn compared_from(one: &Entry<'_>, other: &Entry<'_>, from: usize) -> Ordering
-    ensures { result
-        ≡ slice_cmp nat_cmp (drop from (named_by one.now).name)
-        (drop from (named_by other.now).name) }
-{
-    let mut i = from;
-    loop {
-        match (one.byte(i), other.byte(i)) {
-            (None, None) => return Ordering::Equal,
-            (None, Some(_)) => return Ordering::Less,
-            (Some(_), None) => return Ordering::Greater,
-            (Some(byte), Some(another)) => {
-                if byte != another {
-                    return byte.cmp(&another);
-                }
-            }
-        }
-        i += 1;
-    }
-}
-
-impl Entry<'_> {
-    /// A byte of the name.
-    fn byte(&self, i: usize) -> Option<u8>
-        ensures byte { result ≡ slice_get (named_by self.now).name i }
-        ensures small { IfSome result (λ _. i + 1 < 2 ^ 64) }
-    {
-        let len = self.folder.len();
-        if len == 0 {
-            return byte_at(self.name, i);
-        }
-        if i < len {
-            return Some(self.folder[i]);
-        }
-        if i == len {
-            return Some(b'/');
-        }
-        byte_at(self.name, i - len - 1)
-    }
-}
-
-fn byte_at(bytes: &[u8], i: usize) -> Option<u8>
-    ensures byte { result ≡ slice_get bytes.now i }
-    ensures small { IfSome result (λ _. i < 2 ^ 63) }
-{
-    if i < bytes.len() {
-        Some(bytes[i])
-    } else {
-        None
-    }
+    let names = one.path.compare(&other.path);
+    names.then(one.position.cmp(&other.position))
 }
 
 /// Of the names of one list.

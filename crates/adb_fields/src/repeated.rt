@@ -7,7 +7,7 @@ ghost use Rattle.adb_tables.specs.Values.{count_of, entries_in, entry_in, is_sou
 ghost use Rattle.adb_fields.specs.Fields.{are_all_sound};
 ghost use Rattle.adb_tables.specs.Shaped.{shaped_value, table_of};
 ghost use Rattle.adb_tables.specs.Walk.{or_else};
-ghost use Rattle.adb_fields.specs.Repeated.{between_fault, file_twice, files_in, folder_twice, folders_in, inside_fault, name_of, name_twice, package_twice, path_in_two, repeated_at, repeated_fault, twice, twice_in_one};
+ghost use Rattle.adb_fields.specs.Repeated.{between_fault, field_number, file_twice, files_in, folder_twice, folders_in, inside_fault, name_of, name_twice, package_twice, path_in_two, repeated_at, repeated_fault, twice, twice_in_one};
 ghost use Rattle.adb_fields.specs.Once.{NamesStandOnce};
 ghost use Rattle.adb_view.specs.Plain.{Plain};
 ghost use Rattle.adb_tables.specs.declared.tables.Which.{Which};
@@ -22,6 +22,17 @@ use adb_tables::{Shaped, Which, entry_word, values_of_few_visits_have_no_fault};
 use adb_view::{Adb, Arr, Val};
 use base_core::Cause;
 use std::alloc::{AllocError, Global};
+
+/// The fields whose texts stand once, each by its table's number and its place in the table.
+mod field {
+    pub(super) const FILE_NAME: u16 = 401;
+
+    pub(super) const FOLDER_NAME: u16 = 501;
+
+    pub(super) const PACKAGE: u16 = 901;
+
+    pub(super) const WRITE: u16 = 1002;
+}
 
 /// Looks for a name that stands twice in a walked container, and answers the cause `Repeated`, or
 /// None exactly where there is none. The kinds are looked at in this order: in a package and in a
@@ -49,12 +60,12 @@ pub fn repeated_names(alloc: Global, shaped: &Shaped<'_>) -> Result<Option<Cause
 }
 
 /// The cause of a pair.
-fn repeated_at(field_number: u16, pair: Option<Pair>) -> Option<Cause>
-    ensures { result ≡ repeated_at field_number pair }
+fn repeated_at(number: u16, pair: Option<Pair>) -> Option<Cause>
+    ensures { result ≡ repeated_at number pair }
 {
     match pair {
         Some(Pair { first, second }) => Some(Cause::Repeated {
-            place: field_number,
+            place: number,
             first,
             second,
         }),
@@ -68,9 +79,9 @@ fn in_package(alloc: Global, adb: Adb<'_>, pkg: Val) -> Result<Option<Cause>, Al
     ensures { IfOk result (λ cause. cause
         ≡ inside_fault (value_at (payload_of adb.entry) (Kinds.Obj Tables.Package) pkg ∷ [])) }
 {
-    match repeated_at(501, folder_twice(alloc, adb, pkg)?) {
+    match repeated_at(field::FOLDER_NAME, folder_twice(alloc, adb, pkg)?) {
         Some(cause) => Ok(Some(cause)),
-        None => Ok(repeated_at(401, file_twice(alloc, adb, pkg)?)),
+        None => Ok(repeated_at(field::FILE_NAME, file_twice(alloc, adb, pkg)?)),
     }
 }
 
@@ -103,9 +114,9 @@ fn inside_packages(
         ≡ inside_fault (plains_at (payload_of adb.entry) (Kinds.Obj Tables.Package)
         (array_entries packages.entry))) }
 {
-    match repeated_at(501, folders_twice(alloc, adb, packages)?) {
+    match repeated_at(field::FOLDER_NAME, folders_twice(alloc, adb, packages)?) {
         Some(cause) => Ok(Some(cause)),
-        None => Ok(repeated_at(401, files_twice(alloc, adb, packages)?)),
+        None => Ok(repeated_at(field::FILE_NAME, files_twice(alloc, adb, packages)?)),
     }
 }
 
@@ -122,11 +133,11 @@ fn between_packages(
         (array_entries packages.entry))) }
 {
     let mut names = package_names(alloc, adb, packages)?;
-    match repeated_at(901, first_pair(&mut names)) {
+    match repeated_at(field::PACKAGE, first_pair(&mut names)) {
         Some(cause) => Ok(Some(cause)),
         None => {
             let mut paths = all_paths(alloc, adb, packages)?;
-            Ok(repeated_at(401, first_pair(&mut paths)))
+            Ok(repeated_at(field::FILE_NAME, first_pair(&mut paths)))
         }
     }
 }
@@ -139,7 +150,7 @@ fn in_intent(alloc: Global, adb: Adb<'_>, intent: Val) -> Result<Option<Cause>, 
         count_of (entries_in
         (entry_in (value_at (payload_of adb) (Kinds.Obj Tables.Intent) intent) 1)) < 2 ^ 32 }
     ensures { IfOk result (λ cause. cause
-        ≡ repeated_at 1002
+        ≡ repeated_at (field_number Tables.Intent 2)
         (name_twice (value_at (payload_of adb.entry) (Kinds.Obj Tables.Intent) intent))) }
 {
     let removals = texts_field(adb, Which::Intent, intent, 0);
@@ -147,7 +158,7 @@ fn in_intent(alloc: Global, adb: Adb<'_>, intent: Val) -> Result<Option<Cause>, 
     let mut names = Vec::new(alloc);
     add_texts(&mut names, adb, removals)?;
     add_texts(&mut names, adb, writes)?;
-    Ok(repeated_at(1002, first_pair(&mut names)))
+    Ok(repeated_at(field::WRITE, first_pair(&mut names)))
 }
 
 /// A name that two of the objects have, whose first field it is.

@@ -11,16 +11,16 @@ abbrev pub is_below_any : List (List ℕ) → List ℕ → Bool
 is_below_any tops path = list_any (λ top. is_at_or_below top path) tops
 
 -- where a change is prepared, and what is left to do of it
-abbrev pub stage_names : List (List ℕ)
-stage_names = codes "lib/apk/intent" ∷ codes "lib/apk/stage" ∷ []
+abbrev pub intent_and_stage_names : List (List ℕ)
+intent_and_stage_names = codes "lib/apk/intent" ∷ codes "lib/apk/stage" ∷ []
 
 -- those, the world and the database
 abbrev pub reserved_names : List (List ℕ)
 reserved_names = codes "etc/apk/world" ∷ codes "lib/apk/intent" ∷ codes "lib/apk/stage" ∷
     codes "lib/apk/db" ∷ []
 
-abbrev pub is_stage_name : List ℕ → Bool
-is_stage_name path = is_below_any stage_names path
+abbrev pub is_intent_or_stage_name : List ℕ → Bool
+is_intent_or_stage_name path = is_below_any intent_and_stage_names path
 
 abbrev pub is_reserved : List ℕ → Bool
 is_reserved path = is_below_any reserved_names path

@@ -3,7 +3,7 @@ use Rattle.std.specs.Prelude.{ℕ, ◌==◌, nat_lt, nat_le, Bool, true, false, 
 use Rattle.std.specs.Str.{bytes_eq, is_utf8}
 use Rattle.std.specs.List.{list_any}
 use Rattle.base_core.specs.Name.{is_name}
-use Rattle.adb_rules.specs.Reserved.{is_stage_name}
+use Rattle.adb_rules.specs.Reserved.{is_intent_or_stage_name}
 use Rattle.adb_fields.specs.Paths.{path_of}
 
 -- ---- lengths of digests in bytes: SHA-1 has 20, SHA-256 32, SHA-512 64
@@ -35,7 +35,7 @@ is_file_name folder name = is_one_part name && nat_le (length (path_of folder na
 
 -- what a change removes or writes: a path outside of what the change itself is kept in
 abbrev pub is_change_name : List ℕ → Bool
-is_change_name path = is_name path && not (is_stage_name path)
+is_change_name path = is_name path && not (is_intent_or_stage_name path)
 
 -- ---- other texts
 

@@ -10,7 +10,7 @@
 mod rules;
 mod text_walk;
 
-pub use rules::{is_reserved, is_reserved_file, is_stage_name};
+pub use rules::{is_intent_or_stage_name, is_reserved, is_reserved_file};
 pub use text_walk::{
     check_texts, entries_keep_the_rule_of_their_list, no_text_is_bad_where_each_keeps_its_rule,
     the_first_bad_text_is_reported,

@@ -8,7 +8,7 @@ ghost use Rattle.version_core.specs.Order.{is_version};
 ghost use Rattle.dep_core.specs.Value.{is_matching, is_version_or_empty};
 ghost use Rattle.adb_fields.specs.Paths.{path_of};
 ghost use Rattle.adb_rules.specs.Rules.{is_change_name, is_digest_length, is_digest_length_or_none, is_file_name, is_folder_name, is_id_length, is_link, is_name_pattern, is_one_part, is_target};
-ghost use Rattle.adb_rules.specs.Reserved.{is_at_or_below, is_reserved, is_stage_name};
+ghost use Rattle.adb_rules.specs.Reserved.{is_at_or_below, is_intent_or_stage_name, is_reserved};
 
 use base_core::is_name;
 use std::str;
@@ -116,7 +116,7 @@ fn fits_in(folder: &[u8], name: &[u8]) -> bool
 pub(crate) fn is_change_name(path: &[u8]) -> bool
     ensures { result ≡ is_change_name path.now }
 {
-    is_name(path) && !is_stage_name(path)
+    is_name(path) && !is_intent_or_stage_name(path)
 }
 
 /// Whether the bytes are a file's target: empty, or a link's.
@@ -153,8 +153,8 @@ pub(crate) fn is_name_pattern(pattern: &[u8]) -> bool
 
 /// Whether a path is one where a change is prepared, or what is left to do of it is kept:
 /// `lib/apk/intent`, `lib/apk/stage`, or a name below one of them.
-pub fn is_stage_name(path: &[u8]) -> bool
-    ensures { result ≡ is_stage_name path.now }
+pub fn is_intent_or_stage_name(path: &[u8]) -> bool
+    ensures { result ≡ is_intent_or_stage_name path.now }
 {
     is_at_or_below(b"lib/apk/intent", path) || is_at_or_below(b"lib/apk/stage", path)
 }

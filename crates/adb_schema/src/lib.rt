@@ -12,8 +12,8 @@ mod package;
 mod package_info;
 mod read;
 
-pub use adb_fields::{Kinded, List, View};
-pub use adb_rules::{is_reserved, is_reserved_file, is_stage_name};
+pub use adb_fields::{FilePath, Kinded, List, View};
+pub use adb_rules::{is_intent_or_stage_name, is_reserved, is_reserved_file};
 pub use adb_tables::{
     ACL, DEP, DIR, FILE, Field, FieldName, IDB, INDEX, INTENT, Kind, PACKAGE, PKGINFO, SCRIPTS,
     Schema, Shaped, Which, fields_of, shape,

@@ -6,9 +6,9 @@ use Rattle.adb_view.specs.Readers.{kind_of, low_of}
 use Rattle.adb_write.specs.Canonical.{gap, Item, WrittenItem, MOST_BYTES}
 use Rattle.adb_write.specs.Items.{item_of, HasNumbersInRange}
 use Rattle.adb_write.specs.declared.item.Parts.{Parts}
-use Rattle.adb_write.specs.declared.table.Place.{Place}
+use Rattle.adb_write.specs.declared.word_pages.Slot.{Slot}
 use Rattle.adb_write.specs.Keys.{key_of, key_at, HaveRisingKeys}
-use Rattle.adb_write.specs.Table.{AreFilled, words_before, words_behind, IsBetween}
+use Rattle.adb_write.specs.WordPages.{AreFilled, words_before, words_behind, IsBetween}
 use Rattle.adb_write.specs.WriterState.{HasHead, IsStored, AreStored, written_item, items_of_words}
 use Rattle.adb_write.proofs.Placed.{word_kind, word_low}
 use Rattle.adb_write.proofs.Grown.{Grown, grown}
@@ -34,17 +34,17 @@ new_there p new bytes g at h is =
     ap (λ (k : ℕ). drop k new) (is ∙ omega arith) ∙ sym (drop-drop (length body + g) 8 new) ∙ ap (drop (length body + g)) parted ∙ drop_at (body ++ zeros) bytes (length body + g) front in
     ap (take (length bytes)) (far ∙ sym (append-nil bytes)) ∙ take_at bytes [] (length bytes) refl
 
-pub appended : (p new : List ℕ) (pages new_pages : List (List ℕ)) (parts : Parts) (place : Place) (bytes g w : ℕ) → HasHead p → bytes ≡ 8 + length (drop 8 p) → g ≡ gap (item_of parts).align bytes
-    → HaveRisingKeys p (concat pages) → AreStored p (concat pages) → HasNumbersInRange parts → bytes + g + length (item_of parts).bytes ≤ MOST_BYTES → IsBetween p pages (key_of parts) place
+pub appended : (p new : List ℕ) (pages new_pages : List (List ℕ)) (parts : Parts) (slot : Slot) (bytes g w : ℕ) → HasHead p → bytes ≡ 8 + length (drop 8 p) → g ≡ gap (item_of parts).align bytes
+    → HaveRisingKeys p (concat pages) → AreStored p (concat pages) → HasNumbersInRange parts → bytes + g + length (item_of parts).bytes ≤ MOST_BYTES → IsBetween p pages (key_of parts) slot
     → new ≡ p ++ (replicate (bytes + g - length p) 0 ++ (item_of parts).bytes)
-    → concat new_pages ≡ words_before pages place.page place.index ++ w ∷ words_behind pages place.page place.index
+    → concat new_pages ≡ words_before pages slot.page slot.index ++ w ∷ words_behind pages slot.page slot.index
     → w ≡ (item_of parts).kind * 2 ^ 28 + (bytes + g) → Appended p new pages new_pages (item_of parts)
-appended p new pages new_pages parts place bytes g w head agree gap_is rising stored room few between new_is words_are word_is =
+appended p new pages new_pages parts slot bytes g w head agree gap_is rising stored room few between new_is words_are word_is =
     let i : Item = item_of parts in
     let q : List ℕ = replicate (bytes + g - length p) 0 ++ i.bytes in
-    let before : List ℕ = words_before pages place.page place.index in
-    let behind : List ℕ = words_behind pages place.page place.index in
-    let whole : before ++ behind ≡ concat pages = parts_at pages place.page place.index in
+    let before : List ℕ = words_before pages slot.page slot.index in
+    let behind : List ℕ = words_behind pages slot.page slot.index in
+    let whole : before ++ behind ≡ concat pages = parts_at pages slot.page slot.index in
     let at : bytes + g < 2 ^ 28 = omega arith in
     let kind : kind_of w ≡ i.kind = ap kind_of word_is ∙ word_kind i.kind (bytes + g) at in
     let low : low_of w ≡ bytes + g = ap low_of word_is ∙ word_low i.kind (bytes + g) at in

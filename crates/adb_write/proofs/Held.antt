@@ -1,4 +1,4 @@
--- The items of a writer, by the words of its table.
+-- The items of a writer, by the words of its pages.
 use Rattle.std.proofs.Common.{◌≡◌, ◌≢◌, ℕ, zero, suc, ◌+◌, ◌-◌, ◌*◌, ◌/◌, ◌%◌, ◌^◌, ◌<◌, ◌≤◌, Bool, true, false, cond, eqb, ltb, List, [], ◌∷◌, ◌++◌, length, map, take, drop, replicate, Option, Some, None, refl, sym, ap, subst, ◌∙◌, append_assoc, arith, inl, inr, ◌⊎◌}
 use Rattle.std.specs.Prelude.{find, option_map}
 use Rattle.std.specs.List.{AllByRecursion, concat}
@@ -15,7 +15,7 @@ use Rattle.adb_write.specs.Canonical.{Item, WrittenItem, is_equal_item, word_of_
 use Rattle.adb_write.specs.Items.{item_of, HasNumbersInRange}
 use Rattle.adb_write.specs.declared.item.Parts.{Parts}
 use Rattle.adb_write.specs.Keys.{key_of, key_at, HaveRisingKeys}
-use Rattle.adb_write.specs.Table.{AreFilled, AllCompare, IsFoundIn, IsBetween}
+use Rattle.adb_write.specs.WordPages.{AreFilled, AllCompare, IsFoundIn, IsBetween}
 use Rattle.adb_write.specs.WriterState.{HasHead, IsStored, AreStored, written_item, with_item, items_of_words}
 use Rattle.adb_write.proofs.Found.{find-none, Has}
 use Rattle.adb_write.proofs.Rising.{cmp, flipped, IsBelow, less_chain, all_both, all_first, all_last, all_into, all_two, rising_none, rising_head, rising_rest, rising_more, rising_before, rising_with, rising_last}
@@ -82,7 +82,7 @@ new_item [] w behind a = top (written_item w) (items_of_words behind) (all_items
 new_item (v ∷ before) w behind a =
     ap (with_item (written_item v)) (new_item before w behind a.1) ∙ under (written_item w) (written_item v) (items_of_words (before ++ behind)) a.0
 
--- ---- what the table tells of the items
+-- ---- what the pages tell of the items
 
 -- no item equals one that is neither lower nor higher
 pub not_found : (p : List ℕ) (parts : Parts) (ws : List ℕ) (before behind : List ℕ) → before ++ behind ≡ ws → AreStored p ws → HasNumbersInRange parts → length p ≤ MOST_BYTES
@@ -132,7 +132,7 @@ found_word p ws key w stored f =
     let own : IsStored p w = (all_last (IsStored p) f.before (w ∷ f.behind) (subst (AreStored p) f.is stored)).0 in
     omega (arith, own.behind_head)
 
--- ---- a table with one word more
+-- ---- pages with one word more
 
 pub stored_with : (p q : List ℕ) (w : ℕ) (before behind : List ℕ) → AreStored p (before ++ behind) → IsStored (p ++ q) w → AreStored (p ++ q) (before ++ w ∷ behind)
 stored_with p q w before behind s new =

@@ -15,4 +15,5 @@ pub mod AnyOrder
 pub mod DepthFirst
 pub mod Visited
 pub mod Overflow
+pub mod Again
 mod Worked

@@ -1,11 +1,11 @@
 -- A value overflows exactly where its size or the number of its values passes a limit.
-use Rattle.std.proofs.Common.{◌≡◌, ℕ, suc, ◌+◌, ◌^◌, ◌≤◌, Bool, true, false, cond, ltb, List, [], ◌∷◌, ◌++◌, length, Option, Some, None, refl, sym, ap, ◌∙◌, arith, inl, inr, ◌⊎◌, le_trans}
+use Rattle.std.proofs.Common.{◌≡◌, ℕ, suc, ◌+◌, ◌^◌, ◌≤◌, Bool, true, false, cond, ltb, List, [], ◌∷◌, ◌++◌, length, Option, Some, None, Ok, refl, sym, ap, ◌∙◌, arith, inl, inr, ◌⊎◌, ◌<◌, le_trans}
 use Rattle.std.specs.Prelude.{find, is_some, ◌||◌}
 use Rattle.std.specs.Int.{w8, w16, w32, w64, to_le_bytes}
-use Rattle.std.proofs.lemmas.Bool.{cases_lt, lt-ltb, ltb-true}
+use Rattle.std.proofs.lemmas.Bool.{cases_lt, lt-ltb, le-ltb, ltb-true}
 use Rattle.adb_view.specs.Plain.{Plain, null, int, blob, arr, obj, Plains, none, more, IsNormal, AreNormal}
 use Rattle.adb_view.specs.Readers.{ARRAY, OBJECT}
-use Rattle.adb_write.specs.Canonical.{Item, WrittenItem, Cell, in_place, apart, int_item, int_cell, blob_item, blob_cell, run_cell, trimmed_words, Layout, empty_layout, end_offset, is_equal_item, put_unless, put_cell, write, write_all, payload_with_root, PayloadCounts, layout_counts, passes, trace, trace_all, overflow_of, MOST_BYTES, MOST_VALUES}
+use Rattle.adb_write.specs.Canonical.{Item, WrittenItem, Cell, in_place, apart, int_item, int_cell, blob_item, blob_cell, run_cell, trimmed_words, Layout, empty_layout, end_offset, is_equal_item, put_unless, put_cell, write, write_all, payload_with_root, PayloadCounts, layout_counts, passes, trace, trace_all, overflow_of, canonical, or_overflow, written_of, MOST_BYTES, MOST_VALUES}
 use Rattle.adb_write.specs.Size.{size_of, entry_count, entries_of, entries_of_all, value_count}
 use Rattle.adb_write.specs.Writing.{empty_writing, calls}
 use Rattle.adb_write.proofs.RoundTrip.{Grows-here, stored-grows, put_run-grows, write_all-grows, write_all-made, words_stay}
@@ -13,7 +13,7 @@ use Rattle.adb_write.proofs.Limits.{Ends, calls-end, start_fine}
 
 -- ---- the number of values that were written
 
-abbrev entries_in : Cell → ℕ
+abbrev pub entries_in : Cell → ℕ
 entries_in (in_place w) = 0
 entries_in (apart i) = i.entries
 
@@ -25,7 +25,7 @@ stored_values : (c : Cell) (out : Layout) → (put_cell c out).1.values ≡ out.
 stored_values (in_place w) out = omega arith
 stored_values (apart i) out = unless_values (find (is_equal_item out.body i) out.items) i out
 
-int_entries : (n : ℕ) → entries_in (int_cell n) ≡ 0
+pub int_entries : (n : ℕ) → entries_in (int_cell n) ≡ 0
 int_entries n = go (ltb n (2 ^ 28)) (ltb n (2 ^ 32))
   where
     go : (a b : Bool) → entries_in (cond a (in_place (2 ^ 28 + n)) (apart (cond b (record { kind = 2; align = 4; bytes = to_le_bytes w32 n; entries = 0 }) (record { kind = 3; align = 8; bytes = to_le_bytes w64 n; entries = 0 })))) ≡ 0
@@ -33,7 +33,7 @@ int_entries n = go (ltb n (2 ^ 28)) (ltb n (2 ^ 32))
     go false true = refl
     go false false = refl
 
-blob_entries : (b : List ℕ) → entries_in (blob_cell b) ≡ 0
+pub blob_entries : (b : List ℕ) → entries_in (blob_cell b) ≡ 0
 blob_entries [] = refl
 blob_entries (x ∷ xs) = go (ltb (length (x ∷ xs)) (2 ^ 8)) (ltb (length (x ∷ xs)) (2 ^ 16))
   where
@@ -42,11 +42,11 @@ blob_entries (x ∷ xs) = go (ltb (length (x ∷ xs)) (2 ^ 8)) (ltb (length (x �
     go false true = refl
     go false false = refl
 
-run_entries : (kind : ℕ) (ws : List ℕ) → entries_in (run_cell kind ws) ≡ length ws
+pub run_entries : (kind : ℕ) (ws : List ℕ) → entries_in (run_cell kind ws) ≡ length ws
 run_entries kind [] = refl
 run_entries kind (w ∷ ws) = refl
 
-words_count : (vs : Plains) (out : Layout) → length (write_all vs out).0 ≡ entry_count vs
+pub words_count : (vs : Plains) (out : Layout) → length (write_all vs out).0 ≡ entry_count vs
 unfolding write
 words_count none out = refl
 words_count (more v vs) out = ap suc (words_count vs (write v out).1)
@@ -177,3 +177,23 @@ overflow_exact v n = overflow_final v ∙ same
           let values : (write v empty_layout).1.values ≡ value_count v = write_values v empty_layout n a in
           rw (size, values) refl
     ]
+
+-- ---- up to both limits
+
+pub fits_written : (v : Plain) → IsNormal v → size_of v < 2 ^ 28 → value_count v ≤ 2 ^ 22 → written_of v ≡ Ok (canonical v)
+unfolding written_of
+fits_written v n size values = ap (or_overflow (canonical v)) (nothing (overflow_of v) (overflow_exact v n ∙ fine))
+  where
+    fine : passes (size_of v, value_count v) ≡ false
+    fine =
+        let t : ltb MOST_BYTES (size_of v) ≡ false = le-ltb _ _ (omega arith) in
+        let u : ltb MOST_VALUES (value_count v) ≡ false = le-ltb _ _ (omega arith) in
+        rw (t, u) refl
+
+    nothing : (o : Option PayloadCounts) → is_some o ≡ false → o ≡ None
+    nothing None e = refl
+    nothing (Some c) e = absurd cc
+
+pub larger_refused : (v : Plain) → IsNormal v → (2 ^ 28 ≤ size_of v) ⊎ (2 ^ 22 < value_count v) → is_some (overflow_of v) ≡ true
+larger_refused v n (inl size) = overflow_exact v n ∙ (let t : ltb MOST_BYTES (size_of v) ≡ true = lt-ltb _ _ (omega arith) in rw t refl)
+larger_refused v n (inr values) = overflow_exact v n ∙ (let t : ltb MOST_VALUES (value_count v) ≡ true = lt-ltb _ _ (omega arith) in rw t (or_right (ltb MOST_BYTES (size_of v))))

@@ -12,11 +12,11 @@ use Rattle.std.proofs.lemmas.Cmp.{nat_list_cmp_total}
 use Rattle.std.proofs.lemmas.List.{drop_more, length-append, length-take, length-drop, drop-drop, get_or-map, length-map, map-set}
 use Rattle.std.proofs.lemmas.List.Edits.{get_or-insert_below}
 use Rattle.adb_write.specs.Keys.{key_at, HaveRisingKeys}
-use Rattle.adb_write.specs.Table.{page_at, words_before, words_behind, IsPlaceIn, IsSamePlace, AreFilled, HALF, with_split, begins_above, AllCompare, IsPageFor, IsFoundIn, IsBetween}
-use Rattle.adb_write.specs.declared.table.Place.{Place}
+use Rattle.adb_write.specs.WordPages.{page_at, words_before, words_behind, IsSlotIn, IsSameSlot, AreFilled, HALF, with_split, begins_above, AllCompare, IsPageFor, IsFoundIn, IsBetween}
+use Rattle.adb_write.specs.declared.word_pages.Slot.{Slot}
 use Rattle.adb_write.proofs.Rising.{cmp, flipped, IsBelow, less_chain, all_both, all_first, all_last, all_into, all_front, all_back, rising_none, rising_head, rising_rest, rising_first, rising_last, rising_before}
 
--- ---- a place parts the words
+-- ---- a slot parts the words
 
 pub parts_at : (pages : List (List ℕ)) (k index : ℕ) → words_before pages k index ++ words_behind pages k index ≡ concat pages
 parts_at [] k index = refl
@@ -115,23 +115,23 @@ start_lower p key (page ∷ pages) = tt
 
 -- ---- places
 
-pub place_in : (pages : List (List ℕ)) (k index : ℕ) → k < length pages → index ≤ length (page_at pages k) → IsPlaceIn pages k index
-place_in [] k index within upto = absurd (omega arith)
-place_in (page ∷ pages) zero index within upto = upto
-place_in (page ∷ []) (suc k) index within upto = absurd (omega arith)
-place_in (page ∷ next ∷ pages) (suc k) index within upto = place_in (next ∷ pages) k index (omega arith) upto
+pub slot_in : (pages : List (List ℕ)) (k index : ℕ) → k < length pages → index ≤ length (page_at pages k) → IsSlotIn pages k index
+slot_in [] k index within upto = absurd (omega arith)
+slot_in (page ∷ pages) zero index within upto = upto
+slot_in (page ∷ []) (suc k) index within upto = absurd (omega arith)
+slot_in (page ∷ next ∷ pages) (suc k) index within upto = slot_in (next ∷ pages) k index (omega arith) upto
 
-pub place_page : (pages : List (List ℕ)) (k index : ℕ) → 0 < length pages → IsPlaceIn pages k index → k < length pages
-place_page [] k index some i = absurd (omega arith)
-place_page (page ∷ pages) zero index some i = omega arith
-place_page (page ∷ []) (suc k) index some i = absurd i
-place_page (page ∷ next ∷ pages) (suc k) index some i = let m = place_page (next ∷ pages) k index (omega arith) i in omega arith
+pub slot_page : (pages : List (List ℕ)) (k index : ℕ) → 0 < length pages → IsSlotIn pages k index → k < length pages
+slot_page [] k index some i = absurd (omega arith)
+slot_page (page ∷ pages) zero index some i = omega arith
+slot_page (page ∷ []) (suc k) index some i = absurd i
+slot_page (page ∷ next ∷ pages) (suc k) index some i = let m = slot_page (next ∷ pages) k index (omega arith) i in omega arith
 
-pub place_index : (pages : List (List ℕ)) (k index : ℕ) → 0 < length pages → IsPlaceIn pages k index → index ≤ length (page_at pages k)
-place_index [] k index some i = absurd (omega arith)
-place_index (page ∷ pages) zero index some i = i
-place_index (page ∷ []) (suc k) index some i = absurd i
-place_index (page ∷ next ∷ pages) (suc k) index some i = place_index (next ∷ pages) k index (omega arith) i
+pub slot_index : (pages : List (List ℕ)) (k index : ℕ) → 0 < length pages → IsSlotIn pages k index → index ≤ length (page_at pages k)
+slot_index [] k index some i = absurd (omega arith)
+slot_index (page ∷ pages) zero index some i = i
+slot_index (page ∷ []) (suc k) index some i = absurd i
+slot_index (page ∷ next ∷ pages) (suc k) index some i = slot_index (next ∷ pages) k index (omega arith) i
 
 -- ---- one word more in a page
 
@@ -179,7 +179,7 @@ split_upper [] (suc k) = refl
 split_upper (page ∷ pages) zero = refl
 split_upper (page ∷ pages) (suc k) = split_upper pages k
 
--- ---- a list in two at h, seen from a place before it or behind it
+-- ---- a list in two at h, seen from a slot before it or behind it
 
 take_take : (i h : ℕ) (xs : List ℕ) → i ≤ h → take i (take h xs) ≡ take i xs
 take_take zero h xs upto = refl
@@ -220,23 +220,23 @@ upper_behind_same [] k n i is = refl
 upper_behind_same (page ∷ pages) zero n i is = ap (λ (x : List ℕ). x ++ concat pages) (drop-drop n HALF page ∙ ap (λ (m : ℕ). drop m page) (sym is))
 upper_behind_same (page ∷ pages) (suc k) n i is = upper_behind_same pages k n i is
 
-pub lower_place : (pages new : List (List ℕ)) (k index : ℕ) → new ≡ with_split pages k → k < length pages → HALF < length (page_at pages k) → index ≤ HALF
-    → IsPlaceIn new k index × (words_before new k index ≡ words_before pages k index) × (words_behind new k index ≡ words_behind pages k index)
-lower_place pages new k index is within full upto =
+pub lower_slot : (pages new : List (List ℕ)) (k index : ℕ) → new ≡ with_split pages k → k < length pages → HALF < length (page_at pages k) → index ≤ HALF
+    → IsSlotIn new k index × (words_before new k index ≡ words_before pages k index) × (words_behind new k index ≡ words_behind pages k index)
+lower_slot pages new k index is within full upto =
     let long : index ≤ length (page_at (with_split pages k) k) = omega (arith, ap length (split_lower pages k), length-take HALF (page_at pages k)) in
-    subst (λ (ps : List (List ℕ)). IsPlaceIn ps k index × (words_before ps k index ≡ words_before pages k index) × (words_behind ps k index ≡ words_behind pages k index)) (sym is)
-    (place_in (with_split pages k) k index (omega (arith, split_long pages k within)) long, lower_before_same pages k index upto, lower_behind_same pages k index upto)
+    subst (λ (ps : List (List ℕ)). IsSlotIn ps k index × (words_before ps k index ≡ words_before pages k index) × (words_behind ps k index ≡ words_behind pages k index)) (sym is)
+    (slot_in (with_split pages k) k index (omega (arith, split_long pages k within)) long, lower_before_same pages k index upto, lower_behind_same pages k index upto)
 
-pub upper_place : (pages new : List (List ℕ)) (k index : ℕ) → new ≡ with_split pages k → k < length pages → index ≤ length (page_at pages k) → HALF < index
-    → IsPlaceIn new (k + 1) (index - HALF) × (words_before new (k + 1) (index - HALF) ≡ words_before pages k index) × (words_behind new (k + 1) (index - HALF) ≡ words_behind pages k index)
-upper_place pages new k index is within upto past =
+pub upper_slot : (pages new : List (List ℕ)) (k index : ℕ) → new ≡ with_split pages k → k < length pages → index ≤ length (page_at pages k) → HALF < index
+    → IsSlotIn new (k + 1) (index - HALF) × (words_before new (k + 1) (index - HALF) ≡ words_before pages k index) × (words_behind new (k + 1) (index - HALF) ≡ words_behind pages k index)
+upper_slot pages new k index is within upto past =
     let n : ℕ = index - HALF in
     let whole : index ≡ HALF + n = omega arith in
     let next : suc k ≡ k + 1 = omega arith in
     let long : n ≤ length (page_at (with_split pages k) (suc k)) = omega (arith, ap length (split_upper pages k), length-drop HALF (page_at pages k)) in
-    subst (λ (ps : List (List ℕ)). IsPlaceIn ps (k + 1) n × (words_before ps (k + 1) n ≡ words_before pages k index) × (words_behind ps (k + 1) n ≡ words_behind pages k index)) (sym is)
-    (subst (λ (m : ℕ). IsPlaceIn (with_split pages k) m n × (words_before (with_split pages k) m n ≡ words_before pages k index) × (words_behind (with_split pages k) m n ≡ words_behind pages k index)) next
-    (place_in (with_split pages k) (suc k) n (omega (arith, split_long pages k within)) long, upper_before_same pages k n index whole, upper_behind_same pages k n index whole))
+    subst (λ (ps : List (List ℕ)). IsSlotIn ps (k + 1) n × (words_before ps (k + 1) n ≡ words_before pages k index) × (words_behind ps (k + 1) n ≡ words_behind pages k index)) (sym is)
+    (subst (λ (m : ℕ). IsSlotIn (with_split pages k) m n × (words_before (with_split pages k) m n ≡ words_before pages k index) × (words_behind (with_split pages k) m n ≡ words_behind pages k index)) next
+    (slot_in (with_split pages k) (suc k) n (omega (arith, split_long pages k within)) long, upper_before_same pages k n index whole, upper_behind_same pages k n index whole))
 
 -- ---- the pages as vectors have them
 
@@ -299,15 +299,15 @@ pub filled_vectors : {V : Type 0} (f : V → List ℕ) (old : List V) (k index w
 filled_vectors f old k index w t r filled is =
     subst AreFilled (sym (map-set f old k t)) (filled_set (map f old) k (f t) filled (omega (arith, ap length is, length-append (take index (f r)) (w ∷ drop index (f r)))))
 
-pub place_long : {V : Type 0} (f : V → List ℕ) (old : List V) (k index : ℕ) (r : V) → k < length old → r ≡ get_or old k r → IsPlaceIn (map f old) k index → index ≤ length (f r)
-place_long f old k index r within here inside =
-    let long = place_index (map f old) k index (omega (arith, length-map old f)) inside in
+pub slot_long : {V : Type 0} (f : V → List ℕ) (old : List V) (k index : ℕ) (r : V) → k < length old → r ≡ get_or old k r → IsSlotIn (map f old) k index → index ≤ length (f r)
+slot_long f old k index r within here inside =
+    let long = slot_index (map f old) k index (omega (arith, length-map old f)) inside in
     omega (arith, ap length (page_of_map f old k r within ∙ ap f (sym here)))
 
-pub same_words : (pages new : List (List ℕ)) (place there : Place) → IsSamePlace pages place new there → concat new ≡ concat pages
-same_words pages new place there same =
+pub same_words : (pages new : List (List ℕ)) (slot there : Slot) → IsSameSlot pages slot new there → concat new ≡ concat pages
+same_words pages new slot there same =
     sym (parts_at new there.page there.index) ∙ ap (λ (x : List ℕ). x ++ words_behind new there.page there.index) same.before
-    ∙ ap (λ (x : List ℕ). words_before pages place.page place.index ++ x) same.behind ∙ parts_at pages place.page place.index
+    ∙ ap (λ (x : List ℕ). words_before pages slot.page slot.index ++ x) same.behind ∙ parts_at pages slot.page slot.index
 
 -- ---- the page for a key
 
@@ -322,7 +322,7 @@ page_for_first p key (page ∷ pages) r e = record {
 pub page_for_next : (p key : List ℕ) (pages : List (List ℕ)) (k : ℕ) → AreFilled pages → HaveRisingKeys p (concat pages) → k < length pages → begins_above p key (page_at pages k) ≡ false
     → (suc k < length pages → begins_above p key (page_at pages (suc k)) ≡ true) → IsPageFor p pages key k
 page_for_next p key pages k f r within low high = record {
-  inside = place_in pages k 0 within (omega arith);
+  inside = slot_in pages k 0 within (omega arith);
   lower = lower_before p key pages k f r within low;
   higher = elim (cases_lt (suc k) (length pages)) [
     | inl more ↦ above_behind p key pages (suc k) r more (high more)
@@ -376,7 +376,7 @@ page_for f p key vs (suc r) k filled rising upto is point =
         go [] e = absurd (omega (arith, ap length e))
         go (u ∷ us) e = subst (λ (q : List ℕ). P (begins_above p key q)) (sym (page_of_map f vs i u within)) (h u)
 
--- ---- the place in the page
+-- ---- the slot in the page
 
 pub found_at : (p : List ℕ) (pages : List (List ℕ)) (key : List ℕ) (k index w : ℕ) → index < length (page_at pages k) → w ≡ get_or (page_at pages k) index w → cmp key (key_at p w) ≡ Equal → IsFoundIn p (concat pages) key w
 found_at p pages key k index w within here equal = record {
@@ -388,7 +388,7 @@ found_at p pages key k index w within here equal = record {
   equal = equal;
 }
 
-pub between_at : (p : List ℕ) (pages : List (List ℕ)) (key : List ℕ) (k index : ℕ) → IsPageFor p pages key k → IsPlaceIn pages k index
+pub between_at : (p : List ℕ) (pages : List (List ℕ)) (key : List ℕ) (k index : ℕ) → IsPageFor p pages key k → IsSlotIn pages k index
     → AllCompare Greater p key (take index (page_at pages k)) → AllCompare Less p key (drop index (page_at pages k)) → IsBetween p pages key (record { page = k; index = index })
 between_at p pages key k index page inside low high = record {
   inside = inside;
@@ -420,4 +420,4 @@ searched_equal p key ws i w here h = ap (λ v. cmp key (key_at p v)) here ∙ re
 
 pub no_page : (p key : List ℕ) (pages : List (List ℕ)) (k : ℕ) → IsPageFor p pages key k → length pages ≤ k → IsBetween p pages key (record { page = k; index = 0 })
 no_page p key [] k page past = record { inside = page.inside; lower = tt; higher = tt }
-no_page p key (first ∷ pages) k page past = absurd (let within = place_page (first ∷ pages) k 0 (omega arith) page.inside in omega arith)
+no_page p key (first ∷ pages) k page past = absurd (let within = slot_page (first ∷ pages) k 0 (omega arith) page.inside in omega arith)

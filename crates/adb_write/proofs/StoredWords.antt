@@ -1,4 +1,4 @@
--- What a word of the table leads to is read as it was written, and is found by its key.
+-- What a word of the pages leads to is read as it was written, and is found by its key.
 use Rattle.std.proofs.Common.{◌≡◌, ◌≢◌, ℕ, zero, suc, ◌+◌, ◌-◌, ◌*◌, ◌/◌, ◌%◌, ◌^◌, ◌<◌, ◌≤◌, Bool, true, false, cond, eqb, leb, ltb, List, [], ◌∷◌, ◌++◌, length, map, take, drop, replicate, Option, Some, None, Ok, refl, sym, ap, subst, ◌∙◌, append_assoc, arith, inl, inr, ◌⊎◌, take-append-drop, eq-eqb}
 use Rattle.std.specs.Prelude.{find, option_map, bytes_eq, ◌&&◌}
 use Rattle.std.specs.List.{AllByRecursion, flat_map, concat}
@@ -94,7 +94,7 @@ read_content p w (stored_blob b) small l =
 read_content p w (stored_list Array ws) small l = ap or_empty (run_of-placed ARRAY p w ws small.0 small.1 l)
 read_content p w (stored_list Object ws) small l = ap or_empty (run_of-placed OBJECT p w ws small.0 small.1 l)
 
--- ---- what a word of the table leads to
+-- ---- what a word of the pages leads to
 
 pub item_few : (s : Stored) → (item_of_stored s).kind < 15
 item_few (stored_int n) = elim (int_kind n) [ inl k ↦ omega arith | inr k ↦ omega arith ]

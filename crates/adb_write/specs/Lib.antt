@@ -8,5 +8,5 @@ pub mod DepthFirst
 pub mod StandsFor
 pub mod Items
 pub mod Keys
-pub mod Table
+pub mod WordPages
 pub mod WriterState

@@ -2,7 +2,7 @@
 -- lists.
 use Rattle.std.specs.Prelude.{ℕ, suc, ◌+◌, length}
 use Rattle.adb_view.specs.Plain.{Plain, null, int, blob, arr, obj, Plains, none, more}
-use Rattle.adb_write.specs.Canonical.{canonical}
+use Rattle.adb_write.specs.Canonical.{Layout, canonical}
 
 abbrev pub size_of : Plain → ℕ
 size_of v = length (canonical v)
@@ -25,3 +25,7 @@ unfoldable mutual
 
 abbrev pub value_count : Plain → ℕ
 value_count v = 1 + entries_of v
+
+-- the same with so many entries more, and nothing else
+abbrev pub with_entries : ℕ → Layout → Layout
+with_entries n out = record out { values = out.values + n }

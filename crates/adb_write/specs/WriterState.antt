@@ -7,7 +7,7 @@ use Rattle.adb_write.specs.Canonical.{Item, WrittenItem, is_equal_item, word_of_
 use Rattle.adb_write.specs.Writing.{Writing, is_over}
 use Rattle.adb_write.specs.Items.{list_kind}
 use Rattle.adb_write.specs.Keys.{HaveRisingKeys}
-use Rattle.adb_write.specs.Table.{AreFilled}
+use Rattle.adb_write.specs.WordPages.{AreFilled}
 use Rattle.adb_write.specs.declared.item.ListKind.{ListKind}
 use Rattle.adb_write.specs.declared.writer.WriteFault.{WriteFault}
 use Rattle.adb_write.specs.declared.writer.WriteFault.TheVariants.{TooLarge, Memory}
@@ -16,7 +16,7 @@ use Rattle.adb_write.specs.declared.writer.WriteFault.TheVariants.{TooLarge, Mem
 abbrev pub HasHead : List ℕ → Type 0
 HasHead payload = (payload ≡ []) ⊎ (take 8 payload ≡ replicate 8 0)
 
--- ---- what a word of the table leads to
+-- ---- what a word of the pages leads to
 
 pub data Stored : Type 0 where
   stored_int : ℕ → Stored
@@ -63,7 +63,8 @@ items_of_words (word ∷ words) = with_item (written_item word) (items_of_words 
 
 -- ---- the writer
 
-pub record IsWriterState (payload : List ℕ) (pages : List (List ℕ)) (bytes values : ℕ) : Type 0 where
+pub record IsWriterState (payload : List ℕ) (pages : List (List ℕ))
+    (bytes values : ℕ) : Type 0 where
   pub head : HasHead payload
   pub agree : passes (bytes, values) ≡ false → bytes ≡ 8 + length (drop 8 payload)
   pub filled : AreFilled pages

@@ -4,8 +4,8 @@ use Rattle.adb_view.specs.Plain.{Plain, null, int, blob, arr, obj, Plains, none,
 use Rattle.adb_view.specs.Readers.{ARRAY, OBJECT}
 use Rattle.adb_write.specs.Canonical.{WrittenItem, Cell, in_place, apart, int_cell, blob_cell, run_cell, trimmed_words, Layout, put_cell, PayloadCounts, layout_counts, passes, payload_with_root}
 
--- The payload behind its first eight bytes, and its items. The counts are those of what was written,
--- or, once a value passed a limit, the ones just behind that value.
+-- The payload behind its first eight bytes, and its items. The counts are those of what was
+-- written, or, once a value passed a limit, the ones just behind that value.
 pub record Writing : Type 0 where
   pub body : List ℕ
   pub items : List WrittenItem
@@ -36,7 +36,8 @@ writing_of out = writing_by out.body out.items (layout_counts out).0 (layout_cou
 -- past a limit the value is only counted
 abbrev pub unless_over : Writing → ℕ × Layout → ℕ × Writing
 unless_over w r =
-    if passes (layout_counts r.1) then (0, record (writing_of r.1) { body = w.body; items = w.items })
+    if passes (layout_counts r.1)
+    then (0, record (writing_of r.1) { body = w.body; items = w.items })
     else (r.0, writing_of r.1)
 
 -- One call: the value's word, or NULL from the first value on that passes a limit. A value that its

@@ -1,12 +1,12 @@
 //! What follows from the definitions, for every value and every writer.
-ghost use Rattle.std.specs.Prelude.{◌≡◌, ◌≤◌, ◌<◌, ◌^◌, ℕ, List, [], ◌∷◌, ◌++◌, false, length, Some, Ok, is_some};
+ghost use Rattle.std.specs.Prelude.{◌≡◌, ◌≤◌, ◌<◌, ◌^◌, ◌⊎◌, ℕ, List, [], ◌∷◌, ◌++◌, false, true, length, Some, Ok, is_some};
 ghost use Rattle.adb_view.specs.Plain.{Plain, null, int, Plains, none, more, blob_value, arr_value, obj_value, Shape, IsNormal, plain_of, value_of};
 ghost use Rattle.adb_view.specs.Head.{root_of};
 ghost use Rattle.adb_view.specs.Visits.{visits};
 ghost use Rattle.adb_block.specs.Container.{Spells};
 ghost use Rattle.adb_write.specs.File.{adb_piece, file_of};
-ghost use Rattle.adb_write.specs.Canonical.{canonical, passes, overflow_of, written_of, payload_with_root, MOST_BYTES};
-ghost use Rattle.adb_write.specs.Size.{size_of, value_count};
+ghost use Rattle.adb_write.specs.Canonical.{Layout, empty_layout, end_offset, write, canonical, passes, overflow_of, written_of, payload_with_root, MOST_BYTES};
+ghost use Rattle.adb_write.specs.Size.{size_of, entries_of, value_count, with_entries};
 ghost use Rattle.adb_write.specs.Writing.{Writing, empty_writing, is_over, layout_of, int_call, blob_call, arr_call, obj_call, finish_result};
 ghost use Rattle.adb_write.specs.DepthFirst.{WritesValue, WritesValues, push};
 ghost use Rattle.adb_view.specs.Shaped.{HasShape};
@@ -100,6 +100,25 @@ pub fn a_finished_payload_is_read_back()
 pub fn a_value_overflows_exactly_past_a_limit()
     ensures { (v : Plain) → IsNormal v
         → is_some (overflow_of v) ≡ passes (size_of v, value_count v) }
+{}
+
+/// A normal value is written where its payload has at most 2^28 - 1 bytes, the offsets that a word
+/// can say (apk-v3(5)), and it has at most 2^22 values, as many as a reader takes; and nowhere else.
+pub fn a_value_is_written_up_to_both_limits()
+    ensures written { (v : Plain) → IsNormal v → size_of v < 2 ^ 28 → value_count v ≤ 2 ^ 22
+        → written_of v ≡ Ok (canonical v) }
+    ensures refused { (v : Plain) → IsNormal v → (2 ^ 28 ≤ size_of v) ⊎ (2 ^ 22 < value_count v)
+        → is_some (overflow_of v) ≡ true }
+{}
+
+/// A value is stored once. Whatever is written before it and since, to write it again answers the
+/// same word, adds no byte and no item, and counts its entries.
+pub fn a_value_is_stored_once()
+    ensures { (before v since : Plain) → IsNormal v
+        → let first : ℕ × Layout = write v (write before empty_layout).1
+        in let later : Layout = (write since first.1).1
+        in end_offset later ≤ MOST_BYTES
+        → write v later ≡ (first.0, with_entries (entries_of v) later) }
 {}
 
 /// A walk over a canonical payload visits as many words as the value has values. So what is written

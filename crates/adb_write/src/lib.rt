@@ -13,13 +13,14 @@
 mod item;
 mod laws;
 mod store;
-mod table;
+mod word_pages;
 mod writer;
 
 pub use laws::{
     a_canonical_payload_is_read_back, a_canonical_payload_is_visited_once, a_file_is_spelled,
-    a_finished_payload_is_read_back, a_value_overflows_exactly_past_a_limit,
-    a_value_written_depth_first_is_canonical, a_word_is_read_as_its_value, a_word_keeps_its_value,
-    an_answer_stands_for_its_value, values_are_written_depth_first,
+    a_finished_payload_is_read_back, a_value_is_stored_once, a_value_is_written_up_to_both_limits,
+    a_value_overflows_exactly_past_a_limit, a_value_written_depth_first_is_canonical,
+    a_word_is_read_as_its_value, a_word_keeps_its_value, an_answer_stands_for_its_value,
+    values_are_written_depth_first,
 };
 pub use writer::{WriteFault, Writer, file_of};

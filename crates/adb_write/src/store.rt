@@ -1,14 +1,14 @@
-//! The bytes of a payload as they are written, and the table by which they are found again.
+//! The bytes of a payload as they are written, and the words by which they are found again.
 
 ghost use Rattle.std.specs.Prelude.{◌≡◌, ◌≤◌, ◌-◌, [], ◌∷◌, ◌++◌, length, replicate, OnOk, OnErr};
 ghost use Rattle.std.specs.List.{concat};
 ghost use Rattle.adb_write.specs.Items.{item_of};
 ghost use Rattle.adb_write.specs.Keys.{key_of, HaveRisingKeys};
-ghost use Rattle.adb_write.specs.Table.{AreFilled, pages_of, words_before, words_behind, IsPlaceIn, FindsIn};
+ghost use Rattle.adb_write.specs.WordPages.{AreFilled, pages_of, words_before, words_behind, IsSlotIn, FindsIn};
 ghost use Rattle.adb_write.specs.WriterState.{HasHead, AreStored};
 
 use crate::item::Parts;
-use crate::table::{Place, Table};
+use crate::word_pages::{Slot, WordPages};
 use adb_view::{Adb, Val};
 use std::alloc::{AllocError, Global};
 
@@ -18,62 +18,63 @@ pub(crate) struct Store {
     /// Nothing, or the head with zeros in it and what was written behind it.
     pub payload: Vec<u8>,
     /// The words that lead to the items in it.
-    pub table: Table,
+    pub words: WordPages,
 }
 
 impl Store {
     /// A store without anything in it.
     pub(crate) fn new(alloc: Global) -> Store
         ensures payload { result.payload.items ≡ [] }
-        ensures table { pages_of result.table ≡ [] }
+        ensures words { pages_of result.words ≡ [] }
     {
         Store {
             payload: Vec::new(alloc),
-            table: Table::new(alloc),
+            words: WordPages::new(alloc),
         }
     }
 
-    /// The word that leads to an item that equals this one, or the place in the table where its
+    /// The word that leads to an item that equals this one, or the slot in the pages where its
     /// word would stand.
-    pub(crate) fn find(&self, parts: &Parts<'_>) -> Result<Val, Place>
+    pub(crate) fn find(&self, parts: &Parts<'_>) -> Result<Val, Slot>
         requires head { HasHead self.now.payload.items }
-        requires filled { AreFilled (pages_of self.now.table) }
-        requires rising { HaveRisingKeys self.now.payload.items (concat (pages_of self.now.table)) }
-        requires stored { AreStored self.now.payload.items (concat (pages_of self.now.table)) }
-        ensures { FindsIn self.now.payload.items (pages_of self.now.table) (key_of parts.now) result }
+        requires filled { AreFilled (pages_of self.now.words) }
+        requires rising { HaveRisingKeys self.now.payload.items (concat (pages_of self.now.words)) }
+        requires stored { AreStored self.now.payload.items (concat (pages_of self.now.words)) }
+        ensures { FindsIn self.now.payload.items (pages_of self.now.words) (key_of parts.now)
+            result }
     {
         match Adb::new(&self.payload) {
-            Ok(adb) => self.table.find(&adb, parts),
-            Err(_) => Err(Place { page: 0, index: 0 }),
+            Ok(adb) => self.words.find(&adb, parts),
+            Err(_) => Err(Slot { page: 0, index: 0 }),
         }
     }
 
-    /// Adds zeros up to an offset, the item there, and its word at this place. A refused growth
+    /// Adds zeros up to an offset, the item there, and its word at this slot. A refused growth
     /// leaves the bytes and the words as they were.
     pub(crate) fn append(
         &mut self,
         parts: &Parts<'_>,
         at: usize,
-        place: Place,
+        slot: Slot,
         word: Val,
     ) -> Result<(), AllocError>
         requires behind { length self.old.payload.items ≤ at }
-        requires filled { AreFilled (pages_of self.old.table) }
-        requires inside { IsPlaceIn (pages_of self.old.table) place.page place.index }
-        ensures filled { AreFilled (pages_of self.new.table) }
+        requires filled { AreFilled (pages_of self.old.words) }
+        requires inside { IsSlotIn (pages_of self.old.words) slot.page slot.index }
+        ensures filled { AreFilled (pages_of self.new.words) }
         ensures bytes { OnOk result (self.new.payload.items
             ≡ self.old.payload.items
             ++ (replicate (at - length self.old.payload.items) 0 ++ (item_of parts.now).bytes)) }
-        ensures words { OnOk result (concat (pages_of self.new.table)
-            ≡ words_before (pages_of self.old.table) place.page place.index
-            ++ word ∷ words_behind (pages_of self.old.table) place.page place.index) }
+        ensures words { OnOk result (concat (pages_of self.new.words)
+            ≡ words_before (pages_of self.old.words) slot.page slot.index
+            ++ word ∷ words_behind (pages_of self.old.words) slot.page slot.index) }
         ensures same_bytes { OnErr result (self.new.payload.items ≡ self.old.payload.items) }
         ensures same_words { OnErr result
-            (concat (pages_of self.new.table) ≡ concat (pages_of self.old.table)) }
+            (concat (pages_of self.new.words) ≡ concat (pages_of self.old.words)) }
     {
         let len = self.payload.len();
         parts.append(&mut self.payload, at)?;
-        let entered = self.table.insert(place, word);
+        let entered = self.words.insert(slot, word);
         if entered.is_err() {
             self.payload.truncate(len);
         }

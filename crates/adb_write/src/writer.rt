@@ -1,7 +1,7 @@
 //! The writer of a payload with its limits and its refusals, and the file around a payload.
 
 ghost use Rattle.std.specs.Prelude.{◌≡◌, ◌<◌, ◌≤◌, ◌+◌, ◌^◌, false, IfOk, OnErr, length};
-ghost use Rattle.adb_write.specs.Canonical.{passes, gap, in_place, apart, run_cell, trimmed_words};
+ghost use Rattle.adb_write.specs.Canonical.{MOST_BYTES, passes, gap, in_place, apart, run_cell, trimmed_words};
 ghost use Rattle.adb_view.specs.Plain.{Plains, int, blob_value, arr_value, obj_value};
 ghost use Rattle.adb_write.specs.DepthFirst.{WritesValue, WritesValues};
 ghost use Rattle.adb_write.specs.Writing.{Writing, Grows, empty_writing, is_over, call, int_call, blob_call, arr_call, obj_call, finish_result};
@@ -86,15 +86,15 @@ impl Model for Writer {
     ghost use Rattle.std.specs.Prelude.{drop};
     ghost use Rattle.adb_write.specs.Writing.{Writing, writing_by};
     ghost use Rattle.std.specs.List.{concat};
-    ghost use Rattle.adb_write.specs.Table.{pages_of};
+    ghost use Rattle.adb_write.specs.WordPages.{pages_of};
     ghost use Rattle.adb_write.specs.WriterState.{IsWriterState, items_of_words};
 
     ghost Value = { Writing };
 
     ghost view = { λ w. writing_by (drop 8 w.store.payload.items)
-        (items_of_words (concat (pages_of w.store.table))) w.counts.bytes w.counts.values };
+        (items_of_words (concat (pages_of w.store.words))) w.counts.bytes w.counts.values };
 
-    ghost invariant = { λ w. IsWriterState w.store.payload.items (pages_of w.store.table)
+    ghost invariant = { λ w. IsWriterState w.store.payload.items (pages_of w.store.words)
         w.counts.bytes w.counts.values };
 }
 
@@ -226,9 +226,9 @@ impl Writer {
         if self.counts.passes() {
             return Ok(Val::of(0));
         }
-        let place = match self.store.find(parts) {
+        let slot = match self.store.find(parts) {
             Ok(word) => return Ok(self.repeat(parts, word)),
-            Err(place) => place,
+            Err(slot) => slot,
         };
         let before = self.counts;
         let at = before.bytes + gap(parts.width().len() as u64, before.bytes);
@@ -241,7 +241,7 @@ impl Writer {
             return Ok(Val::of(0));
         }
         let word = Val::of(parts.kind() * 0x1000_0000 + at as u32);
-        self.store.append(parts, at as usize, place, word)?;
+        self.store.append(parts, at as usize, slot, word)?;
         self.counts = counts;
         Ok(word)
     }
@@ -288,7 +288,7 @@ const FILE_HEADER: usize = 8;
 /// The container of this schema with one block, which holds the payload, and no signatures
 /// (apk-v3(5)). Its padding is zeros.
 pub fn file_of(alloc: Global, schema: u32, payload: &[u8]) -> Result<Vec<u8>, AllocError>
-    requires { length payload.now ≤ 268435455 }
+    requires { length payload.now ≤ MOST_BYTES }
     ensures { IfOk result (λ file. file.items ≡ file_of schema payload.now) }
 {
     let head = block_head(BlockKind::Adb, payload.len() as u64);

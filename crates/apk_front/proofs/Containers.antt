@@ -134,20 +134,20 @@ refused_made output container why (Err e) is found report = tt
 -- what is made is refused
 pub refused_run : (output : Option (List ℕ)) (report : List ℕ) (container : Container) (why : MakeFault) (judged : Judged) (old now : History) → container ≡ Err why → now ≡ old
     → IfOk judged (λ verdict. (files : Files) (report : List ℕ) → Reports verdict (make_outcome files output report (Err why))) → IfOk judged (λ verdict. IsSome verdict.refusal)
-    → IfObservable old (λ v. IsRun (λ o. o ≡ make_outcome (files_of v) output report (made_in container)) false output judged v old now)
+    → IfObservable old (λ v. IsRun (λ o. o ≡ make_outcome (files_of v) output report (made_in container)) output judged v old now)
 refused_run output report container why (Ok verdict) old now is same found refused =
-    idle_at (λ v o. o ≡ make_outcome (files_of v) output report (made_in container)) false output (Ok verdict) old now same (λ v o one none.
+    idle_at (λ v o. o ≡ make_outcome (files_of v) output report (made_in container)) output (Ok verdict) old now same (λ v o one none.
     let reports : Reports verdict (make_outcome (files_of v) output report (made_in container)) = subst (λ (c : Container). Reports verdict (make_outcome (files_of v) output report (made_in c))) (sym is) (found (files_of v) report) in
     absurd (none_is_some verdict.refusal (ap (λ (x : Outcome). x.refusal) (reports ∙ sym one) ∙ none) refused))
 refused_run output report container why (Err e) old now is same found refused =
-    failed_at (λ v o. o ≡ make_outcome (files_of v) output report (made_in container)) false output (Err e) e old now refl same
+    failed_at (λ v o. o ≡ make_outcome (files_of v) output report (made_in container)) output (Err e) e old now refl same
 
 -- what is made is written
 pub written_made : (output : Option (List ℕ)) (report : List ℕ) (container : Container) (file : Vec ℕ Global) (bytes : List ℕ) (judged : Judged) (old now : History) → container ≡ Ok file → bytes ≡ file.items
-    → IfObservable old (λ v. IsRun (λ o. o ≡ make_outcome (files_of v) output report (Ok bytes)) false output judged v old now)
-    → IfObservable old (λ v. IsRun (λ o. o ≡ make_outcome (files_of v) output report (made_in container)) false output judged v old now)
+    → IfObservable old (λ v. IsRun (λ o. o ≡ make_outcome (files_of v) output report (Ok bytes)) output judged v old now)
+    → IfObservable old (λ v. IsRun (λ o. o ≡ make_outcome (files_of v) output report (made_in container)) output judged v old now)
 written_made output report container file bytes judged old now is same run =
-    subst (λ (r : Result (List ℕ) MakeFault). IfObservable old (λ v. IsRun (λ o. o ≡ make_outcome (files_of v) output report r) false output judged v old now)) (ap Ok same ∙ sym (ap made_in is)) run
+    subst (λ (r : Result (List ℕ) MakeFault). IfObservable old (λ v. IsRun (λ o. o ≡ make_outcome (files_of v) output report r) output judged v old now)) (ap Ok same ∙ sym (ap made_in is)) run
 
 -- outcomes that what is made determines
 pub record AreOutcomes (Means : TreeState → Result (List ℕ) MakeFault → Type 0) (IsOne : Outcomes) (output : Option (List ℕ)) (report : List ℕ) : Type 0 where
@@ -167,18 +167,19 @@ module _ (Means : TreeState → Result (List ℕ) MakeFault → Type 0) (IsOne :
       (make_outcome (files_of v) output report (made_in container), are.one v (made_in container) (meant container (Means v) whole found), reports (files_of v))
 
   runs_by : (judged : Judged) (v : TreeState) (rest now : History) (b : Bool) → is_cut_off container ≡ b → OnMade container (Means v) → IfOk judged (λ verdict. is_cut_off container ≡ false) → (is_cut_off container ≡ true → now ≡ v ∷ rest)
-      → IsRun (λ o. o ≡ make_outcome (files_of v) output report (made_in container)) false output judged v (v ∷ rest) now → IsRun (IsOne v) false output judged v (v ∷ rest) now
+      → IsRun (λ o. o ≡ make_outcome (files_of v) output report (made_in container)) output judged v (v ∷ rest) now → IsRun (IsOne v) output judged v (v ∷ rest) now
   runs_by judged v rest now false is found whole cut run =
-      run_among (λ o. o ≡ make_outcome (files_of v) output report (made_in container)) (IsOne v) false output judged v (v ∷ rest) now (are.only v (made_in container) (meant container (Means v) is found)) run
+      run_among (λ o. o ≡ make_outcome (files_of v) output report (made_in container)) (IsOne v) output judged v (v ∷ rest) now
+      (λ o same. subst (IsOne v) (sym same) (are.one v (made_in container) (meant container (Means v) is found))) (are.only v (made_in container) (meant container (Means v) is found)) run
   runs_by (Ok verdict) v rest now true is found whole cut run = absurd (false≢true (sym whole ∙ is))
-  runs_by (Err e) v rest now true is found whole cut run = run_idle (IsOne v) false output (Err e) v rest now (cut is) (λ o one none. tt)
+  runs_by (Err e) v rest now true is found whole cut run = run_idle (IsOne v) output (Err e) v rest now (cut is) (λ o one none. tt)
 
   pub runs : (judged : Judged) (old mid now : History) → mid ≡ old → IfObservable old (λ v. OnMade container (Means v)) → IfOk judged (λ verdict. is_cut_off container ≡ false) → (is_cut_off container ≡ true → now ≡ mid)
-      → IfObservable mid (λ v. IsRun (λ o. o ≡ make_outcome (files_of v) output report (made_in container)) false output judged v mid now) → IfObservable old (λ v. IsRun (IsOne v) false output judged v old now)
+      → IfObservable mid (λ v. IsRun (λ o. o ≡ make_outcome (files_of v) output report (made_in container)) output judged v mid now) → IfObservable old (λ v. IsRun (IsOne v) output judged v old now)
   runs judged [] mid now same found whole cut run = tt
   runs judged (v ∷ rest) mid now same found whole cut run =
       runs_by judged v rest now (is_cut_off container) refl found whole (λ is. cut is ∙ same)
-      (subst (λ (h : History). IfObservable h (λ v. IsRun (λ o. o ≡ make_outcome (files_of v) output report (made_in container)) false output judged v h now)) same run)
+      (subst (λ (h : History). IfObservable h (λ v. IsRun (λ o. o ≡ make_outcome (files_of v) output report (made_in container)) output judged v h now)) same run)
 
   room_by : (c : Container) (v : TreeState) → OnMade c (Means v) → ((o : Outcome) → IsOne v o → o.refusal ≡ None → HasRoomFor output (files_of v))
       → IfOk c (λ file. (make_outcome (files_of v) output report (Ok file.items)).refusal ≡ None → HasRoomFor output (files_of v))

@@ -1,9 +1,9 @@
 -- What was judged and shown is the answer.
-use Rattle.std.proofs.Common.{◌≡◌, ◌⊎◌, inl, inr, ℕ, List, [], ◌∷◌, Option, None, true, Result, Ok, Err, OnOk, IfOk, IsErrOf, IsTrue, MatchResult, refl, sym, ap, subst, ◌∙◌}
+use Rattle.std.proofs.Common.{◌≡◌, ◌⊎◌, inl, inr, ℕ, List, [], ◌∷◌, Option, None, true, false, Result, Ok, Err, OnOk, IfOk, IsErrOf, IsTrue, MatchResult, refl, sym, ap, subst, ◌∙◌}
 use Rattle.base_core.specs.Calls.{IfObservable, HasNow}
 use Rattle.base_core.specs.Faults.{Counts, HasCause, IsNoFault}
 use Rattle.base_core.specs.Files.{Files, no_names}
-use Rattle.base_core.specs.Sink.{SinkChange, SinkFailed, Gets}
+use Rattle.base_core.specs.Sink.{SinkChange, SinkFailed, Gets, GetsSome}
 use Rattle.base_core.specs.Tree.{TreeState, files_of}
 use Rattle.base_core.specs.declared.tree.TreeFault.{TreeFault}
 use Rattle.base_core.specs.declared.tree.TreeFault.TheVariants.{Disk, Memory as NoMemory}
@@ -19,11 +19,13 @@ use Rattle.command_core.specs.declared.command.Flags.{Flags}
 use Rattle.command_core.specs.declared.operands.Operand.{Operand}
 use Rattle.outcome.specs.Outcome.{Outcome, just_refusal}
 use Rattle.outcome.specs.Version.{version}
-use Rattle.outcome.specs.Commands.{IsFoundOutcome, IsFoundOutcomeOf, MayBeListedFor, IsOutcome, IsOutcomeOf, IsListingFor, reads_in, applet_outcome, command_outcome}
-use Rattle.outcome.specs.Effect.{Effect, Makes, does_only_read, does_rest_on_words, effect_of, output, reads_only, rests_on_words}
-use Rattle.apk_front.specs.Answers.{IsAnswerTo, IsAnswerOf, LeavesFiles, LeavesAny, HasCauses, IsFaultless, IsComplete, DidNotFail, FailedAt}
-use Rattle.apk_front.specs.Runs.{IsRun}
-use Rattle.apk_front.specs.Verdicts.{as_outcome, IsPrinted, IsShown, ReportsOne}
+use Rattle.outcome.specs.Commands.{IsFoundOutcome, IsFoundOutcomeOf, MayBeListedFor, IsOutcome, IsOutcomeOf, IsOutcomeOver, IsOutcomeUnless, IsListingFor, reads_in, applet_outcome, command_outcome}
+use Rattle.outcome.specs.Effect.{Effect, Makes, does_only_read, does_recover, does_rest_on_words, effect_by, effect_of, output, rests_on_words}
+use Rattle.outcome.specs.Work.{recovery_fault, work_files}
+use Rattle.base_core.specs.declared.cause.Cause.{Cause}
+use Rattle.apk_front.specs.Answers.{IsAnswerTo, IsAnswerOf, LeavesFiles, LeavesAny, HasCauses, IsFaultless, IsComplete, IsStated, DidNotFail, FailedAt, answer_by}
+use Rattle.apk_front.specs.Runs.{IsWholeRun}
+use Rattle.apk_front.specs.Verdicts.{as_outcome, IsPrinted, IsShown, Reports, ReportsOne}
 use Rattle.apk_front.proofs.Printing.{either_failed}
 use Rattle.apk_front.specs.declared.answer.Answer.{Answer}
 use Rattle.apk_front.specs.declared.answer.Answer.TheVariants.{Ok as Good, Refused, TreeFault as TreeFailed, OutFault, Memory}
@@ -46,8 +48,32 @@ words_read : (effect : Effect) → does_rest_on_words effect ≡ true → does_o
 words_read Makes rests = cc
 words_read other rests = refl
 
+-- ---- a command that does not recover
+
+pub reads_without : (effect : Effect) → does_only_read effect ≡ true → does_recover effect ≡ false
+reads_without Makes reads = cc
+reads_without other reads = refl
+
+pub fault_without : (effect : Effect) (files : Files) → does_recover effect ≡ false → recovery_fault effect files ≡ None
+fault_without Makes files none = cc
+fault_without other files none = refl
+
+pub work_without : (effect : Effect) (files : Files) → does_recover effect ≡ false → work_files effect files ≡ files
+work_without Makes files none = cc
+work_without other files none = refl
+
+pub of_over : (command : CommandLine) (files : Files) (o : Outcome) → does_recover (effect_of command.applet) ≡ false → IsOutcomeOver command files o → IsOutcomeOf (Ok command) files o
+of_over command files o none over =
+    subst (λ (fault : Option Cause). IsOutcomeUnless fault command files o) (sym (fault_without (effect_of command.applet) files none))
+    (subst (λ (f : Files). IsOutcomeOver command f o) (sym (work_without (effect_of command.applet) files none)) over)
+
+pub over_of : (command : CommandLine) (files : Files) (o : Outcome) → does_recover (effect_of command.applet) ≡ false → IsOutcomeOf (Ok command) files o → IsOutcomeOver command files o
+over_of command files o none of =
+    subst (λ (f : Files). IsOutcomeOver command f o) (work_without (effect_of command.applet) files none)
+    (subst (λ (fault : Option Cause). IsOutcomeUnless fault command files o) (fault_without (effect_of command.applet) files none) of)
+
 pub ran_over : (words : List (List ℕ)) (command : CommandLine) (files : Files) (o : Outcome) → command_of words ≡ Ok command → does_only_read (effect_of command.applet) ≡ true → o ≡ command_outcome command [] (reads_in files) files → IsOutcome words files o
-ran_over words command files o is reads ran = subst (λ (r : Result CommandLine ℕ). IsOutcomeOf r files o) (sym is) ([], no_listing command.applet command files reads, ran)
+ran_over words command files o is reads ran = subst (λ (r : Result CommandLine ℕ). IsOutcomeOf r files o) (sym is) (of_over command files o (reads_without (effect_of command.applet) reads) ([], no_listing command.applet command files reads, ran))
 
 pub ran_by_words : (words : List (List ℕ)) (command : CommandLine) (judged : Result Verdict TreeFault) → command_of words ≡ Ok command
     → (IsTrue (does_rest_on_words (effect_of command.applet)) → MatchResult judged (λ verdict. (files : Files) → as_outcome files verdict ≡ command_outcome command [] (reads_in files) files) (λ fault. fault ≡ NoMemory))
@@ -85,11 +111,42 @@ printed_one IsOne Leaves tree_failed o Memory out err is leaves printed = absurd
 printed_answer : (words : List (List ℕ)) (files : Files) (Leaves : Outcome → Type 0) (tree_failed : Type 0) (o : Outcome) (answer : Answer) (out err : SinkChange) → IsOutcome words files o → Leaves o → IsPrinted o answer out err → IsAnswerTo words files Leaves tree_failed answer out err
 printed_answer words files Leaves tree_failed o answer out err is leaves printed = printed_one (IsOutcome words files) Leaves tree_failed o answer out err is leaves printed
 
+-- printing looks at the refusal and the texts alone
+
+stated_alike : (a b : Outcome) (answer : Answer) (out err : SinkChange) → a.refusal ≡ b.refusal → a.out ≡ b.out → a.err ≡ b.err → IsStated a answer out err → IsStated b answer out err
+stated_alike a b answer out err refusal report line p = record {
+  same = p.same ∙ ap answer_by refusal;
+  out_gets = subst (λ (t : List ℕ). Gets out t) report p.out_gets;
+  err_gets = subst (λ (t : List ℕ). Gets err t) line p.err_gets;
+  out_kept = p.out_kept;
+  err_kept = p.err_kept;
+}
+
+which_alike : (a b : Outcome) (out err : SinkChange) → a.out ≡ b.out → a.err ≡ b.err → (FailedAt out a.out × Gets err [] × DidNotFail err) ⊎ (FailedAt err a.err × Gets out a.out × DidNotFail out)
+    → (FailedAt out b.out × Gets err [] × DidNotFail err) ⊎ (FailedAt err b.err × Gets out b.out × DidNotFail out)
+which_alike a b out err report line (inl (failed, gets, kept)) = inl (subst (λ (t : List ℕ). FailedAt out t) report failed, gets, kept)
+which_alike a b out err report line (inr (failed, gets, kept)) = inr (subst (λ (t : List ℕ). FailedAt err t) line failed, subst (λ (t : List ℕ). Gets out t) report gets, kept)
+
+printed_alike : (a b : Outcome) (answer : Answer) (out err : SinkChange) → a.refusal ≡ b.refusal → a.out ≡ b.out → a.err ≡ b.err → IsPrinted a answer out err → IsPrinted b answer out err
+printed_alike a b Good out err refusal report line p = stated_alike a b Good out err refusal report line p
+printed_alike a b (Refused r) out err refusal report line p = stated_alike a b (Refused r) out err refusal report line p
+printed_alike a b OutFault out err refusal report line p = record {
+  which = which_alike a b out err report line p.which;
+  out_gets = subst (λ (t : List ℕ). GetsSome out t) report p.out_gets;
+  err_gets = subst (λ (t : List ℕ). GetsSome err t) line p.err_gets;
+}
+printed_alike a b TreeFailed out err refusal report line p = absurd p
+printed_alike a b Memory out err refusal report line p = absurd p
+
+reported_printed : (verdict : Verdict) (o : Outcome) (answer : Answer) (out err : SinkChange) → Reports verdict o → IsPrinted (as_outcome o.files verdict) answer out err → IsPrinted o answer out err
+reported_printed verdict o answer out err reports printed =
+    printed_alike (as_outcome o.files verdict) o answer out err (ap (λ (x : Outcome). x.refusal) reports) (ap (λ (x : Outcome). x.out) reports) (ap (λ (x : Outcome). x.err) reports) printed
+
 -- what stands for one outcome
 reported_answer : (IsOne Leaves : Outcome → Type 0) (tree_failed : Type 0) (verdict : Verdict) (answer : Answer) (out err : SinkChange) → ReportsOne IsOne verdict → ((o : Outcome) → IsOne o → Leaves o)
     → ((files : Files) → IsPrinted (as_outcome files verdict) answer out err) → IsAnswerOf IsOne Leaves tree_failed answer out err
 reported_answer IsOne Leaves tree_failed verdict answer out err (o, is, reports) leaves is_shown =
-    printed_one IsOne Leaves tree_failed o answer out err is (leaves o is) (subst (λ (x : Outcome). IsPrinted x answer out err) reports (is_shown o.files))
+    printed_one IsOne Leaves tree_failed o answer out err is (leaves o is) (reported_printed verdict o answer out err reports (is_shown o.files))
 
 judged_answer : (IsOne Leaves : Outcome → Type 0) (tree_failed : Type 0) (judged : Judged) (answer : Answer) (out err : SinkChange)
     → IfOk judged (ReportsOne IsOne) → ((o : Outcome) → IsOne o → OnOk judged (Leaves o)) → (IsErrOf judged Disk → tree_failed) → IsShown judged answer out err
@@ -100,7 +157,7 @@ judged_answer IsOne Leaves tree_failed (Err Disk) answer out err found leaves di
 judged_answer IsOne Leaves tree_failed (Err NoMemory) answer out err found leaves disk is_shown =
     subst (λ (a : Answer). IsAnswerOf IsOne Leaves tree_failed a out err) (sym is_shown.0) is_shown.1
 
-found_at : (v : TreeState) (rest : List TreeState) (judged : Judged) (P : Verdict → TreeState → Type 0) → IfOk judged (λ verdict. IfObservable (v ∷ rest) (P verdict)) → IfOk judged (λ verdict. P verdict v)
+pub found_at : (v : TreeState) (rest : List TreeState) (judged : Judged) (P : Verdict → TreeState → Type 0) → IfOk judged (λ verdict. IfObservable (v ∷ rest) (P verdict)) → IfOk judged (λ verdict. P verdict v)
 found_at v rest (Ok verdict) P found = found
 found_at v rest (Err e) P found = found
 
@@ -110,7 +167,7 @@ leaves_if (Err e) P Q f = tt
 
 -- the runs of a command line
 abbrev pub Runs : List (List ℕ) → Judged → List TreeState → List TreeState → Type 0
-Runs words judged old now = IfObservable old (λ v. IsRun (IsOutcome words (files_of v)) (reads_only (command_of words)) (output words) judged v old now)
+Runs words judged old now = IfObservable old (λ v. IsWholeRun (IsOutcome words (files_of v)) (effect_by (command_of words)) (output words) judged v old now)
 
 pub answered : (words : List (List ℕ)) (old now : List TreeState) (tree_failed : Type 0) (judged : Judged) (answer : Answer) (out err : SinkChange)
     → IfOk judged (λ verdict. IfObservable old (λ v. ReportsOne (IsOutcome words (files_of v)) verdict)) → Runs words judged old now → (IsErrOf judged Disk → tree_failed) → IsShown judged answer out err

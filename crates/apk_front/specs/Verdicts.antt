@@ -12,13 +12,14 @@ use Rattle.apk_front.specs.declared.answer.Answer.{Answer}
 use Rattle.apk_front.specs.declared.answer.Answer.TheVariants.{Ok as Good, Refused, TreeFault as TreeFailed, OutFault, Memory}
 use Rattle.apk_front.specs.declared.answer.Verdict.{Verdict}
 
--- a verdict as an outcome that leaves these files
+-- a verdict as an outcome that writes nothing, and leaves these files
 abbrev pub as_outcome : Files → Verdict → Outcome
 as_outcome files verdict = outcome_of verdict.refusal verdict.report files
 
 -- the verdict's refusal and report are those of an outcome
 abbrev pub Reports : Verdict → Outcome → Type 0
-Reports verdict outcome = as_outcome outcome.files verdict ≡ outcome
+Reports verdict outcome =
+    record (as_outcome outcome.files verdict) { commits = outcome.commits } ≡ outcome
 
 -- they are those of one of these
 abbrev pub ReportsOne : (Outcome → Type 0) → Verdict → Type 0

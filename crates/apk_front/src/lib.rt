@@ -13,11 +13,14 @@ mod dump;
 mod effect;
 mod front;
 mod judge;
+mod laws;
 mod make;
+mod recovered;
 mod verify;
 mod version;
 
 pub use answer::{Answer, status};
 pub use effect::{Access, access_for};
 pub use front::apk;
+pub use laws::{a_crash_leaves_the_old_files_or_those_of_the_outcome, what_is_carried_out_lasts};
 pub use report_core::Refusal;

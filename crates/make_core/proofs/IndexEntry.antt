@@ -12,7 +12,8 @@ use Rattle.adb_tables.specs.declared.tables.Which.{Which}
 use Rattle.adb_tables.specs.declared.tables.Which.TheVariants.{Dep, Package, PkgInfo, Index}
 use Rattle.adb_tables.specs.declared.tables.Kind.TheVariants.{Obj}
 use Rattle.pkg_core.specs.Whole.{package_fault, package_id, package_with_contents}
-use Rattle.make_index.specs.Entries.{entry_of_package, entry_value, with_at}
+use Rattle.make_index.specs.Entries.{entry_of_package}
+use Rattle.adb_copy.specs.Zeros.{info_with, with_at}
 use Rattle.make_core.proofs.Blind.{AreBlind, AreBlindBut, IsBlind, turned_but}
 use Rattle.make_core.proofs.OpenedPackage.{IsOpened, Values, opened}
 use Rattle.make_core.proofs.ValueParts.{entries_shaped, part_kept, part_shaped, placed_kept, placed_later, placed_shaped, placed_there}
@@ -114,8 +115,8 @@ both_kept a b vs id len long here there h =
 -- ---- the entry
 
 entry_by : (v : Plain) (id : List ℕ) (len place : ℕ) (around : Surroundings) → IsOpened v → length id ≡ 32 → len < 2 ^ 64 → around.root ≡ Index
-    → IsGood (shape_of (Obj PkgInfo)) place around (entry_value (entry_in v 0) id len)
-unfolding shape_of leaves entry_value
+    → IsGood (shape_of (Obj PkgInfo)) place around (info_with (entry_in v 0) id len)
+unfolding shape_of leaves info_with
 entry_by v id len place around o long small root =
     let vs = entries_in (entry_in v 0) in
     let us = with_both vs id len in

@@ -23,7 +23,8 @@ use Rattle.make_index.specs.Index.{and_entries, found_entries, found_entry, inde
 use Rattle.make_info.specs.Values.{plains_of}
 use Rattle.command_core.specs.Command.{CommandLine}
 use Rattle.make_index.specs.Entries.{entry_of_package}
-use Rattle.make_index.specs.EntryOrder.{entry_cmp, sorted_by, with_element}
+use Rattle.make_index.specs.EntryOrder.{entry_cmp}
+use Rattle.list_order.specs.Sorted.{sorted_by, with_element}
 use Rattle.base_core.specs.Files.{IsFile}
 use Rattle.make_index.specs.Files.{AreFiles}
 use Rattle.adb_sound.specs.Root.{IsRootOf}

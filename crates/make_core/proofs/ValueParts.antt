@@ -4,7 +4,7 @@ use Rattle.adb_view.specs.Plain.{Plain, null, int, blob, arr, obj, Plains, none,
 use Rattle.adb_view.specs.Shaped.{HasShape, HaveShapes}
 use Rattle.adb_rules.specs.Texts.{Surroundings, leaves, field_leaves, first_bad}
 use Rattle.adb_tables.specs.Values.{nth, entries_in}
-use Rattle.make_index.specs.Entries.{with_at}
+use Rattle.adb_copy.specs.Zeros.{with_at}
 use Rattle.make_core.proofs.GoodValues.{good_append, good_back, good_front}
 
 abbrev pub shape_at : Fields → ℕ → Option Shape

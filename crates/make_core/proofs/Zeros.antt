@@ -6,7 +6,7 @@ use Rattle.adb_tables.specs.Schema.{schema_number}
 use Rattle.adb_rules.specs.Texts.{Surroundings, number_leaf, text_leaf, leaves, field_leaves, each_leaf, inside_of}
 use Rattle.adb_tables.specs.Values.{nth, entries_in, entry_in, int_in, text_in}
 use Rattle.adb_tables.specs.declared.tables.Which.TheVariants.{File, Dir}
-use Rattle.make_index.specs.Entries.{int_value, with_at, without_zeros, all_without_zeros}
+use Rattle.adb_copy.specs.Zeros.{int_value, with_at, without_zeros, all_without_zeros}
 use Rattle.make_core.proofs.GoodValues.{arr_value-normal, arr_value-shaped, blob_value-hash, blob_value-normal, blob_value-text, entries-arr_value, entry-obj_value, obj_value-leaves, obj_value-normal, obj_value-shaped, text-blob_value}
 
 -- each integer below 2 ^ 64

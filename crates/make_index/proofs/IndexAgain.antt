@@ -6,11 +6,11 @@ use Rattle.adb_tables.specs.Schema.{shape_of}
 use Rattle.adb_tables.specs.Values.{nth, entries_in, entry_in, int_in, text_in}
 use Rattle.adb_tables.specs.declared.tables.Which.TheVariants as Tables
 use Rattle.adb_tables.specs.declared.tables.Kind.TheVariants as Kinds
-use Rattle.make_index.specs.Entries.{int_value, without_zeros, all_without_zeros, with_at, entry_value}
+use Rattle.adb_copy.specs.Zeros.{int_value, without_zeros, all_without_zeros, with_at, info_with}
 use Rattle.make_index.specs.Kept.{copy_of_entry}
-use Rattle.make_index.proofs.IndexShapes.{shape_at, shape_null, shapes_none, entries_shape, obj_value_shape, arr_value_shape}
-use Rattle.make_index.proofs.IndexZeros.{nth_zeros, nth_trimmed, nth_obj, trimmed_same, at_same, at_other, zeros_twice}
-use Rattle.make_index.proofs.IndexFields.{with_both, by_place, INFO}
+use Rattle.adb_copy.proofs.Shapes.{shape_at, shape_null, shapes_none, entries_shape, obj_value_shape, arr_value_shape}
+use Rattle.adb_copy.proofs.Zeros.{nth_zeros, nth_trimmed, nth_obj, trimmed_same, at_same, at_other, zeros_twice}
+use Rattle.adb_copy.proofs.Fields.{with_both, by_place, INFO}
 
 -- ---- normal values
 
@@ -124,8 +124,8 @@ entries_small (blob b) h = tt
 entries_small (arr vs) h = h
 entries_small (obj vs) h = h
 
-pub entry_normal : (info : Plain) (id : List ℕ) (len : ℕ) → IsNormal info → len < 2 ^ 64 → IsNormal (entry_value info id len)
-unfolding entry_value IsSmall
+pub entry_normal : (info : Plain) (id : List ℕ) (len : ℕ) → IsNormal info → len < 2 ^ 64 → IsNormal (info_with info id len)
+unfolding info_with IsSmall
 entry_normal info id len h l = zeros_normal (obj (with_both id len (entries_in info))) (at_small 12 (int len) (with_at 2 (blob id) (entries_in info)) l (at_small 2 (blob id) (entries_in info) tt (entries_small info (normal_small info h))))
 
 -- ---- shapes
@@ -187,8 +187,8 @@ at_shapes (field n s fs) zero v (more u us) f h g = (h, g.1)
 at_shapes (field n s fs) (suc k) v none f h g = (shape_null s, at_shapes fs k v none f h (shapes_none fs))
 at_shapes (field n s fs) (suc k) v (more u us) f h g = (g.0, at_shapes fs k v us f h g.1)
 
-pub entry_shape : (info : Plain) (id : List ℕ) (len : ℕ) → HasShape (shape_of (Kinds.Obj Tables.PkgInfo)) info → HasShape (shape_of (Kinds.Obj Tables.PkgInfo)) (entry_value info id len)
-unfolding entry_value without_zeros shape_of HasShape
+pub entry_shape : (info : Plain) (id : List ℕ) (len : ℕ) → HasShape (shape_of (Kinds.Obj Tables.PkgInfo)) info → HasShape (shape_of (Kinds.Obj Tables.PkgInfo)) (info_with info id len)
+unfolding info_with without_zeros shape_of HasShape
 entry_shape info id len h =
     obj_value_shape 3 INFO (all_without_zeros (with_both id len (entries_in info)))
     (all_zeros_shape INFO (with_both id len (entries_in info))
@@ -228,32 +228,32 @@ int_zeros (obj vs) = go (without_last_nulls (all_without_zeros vs))
     go (more u us) = refl
 
 module _ (info : Plain) (id : List ℕ) (len : ℕ) where
-  entry_nth : (i : ℕ) → entry_in (entry_value info id len) i ≡ without_zeros (nth (with_both id len (entries_in info)) i)
-  unfolding entry_value without_zeros
+  entry_nth : (i : ℕ) → entry_in (info_with info id len) i ≡ without_zeros (nth (with_both id len (entries_in info)) i)
+  unfolding info_with without_zeros
   entry_nth i = nth_obj (all_without_zeros (with_both id len (entries_in info))) i ∙ nth_zeros (with_both id len (entries_in info)) i
 
-  pub entry_name : text_in (entry_in (entry_value info id len) 0) ≡ text_in (entry_in info 0)
+  pub entry_name : text_in (entry_in (info_with info id len) 0) ≡ text_in (entry_in info 0)
   entry_name = ap text_in (entry_nth 0) ∙ (text_zeros (nth (with_both id len (entries_in info)) 0) ∙ ap text_in (at_other 12 0 (int len) (with_at 2 (blob id) (entries_in info)) (λ h. omega arith) ∙ at_other 2 0 (blob id) (entries_in info) (λ h. omega arith)))
 
-  pub entry_version : text_in (entry_in (entry_value info id len) 1) ≡ text_in (entry_in info 1)
+  pub entry_version : text_in (entry_in (info_with info id len) 1) ≡ text_in (entry_in info 1)
   entry_version = ap text_in (entry_nth 1) ∙ (text_zeros (nth (with_both id len (entries_in info)) 1) ∙ ap text_in (at_other 12 1 (int len) (with_at 2 (blob id) (entries_in info)) (λ h. omega arith) ∙ at_other 2 1 (blob id) (entries_in info) (λ h. omega arith)))
 
-  pub entry_id : text_in (entry_in (entry_value info id len) 2) ≡ id
+  pub entry_id : text_in (entry_in (info_with info id len) 2) ≡ id
   entry_id = ap text_in (entry_nth 2) ∙ (text_zeros (nth (with_both id len (entries_in info)) 2) ∙ ap text_in (at_other 12 2 (int len) (with_at 2 (blob id) (entries_in info)) (λ h. omega arith) ∙ at_same 2 (blob id) (entries_in info)))
 
-  pub entry_size : int_in (entry_in (entry_value info id len) 12) ≡ len
+  pub entry_size : int_in (entry_in (info_with info id len) 12) ≡ len
   entry_size = ap int_in (entry_nth 12) ∙ (int_zeros (nth (with_both id len (entries_in info)) 12) ∙ ap int_in (at_same 12 (int len) (with_at 2 (blob id) (entries_in info))))
 
-entry_of_fields : (info other : Plain) (id : List ℕ) (len : ℕ) → ((i : ℕ) → without_zeros (nth (with_both id len (entries_in info)) i) ≡ without_zeros (nth (with_both id len (entries_in other)) i)) → entry_value info id len ≡ entry_value other id len
-unfolding entry_value without_zeros
+entry_of_fields : (info other : Plain) (id : List ℕ) (len : ℕ) → ((i : ℕ) → without_zeros (nth (with_both id len (entries_in info)) i) ≡ without_zeros (nth (with_both id len (entries_in other)) i)) → info_with info id len ≡ info_with other id len
+unfolding info_with without_zeros
 entry_of_fields info other id len h = ap obj_of (trimmed_same (all_without_zeros (with_both id len (entries_in info))) (all_without_zeros (with_both id len (entries_in other))) (λ i. nth_zeros (with_both id len (entries_in info)) i ∙ (h i ∙ sym (nth_zeros (with_both id len (entries_in other)) i))))
 
 -- an entry made once more of its own fields is itself
-pub entry_again : (info : Plain) (id : List ℕ) (len : ℕ) → copy_of_entry (entry_value info id len) ≡ entry_value info id len
+pub entry_again : (info : Plain) (id : List ℕ) (len : ℕ) → copy_of_entry (info_with info id len) ≡ info_with info id len
 entry_again info id len =
-    let e : Plain = entry_value info id len in
+    let e : Plain = info_with info id len in
     let us : Plains = with_both id len (entries_in info) in
-    (λ j. entry_value e (entry_id info id len j) (entry_size info id len j))
+    (λ j. info_with e (entry_id info id len j) (entry_size info id len j))
     ∙ entry_of_fields e info id len (λ i. by_place id len (entries_in e) (λ v k. without_zeros v ≡ without_zeros (nth us k)) i
     (ap without_zeros (sym (at_other 12 2 (int len) (with_at 2 (blob id) (entries_in info)) (λ h. omega arith) ∙ at_same 2 (blob id) (entries_in info))))
     (ap without_zeros (sym (at_same 12 (int len) (with_at 2 (blob id) (entries_in info)))))

@@ -8,7 +8,8 @@ use Rattle.std.proofs.lemmas.Cmp.{on_total, then_total, nat_list_cmp_total}
 use Rattle.version_core.specs.Order.{version_cmp}
 use Rattle.adb_view.specs.Plain.{Plain}
 use Rattle.make_index.specs.Kept.{IsKeyed}
-use Rattle.make_index.specs.EntryOrder.{bytes_cmp, entry_cmp, id_in, name_in, version_in}
+use Rattle.make_index.specs.EntryOrder.{entry_cmp, id_in, name_in, version_in}
+use Rattle.list_order.specs.ByteOrder.{bytes_cmp}
 
 pub decided : (r s : Ordering) → is_ne r ≡ true → r ≡ ordering_then r s
 decided Less s h = refl

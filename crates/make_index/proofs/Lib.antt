@@ -1,13 +1,8 @@
 pub mod IndexAgain
-pub mod IndexFields
 pub mod IndexHeld
 pub mod IndexLists
 pub mod IndexMade
 pub mod IndexOrdering
 pub mod IndexReads
-pub mod IndexRules
-pub mod IndexShapes
-pub mod IndexSorting
 pub mod IndexSound
 pub mod IndexWhole
-pub mod IndexZeros

@@ -1,45 +1,12 @@
 -- What an index says of a package (apk-v3(5)): its info, with the package's id and the length of
 -- its file.
-use Rattle.std.specs.Prelude.{ℕ, zero, suc, List, length}
-use Rattle.adb_view.specs.Plain.{Plain, null, int, blob, arr, obj, Plains, none, more, blob_value, arr_value, obj_value}
-use Rattle.adb_tables.specs.Values.{entries_in, entry_in}
+use Rattle.std.specs.Prelude.{ℕ, List, length}
+use Rattle.adb_view.specs.Plain.{Plain}
+use Rattle.adb_tables.specs.Values.{entry_in}
+use Rattle.adb_copy.specs.Zeros.{info_with}
 use Rattle.pkg_core.specs.Whole.{package_id, package_with_contents}
-
--- ---- values in which no integer is 0
-
-abbrev pub int_value : ℕ → Plain
-int_value zero = null
-int_value (suc n) = int (suc n)
-
--- an integer 0 is Null at every depth, and so is what then holds nothing
-unfoldable mutual
-  pub without_zeros : Plain → Plain
-  without_zeros null = null
-  without_zeros (int n) = int_value n
-  without_zeros (blob b) = blob_value b
-  without_zeros (arr vs) = arr_value (all_without_zeros vs)
-  without_zeros (obj vs) = obj_value (all_without_zeros vs)
-
-  pub all_without_zeros : Plains → Plains
-  all_without_zeros none = none
-  all_without_zeros (more v vs) = more (without_zeros v) (all_without_zeros vs)
-
--- ---- an entry
-
--- the values with another one at an index, which counts from 0; where there are too few, Nulls
--- stand in front of it
-abbrev pub with_at : ℕ → Plain → Plains → Plains
-with_at zero v none = more v none
-with_at zero v (more u us) = more v us
-with_at (suc i) v none = more null (with_at i v none)
-with_at (suc i) v (more u us) = more u (with_at i v us)
-
--- an info with this id as its field `hashes`, and this length as its field `file-size`
-unfoldable pub entry_value : Plain → List ℕ → ℕ → Plain
-entry_value info id len =
-    without_zeros (obj (with_at 12 (int len) (with_at 2 (blob id) (entries_in info))))
 
 -- what an index says of the package in a file
 abbrev pub entry_of_package : List ℕ → Plain
 entry_of_package file =
-    entry_value (entry_in (package_with_contents file).value 0) (package_id file) (length file)
+    info_with (entry_in (package_with_contents file).value 0) (package_id file) (length file)

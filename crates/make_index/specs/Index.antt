@@ -17,7 +17,8 @@ use Rattle.make_info.specs.Values.{plains_of}
 use Rattle.make_info.specs.declared.fault.MakeFault.{MakeFault}
 use Rattle.make_info.specs.declared.fault.MakeFault.TheVariants.{FileMissing, FileBad, TooLarge}
 use Rattle.make_index.specs.Entries.{entry_of_package}
-use Rattle.make_index.specs.EntryOrder.{entry_cmp, sorted_by}
+use Rattle.make_index.specs.EntryOrder.{entry_cmp}
+use Rattle.list_order.specs.Sorted.{sorted_by}
 
 -- ---- the value
 

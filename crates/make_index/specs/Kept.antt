@@ -10,7 +10,8 @@ use Rattle.adb_tables.specs.declared.tables.Kind.TheVariants.{Obj}
 use Rattle.version_core.specs.Order.{is_version}
 use Rattle.make_info.specs.declared.fault.MakeFault.{MakeFault}
 use Rattle.make_info.specs.declared.fault.MakeFault.TheVariants.{FileBad, Disk, Memory}
-use Rattle.make_index.specs.Entries.{entry_of_package, entry_value}
+use Rattle.make_index.specs.Entries.{entry_of_package}
+use Rattle.adb_copy.specs.Zeros.{info_with}
 use Rattle.make_index.specs.EntryOrder.{id_in, name_in, version_in}
 use Rattle.make_index.specs.declared.source.EntrySource.{EntrySource}
 use Rattle.make_index.specs.declared.source.EntrySource.TheVariants.{Payload, File}
@@ -19,7 +20,7 @@ use Rattle.make_index.specs.declared.source.EntrySource.TheVariants.{Payload, Fi
 
 -- an entry made once more of its own fields
 abbrev pub copy_of_entry : Plain → Plain
-copy_of_entry entry = entry_value entry (text_in (entry_in entry 2)) (int_in (entry_in entry 12))
+copy_of_entry entry = info_with entry (text_in (entry_in entry 2)) (int_in (entry_in entry 12))
 
 -- the entry that is still to be written
 abbrev pub kept_value : EntrySource → Plain

@@ -3,7 +3,6 @@ pub mod Entries
 pub mod EntryOrder
 pub mod Index
 -- what only inner contracts and proofs use
-pub mod Appending
 pub mod Files
 pub mod Kept
 pub mod Views

@@ -12,7 +12,8 @@ ghost use Rattle.base_core.specs.Calls.{IfObservable};
 ghost use Rattle.base_core.specs.Read.{OnlyReads, bytes_in};
 ghost use Rattle.base_core.specs.Tree.{files_of};
 ghost use Rattle.make_index.specs.Entries.{entry_of_package};
-ghost use Rattle.make_index.specs.EntryOrder.{entry_cmp, sorted_by, version_in};
+ghost use Rattle.make_index.specs.EntryOrder.{entry_cmp, version_in};
+ghost use Rattle.list_order.specs.Sorted.{sorted_by};
 ghost use Rattle.base_core.specs.Files.{IsFile};
 ghost use Rattle.make_index.specs.Files.{AreFiles, reads_of};
 ghost use Rattle.make_index.specs.Index.{description_in, index_of, value_of_index, found_entries, found_entry, made_index};
@@ -27,7 +28,7 @@ ghost use Rattle.version_core.specs.Order.{is_version};
 ghost use Rattle.command_core.specs.Named.{are_files};
 
 use crate::entry::Entry;
-use adb_schema::INDEX_WORD;
+use adb_schema::{INDEX_WORD, sound_containers_hold_sound_values};
 use adb_view::{Val, values_are_normal, values_have_their_shape};
 use adb_write::{
     Writer, a_value_written_depth_first_is_canonical, file_of, values_are_written_depth_first,
@@ -214,6 +215,7 @@ pub fn an_entry_is_an_info()
     ensures version { (file : List ℕ) → first_fault Tables.Package file ≡ None
         → is_version (version_in (entry_of_package file)) ≡ true }
 {
+    sound_containers_hold_sound_values();
     values_are_normal();
     values_have_their_shape();
 }

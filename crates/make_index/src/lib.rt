@@ -8,6 +8,5 @@
 mod entry;
 mod index;
 mod source;
-mod writing;
 
 pub use index::{an_entry_is_an_info, an_index_is_in_order, make};

@@ -4,14 +4,15 @@ ghost use Rattle.adb_tables.specs.Values.{is_sound, entry_in};
 ghost use Rattle.adb_view.specs.Head.{head_fault, root_of};
 ghost use Rattle.adb_write.specs.Canonical.{written_of};
 ghost use Rattle.adb_write.specs.DepthFirst.{WritesValue};
-ghost use Rattle.make_index.specs.Entries.{entry_of_package, entry_value};
+ghost use Rattle.make_index.specs.Entries.{entry_of_package};
+ghost use Rattle.adb_copy.specs.Zeros.{info_with};
 ghost use Rattle.pkg_core.specs.Opened.{opened_payload, opened_value};
 ghost use Rattle.sha2.specs.Sha256.{sha256};
 ghost use Rattle.std.specs.Prelude.{◌≡◌, true, is_none, ◌<◌, ◌^◌, Ok, IfOk, IfSome};
 ghost use Rattle.adb_tables.specs.declared.tables.Kind.TheVariants as Kinds;
 ghost use Rattle.adb_tables.specs.declared.tables.Which.TheVariants as Tables;
 
-use crate::writing::write_info;
+use adb_copy::write_info;
 use adb_schema::{PkgInfo, View};
 use adb_view::{Adb, Val};
 use adb_write::{WriteFault, Writer, a_value_written_depth_first_is_canonical};
@@ -97,7 +98,7 @@ fn write_package(
     len: u64,
 ) -> Result<Val, AllocError>
     ensures { IfOk result (λ word. WritesValue writer.old
-        (entry_value (entry_in (opened_value pkg.now) 0) (sha256 (opened_payload pkg.now)) len)
+        (info_with (entry_in (opened_value pkg.now) 0) (sha256 (opened_payload pkg.now)) len)
         word writer.new) }
 {
     let id = pkg.id();
@@ -113,7 +114,7 @@ pub(crate) fn entry_payload(
 ) -> Result<Option<Vec<u8>>, AllocError>
     ensures small { len < 2 ^ 64 }
     ensures payload { IfOk result (λ found. IfSome found (λ payload. written_of
-        (entry_value (entry_in (opened_value pkg.now) 0) (sha256 (opened_payload pkg.now)) len)
+        (info_with (entry_in (opened_value pkg.now) 0) (sha256 (opened_payload pkg.now)) len)
         ≡ Ok payload.items)) }
 {
     a_value_written_depth_first_is_canonical();

@@ -2,21 +2,22 @@
 use Rattle.std.proofs.Common.{◌≡◌, ℕ, ◌+◌, ◌<◌, ◌^◌, Bool, true, false, List, [], ◌∷◌, ◌++◌, codes, length, Contains, Option, Some, None, IsSome, Result, Ok, Err, refl, sym, ap, subst, ◌∙◌}
 use Rattle.std.specs.Prelude.{if◌then◌else◌, nat_eq}
 use Rattle.std.specs.List.{starts_with}
-use Rattle.std.proofs.lemmas.Bool.{and_parts, eqb-true}
 use Rattle.std.proofs.lemmas.List.Elements.{All-contains_itself, All-weaker}
 use Rattle.std.proofs.lemmas.Slice.Eq.{bytes_eq-Decides}
 use Rattle.adb_rules.specs.Reserved.{is_reserved}
 use Rattle.adb_view.specs.Plain.{Plain}
 use Rattle.adb_write.specs.Canonical.{PayloadCounts, overflow_of, written_of}
-use Rattle.base_core.specs.Files.{AreNamedFiles, Files, IsFolderOf, drop_name}
+use Rattle.base_core.specs.Files.{AreNamedFiles, Files, drop_name}
 use Rattle.base_core.specs.Listed.{AreNamesBelow, IsNameBelow, IsNamesOf}
 use Rattle.base_core.specs.Tree.{IsWhole, TreeState, files_of}
 use Rattle.base_core.specs.declared.cause.Cause.{Cause}
 use Rattle.command_core.specs.declared.values.TheConstants.{FILES, SCRIPT, TRIGGER}
 use Rattle.journal_core.specs.Replacing.{replaced_files, scratch_of}
+use Rattle.journal_core.specs.Staged.{unstaged_files}
 use Rattle.make_package.specs.Folders.{FolderListing, folders_of, last_part_of}
 use Rattle.make_index.specs.Index.{and_entries, found_entries, found_entry, index_container, index_of, index_of_found, value_of_index, entry_unless, description_in, made_index}
-use Rattle.make_index.specs.EntryOrder.{entry_cmp, sorted_by}
+use Rattle.make_index.specs.EntryOrder.{entry_cmp}
+use Rattle.list_order.specs.Sorted.{sorted_by}
 use Rattle.make_info.specs.Information.{InfoItem, information_value, information, replaces_priority}
 use Rattle.make_package.specs.Making.{container_unless, made_package, or_info_bad, package_container, package_of_parts}
 use Rattle.make_info.specs.Output.{output_name}
@@ -29,7 +30,7 @@ use Rattle.make_info.specs.declared.fault.MakeFault.TheVariants.{FileMissing, Fi
 use Rattle.pkg_core.specs.Contents.{Contents}
 use Rattle.pkg_core.specs.Whole.{container_fault, package_fault}
 use Rattle.report_core.specs.declared.refusal.Refusal.{Refusal}
-use Rattle.report_core.specs.declared.refusal.Refusal.TheVariants.{Reserved, ResultTooLarge}
+use Rattle.report_core.specs.declared.refusal.Refusal.TheVariants.{IntentBad, Reserved, ResultTooLarge}
 use Rattle.command_core.specs.Command.{CommandLine}
 use Rattle.command_core.specs.Files.{without_dot}
 use Rattle.words_core.specs.Grammar.{command_of}
@@ -39,11 +40,12 @@ use Rattle.command_core.specs.declared.command.Applet.TheVariants.{Mkndx, Mkpkg}
 use Rattle.command_core.specs.declared.operands.Operand.{Operand}
 use Rattle.command_core.specs.declared.values.OptionValue.{OptionValue}
 use Rattle.outcome.proofs.Listings.{if_some, is_below}
-use Rattle.outcome.specs.Commands.{IsListingFor, IsOutcome, IsOutcomeOf, reads_in, applet_outcome}
-use Rattle.outcome.specs.Effect.{effect_of, output, output_by, output_if}
+use Rattle.outcome.specs.Commands.{IsListingFor, IsOutcome, IsOutcomeOf, IsOutcomeUnless, reads_in, applet_outcome}
+use Rattle.outcome.specs.Effect.{Effect, Makes, effect_of, output, output_by, output_if}
 use Rattle.outcome.specs.Make.{IsListing, files_below, index_line, make_outcome, mkndx, mkpkg}
-use Rattle.outcome.specs.Outcome.{Outcome, just_refusal, just_report}
+use Rattle.outcome.specs.Outcome.{Outcome, commit_report, just_refusal}
 use Rattle.outcome.specs.Sound.{IsSoundAt}
+use Rattle.outcome.specs.Work.{recovery_fault, work_files}
 
 -- a package that is made of names below its folder is sound, and so is an index of files
 abbrev pub SoundPackage : Type 0
@@ -77,7 +79,7 @@ files_found files good n (o ∷ operands) = (good.each (without_dot o.text), fil
 
 -- ---- the definitions of what is made give no fault of the tree, and no want of memory
 
-abbrev IsRefusalOrMade : {A : Type 0} → Result A MakeFault → Type 0
+abbrev pub IsRefusalOrMade : {A : Type 0} → Result A MakeFault → Type 0
 IsRefusalOrMade (Ok x) = Unit {0}
 IsRefusalOrMade (Err (FileMissing place)) = Unit {0}
 IsRefusalOrMade (Err (FileBad place cause)) = Unit {0}
@@ -147,7 +149,7 @@ file_of_fine : (v : Plain) (contents : List Contents) → IsRefusalOrMade (packa
 unfolding package_container
 file_of_fine v contents = unless_fine (overflow_of v) v contents
 
-package_fine : (command : CommandLine) (names : List (List ℕ)) (read : Reads) → IsRefusalOrMade (made_package command names read)
+pub package_fine : (command : CommandLine) (names : List (List ℕ)) (read : Reads) → IsRefusalOrMade (made_package command names read)
 unfolding made_package
 package_fine command names read =
     after_fine (scripts_from read 0 (values_with SCRIPT command.values))
@@ -192,7 +194,7 @@ unfolding index_of
 of_found_fine description (Ok entries) h = written_fine (written_of (value_of_index description (sorted_by entry_cmp entries)))
 of_found_fine description (Err why) h = fine_err (List Plain) (List ℕ) why h
 
-index_fine : (command : CommandLine) (read : Reads) → IsRefusalOrMade (made_index command read)
+pub index_fine : (command : CommandLine) (read : Reads) → IsRefusalOrMade (made_index command read)
 unfolding made_index
 index_fine command read = of_found_fine (description_in command.values) (found_entries read 0 command.operands) (entries_fine read 0 command.operands)
 
@@ -204,8 +206,8 @@ Stands name result outcome = (bytes : List ℕ) × (result ≡ Ok bytes) × (out
 put_there : (name bytes : List ℕ) (files : Files) → replaced_files name bytes files name ≡ Some bytes
 put_there name bytes files = ap (λ (b : Bool). if b then Some bytes else drop_name files (scratch_of name) name) ((bytes_eq-Decides name name).1 refl)
 
-stands_unless : (reserved : Bool) (name bytes report : List ℕ) (files : Files) → (if reserved then just_refusal files (Reserved name) else just_report (replaced_files name bytes files) report).refusal ≡ None
-    → (if reserved then just_refusal files (Reserved name) else just_report (replaced_files name bytes files) report).files name ≡ Some bytes
+stands_unless : (reserved : Bool) (name bytes report : List ℕ) (files : Files) → (if reserved then just_refusal files (Reserved name) else commit_report (replaced_files name bytes files) report).refusal ≡ None
+    → (if reserved then just_refusal files (Reserved name) else commit_report (replaced_files name bytes files) report).files name ≡ Some bytes
 stands_unless true name bytes report files none = cc
 stands_unless false name bytes report files none = put_there name bytes files
 
@@ -249,14 +251,28 @@ applet_sound packages indexes Mkpkg command names files name good are is none = 
 applet_sound packages indexes Mkndx command names files name good are is none = index_sound indexes command files name good is none
 applet_sound packages indexes other command names files name good are is none = absurd (cc (is))
 
-sound_by : SoundPackage → SoundIndex → (read : Result CommandLine ℕ) (files : Files) (o : Outcome) (name : List ℕ) → AreNamedFiles files → IsOutcomeOf read files o → o.refusal ≡ None → output_by read ≡ Some name
-    → IsSoundAt name o.files
-sound_by packages indexes (Err place) files o name good is none named = absurd (cc (named))
-sound_by packages indexes (Ok command) files o name good (names, are, is) none named =
-    subst (λ (p : Outcome). IsSoundAt name p.files) (sym is)
-    (applet_sound packages indexes command.applet command names files name good are named (ap (λ (p : Outcome). p.refusal) (sym is) ∙ none))
+-- named files stay so where they are recovered
+abbrev pub StayNamed : Type 0
+StayNamed = (files : Files) → AreNamedFiles files → AreNamedFiles (unstaged_files files)
 
-pub made_sound : ((v : TreeState) → IsWhole v → AreNamedFiles (files_of v)) → SoundPackage → SoundIndex
+work_named : StayNamed → (effect : Effect) (files : Files) → AreNamedFiles files → AreNamedFiles (work_files effect files)
+work_named stay Makes files good = stay files good
+work_named stay other files good = good
+
+sound_unless : StayNamed → SoundPackage → SoundIndex → (fault : Option Cause) (command : CommandLine) (files : Files) (o : Outcome) (name : List ℕ) → AreNamedFiles files → IsOutcomeUnless fault command files o → o.refusal ≡ None
+    → output_if (effect_of command.applet) command ≡ Some name → IsSoundAt name o.files
+sound_unless stay packages indexes (Some cause) command files o name good is none named = absurd (let e : Some (IntentBad cause) ≡ None = ap (λ (p : Outcome). p.refusal) (sym is) ∙ none in cc)
+sound_unless stay packages indexes None command files o name good (names, are, is) none named =
+    let work = work_files (effect_of command.applet) files in
+    subst (λ (p : Outcome). IsSoundAt name p.files) (sym is)
+    (applet_sound packages indexes command.applet command names work name (work_named stay (effect_of command.applet) files good) are named (ap (λ (p : Outcome). p.refusal) (sym is) ∙ none))
+
+sound_by : StayNamed → SoundPackage → SoundIndex → (read : Result CommandLine ℕ) (files : Files) (o : Outcome) (name : List ℕ) → AreNamedFiles files → IsOutcomeOf read files o → o.refusal ≡ None → output_by read ≡ Some name
+    → IsSoundAt name o.files
+sound_by stay packages indexes (Err place) files o name good is none named = absurd (cc (named))
+sound_by stay packages indexes (Ok command) files o name good is none named = sound_unless stay packages indexes (recovery_fault (effect_of command.applet) files) command files o name good is none named
+
+pub made_sound : ((v : TreeState) → IsWhole v → AreNamedFiles (files_of v)) → StayNamed → SoundPackage → SoundIndex
     → (words : List (List ℕ)) (v : TreeState) (o : Outcome) (name : List ℕ) → IsWhole v → IsOutcome words (files_of v) o → o.refusal ≡ None → output words ≡ Some name
     → IsSoundAt name o.files
-made_sound named packages indexes words v o name whole is none under = sound_by packages indexes (command_of words) (files_of v) o name (named v whole) is none under
+made_sound named stay packages indexes words v o name whole is none under = sound_by stay packages indexes (command_of words) (files_of v) o name (named v whole) is none under

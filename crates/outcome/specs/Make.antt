@@ -16,7 +16,7 @@ use Rattle.report_core.specs.declared.refusal.Refusal.TheVariants.{FileMissing, 
 use Rattle.command_core.specs.Command.{CommandLine}
 use Rattle.command_core.specs.Files.{without_dot}
 use Rattle.command_core.specs.declared.values.OptionValue.{OptionValue}
-use Rattle.outcome.specs.Outcome.{Outcome, just_refusal, just_report}
+use Rattle.outcome.specs.Outcome.{Outcome, commit_report, just_refusal, just_report}
 
 -- ---- what is below the folder that `-F` names
 
@@ -47,7 +47,7 @@ files_with (Some name) bytes files = replaced_files name bytes files
 -- behind all other refusals but that of a container that is too large.
 abbrev pub make_outcome : Files → Option (List ℕ) → List ℕ → Result (List ℕ) MakeFault → Outcome
 make_outcome files output report (Ok bytes) =
-    unless_reserved files output (just_report (files_with output bytes files) report)
+    unless_reserved files output (commit_report (files_with output bytes files) report)
 make_outcome files output report (Err (NoFile place)) = just_refusal files (FileMissing place)
 make_outcome files output report (Err (BadFile place cause)) =
     just_refusal files (FileBad place cause)

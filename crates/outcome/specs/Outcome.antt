@@ -1,5 +1,5 @@
 -- What a command comes to.
-use Rattle.std.specs.Prelude.{ℕ, List, [], Option, Some, None}
+use Rattle.std.specs.Prelude.{ℕ, Bool, true, false, List, [], Option, Some, None}
 use Rattle.base_core.specs.Files.{Files}
 use Rattle.report_core.specs.Texts.{refusal_line}
 use Rattle.report_core.specs.declared.refusal.Refusal.{Refusal}
@@ -13,16 +13,27 @@ pub record Outcome : Type 0 where
   pub err : List ℕ
   -- the files afterwards
   pub files : Files
+  -- whether it writes or removes files
+  pub commits : Bool
 
 -- the line of a refusal, if there is one
 abbrev pub line_of : Option Refusal → List ℕ
 line_of None = []
 line_of (Some refusal) = refusal_line refusal
 
--- a report, and a refusal behind it, if there is one
+-- a report, and a refusal behind it, if there is one; nothing is written
 abbrev pub outcome_of : Option Refusal → List ℕ → Files → Outcome
-outcome_of refusal report files =
-    record { refusal = refusal; out = report; err = line_of refusal; files = files }
+outcome_of refusal report files = record {
+  refusal = refusal;
+  out = report;
+  err = line_of refusal;
+  files = files;
+  commits = false;
+}
+
+-- files are written, and a report
+abbrev pub commit_report : Files → List ℕ → Outcome
+commit_report files report = record (outcome_of None report files) { commits = true }
 
 abbrev pub just_report : Files → List ℕ → Outcome
 just_report files report = outcome_of None report files

@@ -8,7 +8,7 @@
 //! for all words and files.
 #![tactic(auto)]
 
-ghost use Rattle.std.specs.Prelude.{◌≡◌, ℕ, List, None, Some, IsTrue};
+ghost use Rattle.std.specs.Prelude.{◌≡◌, ℕ, false, List, None, Some, IsSome, IsTrue, is_some, not};
 ghost use Rattle.base_core.specs.Files.{Files, IsWithin};
 ghost use Rattle.base_core.specs.Listed.{IsListOf, IsNamesOf};
 ghost use Rattle.base_core.specs.Tree.{IsWhole, TreeState, files_of};
@@ -19,7 +19,9 @@ ghost use Rattle.outcome.specs.Outcome.{Outcome, outcome_of};
 ghost use Rattle.outcome.specs.Sound.{IsSoundAt};
 ghost use Rattle.words_core.specs.Grammar.{command_of};
 
+use adb_schema::sound_containers_hold_sound_values;
 use base_core::{files_have_one_list_of_names, the_files_of_a_whole_state_are_named_files};
+use journal_intent::an_intent_is_read_from_a_sound_container;
 use make_core::{a_made_index_is_sound, a_made_package_is_sound};
 
 /// A command line has an outcome over any files under finitely many names.
@@ -38,11 +40,30 @@ pub fn an_outcome_is_unique()
     files_have_one_list_of_names();
 }
 
-/// A command that only reads leaves the files as they are.
+/// A command that only reads leaves the files as they are, and commits nothing.
 pub fn a_command_that_reads_leaves_the_files()
-    ensures { (words : List (List ℕ)) (files : Files) (o : Outcome)
+    ensures files { (words : List (List ℕ)) (files : Files) (o : Outcome)
         → IsTrue (reads_only (command_of words)) → IsOutcome words files o → o.files ≡ files }
+    ensures commits { (words : List (List ℕ)) (files : Files) (o : Outcome)
+        → IsTrue (reads_only (command_of words)) → IsOutcome words files o
+        → o.commits ≡ false }
 {}
+
+/// A command that makes a file commits exactly where it is not refused.
+pub fn a_command_that_makes_commits_unless_refused()
+    ensures { (words : List (List ℕ)) (files : Files) (o : Outcome)
+        → reads_only (command_of words) ≡ false → IsOutcome words files o
+        → o.commits ≡ not (is_some o.refusal) }
+{}
+
+/// A refusal commits nothing.
+pub fn a_refusal_commits_nothing()
+    ensures { (words : List (List ℕ)) (files : Files) (o : Outcome)
+        → IsOutcome words files o → IsSome o.refusal → o.commits ≡ false }
+{
+    a_command_that_reads_leaves_the_files();
+    a_command_that_makes_commits_unless_refused();
+}
 
 /// An outcome that rests on the words alone is the same over all other files, which it leaves.
 pub fn an_outcome_of_words_is_the_same_everywhere()
@@ -65,6 +86,8 @@ pub fn what_is_made_is_sound()
         → output words ≡ Some name → IsSoundAt name o.files }
 {
     the_files_of_a_whole_state_are_named_files();
+    an_intent_is_read_from_a_sound_container();
+    sound_containers_hold_sound_values();
     a_made_package_is_sound();
     a_made_index_is_sound();
 }

@@ -2,7 +2,8 @@ use Rattle.std.proofs.Common.{ap, sym, arith, map, List, take_all}
 use Rattle.make_info.specs.Values.{plains_of}
 use Rattle.make_index.specs.Views.{entry_view}
 use Rattle.make_index.specs.declared.entry.Entry.{Entry}
-use Rattle.make_index.proofs.IndexLists.{if_ok, plains_more, values_are, words_are, written_more, written_none}
+use Rattle.adb_copy.proofs.Lists.{if_ok, values_are, words_are, written_more, written_none}
+use Rattle.make_index.proofs.IndexLists.{plains_more}
 use Rattle.make_index.proofs.index.write_entries.Goals as goal
 
 pub loop-entry-init : goal.loop-entry-init

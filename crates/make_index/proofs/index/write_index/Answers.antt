@@ -1,5 +1,5 @@
 use Rattle.make_index.specs.Index.{value_of_index}
-use Rattle.make_index.proofs.IndexLists.{if_ok}
+use Rattle.adb_copy.proofs.Lists.{if_ok}
 use Rattle.make_index.proofs.index.write_index.Goals as goal
 
 pub returns : goal.returns

@@ -6,7 +6,7 @@ use Rattle.adb_write.specs.Canonical.{gap, Item, WrittenItem, is_equal_item, wor
 use Rattle.adb_write.specs.Writing.{Writing, Grows, call, writing_by}
 use Rattle.adb_write.specs.Items.{item_of}
 use Rattle.adb_write.specs.Keys.{key_of}
-use Rattle.adb_write.specs.Table.{pages_of, words_before, words_behind}
+use Rattle.adb_write.specs.WordPages.{pages_of, words_before, words_behind}
 use Rattle.adb_write.specs.WriterState.{items_of_words, written_item, FindsWord}
 use Rattle.adb_write.proofs.WriterSteps.{end_of, written_at, call_past, call_stops, call_fits, call_grows, on_err}
 use Rattle.adb_write.proofs.AnyOrder.{fits_of}
@@ -22,7 +22,7 @@ returns-then-passes-clause-ok c =
     let i : Item = item_of c.args.parts.now in
     let p : List ℕ = s.store.payload.items in
     let body : List ℕ = drop 8 p in
-    let pages : List (List ℕ) = pages_of s.store.table in
+    let pages : List (List ℕ) = pages_of s.store.words in
     let items : List WrittenItem = items_of_words (concat pages) in
     let past : passes (s.counts.bytes, s.counts.values) ≡ true = sym c.passes.ensures ∙ c.if-passes.true in
     rw c.of.ensures (subst (λ (x : Writing). ◌≡◌ {A = ℕ × Writing} (0, x) (call (apart i) x)) c.self.view_is (sym (call_past i body items s.counts.bytes s.counts.values past)))
@@ -33,7 +33,7 @@ repeat-requires-clause-found c =
     let i : Item = item_of c.args.parts.now in
     let p : List ℕ = s.store.payload.items in
     let body : List ℕ = drop 8 p in
-    let pages : List (List ℕ) = pages_of s.store.table in
+    let pages : List (List ℕ) = pages_of s.store.words in
     let items : List WrittenItem = items_of_words (concat pages) in
     let fine : passes (s.counts.bytes, s.counts.values) ≡ false = sym c.passes.ensures ∙ c.if-passes.false in
     let agree : s.counts.bytes ≡ 8 + length body = c.self.invariant.agree fine in
@@ -48,13 +48,13 @@ returns-then-passes-2-clause-ok c =
     let i : Item = item_of c.args.parts.now in
     let p : List ℕ = s.store.payload.items in
     let body : List ℕ = drop 8 p in
-    let pages : List (List ℕ) = pages_of s.store.table in
+    let pages : List (List ℕ) = pages_of s.store.words in
     let items : List WrittenItem = items_of_words (concat pages) in
     let fine : passes (s.counts.bytes, s.counts.values) ≡ false = sym c.passes.ensures ∙ c.if-passes.false in
     let agree : s.counts.bytes ≡ 8 + length body = c.self.invariant.agree fine in
     let few : length p ≤ MOST_BYTES = omega (arith, fits_of (s.counts.bytes, s.counts.values) fine, length-drop 8 p) in
     let none : find (is_equal_item body i) items ≡ None =
-    not_found p c.args.parts.now (concat pages) (words_before pages c.in-Err.place.page c.in-Err.place.index) (words_behind pages c.in-Err.place.page c.in-Err.place.index) (parts_at pages c.in-Err.place.page c.in-Err.place.index) c.self.invariant.stored c.requires few c.in-Err.ensures.lower c.in-Err.ensures.higher in
+    not_found p c.args.parts.now (concat pages) (words_before pages c.in-Err.slot.page c.in-Err.slot.index) (words_behind pages c.in-Err.slot.page c.in-Err.slot.index) (parts_at pages c.in-Err.slot.page c.in-Err.slot.index) c.self.invariant.stored c.requires few c.in-Err.ensures.lower c.in-Err.ensures.higher in
     let zeros : c.gap.result ≡ gap i.align s.counts.bytes = rw (c.gap.ensures.value, c.len.ensures.value, c.width.ensures) refl in
     let end : s.counts.bytes + c.gap.result + c.len-2.result ≡ end_of i s.counts.bytes = rw (c.len-2.ensures.value, zeros) refl in
     let count : s.counts.values + c.entries.result ≡ s.counts.values + i.entries = ap (λ (k : ℕ). s.counts.values + k) c.entries.ensures.value in
@@ -67,13 +67,13 @@ returns-in_err-append-clause-wants c =
     let i : Item = item_of c.args.parts.now in
     let p : List ℕ = s.store.payload.items in
     let body : List ℕ = drop 8 p in
-    let pages : List (List ℕ) = pages_of s.store.table in
+    let pages : List (List ℕ) = pages_of s.store.words in
     let items : List WrittenItem = items_of_words (concat pages) in
     let fine : passes (s.counts.bytes, s.counts.values) ≡ false = sym c.passes.ensures ∙ c.if-passes.false in
     let agree : s.counts.bytes ≡ 8 + length body = c.self.invariant.agree fine in
     let few : length p ≤ MOST_BYTES = omega (arith, fits_of (s.counts.bytes, s.counts.values) fine, length-drop 8 p) in
     let none : find (is_equal_item body i) items ≡ None =
-    not_found p c.args.parts.now (concat pages) (words_before pages c.in-Err.place.page c.in-Err.place.index) (words_behind pages c.in-Err.place.page c.in-Err.place.index) (parts_at pages c.in-Err.place.page c.in-Err.place.index) c.self.invariant.stored c.requires few c.in-Err.ensures.lower c.in-Err.ensures.higher in
+    not_found p c.args.parts.now (concat pages) (words_before pages c.in-Err.slot.page c.in-Err.slot.index) (words_behind pages c.in-Err.slot.page c.in-Err.slot.index) (parts_at pages c.in-Err.slot.page c.in-Err.slot.index) c.self.invariant.stored c.requires few c.in-Err.ensures.lower c.in-Err.ensures.higher in
     let zeros : c.gap.result ≡ gap i.align s.counts.bytes = rw (c.gap.ensures.value, c.len.ensures.value, c.width.ensures) refl in
     let end : s.counts.bytes + c.gap.result + c.len-2.result ≡ end_of i s.counts.bytes = rw (c.len-2.ensures.value, zeros) refl in
     let count : s.counts.values + c.entries.result ≡ s.counts.values + i.entries = ap (λ (k : ℕ). s.counts.values + k) c.entries.ensures.value in
@@ -87,13 +87,13 @@ invariant_of-self-2 c =
     let i : Item = item_of c.args.parts.now in
     let p : List ℕ = s.store.payload.items in
     let body : List ℕ = drop 8 p in
-    let pages : List (List ℕ) = pages_of s.store.table in
+    let pages : List (List ℕ) = pages_of s.store.words in
     let items : List WrittenItem = items_of_words (concat pages) in
     let fine : passes (s.counts.bytes, s.counts.values) ≡ false = sym c.passes.ensures ∙ c.if-passes.false in
     let agree : s.counts.bytes ≡ 8 + length body = c.self.invariant.agree fine in
     let few : length p ≤ MOST_BYTES = omega (arith, fits_of (s.counts.bytes, s.counts.values) fine, length-drop 8 p) in
     let none : find (is_equal_item body i) items ≡ None =
-    not_found p c.args.parts.now (concat pages) (words_before pages c.in-Err.place.page c.in-Err.place.index) (words_behind pages c.in-Err.place.page c.in-Err.place.index) (parts_at pages c.in-Err.place.page c.in-Err.place.index) c.self.invariant.stored c.requires few c.in-Err.ensures.lower c.in-Err.ensures.higher in
+    not_found p c.args.parts.now (concat pages) (words_before pages c.in-Err.slot.page c.in-Err.slot.index) (words_behind pages c.in-Err.slot.page c.in-Err.slot.index) (parts_at pages c.in-Err.slot.page c.in-Err.slot.index) c.self.invariant.stored c.requires few c.in-Err.ensures.lower c.in-Err.ensures.higher in
     let zeros : c.gap.result ≡ gap i.align s.counts.bytes = rw (c.gap.ensures.value, c.len.ensures.value, c.width.ensures) refl in
     let end : s.counts.bytes + c.gap.result + c.len-2.result ≡ end_of i s.counts.bytes = rw (c.len-2.ensures.value, zeros) refl in
     let count : s.counts.values + c.entries.result ≡ s.counts.values + i.entries = ap (λ (k : ℕ). s.counts.values + k) c.entries.ensures.value in
@@ -101,8 +101,8 @@ invariant_of-self-2 c =
     let word : c.of-word.result ≡ i.kind * 2 ^ 28 + (s.counts.bytes + c.gap.result) = c.of-word.ensures ∙ ap (λ (k : ℕ). k * 2 ^ 28 + (s.counts.bytes + c.gap.result)) c.kind.ensures.value in
     let room : s.counts.bytes + c.gap.result + length i.bytes ≤ MOST_BYTES = omega (arith, fits_of (end_of i s.counts.bytes, s.counts.values + i.entries) fits, zeros) in
     let g : Grown p c.append.new.self.payload.items c.gap.result i.bytes = subst (λ (x : List ℕ). Grown p x c.gap.result i.bytes) (sym c.in_ok-append.ensures.bytes) (grown p s.counts.bytes c.gap.result i.bytes c.self.invariant.head agree) in
-    let a : Appended p c.append.new.self.payload.items pages (pages_of c.append.new.self.table) i =
-    appended p c.append.new.self.payload.items pages (pages_of c.append.new.self.table) c.args.parts.now c.in-Err.place s.counts.bytes c.gap.result c.of-word.result c.self.invariant.head agree zeros c.self.invariant.rising c.self.invariant.stored c.requires room c.in-Err.ensures c.in_ok-append.ensures.bytes c.in_ok-append.ensures.words word in
+    let a : Appended p c.append.new.self.payload.items pages (pages_of c.append.new.self.words) i =
+    appended p c.append.new.self.payload.items pages (pages_of c.append.new.self.words) c.args.parts.now c.in-Err.slot s.counts.bytes c.gap.result c.of-word.result c.self.invariant.head agree zeros c.self.invariant.rising c.self.invariant.stored c.requires room c.in-Err.ensures c.in_ok-append.ensures.bytes c.in_ok-append.ensures.words word in
     record {
       head = g.head;
       agree = λ below. grown_len p c.append.new.self.payload.items c.gap.result i.bytes s.counts.bytes c.len-2.result g agree c.len-2.ensures.value;
@@ -117,13 +117,13 @@ returns-clause-ok c =
     let i : Item = item_of c.args.parts.now in
     let p : List ℕ = s.store.payload.items in
     let body : List ℕ = drop 8 p in
-    let pages : List (List ℕ) = pages_of s.store.table in
+    let pages : List (List ℕ) = pages_of s.store.words in
     let items : List WrittenItem = items_of_words (concat pages) in
     let fine : passes (s.counts.bytes, s.counts.values) ≡ false = sym c.passes.ensures ∙ c.if-passes.false in
     let agree : s.counts.bytes ≡ 8 + length body = c.self.invariant.agree fine in
     let few : length p ≤ MOST_BYTES = omega (arith, fits_of (s.counts.bytes, s.counts.values) fine, length-drop 8 p) in
     let none : find (is_equal_item body i) items ≡ None =
-    not_found p c.args.parts.now (concat pages) (words_before pages c.in-Err.place.page c.in-Err.place.index) (words_behind pages c.in-Err.place.page c.in-Err.place.index) (parts_at pages c.in-Err.place.page c.in-Err.place.index) c.self.invariant.stored c.requires few c.in-Err.ensures.lower c.in-Err.ensures.higher in
+    not_found p c.args.parts.now (concat pages) (words_before pages c.in-Err.slot.page c.in-Err.slot.index) (words_behind pages c.in-Err.slot.page c.in-Err.slot.index) (parts_at pages c.in-Err.slot.page c.in-Err.slot.index) c.self.invariant.stored c.requires few c.in-Err.ensures.lower c.in-Err.ensures.higher in
     let zeros : c.gap.result ≡ gap i.align s.counts.bytes = rw (c.gap.ensures.value, c.len.ensures.value, c.width.ensures) refl in
     let end : s.counts.bytes + c.gap.result + c.len-2.result ≡ end_of i s.counts.bytes = rw (c.len-2.ensures.value, zeros) refl in
     let count : s.counts.values + c.entries.result ≡ s.counts.values + i.entries = ap (λ (k : ℕ). s.counts.values + k) c.entries.ensures.value in
@@ -131,8 +131,8 @@ returns-clause-ok c =
     let word : c.of-word.result ≡ i.kind * 2 ^ 28 + (s.counts.bytes + c.gap.result) = c.of-word.ensures ∙ ap (λ (k : ℕ). k * 2 ^ 28 + (s.counts.bytes + c.gap.result)) c.kind.ensures.value in
     let room : s.counts.bytes + c.gap.result + length i.bytes ≤ MOST_BYTES = omega (arith, fits_of (end_of i s.counts.bytes, s.counts.values + i.entries) fits, zeros) in
     let g : Grown p c.append.new.self.payload.items c.gap.result i.bytes = subst (λ (x : List ℕ). Grown p x c.gap.result i.bytes) (sym c.in_ok-append.ensures.bytes) (grown p s.counts.bytes c.gap.result i.bytes c.self.invariant.head agree) in
-    let a : Appended p c.append.new.self.payload.items pages (pages_of c.append.new.self.table) i =
-    appended p c.append.new.self.payload.items pages (pages_of c.append.new.self.table) c.args.parts.now c.in-Err.place s.counts.bytes c.gap.result c.of-word.result c.self.invariant.head agree zeros c.self.invariant.rising c.self.invariant.stored c.requires room c.in-Err.ensures c.in_ok-append.ensures.bytes c.in_ok-append.ensures.words word in
+    let a : Appended p c.append.new.self.payload.items pages (pages_of c.append.new.self.words) i =
+    appended p c.append.new.self.payload.items pages (pages_of c.append.new.self.words) c.args.parts.now c.in-Err.slot s.counts.bytes c.gap.result c.of-word.result c.self.invariant.head agree zeros c.self.invariant.rising c.self.invariant.stored c.requires room c.in-Err.ensures c.in_ok-append.ensures.bytes c.in_ok-append.ensures.words word in
     let bytes : drop 8 c.append.new.self.payload.items ≡ body ++ (replicate {A = ℕ} (gap i.align s.counts.bytes) 0 ++ i.bytes) = g.body ∙ ap (λ (k : ℕ). body ++ (replicate {A = ℕ} k 0 ++ i.bytes)) zeros in
     let answer : c.of-word.result ≡ i.kind * 2 ^ 28 + (s.counts.bytes + gap i.align s.counts.bytes) = word ∙ ap (λ (k : ℕ). i.kind * 2 ^ 28 + (s.counts.bytes + k)) zeros in
     let old : ◌≡◌ {A = ℕ × Writing} (i.kind * 2 ^ 28 + (s.counts.bytes + gap i.align s.counts.bytes), writing_by (body ++ (replicate {A = ℕ} (gap i.align s.counts.bytes) 0 ++ i.bytes)) (written_at i body ∷ items) (end_of i s.counts.bytes) (s.counts.values + i.entries)) (call (apart i) c.args.self.now) =

@@ -1,0 +1,144 @@
+-- The fault of the framing that is told is the first.
+use Rattle.std.proofs.Common.{◌≡◌, ℕ, zero, suc, ◌+◌, ◌-◌, ◌<◌, ◌≤◌, Bool, true, false, cond, ◌||◌, eqb, ltb, List, [], ◌∷◌, ◌++◌, length, drop, Option, Some, None, Result, Ok, Err, refl, sym, ap, ◌∙◌, arith, inl, inr, ◌⊎◌}
+use Rattle.std.proofs.lemmas.Bool.{cases_lt, ltb-true, eqb-true}
+use Rattle.std.proofs.lemmas.List.{length-drop, drop_all, nil_from_length}
+use Rattle.base_core.specs.declared.Cause.{Cause}
+use Rattle.base_core.specs.declared.Cause.TheVariants.{Truncated, BlockOrder}
+use Rattle.adb_block.specs.Piece.{Piece, comes_after, least_payload}
+use Rattle.adb_block.specs.Container.{IsBlock, MayFollow}
+use Rattle.adb_block.specs.Header.{header_of}
+use Rattle.adb_block.specs.Framing.{HeadFields, head_of, kind_of_number, Step, ended, failed, block, step_by_size, step_by_order, step_by_head, step_at_end, next_step}
+use Rattle.adb_block.specs.FirstFraming.{BeginWithBlocks, last_kind, LackHead, MayNotStand, HaveWrongKind, IsWrongSize, HaveWrongSize, HaveBlockFault, IsFirstFramingFault}
+use Rattle.adb_block.specs.Standing.{start_of}
+use Rattle.adb_block.specs.Reading.{Reading, done, fault, more, reading_by_step, reading_from, reading_of}
+use Rattle.adb_block.specs.AllBlocks.{with_block, pieces_of, rest_of, blocks_of}
+use Rattle.adb_block.specs.declared.block.BlockKind.{BlockKind}
+use Rattle.adb_block.proofs.Choices.{chosen}
+use Rattle.adb_block.proofs.Sound.{step_sound}
+use Rattle.adb_block.proofs.Runs.{step_shorter}
+use Rattle.adb_block.proofs.WholeFiles.{header_sound, whole_from}
+
+-- ---- one block
+
+or_true : (a b : Bool) → (a || b) ≡ true → (a ≡ true) ⊎ (b ≡ true)
+or_true true b e = inl refl
+or_true false b e = inr e
+
+sized_failed : (at : ℕ) (bytes : List ℕ) (h : HeadFields) (k : BlockKind) (c : Cause) → step_by_size at bytes h k ≡ failed c → IsWrongSize h k bytes × (c ≡ Truncated at)
+sized_failed at bytes h k c e =
+    elim (chosen (ltb h.raw h.len || ltb (length bytes) h.raw) _ _ _ e) [
+      | inl x ↦
+          let is : failed (Truncated at) ≡ failed c = x.1 in
+          elim (or_true (ltb h.raw h.len) (ltb (length bytes) h.raw) x.0) [
+            | inl y ↦ (let less = ltb-true _ _ y in (inl (omega arith), cc))
+            | inr y ↦ (inr (ltb-true _ _ y), cc)
+          ]
+      | inr x ↦ elim (chosen (ltb (h.raw - h.len) (least_payload k)) _ _ _ x.1) [
+        | inl y ↦
+            let is : failed (Truncated at) ≡ failed c = y.1 in
+            let less = ltb-true _ _ y.0 in
+            (inl (omega arith), cc)
+        | inr y ↦ absurd (let z = y.1 in cc)
+      ]
+    ]
+
+ordered_failed : (last : Option BlockKind) (at : ℕ) (bytes : List ℕ) (h : HeadFields) (o : Option BlockKind) (c : Cause) → head_of bytes ≡ Some h → kind_of_number h.kind ≡ o → step_by_order last at bytes h o ≡ failed c → HaveBlockFault last at bytes c
+ordered_failed last at bytes h None c is kind e = inr (inl (record { head = h; is = is; wrong = rw kind tt; cause = cc }))
+ordered_failed last at bytes h (Some k) c is kind e =
+    elim (chosen (comes_after last k) _ _ _ e) [
+      | inl x ↦
+          let s = sized_failed at bytes h k c x.1 in
+          inr (inr (record { head = h; is = is; kind = k; is_kind = kind; order = x.0; wrong = s.0; cause = s.1 }))
+      | inr x ↦
+          let told : failed (BlockOrder at) ≡ failed c = x.1 in
+          inr (inl (record { head = h; is = is; wrong = rw kind x.0; cause = cc }))
+    ]
+
+headed_failed : (last : Option BlockKind) (at : ℕ) (bytes : List ℕ) (o : Option HeadFields) (c : Cause) → head_of bytes ≡ o → step_by_head last at bytes o ≡ failed c → HaveBlockFault last at bytes c
+headed_failed last at bytes None c is e = inl (record { head = is; cause = cc })
+headed_failed last at bytes (Some h) c is e = ordered_failed last at bytes h (kind_of_number h.kind) c is refl e
+
+nothing_headed : (bytes : List ℕ) → bytes ≡ [] → head_of bytes ≡ None
+unfolding head_of
+nothing_headed bytes e = rw e refl
+
+at_end_failed : (last : Option BlockKind) (at : ℕ) (c : Cause) → step_at_end last at ≡ failed c → c ≡ Truncated at
+at_end_failed None at c e = cc
+at_end_failed (Some k) at c e = absurd cc
+
+step_failed : (last : Option BlockKind) (at : ℕ) (bytes : List ℕ) (c : Cause) → next_step last at bytes ≡ failed c → HaveBlockFault last at bytes c
+unfolding next_step
+step_failed last at bytes c e =
+    elim (chosen (eqb (length bytes) 0) _ _ _ e) [
+      | inl x ↦ inl (record { head = nothing_headed bytes (nil_from_length bytes (eqb-true _ _ x.0)); cause = at_end_failed last at c x.1 })
+      | inr x ↦ headed_failed last at bytes (head_of bytes) c refl x.1
+    ]
+
+-- ---- block by block
+
+-- blocks, and behind them the fault
+record Fails (total : ℕ) (last : Option BlockKind) (bytes : List ℕ) (c : Cause) : Type 0 where
+  pub blocks : List Piece
+  pub rest : List ℕ
+  pub before : BeginWithBlocks last bytes blocks rest
+  pub at : ℕ
+  pub stands : at + length rest ≡ total
+  pub fault : HaveBlockFault (last_kind last blocks) at rest c
+
+with_err : (b : Piece) (r : Result (List Piece) Cause) (c : Cause) → with_block b r ≡ Err c → r ≡ Err c
+with_err b (Ok bs) c e = absurd cc
+with_err b (Err d) c e = e
+
+fails_behind : (total : ℕ) (last : Option BlockKind) (bytes : List ℕ) (c : Cause) (b : Piece) (behind : List ℕ) → MayFollow last b → IsBlock b bytes behind → Fails total (Some b.kind) behind c → Fails total last bytes c
+fails_behind total last bytes c b behind may is f =
+    record { blocks = b ∷ f.blocks; rest = f.rest; before = (behind, may, is, f.before); at = f.at; stands = f.stands; fault = f.fault }
+
+-- nothing fails at the end behind a block
+nothing_fails : (n at : ℕ) (kind : BlockKind) (bytes : List ℕ) (c : Cause) → bytes ≡ [] → length bytes < n → pieces_of (reading_from n (Some kind) at bytes) ≡ Err c → ⊥
+unfolding reading_from next_step
+nothing_fails zero at kind bytes c none enough e = omega arith
+nothing_fails (suc n) at kind bytes c none enough e =
+    let same : pieces_of (reading_from (suc n) (Some kind) at []) ≡ Err c = ap (λ (x : List ℕ). pieces_of (reading_from (suc n) (Some kind) at x)) (sym none) ∙ e in
+    cc
+
+-- that later readings fail so
+abbrev FailsLater : ℕ → ℕ → Cause → Type 0
+FailsLater n total c = (kind : BlockKind) (at : ℕ) (bytes : List ℕ) → length bytes < n → at + length bytes ≡ total → pieces_of (reading_from n (Some kind) at bytes) ≡ Err c → Fails total (Some kind) bytes c
+
+behind_fails : (n total : ℕ) (kind : BlockKind) (at size : ℕ) (bytes : List ℕ) (c : Cause) → FailsLater n total c → length (drop size bytes) < n → at + length bytes ≡ total → pieces_of (reading_from n (Some kind) (at + size) (drop size bytes)) ≡ Err c
+    → Fails total (Some kind) (drop size bytes) c
+behind_fails n total kind at size bytes c ih enough sum e =
+    elim (cases_lt (length bytes) size) [
+      | inl short ↦ absurd (nothing_fails n (at + size) kind (drop size bytes) c (drop_all size bytes (omega arith)) enough e)
+      | inr fits ↦ ih kind (at + size) (drop size bytes) enough (omega (arith, length-drop size bytes)) e
+    ]
+
+stepped_fails : (n total : ℕ) (last : Option BlockKind) (at : ℕ) (bytes : List ℕ) (c : Cause) → FailsLater n total c → length bytes < suc n → at + length bytes ≡ total → (s : Step) → next_step last at bytes ≡ s
+    → pieces_of (reading_by_step at (λ b size. reading_from n (Some b.kind) (at + size) (drop size bytes)) s) ≡ Err c → Fails total last bytes c
+stepped_fails n total last at bytes c ih enough sum ended is e = absurd cc
+stepped_fails n total last at bytes c ih enough sum (failed d) is e =
+    let same : d ≡ c = cc in
+    record { blocks = []; rest = bytes; before = refl; at = at; stands = sum; fault = step_failed last at bytes c (is ∙ ap failed same) }
+stepped_fails n total last at bytes c ih enough sum (block b size) is e =
+    let sound = step_sound last at bytes b size is in
+    let shorter = step_shorter last at bytes b size is in
+    let later = with_err b (pieces_of (reading_from n (Some b.kind) (at + size) (drop size bytes))) c e in
+    fails_behind total last bytes c b (drop size bytes) sound.0 sound.1 (behind_fails n total b.kind at size bytes c ih (omega arith) sum later)
+
+reading_fails : (n total : ℕ) (last : Option BlockKind) (at : ℕ) (bytes : List ℕ) (c : Cause) → length bytes < n → at + length bytes ≡ total → pieces_of (reading_from n last at bytes) ≡ Err c → Fails total last bytes c
+unfolding reading_from
+reading_fails zero total last at bytes c enough sum e = absurd (omega arith)
+reading_fails (suc n) total last at bytes c enough sum e =
+    stepped_fails n total last at bytes c (λ kind at bytes. reading_fails n total (Some kind) at bytes c) enough sum (next_step last at bytes) refl e
+
+-- ---- the whole file
+
+rest_fails : (schema : ℕ) (file : List ℕ) (c : Cause) → 8 ≤ length file → rest_of (start_of schema file) ≡ Err c → Fails (length file) None (drop 8 file) c
+unfolding rest_of reading_of
+rest_fails schema file c long e = reading_fails (suc (length (drop 8 file))) (length file) None 8 (drop 8 file) c (omega arith) (omega (arith, length-drop 8 file)) e
+
+pub first_told : (file : List ℕ) (schema : ℕ) (c : Cause) → header_of file ≡ Ok schema → blocks_of file ≡ Err c → IsFirstFramingFault file c
+first_told file schema c h e =
+    let header = header_sound file schema h in
+    let f = rest_fails schema file c header.whole (sym (whole_from file schema h) ∙ e) in
+    record { blocks = f.blocks; rest = f.rest; before = f.before; at = f.at; stands = f.stands; fault = f.fault }

@@ -1,0 +1,71 @@
+-- Which test of a container's framing fails first: block by block, and of each block first its
+-- header, then its kind, then its size.
+use Rattle.std.specs.Prelude.{◌≡◌, ℕ, ◌+◌, ◌<◌, ◌⊎◌, false, true, List, [], ◌∷◌, length, drop, Option, Some, None}
+use Rattle.base_core.specs.declared.Cause.{Cause}
+use Rattle.base_core.specs.declared.Cause.TheVariants.{Truncated, BlockOrder}
+use Rattle.adb_block.specs.Piece.{Piece, comes_after, least_payload}
+use Rattle.adb_block.specs.Container.{IsBlock, MayFollow}
+use Rattle.adb_block.specs.Framing.{HeadFields, head_of, kind_of_number}
+use Rattle.adb_block.specs.declared.block.BlockKind.{BlockKind}
+
+-- behind a block of the kind last, the bytes begin with these blocks and go on with the rest
+abbrev pub BeginWithBlocks : Option BlockKind → List ℕ → List Piece → List ℕ → Type 0
+BeginWithBlocks last bytes [] rest = bytes ≡ rest
+BeginWithBlocks last bytes (b ∷ bs) rest =
+    (behind : List ℕ) × MayFollow last b × IsBlock b bytes behind
+    × BeginWithBlocks (Some b.kind) behind bs rest
+
+-- the kind of the last of these blocks
+abbrev pub last_kind : Option BlockKind → List Piece → Option BlockKind
+last_kind last [] = last
+last_kind last (b ∷ bs) = last_kind (Some b.kind) bs
+
+-- ---- the tests of one block, behind a block of the kind last, in their order
+
+-- the bytes hold no whole header
+pub record LackHead (at : ℕ) (bytes : List ℕ) (c : Cause) : Type 0 where
+  pub head : head_of bytes ≡ None
+  pub cause : c ≡ Truncated at
+
+-- the number is that of no kind, or the kind may not stand here
+abbrev pub MayNotStand : Option BlockKind → Option BlockKind → Type 0
+MayNotStand last None = Unit {0}
+MayNotStand last (Some kind) = comes_after last kind ≡ false
+
+pub record HaveWrongKind (last : Option BlockKind) (at : ℕ) (bytes : List ℕ)
+    (c : Cause) : Type 0 where
+  pub head : HeadFields
+  pub is : head_of bytes ≡ Some head
+  pub wrong : MayNotStand last (kind_of_number head.kind)
+  pub cause : c ≡ BlockOrder at
+
+-- the raw size is that of no header with the least payload, or more than there is
+abbrev pub IsWrongSize : HeadFields → BlockKind → List ℕ → Type 0
+IsWrongSize head kind bytes =
+    (head.raw < head.len + least_payload kind) ⊎ (length bytes < head.raw)
+
+pub record HaveWrongSize (last : Option BlockKind) (at : ℕ) (bytes : List ℕ)
+    (c : Cause) : Type 0 where
+  pub head : HeadFields
+  pub is : head_of bytes ≡ Some head
+  pub kind : BlockKind
+  pub is_kind : kind_of_number head.kind ≡ Some kind
+  pub order : comes_after last kind ≡ true
+  pub wrong : IsWrongSize head kind bytes
+  pub cause : c ≡ Truncated at
+
+-- one of the tests has this fault, and those before it have none
+abbrev pub HaveBlockFault : Option BlockKind → ℕ → List ℕ → Cause → Type 0
+HaveBlockFault last at bytes c =
+    LackHead at bytes c ⊎ (HaveWrongKind last at bytes c ⊎ HaveWrongSize last at bytes c)
+
+-- ---- the whole file
+
+-- blocks that pass their tests, and behind them, at the offset of the rest, this fault
+pub record IsFirstFramingFault (file : List ℕ) (c : Cause) : Type 0 where
+  pub blocks : List Piece
+  pub rest : List ℕ
+  pub before : BeginWithBlocks None (drop 8 file) blocks rest
+  pub at : ℕ
+  pub stands : at + length rest ≡ length file
+  pub fault : HaveBlockFault (last_kind None blocks) at rest c

@@ -1,0 +1,5 @@
+pub mod Entries
+pub mod Fields
+pub mod Lists
+pub mod Shapes
+pub mod Zeros

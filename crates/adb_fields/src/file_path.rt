@@ -1,0 +1,94 @@
+//! Paths of files whose parts are not joined, and their order.
+
+ghost use Rattle.std.specs.Prelude.{◌≡◌, ◌<◌, ◌≤◌, ◌+◌, ◌^◌, length, take, drop, slice_get, IfSome};
+ghost use Rattle.std.specs.Cmp.Lexicographic.{slice_cmp};
+ghost use Rattle.std.specs.Ordering.{nat_cmp};
+ghost use Rattle.adb_fields.specs.JoinedPath.{joined_path};
+
+use std::cmp::Ordering;
+
+/// The path of a file: its name behind its folder's and a slash. The root folder has the empty name.
+/// The two parts stay where they are, so that a path takes no memory.
+#[derive(Clone, Copy)]
+pub struct FilePath<'a> {
+    pub folder: &'a [u8],
+    pub name: &'a [u8],
+}
+
+impl FilePath<'_> {
+    /// The order of two paths, byte by byte.
+    #[tactic(auto, using(crate::proofs::Compared::apart_in_front, crate::proofs::Compared::same_in_front, crate::proofs::Compared::same_folder))]
+    pub fn compare(&self, other: &FilePath<'_>) -> Ordering
+        ensures { result ≡ slice_cmp nat_cmp (joined_path self.now) (joined_path other.now) }
+    {
+        let len = self.folder.len().min(other.folder.len());
+        let front = compared_fronts(self.folder, other.folder, len);
+        if !front.is_eq() {
+            return front;
+        }
+        if self.folder.len() == other.folder.len() {
+            return self.name.cmp(&other.name);
+        }
+        compared_from(self, other, len)
+    }
+
+    /// A byte of the path.
+    fn byte(&self, i: usize) -> Option<u8>
+        ensures byte { result ≡ slice_get (joined_path self.now) i }
+        ensures small { IfSome result (λ _. i + 1 < 2 ^ 64) }
+    {
+        let len = self.folder.len();
+        if len == 0 {
+            return byte_at(self.name, i);
+        }
+        if i < len {
+            return Some(self.folder[i]);
+        }
+        if i == len {
+            return Some(b'/');
+        }
+        byte_at(self.name, i - len - 1)
+    }
+}
+
+/// The order of the first bytes of two texts.
+fn compared_fronts(one: &[u8], other: &[u8], len: usize) -> Ordering
+    requires one { len ≤ length one.now }
+    requires other { len ≤ length other.now }
+    ensures { result ≡ slice_cmp nat_cmp (take len one.now) (take len other.now) }
+{
+    let front = &one[..len];
+    front.cmp(&&other[..len])
+}
+
+/// The order of what is left of two paths from this index on.
+fn compared_from(one: &FilePath<'_>, other: &FilePath<'_>, from: usize) -> Ordering
+    ensures { result
+        ≡ slice_cmp nat_cmp (drop from (joined_path one.now)) (drop from (joined_path other.now)) }
+{
+    let mut i = from;
+    loop {
+        match (one.byte(i), other.byte(i)) {
+            (None, None) => return Ordering::Equal,
+            (None, Some(_)) => return Ordering::Less,
+            (Some(_), None) => return Ordering::Greater,
+            (Some(byte), Some(another)) => {
+                if byte != another {
+                    return byte.cmp(&another);
+                }
+            }
+        }
+        i += 1;
+    }
+}
+
+fn byte_at(bytes: &[u8], i: usize) -> Option<u8>
+    ensures byte { result ≡ slice_get bytes.now i }
+    ensures small { IfSome result (λ _. i < 2 ^ 63) }
+{
+    if i < bytes.len() {
+        Some(bytes[i])
+    } else {
+        None
+    }
+}

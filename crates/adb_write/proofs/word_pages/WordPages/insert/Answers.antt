@@ -1,0 +1,48 @@
+use Rattle.std.proofs.Common.{◌<◌, ◌++◌, ◌∷◌, ℕ, List, length, sym, ap, subst, ◌∙◌, arith}
+use Rattle.std.specs.List.{concat}
+use Rattle.std.proofs.lemmas.List.{length-map}
+use Rattle.adb_write.specs.WordPages.{AreFilled, pages_of, words_before, words_behind}
+use Rattle.adb_write.proofs.Pages.{slot_page, slot_long, insert_vectors, same_vectors, same_words, filled_vectors}
+use Rattle.adb_write.proofs.WriterSteps.{on_err}
+use Rattle.adb_write.proofs.word_pages.WordPages.insert.Goals as goal
+
+pub index_mut-requires : goal.index_mut-requires
+index_mut-requires c =
+    let same = c.in_ok-slot.ensures.ok in
+    let page = slot_page (pages_of c.make_room.new.self) c.in_ok-slot.slot.page c.in_ok-slot.slot.index c.make_room.ensures.some same.inside in
+    omega (arith, page, length-map c.make_room.new.self.pages.items (λ page. page.items), c.make_room.new.self.pages.ok.0)
+
+pub insert-requires : goal.insert-requires
+insert-requires c =
+    let same = c.in_ok-slot.ensures.ok in
+    let page = slot_page (pages_of c.make_room.new.self) c.in_ok-slot.slot.page c.in_ok-slot.slot.index c.make_room.ensures.some same.inside in
+    let within : c.in_ok-slot.slot.page < length c.make_room.new.self.pages.items = omega (arith, page, length-map c.make_room.new.self.pages.items (λ page. page.items)) in
+    omega (arith, slot_long (λ page. page.items) c.make_room.new.self.pages.items c.in_ok-slot.slot.page c.in_ok-slot.slot.index c.index_mut.result.now within c.index_mut.ensures.value same.inside, c.index_mut.result.now.ok.0)
+
+pub returns-in_err-insert-clause-filled : goal.returns-in_err-insert-clause-filled
+returns-in_err-insert-clause-filled c =
+    let same = c.in_ok-slot.ensures.ok in
+    let page = slot_page (pages_of c.make_room.new.self) c.in_ok-slot.slot.page c.in_ok-slot.slot.index c.make_room.ensures.some same.inside in
+    let within : c.in_ok-slot.slot.page < length c.make_room.new.self.pages.items = omega (arith, page, length-map c.make_room.new.self.pages.items (λ page. page.items)) in
+    subst AreFilled (sym (same_vectors (λ page. page.items) c.make_room.new.self.pages.items c.in_ok-slot.slot.page c.insert.new.self c.index_mut.result.now within c.index_mut.ensures.value c.in_err-insert.ensures.items)) c.make_room.ensures.filled
+
+pub returns-in_err-insert-clause-err : goal.returns-in_err-insert-clause-err
+returns-in_err-insert-clause-err c =
+    let same = c.in_ok-slot.ensures.ok in
+    let page = slot_page (pages_of c.make_room.new.self) c.in_ok-slot.slot.page c.in_ok-slot.slot.index c.make_room.ensures.some same.inside in
+    let within : c.in_ok-slot.slot.page < length c.make_room.new.self.pages.items = omega (arith, page, length-map c.make_room.new.self.pages.items (λ page. page.items)) in
+    on_err c.from_residual-in_err-insert.result _
+    (ap concat (same_vectors (λ page. page.items) c.make_room.new.self.pages.items c.in_ok-slot.slot.page c.insert.new.self c.index_mut.result.now within c.index_mut.ensures.value c.in_err-insert.ensures.items) ∙ same_words (pages_of c.args.self.now) (pages_of c.make_room.new.self) c.args.slot c.in_ok-slot.slot same)
+
+pub returns-clause-filled : goal.returns-clause-filled
+returns-clause-filled c =
+    filled_vectors (λ page. page.items) c.make_room.new.self.pages.items c.in_ok-slot.slot.page c.in_ok-slot.slot.index c.args.word c.insert.new.self c.index_mut.result.now c.make_room.ensures.filled c.in_ok-insert.ensures.items
+
+pub returns-clause-ok : goal.returns-clause-ok
+returns-clause-ok c =
+    let same = c.in_ok-slot.ensures.ok in
+    let page = slot_page (pages_of c.make_room.new.self) c.in_ok-slot.slot.page c.in_ok-slot.slot.index c.make_room.ensures.some same.inside in
+    let within : c.in_ok-slot.slot.page < length c.make_room.new.self.pages.items = omega (arith, page, length-map c.make_room.new.self.pages.items (λ page. page.items)) in
+    insert_vectors (λ page. page.items) c.make_room.new.self.pages.items c.in_ok-slot.slot.page c.in_ok-slot.slot.index c.args.word c.insert.new.self c.index_mut.result.now within c.index_mut.ensures.value c.in_ok-insert.ensures.items
+    ∙ ap (λ (x : List ℕ). x ++ c.args.word ∷ words_behind (pages_of c.make_room.new.self) c.in_ok-slot.slot.page c.in_ok-slot.slot.index) same.before
+    ∙ ap (λ (x : List ℕ). words_before (pages_of c.args.self.now) c.args.slot.page c.args.slot.index ++ c.args.word ∷ x) same.behind

@@ -1,0 +1,79 @@
+-- What is said of one outcome of a command line is so of each.
+use Rattle.std.proofs.Common.{◌≡◌, inl, inr, ℕ, Bool, true, false, List, [], ◌∷◌, None, refl, ap, subst, ◌∙◌}
+use Rattle.std.specs.Prelude.{is_some, not, All, IsTrue}
+use Rattle.std.proofs.lemmas.List.Elements.{All-nil, All-cons, All-weaker}
+use Rattle.base_core.specs.Calls.{HasNow}
+use Rattle.base_core.specs.Crash.{Since}
+use Rattle.base_core.specs.Files.{Files}
+use Rattle.base_core.specs.Restart.{EachMoment}
+use Rattle.base_core.specs.Tree.{TreeState, files_of}
+use Rattle.journal_core.specs.Quiet.{IsQuiet, IsStill}
+use Rattle.journal_core.specs.Recovery.{IsOldOrNew, IsSettled}
+use Rattle.journal_core.specs.Replacing.{IsReplacing}
+use Rattle.journal_core.specs.Staged.{IsOnTheWay}
+use Rattle.outcome.specs.Commands.{IsOutcome}
+use Rattle.outcome.specs.Effect.{Effect, effect_by, output, reads_only}
+use Rattle.outcome.specs.Outcome.{Outcome}
+use Rattle.words_core.specs.Grammar.{command_of}
+use Rattle.apk_front.specs.Moments.{AreOnTheWay, AreSafe, IsCarriedOut, LeavesLasting, Settles}
+use Rattle.apk_front.specs.declared.answer.Answer.{Answer}
+use Rattle.apk_front.specs.declared.answer.Answer.TheVariants.{Ok, Refused, TreeFault, OutFault, Memory}
+
+abbrev pub IsUnique : Type 0
+IsUnique = (words : List (List ℕ)) (files : Files) (a b : Outcome) → IsOutcome words files a → IsOutcome words files b → a ≡ b
+
+abbrev pub QuietIsOld : Type 0
+QuietIsOld = (ignored : List ℕ → Bool) (a b : TreeState) (new : Files) → IsQuiet ignored a b → IsOldOrNew ignored a new b
+
+abbrev pub MakerCommits : Type 0
+MakerCommits = (words : List (List ℕ)) (files : Files) (o : Outcome) → reads_only (command_of words) ≡ false → IsOutcome words files o → o.commits ≡ not (is_some o.refusal)
+
+-- ---- moments
+
+still_replaces : QuietIsOld → (ignored : List ℕ → Bool) (files : Files) (v w : TreeState) → IsStill ignored v w → IsReplacing ignored files v w
+still_replaces law ignored files v w still = record { orderly = still.orderly; old_or_new = law ignored v w files still.quiet; made = still.made }
+
+each_replaces : (ignored : List ℕ → Bool) (files : Files) (v : TreeState) (added : List TreeState) → EachMoment (IsOnTheWay ignored files v) added → All (IsReplacing ignored files v) added
+each_replaces ignored files v [] each = All-nil (IsReplacing ignored files v)
+each_replaces ignored files v (w ∷ added) (here, earlier) =
+    All-cons (IsReplacing ignored files v) w added (record { orderly = here.orderly; old_or_new = here.old_or_new; made = here.made }) (each_replaces ignored files v added earlier)
+
+way_replaces : (makes : Bool) (ignored : List ℕ → Bool) (files : Files) (v : TreeState) (old now : List TreeState) → AreOnTheWay makes ignored files v old now → Since (IsReplacing ignored files v) old now
+way_replaces true ignored files v old now way = way
+way_replaces false ignored files v old now way = record { added = way.added; is = way.is; each = each_replaces ignored files v way.added way.each }
+
+pub safe_for_each : IsUnique → QuietIsOld → (words : List (List ℕ)) (ignored : List ℕ → Bool) (v : TreeState) (outcome : Outcome) (old now : List TreeState)
+    → AreSafe (IsOutcome words (files_of v)) (is_some (output words)) ignored v old now → IsOutcome words (files_of v) outcome → Since (IsReplacing ignored outcome.files v) old now
+safe_for_each unique law words ignored v outcome old now (inl still) one = record {
+  added = still.added;
+  is = still.is;
+  each = All-weaker (IsStill ignored v) (IsReplacing ignored outcome.files v) (still_replaces law ignored outcome.files v) still.added still.each;
+}
+safe_for_each unique law words ignored v outcome old now (inr (o, its, commits, way)) one =
+    subst (λ (x : Outcome). Since (IsReplacing ignored x.files v) old now) (unique words (files_of v) o outcome its one) (way_replaces (is_some (output words)) ignored o.files v old now way)
+
+-- ---- what lasts
+
+settles : MakerCommits → (effect : Effect) (words : List (List ℕ)) (ignored : List ℕ → Bool) (v : TreeState) (o : Outcome) → IsOutcome words (files_of v) o → o.refusal ≡ None → (IsTrue (reads_only (command_of words)) → IsSettled ignored (files_of v) v) → Settles effect ignored v o
+settles law effect words ignored v o one none before =
+    elim (reads_only (command_of words)) as (λ b. (IsTrue b → IsSettled ignored (files_of v) v) → (b ≡ false → o.commits ≡ not (is_some o.refusal)) → Settles effect ignored v o) [
+      | true ↦ λ s m. inl (inr (s refl))
+      | false ↦ λ s m. inl (inl (m refl ∙ ap (λ r. not (is_some r)) none))
+    ] before (λ makes. law words (files_of v) o makes one)
+
+lasts_for : MakerCommits → (effect : Effect) (words : List (List ℕ)) (ignored : List ℕ → Bool) (v : TreeState) (o outcome : Outcome) (now : List TreeState) → o ≡ outcome → IsOutcome words (files_of v) outcome → outcome.refusal ≡ None
+    → (IsTrue (reads_only (command_of words)) → IsSettled ignored (files_of v) v) → (Settles effect ignored v o → HasNow now (IsSettled ignored o.files)) → HasNow now (IsSettled ignored outcome.files)
+lasts_for law effect words ignored v o outcome now same one none before last =
+    subst (λ (x : Outcome). (Settles effect ignored v x → HasNow now (IsSettled ignored x.files))) same last (settles law effect words ignored v outcome one none before)
+
+pub lasting_for_each : IsUnique → MakerCommits → (words : List (List ℕ)) (ignored : List ℕ → Bool) (v : TreeState) (outcome : Outcome) (now : List TreeState) (answer : Answer)
+    → LeavesLasting (IsOutcome words (files_of v)) (effect_by (command_of words)) ignored v now answer → IsCarriedOut answer → IsOutcome words (files_of v) outcome → outcome.refusal ≡ None
+    → (IsTrue (reads_only (command_of words)) → IsSettled ignored (files_of v) v) → HasNow now (IsSettled ignored outcome.files)
+lasting_for_each unique law words ignored v outcome now Ok (o, its, its_none, last) carried one none before =
+    lasts_for law (effect_by (command_of words)) words ignored v o outcome now (unique words (files_of v) o outcome its one) one none before last
+lasting_for_each unique law words ignored v outcome now OutFault (o, its, last) carried one none before =
+    let same = unique words (files_of v) o outcome its one in
+    lasts_for law (effect_by (command_of words)) words ignored v o outcome now same one none before (last (ap (λ (x : Outcome). x.refusal) same ∙ none))
+lasting_for_each unique law words ignored v outcome now (Refused r) lasting carried one none before = absurd carried
+lasting_for_each unique law words ignored v outcome now TreeFault lasting carried one none before = absurd carried
+lasting_for_each unique law words ignored v outcome now Memory lasting carried one none before = absurd carried

@@ -1,0 +1,4 @@
+pub mod AnyOf
+pub mod Ordered
+pub mod PathParts
+pub mod Places

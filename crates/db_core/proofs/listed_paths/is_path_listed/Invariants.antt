@@ -1,0 +1,11 @@
+-- No folder so far lists the path: the rest decides.
+use Rattle.std.specs.Prelude.{bytes_eq}
+use Rattle.std.specs.List.{list_any}
+use Rattle.adb_fields.specs.ListValue.{list_value}
+use Rattle.adb_fields.specs.Repeated.{paths_under}
+use Rattle.adb_tables.specs.Values.{entries_in}
+use Rattle.db_core.proofs.AnyOf.{IsRest}
+use Rattle.db_core.proofs.listed_paths.is_path_listed.Given as goal
+
+abbrev pub invariant-loop-i : goal.invariant-loop-i
+invariant-loop-i l = IsRest (λ folder. list_any (bytes_eq l.path) (paths_under folder)) (entries_in (list_value l.folders)) l.i

@@ -1,0 +1,11 @@
+-- No file so far has the path: the rest decides.
+use Rattle.std.specs.Prelude.{bytes_eq}
+use Rattle.adb_fields.specs.ListValue.{list_value}
+use Rattle.adb_fields.specs.Paths.{path_of}
+use Rattle.adb_fields.specs.Repeated.{name_of}
+use Rattle.adb_tables.specs.Values.{entries_in}
+use Rattle.db_core.proofs.AnyOf.{IsRest}
+use Rattle.db_core.proofs.listed_paths.is_path_of_any.Given as goal
+
+abbrev pub invariant-loop-i : goal.invariant-loop-i
+invariant-loop-i l = IsRest (λ file. bytes_eq l.path (path_of l.folder (name_of file))) (entries_in (list_value l.files)) l.i

@@ -1,0 +1,17 @@
+-- The packages of a database, and who of them lists a file.
+use Rattle.std.specs.Prelude.{ℕ, Bool, List, [], Option, Some, None, bytes_eq}
+use Rattle.std.specs.List.{list_any}
+use Rattle.adb_view.specs.Plain.{Plain}
+use Rattle.adb_fields.specs.Repeated.{entries_at, package_name, paths_in}
+
+abbrev pub is_package_named : List ℕ → Plain → Bool
+is_package_named name pkg = bytes_eq (package_name pkg) name
+
+-- a package lists a file with this path
+abbrev pub lists_path : List ℕ → Plain → Bool
+lists_path path pkg = list_any (bytes_eq path) (paths_in pkg)
+
+-- the packages of the value of a database, or of none
+abbrev pub packages_by : Option Plain → List Plain
+packages_by None = []
+packages_by (Some v) = entries_at 0 v

@@ -1,0 +1,17 @@
+-- What a database and the members of the program stand for.
+use Rattle.std.specs.Prelude.{List, option_map, map}
+use Rattle.adb_view.specs.Plain.{Plain}
+use Rattle.adb_schema.specs.Views.{idb_value}
+use Rattle.db_core.specs.EntrySeen.{member_by}
+use Rattle.db_core.specs.Members.{Member}
+use Rattle.db_core.specs.Packages.{packages_by}
+use Rattle.db_core.specs.declared.db.Db.{Db}
+use Rattle.db_core.specs.declared.members.Members.{Members}
+
+-- the packages of a database, in its order
+abbrev pub packages_of : Db → List Plain
+packages_of db = packages_by (option_map idb_value db.idb)
+
+-- the members, in their order
+abbrev pub members_of : Members → List Member
+members_of members = map member_by members.entries.items

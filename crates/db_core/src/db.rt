@@ -1,0 +1,161 @@
+//! The installed database as it is read.
+ghost use Rattle.adb_fields.specs.ListValue.{list_value};
+ghost use Rattle.adb_fields.specs.Repeated.{entries_at, list_of};
+ghost use Rattle.adb_schema.specs.ReadFaults.{IsReadFault};
+ghost use Rattle.adb_schema.specs.Soundness.{first_fault, payload_in, root_value};
+ghost use Rattle.adb_schema.specs.Views.{package_value};
+ghost use Rattle.adb_tables.specs.Values.{count_of, entries_in, entry_in};
+ghost use Rattle.adb_tables.specs.declared.tables.Which.TheVariants as Tables;
+ghost use Rattle.db_core.specs.Packages.{is_package_named, lists_path};
+ghost use Rattle.std.specs.List.{position_from};
+ghost use Rattle.std.specs.Prelude.{◌≡◌, ◌<◌, ◌^◌, ◌==◌, [], Some, None, IfSome, length, slice_get, IfOk, IfErr};
+
+use crate::listed_paths::is_path_listed;
+use adb_schema::{IdbView, List, PackageView, ReadFault, Which, read_adb};
+use base_core::Name;
+use std::alloc::{AllocError, Global};
+
+/// The packages of an installed database, in its order. All is lent from the file's bytes.
+#[derive(Clone, Copy)]
+pub struct Db<'a> {
+    pub(crate) idb: Option<IdbView<'a>>,
+}
+
+impl<'a> Db<'a> {
+    ghost use Rattle.db_core.specs.Seen.{packages_of};
+
+    /// A database without packages.
+    pub fn empty() -> Db<'a>
+        ensures { packages_of result ≡ [] }
+    {
+        Db { idb: None }
+    }
+
+    /// Reads a database, and makes all tests of its file.
+    ///
+    /// # Errors
+    ///
+    /// `Bad` with the cause of the first test that fails, or `Memory`.
+    pub fn read(alloc: Global, bytes: &'a [u8]) -> Result<Db<'a>, ReadFault>
+        ensures bad { IfErr result
+            (λ fault. IsReadFault fault (first_fault Tables.Idb bytes.entry.now)) }
+        ensures sound { IfOk result (λ _. first_fault Tables.Idb bytes.entry.now ≡ None) }
+        ensures packages { IfOk result (λ db. packages_of db
+            ≡ entries_at 0 (root_value Tables.Idb (payload_in bytes.entry.now))) }
+    {
+        let checked = read_adb(alloc, bytes, Which::Idb)?;
+        Ok(Db {
+            idb: Some(checked.idb()),
+        })
+    }
+
+    /// How many packages there are.
+    pub fn len(&self) -> usize
+        ensures value { result ≡ length (packages_of self.now) }
+        ensures small { result < 2 ^ 32 }
+    {
+        match &self.idb {
+            Some(idb) => idb.packages().len(),
+            None => 0,
+        }
+    }
+
+    /// Whether there is none.
+    pub fn is_empty(&self) -> bool
+        ensures { result ≡ (length (packages_of self.now) == 0) }
+    {
+        self.len() == 0
+    }
+
+    /// The package at a place, counted from 0.
+    pub fn package(&self, i: usize) -> PackageView<'a>
+        requires { i < length (packages_of self.now) }
+        ensures { slice_get (packages_of self.now) i ≡ Some (package_value result) }
+    {
+        match &self.idb {
+            Some(idb) => package_at(&idb.packages(), i),
+            None => unreachable!(),
+        }
+    }
+
+    /// The place of the package with this name, counted from 0; of several the first. None comes
+    /// exactly where no package has the name.
+    pub fn find(&self, name: &[u8]) -> Option<usize>
+        ensures found { result ≡ position_from (is_package_named name.now) 0 (packages_of self.now) }
+        ensures within { IfSome result (λ i. i < length (packages_of self.now)) }
+    {
+        match &self.idb {
+            Some(idb) => find_named(&idb.packages(), name),
+            None => None,
+        }
+    }
+
+    /// The place of the package that lists this path, counted from 0; of several the first. None
+    /// comes exactly where no package lists it. It looks at all that the database lists.
+    pub fn owner_of(&self, path: &Name) -> Option<usize>
+        ensures found { result ≡ position_from (lists_path path.now) 0 (packages_of self.now) }
+        ensures within { IfSome result (λ i. i < length (packages_of self.now)) }
+    {
+        match &self.idb {
+            Some(idb) => find_lister(&idb.packages(), path.as_bytes()),
+            None => None,
+        }
+    }
+}
+
+/// The package at a place, counted from 0.
+fn package_at<'a>(packages: &List<'a, PackageView<'a>>, i: usize) -> PackageView<'a>
+    requires { i < count_of (entries_in (list_value packages.now)) }
+    ensures { package_value result ≡ entry_in (list_value packages.now) i }
+{
+    if i >= packages.len() {
+        unreachable!();
+    }
+    packages.get(i + 1)
+}
+
+/// Whether the package at a place, counted from 0, has this name.
+fn is_named<'a>(packages: &List<'a, PackageView<'a>>, i: usize, name: &[u8]) -> bool
+    requires { i < count_of (entries_in (list_value packages.now)) }
+    ensures { result ≡ is_package_named name.now (entry_in (list_value packages.now) i) }
+{
+    let package = package_at(packages, i);
+    package.info().name() == name
+}
+
+/// The place of the first package with this name, counted from 0.
+fn find_named<'a>(packages: &List<'a, PackageView<'a>>, name: &[u8]) -> Option<usize>
+    ensures found { result ≡ position_from (is_package_named name.now) 0
+        (list_of (entries_in (list_value packages.now))) }
+    ensures within { IfSome result (λ i. i < count_of (entries_in (list_value packages.now))) }
+{
+    for i in 0..packages.len() {
+        if is_named(packages, i, name) {
+            return Some(i);
+        }
+    }
+    None
+}
+
+/// Whether the package at a place, counted from 0, lists this path.
+fn is_lister<'a>(packages: &List<'a, PackageView<'a>>, i: usize, path: &[u8]) -> bool
+    requires { i < count_of (entries_in (list_value packages.now)) }
+    ensures { result ≡ lists_path path.now (entry_in (list_value packages.now) i) }
+{
+    let package = package_at(packages, i);
+    is_path_listed(&package.paths(), path)
+}
+
+/// The place of the first package that lists this path, counted from 0.
+fn find_lister<'a>(packages: &List<'a, PackageView<'a>>, path: &[u8]) -> Option<usize>
+    ensures found { result ≡ position_from (lists_path path.now) 0
+        (list_of (entries_in (list_value packages.now))) }
+    ensures within { IfSome result (λ i. i < count_of (entries_in (list_value packages.now))) }
+{
+    for i in 0..packages.len() {
+        if is_lister(packages, i, path) {
+            return Some(i);
+        }
+    }
+    None
+}

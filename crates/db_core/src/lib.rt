@@ -1,0 +1,16 @@
+//! The installed database as it is read (apk-v3(5)), and the packages after a change.
+//!
+//! `Db` is the database: all is lent from its file's bytes. `Members` are the packages after a
+//! change, those that stay and those that come, and `Owned` says which of the files that they list
+//! are theirs. The contracts cite `Members` (members and the files that they list) and `Packages`
+//! (the packages of a database) of `specs/`.
+#![tactic(auto)]
+
+mod db;
+mod listed_paths;
+mod members;
+mod owned;
+
+pub use db::Db;
+pub use members::Members;
+pub use owned::Owned;

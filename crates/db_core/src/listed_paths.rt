@@ -1,0 +1,77 @@
+//! Whether folders list a file with some path, which is not joined.
+ghost use Rattle.adb_fields.specs.ListValue.{list_value};
+ghost use Rattle.adb_fields.specs.Paths.{path_of};
+ghost use Rattle.adb_fields.specs.Repeated.{list_of, name_of, paths_under};
+ghost use Rattle.adb_schema.specs.Views.{dir_value};
+ghost use Rattle.adb_tables.specs.Values.{count_of, entries_in, entry_in};
+ghost use Rattle.std.specs.List.{flat_map, list_any};
+ghost use Rattle.std.specs.Prelude.{◌≡◌, ◌<◌, bytes_eq};
+
+use adb_schema::{DirInfo, FileInfo, List};
+
+/// Whether one of the folders lists a file with this path.
+pub(crate) fn is_path_listed<'a>(folders: &List<'a, DirInfo<'a>>, path: &[u8]) -> bool
+    ensures { result ≡ list_any (bytes_eq path.now)
+        (flat_map paths_under (list_of (entries_in (list_value folders.now)))) }
+{
+    for i in 0..folders.len() {
+        if is_path_in_folder(folders, i, path) {
+            return true;
+        }
+    }
+    false
+}
+
+/// Whether the folder at a place, counted from 0, lists a file with this path.
+fn is_path_in_folder<'a>(folders: &List<'a, DirInfo<'a>>, i: usize, path: &[u8]) -> bool
+    requires { i < count_of (entries_in (list_value folders.now)) }
+    ensures { result ≡ list_any (bytes_eq path.now)
+        (paths_under (entry_in (list_value folders.now) i)) }
+{
+    if i >= folders.len() {
+        unreachable!();
+    }
+    let folder = folders.get(i + 1);
+    is_path_of_any(&folder.files(), folder.name(), path)
+}
+
+/// Whether one of a folder's files has this path.
+fn is_path_of_any<'a>(files: &List<'a, FileInfo<'a>>, folder: &[u8], path: &[u8]) -> bool
+    ensures { result ≡ list_any (λ file. bytes_eq path.now (path_of folder.now (name_of file)))
+        (list_of (entries_in (list_value files.now))) }
+{
+    for i in 0..files.len() {
+        if is_path_of_file(files, i, folder, path) {
+            return true;
+        }
+    }
+    false
+}
+
+/// Whether the file at a place of a folder, counted from 0, has this path.
+fn is_path_of_file<'a>(files: &List<'a, FileInfo<'a>>, i: usize, folder: &[u8], path: &[u8]) -> bool
+    requires { i < count_of (entries_in (list_value files.now)) }
+    ensures { result ≡ bytes_eq path.now
+        (path_of folder.now (name_of (entry_in (list_value files.now) i))) }
+{
+    if i >= files.len() {
+        unreachable!();
+    }
+    is_path(path, folder, files.get(i + 1).name())
+}
+
+/// Whether a path is that of the file with this name in this folder.
+fn is_path(path: &[u8], folder: &[u8], name: &[u8]) -> bool
+    ensures { result ≡ bytes_eq path.now (path_of folder.now name.now) }
+{
+    if folder.is_empty() {
+        return path == name;
+    }
+    let Some(below) = path.strip_prefix(folder) else {
+        return false;
+    };
+    let Some(last) = below.strip_prefix(&[b'/']) else {
+        return false;
+    };
+    last == name
+}

@@ -1,0 +1,150 @@
+//! The packages after a change.
+ghost use Rattle.adb_fields.specs.Repeated.{package_name};
+ghost use Rattle.adb_schema.specs.Views.{package_value};
+ghost use Rattle.adb_view.specs.Plain.{Plain};
+ghost use Rattle.base_core.specs.Listed.{IsRising};
+ghost use Rattle.db_core.specs.EntrySeen.{member_by};
+ghost use Rattle.db_core.specs.Members.{Member, comes_behind, coming_member, member_name, staying_member};
+ghost use Rattle.pkg_core.specs.Opened.{opened_payload, opened_value};
+ghost use Rattle.sha2.specs.Sha256.{sha256};
+ghost use Rattle.std.specs.Prelude.{◌≡◌, ◌<◌, ◌++◌, ◌∷◌, [], true, ◌==◌, Some, None, length, map, slice_get, IfOk, OnOk, OnErr};
+
+use crate::db::Db;
+use adb_schema::PackageView;
+use pkg_core::Package;
+use std::alloc::{AllocError, Global};
+use std::marker::Model;
+
+/// How many packages there may be.
+pub const MOST_MEMBERS: usize = 65536;
+
+/// A package after the change, and the id of one that comes.
+#[derive(Drop)]
+pub(crate) struct Entry<'a> {
+    pub(crate) view: PackageView<'a>,
+    pub(crate) id: Option<[u8; 32]>,
+}
+
+impl<'a> Model for Entry<'a> {
+    ghost use Rattle.std.specs.Prelude.{ℕ, List, Option};
+    ghost use Rattle.std.specs.Prelude.{◌≡◌, true};
+    ghost use Rattle.adb_view.specs.Adb.{payload_of};
+    ghost use Rattle.adb_tables.specs.Values.{is_sound};
+    ghost use Rattle.adb_tables.specs.declared.tables.Kind.TheVariants as Kinds;
+    ghost use Rattle.adb_tables.specs.declared.tables.Which.TheVariants as Tables;
+
+    ghost Value = { List ℕ × ℕ × Option (List ℕ) };
+
+    ghost view = { λ e. (payload_of e.view.adb, e.view.word, e.id) };
+
+    ghost invariant = { λ e. is_sound (payload_of e.view.adb) (Kinds.Obj Tables.Package) e.view.word
+        ≡ true };
+}
+
+/// The packages after a change, in byte order of names: those that stay and those that come.
+#[derive(Drop)]
+pub struct Members<'a> {
+    pub(crate) entries: Vec<Entry<'a>>,
+    ghost in_order: { IsRising (map (λ e. member_name (member_by e)) entries.items) },
+}
+
+impl<'a> Members<'a> {
+    ghost use Rattle.db_core.specs.Members.{AreInOrder};
+    ghost use Rattle.db_core.specs.Seen.{members_of, packages_of};
+
+    /// No packages.
+    pub fn new(alloc: Global) -> Members<'a>
+        ensures { members_of result ≡ [] }
+    {
+        Members {
+            entries: Vec::new(alloc),
+        }
+    }
+
+    /// Adds the package at a place of a database, counted from 0, which stays. A refused call
+    /// changes nothing.
+    ///
+    /// # Errors
+    ///
+    /// Want of memory.
+    pub fn stays(&mut self, db: &Db<'a>, i: usize) -> Result<(), AllocError>
+        requires at { i < length (packages_of db.now) }
+        requires behind { (pkg : Plain) → slice_get (packages_of db.now) i ≡ Some pkg
+            → comes_behind (package_name pkg) (members_of self.old) ≡ true }
+        requires few { length (members_of self.old) < MOST_MEMBERS }
+        ensures ok { OnOk result ((pkg : Plain) → slice_get (packages_of db.now) i ≡ Some pkg
+            → members_of self.new ≡ members_of self.old ++ staying_member pkg ∷ []) }
+        ensures err { OnErr result (members_of self.new ≡ members_of self.old) }
+    {
+        let view = db.package(i);
+        self.entries.push(Entry { view, id: None })?;
+        Ok(())
+    }
+
+    /// Adds a package that comes, with its id. A refused call changes nothing.
+    ///
+    /// # Errors
+    ///
+    /// Want of memory.
+    pub fn comes(&mut self, pkg: &Package<'a>) -> Result<(), AllocError>
+        requires behind { comes_behind (package_name (opened_value pkg.now)) (members_of self.old)
+            ≡ true }
+        requires few { length (members_of self.old) < MOST_MEMBERS }
+        ensures ok { OnOk result (members_of self.new ≡ members_of self.old
+            ++ coming_member (opened_value pkg.now) (sha256 (opened_payload pkg.now)) ∷ []) }
+        ensures err { OnErr result (members_of self.new ≡ members_of self.old) }
+    {
+        let view = pkg.view();
+        let id = pkg.id();
+        self.entries.push(Entry { view, id: Some(id) })?;
+        Ok(())
+    }
+
+    /// Whether a package with this name comes behind all others, as one that is added has to.
+    pub fn comes_behind(&self, name: &[u8]) -> bool
+        ensures { result ≡ comes_behind name.now (members_of self.now) }
+    {
+        let count = self.len();
+        if count == 0 {
+            return true;
+        }
+        let order = self.entries[count - 1].view.info().name().cmp(&name);
+        order.is_lt()
+    }
+
+    /// How many packages there are.
+    pub fn len(&self) -> usize
+        ensures { result ≡ length (members_of self.now) }
+    {
+        self.entries.len()
+    }
+
+    /// Whether there is none.
+    pub fn is_empty(&self) -> bool
+        ensures { result ≡ (length (members_of self.now) == 0) }
+    {
+        self.entries.is_empty()
+    }
+
+    /// The package at a place, counted from 0.
+    pub fn view(&self, i: usize) -> &PackageView<'a>
+        requires { i < length (members_of self.now) }
+        ensures { (m : Member) → slice_get (members_of self.now) i ≡ Some m
+            → package_value result.now ≡ m.pkg }
+    {
+        &self.entries[i].view
+    }
+
+    /// The id of the package at a place, counted from 0. None: it stays.
+    pub fn id(&self, i: usize) -> Option<[u8; 32]>
+        requires { i < length (members_of self.now) }
+        ensures { (m : Member) → slice_get (members_of self.now) i ≡ Some m → result ≡ m.id }
+    {
+        self.entries[i].id
+    }
+
+    /// Members stand in byte order of their names, each name once.
+    pub fn members_are_in_order(&self)
+        ensures { AreInOrder (members_of self.now) }
+    {}
+}

@@ -1,0 +1,113 @@
+-- Where nothing changes, the value is written as it was, without zeros.
+use Rattle.std.proofs.Common.{◌≡◌, ℕ, suc, zero, ◌+◌, ◌-◌, ◌≤◌, Bool, true, List, [], ◌∷◌, map, drop, length, replicate, Option, Some, None, Result, Ok, Err, refl, ap, sym, ◌∙◌, subst, arith}
+use Rattle.adb_view.specs.Plain.{Plain, null, int, blob, arr, obj, Plains, none, more, blob_value, arr_value, obj_value, array}
+use Rattle.adb_view.specs.Shaped.{Each, HasShape, IsArrayOf}
+use Rattle.adb_tables.specs.Schema.{shape_of, shapes_of, table}
+use Rattle.adb_tables.specs.Values.{count_of, entries_in, entry_in, int_in, text_in}
+use Rattle.adb_tables.specs.declared.tables.Kind.TheVariants as Kinds
+use Rattle.adb_tables.specs.declared.tables.Which.TheVariants as Tables
+use Rattle.adb_fields.specs.Repeated.{entries_at, files_in, folders_in, list_of, name_of}
+use Rattle.adb_schema.specs.declared.read.TheConstants.{IDB_WORD}
+use Rattle.adb_write.specs.Canonical.{written_of}
+use Rattle.adb_write.specs.File.{file_of}
+use Rattle.adb_copy.specs.Zeros.{all_without_zeros, info_with, int_value, without_zeros}
+use Rattle.adb_copy.proofs.Fields.{INFO, info_written, object_written}
+use Rattle.adb_copy.proofs.Shapes.{entries_shape, nth_shape}
+use Rattle.adb_copy.proofs.Zeros.{zeros_array}
+use Rattle.db_core.specs.Members.{Member, staying_member}
+use Rattle.db_core.proofs.Places.{count_listed}
+use Rattle.db_write.specs.NewDatabase.{database_container, database_of, database_value, each_by_flags, file_count, folder_after, folders_after, info_after, member_file_count, owned_entries, package_after, packages_after, total_of}
+use Rattle.db_write.specs.Unchanged.{all_owned, staying_members}
+
+-- ---- flags that are all set
+
+drop_set : (k m : ℕ) → k ≤ m → drop k (replicate m true) ≡ replicate (m - k) true
+drop_set zero m h = let e : m ≡ m - zero = omega arith in ap (λ n. replicate n true) e
+drop_set (suc k) zero h = absurd (omega arith)
+drop_set (suc k) (suc m) h =
+    let e : m - k ≡ suc m - suc k = omega arith in
+    drop_set k m (omega arith) ∙ ap (λ n. replicate n true) e
+
+owned_all : (vs : Plains) (m : ℕ) → count_of vs ≤ m → owned_entries (list_of vs) (replicate m true) ≡ all_without_zeros vs
+unfolding without_zeros
+owned_all none m h = refl
+owned_all (more v vs) zero h = absurd (omega arith)
+owned_all (more v vs) (suc m) h = ap (more (without_zeros v)) (owned_all vs m (omega arith))
+
+-- an array that holds arrays of flags: each element is written as it was
+each_all : {X : Type 0} (count : X → ℕ) (value : X → List Bool → Plain) (made : Plain → X) (P : Plain → Type 0)
+    → ((v : Plain) (m : ℕ) → P v → count (made v) ≤ m → value (made v) (replicate m true) ≡ without_zeros v)
+    → (vs : Plains) (m : ℕ) → Each P vs → total_of count (map made (list_of vs)) ≤ m
+    → each_by_flags count value (map made (list_of vs)) (replicate m true) ≡ all_without_zeros vs
+unfolding without_zeros
+each_all count value made P same none m each h = refl
+each_all count value made P same (more v vs) m each h =
+    let rest : drop (count (made v)) (replicate m true) ≡ replicate (m - count (made v)) true = drop_set (count (made v)) m (omega arith) in
+    (λ j. more (same v m each.0 (omega arith) j) (each_by_flags count value (map made (list_of vs)) (rest j)))
+    ∙ ap (more (without_zeros v)) (each_all count value made P same vs (m - count (made v)) each.1 (omega arith))
+
+map_same : (vs : List Plain) → map (λ v. v) vs ≡ vs
+map_same [] = refl
+map_same (v ∷ vs) = ap (λ r. v ∷ r) (map_same vs)
+
+-- ---- folders
+
+array_entries : (P : Plain → Type 0) (v : Plain) → IsArrayOf P v → Each P (entries_in v)
+array_entries P null h = tt
+array_entries P (int n) h = absurd h
+array_entries P (blob b) h = absurd h
+array_entries P (arr vs) h = h
+array_entries P (obj vs) h = absurd h
+
+folder_same : (v : Plain) (m : ℕ) → HasShape (shape_of (Kinds.Obj Tables.Dir)) v → file_count v ≤ m → folder_after v (replicate m true) ≡ without_zeros v
+unfolding shape_of HasShape
+folder_same v m h enough =
+    let files : IsArrayOf (HasShape (shape_of (Kinds.Obj Tables.File))) (entry_in v 2) = nth_shape (shapes_of (table Tables.Dir)) (entries_in v) 2 (entries_shape 5 (shapes_of (table Tables.Dir)) v h) in
+    let owned : owned_entries (files_in v) (replicate m true) ≡ all_without_zeros (entries_in (entry_in v 2)) =
+    owned_all (entries_in (entry_in v 2)) m (omega (arith, enough, count_listed (entries_in (entry_in v 2)))) in
+    ap (λ fs. obj_value (more (blob_value (name_of v)) (more (without_zeros (entry_in v 1)) (more fs none))))
+    (ap arr_value owned ∙ sym (zeros_array (HasShape (shape_of (Kinds.Obj Tables.File))) (entry_in v 2) files))
+    ∙ object_written 5 (shapes_of (table Tables.Dir)) v h
+
+-- ---- packages
+
+info_same : (info : Plain) → HasShape (shape_of (Kinds.Obj Tables.PkgInfo)) info → info_after None info ≡ without_zeros info
+unfolding shape_of
+info_same info h =
+    info_written info (text_in (entry_in info 2)) (int_in (entry_in info 12)) h _ _ _ _ _ _ _ _ _ _ _ _ _ _ _ _ _ _ _ _
+    refl refl refl refl refl refl refl refl refl refl refl refl refl refl refl refl refl refl refl refl
+    ∙ object_written 3 INFO info h
+
+package_same : (v : Plain) (m : ℕ) → HasShape (shape_of (Kinds.Obj Tables.Package)) v → member_file_count (staying_member v) ≤ m → package_after (staying_member v) (replicate m true) ≡ without_zeros v
+unfolding shape_of HasShape
+package_same v m h enough =
+    let fields = entries_shape 7 (shapes_of (table Tables.Package)) v h in
+    let info : HasShape (shape_of (Kinds.Obj Tables.PkgInfo)) (entry_in v 0) = nth_shape (shapes_of (table Tables.Package)) (entries_in v) 0 fields in
+    let folders : IsArrayOf (HasShape (shape_of (Kinds.Obj Tables.Dir))) (entry_in v 1) = nth_shape (shapes_of (table Tables.Package)) (entries_in v) 1 fields in
+    let listed : List Plain = folders_in v in
+    let all : folders_after listed (replicate m true) ≡ all_without_zeros (entries_in (entry_in v 1)) =
+    ap (λ ds. folders_after ds (replicate m true)) (sym (map_same listed))
+    ∙ each_all file_count folder_after (λ d. d) (HasShape (shape_of (Kinds.Obj Tables.Dir))) folder_same (entries_in (entry_in v 1)) m (array_entries (HasShape (shape_of (Kinds.Obj Tables.Dir))) (entry_in v 1) folders)
+    (subst (λ ds. total_of file_count ds ≤ m) (sym (map_same listed)) enough) in
+    (λ j. obj_value (more (info_same (entry_in v 0) info j)
+    (more ((ap arr_value all ∙ sym (zeros_array (HasShape (shape_of (Kinds.Obj Tables.Dir))) (entry_in v 1) folders)) j)
+    (more (without_zeros (entry_in v 2)) (more (without_zeros (entry_in v 3)) (more (int_value (int_in (entry_in v 4))) none))))))
+    ∙ object_written 7 (shapes_of (table Tables.Package)) v h
+
+-- ---- the database
+
+pub database_same : (v : Plain) → HasShape (shape_of (Kinds.Obj Tables.Idb)) v → database_value (staying_members (entries_at 0 v)) (all_owned (staying_members (entries_at 0 v))) ≡ without_zeros v
+unfolding shape_of HasShape database_value
+database_same v h =
+    let packages : IsArrayOf (HasShape (shape_of (Kinds.Obj Tables.Package))) (entry_in v 0) = nth_shape (shapes_of (table Tables.Idb)) (entries_in v) 0 (entries_shape 9 (shapes_of (table Tables.Idb)) v h) in
+    let members : List Member = staying_members (entries_at 0 v) in
+    let all : packages_after members (all_owned members) ≡ all_without_zeros (entries_in (entry_in v 0)) =
+    each_all member_file_count package_after staying_member (HasShape (shape_of (Kinds.Obj Tables.Package))) package_same (entries_in (entry_in v 0)) (total_of member_file_count members)
+    (array_entries (HasShape (shape_of (Kinds.Obj Tables.Package))) (entry_in v 0) packages) (omega arith) in
+    ap (λ ps. obj_value (more ps none)) (ap arr_value all ∙ sym (zeros_array (HasShape (shape_of (Kinds.Obj Tables.Package))) (entry_in v 0) packages))
+    ∙ object_written 9 (shapes_of (table Tables.Idb)) v h
+
+pub bytes_same : (v : Plain) (payload : List ℕ) → HasShape (shape_of (Kinds.Obj Tables.Idb)) v → without_zeros v ≡ v → written_of v ≡ Ok payload
+    → database_of (staying_members (entries_at 0 v)) (all_owned (staying_members (entries_at 0 v))) ≡ Ok (file_of IDB_WORD payload)
+unfolding database_of
+bytes_same v payload h free canonical = ap (λ u. database_container (written_of u)) (database_same v h ∙ free) ∙ ap database_container canonical

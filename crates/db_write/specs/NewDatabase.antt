@@ -1,0 +1,82 @@
+-- The database that lists members: of each its folders, and the files that it owns. No integer in
+-- it is 0.
+use Rattle.std.specs.Prelude.{ℕ, ◌+◌, Bool, true, false, List, [], ◌∷◌, Option, length, drop, unwrap_or, Result, Ok, Err}
+use Rattle.adb_view.specs.Plain.{Plain, Plains, none, more, blob_value, arr_value, obj_value}
+use Rattle.adb_tables.specs.Values.{entry_in, int_in, text_in}
+use Rattle.adb_fields.specs.Repeated.{name_of, folders_in, files_in}
+use Rattle.adb_schema.specs.declared.read.TheConstants.{IDB_WORD}
+use Rattle.adb_write.specs.Canonical.{PayloadCounts, written_of}
+use Rattle.adb_write.specs.File.{file_of}
+use Rattle.adb_copy.specs.Zeros.{info_with, int_value, without_zeros}
+use Rattle.db_core.specs.Members.{Member}
+
+-- ---- by flags, one for each file in its order
+
+-- the files whose flag is set
+abbrev pub owned_entries : List Plain → List Bool → Plains
+owned_entries [] flags = none
+owned_entries (file ∷ files) [] = none
+owned_entries (file ∷ files) (true ∷ flags) =
+    more (without_zeros file) (owned_entries files flags)
+owned_entries (file ∷ files) (false ∷ flags) = owned_entries files flags
+
+-- what each element makes of the flags from its first one on; each has so many
+abbrev pub each_by_flags :
+    {X : Type 0} → (X → ℕ) → (X → List Bool → Plain) → List X → List Bool → Plains
+each_by_flags count value [] flags = none
+each_by_flags count value (x ∷ xs) flags =
+    more (value x flags) (each_by_flags count value xs (drop (count x) flags))
+
+-- how many they have in all
+abbrev pub total_of : {X : Type 0} → (X → ℕ) → List X → ℕ
+total_of count [] = 0
+total_of count (x ∷ xs) = count x + total_of count xs
+
+-- ---- folders
+
+abbrev pub file_count : Plain → ℕ
+file_count folder = length (files_in folder)
+
+-- its name, its access list, and the files that are owned
+abbrev pub folder_after : Plain → List Bool → Plain
+folder_after folder flags =
+    obj_value (more (blob_value (name_of folder)) (more (without_zeros (entry_in folder 1))
+    (more (arr_value (owned_entries (files_in folder) flags)) none)))
+
+abbrev pub folders_after : List Plain → List Bool → Plains
+folders_after folders flags = each_by_flags file_count folder_after folders flags
+
+-- ---- packages
+
+abbrev pub member_file_count : Member → ℕ
+member_file_count m = total_of file_count (folders_in m.pkg)
+
+-- the information of a package, whose hash is the id where it comes
+abbrev pub info_after : Option (List ℕ) → Plain → Plain
+info_after id info =
+    info_with info (unwrap_or id (text_in (entry_in info 2))) (int_in (entry_in info 12))
+
+-- its information, its folders, its scripts, its triggers, and its priority in replacing
+abbrev pub package_after : Member → List Bool → Plain
+package_after m flags =
+    obj_value (more (info_after m.id (entry_in m.pkg 0))
+    (more (arr_value (folders_after (folders_in m.pkg) flags))
+    (more (without_zeros (entry_in m.pkg 2)) (more (without_zeros (entry_in m.pkg 3))
+    (more (int_value (int_in (entry_in m.pkg 4))) none)))))
+
+abbrev pub packages_after : List Member → List Bool → Plains
+packages_after members flags = each_by_flags member_file_count package_after members flags
+
+-- ---- the database
+
+unfoldable pub database_value : List Member → List Bool → Plain
+database_value members flags = obj_value (more (arr_value (packages_after members flags)) none)
+
+-- the container of a payload, unless it passes a limit
+abbrev pub database_container : Result (List ℕ) PayloadCounts → Result (List ℕ) PayloadCounts
+database_container (Ok payload) = Ok (file_of IDB_WORD payload)
+database_container (Err counts) = Err counts
+
+-- the database's file, or the counts of the writer at the first value that passes a limit
+unfoldable pub database_of : List Member → List Bool → Result (List ℕ) PayloadCounts
+database_of members flags = database_container (written_of (database_value members flags))

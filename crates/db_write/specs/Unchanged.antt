@@ -1,0 +1,12 @@
+-- Nothing changed: each package stays, and owns all files that it lists.
+use Rattle.std.specs.Prelude.{Bool, true, List, map, replicate}
+use Rattle.adb_view.specs.Plain.{Plain}
+use Rattle.db_core.specs.Members.{Member, staying_member}
+use Rattle.db_write.specs.NewDatabase.{member_file_count, total_of}
+
+abbrev pub staying_members : List Plain → List Member
+staying_members packages = map staying_member packages
+
+-- a flag for each file that they list, all set
+abbrev pub all_owned : List Member → List Bool
+all_owned members = replicate (total_of member_file_count members) true

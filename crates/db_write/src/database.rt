@@ -1,0 +1,67 @@
+//! The database's container.
+ghost use Rattle.adb_write.specs.Canonical.{written_of, MOST_BYTES};
+ghost use Rattle.adb_write.specs.DepthFirst.{WritesValue};
+ghost use Rattle.db_core.specs.Seen.{members_of};
+ghost use Rattle.db_write.specs.NewDatabase.{database_of, database_value};
+ghost use Rattle.db_write.specs.Written.{IsWrittenAs};
+ghost use Rattle.std.specs.Prelude.{◌≡◌, ◌≤◌, IfOk, length};
+
+use crate::packages::write_packages;
+use adb_schema::IDB_WORD;
+use adb_view::Val;
+use adb_write::{
+    WriteFault, Writer, a_value_written_depth_first_is_canonical, file_of,
+    values_are_written_depth_first,
+};
+use db_core::{Members, Owned};
+use std::alloc::{AllocError, Global};
+
+/// Writes the database that lists these members, and of their files those that are theirs, by one
+/// flag for each in the order of members, folders and files: the container's bytes. A file without a
+/// flag is not theirs.
+///
+/// # Errors
+///
+/// `TooLarge` where the database passes a limit of the writer, or `Memory`.
+pub fn write_db(alloc: Global, members: &Members<'_>, owned: &Owned) -> Result<Vec<u8>, WriteFault>
+    ensures { IsWrittenAs (λ file. file.items) result
+        (database_of (members_of members.now) owned.now) }
+{
+    let payload = match database_payload(alloc, members, owned.as_slice()) {
+        Ok(payload) => payload,
+        Err(fault) => return Err(fault),
+    };
+    Ok(file_of(alloc, IDB_WORD, &payload)?)
+}
+
+/// The payload of a database.
+fn database_payload(
+    alloc: Global,
+    members: &Members<'_>,
+    flags: &[bool],
+) -> Result<Vec<u8>, WriteFault>
+    ensures written { IsWrittenAs (λ payload. payload.items) result
+        (written_of (database_value (members_of members.now) flags.now)) }
+    ensures small { IfOk result (λ payload. length payload.items ≤ MOST_BYTES) }
+{
+    a_value_written_depth_first_is_canonical();
+    let mut writer = Writer::new(alloc);
+    let root = write_database(alloc, &mut writer, members, flags)?;
+    writer.finish(root)
+}
+
+/// Writes the values of a database.
+fn write_database(
+    alloc: Global,
+    writer: &mut Writer,
+    members: &Members<'_>,
+    flags: &[bool],
+) -> Result<Val, AllocError>
+    ensures { IfOk result (λ root. WritesValue writer.old
+        (database_value (members_of members.now) flags.now) root writer.new) }
+{
+    values_are_written_depth_first();
+    let packages = write_packages(alloc, writer, members, flags)?;
+    let fields = [packages];
+    writer.obj(&fields)
+}

@@ -1,0 +1,17 @@
+//! Writes the installed database that stands after a change (apk-v3(5)).
+//!
+//! The members of a change and the files that are theirs come in, the bytes of a container go out.
+//! The contracts cite `NewDatabase` of `specs/`: the database's value, field by field, and its file.
+//! `laws` says what follows from it.
+#![tactic(auto)]
+
+mod database;
+mod folders;
+mod laws;
+mod packages;
+
+pub use database::write_db;
+pub use laws::{
+    a_database_lists_the_owned_files, a_database_without_changes_stays_the_same,
+    a_written_database_is_read_back,
+};

@@ -1,0 +1,21 @@
+-- Byte order.
+use Rattle.std.specs.Prelude.{ℕ, Bool, List, [], ◌∷◌, Option, Some, None, if◌then◌else◌}
+use Rattle.std.specs.Ordering.{nat_cmp, is_lt}
+use Rattle.std.specs.declared.cmp.Ordering.{Ordering}
+use Rattle.std.specs.Cmp.Lexicographic.{slice_cmp}
+
+abbrev pub bytes_cmp : List ℕ → List ℕ → Ordering
+bytes_cmp = slice_cmp nat_cmp
+
+-- whether a text comes before another one
+abbrev pub precedes : List ℕ → List ℕ → Bool
+precedes a b = is_lt (bytes_cmp a b)
+
+abbrev pub smaller : List ℕ → Option (List ℕ) → Option (List ℕ)
+smaller a None = Some a
+smaller a (Some b) = if precedes b a then Some b else Some a
+
+-- the first of several texts
+abbrev pub smallest : List (List ℕ) → Option (List ℕ)
+smallest [] = None
+smallest (a ∷ texts) = smaller a (smallest texts)

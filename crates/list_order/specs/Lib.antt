@@ -1,0 +1,3 @@
+-- what the contract of `apk` says
+pub mod Sorted
+pub mod ByteOrder
