@@ -1,5 +1,5 @@
 -- One member more, behind the others.
-use Rattle.std.proofs.Common.{◌≡◌, ◌⊎◌, inl, inr, ℕ, suc, zero, Bool, true, false, List, [], ◌∷◌, ◌++◌, map, length, Option, Some, None, Result, Ok, Err, refl, ap, sym, ◌∙◌, subst, arith, true≢false, Ordering, Less, Equal, Greater}
+use Rattle.std.proofs.Common.{◌≡◌, ◌⊎◌, inl, inr, ℕ, suc, zero, true, List, [], ◌∷◌, ◌++◌, map, length, Option, Result, Ok, Err, refl, ap, sym, ◌∙◌, subst, arith, true≢false, Ordering, Less, Equal, Greater}
 use Rattle.std.specs.Prelude.{get_or, if◌then◌else◌, is_ok}
 use Rattle.std.specs.Ordering.{is_lt}
 use Rattle.std.proofs.lemmas.Cmp.{nat_list_cmp_total}

@@ -48,8 +48,8 @@ pub record Listing : Type 0 where
   pub folder : ℕ
   pub file : ℕ
 
-abbrev pub listing_of : Member → ℕ → ℕ → ℕ → List ℕ → Plain → Listing
-listing_of m place folder file above entry = record {
+abbrev pub member_listing : Member → ℕ → ℕ → ℕ → List ℕ → Plain → Listing
+member_listing m place folder file above entry = record {
   path = path_of above (name_of entry);
   entry = entry;
   member = m;
@@ -62,7 +62,7 @@ listing_of m place folder file above entry = record {
 abbrev pub listings_in_folder : Member → ℕ → ℕ → ℕ → List ℕ → List Plain → List Listing
 listings_in_folder m place folder i above [] = []
 listings_in_folder m place folder i above (entry ∷ entries) =
-    listing_of m place folder i above entry
+    member_listing m place folder i above entry
     ∷ listings_in_folder m place folder (i + 1) above entries
 
 -- of folders, the first of which has this position
@@ -81,9 +81,9 @@ listings_from place [] = []
 listings_from place (m ∷ members) = listings_by place m ++ listings_from (place + 1) members
 
 -- all files that members list: member by member, folder by folder
-unfoldable pub listings_of : List Member → List Listing
-listings_of members = listings_from 0 members
+unfoldable pub member_listings : List Member → List Listing
+member_listings members = listings_from 0 members
 
 -- the files with this path, one for each member that lists it
 unfoldable pub claims_of : List Member → List ℕ → List Listing
-claims_of members path = filter (λ l. bytes_eq l.path path) (listings_of members)
+claims_of members path = filter (λ l. bytes_eq l.path path) (member_listings members)

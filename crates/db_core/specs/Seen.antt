@@ -1,10 +1,7 @@
 -- What a database and the members of the program stand for.
-use Rattle.std.specs.Prelude.{ℕ, List, Option, option_map, map}
+use Rattle.std.specs.Prelude.{List, option_map, map}
 use Rattle.adb_view.specs.Plain.{Plain}
 use Rattle.adb_schema.specs.Views.{idb_value}
-use Rattle.adb_tables.specs.Values.{value_at}
-use Rattle.adb_tables.specs.declared.tables.Kind.TheVariants.{Obj}
-use Rattle.adb_tables.specs.declared.tables.Which.TheVariants.{Package}
 use Rattle.db_core.specs.EntrySeen.{member_by}
 use Rattle.db_core.specs.Members.{Member}
 use Rattle.db_core.specs.Packages.{packages_by}

@@ -22,9 +22,11 @@ use Rattle.db_write.specs.Unchanged.{all_owned, staying_members}
 -- ---- flags that are all set
 
 drop_set : (k m : ℕ) → k ≤ m → drop k (replicate m true) ≡ replicate (m - k) true
-drop_set zero m h = refl
+drop_set zero m h = let e : m ≡ m - zero = omega arith in ap (λ n. replicate n true) e
 drop_set (suc k) zero h = absurd (omega arith)
-drop_set (suc k) (suc m) h = drop_set k m (omega arith)
+drop_set (suc k) (suc m) h =
+    let e : m - k ≡ suc m - suc k = omega arith in
+    drop_set k m (omega arith) ∙ ap (λ n. replicate n true) e
 
 owned_all : (vs : Plains) (m : ℕ) → count_of vs ≤ m → owned_entries (list_of vs) (replicate m true) ≡ all_without_zeros vs
 unfolding without_zeros

@@ -1,5 +1,6 @@
 -- what the contract of `apk` says
 pub mod NewDatabase
 -- what only inner contracts and proofs use
+pub mod OwnedListings
 pub mod Unchanged
 pub mod Written

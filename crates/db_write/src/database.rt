@@ -1,9 +1,8 @@
 //! The database's container.
 ghost use Rattle.adb_write.specs.Canonical.{written_of, MOST_BYTES};
 ghost use Rattle.adb_write.specs.DepthFirst.{WritesValue};
-ghost use Rattle.db_core.specs.Members.{listings_of};
 ghost use Rattle.db_core.specs.Seen.{members_of};
-ghost use Rattle.db_write.specs.NewDatabase.{database_of, database_value, member_file_count, total_of};
+ghost use Rattle.db_write.specs.NewDatabase.{database_of, database_value};
 ghost use Rattle.db_write.specs.Written.{IsWrittenAs};
 ghost use Rattle.std.specs.Prelude.{◌≡◌, ◌≤◌, IfOk, length};
 
@@ -18,17 +17,20 @@ use db_core::{Members, Owned};
 use std::alloc::{AllocError, Global};
 
 /// Writes the database that lists these members, and of their files those that are theirs, by one
-/// flag for each in the order of members, folders and files: the container's bytes.
+/// flag for each in the order of members, folders and files: the container's bytes. A file without a
+/// flag is not theirs.
 ///
 /// # Errors
 ///
 /// `TooLarge` where the database passes a limit of the writer, or `Memory`.
 pub fn write_db(alloc: Global, members: &Members<'_>, owned: &Owned) -> Result<Vec<u8>, WriteFault>
-    requires { length owned.now ≡ length (listings_of (members_of members.now)) }
     ensures { IsWrittenAs (λ file. file.items) result
         (database_of (members_of members.now) owned.now) }
 {
-    let payload = database_payload(alloc, members, owned.as_slice())?;
+    let payload = match database_payload(alloc, members, owned.as_slice()) {
+        Ok(payload) => payload,
+        Err(fault) => return Err(fault),
+    };
     Ok(file_of(alloc, IDB_WORD, &payload)?)
 }
 
@@ -38,7 +40,6 @@ fn database_payload(
     members: &Members<'_>,
     flags: &[bool],
 ) -> Result<Vec<u8>, WriteFault>
-    requires { total_of member_file_count (members_of members.now) ≤ length flags.now }
     ensures written { IsWrittenAs (λ payload. payload.items) result
         (written_of (database_value (members_of members.now) flags.now)) }
     ensures small { IfOk result (λ payload. length payload.items ≤ MOST_BYTES) }
@@ -56,7 +57,6 @@ fn write_database(
     members: &Members<'_>,
     flags: &[bool],
 ) -> Result<Val, AllocError>
-    requires { total_of member_file_count (members_of members.now) ≤ length flags.now }
     ensures { IfOk result (λ root. WritesValue writer.old
         (database_value (members_of members.now) flags.now) root writer.new) }
 {

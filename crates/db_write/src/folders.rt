@@ -7,7 +7,7 @@ ghost use Rattle.adb_tables.specs.Values.{count_of, entries_in, entry_in};
 ghost use Rattle.adb_view.specs.Plain.{arr_value};
 ghost use Rattle.adb_write.specs.DepthFirst.{WritesValue};
 ghost use Rattle.db_write.specs.NewDatabase.{file_count, folder_after, folders_after, owned_entries, total_of};
-ghost use Rattle.std.specs.Prelude.{◌≡◌, ◌<◌, ◌≤◌, IfOk, Some, drop, length, slice_get};
+ghost use Rattle.std.specs.Prelude.{◌≡◌, ◌<◌, false, IfOk, Some, drop, length, slice_get, unwrap_or};
 
 use adb_copy::{write_acl, write_file};
 use adb_schema::{DirInfo, FileInfo, List};
@@ -22,7 +22,6 @@ pub(crate) fn write_folders<'a>(
     folders: &List<'a, DirInfo<'a>>,
     flags: &[bool],
 ) -> Result<Val, AllocError>
-    requires { total_of file_count (list_of (entries_in (list_value folders.now))) ≤ length flags.now }
     ensures { IfOk result (λ word. WritesValue writer.old
         (arr_value (folders_after (list_of (entries_in (list_value folders.now))) flags.now))
         word writer.new) }
@@ -39,7 +38,6 @@ pub(crate) fn write_folders<'a>(
 
 /// The flags behind those of the files of these folders.
 pub(crate) fn flags_behind<'a, 'f>(folders: &List<'a, DirInfo<'a>>, flags: &'f [bool]) -> &'f [bool]
-    requires { total_of file_count (list_of (entries_in (list_value folders.now))) ≤ length flags.now }
     ensures { result.now ≡ drop (total_of file_count (list_of (entries_in (list_value folders.now))))
         flags.entry.now }
 {
@@ -56,13 +54,15 @@ fn flags_behind_folder<'a, 'f>(
     i: usize,
     flags: &'f [bool],
 ) -> &'f [bool]
-    requires at { i < count_of (entries_in (list_value folders.now)) }
-    requires enough { file_count (entry_in (list_value folders.now) i) ≤ length flags.now }
+    requires { i < count_of (entries_in (list_value folders.now)) }
     ensures { result.now ≡ drop (file_count (entry_in (list_value folders.now) i)) flags.entry.now }
 {
     let folder = folder_at(folders, i);
-    let files = folder.files();
-    &flags[files.len()..]
+    let count = folder.files().len();
+    if count >= flags.len() {
+        return &flags[..0];
+    }
+    &flags[count..]
 }
 
 /// The folder at a place, counted from 0.
@@ -84,8 +84,7 @@ fn write_folder<'a>(
     i: usize,
     flags: &[bool],
 ) -> Result<Val, AllocError>
-    requires at { i < count_of (entries_in (list_value folders.now)) }
-    requires enough { file_count (entry_in (list_value folders.now) i) ≤ length flags.now }
+    requires { i < count_of (entries_in (list_value folders.now)) }
     ensures { IfOk result (λ word. WritesValue writer.old
         (folder_after (entry_in (list_value folders.now) i) flags.now) word writer.new) }
 {
@@ -121,7 +120,6 @@ fn write_files<'a>(
     files: &List<'a, FileInfo<'a>>,
     flags: &[bool],
 ) -> Result<Val, AllocError>
-    requires { count_of (entries_in (list_value files.now)) ≤ length flags.now }
     ensures { IfOk result (λ word. WritesValue writer.old
         (arr_value (owned_entries (list_of (entries_in (list_value files.now))) flags.now))
         word writer.new) }
@@ -136,8 +134,18 @@ fn write_files<'a>(
     writer.arr(&words)
 }
 
-/// The flag at a place.
+/// Whether there is a flag at a place, and it is set.
 fn is_set(flags: &[bool], i: usize) -> bool
+    ensures { result ≡ unwrap_or (slice_get flags.now i) false }
+{
+    if i >= flags.len() {
+        return false;
+    }
+    flag_at(flags, i)
+}
+
+/// The flag at a place.
+fn flag_at(flags: &[bool], i: usize) -> bool
     requires { i < length flags.now }
     ensures { slice_get flags.now i ≡ Some result }
 {

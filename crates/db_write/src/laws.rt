@@ -1,8 +1,10 @@
 //! What a database that is written says when it is read, and that nothing changes where nothing
 //! was to be changed.
 ghost use Rattle.adb_copy.specs.Zeros.{without_zeros};
-ghost use Rattle.adb_fields.specs.Repeated.{entries_at};
+ghost use Rattle.adb_fields.specs.Repeated.{entries_at, list_of, paths_in};
+ghost use Rattle.adb_schema.specs.Soundness.{payload_in, root_value};
 ghost use Rattle.adb_schema.specs.declared.read.TheConstants.{IDB_WORD};
+ghost use Rattle.adb_sound.specs.Root.{IsRootOf};
 ghost use Rattle.adb_tables.specs.Schema.{shape_of};
 ghost use Rattle.adb_tables.specs.declared.tables.Kind.TheVariants as Kinds;
 ghost use Rattle.adb_tables.specs.declared.tables.Which.TheVariants as Tables;
@@ -10,9 +12,37 @@ ghost use Rattle.adb_view.specs.Plain.{Plain};
 ghost use Rattle.adb_view.specs.Shaped.{HasShape};
 ghost use Rattle.adb_write.specs.Canonical.{written_of};
 ghost use Rattle.adb_write.specs.File.{file_of};
-ghost use Rattle.db_write.specs.NewDatabase.{database_of, database_value};
+ghost use Rattle.db_core.specs.Members.{Member};
+ghost use Rattle.db_write.specs.NewDatabase.{database_of, database_value, packages_after};
+ghost use Rattle.db_write.specs.OwnedListings.{owned_paths};
 ghost use Rattle.db_write.specs.Unchanged.{all_owned, staying_members};
-ghost use Rattle.std.specs.Prelude.{◌≡◌, ℕ, List, Ok};
+ghost use Rattle.pkg_core.specs.Whole.{container_fault};
+ghost use Rattle.std.specs.List.{flat_map};
+ghost use Rattle.std.specs.Prelude.{◌≡◌, ℕ, Bool, List, None, Ok};
+
+use adb_sound::{a_container_of_a_good_value_is_sound, what_a_container_is_made_of_is_read_back};
+
+/// A database whose value may stand at the root of a container passes all tests when it is written,
+/// and its packages are read back: those of the members, each with the files that it owns.
+pub fn a_written_database_is_read_back()
+    ensures sound { (members : List Member) (flags : List Bool) (bytes : List ℕ)
+        → IsRootOf Tables.Idb (database_value members flags) → database_of members flags ≡ Ok bytes
+        → container_fault bytes ≡ None }
+    ensures packages { (members : List Member) (flags : List Bool) (bytes : List ℕ)
+        → IsRootOf Tables.Idb (database_value members flags) → database_of members flags ≡ Ok bytes
+        → entries_at 0 (root_value Tables.Idb (payload_in bytes))
+        ≡ list_of (packages_after members flags) }
+{
+    a_container_of_a_good_value_is_sound();
+    what_a_container_is_made_of_is_read_back();
+}
+
+/// The packages of a database after a change list the files that members list and own, in their
+/// order, and no others.
+pub fn a_database_lists_the_owned_files()
+    ensures { (members : List Member) (flags : List Bool)
+        → flat_map paths_in (list_of (packages_after members flags)) ≡ owned_paths members flags }
+{}
 
 /// A database that is read and written with nothing changed has the same value, in which an integer
 /// 0 is Null; where the value had no such integer, and its payload was canonical, it is the same

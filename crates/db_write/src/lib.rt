@@ -11,4 +11,7 @@ mod laws;
 mod packages;
 
 pub use database::write_db;
-pub use laws::a_database_without_changes_stays_the_same;
+pub use laws::{
+    a_database_lists_the_owned_files, a_database_without_changes_stays_the_same,
+    a_written_database_is_read_back,
+};

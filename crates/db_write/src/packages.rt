@@ -13,11 +13,12 @@ ghost use Rattle.std.specs.Prelude.{◌≡◌, ◌<◌, ◌≤◌, IfOk, Some, d
 
 use crate::folders::{flags_behind, write_folders};
 use adb_copy::{write_info, write_int, write_scripts, write_tags};
-use adb_schema::{DirInfo, List, PackageView};
+use adb_schema::PackageView;
 use adb_view::Val;
 use adb_write::{Writer, values_are_written_depth_first};
 use db_core::Members;
 use std::alloc::{AllocError, Global};
+use std::marker::PhantomData;
 
 /// Writes members with the files whose flag is set, by one flag for each.
 pub(crate) fn write_packages(
@@ -26,7 +27,6 @@ pub(crate) fn write_packages(
     members: &Members<'_>,
     flags: &[bool],
 ) -> Result<Val, AllocError>
-    requires { total_of member_file_count (members_of members.now) ≤ length flags.now }
     ensures { IfOk result (λ word. WritesValue writer.old
         (arr_value (packages_after (members_of members.now) flags.now)) word writer.new) }
 {
@@ -49,19 +49,17 @@ fn write_package<'a>(
     id: Option<[u8; 32]>,
     flags: &[bool],
 ) -> Result<Val, AllocError>
-    requires { total_of file_count (folders_in (package_value pkg.now)) ≤ length flags.now }
     ensures { IfOk result (λ word. WritesValue writer.old
         (package_after (record { pkg = package_value pkg.now; id = id }) flags.now)
         word writer.new) }
 {
     values_are_written_depth_first();
     let info = write_member_info(alloc, writer, pkg, id)?;
-    let folders = pkg.paths();
-    let paths = write_folders(alloc, writer, &folders, flags)?;
-    let scripts = write_package_scripts(writer, pkg, &folders)?;
+    let folders = write_folders(alloc, writer, &pkg.paths(), flags)?;
+    let scripts = write_package_scripts(writer, pkg, PhantomData)?;
     let triggers = write_tags(alloc, writer, pkg.triggers())?;
     let priority = write_int(writer, pkg.replaces_priority())?;
-    let fields = [info, paths, scripts, triggers, priority];
+    let fields = [info, folders, scripts, triggers, priority];
     writer.obj(&fields)
 }
 
@@ -82,12 +80,12 @@ fn write_member_info(
     }
 }
 
-/// Writes the scripts of a package. The borrow checker wants the package's folders beside it: a view
-/// that is made and lent here is known to it by them alone.
+/// Writes the scripts of a package. The mark serves the borrow checker alone, which does not know the
+/// parts of a view that is made and lent here unless the signature names the view as an argument.
 fn write_package_scripts<'a>(
     writer: &mut Writer,
     pkg: &PackageView<'a>,
-    _folders: &List<'a, DirInfo<'a>>,
+    _mark: PhantomData<PackageView<'a>>,
 ) -> Result<Val, AllocError>
     ensures { IfOk result (λ word. WritesValue writer.old
         (without_zeros (entry_in (package_value pkg.now) 2)) word writer.new) }

@@ -9,10 +9,10 @@ use Rattle.base_core.specs.Crash.{IsImage, IsOrderly}
 use Rattle.journal_core.specs.Recovery.{Intent, IsPlaceOf, IsSettled, RestsOn, intent_name, intent_at, intent_of, is_hidden, move_if, recovered_files, stage_name, state_of, without_names}
 use Rattle.journal_core.specs.Quiet.{IsStill}
 use Rattle.journal_core.specs.Staged.{Staging, AreDone, IsActing, action_count}
-use Rattle.journal_core.proofs.AtName.{name_cases, same_name, off_name, put_name-off, drop_name-at, drop_name-off}
+use Rattle.journal_intent.proofs.AtName.{name_cases, same_name, off_name, put_name-off, drop_name-at, drop_name-off}
 use Rattle.journal_core.proofs.Images.{CrashLaws, quiet_by_maps, quiet_on, settled_by_maps}
 use Rattle.journal_core.proofs.Simulate.{rests_same}
-use Rattle.journal_core.proofs.StageNames.{stage_name_no_intent}
+use Rattle.journal_intent.proofs.StageNames.{stage_name_no_intent}
 use Rattle.journal_core.proofs.Waiting.{still_self}
 use Rattle.journal_core.proofs.Replayed.{IsProper, IsNumbered, here, later, moved, move_if-off, recovered-removed, recovered-moved, recovered-done, recovered-dropped}
 use Rattle.journal_intent.specs.FreeNames.{IsOneOf, IsNoneOf, IsFreeName, AreFreeNames, AreOnce}

@@ -5,8 +5,8 @@ use Rattle.base_core.specs.Files.{Files, IsFolderLike, put_name}
 use Rattle.base_core.specs.Tree.{TreeState, File, bytes_at, CanCreate}
 use Rattle.journal_core.specs.Recovery.{stage_name}
 use Rattle.journal_core.specs.Staged.{Staging, MayBePresent, HasRoomBeside, HasRoomToStage, IsStaged, with_staged}
-use Rattle.journal_core.proofs.AtName.{name_cases, put_name-off, off_name}
-use Rattle.journal_core.proofs.StageNames.{stage_names_apart}
+use Rattle.journal_intent.proofs.AtName.{name_cases, put_name-off, off_name}
+use Rattle.journal_intent.proofs.StageNames.{stage_names_apart}
 
 -- names that are all acting_stage are folder-like
 pub held_like : {A : Type 0} (files : Files) → HasRoomBeside files → (m : List ℕ → Option A) → ((q : List ℕ) → IsSome (m q) → MayBePresent files q) → IsFolderLike m

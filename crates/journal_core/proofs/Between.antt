@@ -8,8 +8,8 @@ use Rattle.base_core.specs.Crash.{IsOrderly}
 use Rattle.journal_core.specs.Recovery.{RestsOn, intent_name, stage_name}
 use Rattle.journal_core.specs.Quiet.{IsStill}
 use Rattle.journal_core.specs.Staged.{Staging, IsStaged, with_staged}
-use Rattle.journal_core.proofs.AtName.{name_cases, off_name, put_name-at, put_name-off}
-use Rattle.journal_core.proofs.StageNames.{stage_names_apart, stage_name_no_intent}
+use Rattle.journal_intent.proofs.AtName.{name_cases, off_name, put_name-at, put_name-off}
+use Rattle.journal_intent.proofs.StageNames.{stage_names_apart, stage_name_no_intent}
 use Rattle.journal_core.proofs.Steps.{set_file-at, file_at-set_file, made_later, create_others}
 use Rattle.journal_core.proofs.Waiting.{IsOff, off_none, still_created, alone_created, still_changed, alone_changed, others_changed, read_changed}
 use Rattle.journal_core.proofs.Images.{CrashLaws}

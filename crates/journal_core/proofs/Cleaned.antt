@@ -1,9 +1,8 @@
 -- Behind a recovery nothing waits.
-use Rattle.std.proofs.Common.{◌≡◌, ◌||◌, ⊎_elim, ℕ, Bool, true, false, cond, List, [], ◌∷◌, ◌++◌, codes, Option, Some, None, IsSome, refl, sym, ap, subst, ◌∙◌}
-use Rattle.std.specs.Prelude.{nat_eq, Contains}
-use Rattle.std.specs.List.{list_any, starts_with}
+use Rattle.std.proofs.Common.{◌≡◌, ◌||◌, ⊎_elim, ℕ, Bool, true, false, cond, List, [], ◌∷◌, Option, Some, None, IsSome, refl, sym, ap, subst, ◌∙◌}
+use Rattle.std.specs.Prelude.{Contains}
+use Rattle.std.specs.List.{list_any}
 use Rattle.std.specs.Str.{bytes_eq}
-use Rattle.std.proofs.lemmas.Bool.{and_parts, and_from, eqb-true, eq-eqb}
 use Rattle.std.proofs.lemmas.List.Elements.{All-weaker}
 use Rattle.std.proofs.lemmas.Map.Views.{Contains-from_any, list_any-from_Contains}
 use Rattle.std.specs.Cmp.{IsEquivalence}
@@ -17,31 +16,14 @@ use Rattle.journal_core.specs.Recovery.{Intent, IsSettled, RestsOn, intent_name,
 use Rattle.journal_core.specs.Quiet.{IsStill}
 use Rattle.journal_core.specs.Staged.{IsEmptyStage, unstaged_files}
 use Rattle.journal_core.proofs.Acts.{state_same, still_on}
-use Rattle.journal_core.proofs.AtName.{drop_name-at, name_cases, off_name, other_name, same_name}
+use Rattle.journal_core.proofs.Below.{begins, is_below}
+use Rattle.journal_intent.proofs.AtName.{drop_name-at, name_cases, off_name, other_name, same_name}
 use Rattle.journal_core.proofs.Chain.{by_now, now_both}
 use Rattle.journal_core.proofs.Compose.{settled_quiet}
 use Rattle.journal_core.proofs.History.{History, no_more, none_since, now_map, now_since, on_observable, since_on, since_weaker, observable_at, observable_map}
 use Rattle.journal_core.proofs.Waiting.{still_self}
 
 -- ---- a name below the stage
-
-begins : (folder q : List ℕ) → IsFolderOf folder q → starts_with nat_eq q (folder ++ codes "/") ≡ true
-begins [] q (rest, is) = ap (λ (p : List ℕ). starts_with nat_eq p (codes "/")) is
-begins (b ∷ folder) q (rest, is) =
-    ap (λ (p : List ℕ). starts_with nat_eq p (b ∷ folder ++ codes "/")) is
-    ∙ and_from (nat_eq b b) (starts_with nat_eq (folder ++ 47 ∷ rest) (folder ++ codes "/")) (eq-eqb b b refl) (begins folder (folder ++ 47 ∷ rest) (rest, refl))
-
-is_below : (folder q : List ℕ) → starts_with nat_eq q (folder ++ codes "/") ≡ true → IsFolderOf folder q
-is_below [] [] h = cc
-is_below [] (x ∷ q) h =
-    let same : x ≡ 47 = sym (eqb-true 47 x (and_parts (nat_eq 47 x) true h).0) in
-    (q, ap (λ y. y ∷ q) same)
-is_below (b ∷ folder) [] h = cc
-is_below (b ∷ folder) (x ∷ q) h =
-    let parts = and_parts (nat_eq b x) (starts_with nat_eq q (folder ++ codes "/")) h in
-    let same : x ≡ b = sym (eqb-true b x parts.0) in
-    let more = is_below folder q parts.1 in
-    (more.0, ap (λ y. y ∷ q) same ∙ ap (λ p. b ∷ p) more.1)
 
 pub all_staged : (folder : List ℕ) (names : List (List ℕ)) → folder ≡ stage_folder → AreNamesBelow folder names → AllStaged names
 all_staged folder names is below = All-weaker (IsNameBelow folder) (λ name. is_staged name ≡ true) (λ name at. begins stage_folder name (subst (λ (f : List ℕ). IsFolderOf f name) is at.below)) names below.each

@@ -12,7 +12,7 @@ use Rattle.journal_core.specs.Recovering.{AllStaged, IsWithout}
 use Rattle.journal_core.specs.Recovery.{RestsOn, intent_name, is_staged}
 use Rattle.journal_core.specs.Quiet.{IsStill}
 use Rattle.journal_core.proofs.Acts.{still_on}
-use Rattle.journal_core.proofs.AtName.{name_cases, off_name, drop_name-at, drop_name-off}
+use Rattle.journal_intent.proofs.AtName.{name_cases, off_name, drop_name-at, drop_name-off}
 use Rattle.journal_core.proofs.Chain.{Runs, proper_now, run_begun, run_done, run_failed, step_now}
 use Rattle.journal_core.proofs.History.{History, on_observable, observable_map}
 use Rattle.journal_core.proofs.OneCall.{now_is}

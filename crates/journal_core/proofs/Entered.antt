@@ -12,7 +12,7 @@ use Rattle.journal_core.specs.Recovery.{Intent, IsPlaceOf, RestsOn, after_action
 use Rattle.journal_core.specs.Quiet.{IsStill}
 use Rattle.journal_core.specs.Staged.{IsActing}
 use Rattle.journal_core.proofs.Agree.{agree-without, agree-unstaged}
-use Rattle.journal_core.proofs.AtName.{name_cases, off_name, put_name-at, put_name-off, drop_name-at, drop_name-off}
+use Rattle.journal_intent.proofs.AtName.{name_cases, off_name, put_name-at, put_name-off, drop_name-at, drop_name-off}
 use Rattle.journal_core.proofs.Acts.{files-moved, state_same, still_on, sync_acting, sync_still}
 use Rattle.journal_core.proofs.Chain.{Runs, run_begun, run_failed, run_called, run_done, step_now, step_called}
 use Rattle.journal_core.proofs.History.{History}
@@ -20,7 +20,7 @@ use Rattle.journal_core.proofs.Images.{CrashLaws, old_or_new_by_maps, old_or_new
 use Rattle.journal_core.proofs.OneCall.{now_is}
 use Rattle.journal_intent.specs.FreeNames.{AreFreeNames}
 use Rattle.journal_core.proofs.Replayed.{IsProper, proper_of, move_if-off}
-use Rattle.journal_core.proofs.StageNames.{stage_names_apart, stage_name_no_intent}
+use Rattle.journal_intent.proofs.StageNames.{stage_names_apart, stage_name_no_intent}
 use Rattle.journal_core.proofs.Waiting.{still_self}
 
 -- ---- the state once an intent stands is that of its actions done

@@ -13,7 +13,7 @@ use Rattle.journal_core.specs.Acting.{IsNextName}
 use Rattle.journal_core.proofs.History.{History, on_observable}
 use Rattle.journal_core.proofs.OneCall.{whole_now, one_called, now_called, now_done, one_proper}
 use Rattle.journal_core.proofs.Waiting.{still_self}
-use Rattle.journal_core.proofs.Between.{name_of_next, still_begun, staged_begun, others_begun, still_grown, others_grown, staged_grown, staged_ended, same_read, has_name}
+use Rattle.journal_core.proofs.Between.{name_of_next, still_begun, staged_begun, still_grown, staged_grown, staged_ended, has_name}
 use Rattle.journal_core.proofs.Beside.{can_begin}
 use Rattle.journal_core.proofs.Images.{CrashLaws}
 
@@ -31,21 +31,12 @@ module _ (name : List ℕ) (stage : Staging) (next : IsNextName name stage) (con
   few_is : 1 + length contents < 2 ^ 64
   few_is = let few = next.few in omega (arith, count, few)
 
-  name_code : (q : List ℕ) → q ≢ stage_name (stage.staged + 1) → q ≢ name
-  name_code q ne is = ne (is ∙ next.is)
-
 module _ (laws : CrashLaws) {T E : Type 0} (old new : History) (name : List ℕ) (stage : Staging) (next : IsNextName name stage) (r : Result T E) where
   module _ (moves : Moves (CanCreate name) (after_create name) (after_create name) old new r) (whole : All IsWhole old) where
     pub begin_moments : IfObservable old (λ v. (ignored : List ℕ → Bool) (contents : List (List ℕ)) (base : Files) → IsOrderly (RestsOn ignored) v → IsStaged stage contents None base v → Since (IsStill ignored v) old new)
     begin_moments = on_observable old _ (λ v rest is ignored contents base orderly staged.
         let still = still_begun laws stage contents base v (few_is name stage next contents staged.count) staged (whole_now old v rest is whole) name (name_is name stage next contents staged.count) ignored orderly in
         one_called old new v rest is (IsStill ignored v) r moves still (λ may. still))
-
-    pub begin_others : IfObservable old (λ v. (contents : List (List ℕ)) (base : Files) → IsStaged stage contents None base v → HasNow new (λ w. (q : List ℕ) → q ≢ stage_name (stage.staged + 1) → files_of w q ≡ files_of v q))
-    begin_others = on_observable old _ (λ v rest is contents base staged.
-        let others : (q : List ℕ) → q ≢ stage_name (stage.staged + 1) → files_of (after_create name v) q ≡ files_of v q =
-        λ q ne. others_begun laws stage contents base v (few_is name stage next contents staged.count) staged (whole_now old v rest is whole) name (name_is name stage next contents staged.count) q (name_code name stage next contents staged.count q ne) in
-        now_called old new v rest is (λ w. (q : List ℕ) → q ≢ stage_name (stage.staged + 1) → files_of w q ≡ files_of v q) r moves others (λ q ne. refl) (λ may. others))
 
   pub begin_proper : (before now : Counts) → IsCounted (CanCreate name) old before now r
       → IfObservable old (λ v. (contents : List (List ℕ)) (base : Files) → IsStaged stage contents None base v → HasRoomToStage base → now.misuses ≡ before.misuses)
@@ -61,15 +52,6 @@ module _ (laws : CrashLaws) {T E : Type 0} (old new : History) (name : List ℕ)
         (still_grown laws stage contents so_far base v few staged name here (λ f. record { bytes = f.bytes ++ piece; synced = false }) ignored orderly)
         (λ may. still_grown laws stage contents so_far base v few staged name here (λ f. record { bytes = f.bytes; synced = false }) ignored orderly))
 
-    pub append_others : IfObservable old (λ v. (contents : List (List ℕ)) (so_far : List ℕ) (base : Files) → IsStaged stage contents (Some so_far) base v → HasNow new (λ w. (q : List ℕ) → q ≢ stage_name (stage.staged + 1) → files_of w q ≡ files_of v q))
-    append_others = on_observable old _ (λ v rest is contents so_far base staged.
-        let few = few_is name stage next contents staged.count in
-        let here = name_is name stage next contents staged.count in
-        now_called old new v rest is (λ w. (q : List ℕ) → q ≢ stage_name (stage.staged + 1) → files_of w q ≡ files_of v q) r moves
-        (λ q ne. others_grown laws stage contents so_far base v few staged name here (λ f. record { bytes = f.bytes ++ piece; synced = false }) q (name_code name stage next contents staged.count q ne))
-        (λ q ne. refl)
-        (λ may q ne. others_grown laws stage contents so_far base v few staged name here (λ f. record { bytes = f.bytes; synced = false }) q (name_code name stage next contents staged.count q ne)))
-
   pub append_proper : (before now : Counts) → IsCounted (HasName name) old before now r
       → IfObservable old (λ v. (contents : List (List ℕ)) (so_far : List ℕ) (base : Files) → IsStaged stage contents (Some so_far) base v → now.misuses ≡ before.misuses)
   append_proper before now counted = on_observable old _ (λ v rest is contents so_far base staged.
@@ -81,12 +63,6 @@ module _ (laws : CrashLaws) {T E : Type 0} (old new : History) (name : List ℕ)
         one_called old new v rest is (IsStill ignored v) r moves
         (still_grown laws stage contents so_far base v (few_is name stage next contents staged.count) staged name (name_is name stage next contents staged.count) (λ f. record { bytes = f.bytes; synced = true }) ignored orderly)
         (λ may. still_self ignored v orderly))
-
-    pub end_others : IfObservable old (λ v. (contents : List (List ℕ)) (so_far : List ℕ) (base : Files) → IsStaged stage contents (Some so_far) base v → HasNow new (λ w. files_of w ≡ files_of v))
-    end_others = on_observable old _ (λ v rest is contents so_far base staged.
-        now_called old new v rest is (λ w. files_of w ≡ files_of v) r moves
-        (same_read laws stage contents so_far base v (few_is name stage next contents staged.count) staged name (name_is name stage next contents staged.count) true)
-        refl (λ may. refl))
 
 -- what an Ok tells
 module _ (laws : CrashLaws) {T E : Type 0} (old new : History) (name : List ℕ) (stage now : Staging) (next : IsNextName name stage) (x : T) where

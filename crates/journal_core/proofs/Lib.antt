@@ -2,7 +2,7 @@ pub mod Acted
 pub mod Acts
 pub mod Again
 pub mod Agree
-pub mod AtName
+pub mod Below
 pub mod Beside
 pub mod Between
 pub mod Carried
@@ -10,6 +10,7 @@ pub mod Chain
 pub mod Cleaned
 pub mod Compose
 pub mod Container
+pub mod Contents
 pub mod Emptied
 pub mod Entered
 pub mod Filed
@@ -18,6 +19,8 @@ pub mod Finishing
 pub mod History
 pub mod Images
 pub mod Joined
+pub mod Keeping
+pub mod Lasting
 pub mod More
 pub mod OnTheWay
 pub mod OneCall
@@ -30,9 +33,9 @@ pub mod Room
 pub mod Rowing
 pub mod Settle
 pub mod Simulate
-pub mod StageNames
 pub mod Steps
 pub mod Suffix
+pub mod Vacant
 pub mod Waiting
 pub mod Worked
 pub mod Written

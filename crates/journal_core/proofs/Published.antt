@@ -16,14 +16,14 @@ use Rattle.journal_core.specs.Quiet.{IsStill}
 use Rattle.journal_intent.specs.FreeNames.{HasFreeNames}
 use Rattle.journal_core.specs.Staged.{Staging, HasRoomToStage, IsActing, MayBePresent, IsOnTheWay, IsStaged, PublishedBy}
 use Rattle.journal_core.proofs.Again.{acting_as}
-use Rattle.journal_core.proofs.AtName.{name_cases, off_name, put_name-off, drop_name-off}
+use Rattle.journal_intent.proofs.AtName.{name_cases, off_name, put_name-off, drop_name-off}
 use Rattle.journal_core.proofs.Beside.{can_make, held_like, read_held}
 use Rattle.journal_core.proofs.Between.{no_intent_read}
 use Rattle.journal_core.proofs.Chain.{by_now, now_both}
 use Rattle.journal_core.proofs.Compose.{quiet_then}
 use Rattle.journal_core.proofs.History.{History, now_map, now_since, since_on, since_weaker, observable_at, observable_map}
 use Rattle.journal_core.proofs.Images.{old_or_new_from_quiet, quiet_on}
-use Rattle.journal_core.proofs.StageNames.{stage_names_apart, stage_name_no_intent}
+use Rattle.journal_intent.proofs.StageNames.{stage_names_apart, stage_name_no_intent}
 use Rattle.journal_core.proofs.Waiting.{still_self}
 
 -- ---- moments with those before them

@@ -5,8 +5,8 @@ use Rattle.std.specs.Str.{bytes_eq}
 use Rattle.base_core.specs.Files.{Files, drop_name, move_name}
 use Rattle.journal_core.specs.Recovery.{Intent, intent_name, intent_at, intent_of, stage_name, without_names, move_if, after_moves, recovered_files_by, recovered_files}
 use Rattle.journal_intent.specs.FreeNames.{AreFreeNames, AreOnce, HasFreeNames, IsFreeName, IsNoneOf, IsOneOf}
-use Rattle.journal_core.proofs.AtName.{name_cases, other_name, put_name-off, drop_name-off, drop_name-at}
-use Rattle.journal_core.proofs.StageNames.{stage_names_apart, stage_name_no_intent}
+use Rattle.journal_intent.proofs.AtName.{name_cases, other_name, put_name-off, drop_name-off, drop_name-at}
+use Rattle.journal_intent.proofs.StageNames.{stage_names_apart, stage_name_no_intent}
 
 -- an intent whose names are free, each once, and not too many
 pub record IsProper (intent : Intent) : Type 0 where

@@ -7,7 +7,7 @@ use Rattle.journal_core.specs.Quiet.{IsStill}
 use Rattle.journal_core.specs.Recovery.{state_of}
 use Rattle.journal_core.specs.Filling.{IsPrivate, IsUntouched, IsFilling}
 use Rattle.journal_core.proofs.Agree.{state_agree}
-use Rattle.journal_core.proofs.AtName.{name_cases, put_name-at, put_name-off, drop_name-off}
+use Rattle.journal_intent.proofs.AtName.{name_cases, put_name-at, put_name-off, drop_name-off}
 use Rattle.journal_core.proofs.Images.{CrashLaws, quiet_on, quiet_same}
 use Rattle.journal_core.proofs.Simulate.{file_at, bytes_of_same, rests_off, Simulates, simulated_orderly, simulated_quiet}
 
@@ -39,7 +39,7 @@ remove_made : (name : List ℕ) (v : TreeState) (n : Option ℕ) → v.made ≤ 
 remove_made name v None = omega arith
 remove_made name v (Some n) = omega arith
 
-remove_others : (name : List ℕ) (v : TreeState) (n : Option ℕ) (q : List ℕ) → q ≢ name → files_of (remove_at name v n) q ≡ files_of v q
+pub remove_others : (name : List ℕ) (v : TreeState) (n : Option ℕ) (q : List ℕ) → q ≢ name → files_of (remove_at name v n) q ≡ files_of v q
 remove_others name v None q ne = refl
 remove_others name v (Some n) q ne = ap (bytes_at v.files) (drop_name-off v.names name q ne)
 

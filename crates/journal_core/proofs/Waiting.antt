@@ -7,7 +7,7 @@ use Rattle.journal_core.specs.Recovery.{IsPlaceOf, RestsOn, intent_name, intent_
 use Rattle.journal_core.specs.Quiet.{IsStill}
 use Rattle.journal_core.specs.Staged.{IsAlone}
 use Rattle.journal_core.proofs.Agree.{state_agree}
-use Rattle.journal_core.proofs.AtName.{put_name-at, put_name-off}
+use Rattle.journal_intent.proofs.AtName.{put_name-at, put_name-off}
 use Rattle.journal_core.proofs.Images.{CrashLaws, quiet_same}
 use Rattle.journal_core.proofs.Simulate.{file_at, Simulates, simulated_orderly, simulated_quiet}
 use Rattle.journal_core.proofs.Steps.{set_file-at, file_at-set_file, bytes_at-set_file, made_later, create_alone, create_others}

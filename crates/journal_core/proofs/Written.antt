@@ -9,11 +9,11 @@ use Rattle.journal_core.specs.Recovery.{RestsOn, intent_name, stage_name}
 use Rattle.journal_core.specs.Quiet.{IsStill}
 use Rattle.journal_core.specs.Staged.{IsAlone}
 use Rattle.journal_core.proofs.Acts.{still_on}
-use Rattle.journal_core.proofs.AtName.{put_name-at, put_name-off}
+use Rattle.journal_intent.proofs.AtName.{put_name-at, put_name-off}
 use Rattle.journal_core.proofs.Chain.{Runs, run_begun, run_failed, run_called, run_done, step_now, step_called}
 use Rattle.journal_core.proofs.History.{History}
 use Rattle.journal_core.proofs.OneCall.{now_is}
-use Rattle.journal_core.proofs.StageNames.{stage_name_no_intent}
+use Rattle.journal_intent.proofs.StageNames.{stage_name_no_intent}
 use Rattle.journal_core.proofs.Steps.{set_file-at, file_at-set_file, made_later}
 use Rattle.journal_core.proofs.Waiting.{IsOff, off_none, still_self, still_created, alone_created, still_changed, alone_changed}
 use Rattle.journal_core.proofs.Images.{CrashLaws}

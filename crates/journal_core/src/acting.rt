@@ -6,6 +6,7 @@ ghost use Rattle.base_core.specs.Faults.{GoesOn, HasCause, IsNoFault};
 ghost use Rattle.base_core.specs.Files.{Files};
 ghost use Rattle.base_core.specs.Tree.{CanRename};
 ghost use Rattle.journal_core.specs.Acting.{MovesIfThere, acting_stage};
+ghost use Rattle.journal_core.specs.Kept.{IsOfAction, KeepsFilesBut};
 ghost use Rattle.journal_core.specs.Quiet.{IsStill};
 ghost use Rattle.journal_core.specs.Recovery.{RestsOn};
 ghost use Rattle.journal_core.specs.Staged.{HasRoomBeside, IsActing, action_count};
@@ -29,6 +30,8 @@ pub(crate) fn act<T: Tree>(
         → IsActing (acting_stage intent.now acted) files v
         → IfOk result (λ next. HasNow (T.history tree.new)
         (IsActing (acting_stage intent.now next) files))) }
+    ensures others { IfObservable (T.history tree.old) (λ v.
+        HasNow (T.history tree.new) (KeepsFilesBut (IsOfAction intent.now acted) v)) }
     ensures more { acted < action_count intent.now → IfOk result (λ next. next ≡ acted + 1) }
     ensures none_left { action_count intent.now ≤ acted
         → IfOk result (λ next. next ≡ acted) × (tree.new ≡ tree.old) }
@@ -63,6 +66,8 @@ fn remove_one<T: Tree>(intent: &PreparedIntent, i: usize, tree: &mut T) -> Resul
         → IsActing (acting_stage intent.now i) files v
         → OnOk result (HasNow (T.history tree.new)
         (IsActing (acting_stage intent.now (i + 1)) files))) }
+    ensures others { IfObservable (T.history tree.old) (λ v.
+        HasNow (T.history tree.new) (KeepsFilesBut (IsOfAction intent.now i) v)) }
     ensures goes_on { GoesOn (T.counts tree.old) (T.counts tree.new) }
     ensures cause { OnErr result (HasCause (T.counts tree.old) (T.counts tree.new)) }
     ensures kept { OnOk result (IsNoFault (T.counts tree.old) (T.counts tree.new)) }
@@ -92,6 +97,8 @@ fn move_one<T: Tree>(
         → IsActing (acting_stage intent.now acted) files v
         → OnOk result (HasNow (T.history tree.new)
         (IsActing (acting_stage intent.now (acted + 1)) files))) }
+    ensures others { IfObservable (T.history tree.old) (λ v.
+        HasNow (T.history tree.new) (KeepsFilesBut (IsOfAction intent.now acted) v)) }
     ensures goes_on { GoesOn (T.counts tree.old) (T.counts tree.new) }
     ensures cause { OnErr result (HasCause (T.counts tree.old) (T.counts tree.new)) }
     ensures kept { OnOk result (IsNoFault (T.counts tree.old) (T.counts tree.new)) }

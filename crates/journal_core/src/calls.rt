@@ -5,7 +5,7 @@ ghost use Rattle.base_core.specs.Tree.{after_append, after_create, after_failed_
 
 use base_core::{Disk, Name, Tree};
 
-/// Takes away what an earlier run left under the name.
+/// Takes the name away; an absent one is no fault.
 pub(crate) fn remove<T: Tree>(tree: &mut T, name: &Name) -> Result<(), Disk>
     ensures moves { Moves Anywhere (after_remove name.now) (after_remove name.now)
         (T.history tree.old) (T.history tree.new) result }

@@ -1,5 +1,5 @@
 //! The intent of a stage comes to stand under its name.
-ghost use Rattle.std.specs.Prelude.{◌≡◌, ℕ, Bool, List, None, OnOk, OnErr};
+ghost use Rattle.std.specs.Prelude.{◌≡◌, ◌⊎◌, ◌∷◌, [], ℕ, Bool, List, None, IsSome, OnOk, OnErr};
 ghost use Rattle.base_core.specs.Calls.{HasNow, IfObservable};
 ghost use Rattle.base_core.specs.Crash.{IsOrderly, Since};
 ghost use Rattle.base_core.specs.Faults.{GoesOn, HasCause, IsNoFault};
@@ -9,6 +9,7 @@ ghost use Rattle.base_core.specs.Tree.{CanCreate, CanRename, files_of};
 ghost use Rattle.journal_core.specs.Acting.{acting_stage, full_stage};
 ghost use Rattle.journal_core.specs.Entering.{IsEntered, IsEntering, IsReady, IsWritten};
 ghost use Rattle.journal_core.specs.Filling.{synced_file};
+ghost use Rattle.journal_core.specs.Kept.{KeepsFilesBut, NamesLastBut};
 ghost use Rattle.journal_core.specs.Quiet.{IsStill};
 ghost use Rattle.journal_core.specs.Recovery.{Intent, IsSettled, RestsOn, after_actions, intent_name, stage_name};
 ghost use Rattle.journal_core.specs.Staged.{HasRoomToStage, IsActing, IsOnTheWay, IsStaged, PublishedBy};
@@ -39,6 +40,14 @@ pub(crate) fn publish_intent<T: Tree>(tree: &mut T, intent: &PreparedIntent) -> 
         (base : Files) → IsStaged (full_stage intent.now) contents None base v
         → OnOk result (HasNow (T.history tree.new)
         (IsActing (acting_stage intent.now 0) (after_actions intent.now (files_of v))))) }
+    ensures last { IfObservable (T.history tree.old) (λ v. v.names intent_name ≡ None
+        → Since (λ w. IsSome (w.names intent_name)
+        → NamesLastBut (intent_name ∷ stage_name 0 ∷ []) w)
+        (T.history tree.old) (T.history tree.new)) }
+    ensures others { IfObservable (T.history tree.old) (λ v. HasNow (T.history tree.new)
+        (KeepsFilesBut (λ q. (q ≡ intent_name) ⊎ (q ≡ stage_name 0)) v)) }
+    ensures reads { IfObservable (T.history tree.old) (λ v. OnOk result
+        (HasNow (T.history tree.new) (KeepsFilesBut (λ q. q ≡ intent_name) v))) }
     ensures goes_on { GoesOn (T.counts tree.old) (T.counts tree.new) }
     ensures cause { OnErr result (HasCause (T.counts tree.old) (T.counts tree.new)) }
     ensures kept { OnOk result (IsNoFault (T.counts tree.old) (T.counts tree.new)) }
@@ -60,6 +69,12 @@ fn write_waiting<T: Tree>(tree: &mut T, place: &Name, bytes: &[u8]) -> Result<()
     ensures written { IfObservable (T.history tree.old) (λ v. files_of v intent_name ≡ None
         → OnOk result (HasNow (T.history tree.new)
         (IsWritten place.now (synced_file bytes.now) v))) }
+    ensures unread { IfObservable (T.history tree.old) (λ v. v.names intent_name ≡ None
+        → Since (λ w. w.names intent_name ≡ None) (T.history tree.old) (T.history tree.new)) }
+    ensures others { IfObservable (T.history tree.old)
+        (λ v. HasNow (T.history tree.new) (KeepsFilesBut (λ q. q ≡ place.now) v)) }
+    ensures absent { OnOk result
+        (IfObservable (T.history tree.old) (λ v. v.names place.now ≡ None)) }
     ensures goes_on { GoesOn (T.counts tree.old) (T.counts tree.new) }
     ensures cause { OnErr result (HasCause (T.counts tree.old) (T.counts tree.new)) }
     ensures kept { OnOk result (IsNoFault (T.counts tree.old) (T.counts tree.new)) }
@@ -89,6 +104,14 @@ fn enter<T: Tree>(tree: &mut T, place: &Name, name: &Name) -> Result<(), Disk>
     ensures acting { IfObservable (T.history tree.old) (λ v. (intent : Intent) (base : Files)
         (made : ℕ) → IsReady intent base made v → OnOk result (HasNow (T.history tree.new)
         (IsActing (acting_stage intent 0) (after_actions intent base)))) }
+    ensures last { IfObservable (T.history tree.old) (λ v. v.names intent_name ≡ None
+        → Since (λ w. IsSome (w.names intent_name)
+        → NamesLastBut (intent_name ∷ stage_name 0 ∷ []) w)
+        (T.history tree.old) (T.history tree.new)) }
+    ensures others { IfObservable (T.history tree.old) (λ v. HasNow (T.history tree.new)
+        (KeepsFilesBut (λ q. (q ≡ intent_name) ⊎ (q ≡ stage_name 0)) v)) }
+    ensures moved { OnOk result
+        (IfObservable (T.history tree.new) (λ w. w.names (stage_name 0) ≡ None)) }
     ensures goes_on { GoesOn (T.counts tree.old) (T.counts tree.new) }
     ensures cause { OnErr result (HasCause (T.counts tree.old) (T.counts tree.new)) }
     ensures kept { OnOk result (IsNoFault (T.counts tree.old) (T.counts tree.new)) }

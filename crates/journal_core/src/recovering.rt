@@ -8,6 +8,7 @@ ghost use Rattle.base_core.specs.Faults.{GoesOn, HasCause, IsNoFault};
 ghost use Rattle.base_core.specs.Files.{Files};
 ghost use Rattle.base_core.specs.Tree.{files_of};
 ghost use Rattle.base_core.specs.declared.cause.Cause.{Cause};
+ghost use Rattle.journal_core.specs.Kept.{IsInNoMap};
 ghost use Rattle.journal_core.specs.Quiet.{IsStill};
 ghost use Rattle.journal_core.specs.Recovering.{AllStaged, IsEmptied, IsReplayed, IsWithout};
 ghost use Rattle.journal_core.specs.Recovery.{IsSettled, RestsOn, intent_name, intent_of, recovered_files};
@@ -101,6 +102,10 @@ pub fn recover<T: Tree>(alloc: Global, tree: &mut T) -> Result<(), RecoverFault>
         → IsOrderly (RestsOn ignored) v → IsSome (intent_of (files_of v))
         → OnOk result (HasNow (T.history tree.new) (IsSettled ignored (files_of v)))) }
 
+    // Nor does a crash bring the intent back.
+    ensures gone { IfObservable (T.history tree.old) (λ v. IsSome (v.names intent_name)
+        → OnOk result (HasNow (T.history tree.new) (IsInNoMap intent_name))) }
+
     // Where there is nothing to do, no writing call is made.
     ensures idle { IfObservable (T.history tree.old) (λ v. v.names intent_name ≡ None
         → IsEmptyStage v.names → T.history tree.new ≡ T.history tree.old) }
@@ -142,6 +147,8 @@ fn replay<T: Tree>(alloc: Global, tree: &mut T) -> Result<(), RecoverFault>
         → IsOrderly (RestsOn ignored) v → IsSome (intent_of (files_of v))
         → OnOk result (HasNow (T.history tree.new)
         (IsSettled ignored (recovered_files (files_of v))))) }
+    ensures gone { IfObservable (T.history tree.old) (λ v. IsSome (v.names intent_name)
+        → OnOk result (IfObservable (T.history tree.new) (IsInNoMap intent_name))) }
     ensures idle { IfObservable (T.history tree.old) (λ v. v.names intent_name ≡ None
         → T.history tree.new ≡ T.history tree.old) }
     ensures bad { (cause : Cause) → IsErrOf result (RecoverFault.IntentBad cause)
@@ -180,6 +187,7 @@ fn replay_file<T: Tree>(alloc: Global, tree: &mut T, file: Vec<u8>) -> Result<()
         → IsOrderly (RestsOn ignored) v → files_of v intent_name ≡ Some file.items
         → OnOk result (HasNow (T.history tree.new)
         (IsSettled ignored (recovered_files (files_of v))))) }
+    ensures gone { OnOk result (IfObservable (T.history tree.new) (IsInNoMap intent_name)) }
     ensures bad { (cause : Cause) → IsErrOf result (RecoverFault.IntentBad cause)
         → (T.history tree.new ≡ T.history tree.old)
         × (first_fault IntentTable file.items ≡ Some cause) }
@@ -234,6 +242,8 @@ fn empty_stage<T: Tree>(alloc: Global, tree: &mut T) -> Result<(), TreeFault>
         → Since (IsStill ignored v) (T.history tree.old) (T.history tree.new)) }
     ensures emptied { IfObservable (T.history tree.old) (λ v.
         OnOk result (HasNow (T.history tree.new) (IsEmptied v))) }
+    ensures gone { IfObservable (T.history tree.old) (λ v. OnOk result (IsInNoMap intent_name v
+        → HasNow (T.history tree.new) (IsInNoMap intent_name))) }
     ensures idle { IfObservable (T.history tree.old) (λ v. IsEmptyStage v.names
         → T.history tree.new ≡ T.history tree.old) }
     ensures goes_on { GoesOn (T.counts tree.old) (T.counts tree.new) }
@@ -259,6 +269,8 @@ fn remove_all<T: Tree>(tree: &mut T, names: &Names) -> Result<(), Disk>
         → Since (IsStill ignored v) (T.history tree.old) (T.history tree.new)) }
     ensures cleared { IfObservable (T.history tree.old) (λ v.
         OnOk result (HasNow (T.history tree.new) (IsWithout names.now v))) }
+    ensures gone { IfObservable (T.history tree.old) (λ v. OnOk result (IsInNoMap intent_name v
+        → HasNow (T.history tree.new) (IsInNoMap intent_name))) }
     ensures none { names.now ≡ [] → T.history tree.new ≡ T.history tree.old }
     ensures goes_on { GoesOn (T.counts tree.old) (T.counts tree.new) }
     ensures cause { OnErr result (HasCause (T.counts tree.old) (T.counts tree.new)) }

@@ -1,5 +1,5 @@
 //! A stage: new files wait under names of their own until one step lets all of them count.
-ghost use Rattle.std.specs.Prelude.{◌≡◌, ◌≢◌, ◌≤◌, ◌<◌, ◌+◌, ◌++◌, ◌∷◌, [], ◌^◌, ℕ, Bool, true, false, List, Some, None, length, IfOk, OnOk, OnErr, IsErrOf, nat_lt};
+ghost use Rattle.std.specs.Prelude.{◌≡◌, ◌⊎◌, ◌≤◌, ◌<◌, ◌+◌, ◌++◌, ◌∷◌, [], ◌^◌, ℕ, Bool, true, false, List, Some, None, length, IfOk, OnOk, OnErr, IsErrOf, IsSome, nat_lt};
 ghost use Rattle.adb_schema.specs.Soundness.{first_fault};
 ghost use Rattle.adb_tables.specs.declared.tables.Which.TheVariants.{Intent as IntentTable};
 ghost use Rattle.adb_write.specs.Canonical.{overflow_of};
@@ -11,9 +11,10 @@ ghost use Rattle.base_core.specs.Restart.{SinceBy};
 ghost use Rattle.base_core.specs.Tree.{files_of};
 ghost use Rattle.base_core.specs.declared.cause.Cause.{Cause};
 ghost use Rattle.journal_core.specs.Acting.{IsNextName};
+ghost use Rattle.journal_core.specs.Kept.{IsInNoMap, IsOfAction, KeepsFilesBut, NamesLastBut};
 ghost use Rattle.journal_core.specs.Quiet.{IsStill};
 ghost use Rattle.journal_core.specs.Recovery.{IsSettled, RestsOn, after_actions, intent_name, read_intent, stage_name};
-ghost use Rattle.journal_core.specs.Staged.{Staging, HasRoomBeside, HasRoomToStage, IsActing, IsOnTheWay, IsStaged, PublishedBy, action_count, new_stage};
+ghost use Rattle.journal_core.specs.Staged.{Staging, HasRoomBeside, HasRoomToStage, IsActing, IsAlone, IsOnTheWay, IsStaged, PublishedBy, action_count, new_stage};
 ghost use Rattle.journal_intent.specs.Intent.{AreChangeNames};
 ghost use Rattle.journal_intent.specs.IntentValue.{intent_of_lists, value_of_intent};
 
@@ -157,10 +158,8 @@ impl Stage {
             (IsStaged self.new contents (Some []) base))) }
 
         // Whatever it answers, the files as read stay as they are under every other name.
-        ensures others { IfObservable (T.history tree.old) (λ v. (contents : List (List ℕ))
-            (base : Files) → IsStaged self.old contents None base v
-            → HasNow (T.history tree.new) (λ w. (q : List ℕ)
-            → q ≢ stage_name (self.old.staged + 1) → files_of w q ≡ files_of v q)) }
+        ensures others { IfObservable (T.history tree.old) (λ v. HasNow (T.history tree.new)
+            (KeepsFilesBut (λ q. q ≡ stage_name (self.old.staged + 1)) v)) }
         ensures view { OnOk result (self.new ≡ record self.old { is_open = true }) }
         ensures goes_on { GoesOn (T.counts tree.old) (T.counts tree.new) }
         ensures cause { OnErr result (HasCause (T.counts tree.old) (T.counts tree.new)) }
@@ -187,10 +186,11 @@ impl Stage {
             (so_far : List ℕ) (base : Files) → IsStaged self.old contents (Some so_far) base v
             → OnOk result (HasNow (T.history tree.new)
             (IsStaged self.new contents (Some (so_far ++ piece.now)) base))) }
-        ensures others { IfObservable (T.history tree.old) (λ v. (contents : List (List ℕ))
-            (so_far : List ℕ) (base : Files) → IsStaged self.old contents (Some so_far) base v
-            → HasNow (T.history tree.new) (λ w. (q : List ℕ)
-            → q ≢ stage_name (self.old.staged + 1) → files_of w q ≡ files_of v q)) }
+
+        // Where the file stands under no other name, the files as read stay as they are under each.
+        ensures others { IfObservable (T.history tree.old) (λ v.
+            IsAlone (stage_name (self.old.staged + 1)) v → HasNow (T.history tree.new)
+            (KeepsFilesBut (λ q. q ≡ stage_name (self.old.staged + 1)) v)) }
         ensures view { OnOk result (self.new ≡ self.old) }
         ensures goes_on { GoesOn (T.counts tree.old) (T.counts tree.new) }
         ensures cause { OnErr result (HasCause (T.counts tree.old) (T.counts tree.new)) }
@@ -215,9 +215,8 @@ impl Stage {
             (so_far : List ℕ) (base : Files) → IsStaged self.old contents (Some so_far) base v
             → OnOk result (HasNow (T.history tree.new)
             (IsStaged self.new (contents ++ so_far ∷ []) None base))) }
-        ensures others { IfObservable (T.history tree.old) (λ v. (contents : List (List ℕ))
-            (so_far : List ℕ) (base : Files) → IsStaged self.old contents (Some so_far) base v
-            → HasNow (T.history tree.new) (λ w. files_of w ≡ files_of v)) }
+        ensures others { IfObservable (T.history tree.old)
+            (λ v. HasNow (T.history tree.new) (λ w. files_of w ≡ files_of v)) }
         ensures view { OnOk result
             (self.new ≡ record self.old { staged = self.old.staged + 1; is_open = false }) }
         ensures goes_on { GoesOn (T.counts tree.old) (T.counts tree.new) }
@@ -263,6 +262,19 @@ impl Stage {
             (base : Files) → IsStaged self.old contents None base v
             → OnOk result (HasNow (T.history tree.new)
             (IsActing self.new (after_actions self.old.intent (files_of v))))) }
+
+        // As soon as the intent is read, every other change of names lasts.
+        ensures last { IfObservable (T.history tree.old) (λ v. v.names intent_name ≡ None
+            → Since (λ w. IsSome (w.names intent_name)
+            → NamesLastBut (intent_name ∷ stage_name 0 ∷ []) w)
+            (T.history tree.old) (T.history tree.new)) }
+
+        // Whatever it answers, the files as read stay as they are under every name but the
+        // intent's and that under which it is written; once it has answered Ok, under this too.
+        ensures others { IfObservable (T.history tree.old) (λ v. HasNow (T.history tree.new)
+            (KeepsFilesBut (λ q. (q ≡ intent_name) ⊎ (q ≡ stage_name 0)) v)) }
+        ensures reads { IfObservable (T.history tree.old) (λ v. OnOk result
+            (HasNow (T.history tree.new) (KeepsFilesBut (λ q. q ≡ intent_name) v))) }
         ensures view { OnOk result (self.new ≡ record self.old { published = true; acted = 0 }) }
         ensures goes_on { GoesOn (T.counts tree.old) (T.counts tree.new) }
         ensures cause { OnErr result (HasCause (T.counts tree.old) (T.counts tree.new)) }
@@ -286,6 +298,10 @@ impl Stage {
         ensures acting { IfObservable (T.history tree.old) (λ v. (files : Files)
             → IsActing self.old files v
             → OnOk result (HasNow (T.history tree.new) (IsActing self.new files))) }
+
+        // Whatever it answers, it touches no other name than those of its action.
+        ensures others { IfObservable (T.history tree.old) (λ v. HasNow (T.history tree.new)
+            (KeepsFilesBut (IsOfAction self.old.intent self.old.acted) v)) }
         ensures answer { IfOk result
             (λ was_left. was_left ≡ nat_lt self.old.acted (action_count self.old.intent)) }
         ensures more { self.old.acted < action_count self.old.intent
@@ -318,6 +334,15 @@ impl Stage {
         ensures files { IfObservable (T.history tree.old) (λ v. (files : Files)
             → IsActing self.old files v → OnOk result (HasNow (T.history tree.new)
             (λ w. (files_of w ≡ files) × (w.names intent_name ≡ None)))) }
+
+        // As soon as no intent is read, every other change of names lasts; and once it has answered
+        // Ok, no crash brings the intent back.
+        ensures last { IfObservable (T.history tree.old) (λ v. IsSome (v.names intent_name)
+            → Since (λ w. w.names intent_name ≡ None → NamesLastBut (intent_name ∷ []) w)
+            (T.history tree.old) (T.history tree.new)) }
+        ensures gone { OnOk result (IfObservable (T.history tree.new) (IsInNoMap intent_name)) }
+        ensures others { IfObservable (T.history tree.old) (λ v. HasNow (T.history tree.new)
+            (KeepsFilesBut (λ q. q ≡ intent_name) v)) }
         ensures goes_on { GoesOn (T.counts tree.old) (T.counts tree.new) }
         ensures cause { OnErr result (HasCause (T.counts tree.old) (T.counts tree.new)) }
         ensures kept { OnOk result (IsNoFault (T.counts tree.old) (T.counts tree.new)) }

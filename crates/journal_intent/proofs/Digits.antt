@@ -12,10 +12,10 @@ use Rattle.journal_intent.proofs.AtName.{other_name}
 
 -- ---- decimal digits
 
-abbrev IsDigit : ℕ → Type 0
+abbrev pub IsDigit : ℕ → Type 0
 IsDigit b = (48 ≤ b) × (b < 58)
 
-abbrev AreDigits : List ℕ → Type 0
+abbrev pub AreDigits : List ℕ → Type 0
 AreDigits [] = Unit {0}
 AreDigits (b ∷ bs) = IsDigit b × AreDigits bs
 
@@ -56,7 +56,7 @@ at_most zero n acc = omega arith
 at_most (suc k) n acc =
     by_most (eqb (n / 10) 0) (suc k + length acc) _ _ (omega arith) (let most = at_most k (n / 10) (digit_glyph false (n % 10) ∷ acc) in omega (arith, most))
 
-decimal-digits : (n : ℕ) → AreDigits (decimal n)
+pub decimal-digits : (n : ℕ) → AreDigits (decimal n)
 unfolding digits
 decimal-digits n = digits-onto 64 n [] tt
 

@@ -1,7 +1,8 @@
 -- The names of a sound intent are free, and each stands once.
 use Rattle.std.proofs.Common.{◌≡◌, ◌||◌, inl, inr, ⊎_elim, not, map, ℕ, ◌<◌, ◌+◌, ◌^◌, Bool, true, false, List, [], ◌∷◌, ◌++◌, length, Option, Some, None, refl, ap, sym, subst, ◌∙◌, arith}
 use Rattle.std.proofs.lemmas.Bool.{and_parts}
-use Rattle.std.specs.List.{list_any}
+use Rattle.std.proofs.lemmas.List.Elements.{All-head, All-tail}
+use Rattle.std.specs.List.{All, list_any}
 use Rattle.std.specs.Str.{bytes_eq}
 use Rattle.base_core.specs.Name.{is_name}
 use Rattle.base_core.specs.declared.cause.Cause.{Cause}
@@ -19,9 +20,11 @@ use Rattle.adb_tables.specs.declared.tables.Which.TheVariants as Tables
 use Rattle.adb_view.specs.Plain.{Plain, Plains, none, more}
 use Rattle.adb_view.specs.Shaped.{Each}
 use Rattle.journal_intent.specs.FreeNames.{AllNamed, AreFreeNames, AreOnce, HasFreeNames, IsFreeName, IsNoneOf, IsOneOf}
-use Rattle.journal_intent.specs.Intent.{Intent, intent_in, intent_unless, read_intent, stage_name}
+use Rattle.journal_intent.specs.Intent.{AreChangeNames, Intent, intent_in, intent_unless, read_intent, stage_name}
+use Rattle.journal_intent.specs.IntentValue.{intent_of_lists}
 use Rattle.journal_intent.proofs.AtName.{name_cases, other_name}
 use Rattle.journal_intent.proofs.ReadIntent.{spelled}
+use Rattle.journal_intent.proofs.Spelling.{distinct}
 
 true_false : true ≡ false → ⊥
 true_false e = cc
@@ -77,6 +80,33 @@ apart_left : (rs ws : List (List ℕ)) (name : List ℕ) → AreDistinctNames (r
 apart_left [] ws name once at = refl
 apart_left (r ∷ rs) ws name once at =
     both_false (bytes_eq name r) (list_any (bytes_eq name) rs) (other_name name r (λ is. once.0 (subst (λ (x : List ℕ). IsIn x (rs ++ ws)) is (in_right rs ws name at)))) (apart_left rs ws name once.1 at)
+
+-- ---- those of a change that is to be made
+
+frees_all : (names : List (List ℕ)) → All (λ name. is_change_name name ≡ true) names → AreFreeNames names
+frees_all [] all = tt
+frees_all (n ∷ ns) all = (free_of n (All-head (λ name. is_change_name name ≡ true) n ns all), frees_all ns (All-tail (λ name. is_change_name name ≡ true) n ns all))
+
+frees_left : (xs ys : List (List ℕ)) → AreFreeNames (xs ++ ys) → AreFreeNames xs
+frees_left [] ys free = tt
+frees_left (x ∷ xs) ys free = (free.0, frees_left xs ys free.1)
+
+frees_right : (xs ys : List (List ℕ)) → AreFreeNames (xs ++ ys) → AreFreeNames ys
+frees_right [] ys free = free
+frees_right (x ∷ xs) ys free = frees_right xs ys free.1
+
+pub change_names_free : (removals writes : List (List ℕ)) → AreChangeNames (removals ++ writes) → HasFreeNames (intent_of_lists removals writes)
+change_names_free removals writes names =
+    let free = frees_all (removals ++ writes) names.each in
+    let once = distinct (removals ++ writes) names.once in
+    record {
+      removals = frees_left removals writes free;
+      writes = frees_right removals writes free;
+      once = once_of writes (once_right removals writes once);
+      apart = λ name at. apart_left removals writes name once (one_of name writes at);
+    }
+
+-- ---- those of a sound container
 
 free_value : (v : Plain) → IsSoundValue Tables.Intent v → HasFreeNames (intent_in v)
 free_value v sound =

@@ -1,3 +1,4 @@
+pub mod Apart
 pub mod AtName
 pub mod Copies
 pub mod Digits

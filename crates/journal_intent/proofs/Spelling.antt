@@ -110,7 +110,7 @@ place_in x [] at = absurd at
 place_in x (y ∷ ys) (inl is) = (0, omega arith, sym is)
 place_in x (y ∷ ys) (inr at) = let rest = place_in x ys at in (suc rest.0, omega (arith, rest.1), rest.2)
 
-distinct : (names : List (List ℕ)) → AllPairs (λ a b. bytes_eq a b ≡ false) names → AreDistinctNames names
+pub distinct : (names : List (List ℕ)) → AllPairs (λ a b. bytes_eq a b ≡ false) names → AreDistinctNames names
 distinct [] once = tt
 distinct (x ∷ xs) once = (λ at. let found = place_in x xs at in true_false (sym (same_name x (get_or xs found.0 []) (sym found.2)) ∙ once 0 (suc found.0) [] (omega arith) (omega (arith, found.1))), distinct xs (λ i j d less within. once (suc i) (suc j) d (omega (arith, less)) (omega (arith, within))))
 

@@ -1,5 +1,5 @@
 -- What the actions of an intent need of its names.
-use Rattle.std.specs.Prelude.{◌≡◌, ◌≢◌, ℕ, zero, suc, ◌+◌, true, false, List, [], ◌∷◌}
+use Rattle.std.specs.Prelude.{◌≡◌, ◌⊎◌, ◌≢◌, ℕ, zero, suc, ◌+◌, true, false, List, [], ◌∷◌}
 use Rattle.std.specs.Str.{bytes_eq}
 use Rattle.std.specs.List.{list_any}
 use Rattle.base_core.specs.Name.{IsName}
@@ -17,6 +17,10 @@ IsNoneOf name names = list_any (bytes_eq name) names ≡ false
 pub record IsFreeName (name : List ℕ) : Type 0 where
   pub no_intent : name ≢ intent_name
   pub no_place : (k : ℕ) → name ≢ stage_name k
+
+-- the intent's own name, or that of a waiting file
+abbrev pub IsTakenName : List ℕ → Type 0
+IsTakenName name = (name ≡ intent_name) ⊎ ((k : ℕ) × (name ≡ stage_name k))
 
 abbrev pub AreFreeNames : List (List ℕ) → Type 0
 AreFreeNames [] = Unit {0}

@@ -15,7 +15,8 @@ mod prepared;
 
 pub use laws::{
     a_read_intent_has_free_names, an_intent_is_read_from_a_sound_container,
-    each_waiting_file_has_its_own_name,
+    each_waiting_file_has_its_own_name, no_taken_name_is_a_folder_of_another,
+    the_names_of_a_change_are_free,
 };
 pub use names::{intent_name, stage_folder};
 pub use prepared::PreparedIntent;

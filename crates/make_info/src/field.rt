@@ -148,7 +148,7 @@ fn find_named(fields: &[Field], word: &[u8]) -> Option<Field>
 }
 
 /// The number that the digits are. None: they are none, or above 2^64 - 1, or have a zero in front.
-pub(crate) fn read_number(digits: &[u8]) -> Option<u64>
+pub fn read_number(digits: &[u8]) -> Option<u64>
     ensures { result ≡ decimal_number digits.now }
 {
     if !is_decimal(digits) {

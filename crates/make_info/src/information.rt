@@ -300,8 +300,8 @@ impl<'a> Items<'a> {
     }
 }
 
-// The dependency without tag that a text is.
-fn read_need(text: &[u8]) -> Option<Dep<'_>>
+/// The dependency without tag that a text is (apk-package(5)).
+pub fn read_need(text: &[u8]) -> Option<Dep<'_>>
     ensures { option_map dependency result ≡ need_in text.entry.now }
 {
     let dep = read_dep(text)?;

@@ -183,8 +183,8 @@ fn write_size(writer: &mut Writer, size: u64) -> Result<Val, AllocError>
     writer.int(size)
 }
 
-// Writes a dependency: its name, version and match number.
-fn write_need(writer: &mut Writer, dep: &Dep<'_>) -> Result<Val, AllocError>
+/// Writes a dependency: its name, version and match number (apk-v3(5)).
+pub fn write_need(writer: &mut Writer, dep: &Dep<'_>) -> Result<Val, AllocError>
     ensures { IfOk result (λ word. WritesValue writer.old
         (need_value (dep_value (dependency dep.now))) word writer.new) }
 {

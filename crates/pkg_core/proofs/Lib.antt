@@ -2,3 +2,4 @@ pub mod Listed
 pub mod Steps
 pub mod Digests
 pub mod Given
+pub mod First

@@ -5,3 +5,4 @@ pub mod Whole
 pub mod Opened
 pub mod Refusals
 pub mod GoodContents
+pub mod FirstContents

@@ -1,10 +1,12 @@
 //! What follows from the definitions, for every package.
-ghost use Rattle.std.specs.Prelude.{◌≡◌, ℕ, List, None};
+ghost use Rattle.std.specs.Prelude.{◌≡◌, ℕ, List, None, Some};
+ghost use Rattle.base_core.specs.declared.cause.Cause.{Cause};
 ghost use Rattle.adb_block.specs.Reading.{Reading};
 ghost use Rattle.adb_schema.specs.Soundness.{first_fault};
 ghost use Rattle.adb_tables.specs.Walk.{or_else};
 ghost use Rattle.adb_tables.specs.declared.tables.Which.TheVariants as Tables;
 ghost use Rattle.pkg_core.specs.Contents.{contents_fault, contents_in, expected_contents, fault_in, files_by_blocks, Expected};
+ghost use Rattle.pkg_core.specs.FirstContents.{IsFirstContentsFault};
 ghost use Rattle.pkg_core.specs.GoodContents.{AreContentsOf, AreTrueTo};
 ghost use Rattle.pkg_core.specs.Whole.{files_in_file, package_fault, package_with_contents};
 
@@ -15,6 +17,14 @@ use adb_rules::the_first_bad_text_is_reported;
 pub fn good_blocks_give_the_contents_of_each_file()
     ensures { (expected : List Expected) (r : Reading) → contents_fault expected r ≡ None
         → AreContentsOf expected (contents_in (files_by_blocks expected r)) }
+{}
+
+/// The fault of the blocks that is reported is the first: each block of contents in its turn is
+/// tested against the next file that is expected, then the framing behind them, and at the end that
+/// no file is left.
+pub fn the_first_fault_of_contents_is_reported()
+    ensures { (expected : List Expected) (r : Reading) (c : Cause)
+        → contents_fault expected r ≡ Some c → IsFirstContentsFault expected r c }
 {}
 
 /// The first failed test of a package is that of its values, and where they are good that of the

@@ -1,6 +1,6 @@
 use Rattle.std.proofs.Common.{ℕ, List, [], ◌∷◌, ◌++◌, ◌∙◌, ap, sym}
 use Rattle.std.specs.Prelude.{bytes_eq}
-use Rattle.db_core.proofs.PathParts.{front_differs, front_same, path_at_root, path_below}
+use Rattle.db_core.proofs.PathParts.{front_differs, front_same, path_below}
 use Rattle.db_core.proofs.listed_paths.is_path.Goals as goal
 
 abbrev slash : List ℕ

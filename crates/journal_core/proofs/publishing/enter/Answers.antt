@@ -1,9 +1,12 @@
-use Rattle.std.proofs.Common.{◌∙◌}
+use Rattle.std.proofs.Common.{◌∙◌, ◌≡◌, ◌⊎◌, inl, inr}
+use Rattle.journal_core.specs.Recovery.{intent_name, stage_name}
 use Rattle.base_core.specs.Tree.{CanRename}
 use Rattle.journal_core.proofs.History.{on_observable}
 use Rattle.journal_core.proofs.OneCall.{now_is}
 use Rattle.journal_core.proofs.Chain.{IsAny, any_now, proper_now, step_now}
 use Rattle.journal_core.proofs.Entered.{first_failed, first_done, rename_failed, rename_done, last_called, last_entered, last_acting}
+use Rattle.journal_core.proofs.Keeping.{keeps_now, keeps_renamed, keeps_synced}
+use Rattle.journal_core.proofs.Lasting.{enter_last, enter_moved, enter_rename_failed, enter_renamed, enter_sync_failed, enter_synced}
 use Rattle.journal_core.proofs.publishing.enter.Goals as goal
 
 pub returns-in_err-sync_all_names-clause-moments : goal.returns-in_err-sync_all_names-clause-moments
@@ -49,3 +52,44 @@ returns-clause-proper g c =
     proper_now IsAny _ _ _ c.sync_all_names-2.result (step_now (CanRename c.args.place.now c.args.name.now) IsAny _ _ _ can c.in_ok-rename.ensures.moves (λ w q. tt)) c.sync_all_names-2.ensures.counts (λ w q. tt)
     ∙ proper_now (CanRename c.args.place.now c.args.name.now) _ _ _ _ can c.in_ok-rename.ensures.counts (λ w q. q)
     ∙ proper_now IsAny _ _ _ _ (any_now _ v rest is) c.in_ok-sync_all_names.ensures.counts (λ w q. tt))
+
+pub returns-in_err-sync_all_names-clause-last : goal.returns-in_err-sync_all_names-clause-last
+returns-in_err-sync_all_names-clause-last g c =
+    on_observable (g.T.Tree.history c.args.tree.now) _ (λ v rest is none.
+    enter_sync_failed _ _ c.requires.place c.requires.name v _ rest is none (g.T.Tree.history c.args.tree.now) _ _ c.in_err-sync_all_names.ensures.moves)
+
+pub returns-in_err-rename-clause-last : goal.returns-in_err-rename-clause-last
+returns-in_err-rename-clause-last g c =
+    on_observable (g.T.Tree.history c.args.tree.now) _ (λ v rest is none.
+    enter_rename_failed _ _ c.requires.place c.requires.name v _ rest is none _ _ _
+    (enter_synced _ _ c.requires.place c.requires.name v _ rest is none (g.T.Tree.history c.args.tree.now) _ _ c.in_ok-sync_all_names.ensures.moves) c.in_err-rename.ensures.moves)
+
+pub returns-clause-last : goal.returns-clause-last
+returns-clause-last g c =
+    on_observable (g.T.Tree.history c.args.tree.now) _ (λ v rest is none.
+    enter_last _ _ c.requires.place c.requires.name v _ rest is none _ _ c.sync_all_names-2.result
+    (enter_renamed _ _ c.requires.place c.requires.name v _ rest is none _ _ _
+    (enter_synced _ _ c.requires.place c.requires.name v _ rest is none (g.T.Tree.history c.args.tree.now) _ _ c.in_ok-sync_all_names.ensures.moves) c.in_ok-rename.ensures.moves) c.sync_all_names-2.ensures.moves)
+
+pub returns-in_err-sync_all_names-clause-others : goal.returns-in_err-sync_all_names-clause-others
+returns-in_err-sync_all_names-clause-others g c =
+    on_observable (g.T.Tree.history c.args.tree.now) _ (λ v rest is.
+    keeps_synced (λ q. (q ≡ intent_name) ⊎ (q ≡ stage_name 0)) v _ _ _ (keeps_now (λ q. (q ≡ intent_name) ⊎ (q ≡ stage_name 0)) _ v rest is) c.in_err-sync_all_names.ensures.moves)
+
+pub returns-in_err-rename-clause-others : goal.returns-in_err-rename-clause-others
+returns-in_err-rename-clause-others g c =
+    on_observable (g.T.Tree.history c.args.tree.now) _ (λ v rest is.
+    keeps_renamed (λ q. (q ≡ intent_name) ⊎ (q ≡ stage_name 0)) v _ _ _
+    (keeps_synced (λ q. (q ≡ intent_name) ⊎ (q ≡ stage_name 0)) v _ _ _ (keeps_now (λ q. (q ≡ intent_name) ⊎ (q ≡ stage_name 0)) _ v rest is) c.in_ok-sync_all_names.ensures.moves)
+    _ _ (inr c.requires.place) (inl c.requires.name) c.in_err-rename.ensures.moves)
+
+pub returns-clause-others : goal.returns-clause-others
+returns-clause-others g c =
+    on_observable (g.T.Tree.history c.args.tree.now) _ (λ v rest is.
+    keeps_synced (λ q. (q ≡ intent_name) ⊎ (q ≡ stage_name 0)) v _ _ c.sync_all_names-2.result
+    (keeps_renamed (λ q. (q ≡ intent_name) ⊎ (q ≡ stage_name 0)) v _ _ _
+    (keeps_synced (λ q. (q ≡ intent_name) ⊎ (q ≡ stage_name 0)) v _ _ _ (keeps_now (λ q. (q ≡ intent_name) ⊎ (q ≡ stage_name 0)) _ v rest is) c.in_ok-sync_all_names.ensures.moves)
+    _ _ (inr c.requires.place) (inl c.requires.name) c.in_ok-rename.ensures.moves) c.sync_all_names-2.ensures.moves)
+
+pub returns-clause-moved : goal.returns-clause-moved
+returns-clause-moved g c = enter_moved _ _ c.requires.place c.requires.name _ _ _ _ c.in_ok-rename.ensures.moves c.sync_all_names-2.result c.sync_all_names-2.ensures.moves

@@ -3,6 +3,8 @@ use Rattle.journal_core.specs.Acting.{acting_stage, full_stage}
 use Rattle.journal_core.proofs.History.{on_observable, observable_at}
 use Rattle.journal_core.proofs.Published.{few_writes, write_moments, enter_moments, enter_settled, enter_published, enter_acting, write_may, enter_proper}
 use Rattle.base_core.specs.Tree.{CanCreate}
+use Rattle.journal_core.proofs.Keeping.{published_keeps, published_reads, written_keeps}
+use Rattle.journal_core.proofs.Lasting.{published_last, written_last}
 use Rattle.journal_core.proofs.publishing.publish_intent.Goals as goal
 
 pub returns-in_err-write_waiting-clause-moments : goal.returns-in_err-write_waiting-clause-moments
@@ -40,3 +42,20 @@ returns-clause-proper g c =
     on_observable (g.T.Tree.history c.args.tree.now) _ (λ v rest is contents base staged room.
     enter_proper (full_stage c.args.intent.now) contents base v staged refl (few_writes _ _ c.names_are_free.ensures.few) c.names_are_free.ensures.free _ c.file.ensures _ c.stage_name.ensures _ rest _ (g.T.Tree.history c.args.tree.now) is room _ _ c.stage_name-2.ensures c.name.ensures _ _ c.in_ok-write_waiting.ensures.written c.enter.ensures.proper
     ∙ observable_at _ v rest is (λ u. CanCreate c.stage_name.result.now u → _) c.write_waiting.ensures.proper (write_may (full_stage c.args.intent.now) contents base v staged refl (few_writes _ _ c.names_are_free.ensures.few) c.names_are_free.ensures.free _ c.file.ensures _ c.stage_name.ensures _ rest (g.T.Tree.history c.args.tree.now) (g.T.Tree.history c.args.tree.now) is room))
+
+pub returns-in_err-write_waiting-clause-last : goal.returns-in_err-write_waiting-clause-last
+returns-in_err-write_waiting-clause-last g c = written_last _ _ (g.T.Tree.history c.args.tree.now) c.write_waiting.ensures.unread
+
+pub returns-clause-last : goal.returns-clause-last
+returns-clause-last g c = published_last _ _ _ c.write_waiting.ensures.unread c.enter.ensures.last
+
+pub returns-in_err-write_waiting-clause-others : goal.returns-in_err-write_waiting-clause-others
+returns-in_err-write_waiting-clause-others g c = written_keeps _ c.stage_name.ensures _ _ (g.T.Tree.history c.args.tree.now) c.write_waiting.ensures.others
+
+pub returns-clause-others : goal.returns-clause-others
+returns-clause-others g c = published_keeps _ c.stage_name.ensures _ _ _ c.write_waiting.ensures.others c.enter.ensures.others
+
+pub returns-clause-reads : goal.returns-clause-reads
+returns-clause-reads g c =
+    published_reads _ c.stage_name.ensures _ (g.T.Tree.history c.args.tree.now) _ c.enter.result c.in_ok-write_waiting.ensures.absent
+    (published_keeps _ c.stage_name.ensures _ _ _ c.write_waiting.ensures.others c.enter.ensures.others) c.enter.ensures.moved

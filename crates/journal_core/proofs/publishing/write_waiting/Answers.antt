@@ -1,9 +1,11 @@
-use Rattle.std.proofs.Common.{◌∙◌, ◌++◌, false}
+use Rattle.std.proofs.Common.{◌∙◌, ◌++◌, false, refl}
 use Rattle.base_core.specs.Tree.{CanCreate, HasName, File}
 use Rattle.journal_core.proofs.History.{on_observable, observable_at}
 use Rattle.journal_core.proofs.OneCall.{now_is, whole_now}
 use Rattle.journal_core.proofs.Chain.{proper_now, step_now}
 use Rattle.journal_core.proofs.Written.{make_failed, make_done, extend_failed, extend_done, sync_called, last_written, some_created, some_changed}
+use Rattle.journal_core.proofs.Keeping.{append_keeps_waiting, create_keeps, sync_keeps_waiting}
+use Rattle.journal_core.proofs.Lasting.{fill_done as unread_filled, fill_failed as unread_fill_failed, make_done as unread_made, make_failed as unread_make_failed, ok_absent, sync_done as unread_synced}
 use Rattle.journal_core.proofs.publishing.write_waiting.Goals as goal
 
 pub returns-in_err-create-clause-moments : goal.returns-in_err-create-clause-moments
@@ -51,3 +53,37 @@ returns-clause-proper g c =
     proper_now (HasName c.args.place.now) _ _ _ c.sync_file.result full_stage c.sync_file.ensures.counts (λ w q. q)
     ∙ proper_now (HasName c.args.place.now) _ _ _ _ made c.in_ok-append.ensures.counts (λ w q. q)
     ∙ proper_now (CanCreate c.args.place.now) _ _ _ _ (now_is _ v rest _ is may) c.in_ok-create.ensures.counts (λ w q. q))
+
+pub returns-in_err-create-clause-unread : goal.returns-in_err-create-clause-unread
+returns-in_err-create-clause-unread g c =
+    on_observable (g.T.Tree.history c.args.tree.now) _ (λ v rest is none.
+    unread_make_failed _ c.requires v _ rest is none (g.T.Tree.history c.args.tree.now) _ _ c.in_err-create.ensures.moves)
+
+pub returns-in_err-append-clause-unread : goal.returns-in_err-append-clause-unread
+returns-in_err-append-clause-unread g c =
+    on_observable (g.T.Tree.history c.args.tree.now) _ (λ v rest is none.
+    unread_fill_failed _ c.requires v _ rest is none _ _ c.args.bytes.now _
+    (unread_made _ c.requires v _ rest is none (g.T.Tree.history c.args.tree.now) _ _ c.in_ok-create.ensures.moves) c.in_err-append.ensures.moves)
+
+pub returns-clause-unread : goal.returns-clause-unread
+returns-clause-unread g c =
+    on_observable (g.T.Tree.history c.args.tree.now) _ (λ v rest is none.
+    unread_synced _ c.requires v _ rest is none _ _ c.sync_file.result
+    (unread_filled _ c.requires v _ rest is none _ _ c.args.bytes.now _
+    (unread_made _ c.requires v _ rest is none (g.T.Tree.history c.args.tree.now) _ _ c.in_ok-create.ensures.moves) c.in_ok-append.ensures.moves) c.sync_file.ensures.moves)
+
+pub returns-in_err-create-clause-others : goal.returns-in_err-create-clause-others
+returns-in_err-create-clause-others g c = create_keeps _ _ c.args.place.now c.args.place.now refl _ c.in_err-create.ensures.moves (g.met.T.Tree.whole c.args.tree.now)
+
+pub returns-in_err-append-clause-others : goal.returns-in_err-append-clause-others
+returns-in_err-append-clause-others g c =
+    on_observable (g.T.Tree.history c.args.tree.now) _ (λ v rest is.
+    append_keeps_waiting c.args.place.now v (whole_now _ v rest is (g.met.T.Tree.whole c.args.tree.now)) _ rest is _ _ c.in_ok-create.ensures.moves c.args.bytes.now _ _ c.in_err-append.ensures.moves)
+
+pub returns-clause-others : goal.returns-clause-others
+returns-clause-others g c =
+    on_observable (g.T.Tree.history c.args.tree.now) _ (λ v rest is.
+    sync_keeps_waiting c.args.place.now v (whole_now _ v rest is (g.met.T.Tree.whole c.args.tree.now)) _ rest is _ _ c.in_ok-create.ensures.moves c.args.bytes.now _ _ _ c.sync_file.result c.in_ok-append.ensures.moves c.sync_file.ensures.moves)
+
+pub returns-clause-absent : goal.returns-clause-absent
+returns-clause-absent g c = ok_absent c.sync_file.result _ c.args.place.now c.in_ok-create.ensures.counts.allowed

@@ -1,5 +1,6 @@
 use Rattle.std.proofs.Common.{refl}
 use Rattle.journal_core.proofs.Cleaned.{empty_emptied, empty_idle, empty_moments, empty_none}
+use Rattle.journal_core.proofs.Lasting.{stays_back}
 use Rattle.journal_core.proofs.recovering.empty_stage.Goals as goal
 
 pub returns-in_err-folder-clause-moments : goal.returns-in_err-folder-clause-moments
@@ -27,3 +28,6 @@ returns-in_err-remove_all-clause-idle g c =
 pub returns-clause-idle : goal.returns-clause-idle
 returns-clause-idle g c =
     empty_idle _ _ c.in_ok-folder.ensures _ _ _ c.list.ensures.same c.in_ok-names.ensures.value c.remove_all.ensures.none
+
+pub returns-clause-gone : goal.returns-clause-gone
+returns-clause-gone g c = stays_back _ _ _ c.list.ensures.same c.in_ok-remove_all.ensures.gone

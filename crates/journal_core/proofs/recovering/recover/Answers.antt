@@ -1,5 +1,6 @@
 use Rattle.std.proofs.Common.{rules}
 use Rattle.journal_core.proofs.Cleaned.{all_files, all_moments, all_settled}
+use Rattle.journal_core.proofs.Lasting.{all_gone}
 use Rattle.journal_core.proofs.recovering.recover.Goals as goal
 
 pub returns-in_err-empty_stage-clause-moments : goal.returns-in_err-empty_stage-clause-moments
@@ -16,3 +17,6 @@ returns-clause-settled g c = all_settled _ _ _ c.replay.ensures.moments c.in_ok-
 
 pub returns-in_err-replay-clause-bad : goal.returns-in_err-replay-clause-bad
 returns-in_err-replay-clause-bad g c = λ cause e. c.in_err-replay.ensures.bad cause (search rules)
+
+pub returns-clause-gone : goal.returns-clause-gone
+returns-clause-gone g c = all_gone _ _ _ c.in_ok-replay.ensures.replayed c.in_ok-replay.ensures.gone c.in_ok-empty_stage.ensures.gone

@@ -2,6 +2,7 @@ use Rattle.std.proofs.Common.{◌≡◌, [], take}
 use Rattle.base_core.specs.Calls.{IfObservable}
 use Rattle.base_core.specs.Faults.{GoesOn, IsNoFault}
 use Rattle.journal_core.proofs.Emptied.{Cleared, Gone}
+use Rattle.journal_core.proofs.Lasting.{Stays}
 use Rattle.journal_core.proofs.recovering.remove_all.Given as goal
 
 abbrev pub invariant-loop-i : goal.invariant-loop-i
@@ -11,4 +12,5 @@ invariant-loop-i g l =
     × GoesOn (g.T.Tree.counts l.fn.tree) (g.T.Tree.counts l.tree)
     × IsNoFault (g.T.Tree.counts l.fn.tree) (g.T.Tree.counts l.tree)
     × IfObservable (g.T.Tree.history l.fn.tree) (λ v. (g.T.Tree.counts l.tree).misuses ≡ (g.T.Tree.counts l.fn.tree).misuses)
+    × Stays (g.T.Tree.history l.fn.tree) (g.T.Tree.history l.tree)
     × (l.names ≡ [] → g.T.Tree.history l.tree ≡ g.T.Tree.history l.fn.tree)

@@ -1,4 +1,5 @@
 use Rattle.journal_core.proofs.Replaying.{absent_good, absent_replayed, absent_settled, found_bad, found_good_called, found_idle, found_moments, found_proper, found_replayed, found_settled, none_found, some_found}
+use Rattle.journal_core.proofs.Lasting.{found_gone, none_gone}
 use Rattle.journal_core.proofs.recovering.replay.Goals as goal
 
 pub returns-in-Some-clause-moments : goal.returns-in-Some-clause-moments
@@ -30,3 +31,9 @@ returns-clause-settled g c = absent_settled _ _ c.read_all.ensures.tree.same _ c
 
 pub returns-clause-good : goal.returns-clause-good
 returns-clause-good g c = absent_good _ _ c.read_all.ensures.tree.same _ c.in_ok-name.ensures (none_found _ _ _ c.in_ok-file.ensures.answer c.in-None.is)
+
+pub returns-in-Some-clause-gone : goal.returns-in-Some-clause-gone
+returns-in-Some-clause-gone g c = found_gone c.replay_file.result (g.T.Tree.history c.args.tree.now) _ c.replay_file.ensures.gone
+
+pub returns-clause-gone : goal.returns-clause-gone
+returns-clause-gone g c = none_gone _ _ _ c.in_ok-name.ensures (none_found _ _ _ c.in_ok-file.ensures.answer c.in-None.is)

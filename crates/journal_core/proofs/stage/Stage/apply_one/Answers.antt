@@ -2,6 +2,7 @@ use Rattle.std.proofs.Common.{refl, sym, ap}
 use Rattle.journal_core.specs.Acting.{acting_stage}
 use Rattle.journal_core.specs.Staged.{Staging}
 use Rattle.journal_core.proofs.Again.{moments_as, behind_as}
+use Rattle.journal_core.proofs.Keeping.{action_keeps_as}
 use Rattle.journal_core.proofs.stage.Stage.apply_one.Goals as goal
 
 pub returns-in_err-acted-clause-moments : goal.returns-in_err-acted-clause-moments
@@ -16,3 +17,9 @@ pub returns-clause-acting : goal.returns-clause-acting
 returns-clause-acting g c =
     behind_as c.args.self.now (acting_stage c.self.inside.intent c.self.inside.acted) (acting_stage c.self.inside.intent c.in_ok-acted.acted) _ _ _
     (ap (λ (s : Staging). s.intent) (sym c.self.view_is)) (ap (λ (s : Staging). s.acted) (sym c.self.view_is)) refl refl c.in_ok-acted.ensures.acting
+
+pub returns-in_err-acted-clause-others : goal.returns-in_err-acted-clause-others
+returns-in_err-acted-clause-others g c = action_keeps_as _ _ _ _ _ _ (ap (λ (s : Staging). s.intent) c.self.view_is) (ap (λ (s : Staging). s.acted) c.self.view_is) c.act.ensures.others
+
+pub returns-clause-others : goal.returns-clause-others
+returns-clause-others g c = action_keeps_as _ _ _ _ _ _ (ap (λ (s : Staging). s.intent) c.self.view_is) (ap (λ (s : Staging). s.acted) c.self.view_is) c.act.ensures.others

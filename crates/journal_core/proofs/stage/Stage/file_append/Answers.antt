@@ -1,4 +1,5 @@
-use Rattle.journal_core.proofs.Filed.{append_moments, append_staged_called, append_others, append_proper}
+use Rattle.journal_core.proofs.Filed.{append_moments, append_staged_called, append_proper}
+use Rattle.journal_core.proofs.Keeping.{append_keeps}
 use Rattle.journal_core.proofs.stage.Stage.file_append.Goals as goal
 
 pub returns-clause-moments : goal.returns-clause-moments
@@ -10,8 +11,7 @@ returns-clause-staged g c =
     append_staged_called (record { left = c.a_crash_may_leave_the_files_as_read.ensures.by_map; outlasts = c.order_outlasts_a_crash.ensures }) _ _ _ _ c.open_name.ensures c.args.piece.now _ c.append.ensures.moves
 
 pub returns-clause-others : goal.returns-clause-others
-returns-clause-others g c =
-    append_others (record { left = c.a_crash_may_leave_the_files_as_read.ensures.by_map; outlasts = c.order_outlasts_a_crash.ensures }) _ _ _ _ c.open_name.ensures _ c.args.piece.now c.append.ensures.moves
+returns-clause-others g c = append_keeps _ _ _ _ c.open_name.ensures.is _ c.args.piece.now c.append.ensures.moves
 
 pub returns-clause-proper : goal.returns-clause-proper
 returns-clause-proper g c =

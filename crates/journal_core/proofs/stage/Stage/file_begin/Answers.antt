@@ -1,6 +1,7 @@
 use Rattle.std.proofs.Common.{ap}
 use Rattle.journal_core.specs.Staged.{Staging}
-use Rattle.journal_core.proofs.Filed.{begin_moments, begin_staged, begin_others, begin_proper}
+use Rattle.journal_core.proofs.Filed.{begin_moments, begin_staged, begin_proper}
+use Rattle.journal_core.proofs.Keeping.{create_keeps}
 use Rattle.journal_core.proofs.stage.Stage.file_begin.Goals as goal
 
 pub returns-in_err-create-clause-moments : goal.returns-in_err-create-clause-moments
@@ -8,8 +9,7 @@ returns-in_err-create-clause-moments g c =
     begin_moments (record { left = c.a_crash_may_leave_the_files_as_read.ensures.by_map; outlasts = c.order_outlasts_a_crash.ensures }) _ _ _ _ c.next_name.ensures _ c.in_err-create.ensures.moves (g.met.T.Tree.whole c.args.tree.now)
 
 pub returns-in_err-create-clause-others : goal.returns-in_err-create-clause-others
-returns-in_err-create-clause-others g c =
-    begin_others (record { left = c.a_crash_may_leave_the_files_as_read.ensures.by_map; outlasts = c.order_outlasts_a_crash.ensures }) _ _ _ _ c.next_name.ensures _ c.in_err-create.ensures.moves (g.met.T.Tree.whole c.args.tree.now)
+returns-in_err-create-clause-others g c = create_keeps _ _ _ _ c.next_name.ensures.is _ c.in_err-create.ensures.moves (g.met.T.Tree.whole c.args.tree.now)
 
 pub returns-in_err-create-clause-proper : goal.returns-in_err-create-clause-proper
 returns-in_err-create-clause-proper g c =
@@ -20,8 +20,7 @@ returns-clause-moments g c =
     begin_moments (record { left = c.a_crash_may_leave_the_files_as_read.ensures.by_map; outlasts = c.order_outlasts_a_crash.ensures }) _ _ _ _ c.next_name.ensures _ c.in_ok-create.ensures.moves (g.met.T.Tree.whole c.args.tree.now)
 
 pub returns-clause-others : goal.returns-clause-others
-returns-clause-others g c =
-    begin_others (record { left = c.a_crash_may_leave_the_files_as_read.ensures.by_map; outlasts = c.order_outlasts_a_crash.ensures }) _ _ _ _ c.next_name.ensures _ c.in_ok-create.ensures.moves (g.met.T.Tree.whole c.args.tree.now)
+returns-clause-others g c = create_keeps _ _ _ _ c.next_name.ensures.is _ c.in_ok-create.ensures.moves (g.met.T.Tree.whole c.args.tree.now)
 
 pub returns-clause-staged : goal.returns-clause-staged
 returns-clause-staged g c =

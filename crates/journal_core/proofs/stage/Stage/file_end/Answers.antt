@@ -1,6 +1,7 @@
 use Rattle.std.proofs.Common.{ap, ◌+◌}
 use Rattle.journal_core.specs.Staged.{Staging}
 use Rattle.journal_core.proofs.Filed.{end_moments, end_staged, append_proper}
+use Rattle.journal_core.proofs.Keeping.{sync_keeps}
 use Rattle.journal_core.proofs.stage.Stage.file_end.Goals as goal
 
 pub returns-in_err-sync_file-clause-moments : goal.returns-in_err-sync_file-clause-moments
@@ -18,3 +19,9 @@ returns-clause-moments g c =
 pub returns-clause-staged : goal.returns-clause-staged
 returns-clause-staged g c =
     end_staged (record { left = c.a_crash_may_leave_the_files_as_read.ensures.by_map; outlasts = c.order_outlasts_a_crash.ensures }) _ _ _ _ _ c.open_name.ensures _ c.in_ok-sync_file.ensures.moves (ap (λ (s : Staging). s.staged + 1) c.self.view_is)
+
+pub returns-in_err-sync_file-clause-others : goal.returns-in_err-sync_file-clause-others
+returns-in_err-sync_file-clause-others g c = sync_keeps _ _ _ _ c.in_err-sync_file.ensures.moves
+
+pub returns-clause-others : goal.returns-clause-others
+returns-clause-others g c = sync_keeps _ _ _ _ c.in_ok-sync_file.ensures.moves

@@ -1,10 +1,13 @@
-use Rattle.std.proofs.Common.{◌∙◌}
+use Rattle.std.proofs.Common.{◌∙◌, ◌≡◌, refl}
+use Rattle.journal_core.specs.Recovery.{intent_name}
 use Rattle.journal_core.proofs.History.{on_observable}
 use Rattle.journal_core.specs.Quiet.{IsStill}
 use Rattle.journal_core.proofs.OneCall.{one_failed}
 use Rattle.journal_core.proofs.Waiting.{still_self}
 use Rattle.journal_core.proofs.Chain.{IsAny, any_now, any_step, proper_now}
 use Rattle.journal_core.proofs.Finishing.{sync_done, drop_failed, drop_done, last_called, last_settled, last_files}
+use Rattle.journal_core.proofs.Keeping.{keeps_now, keeps_removed, keeps_synced}
+use Rattle.journal_core.proofs.Lasting.{finish_gone, finish_last, finish_remove_failed, finish_removed, finish_sync_failed, finish_synced}
 use Rattle.journal_core.proofs.stage.Stage.finish.Goals as goal
 
 pub returns-in_err-sync_all_names-clause-moments : goal.returns-in_err-sync_all_names-clause-moments
@@ -55,3 +58,44 @@ returns-clause-proper g c =
     proper_now IsAny _ _ _ c.sync_all_names-2.result (any_step _ _ _ first c.in_ok-remove.ensures.moves) c.sync_all_names-2.ensures.counts (λ w q. tt)
     ∙ proper_now IsAny _ _ _ _ first c.in_ok-remove.ensures.counts (λ w q. tt)
     ∙ proper_now IsAny _ _ _ _ (any_now _ v rest is) c.in_ok-sync_all_names.ensures.counts (λ w q. tt))
+
+pub returns-in_err-sync_all_names-clause-last : goal.returns-in_err-sync_all_names-clause-last
+returns-in_err-sync_all_names-clause-last g c =
+    on_observable (g.T.Tree.history c.args.tree.now) _ (λ v rest is some.
+    finish_sync_failed intent_name refl v _ rest is some (g.T.Tree.history c.args.tree.now) _ _ c.in_err-sync_all_names.ensures.moves)
+
+pub returns-in_err-remove-clause-last : goal.returns-in_err-remove-clause-last
+returns-in_err-remove-clause-last g c =
+    on_observable (g.T.Tree.history c.args.tree.now) _ (λ v rest is some.
+    finish_remove_failed _ c.name.ensures v _ rest is some _ _ _
+    (finish_synced _ c.name.ensures v _ rest is some (g.T.Tree.history c.args.tree.now) _ _ c.in_ok-sync_all_names.ensures.moves) c.in_err-remove.ensures.moves)
+
+pub returns-clause-last : goal.returns-clause-last
+returns-clause-last g c =
+    on_observable (g.T.Tree.history c.args.tree.now) _ (λ v rest is some.
+    finish_last _ c.name.ensures v _ rest is some _ _ c.sync_all_names-2.result
+    (finish_removed _ c.name.ensures v _ rest is some _ _ _
+    (finish_synced _ c.name.ensures v _ rest is some (g.T.Tree.history c.args.tree.now) _ _ c.in_ok-sync_all_names.ensures.moves) c.in_ok-remove.ensures.moves) c.sync_all_names-2.ensures.moves)
+
+pub returns-clause-gone : goal.returns-clause-gone
+returns-clause-gone g c = finish_gone _ c.name.ensures _ _ _ _ c.in_ok-remove.ensures.moves c.sync_all_names-2.result c.sync_all_names-2.ensures.moves
+
+pub returns-in_err-sync_all_names-clause-others : goal.returns-in_err-sync_all_names-clause-others
+returns-in_err-sync_all_names-clause-others g c =
+    on_observable (g.T.Tree.history c.args.tree.now) _ (λ v rest is.
+    keeps_synced (λ q. q ≡ intent_name) v _ _ _ (keeps_now (λ q. q ≡ intent_name) _ v rest is) c.in_err-sync_all_names.ensures.moves)
+
+pub returns-in_err-remove-clause-others : goal.returns-in_err-remove-clause-others
+returns-in_err-remove-clause-others g c =
+    on_observable (g.T.Tree.history c.args.tree.now) _ (λ v rest is.
+    keeps_removed (λ q. q ≡ intent_name) v _ _ _
+    (keeps_synced (λ q. q ≡ intent_name) v _ _ _ (keeps_now (λ q. q ≡ intent_name) _ v rest is) c.in_ok-sync_all_names.ensures.moves)
+    _ c.name.ensures c.in_err-remove.ensures.moves)
+
+pub returns-clause-others : goal.returns-clause-others
+returns-clause-others g c =
+    on_observable (g.T.Tree.history c.args.tree.now) _ (λ v rest is.
+    keeps_synced (λ q. q ≡ intent_name) v _ _ c.sync_all_names-2.result
+    (keeps_removed (λ q. q ≡ intent_name) v _ _ _
+    (keeps_synced (λ q. q ≡ intent_name) v _ _ _ (keeps_now (λ q. q ≡ intent_name) _ v rest is) c.in_ok-sync_all_names.ensures.moves)
+    _ c.name.ensures c.in_ok-remove.ensures.moves) c.sync_all_names-2.ensures.moves)

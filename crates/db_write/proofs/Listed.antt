@@ -1,0 +1,25 @@
+-- How many files members list.
+use Rattle.std.proofs.Common.{◌≡◌, ℕ, suc, zero, ◌+◌, ◌<◌, List, [], ◌∷◌, ◌++◌, length, Option, Some, None, refl, ap, sym, ◌∙◌, arith, length-append}
+use Rattle.std.specs.Prelude.{slice_get}
+use Rattle.adb_view.specs.Plain.{Plain}
+use Rattle.adb_fields.specs.Repeated.{files_in, folders_in, name_of}
+use Rattle.db_core.specs.Members.{Member, listings_by, listings_from, listings_in_folder, listings_in_folders, member_listings}
+use Rattle.db_write.specs.NewDatabase.{file_count, member_file_count, total_of}
+
+pub in_folder : (m : Member) (place folder i : ℕ) (above : List ℕ) (entries : List Plain) → length (listings_in_folder m place folder i above entries) ≡ length entries
+in_folder m place folder i above [] = refl
+in_folder m place folder i above (e ∷ entries) = ap suc (in_folder m place folder (i + 1) above entries)
+
+pub in_folders : (m : Member) (place i : ℕ) (folders : List Plain) → length (listings_in_folders m place i folders) ≡ total_of file_count folders
+in_folders m place i [] = refl
+in_folders m place i (d ∷ folders) =
+    length-append (listings_in_folder m place i 1 (name_of d) (files_in d)) (listings_in_folders m place (i + 1) folders)
+    ∙ (λ j. in_folder m place i 1 (name_of d) (files_in d) j + in_folders m place (i + 1) folders j)
+
+-- ---- a member by its parts
+
+pub member_there : (members : List Member) (i : ℕ) (v : Plain) (id : Option (List ℕ)) → i < length members → ((m : Member) → slice_get members i ≡ Some m → v ≡ m.pkg) → ((m : Member) → slice_get members i ≡ Some m → id ≡ m.id)
+    → slice_get members i ≡ Some (record { pkg = v; id = id })
+member_there [] i v id h f g = absurd (omega arith)
+member_there (m ∷ members) zero v id h f g = λ j. Some (record { pkg = sym (f m refl) j; id = sym (g m refl) j })
+member_there (m ∷ members) (suc i) v id h f g = member_there members i v id (omega arith) f g

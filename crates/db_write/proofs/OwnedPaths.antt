@@ -1,0 +1,115 @@
+-- The database lists the files that are owned, and no others.
+use Rattle.std.proofs.Common.{◌≡◌, ℕ, suc, zero, ◌+◌, Bool, true, false, List, [], ◌∷◌, ◌++◌, map, drop, length, Option, Some, None, refl, ap, sym, ◌∙◌}
+use Rattle.std.proofs.lemmas.List.{map-append}
+use Rattle.std.specs.List.{flat_map}
+use Rattle.adb_view.specs.Plain.{Plain, null, int, blob, arr, obj, Plains, none, more, arr_value, blob_value, obj_of, obj_value, without_last_nulls}
+use Rattle.adb_tables.specs.Values.{entries_in, entry_in, int_in, nth, text_in}
+use Rattle.adb_fields.specs.Paths.{path_of}
+use Rattle.adb_fields.specs.Repeated.{files_in, folders_in, list_of, name_of, paths_in, paths_under}
+use Rattle.adb_copy.specs.Zeros.{all_without_zeros, int_value, without_zeros}
+use Rattle.adb_copy.proofs.Zeros.{nth_obj, nth_zeros}
+use Rattle.db_core.specs.Members.{Listing, Member, listings_by, listings_from, listings_in_folder, listings_in_folders, member_listings}
+use Rattle.db_write.specs.NewDatabase.{each_by_flags, file_count, folder_after, folders_after, info_after, member_file_count, owned_entries, package_after, packages_after}
+use Rattle.db_write.specs.OwnedListings.{owned_listings, owned_paths}
+use Rattle.db_write.proofs.Listed.{in_folder, in_folders}
+
+-- ---- a name without zeros
+
+text_zeros : (v : Plain) → text_in (without_zeros v) ≡ text_in v
+unfolding without_zeros
+text_zeros null = refl
+text_zeros (int zero) = refl
+text_zeros (int (suc n)) = refl
+text_zeros (blob []) = refl
+text_zeros (blob (x ∷ xs)) = refl
+text_zeros (arr none) = refl
+text_zeros (arr (more v vs)) = refl
+text_zeros (obj vs) = go (without_last_nulls (all_without_zeros vs))
+  where
+    go : (us : Plains) → text_in (obj_of us) ≡ []
+    go none = refl
+    go (more u us) = refl
+
+pub entries_arr : (vs : Plains) → entries_in (arr_value vs) ≡ vs
+entries_arr none = refl
+entries_arr (more v vs) = refl
+
+pub entry_zeros : (v : Plain) (i : ℕ) → entry_in (without_zeros v) i ≡ without_zeros (entry_in v i)
+unfolding without_zeros
+entry_zeros null i = refl
+entry_zeros (int zero) i = refl
+entry_zeros (int (suc n)) i = refl
+entry_zeros (blob []) i = refl
+entry_zeros (blob (x ∷ xs)) i = refl
+entry_zeros (arr vs) i = ap (λ us. nth us i) (entries_arr (all_without_zeros vs)) ∙ nth_zeros vs i
+entry_zeros (obj vs) i = nth_obj (all_without_zeros vs) i ∙ nth_zeros vs i
+
+name_zeros : (v : Plain) → name_of (without_zeros v) ≡ name_of v
+name_zeros v = ap text_in (entry_zeros v 0) ∙ text_zeros (entry_in v 0)
+
+text_blob : (b : List ℕ) → text_in (blob_value b) ≡ b
+text_blob [] = refl
+text_blob (x ∷ xs) = refl
+
+-- ---- listings and their flags
+
+none_owned : (ls : List Listing) → owned_listings ls [] ≡ []
+none_owned [] = refl
+none_owned (l ∷ ls) = refl
+
+owned_joined : (ls others : List Listing) (flags : List Bool) → owned_listings (ls ++ others) flags ≡ owned_listings ls flags ++ owned_listings others (drop (length ls) flags)
+owned_joined [] others flags = refl
+owned_joined (l ∷ ls) others [] = sym (none_owned others)
+owned_joined (l ∷ ls) others (true ∷ flags) = ap (λ r. l ∷ r) (owned_joined ls others flags)
+owned_joined (l ∷ ls) others (false ∷ flags) = owned_joined ls others flags
+
+abbrev paths_of : List Listing → List Bool → List (List ℕ)
+paths_of ls flags = map (λ l. l.path) (owned_listings ls flags)
+
+paths_joined : (ls others : List Listing) (n : ℕ) (flags : List Bool) → length ls ≡ n → paths_of (ls ++ others) flags ≡ paths_of ls flags ++ paths_of others (drop n flags)
+paths_joined ls others n flags e =
+    ap (map (λ l. l.path)) (owned_joined ls others flags)
+    ∙ (map-append (λ l. l.path) (owned_listings ls flags) (owned_listings others (drop (length ls) flags))
+    ∙ ap (λ k. paths_of ls flags ++ paths_of others (drop k flags)) e)
+
+-- ---- folders
+
+files_owned : (m : Member) (place folder i : ℕ) (above : List ℕ) (files : List Plain) (flags : List Bool)
+    → map (λ file. path_of above (name_of file)) (list_of (owned_entries files flags)) ≡ paths_of (listings_in_folder m place folder i above files) flags
+files_owned m place folder i above [] flags = refl
+files_owned m place folder i above (f ∷ files) [] = refl
+files_owned m place folder i above (f ∷ files) (true ∷ flags) = λ j. path_of above (name_zeros f j) ∷ files_owned m place folder (i + 1) above files flags j
+files_owned m place folder i above (f ∷ files) (false ∷ flags) = files_owned m place folder (i + 1) above files flags
+
+folder_owned : (m : Member) (place i : ℕ) (d : Plain) (flags : List Bool) → paths_under (folder_after d flags) ≡ paths_of (listings_in_folder m place i 1 (name_of d) (files_in d)) flags
+folder_owned m place i d flags =
+    let fields : Plains = more (blob_value (name_of d)) (more (without_zeros (entry_in d 1)) (more (arr_value (owned_entries (files_in d) flags)) none)) in
+    let name : name_of (folder_after d flags) ≡ name_of d = ap text_in (nth_obj fields 0) ∙ text_blob (name_of d) in
+    let files : files_in (folder_after d flags) ≡ list_of (owned_entries (files_in d) flags) = ap (λ v. list_of (entries_in v)) (nth_obj fields 2) ∙ ap list_of (entries_arr (owned_entries (files_in d) flags)) in
+    (λ j. map (λ file. path_of (name j) (name_of file)) (files j)) ∙ files_owned m place i 1 (name_of d) (files_in d) flags
+
+folders_owned : (m : Member) (place i : ℕ) (ds : List Plain) (flags : List Bool) → flat_map paths_under (list_of (folders_after ds flags)) ≡ paths_of (listings_in_folders m place i ds) flags
+folders_owned m place i [] flags = refl
+folders_owned m place i (d ∷ ds) flags =
+    (λ j. folder_owned m place i d flags j ++ folders_owned m place (i + 1) ds (drop (file_count d) flags) j)
+    ∙ sym (paths_joined (listings_in_folder m place i 1 (name_of d) (files_in d)) (listings_in_folders m place (i + 1) ds) (file_count d) flags (in_folder m place i 1 (name_of d) (files_in d)))
+
+-- ---- packages
+
+package_owned : (m : Member) (place : ℕ) (flags : List Bool) → paths_in (package_after m flags) ≡ paths_of (listings_by place m) flags
+package_owned m place flags =
+    let folders : folders_in (package_after m flags) ≡ list_of (folders_after (folders_in m.pkg) flags) =
+    ap (λ v. list_of (entries_in v)) (nth_obj (more (info_after m.id (entry_in m.pkg 0)) (more (arr_value (folders_after (folders_in m.pkg) flags))
+    (more (without_zeros (entry_in m.pkg 2)) (more (without_zeros (entry_in m.pkg 3)) (more (int_value (int_in (entry_in m.pkg 4))) none))))) 1)
+    ∙ ap list_of (entries_arr (folders_after (folders_in m.pkg) flags)) in
+    ap (flat_map paths_under) folders ∙ folders_owned m place 1 (folders_in m.pkg) flags
+
+members_owned : (place : ℕ) (members : List Member) (flags : List Bool) → flat_map paths_in (list_of (packages_after members flags)) ≡ paths_of (listings_from place members) flags
+members_owned place [] flags = refl
+members_owned place (m ∷ members) flags =
+    (λ j. package_owned m place flags j ++ members_owned (place + 1) members (drop (member_file_count m) flags) j)
+    ∙ sym (paths_joined (listings_by place m) (listings_from (place + 1) members) (member_file_count m) flags (in_folders m place 1 (folders_in m.pkg)))
+
+pub all_owned_listed : (members : List Member) (flags : List Bool) → flat_map paths_in (list_of (packages_after members flags)) ≡ owned_paths members flags
+unfolding member_listings
+all_owned_listed members flags = members_owned 0 members flags

@@ -1,0 +1,192 @@
+-- What each call leaves of the files as read.
+use Rattle.std.proofs.Common.{◌≡◌, ◌⊎◌, ◌≢◌, inl, inr, ⊎_elim, ℕ, ◌+◌, eqb, Bool, true, false, cond, List, ◌∷◌, [], ◌++◌, length, slice_get, Option, None, Some, Result, Ok, Err, OnOk, refl, sym, ap, subst, ◌∙◌}
+use Rattle.std.specs.List.{All}
+use Rattle.std.proofs.lemmas.Bool.{eqb-true}
+use Rattle.base_core.specs.Calls.{IfObservable, HasNow, Moves}
+use Rattle.base_core.specs.Files.{drop_name}
+use Rattle.base_core.specs.Tree.{TreeState, File, IsWhole, after_append, after_create, after_failed_append, after_remove, after_rename, after_sync, after_sync_names, bytes_at, change_at, files_of, move_at, same_state, set_file, Anywhere, CanCreate, CanRename, HasName}
+use Rattle.journal_core.specs.Acting.{MovesIfThere}
+use Rattle.journal_core.specs.Kept.{IsOfAction, KeepsFilesBut}
+use Rattle.journal_core.specs.Recovery.{Intent, intent_name, stage_name}
+use Rattle.journal_core.specs.Staged.{IsAlone}
+use Rattle.journal_core.proofs.Chain.{by_now, now_both}
+use Rattle.journal_core.proofs.History.{History, now_map, observable_at, observable_map, on_observable}
+use Rattle.journal_core.proofs.OneCall.{now_called, now_done, now_is, whole_now}
+use Rattle.journal_core.proofs.Steps.{bytes_at-set_file, create_alone, create_others, remove_others, set_file-at}
+use Rattle.journal_intent.proofs.AtName.{name_cases, off_name, put_name-at, put_name-off, drop_name-off}
+
+-- ---- the newest state behind a call, whatever it answers
+
+module _ {T E : Type 0} {can : TreeState → Type 0} {done failed : TreeState → TreeState} (Q R : TreeState → Type 0) (new : History) where
+  pub keep_called : (h : History) (r : Result T E) → HasNow h Q → Moves can done failed h new r → ((v : TreeState) → Q v → R (done v)) → ((v : TreeState) → Q v → R v) → ((v : TreeState) → Q v → R (failed v)) → HasNow new R
+  keep_called [] r now moves holds stays fails = absurd now
+  keep_called (v ∷ h) (Ok x) now moves holds stays fails = now_is new (done v) (v ∷ h) R moves.ok (holds v now)
+  keep_called (v ∷ h) (Err e) now moves holds stays fails = ⊎_elim (λ same. now_is new v h R same (stays v now)) (λ more. now_is new (failed v) (v ∷ h) R more.1 (fails v now)) moves.err
+
+-- ---- one step
+
+sync_one : (files : ℕ → File) (n k : ℕ) → (set_file files n (record { bytes = (files n).bytes; synced = true }) k).bytes ≡ (files k).bytes
+sync_one files n k = by (eqb k n) refl
+  where
+    file : File
+    file = record { bytes = (files n).bytes; synced = true }
+
+    by : (b : Bool) → eqb k n ≡ b → (set_file files n file k).bytes ≡ (files k).bytes
+    by true is = ap (λ (f : File). f.bytes) (set_file-at files n file k (eqb-true k n is)) ∙ ap (λ j. (files j).bytes) (sym (eqb-true k n is))
+    by false is = ap (λ b. (cond b file (files k)).bytes) is
+
+sync_bytes : (files : ℕ → File) (n : ℕ) (o : Option ℕ) → bytes_at (set_file files n (record { bytes = (files n).bytes; synced = true })) o ≡ bytes_at files o
+sync_bytes files n None = refl
+sync_bytes files n (Some k) = ap Some (sync_one files n k)
+
+sync_reads_at : (v : TreeState) (o : Option ℕ) (q : List ℕ) → files_of (change_at (λ f. record { bytes = f.bytes; synced = true }) v o) q ≡ files_of v q
+sync_reads_at v None q = refl
+sync_reads_at v (Some n) q = sync_bytes v.files n (v.names q)
+
+moved_others : (from to : List ℕ) (v : TreeState) (o : Option ℕ) (q : List ℕ) → q ≢ from → q ≢ to → files_of (move_at from to v o) q ≡ files_of v q
+moved_others from to v None q nf nt = refl
+moved_others from to v (Some n) q nf nt = ap (bytes_at v.files) (put_name-off (drop_name v.names from) to n q nt ∙ drop_name-off v.names from q nf)
+
+change_others : (change : File → File) (name : List ℕ) (v : TreeState) (n : ℕ) → v.names name ≡ Some n → ((q : List ℕ) → v.names q ≡ Some n → q ≡ name) → KeepsFilesBut (λ q. q ≡ name) v (change_at change v (v.names name))
+change_others change name v n there alone q off =
+    subst (λ o. files_of (change_at change v o) q ≡ files_of v q) (sym there) (bytes_at-set_file v.files n (change (v.files n)) (v.names q) (λ is. off (alone q is)))
+
+-- ---- one call
+
+module _ {T E : Type 0} (old new : History) (name place : List ℕ) (name_is : name ≡ place) (r : Result T E) where
+  pub create_keeps : Moves (CanCreate name) (after_create name) (after_create name) old new r → All IsWhole old → IfObservable old (λ v. HasNow new (KeepsFilesBut (λ q. q ≡ place) v))
+  create_keeps moves whole = on_observable old _ (λ v rest is.
+      let others : KeepsFilesBut (λ q. q ≡ place) v (after_create name v) = λ q off. create_others name v (whole_now old v rest is whole) q (λ e. off (e ∙ name_is)) in
+      now_called old new v rest is (KeepsFilesBut (λ q. q ≡ place) v) r moves others (λ q off. refl) (λ may. others))
+
+  pub append_keeps : (piece : List ℕ) → Moves (HasName name) (after_append name piece) (after_failed_append name) old new r → IfObservable old (λ v. IsAlone place v → HasNow new (KeepsFilesBut (λ q. q ≡ place) v))
+  append_keeps piece moves = on_observable old _ (λ v rest is alone.
+      let own : (q : List ℕ) → v.names q ≡ Some alone.number → q ≡ name = λ q at. alone.alone v.names (inl refl) q at ∙ sym name_is in
+      let there : v.names name ≡ Some alone.number = ap v.names name_is ∙ alone.there in
+      now_called old new v rest is (KeepsFilesBut (λ q. q ≡ place) v) r moves
+      (λ q off. change_others (λ f. record { bytes = f.bytes ++ piece; synced = false }) name v alone.number there own q (λ e. off (e ∙ name_is)))
+      (λ q off. refl)
+      (λ may q off. change_others (λ f. record { bytes = f.bytes; synced = false }) name v alone.number there own q (λ e. off (e ∙ name_is))))
+
+pub sync_keeps : {T E : Type 0} (old new : History) (name : List ℕ) (r : Result T E) → Moves (HasName name) (after_sync name) same_state old new r → IfObservable old (λ v. HasNow new (λ w. files_of w ≡ files_of v))
+sync_keeps old new name r moves = on_observable old _ (λ v rest is. now_called old new v rest is (λ w. files_of w ≡ files_of v) r moves (λ i q. sync_reads_at v (v.names name) q i) refl (λ may. refl))
+
+-- ---- a waiting file is made, filled and synced
+
+record Begun (name : List ℕ) (start v : TreeState) : Type 0 where
+  kept : KeepsFilesBut (λ q. q ≡ name) start v
+  number : ℕ
+  there : v.names name ≡ Some number
+  alone : (q : List ℕ) → v.names q ≡ Some number → q ≡ name
+
+begun_created : (name : List ℕ) (v : TreeState) → IsWhole v → Begun name v (after_create name v)
+begun_created name v whole = record {
+  kept = λ q off. create_others name v whole q off;
+  number = v.made;
+  there = put_name-at v.names name v.made name refl;
+  alone = λ q is. create_alone name v whole (after_create name v).names (inl refl) q is;
+}
+
+begun_changed : (change : File → File) (name : List ℕ) (start v : TreeState) → Begun name start v → Begun name start (change_at change v (v.names name))
+begun_changed change name start v b = subst (λ o. Begun name start (change_at change v o)) (sym b.there) (record {
+  kept = λ q off. bytes_at-set_file v.files b.number (change (v.files b.number)) (v.names q) (λ is. off (b.alone q is)) ∙ b.kept q off;
+  number = b.number;
+  there = b.there;
+  alone = b.alone;
+})
+
+module _ {T E : Type 0} (name : List ℕ) (v : TreeState) (whole : IsWhole v) (old rest : History) (is : old ≡ v ∷ rest) (h : History) (x : T) (first : Moves {E = E} (CanCreate name) (after_create name) (after_create name) old h (Ok x)) where
+  begun_now : HasNow h (Begun name v)
+  begun_now = now_done old h v rest is (Begun name v) x first (begun_created name v whole)
+
+  module _ (piece : List ℕ) (k : History) where
+    pub append_keeps_waiting : {T E : Type 0} (e : E) → Moves {T = T} (HasName name) (after_append name piece) (after_failed_append name) h k (Err e) → HasNow k (KeepsFilesBut (λ q. q ≡ name) v)
+    append_keeps_waiting e second =
+        keep_called (Begun name v) (KeepsFilesBut (λ q. q ≡ name) v) k h (Err e) begun_now second
+        (λ u b. (begun_changed (λ f. record { bytes = f.bytes ++ piece; synced = false }) name v u b).kept) (λ u b. b.kept) (λ u b. (begun_changed (λ f. record { bytes = f.bytes; synced = false }) name v u b).kept)
+
+    pub sync_keeps_waiting : {T E A B : Type 0} (new : History) (y : T) (r : Result A B) → Moves {E = E} (HasName name) (after_append name piece) (after_failed_append name) h k (Ok y) → Moves (HasName name) (after_sync name) same_state k new r
+        → HasNow new (KeepsFilesBut (λ q. q ≡ name) v)
+    sync_keeps_waiting new y r second last =
+        keep_called (Begun name v) (KeepsFilesBut (λ q. q ≡ name) v) new k r
+        (keep_called (Begun name v) (Begun name v) k h (Ok y) begun_now second (begun_changed (λ f. record { bytes = f.bytes ++ piece; synced = false }) name v) (λ u b. b) (begun_changed (λ f. record { bytes = f.bytes; synced = false }) name v))
+        last (λ u b. (begun_changed (λ f. record { bytes = f.bytes; synced = true }) name v u b).kept) (λ u b. b.kept) (λ u b. b.kept)
+
+-- ---- the intent moves to its name
+
+abbrev pub KeepsFree : TreeState → TreeState → Type 0
+KeepsFree = KeepsFilesBut (λ q. (q ≡ intent_name) ⊎ (q ≡ stage_name 0))
+
+pub keeps_now : (these : List ℕ → Type 0) (old : History) (v : TreeState) (rest : History) → old ≡ v ∷ rest → HasNow old (KeepsFilesBut these v)
+keeps_now these old v rest is = now_is old v rest (KeepsFilesBut these v) is (λ q off. refl)
+
+module _ {T E : Type 0} (these : List ℕ → Type 0) (start : TreeState) (h new : History) (r : Result T E) (now : HasNow h (KeepsFilesBut these start)) where
+  pub keeps_synced : Moves Anywhere after_sync_names same_state h new r → HasNow new (KeepsFilesBut these start)
+  keeps_synced moves = keep_called (KeepsFilesBut these start) (KeepsFilesBut these start) new h r now moves (λ u k. k) (λ u k. k) (λ u k. k)
+
+  pub keeps_removed : (name : List ℕ) → these name → Moves Anywhere (after_remove name) (after_remove name) h new r → HasNow new (KeepsFilesBut these start)
+  keeps_removed name among moves =
+      let step : (u : TreeState) → KeepsFilesBut these start u → KeepsFilesBut these start (after_remove name u) = λ u k q off. remove_others name u (u.names name) q (λ e. off (subst these (sym e) among)) ∙ k q off in
+      keep_called (KeepsFilesBut these start) (KeepsFilesBut these start) new h r now moves step (λ u k. k) step
+
+  pub keeps_renamed : (from to : List ℕ) → these from → these to → Moves (CanRename from to) (after_rename from to) (after_rename from to) h new r → HasNow new (KeepsFilesBut these start)
+  keeps_renamed from to among_from among_to moves =
+      let step : (u : TreeState) → KeepsFilesBut these start u → KeepsFilesBut these start (after_rename from to u) =
+      λ u k q off. moved_others from to u (u.names from) q (λ e. off (subst these (sym e) among_from)) (λ e. off (subst these (sym e) among_to)) ∙ k q off in
+      keep_called (KeepsFilesBut these start) (KeepsFilesBut these start) new h r now moves step (λ u k. k) step
+
+-- both calls, and what then stands under the name of the waiting intent
+module _ (place : List ℕ) (place_is : place ≡ stage_name 0) (old mid new : History) where
+  pub written_keeps : IfObservable old (λ v. HasNow mid (KeepsFilesBut (λ q. q ≡ place) v)) → IfObservable old (λ v. HasNow mid (KeepsFree v))
+  written_keeps told = observable_map old _ _ told (λ v now. now_map mid (KeepsFilesBut (λ q. q ≡ place) v) (KeepsFree v) now (λ w k q off. k q (λ e. off (inr (e ∙ place_is)))))
+
+  pub published_keeps : IfObservable old (λ v. HasNow mid (KeepsFilesBut (λ q. q ≡ place) v)) → IfObservable mid (λ u. HasNow new (KeepsFree u)) → IfObservable old (λ v. HasNow new (KeepsFree v))
+  published_keeps first then = observable_map old _ _ (written_keeps first) (λ v now.
+      by_now mid (KeepsFree v) (HasNow new (KeepsFree v)) now
+      (observable_map mid _ (λ u. KeepsFree v u → HasNow new (KeepsFree v)) then (λ u more k. now_map new (KeepsFree u) (KeepsFree v) more (λ w l q off. l q off ∙ k q off))))
+
+  absent_both : (v w : TreeState) → v.names (stage_name 0) ≡ None → w.names (stage_name 0) ≡ None → KeepsFree v w → KeepsFilesBut (λ q. q ≡ intent_name) v w
+  absent_both v w none_v none_w k q off = ⊎_elim
+      (λ is. ap (files_of w) is ∙ ap (bytes_at w.files) none_w ∙ sym (ap (files_of v) is ∙ ap (bytes_at v.files) none_v))
+      (λ away. k q (λ either. ⊎_elim off (off_name q (stage_name 0) away) either))
+      (name_cases q (stage_name 0))
+
+  absent_now : (h : History) (v : TreeState) → v.names (stage_name 0) ≡ None → HasNow h (KeepsFree v) → IfObservable h (λ w. w.names (stage_name 0) ≡ None) → HasNow h (KeepsFilesBut (λ q. q ≡ intent_name) v)
+  absent_now [] v none_v now none_w = absurd now
+  absent_now (w ∷ h) v none_v now none_w = absent_both v w none_v none_w now
+
+  pub published_reads : {T E : Type 0} (r : Result T E) → IfObservable old (λ v. v.names place ≡ None) → IfObservable old (λ v. HasNow new (KeepsFree v)) → OnOk r (IfObservable new (λ w. w.names (stage_name 0) ≡ None))
+      → IfObservable old (λ v. OnOk r (HasNow new (KeepsFilesBut (λ q. q ≡ intent_name) v)))
+  published_reads (Err e) absent keeps moved = on_observable old _ (λ v rest is. tt)
+  published_reads (Ok x) absent keeps moved = on_observable old _ (λ v rest is.
+      absent_now new v (ap v.names (sym place_is) ∙ observable_at old v rest is (λ u. u.names place ≡ None) absent) (observable_at old v rest is (λ u. HasNow new (KeepsFree u)) keeps) moved)
+
+-- ---- an action
+
+module _ {T E : Type 0} (intent : Intent) (old new : History) (r : Result T E) where
+  pub removal_keeps : (i : ℕ) (name : List ℕ) → slice_get intent.removals i ≡ Some name → Moves Anywhere (after_remove name) (after_remove name) old new r → IfObservable old (λ v. HasNow new (KeepsFilesBut (IsOfAction intent i) v))
+  removal_keeps i name at moves = on_observable old _ (λ v rest is. keeps_removed (IsOfAction intent i) v old new r (keeps_now (IsOfAction intent i) old v rest is) name (inl at) moves)
+
+module _ (intent : Intent) (old new : History) (i acted : ℕ) (behind : acted ≡ length intent.removals + i) (place name : List ℕ) (place_is : place ≡ stage_name (i + 1)) (at : slice_get intent.writes i ≡ Some name) where
+  abbrev Keeps : TreeState → TreeState → Type 0
+  Keeps = KeepsFilesBut (IsOfAction intent acted)
+
+  step : (v : TreeState) → Keeps v (after_rename place name v)
+  step v q off = moved_others place name v (v.names place) q (λ e. off (inr (i, behind, inr (e ∙ place_is)))) (λ e. off (inr (i, behind, inl (at ∙ ap Some (sym e)))))
+
+  pub move_keeps : {T E : Type 0} (r : Result T E) → MovesIfThere place name old new r → IfObservable old (λ v. HasNow new (Keeps v))
+  move_keeps (Ok x) moves = on_observable old _ (λ v rest is. ⊎_elim
+      (λ none. now_is new v rest (Keeps v) (none.1 ∙ is) (λ q off. refl))
+      (λ more. now_is new (after_rename place name v) old (Keeps v) more (step v))
+      (observable_at old v rest is (λ u. ((u.names place ≡ None) × (new ≡ old)) ⊎ (new ≡ after_rename place name u ∷ old)) moves.ok))
+  move_keeps (Err e) moves = on_observable old _ (λ v rest is. ⊎_elim
+      (λ none. now_is new v rest (Keeps v) (none ∙ is) (λ q off. refl))
+      (λ more. now_is new (after_rename place name v) old (Keeps v) more (step v))
+      (observable_at old v rest is (λ u. (new ≡ old) ⊎ (new ≡ after_rename place name u ∷ old)) moves.err))
+
+pub same_keeps : (these : List ℕ → Type 0) (old : History) → IfObservable old (λ v. HasNow old (KeepsFilesBut these v))
+same_keeps these old = on_observable old _ (λ v rest is. keeps_now these old v rest is)
+
+pub action_keeps_as : (i j : Intent) (a b : ℕ) (old new : History) → i ≡ j → a ≡ b → IfObservable old (λ v. HasNow new (KeepsFilesBut (IsOfAction i a) v)) → IfObservable old (λ v. HasNow new (KeepsFilesBut (IsOfAction j b) v))
+action_keeps_as i j a b old new intent acted told =
+    subst (λ (x : Intent). IfObservable old (λ v. HasNow new (KeepsFilesBut (IsOfAction x b) v))) intent (subst (λ n. IfObservable old (λ v. HasNow new (KeepsFilesBut (IsOfAction i n) v))) acted told)

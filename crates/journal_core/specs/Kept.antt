@@ -1,0 +1,31 @@
+-- What a call of a stage keeps: the files under other names, and the names that no crash undoes.
+use Rattle.std.specs.Prelude.{◌≡◌, ◌⊎◌, ℕ, ◌+◌, List, length, None, Some, slice_get}
+use Rattle.base_core.specs.Files.{NameMap}
+use Rattle.base_core.specs.Tree.{TreeState, IsMapOf, files_of}
+use Rattle.journal_core.specs.Recovery.{Intent, stage_name}
+use Rattle.journal_intent.specs.FreeNames.{IsNoneOf}
+
+-- ---- the files as read
+
+-- they stay as they are under each name but these
+abbrev pub KeepsFilesBut : (List ℕ → Type 0) → TreeState → TreeState → Type 0
+KeepsFilesBut these start v = (q : List ℕ) → (these q → ⊥) → files_of v q ≡ files_of start q
+
+-- the names of the action behind so many: the name that is removed, or the name that is written and
+-- the one under which its file waits
+abbrev pub IsOfAction : Intent → ℕ → List ℕ → Type 0
+IsOfAction intent acted q =
+    (slice_get intent.removals acted ≡ Some q)
+    ⊎ ((i : ℕ) × (acted ≡ length intent.removals + i)
+    × ((slice_get intent.writes i ≡ Some q) ⊎ (q ≡ stage_name (i + 1))))
+
+-- ---- the maps of names
+
+-- each name but these leads in every map where it leads as read, so no crash undoes its change
+abbrev pub NamesLastBut : List (List ℕ) → TreeState → Type 0
+NamesLastBut these v =
+    (map : NameMap) → IsMapOf v map → (q : List ℕ) → IsNoneOf q these → map q ≡ v.names q
+
+-- no crash brings the name back
+abbrev pub IsInNoMap : List ℕ → TreeState → Type 0
+IsInNoMap name v = (map : NameMap) → IsMapOf v map → map name ≡ None

@@ -1,0 +1,43 @@
+-- Which test of the blocks behind a package's values fails first: the blocks of contents one by one,
+-- then the framing behind them, then the files that are left.
+use Rattle.std.specs.Prelude.{◌≡◌, ℕ, ◌<◌, ◌≤◌, List, [], ◌∷◌, length, drop, slice_get, Option, Some, None}
+use Rattle.std.specs.Result.{result_err}
+use Rattle.base_core.specs.declared.cause.Cause.{Cause}
+use Rattle.adb_block.specs.AllBlocks.{pieces_of}
+use Rattle.adb_block.specs.Reading.{Reading, done, fault, more}
+use Rattle.adb_block.specs.declared.block.BlockKind.{BlockKind}
+use Rattle.adb_block.specs.declared.block.BlockKind.TheVariants as Kinds
+use Rattle.adb_tables.specs.Walk.{or_else}
+use Rattle.pkg_core.specs.Contents.{Expected, contents_block_fault, missing_fault}
+
+-- a block's payload and its offset
+abbrev pub PlacedPayload : Type 0
+PlacedPayload = List ℕ × ℕ
+
+abbrev pub with_contents : BlockKind → PlacedPayload → List PlacedPayload → List PlacedPayload
+with_contents Kinds.Contents block blocks = block ∷ blocks
+with_contents kind block blocks = blocks
+
+-- the blocks of contents that are read
+abbrev pub blocks_of_contents : Reading → List PlacedPayload
+blocks_of_contents done = []
+blocks_of_contents (fault c) = []
+blocks_of_contents (more b at r) = with_contents b.kind (b.payload, at) (blocks_of_contents r)
+
+-- of a block against the files that are still expected, or, where there is none, of the framing and
+-- then of the end
+abbrev pub contents_test : Option Cause → List Expected → Option PlacedPayload → Option Cause
+contents_test framing es (Some block) = contents_block_fault block.0 block.1 es
+contents_test framing es None = or_else framing (missing_fault es)
+
+-- the k-th test, counted from 0: block k against the files from k on
+abbrev pub contents_test_at : List Expected → Reading → ℕ → Option Cause
+contents_test_at es r k =
+    contents_test (result_err (pieces_of r)) (drop k es) (slice_get (blocks_of_contents r) k)
+
+-- a test has this fault, and none before it has any
+pub record IsFirstContentsFault (es : List Expected) (r : Reading) (c : Cause) : Type 0 where
+  pub k : ℕ
+  pub reached : k ≤ length (blocks_of_contents r)
+  pub fault : contents_test_at es r k ≡ Some c
+  pub before : (j : ℕ) → j < k → contents_test_at es r j ≡ None

@@ -1,0 +1,8 @@
+pub mod Heads
+pub mod SeenBytes
+pub mod BlockRuns
+pub mod HeaderFront
+pub mod FrontSteps
+pub mod FrontSeen
+pub mod WholeReads
+pub mod WholeTests

@@ -1,0 +1,5 @@
+-- what the contract of `apk` says: nothing
+-- what only inner contracts and proofs use
+pub mod Front
+pub mod Seen
+pub mod Values

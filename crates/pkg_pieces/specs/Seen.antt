@@ -1,0 +1,42 @@
+-- What reads of a file have seen of it, and what they make of the tree.
+use Rattle.std.specs.Prelude.{◌≡◌, ◌≤◌, ℕ, ◌+◌, List, length, take, drop, Some, IfSome, Result, OnOk, IfErr, IsErrOf}
+use Rattle.base_core.specs.Calls.{IfObservable}
+use Rattle.base_core.specs.Faults.{Counts, GoesOn, HasCause, IsNoFault}
+use Rattle.base_core.specs.Tree.{TreeState, files_of}
+
+-- the file has these bytes at an offset
+abbrev pub HasAt : List ℕ → ℕ → List ℕ → Type 0
+HasAt file at bytes = take (length bytes) (drop at file) ≡ bytes
+
+-- where the tree tells its files, and the one under this name is so long, it has these bytes there
+abbrev pub IsSeen : List TreeState → List ℕ → ℕ → ℕ → List ℕ → Type 0
+IsSeen history name len at bytes =
+    IfObservable history
+    (λ v. IfSome (files_of v name) (λ file. length file ≡ len → HasAt file at bytes))
+
+-- the same, and the bytes lie within the file
+pub record IsSeenIn (history : List TreeState) (name : List ℕ) (len at : ℕ)
+    (bytes : List ℕ) : Type 0 where
+  pub seen : IsSeen history name len at bytes
+  pub within : at + length bytes ≤ len
+
+-- the file under the name is so long
+pub record IsSoLong (name : List ℕ) (len : ℕ) (v : TreeState) : Type 0 where
+  pub file : List ℕ
+  pub present : files_of v name ≡ Some file
+  pub long : length file ≡ len
+
+-- a call that only reads, which is no misuse where the file under the name is so long as it was;
+-- `disk_fault` is its answer where the tree failed
+pub record ReadsFile {A E : Type 0} (name : List ℕ) (len : ℕ) (disk_fault : E)
+    (old new : List TreeState) (before now : Counts) (result : Result A E) : Type 0 where
+  -- the states stay
+  pub same : new ≡ old
+  -- no count falls
+  pub goes_on : GoesOn before now
+  -- the tree failed only where that has its cause
+  pub disk : IsErrOf result disk_fault → HasCause before now
+  -- an answer that is no fault of the tree raised neither faults nor wants
+  pub kept : OnOk result (IsNoFault before now)
+  pub others : IfErr result (λ fault. (fault ≡ disk_fault → ⊥) → IsNoFault before now)
+  pub proper : IfObservable old (λ v. IsSoLong name len v → now.misuses ≡ before.misuses)

@@ -1,0 +1,17 @@
+//! Packages (apk-package(5)) in a tree of files that are not held whole: of a file is read what the
+//! values of the package take.
+//!
+//! The name of a file comes in. `read_front` gives its `Front`, the header and the first block of a
+//! container (apk-v3(5)), and `Contents` tests and lends the values that a package's front holds.
+//! The contracts cite `Front` (the tests of a front, and of which files it is one), `Seen` (which
+//! bytes of a file were seen) and `Values` (what a package shows) of `specs/`.
+#![tactic(auto)]
+
+mod contents;
+mod front;
+mod head;
+mod laws;
+
+pub use contents::Contents;
+pub use front::{Front, FrontFault, read_front};
+pub use laws::a_front_and_its_values_are_tested_as_a_whole_package;

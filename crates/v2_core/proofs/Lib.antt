@@ -1,0 +1,9 @@
+pub mod Completed
+pub mod FirstBad
+pub mod LastElement
+pub mod ListValues
+pub mod Lists
+pub mod Payloads
+pub mod RecordEnds
+pub mod Spelled
+pub mod TextLines

@@ -1,0 +1,9 @@
+use Rattle.std.proofs.Common.{refl}
+use Rattle.std.specs.Vec.{vec_len}
+use Rattle.v2_core.specs.Records.{file_with_hash}
+use Rattle.v2_core.proofs.LastElement.{last_by}
+use Rattle.v2_core.proofs.record.add_hash_to_last.Goals as goal
+
+pub returns-in-Some : goal.returns-in-Some
+returns-in-Some c =
+    last_by (file_with_hash c.args.hash.items) c.args.files.now.items _ (vec_len c.args.files.now) c.add_hash.result _ c.add_hash.new.self _ c.args.files.now.ok.0 (c.in-Some.ensures.variant.0 refl) c.in-Some.ensures.value c.add_hash.ensures refl

@@ -1,0 +1,12 @@
+-- The fields of a package's information by the columns of the program.
+use Rattle.std.specs.Prelude.{List}
+use Rattle.adb_view.specs.Plain.{Plain, null}
+use Rattle.v2_core.specs.declared.writing.Column.{Column}
+use Rattle.v2_core.specs.declared.writing.Column.TheVariants.{Once, List as ListOf, Null}
+use Rattle.v2_core.specs.Database.{joined_value, single_value}
+use Rattle.v2_core.specs.Records.{InfoLine}
+
+abbrev pub value_of_column : List InfoLine → Column → Plain
+value_of_column info (Once f) = single_value f info
+value_of_column info (ListOf f) = joined_value f info
+value_of_column info Null = null

@@ -1,0 +1,90 @@
+-- The installed database that records say (apk-v3(5)).
+use Rattle.std.specs.Prelude.{ℕ, List, [], ◌∷◌, map, Option, Some, None, if◌then◌else◌}
+use Rattle.std.specs.List.{find, flat_map}
+use Rattle.adb_view.specs.Plain.{Plain, null, int, blob_value, arr_value, obj_value}
+use Rattle.make_info.specs.Fields.{FieldValue}
+use Rattle.make_info.specs.Information.{plain_value}
+use Rattle.make_info.specs.Values.{plains_of}
+use Rattle.v2_lines.specs.Accesses.{Access}
+use Rattle.v2_lines.specs.declared.field.InfoField.{InfoField}
+use Rattle.v2_lines.specs.declared.field.InfoField.TheVariants as Fields
+use Rattle.v2_core.specs.Records.{InfoLine, ListedFile, ListedFolder, Record, is_line_of}
+
+abbrev pub array_of : List Plain → Plain
+array_of vs = arr_value (plains_of vs)
+
+abbrev pub object_of : List Plain → Plain
+object_of vs = obj_value (plains_of vs)
+
+-- ---- the package's information
+
+abbrev pub value_of_first : List FieldValue → Plain
+value_of_first [] = null
+value_of_first (v ∷ vs) = plain_value v
+
+abbrev pub value_of_line : Option InfoLine → Plain
+value_of_line None = null
+value_of_line (Some line) = value_of_first line.values
+
+-- the value of a field of which a record has one line at most
+abbrev pub single_value : InfoField → List InfoLine → Plain
+single_value f info = value_of_line (find (is_line_of f) info)
+
+abbrev pub values_for : InfoField → InfoLine → List FieldValue
+values_for f line = if is_line_of f line then line.values else []
+
+-- all values of the lines of a field
+abbrev pub joined_value : InfoField → List InfoLine → Plain
+joined_value f info = array_of (map plain_value (flat_map (values_for f) info))
+
+-- the first 18 fields of a package's information in order; the others are Null, as is the file's
+-- size
+unfoldable pub record_info_value : List InfoLine → Plain
+record_info_value info =
+    object_of
+    (single_value Fields.Name info ∷ single_value Fields.Version info
+    ∷ single_value Fields.Hashes info
+    ∷ single_value Fields.Description info ∷ single_value Fields.Arch info
+    ∷ single_value Fields.License info ∷ single_value Fields.Origin info
+    ∷ single_value Fields.Maintainer info ∷ single_value Fields.Url info
+    ∷ single_value Fields.RepoCommit info ∷ single_value Fields.BuildTime info
+    ∷ single_value Fields.InstalledSize info ∷ null ∷ single_value Fields.ProviderPriority info
+    ∷ joined_value Fields.Depends info ∷ joined_value Fields.Provides info
+    ∷ joined_value Fields.Replaces info ∷ joined_value Fields.InstallIf info ∷ [])
+
+-- ---- folders and files
+
+-- mode, user, group
+abbrev pub listed_access_value : Option Access → Plain
+listed_access_value None = null
+listed_access_value (Some a) = object_of (int a.mode ∷ blob_value a.user ∷ blob_value a.group ∷ [])
+
+abbrev pub listed_hash_value : Option (List ℕ) → Plain
+listed_hash_value None = null
+listed_hash_value (Some hash) = blob_value hash
+
+-- name, acl, size, mtime, hashes
+abbrev pub listed_file_value : ListedFile → Plain
+listed_file_value file =
+    object_of
+    (blob_value file.name ∷ listed_access_value file.access ∷ null ∷ null
+    ∷ listed_hash_value file.hash ∷ [])
+
+-- name, acl, files
+abbrev pub listed_folder_value : ListedFolder → Plain
+listed_folder_value folder =
+    object_of
+    (blob_value folder.name ∷ listed_access_value folder.access
+    ∷ array_of (map listed_file_value folder.files) ∷ [])
+
+-- ---- packages
+
+-- info, paths, scripts, triggers, replaces-priority; the text has no scripts and no triggers
+abbrev pub record_value : Record → Plain
+record_value r =
+    object_of
+    (record_info_value r.info ∷ array_of (map listed_folder_value r.folders) ∷ null ∷ null
+    ∷ single_value Fields.ReplacesPriority r.info ∷ [])
+
+abbrev pub value_of_records : List Record → Plain
+value_of_records records = object_of (array_of (map record_value records) ∷ [])

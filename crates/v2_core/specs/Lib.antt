@@ -1,0 +1,12 @@
+-- what the contract of `read_v2` says
+pub mod Records
+pub mod Reading
+pub mod Database
+pub mod Payload
+-- what the laws say
+pub mod FirstBadLine
+pub mod Spelling
+-- what only inner contracts and proofs use
+pub mod Views
+pub mod Columns
+pub mod Writing

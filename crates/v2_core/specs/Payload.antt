@@ -1,0 +1,42 @@
+-- What `read_v2` makes of a text: the payload of the installed database that it says, or why there
+-- is none.
+use Rattle.std.specs.Prelude.{◌≡◌, ℕ, ⊤, List, Option, Some, None, Result, Ok, Err}
+use Rattle.base_core.specs.declared.cause.Cause.{Cause}
+use Rattle.base_core.specs.declared.cause.Cause.TheVariants.{TextLine}
+use Rattle.adb_write.specs.Canonical.{PayloadCounts, written_of}
+use Rattle.adb_schema.specs.Soundness.{payload_fault}
+use Rattle.adb_tables.specs.declared.tables.Which.TheVariants.{Idb}
+use Rattle.v2_core.specs.declared.fault.V2Fault.{V2Fault}
+use Rattle.v2_core.specs.declared.fault.V2Fault.TheVariants.{Bad, TooLarge, Memory}
+use Rattle.v2_core.specs.Database.{value_of_records}
+use Rattle.v2_core.specs.Reading.{records_of}
+use Rattle.v2_core.specs.Records.{Record}
+
+abbrev pub unless_bad : List ℕ → Option Cause → Result (List ℕ) V2Fault
+unless_bad payload None = Ok payload
+unless_bad payload (Some cause) = Err (Bad cause)
+
+abbrev pub or_too_large : Result (List ℕ) PayloadCounts → Result (List ℕ) V2Fault
+or_too_large (Ok payload) = Ok payload
+or_too_large (Err counts) = Err (TooLarge counts.0 counts.1)
+
+-- the payload of the database that the records of a text say, before it is tested
+abbrev pub written_payload : Result (List Record) ℕ → Result (List ℕ) V2Fault
+written_payload (Ok records) = or_too_large (written_of (value_of_records records))
+written_payload (Err line) = Err (Bad (TextLine line))
+
+-- a payload that passes the tests of an installed database, or the first of them that it fails
+abbrev pub tested_payload : Result (List ℕ) V2Fault → Result (List ℕ) V2Fault
+tested_payload (Ok payload) = unless_bad payload (payload_fault Idb payload)
+tested_payload (Err fault) = Err fault
+
+-- the first bad line, then a limit of the writer that is passed, then the first test of an
+-- installed database that fails
+unfoldable pub payload_of_text : List ℕ → Result (List ℕ) V2Fault
+payload_of_text text = tested_payload (written_payload (records_of text))
+
+-- a refusal is the one that stands; want of memory may come at any text
+abbrev pub IsV2Fault : V2Fault → Result (List ℕ) V2Fault → Type 0
+IsV2Fault Memory answer = ⊤
+IsV2Fault (Bad cause) answer = answer ≡ Err (Bad cause)
+IsV2Fault (TooLarge bytes values) answer = answer ≡ Err (TooLarge bytes values)

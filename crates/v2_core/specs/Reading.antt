@@ -1,0 +1,35 @@
+-- The records of a text, or its first bad line.
+use Rattle.std.specs.Prelude.{ℕ, ◌+◌, ◌==◌, if◌then◌else◌, List, [], ◌∷◌, ◌++◌, length, Option, option_and_then, Result, Ok, Err}
+use Rattle.std.specs.Option.{option_map_or}
+use Rattle.dep_core.specs.World.{lines_of}
+use Rattle.v2_lines.specs.Lines.{record_line_of}
+use Rattle.v2_core.specs.Records.{Record, empty_record, lacks_needed_line, with_record_line}
+
+-- a record with one more line of a text; None where the line is bad
+abbrev pub with_text : Record → List ℕ → Option Record
+with_text r line = option_and_then (with_record_line r) (record_line_of line)
+
+abbrev pub with_records : List Record → Result (List Record) ℕ → Result (List Record) ℕ
+with_records records (Ok others) = Ok (records ++ others)
+with_records records (Err line) = Err line
+
+-- A record and those behind it, where so many lines stand up to its end; a record without a line is
+-- none, and one without a name or a version is bad at its last line.
+abbrev pub at_record_end : ℕ → Record → Result (List Record) ℕ → Result (List Record) ℕ
+at_record_end lines r others =
+    if r.has_line
+    then (if lacks_needed_line r.info then Err lines else with_records (r ∷ []) others)
+    else others
+
+-- what some lines say behind so many lines, the last of which began a record
+abbrev pub records_from : ℕ → Record → List (List ℕ) → Result (List Record) ℕ
+records_from before r [] = at_record_end before r (Ok [])
+records_from before r (line ∷ lines) =
+    if length line == 0 then at_record_end before r (records_from (before + 1) empty_record lines)
+    else option_map_or (λ next. records_from (before + 1) next lines) (with_text r line)
+    (Err (before + 1))
+
+-- the records of a text, each ended by an empty line or the text's end, or the number of its first
+-- bad line, counted from 1
+unfoldable pub records_of : List ℕ → Result (List Record) ℕ
+records_of text = records_from 0 empty_record (lines_of text)

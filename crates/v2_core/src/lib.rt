@@ -1,0 +1,17 @@
+//! The text database of version 2 of apk-tools, taken over: the bytes of `lib/apk/db/installed`
+//! come in, and the payload of the installed database that they say goes out, or the first bad
+//! line.
+//!
+//! The contracts cite `Payload` (what comes out), `Reading` (the records of a text), `Records` and
+//! `Database` (the value of records) of `specs/`, and what the lines say, which `v2_lines` defines.
+#![tactic(auto)]
+
+mod fault;
+mod laws;
+mod read;
+mod record;
+mod writing;
+
+pub use fault::V2Fault;
+pub use laws::{the_reported_line_is_the_first_that_no_text_has, the_text_of_records_is_read_back};
+pub use read::read_v2;

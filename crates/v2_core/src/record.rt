@@ -1,0 +1,318 @@
+//! A record of a text database: what its lines say of one package, of its folders and of their
+//! files.
+ghost use Rattle.std.specs.List.{find, list_any};
+ghost use Rattle.std.specs.Option.{option_map};
+ghost use Rattle.std.specs.Prelude.{◌≡◌, ◌++◌, ◌∷◌, [], IfOk, None, OnOk, Some, if◌then◌else◌, is_some, option_and_then};
+ghost use Rattle.v2_core.specs.Reading.{with_text};
+ghost use Rattle.v2_core.specs.Records.{empty_record, file_by, file_with_access, file_with_hash, folder_by, folder_with_access, folder_with_file, folder_with_last, has_line_of, info_by, is_line_of, lacks_needed_line, with_info, with_last_changed, with_record_line};
+ghost use Rattle.v2_lines.specs.Accesses.{access_view};
+ghost use Rattle.v2_lines.specs.Lines.{record_line_of};
+ghost use Rattle.v2_lines.specs.Views.{line_view, line_value_view};
+
+use std::alloc::{AllocError, Global};
+use std::marker::Model;
+use v2_lines::{Access, InfoField, Line, Value, read_line};
+
+/// What a line says of a field.
+#[derive(Drop)]
+pub(crate) struct InfoLine<'a> {
+    pub field: InfoField,
+    pub value: Value<'a>,
+}
+
+impl<'a> Model for InfoLine<'a> {
+    ghost use Rattle.v2_core.specs.Records.{InfoLine as InfoLineModel, info_by};
+    ghost use Rattle.v2_lines.specs.Views.{line_value_view};
+
+    ghost Value = { InfoLineModel };
+
+    ghost view = { λ line. info_by line.field (line_value_view line.value) };
+}
+
+/// A file that a record lists.
+#[derive(Drop)]
+pub(crate) struct File<'a> {
+    pub name: &'a [u8],
+    pub access: Option<Access<'a>>,
+    /// The SHA-1 of its bytes.
+    pub hash: Option<Vec<u8>>,
+}
+
+impl<'a> Model for File<'a> {
+    ghost use Rattle.v2_core.specs.Records.{ListedFile as ListedFileModel, file_by};
+    ghost use Rattle.v2_core.specs.Views.{access_views, hash_view};
+
+    ghost Value = { ListedFileModel };
+
+    ghost view = { λ file. file_by file.name.now (access_views file.access) (hash_view file.hash) };
+}
+
+impl<'a> File<'a> {
+    /// Says whose the file is. False: that was said before.
+    fn add_access(&mut self, access: Access<'a>) -> bool
+        ensures { (if result then Some self.new else None)
+            ≡ file_with_access (access_view access.entry) self.old }
+    {
+        if self.access.is_some() {
+            return false;
+        }
+        self.access = Some(access);
+        true
+    }
+
+    /// Says what its hash is. False: that was said before.
+    fn add_hash(&mut self, hash: Vec<u8>) -> bool
+        ensures { (if result then Some self.new else None)
+            ≡ file_with_hash hash.items self.old }
+    {
+        if self.hash.is_some() {
+            return false;
+        }
+        self.hash = Some(hash);
+        true
+    }
+}
+
+/// A folder that a record lists, with its files.
+#[derive(Drop)]
+pub(crate) struct Folder<'a> {
+    pub name: &'a [u8],
+    pub access: Option<Access<'a>>,
+    pub files: Vec<File<'a>>,
+}
+
+impl<'a> Model for Folder<'a> {
+    ghost use Rattle.v2_core.specs.Records.{ListedFolder as ListedFolderModel, folder_by};
+    ghost use Rattle.v2_core.specs.Views.{access_views};
+
+    ghost Value = { ListedFolderModel };
+
+    ghost view = { λ folder. folder_by folder.name.now (access_views folder.access)
+        folder.files.items };
+}
+
+impl<'a> Folder<'a> {
+    /// Says whose the folder is. False: that was said before.
+    fn add_access(&mut self, access: Access<'a>) -> bool
+        ensures { (if result then Some self.new else None)
+            ≡ folder_with_access (access_view access.entry) self.old }
+    {
+        if self.access.is_some() {
+            return false;
+        }
+        self.access = Some(access);
+        true
+    }
+
+    /// Adds a file.
+    fn add_file(&mut self, name: &'a [u8]) -> Result<(), AllocError>
+        ensures { OnOk result (Some self.new ≡ folder_with_file name.entry.now self.old) }
+    {
+        self.files.push(File {
+            name,
+            access: None,
+            hash: None,
+        })?;
+        Ok(())
+    }
+
+    /// Says whose the last file is. False: there is none, or that was said before.
+    fn add_file_access(&mut self, access: Access<'a>) -> bool
+        ensures { (if result then Some self.new else None)
+            ≡ folder_with_last (file_with_access (access_view access.entry)) self.old }
+    {
+        add_access_to_last(&mut self.files, access)
+    }
+
+    /// Says what the hash of the last file is. False: there is none, or that was said before.
+    fn add_file_hash(&mut self, hash: Vec<u8>) -> bool
+        ensures { (if result then Some self.new else None)
+            ≡ folder_with_last (file_with_hash hash.items) self.old }
+    {
+        add_hash_to_last(&mut self.files, hash)
+    }
+}
+
+// Says whose the last of some files is. False: there is none, or that was said before.
+fn add_access_to_last<'a>(files: &mut Vec<File<'a>>, access: Access<'a>) -> bool
+    ensures { (if result then Some files.new.items else None)
+        ≡ with_last_changed (file_with_access (access_view access.entry)) files.old.items }
+{
+    match files.last_mut() {
+        Some(file) => file.add_access(access),
+        None => false,
+    }
+}
+
+// Says what the hash of the last of some files is. False: there is none, or that was said before.
+fn add_hash_to_last(files: &mut Vec<File<'_>>, hash: Vec<u8>) -> bool
+    ensures { (if result then Some files.new.items else None)
+        ≡ with_last_changed (file_with_hash hash.items) files.old.items }
+{
+    match files.last_mut() {
+        Some(file) => file.add_hash(hash),
+        None => false,
+    }
+}
+
+/// What the lines of a record say.
+#[derive(Drop)]
+pub(crate) struct Record<'a> {
+    alloc: Global,
+    has_line: bool,
+    pub info: Vec<InfoLine<'a>>,
+    pub folders: Vec<Folder<'a>>,
+}
+
+impl<'a> Model for Record<'a> {
+    ghost use Rattle.v2_core.specs.Records.{Record as RecordModel, record_by};
+
+    ghost Value = { RecordModel };
+
+    ghost view = { λ r. record_by r.has_line r.info.items r.folders.items };
+}
+
+impl<'a> Record<'a> {
+    /// A record without a line.
+    pub(crate) fn new(alloc: Global) -> Record<'a>
+        ensures { result ≡ empty_record }
+    {
+        Record {
+            alloc,
+            has_line: false,
+            info: Vec::new(alloc),
+            folders: Vec::new(alloc),
+        }
+    }
+
+    /// Drops all that its lines say, so that another record can begin.
+    pub(crate) fn clear(&mut self)
+        ensures { self.new ≡ empty_record }
+    {
+        self.has_line = false;
+        self.info.clear();
+        self.folders.clear();
+    }
+
+    /// Whether it has a line.
+    pub(crate) fn has_line(&self) -> bool
+        ensures { result ≡ self.now.has_line }
+    {
+        self.has_line
+    }
+
+    /// Whether nothing is said of the package's name, or of its version.
+    pub(crate) fn lacks_needed_line(&self) -> bool
+        ensures { result ≡ lacks_needed_line self.now.info }
+    {
+        !has_line_of(&self.info, InfoField::Name) || !has_line_of(&self.info, InfoField::Version)
+    }
+
+    /// Adds a line of a text. False: it is bad.
+    pub(crate) fn add_text(&mut self, text: &'a [u8]) -> Result<bool, AllocError>
+        ensures { IfOk result (λ good. (if good then Some self.new else None)
+            ≡ with_text self.old text.entry.now) }
+    {
+        match read_line(self.alloc, text)? {
+            Some(line) => self.add(line),
+            None => Ok(false),
+        }
+    }
+
+    /// Adds what a line says. False: it may not stand behind the lines before it.
+    fn add(&mut self, line: Line<'a>) -> Result<bool, AllocError>
+        ensures { IfOk result (λ good. (if good then Some self.new else None)
+            ≡ with_record_line self.old (line_view line.entry)) }
+    {
+        self.has_line = true;
+        match line {
+            Line::Info(field, value) => add_info(&mut self.info, field, value),
+            Line::Folder(name) => add_folder(self.alloc, &mut self.folders, name),
+            Line::FolderAccess(access) => Ok(add_access(&mut self.folders, access)),
+            Line::File(name) => add_file(&mut self.folders, name),
+            Line::FileAccess(access) => Ok(add_file_access(&mut self.folders, access)),
+            Line::FileHash(hash) => Ok(add_file_hash(&mut self.folders, hash)),
+            Line::Other => Ok(true),
+        }
+    }
+}
+
+fn has_line_of(info: &[InfoLine<'_>], field: InfoField) -> bool
+    ensures { result ≡ has_line_of field info.now }
+{
+    info.iter().any(|line| line.field == field)
+}
+
+// A second line of a field is taken of a list alone.
+fn add_info<'a>(
+    info: &mut Vec<InfoLine<'a>>,
+    field: InfoField,
+    value: Value<'a>,
+) -> Result<bool, AllocError>
+    ensures { IfOk result (λ good. (if good then Some info.new.items else None)
+        ≡ with_info field (line_value_view value.entry) info.old.items) }
+{
+    if !field.adds_to_list() && has_line_of(info, field) {
+        return Ok(false);
+    }
+    info.push(InfoLine { field, value })?;
+    Ok(true)
+}
+
+fn add_folder<'a>(
+    alloc: Global,
+    folders: &mut Vec<Folder<'a>>,
+    name: &'a [u8],
+) -> Result<bool, AllocError>
+    ensures { IfOk result (λ good. (if good then Some folders.new.items else None)
+        ≡ Some (folders.old.items ++ folder_by name.entry.now None [] ∷ [])) }
+{
+    folders.push(Folder {
+        name,
+        access: None,
+        files: Vec::new(alloc),
+    })?;
+    Ok(true)
+}
+
+fn add_access<'a>(folders: &mut Vec<Folder<'a>>, access: Access<'a>) -> bool
+    ensures { (if result then Some folders.new.items else None)
+        ≡ with_last_changed (folder_with_access (access_view access.entry)) folders.old.items }
+{
+    match folders.last_mut() {
+        Some(folder) => folder.add_access(access),
+        None => false,
+    }
+}
+
+fn add_file<'a>(folders: &mut Vec<Folder<'a>>, name: &'a [u8]) -> Result<bool, AllocError>
+    ensures { IfOk result (λ good. (if good then Some folders.new.items else None)
+        ≡ with_last_changed (folder_with_file name.entry.now) folders.old.items) }
+{
+    let Some(folder) = folders.last_mut() else {
+        return Ok(false);
+    };
+    folder.add_file(name)?;
+    Ok(true)
+}
+
+fn add_file_access<'a>(folders: &mut Vec<Folder<'a>>, access: Access<'a>) -> bool
+    ensures { (if result then Some folders.new.items else None)
+        ≡ with_last_changed (folder_with_last (file_with_access (access_view access.entry)))
+        folders.old.items }
+{
+    match folders.last_mut() {
+        Some(folder) => folder.add_file_access(access),
+        None => false,
+    }
+}
+
+fn add_file_hash<'a>(folders: &mut Vec<Folder<'a>>, hash: Vec<u8>) -> bool
+    ensures { (if result then Some folders.new.items else None)
+        ≡ with_last_changed (folder_with_last (file_with_hash hash.items)) folders.old.items }
+{
+    match folders.last_mut() {
+        Some(folder) => folder.add_file_hash(hash),
+        None => false,
+    }
+}

@@ -1,0 +1,2 @@
+pub mod NeedLists
+pub mod Octal

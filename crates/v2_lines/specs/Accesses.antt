@@ -1,0 +1,61 @@
+-- Whose a file or a folder is, and its mode: `uid:gid:mode`.
+use Rattle.std.specs.Prelude.{ℕ, ◌+◌, ◌^◌, ◌==◌, nat_lt, nat_le, Bool, not, ◌&&◌, if◌then◌else◌, List, [], length, take, drop, position, Option, Some, None, option_map}
+use Rattle.std.specs.Char.{is_ascii_digit}
+use Rattle.std.specs.List.{list_all}
+use Rattle.std.specs.Str.Parse.{digits_value}
+use Rattle.v2_lines.specs.declared.access.Access.{Access as AccessSlices}
+use Rattle.v2_lines.specs.declared.access.TheConstants.{COLON}
+
+-- the numbers of the user and of the group are texts
+pub record Access : Type 0 where
+  pub user : List ℕ
+  pub group : List ℕ
+  pub mode : ℕ
+
+abbrev pub access_by : List ℕ → List ℕ → ℕ → Access
+access_by user group mode = record { user = user; group = group; mode = mode }
+
+abbrev pub access_view : AccessSlices → Access
+access_view a = access_by a.user.now a.group.now a.mode
+
+abbrev pub front_up_to : List ℕ → Option ℕ → List ℕ
+front_up_to text None = text
+front_up_to text (Some at) = take at text
+
+abbrev pub rest_past : List ℕ → Option ℕ → List ℕ
+rest_past text None = []
+rest_past text (Some at) = drop (at + 1) text
+
+-- what stands before the first colon; all where there is none
+abbrev pub before_colon : List ℕ → List ℕ
+before_colon text = front_up_to text (position (λ b. b == COLON) text)
+
+-- what stands behind the first colon; nothing where there is none
+abbrev pub behind_colon : List ℕ → List ℕ
+behind_colon text = rest_past text (position (λ b. b == COLON) text)
+
+-- one or more decimal digits
+abbrev pub is_id : List ℕ → Bool
+is_id text = not (length text == 0) && list_all is_ascii_digit text
+
+abbrev pub is_octal_digit : ℕ → Bool
+is_octal_digit b = nat_le 48 b && nat_le b 55
+
+-- one or more octal digits
+abbrev pub is_octal : List ℕ → Bool
+is_octal text = not (length text == 0) && list_all is_octal_digit text
+
+-- the number that octal digits are; None where they are none, or it has more than 64 bits
+abbrev pub octal_number : List ℕ → Option ℕ
+octal_number digits =
+    if is_octal digits && nat_lt (digits_value 8 digits) (2 ^ 64) then Some (digits_value 8 digits)
+    else None
+
+-- `uid:gid:mode`; parts behind the third are passed over
+abbrev pub access_in : List ℕ → Option Access
+access_in text =
+    let user = before_colon text in
+    let group = before_colon (behind_colon text) in
+    let mode = before_colon (behind_colon (behind_colon text)) in
+    if is_id user && is_id group then option_map (access_by user group) (octal_number mode)
+    else None

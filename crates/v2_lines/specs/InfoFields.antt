@@ -1,0 +1,72 @@
+-- The fields of a package that lines of a text database give, and what a value of each has to be.
+use Rattle.std.specs.Prelude.{ℕ, ◌==◌, Bool, true, false, List, [], ◌∷◌, Option}
+use Rattle.std.specs.List.{find}
+use Rattle.v2_lines.specs.declared.field.InfoField.{InfoField}
+use Rattle.v2_lines.specs.declared.field.InfoField.TheVariants as Fields
+use Rattle.v2_lines.specs.declared.field.Grammar.{Grammar}
+use Rattle.v2_lines.specs.declared.field.Grammar.TheVariants as Grammars
+
+-- the letter with which the lines of a field begin: C, P, V, A, T, U, L, o, m, I, t, k, q, c, D, p,
+-- r, i
+abbrev pub letter_of : InfoField → ℕ
+letter_of Fields.Hashes = 67
+letter_of Fields.Name = 80
+letter_of Fields.Version = 86
+letter_of Fields.Arch = 65
+letter_of Fields.Description = 84
+letter_of Fields.Url = 85
+letter_of Fields.License = 76
+letter_of Fields.Origin = 111
+letter_of Fields.Maintainer = 109
+letter_of Fields.InstalledSize = 73
+letter_of Fields.BuildTime = 116
+letter_of Fields.ProviderPriority = 107
+letter_of Fields.ReplacesPriority = 113
+letter_of Fields.RepoCommit = 99
+letter_of Fields.Depends = 68
+letter_of Fields.Provides = 112
+letter_of Fields.Replaces = 114
+letter_of Fields.InstallIf = 105
+
+abbrev pub info_fields : List InfoField
+info_fields =
+    Fields.Hashes ∷ Fields.Name ∷ Fields.Version ∷ Fields.Arch ∷ Fields.Description ∷ Fields.Url
+    ∷ Fields.License ∷ Fields.Origin ∷ Fields.Maintainer ∷ Fields.InstalledSize
+    ∷ Fields.BuildTime ∷ Fields.ProviderPriority ∷ Fields.ReplacesPriority ∷ Fields.RepoCommit
+    ∷ Fields.Depends ∷ Fields.Provides ∷ Fields.Replaces ∷ Fields.InstallIf ∷ []
+
+-- the field of a letter, among some
+abbrev pub info_field_among : List InfoField → ℕ → Option InfoField
+info_field_among among letter = find (λ f. letter_of f == letter) among
+
+unfoldable pub field_of_letter : ℕ → Option InfoField
+field_of_letter letter = info_field_among info_fields letter
+
+-- what a value of a field has to be
+abbrev pub grammar_of : InfoField → Grammar
+grammar_of Fields.Hashes = Grammars.Sha1Text
+grammar_of Fields.Name = Grammars.PackageName
+grammar_of Fields.Version = Grammars.PackageVersion
+grammar_of Fields.Arch = Grammars.AnyText
+grammar_of Fields.Description = Grammars.AnyText
+grammar_of Fields.Url = Grammars.AnyText
+grammar_of Fields.License = Grammars.AnyText
+grammar_of Fields.Origin = Grammars.AnyText
+grammar_of Fields.Maintainer = Grammars.AnyText
+grammar_of Fields.InstalledSize = Grammars.Number
+grammar_of Fields.BuildTime = Grammars.Number
+grammar_of Fields.ProviderPriority = Grammars.Number
+grammar_of Fields.ReplacesPriority = Grammars.Number
+grammar_of Fields.RepoCommit = Grammars.Commit
+grammar_of Fields.Depends = Grammars.Dependencies
+grammar_of Fields.Provides = Grammars.Dependencies
+grammar_of Fields.Replaces = Grammars.Dependencies
+grammar_of Fields.InstallIf = Grammars.Dependencies
+
+-- whether a record may have several lines of a field, each of which adds to a list
+abbrev pub adds_to_list : InfoField → Bool
+adds_to_list Fields.Depends = true
+adds_to_list Fields.Provides = true
+adds_to_list Fields.Replaces = true
+adds_to_list Fields.InstallIf = true
+adds_to_list f = false

@@ -1,0 +1,49 @@
+-- What the value of a line says of its field.
+use Rattle.std.specs.Prelude.{ℕ, ◌==◌, Bool, true, ◌&&◌, if◌then◌else◌, List, [], ◌∷◌, ◌++◌, length, Option, Some, None, option_map, Result, Ok, Err}
+use Rattle.base64.specs.Engines.{standard}
+use Rattle.base64.specs.GeneralPurpose.{decode_of as base64_bytes}
+use Rattle.base64.specs.declared.decode.DecodeError.{DecodeError}
+use Rattle.hex.specs.Hex.{decode_of as hex_bytes}
+use Rattle.hex.specs.declared.error.FromHexError.{FromHexError}
+use Rattle.version_core.specs.Order.{is_version}
+use Rattle.dep_core.specs.Dependency.{is_package_name}
+use Rattle.make_info.specs.Fields.{FieldValue, text, number, decimal_number, needs_in, nonempty_parts, text_if}
+use Rattle.v2_lines.specs.declared.field.Grammar.{Grammar}
+use Rattle.v2_lines.specs.declared.field.Grammar.TheVariants as Grammars
+
+-- so many bytes as a SHA-1 has
+abbrev pub twenty_bytes : Result (List ℕ) DecodeError → Option (List ℕ)
+twenty_bytes (Ok bytes) = if length bytes == 20 then Some bytes else None
+twenty_bytes (Err e) = None
+
+-- the SHA-1 that a text is: `Q1` and its base64 (RFC 4648)
+abbrev pub sha1_of : List ℕ → Option (List ℕ)
+sha1_of [] = None
+sha1_of (q ∷ []) = None
+sha1_of (q ∷ one ∷ encoded) =
+    if (q == 81) && (one == 49) then twenty_bytes (base64_bytes standard encoded) else None
+
+abbrev pub one_text : List ℕ → List FieldValue
+one_text bytes = text bytes ∷ []
+
+abbrev pub one_number : ℕ → List FieldValue
+one_number n = number n ∷ []
+
+-- the bytes of pairs of hexadecimal digits; another text says nothing
+abbrev pub commit_values : Result (List ℕ) FromHexError → List FieldValue
+commit_values (Ok bytes) = one_text bytes
+commit_values (Err e) = []
+
+-- the values that a text is under a grammar; None where it is outside of it
+abbrev pub values_by_grammar : Grammar → List ℕ → Option (List FieldValue)
+values_by_grammar Grammars.Sha1Text value = option_map one_text (sha1_of value)
+values_by_grammar Grammars.PackageName value = text_if (is_package_name value) value
+values_by_grammar Grammars.PackageVersion value = text_if (is_version value) value
+values_by_grammar Grammars.AnyText value = text_if true value
+values_by_grammar Grammars.Number value = option_map one_number (decimal_number value)
+values_by_grammar Grammars.Commit value = Some (commit_values (hex_bytes value))
+values_by_grammar Grammars.Dependencies value = needs_in (nonempty_parts value)
+
+-- dependencies with more of them behind, unless one of these is none
+abbrev pub with_needs : List FieldValue → Option (List FieldValue) → Option (List FieldValue)
+with_needs before needs = option_map (λ needs. before ++ needs) needs

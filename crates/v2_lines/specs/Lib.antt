@@ -1,0 +1,7 @@
+-- what the contract of `read_v2` says
+pub mod InfoFields
+pub mod InfoValues
+pub mod Accesses
+pub mod Lines
+-- what only inner contracts and proofs use
+pub mod Views

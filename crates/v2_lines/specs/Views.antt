@@ -1,0 +1,34 @@
+-- What the program's values stand for.
+use Rattle.std.specs.Prelude.{ℕ, List, [], ◌∷◌, map, Vec}
+use Rattle.std.specs.declared.alloc.Global.{Global}
+use Rattle.dep_core.specs.Meets.{dependency}
+use Rattle.dep_core.specs.declared.dep.Dep.{Dep}
+use Rattle.make_info.specs.Fields.{FieldValue, text, number, need}
+use Rattle.v2_lines.specs.Accesses.{access_view}
+use Rattle.v2_lines.specs.Lines.{RecordLine, info_line, folder_line, folder_access_line, file_line, file_access_line, file_hash_line, other_line}
+use Rattle.v2_lines.specs.declared.line.Line.{Line}
+use Rattle.v2_lines.specs.declared.line.Line.TheVariants as Lines
+use Rattle.v2_lines.specs.declared.value.Value.{Value}
+use Rattle.v2_lines.specs.declared.value.Value.TheVariants.{Text, Bytes, Number, Needs, Nothing}
+
+abbrev pub bytes_view : Vec ℕ Global → List ℕ
+bytes_view v = v.items
+
+abbrev pub needs_view : Vec Dep Global → List FieldValue
+needs_view v = map (λ d. need (dependency d)) v.items
+
+abbrev pub line_value_view : Value → List FieldValue
+line_value_view (Text t) = text t.now ∷ []
+line_value_view (Bytes b) = text b.items ∷ []
+line_value_view (Number n) = number n ∷ []
+line_value_view (Needs ds) = needs_view ds
+line_value_view Nothing = []
+
+abbrev pub line_view : Line → RecordLine
+line_view (Lines.Info f v) = info_line f (line_value_view v)
+line_view (Lines.Folder name) = folder_line name.now
+line_view (Lines.FolderAccess a) = folder_access_line (access_view a)
+line_view (Lines.File name) = file_line name.now
+line_view (Lines.FileAccess a) = file_access_line (access_view a)
+line_view (Lines.FileHash bytes) = file_hash_line bytes.items
+line_view Lines.Other = other_line

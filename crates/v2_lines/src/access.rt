@@ -1,0 +1,107 @@
+//! Who may do what with a file or a folder: `uid:gid:mode`.
+ghost use Rattle.std.specs.List.{list_all};
+ghost use Rattle.std.specs.Option.{option_map};
+ghost use Rattle.std.specs.Prelude.{◌≡◌, ◌==◌, ◌<◌, IfSome, length, position, true};
+ghost use Rattle.std.specs.Char.{is_ascii_digit};
+ghost use Rattle.v2_lines.specs.Accesses.{access_in, access_view, before_colon, behind_colon, is_id, is_octal, is_octal_digit, octal_number};
+
+use std::str;
+
+/// What stands between the parts of an access.
+const COLON: u8 = b':';
+
+/// Whose a file or a folder is, and its mode.
+#[derive(Clone, Copy)]
+pub struct Access<'a> {
+    /// The user's number, in decimal digits.
+    pub user: &'a [u8],
+    /// The group's number, in decimal digits.
+    pub group: &'a [u8],
+    pub mode: u64,
+}
+
+/// Reads `uid:gid:mode`. Parts behind the third are passed over.
+pub(crate) fn read_access(text: &[u8]) -> Option<Access<'_>>
+    ensures { option_map access_view result ≡ access_in text.now }
+{
+    let user = before_colon(text);
+    let rest = behind_colon(text);
+    let group = before_colon(rest);
+    if !is_id(user) || !is_id(group) {
+        return None;
+    }
+    let mode = read_octal(before_colon(behind_colon(rest)))?;
+    Some(Access { user, group, mode })
+}
+
+fn colon_in(text: &[u8]) -> Option<usize>
+    ensures at { result ≡ position (λ b. b == COLON) text.now }
+    ensures within { IfSome result (λ at. at < length text.now) }
+{
+    text.iter().position(|byte| *byte == COLON)
+}
+
+// What stands before the first colon; all where there is none.
+fn before_colon(text: &[u8]) -> &[u8]
+    ensures { result.now ≡ before_colon text.now }
+{
+    match colon_in(text) {
+        Some(at) => &text[..at],
+        None => text,
+    }
+}
+
+// What stands behind the first colon; nothing where there is none.
+fn behind_colon(text: &[u8]) -> &[u8]
+    ensures { result.now ≡ behind_colon text.now }
+{
+    match colon_in(text) {
+        Some(at) => &text[at + 1..],
+        None => &[],
+    }
+}
+
+// Whether a text is one or more decimal digits.
+fn is_id(text: &[u8]) -> bool
+    ensures { result ≡ is_id text.now }
+{
+    !text.is_empty() && are_digits(text)
+}
+
+fn are_digits(text: &[u8]) -> bool
+    ensures { result ≡ list_all is_ascii_digit text.now }
+{
+    text.iter().all(|byte| byte.is_ascii_digit())
+}
+
+// The number that octal digits are. None: they are none, or it is above 2^64 - 1.
+fn read_octal(digits: &[u8]) -> Option<u64>
+    ensures { result ≡ octal_number digits.now }
+{
+    if !is_octal(digits) {
+        return None;
+    }
+    match str::from_utf8(digits) {
+        Ok(text) => u64::from_str_radix(text, 8).ok(),
+        Err(_) => None,
+    }
+}
+
+// Whether a text is one or more octal digits.
+fn is_octal(text: &[u8]) -> bool
+    ensures { result ≡ is_octal text.now }
+{
+    !text.is_empty() && are_octal_digits(text)
+}
+
+fn are_octal_digits(text: &[u8]) -> bool
+    ensures { result ≡ list_all is_octal_digit text.now }
+{
+    text.iter().all(|byte| is_octal_digit(*byte))
+}
+
+fn is_octal_digit(byte: u8) -> bool
+    ensures { result ≡ is_octal_digit byte }
+{
+    matches!(byte, b'0'..=b'7')
+}

@@ -1,0 +1,147 @@
+//! The fields of a package that lines of a text database give, by the letters of the lines.
+ghost use Rattle.std.specs.Prelude.{◌≡◌, ◌==◌};
+ghost use Rattle.v2_lines.specs.InfoFields.{info_field_among, field_of_letter, grammar_of, adds_to_list, letter_of};
+
+/// A field of a package that a line gives (the installed database of apk-tools 2).
+#[derive(Clone, Copy, Debug, PartialEq, Eq)]
+pub enum InfoField {
+    Hashes,
+    Name,
+    Version,
+    Arch,
+    Description,
+    Url,
+    License,
+    Origin,
+    Maintainer,
+    InstalledSize,
+    BuildTime,
+    ProviderPriority,
+    ReplacesPriority,
+    RepoCommit,
+    Depends,
+    Provides,
+    Replaces,
+    InstallIf,
+}
+
+/// What a value has to be.
+#[derive(Clone, Copy)]
+pub enum Grammar {
+    /// `Q1` and the base64 of the 20 bytes of a SHA-1.
+    Sha1Text,
+    /// A package's name.
+    PackageName,
+    /// A version.
+    PackageVersion,
+    /// Any text.
+    AnyText,
+    /// A decimal number below 2^64 without leading zeros.
+    Number,
+    /// Any text, of which only pairs of hexadecimal digits say something.
+    Commit,
+    /// Dependencies without tag, with spaces between them.
+    Dependencies,
+}
+
+// All fields.
+static FIELDS: [InfoField; 18] = [
+    InfoField::Hashes,
+    InfoField::Name,
+    InfoField::Version,
+    InfoField::Arch,
+    InfoField::Description,
+    InfoField::Url,
+    InfoField::License,
+    InfoField::Origin,
+    InfoField::Maintainer,
+    InfoField::InstalledSize,
+    InfoField::BuildTime,
+    InfoField::ProviderPriority,
+    InfoField::ReplacesPriority,
+    InfoField::RepoCommit,
+    InfoField::Depends,
+    InfoField::Provides,
+    InfoField::Replaces,
+    InfoField::InstallIf,
+];
+
+impl InfoField {
+    /// The field whose lines begin with a letter.
+    #[tactic(auto, unfolding(crate::specs::InfoFields::field_of_letter))]
+    pub(crate) fn of(letter: u8) -> Option<InfoField>
+        ensures { result ≡ field_of_letter letter }
+    {
+        find_by_letter(&FIELDS, letter)
+    }
+
+    /// The letter with which its lines begin.
+    fn letter(self) -> u8
+        ensures { result ≡ letter_of self }
+    {
+        match self {
+            InfoField::Hashes => b'C',
+            InfoField::Name => b'P',
+            InfoField::Version => b'V',
+            InfoField::Arch => b'A',
+            InfoField::Description => b'T',
+            InfoField::Url => b'U',
+            InfoField::License => b'L',
+            InfoField::Origin => b'o',
+            InfoField::Maintainer => b'm',
+            InfoField::InstalledSize => b'I',
+            InfoField::BuildTime => b't',
+            InfoField::ProviderPriority => b'k',
+            InfoField::ReplacesPriority => b'q',
+            InfoField::RepoCommit => b'c',
+            InfoField::Depends => b'D',
+            InfoField::Provides => b'p',
+            InfoField::Replaces => b'r',
+            InfoField::InstallIf => b'i',
+        }
+    }
+
+    /// What a value of it has to be.
+    pub(crate) fn grammar(self) -> Grammar
+        ensures { result ≡ grammar_of self }
+    {
+        match self {
+            InfoField::Hashes => Grammar::Sha1Text,
+            InfoField::Name => Grammar::PackageName,
+            InfoField::Version => Grammar::PackageVersion,
+            InfoField::Arch
+            | InfoField::Description
+            | InfoField::Url
+            | InfoField::License
+            | InfoField::Origin
+            | InfoField::Maintainer => Grammar::AnyText,
+            InfoField::InstalledSize
+            | InfoField::BuildTime
+            | InfoField::ProviderPriority
+            | InfoField::ReplacesPriority => Grammar::Number,
+            InfoField::RepoCommit => Grammar::Commit,
+            InfoField::Depends | InfoField::Provides | InfoField::Replaces | InfoField::InstallIf =>
+                Grammar::Dependencies,
+        }
+    }
+
+    /// Whether a record may have several lines of it, each of which adds to a list.
+    pub fn adds_to_list(self) -> bool
+        ensures { result ≡ adds_to_list self }
+    {
+        matches!(
+            self,
+            InfoField::Depends | InfoField::Provides | InfoField::Replaces | InfoField::InstallIf
+        )
+    }
+}
+
+// The first of some fields whose lines begin with a letter.
+fn find_by_letter(fields: &[InfoField], letter: u8) -> Option<InfoField>
+    ensures { result ≡ info_field_among fields.now letter }
+{
+    fields
+        .iter()
+        .copied()
+        .find(|field| field.letter() == letter)
+}

@@ -1,0 +1,144 @@
+//! A line of a text database: a letter, a colon and a value.
+ghost use Rattle.adb_rules.specs.Rules.{is_folder_name, is_one_part};
+ghost use Rattle.std.specs.List.{list_any};
+ghost use Rattle.std.specs.Option.{option_map};
+ghost use Rattle.std.specs.Prelude.{◌≡◌, ◌==◌, IfOk};
+ghost use Rattle.v2_lines.specs.InfoFields.{field_of_letter};
+ghost use Rattle.v2_lines.specs.InfoValues.{sha1_of};
+ghost use Rattle.v2_lines.specs.Lines.{file_hash_line, folder_line_of, file_line_of, info_line_by, record_line_by, record_line_of};
+ghost use Rattle.v2_lines.specs.Views.{line_view};
+
+use crate::access::{Access, read_access};
+use crate::field::InfoField;
+use crate::value::{Value, read_sha1, read_value};
+use base_core::is_name;
+use std::alloc::{AllocError, Global};
+
+/// What stands behind the letter.
+const MARK: u8 = b':';
+
+/// The letter of a line that starts a folder.
+const FOLDER: u8 = b'F';
+
+/// The letter of a line that says whose the folder is.
+const FOLDER_ACCESS: u8 = b'M';
+
+/// The letter of a line that starts a file.
+const FILE: u8 = b'R';
+
+/// The letter of a line that says whose the file is.
+const FILE_ACCESS: u8 = b'a';
+
+/// The letter of a line with the file's hash.
+const FILE_HASH: u8 = b'Z';
+
+/// What a line of a record says (the installed database of apk-tools 2).
+#[derive(Drop)]
+pub enum Line<'a> {
+    /// Something of the package.
+    Info(InfoField, Value<'a>),
+    /// A folder of this name begins; the root's name is empty.
+    Folder(&'a [u8]),
+    /// Whose the folder is.
+    FolderAccess(Access<'a>),
+    /// A file of this name begins in the folder.
+    File(&'a [u8]),
+    /// Whose the file is.
+    FileAccess(Access<'a>),
+    /// The SHA-1 of the file's bytes.
+    FileHash(Vec<u8>),
+    /// Nothing that is kept.
+    Other,
+}
+
+/// Reads a line without its line end. None: it has no `:` behind its letter, or its value is
+/// outside of the letter's grammar.
+pub fn read_line<'a>(alloc: Global, line: &'a [u8]) -> Result<Option<Line<'a>>, AllocError>
+    ensures { IfOk result (λ found. option_map line_view found ≡ record_line_of line.entry.now) }
+{
+    match line {
+        [letter, MARK, value @ ..] => read_by_letter(alloc, *letter, value),
+        _ => Ok(None),
+    }
+}
+
+#[tactic(auto, unfolding(crate::specs::Lines::record_line_by))]
+fn read_by_letter<'a>(
+    alloc: Global,
+    letter: u8,
+    value: &'a [u8],
+) -> Result<Option<Line<'a>>, AllocError>
+    ensures { IfOk result (λ found. option_map line_view found
+        ≡ record_line_by letter value.entry.now) }
+{
+    match letter {
+        FOLDER => Ok(folder_line(value)),
+        FOLDER_ACCESS => Ok(read_access(value).map(Line::FolderAccess)),
+        FILE => Ok(file_line(value)),
+        FILE_ACCESS => Ok(read_access(value).map(Line::FileAccess)),
+        FILE_HASH => read_file_hash(alloc, value),
+        _ => read_info(alloc, letter, value),
+    }
+}
+
+// A folder's name is a path, or empty.
+fn folder_line(name: &[u8]) -> Option<Line<'_>>
+    ensures { option_map line_view result ≡ folder_line_of name.now }
+{
+    if !is_folder_name(name) {
+        return None;
+    }
+    Some(Line::Folder(name))
+}
+
+fn is_folder_name(name: &[u8]) -> bool
+    ensures { result ≡ is_folder_name name.now }
+{
+    name.is_empty() || is_name(name)
+}
+
+// A file's name is one part of a path.
+fn file_line(name: &[u8]) -> Option<Line<'_>>
+    ensures { option_map line_view result ≡ file_line_of name.now }
+{
+    if !is_one_part(name) {
+        return None;
+    }
+    Some(Line::File(name))
+}
+
+fn is_one_part(name: &[u8]) -> bool
+    ensures { result ≡ is_one_part name.now }
+{
+    is_name(name) && !has_slash(name)
+}
+
+fn has_slash(name: &[u8]) -> bool
+    ensures { result ≡ list_any (λ b. b == 47) name.now }
+{
+    name.contains(&b'/')
+}
+
+fn read_file_hash<'a>(alloc: Global, value: &[u8]) -> Result<Option<Line<'a>>, AllocError>
+    ensures { IfOk result (λ found. option_map line_view found
+        ≡ option_map file_hash_line (sha1_of value.now)) }
+{
+    match read_sha1(alloc, value)? {
+        Some(bytes) => Ok(Some(Line::FileHash(bytes))),
+        None => Ok(None),
+    }
+}
+
+// A line of the package itself; one of another letter says nothing.
+fn read_info<'a>(alloc: Global, letter: u8, value: &'a [u8]) -> Result<Option<Line<'a>>, AllocError>
+    ensures { IfOk result (λ found. option_map line_view found
+        ≡ info_line_by (field_of_letter letter) value.entry.now) }
+{
+    let Some(field) = InfoField::of(letter) else {
+        return Ok(Some(Line::Other));
+    };
+    match read_value(alloc, field, value)? {
+        Some(value) => Ok(Some(Line::Info(field, value))),
+        None => Ok(None),
+    }
+}

@@ -1,0 +1,148 @@
+//! The values of lines: hashes, numbers, and lists of dependencies.
+ghost use Rattle.dep_core.specs.Meets.{dependency};
+ghost use Rattle.hex.specs.Hex.{decode_of};
+ghost use Rattle.base64.specs.Engines.{standard};
+ghost use Rattle.base64.specs.GeneralPurpose.{decode_of as base64_bytes};
+ghost use Rattle.make_info.specs.Fields.{decimal_number, needs_in, nonempty_parts, text_if};
+ghost use Rattle.make_info.specs.Reading.{nonempty_part};
+ghost use Rattle.std.specs.Option.{option_map};
+ghost use Rattle.std.specs.Prelude.{◌≡◌, ◌++◌, ◌==◌, IfOk, None, Some, if◌then◌else◌, length};
+ghost use Rattle.v2_lines.specs.InfoFields.{grammar_of};
+ghost use Rattle.v2_lines.specs.InfoValues.{commit_values, one_number, one_text, sha1_of, twenty_bytes, values_by_grammar, with_needs};
+ghost use Rattle.v2_lines.specs.Views.{bytes_view, needs_view, line_value_view};
+
+use crate::field::{Grammar, InfoField};
+use base64::DecodeAllocError;
+use base64::engine::general_purpose::STANDARD;
+use dep_core::{Dep, is_package_name};
+use hex::FromHexError;
+use make_info::{read_need, read_number};
+use std::alloc::{AllocError, Global};
+use version_core::Version;
+
+/// How many bytes a SHA-1 has.
+const SHA1_LEN: usize = 20;
+
+/// What a line says of its field.
+#[derive(Drop)]
+pub enum Value<'a> {
+    Text(&'a [u8]),
+    Bytes(Vec<u8>),
+    Number(u64),
+    Needs(Vec<Dep<'a>>),
+    /// Nothing: the text is dropped.
+    Nothing,
+}
+
+/// Reads the value of a field. None: it is outside of the field's grammar.
+pub(crate) fn read_value<'a>(
+    alloc: Global,
+    field: InfoField,
+    text: &'a [u8],
+) -> Result<Option<Value<'a>>, AllocError>
+    ensures { IfOk result (λ found. option_map line_value_view found
+        ≡ values_by_grammar (grammar_of field) text.entry.now) }
+{
+    match field.grammar() {
+        Grammar::Sha1Text => read_bytes(alloc, text),
+        Grammar::PackageName => Ok(text_if(text, is_package_name(text))),
+        Grammar::PackageVersion => Ok(text_if(text, Version::read(text).is_some())),
+        Grammar::AnyText => Ok(text_if(text, true)),
+        Grammar::Number => Ok(number_value(text)),
+        Grammar::Commit => read_commit(alloc, text),
+        Grammar::Dependencies => read_needs(alloc, text),
+    }
+}
+
+// A text that is good or not.
+fn text_if(text: &[u8], is_good: bool) -> Option<Value<'_>>
+    ensures { option_map line_value_view result ≡ text_if is_good text.now }
+{
+    if !is_good {
+        return None;
+    }
+    Some(Value::Text(text))
+}
+
+fn number_value<'a>(digits: &[u8]) -> Option<Value<'a>>
+    ensures { option_map line_value_view result
+        ≡ option_map one_number (decimal_number digits.now) }
+{
+    let n = read_number(digits)?;
+    Some(Value::Number(n))
+}
+
+fn read_bytes<'a>(alloc: Global, text: &[u8]) -> Result<Option<Value<'a>>, AllocError>
+    ensures { IfOk result (λ found. option_map line_value_view found
+        ≡ option_map one_text (sha1_of text.now)) }
+{
+    match read_sha1(alloc, text)? {
+        Some(bytes) => Ok(Some(Value::Bytes(bytes))),
+        None => Ok(None),
+    }
+}
+
+/// The SHA-1 that a text is: `Q1` and its base64 (RFC 4648).
+pub(crate) fn read_sha1(alloc: Global, text: &[u8]) -> Result<Option<Vec<u8>>, AllocError>
+    ensures { IfOk result (λ found. option_map bytes_view found ≡ sha1_of text.now) }
+{
+    match text {
+        [b'Q', b'1', encoded @ ..] => read_twenty_bytes(alloc, encoded),
+        _ => Ok(None),
+    }
+}
+
+fn read_twenty_bytes(alloc: Global, encoded: &[u8]) -> Result<Option<Vec<u8>>, AllocError>
+    ensures { IfOk result (λ found. option_map bytes_view found
+        ≡ twenty_bytes (base64_bytes standard encoded.now)) }
+{
+    match STANDARD.decode(alloc, encoded) {
+        Ok(bytes) if bytes.len() == SHA1_LEN => Ok(Some(bytes)),
+        Ok(_) => Ok(None),
+        Err(DecodeAllocError::DecodeError(_)) => Ok(None),
+        Err(DecodeAllocError::OutOfMemory) => Err(AllocError),
+    }
+}
+
+// The bytes of pairs of digits; another text is dropped.
+fn read_commit<'a>(alloc: Global, text: &[u8]) -> Result<Option<Value<'a>>, AllocError>
+    ensures { IfOk result (λ found. option_map line_value_view found
+        ≡ Some (commit_values (decode_of text.now))) }
+{
+    match hex::decode(alloc, text) {
+        Ok(bytes) => Ok(Some(Value::Bytes(bytes))),
+        Err(FromHexError::OutOfMemory) => Err(AllocError),
+        Err(_) => Ok(Some(Value::Nothing)),
+    }
+}
+
+// Dependencies with spaces between them.
+fn read_needs<'a>(alloc: Global, text: &'a [u8]) -> Result<Option<Value<'a>>, AllocError>
+    ensures { IfOk result (λ found. option_map line_value_view found
+        ≡ needs_in (nonempty_parts text.entry.now)) }
+{
+    let mut needs = Vec::new(alloc);
+    for part in text.split(|byte| *byte == b' ') {
+        if !add_need(&mut needs, part)? {
+            return Ok(None);
+        }
+    }
+    Ok(Some(Value::Needs(needs)))
+}
+
+// Adds a dependency, or nothing for an empty part. False: it is no dependency without tag.
+fn add_need<'a>(needs: &mut Vec<Dep<'a>>, part: &'a [u8]) -> Result<bool, AllocError>
+    ensures { IfOk result (λ good. (if good then Some (needs_view needs.new) else None)
+        ≡ with_needs (needs_view needs.old) (needs_in (nonempty_part part.entry.now))) }
+{
+    if part.is_empty() {
+        return Ok(true);
+    }
+    match read_need(part) {
+        Some(need) => {
+            needs.push(need)?;
+            Ok(true)
+        }
+        None => Ok(false),
+    }
+}

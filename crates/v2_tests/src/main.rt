@@ -1,0 +1,84 @@
+//! Answers questions to `v2_core`: what is read of a text database. Its stored run has all rows;
+//! `tests/lines.md` describes their form.
+#![tactic(auto)]
+
+mod texts;
+
+use base_core::Words;
+use row_lines::{Subject, number_of, run_lines, value_named, word_at};
+use std::alloc::{AllocError, Global};
+use std::io;
+use std::io::{Read, Write};
+use std::process::ExitCode;
+use texts::{add_package_count, add_read};
+
+/// What is asked.
+#[derive(Clone, Copy)]
+enum Question {
+    Read,
+    ReadRepeated,
+    CountPackages,
+}
+
+#[rattlefmt::skip]
+const QUESTIONS: [(&[u8], Question); 3] = [
+    (b"read", Question::Read),
+    (b"read_repeated", Question::ReadRepeated),
+    (b"count_packages", Question::CountPackages),
+];
+
+/// The crate; it keeps nothing from one row to the next.
+#[derive(Drop)]
+struct TextDatabases;
+
+impl Subject for TextDatabases {
+    fn answer(
+        &mut self,
+        alloc: Global,
+        words: &Words,
+        answer: &mut Vec<u8>,
+    ) -> Result<(), AllocError> {
+        let Some(question) = value_named(&QUESTIONS, word_at(words, 0)) else {
+            return answer.extend_from_slice(b"no question");
+        };
+        match question {
+            Question::Read => add_read(alloc, word_at(words, 1), answer),
+            Question::ReadRepeated => {
+                let text = repeated_text(alloc, words)?;
+                add_read(alloc, &text, answer)
+            }
+            Question::CountPackages => {
+                add_package_count(alloc, count_of(word_at(words, 1)), answer)
+            }
+        }
+    }
+}
+
+/// The text of `read_repeated FRONT COUNT PART BACK`: a front, a part so many times, and a back.
+fn repeated_text(alloc: Global, words: &Words) -> Result<Vec<u8>, AllocError> {
+    let mut text = Vec::new(alloc);
+    text.extend_from_slice(word_at(words, 1))?;
+    for _ in 0..count_of(word_at(words, 2)) {
+        text.extend_from_slice(word_at(words, 3))?;
+    }
+    text.extend_from_slice(word_at(words, 4))?;
+    Ok(text)
+}
+
+/// The number that a word is; 0 where it is none.
+fn count_of(word: &[u8]) -> u32 {
+    number_of(word)
+        .and_then(|number| u32::try_from(number).ok())
+        .unwrap_or(0)
+}
+
+fn main(rt: HostRuntime) -> io::Result<ExitCode> {
+    let alloc = rt.alloc();
+    let mut text = Vec::new(alloc);
+    rt.stdin().read_to_end(&mut text)?;
+    let mut databases = TextDatabases;
+    let mut report = Vec::new(alloc);
+    let passed = run_lines(alloc, &mut databases, &text, &mut report)?;
+    rt.stdout().write_all(&report)?;
+    Ok(ExitCode::from(if passed { 0 } else { 1 }))
+}

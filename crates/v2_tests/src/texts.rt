@@ -1,0 +1,83 @@
+//! What is read of a text database: the dump of what it says, or why it is refused.
+
+ghost use Rattle.std.specs.Prelude.{◌≡◌, IfOk};
+ghost use Rattle.adb_schema.specs.Checked.{which_of};
+ghost use Rattle.adb_tables.specs.declared.tables.Which.TheVariants as Tables;
+
+use adb_dump::dump;
+use adb_schema::{Checked, Which, shape};
+use adb_view::Adb;
+use base_core::Cause;
+use row_lines::add_number;
+use std::alloc::{AllocError, Global};
+use v2_core::{V2Fault, read_v2};
+
+/// Adds the dump of the database that a text says, or why the text is refused.
+pub fn add_read(alloc: Global, text: &[u8], answer: &mut Vec<u8>) -> Result<(), AllocError> {
+    match read_v2(alloc, text) {
+        Ok(payload) => add_dump(alloc, &payload, answer),
+        Err(fault) => add_fault(alloc, fault, answer),
+    }
+}
+
+fn add_dump(alloc: Global, payload: &[u8], answer: &mut Vec<u8>) -> Result<(), AllocError> {
+    let Ok(adb) = Adb::new(payload) else {
+        return answer.extend_from_slice(b"no payload");
+    };
+    let Ok(shaped) = shape(adb, Which::Idb) else {
+        return answer.extend_from_slice(b"no database");
+    };
+    let text = dump(alloc, &shaped)?;
+    answer.extend_from_slice(text.as_bytes())
+}
+
+/// Adds the number of the first bad line, another fault as its variant and its fields, or nothing
+/// for want of memory, which is passed on.
+fn add_fault(alloc: Global, fault: V2Fault, answer: &mut Vec<u8>) -> Result<(), AllocError> {
+    match fault {
+        V2Fault::Bad(Cause::TextLine { line }) => {
+            answer.extend_from_slice(b"bad line ")?;
+            add_number(alloc, answer, u128::from(line))
+        }
+        V2Fault::Bad(cause) => {
+            let text = format!(in alloc; "{cause:?}")?;
+            answer.extend_from_slice(text.as_bytes())
+        }
+        V2Fault::TooLarge { bytes, values } => {
+            let text = format!(in alloc; "{bytes} bytes and {values} values are too many")?;
+            answer.extend_from_slice(text.as_bytes())
+        }
+        V2Fault::Memory => Err(AllocError),
+    }
+}
+
+/// Adds how many packages are read of a text that has so many.
+pub fn add_package_count(
+    alloc: Global,
+    packages: u32,
+    answer: &mut Vec<u8>,
+) -> Result<(), AllocError> {
+    let mut text = Vec::new(alloc);
+    for i in 0..packages {
+        let record = format!(in alloc; "P:p{i}\nV:{i}\n\n")?;
+        text.extend_from_slice(record.as_bytes())?;
+    }
+    match read_v2(alloc, &text) {
+        Ok(payload) => add_count(alloc, &payload, answer),
+        Err(fault) => add_fault(alloc, fault, answer),
+    }
+}
+
+fn add_count(alloc: Global, payload: &[u8], answer: &mut Vec<u8>) -> Result<(), AllocError> {
+    let Ok(checked) = checked_database(payload) else {
+        return answer.extend_from_slice(b"no database");
+    };
+    add_number(alloc, answer, checked.idb().packages().len() as u128)
+}
+
+fn checked_database(payload: &[u8]) -> Result<Checked<'_>, Cause>
+    ensures { IfOk result (λ checked. which_of checked ≡ Tables.Idb) }
+{
+    let shaped = shape(Adb::new(payload)?, Which::Idb)?;
+    Checked::new(shaped)
+}
