@@ -1,10 +1,10 @@
 -- The claims of a path are those of the members that list it.
-use Rattle.std.proofs.Common.{◌≡◌, ℕ, suc, zero, ◌+◌, Bool, true, false, cond, List, [], ◌∷◌, ◌++◌, length, map, Option, Some, None, refl, ap, sym, ◌∙◌, subst, arith}
+use Rattle.std.proofs.Common.{◌≡◌, ℕ, suc, zero, ◌+◌, Bool, true, false, cond, List, [], ◌∷◌, ◌++◌, length, map, Option, Some, refl, ap, sym, ◌∙◌, subst, arith}
 use Rattle.std.specs.Prelude.{bytes_eq, option_map, slice_get, IfOk, Result, Ok, Err}
 use Rattle.std.specs.declared.alloc.AllocError.{AllocError}
 use Rattle.list_order.specs.Sorted.{sorted_by}
 use Rattle.std.specs.List.{filter}
-use Rattle.db_core.specs.Members.{Listing, Member, claims_of, listings_of}
+use Rattle.db_core.specs.Members.{Listing, Member, claims_of, member_listings}
 use Rattle.path_claims.specs.Claims.{AreNumbered, PathClaim, claim_cmp, claimants, contested_by, is_member, is_of_path, is_owner_by, owner_by}
 use Rattle.path_claims.specs.ContestedSeen.{contested_seen}
 use Rattle.path_claims.specs.Seen.{claim_seen}
@@ -33,9 +33,9 @@ gathered cs (l ∷ ls) =
     ∙ (ap (λ n. (cs ++ (claim_by (length cs) l ∷ [])) ++ claims_from n ls) (one_longer cs (claim_by (length cs) l))
     ∙ joined cs (claim_by (length cs) l) (claims_from (length cs + 1) ls))
 
-pub all_gathered : (members : List Member) → with_listings [] (listings_of members) ≡ claims_in members
+pub all_gathered : (members : List Member) → with_listings [] (member_listings members) ≡ claims_in members
 unfolding claims_in
-all_gathered members = gathered [] (listings_of members)
+all_gathered members = gathered [] (member_listings members)
 
 -- ---- their numbers
 
@@ -46,7 +46,7 @@ numbered_from n (l ∷ ls) (suc i) c g = let r = numbered_from (n + 1) ls i c g 
 
 pub claims_numbered : (members : List Member) → AreNumbered (claims_in members)
 unfolding claims_in
-claims_numbered members i c g = let r = numbered_from 0 (listings_of members) i c g in omega arith
+claims_numbered members i c g = let r = numbered_from 0 (member_listings members) i c g in omega arith
 
 -- ---- who claims a path
 
@@ -62,7 +62,7 @@ claimants_from path n (l ∷ ls) = go (bytes_eq l.path path) (claimants_from pat
 
 pub owner_is : (members : List Member) (path : List ℕ) → owner_by (member_beats members) (claims_in members) path ≡ owner_of_path members path
 unfolding claims_in claims_of owner_of_path
-owner_is members path = ap (winner (member_beats members)) (claimants_from path 0 (listings_of members))
+owner_is members path = ap (winner (member_beats members)) (claimants_from path 0 (member_listings members))
 
 pub owners_are : (members : List Member) (cs : List PathClaim) → map (λ c. owner_by (member_beats members) (claims_in members) c.path) cs ≡ map (λ c. owner_of_path members c.path) cs
 owners_are members [] = refl
@@ -80,38 +80,38 @@ pub owned_is : (members : List Member) → map (is_owner_by (member_beats member
 unfolding owned_of
 owned_is members = by_claims (claims_in members) refl
   where
-    by_claims : (cs : List PathClaim) → cs ≡ claims_in members → map (is_owner_by (member_beats members) (claims_in members)) cs ≡ map (λ l. is_member l.place (owner_of_path members l.path)) (listings_of members)
+    by_claims : (cs : List PathClaim) → cs ≡ claims_in members → map (is_owner_by (member_beats members) (claims_in members)) cs ≡ map (λ l. is_member l.place (owner_of_path members l.path)) (member_listings members)
     by_claims cs e =
-        ap (map (is_owner_by (member_beats members) (claims_in members))) (e ∙ sym (all_gathered members) ∙ gathered [] (listings_of members))
-        ∙ (flags_from (owner_by (member_beats members) (claims_in members)) 0 (listings_of members)
-        ∙ flags_ext (owner_by (member_beats members) (claims_in members)) (owner_of_path members) (owner_is members) (listings_of members))
+        ap (map (is_owner_by (member_beats members) (claims_in members))) (e ∙ sym (all_gathered members) ∙ gathered [] (member_listings members))
+        ∙ (flags_from (owner_by (member_beats members) (claims_in members)) 0 (member_listings members)
+        ∙ flags_ext (owner_by (member_beats members) (claims_in members)) (owner_of_path members) (owner_is members) (member_listings members))
 
 -- ---- what was gathered
 
-pub gathered_numbered : (members : List Member) (cs : List PathClaim) → cs ≡ with_listings [] (listings_of members) → AreNumbered cs
+pub gathered_numbered : (members : List Member) (cs : List PathClaim) → cs ≡ with_listings [] (member_listings members) → AreNumbered cs
 gathered_numbered members cs e = subst AreNumbered (sym (e ∙ all_gathered members)) (claims_numbered members)
 
-pub claims_seen : (members : List Member) (cs : List PathClaim) (r : Result Owners AllocError) → cs ≡ with_listings [] (listings_of members)
+pub claims_seen : (members : List Member) (cs : List PathClaim) (r : Result Owners AllocError) → cs ≡ with_listings [] (member_listings members)
     → IfOk r (λ found. map claim_seen found.claims.items ≡ sorted_by claim_cmp cs)
     → IfOk r (λ found. map claim_seen found.claims.items ≡ sorted_by claim_cmp (claims_in members))
 claims_seen members cs (Err e) g h = h
 claims_seen members cs (Ok found) g h = h ∙ ap (sorted_by claim_cmp) (g ∙ all_gathered members)
 
-pub owners_seen : (members : List Member) (cs : List PathClaim) (r : Result Owners AllocError) → cs ≡ with_listings [] (listings_of members)
+pub owners_seen : (members : List Member) (cs : List PathClaim) (r : Result Owners AllocError) → cs ≡ with_listings [] (member_listings members)
     → IfOk r (λ found. found.owners.items ≡ map (λ c. owner_by (member_beats members) cs c.path) (map claim_seen found.claims.items))
     → IfOk r (λ found. found.owners.items ≡ map (λ c. owner_of_path members c.path) (map claim_seen found.claims.items))
 owners_seen members cs (Err e) g h = h
 owners_seen members cs (Ok found) g h =
     h ∙ ((λ j. map (λ c. owner_by (member_beats members) ((g ∙ all_gathered members) j) c.path) (map claim_seen found.claims.items)) ∙ owners_are members (map claim_seen found.claims.items))
 
-pub owned_seen : (members : List Member) (cs : List PathClaim) (r : Result Owners AllocError) → cs ≡ with_listings [] (listings_of members)
+pub owned_seen : (members : List Member) (cs : List PathClaim) (r : Result Owners AllocError) → cs ≡ with_listings [] (member_listings members)
     → IfOk r (λ found. found.owned.items ≡ map (is_owner_by (member_beats members) cs) cs)
     → IfOk r (λ found. found.owned.items ≡ owned_of members)
 owned_seen members cs (Err e) g h = h
 owned_seen members cs (Ok found) g h =
     h ∙ ((λ j. map (is_owner_by (member_beats members) ((g ∙ all_gathered members) j)) ((g ∙ all_gathered members) j)) ∙ owned_is members)
 
-pub contested_seen_by : (members : List Member) (cs : List PathClaim) (r : Result Owners AllocError) → cs ≡ with_listings [] (listings_of members)
+pub contested_seen_by : (members : List Member) (cs : List PathClaim) (r : Result Owners AllocError) → cs ≡ with_listings [] (member_listings members)
     → IfOk r (λ found. option_map contested_seen found.contested ≡ contested_by (member_beats members) cs)
     → IfOk r (λ found. option_map contested_seen found.contested ≡ contested_of members)
 unfolding contested_of

@@ -1,13 +1,12 @@
 -- Claims to which the files of folders and members are added one by one.
-use Rattle.std.proofs.Common.{◌≡◌, ℕ, suc, zero, ◌+◌, ◌<◌, ◌≤◌, List, [], ◌∷◌, ◌++◌, length, map, drop, Option, Some, None, refl, ap, sym, ◌∙◌, subst, arith}
+use Rattle.std.proofs.Common.{◌≡◌, ℕ, suc, zero, ◌+◌, ◌<◌, ◌≤◌, List, [], ◌∷◌, ◌++◌, length, drop, Some, refl, ap, sym, ◌∙◌, arith}
 use Rattle.std.specs.Prelude.{slice_get}
 use Rattle.adb_view.specs.Plain.{Plain, Plains, none, more}
 use Rattle.adb_tables.specs.Values.{count_of, nth}
 use Rattle.adb_fields.specs.Paths.{path_of}
 use Rattle.adb_fields.specs.Repeated.{files_in, list_of, name_of}
-use Rattle.db_core.specs.Members.{Listing, Member, listing_of, listings_by, listings_from, listings_in_folder, listings_in_folders, listings_of}
+use Rattle.db_core.specs.Members.{Listing, Member, member_listing, listings_by, listings_from, listings_in_folder, listings_in_folders, member_listings}
 use Rattle.path_claims.specs.Claims.{PathClaim}
-use Rattle.path_claims.proofs.Places.{no_some, value_or}
 use Rattle.file_owners.specs.Gathered.{with_listings}
 use Rattle.file_owners.specs.Owners.{claim_by}
 
@@ -42,7 +41,7 @@ pub file_added : (old now new : List PathClaim) (m : Member) (member folder : �
     → FilesLeft old now m member folder name vs i → FilesLeft old new m member folder name vs (i + 1)
 file_added old now new m member folder name vs i file h e add inv =
     let s : i + 1 ≡ suc i = omega arith in
-    let l : Listing = listing_of m member folder (i + 1) name (nth vs i) in
+    let l : Listing = member_listing m member folder (i + 1) name (nth vs i) in
     let one : new ≡ with_listings now (l ∷ []) = add l (ap (path_of name) (sym e)) refl refl refl in
     (λ j. with_listings (one j) (listings_in_folder m member folder (i + 1 + 1) name (drop (s j) (list_of vs))))
     ∙ (ap (λ ps. with_listings now (listings_in_folder m member folder (i + 1) name ps)) (sym (front vs i h)) ∙ inv)
@@ -100,6 +99,6 @@ member_added now new ms i h add inv =
     ∙ (with_more now (listings_by i f.0) (listings_from (i + 1) (drop (suc i) ms))
     ∙ (ap (λ xs. with_listings now (listings_from i xs)) (sym f.2) ∙ inv))
 
-pub members_added : (now : List PathClaim) (ms : List Member) (i : ℕ) → length ms ≤ i → MembersLeft now ms i → now ≡ with_listings [] (listings_of ms)
-unfolding listings_of
+pub members_added : (now : List PathClaim) (ms : List Member) (i : ℕ) → length ms ≤ i → MembersLeft now ms i → now ≡ with_listings [] (member_listings ms)
+unfolding member_listings
 members_added now ms i h inv = ap (λ xs. with_listings now (listings_from i xs)) (sym (past_members ms i h)) ∙ inv

@@ -1,6 +1,6 @@
 -- Who owns the files that members list.
 use Rattle.std.specs.Prelude.{ℕ, ◌+◌, Bool, false, List, [], ◌∷◌, map, Option, Some, None, slice_get}
-use Rattle.db_core.specs.Members.{Listing, Member, claims_of, listings_of}
+use Rattle.db_core.specs.Members.{Listing, Member, claims_of, member_listings}
 use Rattle.path_claims.specs.Claims.{ContestedPath, PathClaim, contested_by, is_member}
 use Rattle.path_claims.specs.Contest.{winner}
 use Rattle.file_owners.specs.Replaces.{takes_over}
@@ -22,7 +22,7 @@ owner_of_path members path =
 -- for each file that members list, whether its member owns it
 unfoldable pub owned_of : List Member → List Bool
 owned_of members =
-    map (λ l. is_member l.place (owner_of_path members l.path)) (listings_of members)
+    map (λ l. is_member l.place (owner_of_path members l.path)) (member_listings members)
 
 abbrev pub claim_by : ℕ → Listing → PathClaim
 claim_by number l = record {
@@ -40,7 +40,7 @@ claims_from number (l ∷ listings) = claim_by number l ∷ claims_from (number 
 
 -- each file that members list, with how many stand before it
 unfoldable pub claims_in : List Member → List PathClaim
-claims_in members = claims_from 0 (listings_of members)
+claims_in members = claims_from 0 (member_listings members)
 
 -- the first path in byte order that no member owns, with the first member that lists it and the
 -- first other one that this one does not beat

@@ -41,7 +41,8 @@ replacing_priority pkg = int_in (entry_in pkg 4)
 unfoldable pub is_preferred_to : Plain → Plain → Bool
 is_preferred_to x y =
     nat_lt (replacing_priority y) (replacing_priority x)
-    || ((replacing_priority x == replacing_priority y) && precedes (package_name y) (package_name x))
+    || ((replacing_priority x == replacing_priority y)
+    && precedes (package_name y) (package_name x))
 
 -- x takes over the files of y
 unfoldable pub takes_over : Plain → Plain → Bool

@@ -5,7 +5,7 @@ ghost use Rattle.adb_fields.specs.Paths.{path_of};
 ghost use Rattle.adb_fields.specs.ListValue.{list_value};
 ghost use Rattle.adb_fields.specs.Repeated.{files_in, list_of, name_of};
 ghost use Rattle.adb_tables.specs.Values.{count_of, entries_in, nth};
-ghost use Rattle.db_core.specs.Members.{Listing, Member, listings_by, listings_in_folder, listings_in_folders, listings_of};
+ghost use Rattle.db_core.specs.Members.{Listing, Member, listings_by, listings_in_folder, listings_in_folders, member_listings};
 ghost use Rattle.db_core.specs.Seen.{members_of};
 ghost use Rattle.path_claims.specs.Seen.{claim_seen};
 ghost use Rattle.file_owners.specs.Gathered.{with_listings};
@@ -76,7 +76,8 @@ fn add_folder<'a>(
     requires { i < count_of (entries_in (list_value folders.now)) }
     ensures { IfOk result (λ _. (m : Member) → map claim_seen claims.new.items
         ≡ with_listings (map claim_seen claims.old.items)
-        (listings_in_folder m member (i + 1) 1 (name_of (nth (entries_in (list_value folders.now)) i))
+        (listings_in_folder m member (i + 1) 1
+        (name_of (nth (entries_in (list_value folders.now)) i))
         (files_in (nth (entries_in (list_value folders.now)) i)))) }
 {
     if i >= folders.len() {
@@ -130,7 +131,7 @@ pub(crate) fn claims_in<'a>(
 ) -> Result<Vec<Claim<'a>>, AllocError>
     requires { length (members_of members.now) < 2 ^ 32 }
     ensures { IfOk result (λ claims. map claim_seen claims.items
-        ≡ with_listings [] (listings_of (members_of members.now))) }
+        ≡ with_listings [] (member_listings (members_of members.now))) }
 {
     let mut claims = Vec::new(alloc);
     for i in 0..members.len() {

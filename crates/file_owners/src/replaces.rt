@@ -24,11 +24,7 @@ fn is_replaced(dep: &DepView<'_>, name: &[u8], version: &Version<'_>) -> bool
 }
 
 /// Whether one of the entries is positive, and met by a name and a version.
-fn is_any_replaced<'a>(
-    replaces: &List<'a, DepView<'a>>,
-    name: &[u8],
-    version: &Version<'_>,
-) -> bool
+fn is_any_replaced<'a>(replaces: &List<'a, DepView<'a>>, name: &[u8], version: &Version<'_>) -> bool
     ensures { result
         ≡ is_any_replaced (list_of (entries_in (list_value replaces.now))) name.now version.now }
 {

@@ -1,5 +1,5 @@
-//! Answers questions to `file_owners`: who owns the files that packages list. Its stored run has all
-//! rows; `tests/lines.md` describes their form.
+//! Answers questions to `file_owners`: who owns the files that packages list. Its stored run has
+//! all rows; `tests/lines.md` describes their form.
 #![tactic(auto)]
 
 mod answer;

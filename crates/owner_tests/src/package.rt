@@ -62,7 +62,11 @@ fn add_files(dump: &mut Vec<u8>, paths: &[u8]) -> Result<(), AllocError> {
         }
         above = Some(folder);
         add_field(dump, b"      - name: ", name)?;
-        add_rights(dump, b"        acl:\n          mode: 420\n          user: ", b"          group: ")?;
+        add_rights(
+            dump,
+            b"        acl:\n          mode: 420\n          user: ",
+            b"          group: ",
+        )?;
     }
     Ok(())
 }

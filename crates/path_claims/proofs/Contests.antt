@@ -1,7 +1,7 @@
 -- The walk finds the winner, if there is one.
 use Rattle.std.proofs.Common.{◌≡◌, ℕ, suc, zero, ◌<◌, ◌≤◌, Bool, true, false, cond, List, [], ◌∷◌, length, map, drop, Option, Some, None, refl, ap, sym, ◌∙◌, subst, arith, true≢false, inl, inr}
 use Rattle.std.specs.Prelude.{◌||◌, ◌&&◌, ◌⊎◌, ◌==◌, if◌then◌else◌, not, option_map, slice_index_or}
-use Rattle.std.specs.List.{find, list_all, list_any}
+use Rattle.std.specs.List.{find, list_any}
 use borrow.Author.Tests.{eqb-true}
 use Rattle.path_claims.specs.Contest.{beats_each, first_rivals, rivals_of, winner, IsOneWay}
 use Rattle.path_claims.specs.LeftOver.{left_over}
@@ -19,7 +19,6 @@ is_one None = false
 is_one (Some v) = true
 
 found : (p : ℕ → Bool) (xs : List ℕ) (x : ℕ) → find p xs ≡ Some x → (p x ≡ true) × Among x xs
-
 found p [] x h = absurd (true≢false (sym (ap is_one h)))
 found p (y ∷ ys) x h = go (found p ys x) (p y) refl h
   where

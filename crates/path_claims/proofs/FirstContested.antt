@@ -6,19 +6,18 @@ use Rattle.std.specs.Cmp.Lexicographic.{bytes_decides}
 use Rattle.std.specs.List.{find}
 use Rattle.std.specs.List.Sorted.{IsSorted}
 use Rattle.adb_fields.specs.JoinedPath.{joined_path}
-use Rattle.path_claims.specs.Claims.{ContestedPath, PathClaim, claim_cmp, contested_at, is_of_path, owner_by}
+use Rattle.path_claims.specs.Claims.{ContestedPath, PathClaim, claim_cmp, contested_at, is_of_path}
 use Rattle.path_claims.specs.Contest.{first_rivals}
-use Rattle.path_claims.specs.Runs.{are_apart, is_first_of_path, run_of}
+use Rattle.path_claims.specs.Runs.{differ_in_path, is_first_of_path, passing_front}
 use Rattle.path_claims.specs.Seen.{claim_seen}
 use Rattle.path_claims.specs.declared.claim.Claim.{Claim}
 use Rattle.path_claims.specs.declared.contest.Rivals.{Rivals}
-use Rattle.path_claims.proofs.Marks.{get_at}
 use Rattle.path_claims.proofs.Owned.{run_claimants}
 use Rattle.path_claims.proofs.Places.{map_len, no_some, seen_at, value_or}
 
 pub rivals_here : (beats : ℕ → ℕ → Bool) (xs run : List Claim) (i : ℕ) (d : Claim) (o : Option Rivals) → i < length xs → IsSorted claim_cmp (map claim_seen xs)
     → is_first_of_path (map claim_seen xs) i ≡ true
-    → ((c : PathClaim) → slice_get (map claim_seen xs) i ≡ Some c → map claim_seen run ≡ run_of (is_of_path c.path) (drop i (map claim_seen xs)))
+    → ((c : PathClaim) → slice_get (map claim_seen xs) i ≡ Some c → map claim_seen run ≡ passing_front (is_of_path c.path) (drop i (map claim_seen xs)))
     → o ≡ first_rivals beats (map (λ c. c.member) run)
     → (c : PathClaim) → slice_get (map claim_seen xs) i ≡ Some c
     → option_map (λ r. record { path = joined_path (slice_index_or xs i d).path; rivals = r }) o ≡ contested_at beats (map claim_seen xs) c.path
@@ -29,7 +28,7 @@ rivals_here beats xs run i d o l up s h r c g =
 
 pub no_rivals_here : (beats : ℕ → ℕ → Bool) (xs run : List Claim) (i : ℕ) → IsSorted claim_cmp (map claim_seen xs)
     → is_first_of_path (map claim_seen xs) i ≡ true
-    → ((c : PathClaim) → slice_get (map claim_seen xs) i ≡ Some c → map claim_seen run ≡ run_of (is_of_path c.path) (drop i (map claim_seen xs)))
+    → ((c : PathClaim) → slice_get (map claim_seen xs) i ≡ Some c → map claim_seen run ≡ passing_front (is_of_path c.path) (drop i (map claim_seen xs)))
     → None ≡ first_rivals beats (map (λ c. c.member) run)
     → (c : PathClaim) → slice_get (map claim_seen xs) i ≡ Some c → None ≡ contested_at beats (map claim_seen xs) c.path
 no_rivals_here beats xs run i up s h r c g =
@@ -89,11 +88,11 @@ first_of_path f cs os (suc i) e t l h n is inv = at_next (some_at cs (suc i) l)
         let one : y.path ≡ c.path = (bytes_decides y.path c.path).0 r in
         absurd (true≢false (sym (ap (λ p. is_none (f p)) one ∙ q) ∙ p))
 
-    go : (c : PathClaim) → slice_get cs (suc i) ≡ Some c → is_none (f c.path) ≡ true → (b : Option PathClaim) → slice_get cs i ≡ b → are_apart (slice_get cs i) (slice_get cs (suc i)) ≡ true
-    go c here none None k = (λ j. are_apart (k j) (here j))
-    go c here none (Some y) k = (λ j. are_apart (k j) (here j)) ∙ apart y c (inv i y (omega arith) k) none (bytes_eq y.path c.path) refl
+    go : (c : PathClaim) → slice_get cs (suc i) ≡ Some c → is_none (f c.path) ≡ true → (b : Option PathClaim) → slice_get cs i ≡ b → differ_in_path (slice_get cs i) (slice_get cs (suc i)) ≡ true
+    go c here none None k = (λ j. differ_in_path (k j) (here j))
+    go c here none (Some y) k = (λ j. differ_in_path (k j) (here j)) ∙ apart y c (inv i y (omega arith) k) none (bytes_eq y.path c.path) refl
 
-    at_next : (c : PathClaim) × (slice_get cs (suc i) ≡ Some c) → are_apart (slice_get cs i) (slice_get cs (suc i)) ≡ true
+    at_next : (c : PathClaim) × (slice_get cs (suc i) ≡ Some c) → differ_in_path (slice_get cs i) (slice_get cs (suc i)) ≡ true
     at_next p = go p.0 p.1 (ap is_none (sym (owner_seen (λ c. f c.path) cs os (suc i) e p.0 h p.1)) ∙ (sym n ∙ is)) (slice_get cs i) refl
 
 pub contested_here : (f : List ℕ → Option ℕ) (at : List ℕ → Option ContestedPath) (cs : List PathClaim) (os : List (Option ℕ)) (i : ℕ) (e : Option ℕ) (t : Bool) (o : Option ContestedPath) → i < length cs

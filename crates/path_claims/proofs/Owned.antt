@@ -1,19 +1,18 @@
 -- The run of a path is all that claims it, and so has its owner.
-use Rattle.std.proofs.Common.{◌≡◌, ℕ, suc, zero, ◌+◌, ◌<◌, ◌≤◌, Bool, true, false, cond, List, [], ◌∷◌, ◌++◌, length, map, drop, take, Option, Some, None, refl, ap, sym, ◌∙◌, subst, arith, true≢false}
+use Rattle.std.proofs.Common.{◌≡◌, ℕ, suc, zero, ◌+◌, ◌<◌, ◌≤◌, Bool, true, false, List, [], ◌∷◌, ◌++◌, length, map, drop, take, Option, Some, None, refl, ap, sym, ◌∙◌, arith, true≢false}
 use Rattle.std.specs.Prelude.{not, ◌&&◌, slice_get, bytes_eq}
-use Rattle.std.specs.Cmp.{IsStrictWeakOrder}
-use Rattle.std.specs.Cmp.Lexicographic.{slice_cmp, texts_ties, bytes_decides}
+use Rattle.std.specs.Cmp.Lexicographic.{texts_ties, bytes_decides}
 use Rattle.std.specs.List.{filter}
 use Rattle.std.specs.List.Sorted.{IsSorted, ties}
-use Rattle.std.specs.Ordering.{nat_cmp, is_eq, is_lt, ordering_reverse}
+use Rattle.std.specs.Ordering.{is_eq, is_lt, ordering_reverse}
 use Rattle.std.specs.declared.cmp.Ordering.{Ordering}
 use Rattle.std.specs.declared.cmp.Ordering.TheVariants.{Less, Equal, Greater}
 use Rattle.std.proofs.lemmas.Cmp.{nat_list_cmp_total}
 use Rattle.list_order.specs.ByteOrder.{bytes_cmp}
-use Rattle.list_order.proofs.Sorting.{Rises, ranks, rises_sorted}
+use Rattle.list_order.proofs.Sorting.{ranks, rises_sorted}
 use Rattle.path_claims.specs.Claims.{PathClaim, claim_cmp, claimants, is_of_path, owner_by}
 use Rattle.path_claims.specs.Contest.{winner}
-use Rattle.path_claims.specs.Runs.{are_apart, is_first_of_path, run_of}
+use Rattle.path_claims.specs.Runs.{differ_in_path, is_first_of_path, passing_front}
 use Rattle.path_claims.specs.Seen.{claim_seen}
 use Rattle.path_claims.specs.declared.claim.Claim.{Claim}
 use Rattle.path_claims.proofs.ClaimOrder.{claims_total}
@@ -41,7 +40,7 @@ by_not_false true e = refl
 by_not_false false e = absurd (true≢false e)
 
 pub all_of_path : (cs : List PathClaim) → IsSorted claim_cmp cs → (i : ℕ) (c : PathClaim) → slice_get cs i ≡ Some c → is_first_of_path cs i ≡ true
-    → filter (is_of_path c.path) cs ≡ run_of (is_of_path c.path) (drop i cs)
+    → filter (is_of_path c.path) cs ≡ passing_front (is_of_path c.path) (drop i cs)
 all_of_path cs up i c g s =
     let lt : PathClaim → PathClaim → Bool = λ x y. is_lt (claim_cmp x y) in
     sym (filter_ext (ties lt c) (is_of_path c.path) (ties_path c) cs)
@@ -53,7 +52,7 @@ all_of_path cs up i c g s =
     apart (suc i) c g s j y e h =
         let is : j ≡ i = omega arith in
         let k : slice_get cs i ≡ Some y = ap (slice_get cs) (sym is) ∙ h in
-        ties_path c y ∙ by_not (bytes_eq y.path c.path) (sym (λ n. are_apart (k n) (g n)) ∙ s)
+        ties_path c y ∙ by_not (bytes_eq y.path c.path) (sym (λ n. differ_in_path (k n) (g n)) ∙ s)
 
 pub map_seen : {X Y Z : Type 0} (f : X → Y) (g : Y → Z) (xs : List X) → map g (map f xs) ≡ map (λ x. g (f x)) xs
 map_seen f g [] = refl
@@ -61,7 +60,7 @@ map_seen f g (x ∷ xs) = ap (λ r. g (f x) ∷ r) (map_seen f g xs)
 
 -- the members of the run that begins at a claim are all that claim its path
 pub run_claimants : (xs run : List Claim) (i : ℕ) → IsSorted claim_cmp (map claim_seen xs) → is_first_of_path (map claim_seen xs) i ≡ true
-    → ((c : PathClaim) → slice_get (map claim_seen xs) i ≡ Some c → map claim_seen run ≡ run_of (is_of_path c.path) (drop i (map claim_seen xs)))
+    → ((c : PathClaim) → slice_get (map claim_seen xs) i ≡ Some c → map claim_seen run ≡ passing_front (is_of_path c.path) (drop i (map claim_seen xs)))
     → (c : PathClaim) → slice_get (map claim_seen xs) i ≡ Some c → map (λ c. c.member) run ≡ claimants (map claim_seen xs) c.path
 run_claimants xs run i up s h c g =
     sym (map_seen claim_seen (λ c. c.member) run)
@@ -69,7 +68,7 @@ run_claimants xs run i up s h c g =
 
 -- the winner of the run that begins at a claim owns its path
 pub run_owner : (beats : ℕ → ℕ → Bool) (xs run : List Claim) (i : ℕ) (o : Option ℕ) → IsSorted claim_cmp (map claim_seen xs) → true ≡ is_first_of_path (map claim_seen xs) i
-    → ((c : PathClaim) → slice_get (map claim_seen xs) i ≡ Some c → map claim_seen run ≡ run_of (is_of_path c.path) (drop i (map claim_seen xs)))
+    → ((c : PathClaim) → slice_get (map claim_seen xs) i ≡ Some c → map claim_seen run ≡ passing_front (is_of_path c.path) (drop i (map claim_seen xs)))
     → o ≡ winner beats (map (λ c. c.member) run)
     → (c : PathClaim) → slice_get (map claim_seen xs) i ≡ Some c → o ≡ owner_by beats (map claim_seen xs) c.path
 run_owner beats xs run i o up s h w c g =
@@ -83,9 +82,9 @@ same_owner beats cs zero o s h c g = absurd (true≢false (sym s))
 same_owner beats cs (suc i) o s h c g = go (slice_get cs i) refl
   where
     go : (b : Option PathClaim) → slice_get cs i ≡ b → o ≡ owner_by beats cs c.path
-    go None e = absurd (true≢false (sym (s ∙ (λ n. are_apart (e n) (g n)))))
+    go None e = absurd (true≢false (sym (s ∙ (λ n. differ_in_path (e n) (g n)))))
     go (Some y) e =
-        let one : y.path ≡ c.path = (bytes_decides y.path c.path).0 (by_not_false (bytes_eq y.path c.path) (sym (s ∙ (λ n. are_apart (e n) (g n))))) in
+        let one : y.path ≡ c.path = (bytes_decides y.path c.path).0 (by_not_false (bytes_eq y.path c.path) (sym (s ∙ (λ n. differ_in_path (e n) (g n))))) in
         h i y (omega arith) e ∙ ap (owner_by beats cs) one
 
 -- ---- the list of owners, one more

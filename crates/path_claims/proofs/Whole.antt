@@ -1,5 +1,5 @@
 -- Sorted claims are the claims of the list of all, and so are their owners.
-use Rattle.std.proofs.Common.{◌≡◌, ℕ, suc, zero, ◌+◌, ◌<◌, ◌≤◌, Bool, true, false, cond, List, [], ◌∷◌, length, map, Option, Some, None, refl, ap, sym, ◌∙◌, subst, arith, true≢false}
+use Rattle.std.proofs.Common.{◌≡◌, ℕ, suc, zero, ◌<◌, Bool, true, false, cond, List, [], ◌∷◌, length, map, Option, Some, None, refl, ap, sym, ◌∙◌, subst, arith}
 use Rattle.std.specs.Prelude.{is_none, if◌then◌else◌, option_and_then, option_map, slice_get}
 use Rattle.std.specs.Ordering.{is_gt, is_lt}
 use Rattle.std.specs.declared.cmp.Ordering.{Ordering}
@@ -13,7 +13,7 @@ use Rattle.path_claims.specs.Contest.{first_rivals, winner}
 use Rattle.path_claims.proofs.ClaimOrder.{claims_total, paths_total}
 use Rattle.path_claims.proofs.Marks.{AreAlike}
 use Rattle.path_claims.proofs.Owned.{ties_path}
-use Rattle.path_claims.proofs.Places.{map_len, no_some, value_or}
+use Rattle.path_claims.proofs.Places.{no_some, value_or}
 use Rattle.path_claims.proofs.Runs.{filter_ext}
 
 -- ---- the elements stay

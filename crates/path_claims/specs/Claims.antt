@@ -1,5 +1,5 @@
 -- The members that claim a path, and the one that owns it.
-use Rattle.std.specs.Prelude.{◌≡◌, ℕ, ◌==◌, Bool, true, false, List, [], ◌∷◌, map, Option, Some, None, is_none, option_map, option_and_then, slice_get, bytes_eq}
+use Rattle.std.specs.Prelude.{◌≡◌, ℕ, ◌==◌, Bool, false, List, map, Option, Some, None, is_none, option_map, option_and_then, slice_get, bytes_eq}
 use Rattle.std.specs.List.{filter, find}
 use Rattle.std.specs.Ordering.{on}
 use Rattle.std.specs.declared.cmp.Ordering.{Ordering}
@@ -8,8 +8,8 @@ use Rattle.list_order.specs.Sorted.{sorted_by}
 use Rattle.path_claims.specs.Contest.{winner, first_rivals}
 use Rattle.path_claims.specs.declared.contest.Rivals.{Rivals}
 
--- A file that a member lists. The member's place counts from 0, those of the folder and of the file in
--- it count from 1; the number says how many claims stand before it.
+-- A file that a member lists. The member's place counts from 0, those of the folder and of the file
+-- in it count from 1; the number says how many claims stand before it.
 pub record PathClaim : Type 0 where
   pub path : List ℕ
   pub member : ℕ

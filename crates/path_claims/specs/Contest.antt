@@ -1,5 +1,5 @@
 -- Of members that beat each other, the one that beats every other.
-use Rattle.std.specs.Prelude.{◌≡◌, ℕ, ◌==◌, Bool, true, false, not, ◌&&◌, ◌||◌, List, [], ◌∷◌, Option, Some, None, option_map}
+use Rattle.std.specs.Prelude.{◌≡◌, ℕ, ◌==◌, Bool, true, false, not, ◌||◌, List, [], ◌∷◌, Option, None, option_map}
 use Rattle.std.specs.List.{find, list_all}
 use Rattle.path_claims.specs.declared.contest.Rivals.{Rivals}
 

@@ -3,16 +3,16 @@ use Rattle.std.specs.Prelude.{ℕ, zero, suc, Bool, true, not, List, [], ◌∷�
 use Rattle.path_claims.specs.Claims.{PathClaim}
 
 -- the elements from the front on that pass
-abbrev pub run_of : {X : Type 0} → (X → Bool) → List X → List X
-run_of p [] = []
-run_of p (x ∷ xs) = cond (p x) (x ∷ run_of p xs) []
+abbrev pub passing_front : {X : Type 0} → (X → Bool) → List X → List X
+passing_front p [] = []
+passing_front p (x ∷ xs) = cond (p x) (x ∷ passing_front p xs) []
 
-abbrev pub are_apart : Option PathClaim → Option PathClaim → Bool
-are_apart None d = true
-are_apart (Some c) None = true
-are_apart (Some c) (Some d) = not (bytes_eq c.path d.path)
+abbrev pub differ_in_path : Option PathClaim → Option PathClaim → Bool
+differ_in_path None d = true
+differ_in_path (Some c) None = true
+differ_in_path (Some c) (Some d) = not (bytes_eq c.path d.path)
 
 -- the claim has another path than the one before it, if there is one
 abbrev pub is_first_of_path : List PathClaim → ℕ → Bool
 is_first_of_path claims zero = true
-is_first_of_path claims (suc i) = are_apart (slice_get claims i) (slice_get claims (suc i))
+is_first_of_path claims (suc i) = differ_in_path (slice_get claims i) (slice_get claims (suc i))

@@ -1,5 +1,4 @@
 -- What the values of the program stand for.
-use Rattle.std.specs.Prelude.{ℕ, List, Option, Some, None, option_map}
 use Rattle.adb_fields.specs.JoinedPath.{joined_path}
 use Rattle.path_claims.specs.Claims.{PathClaim}
 use Rattle.path_claims.specs.declared.claim.Claim.{Claim}

@@ -4,14 +4,14 @@ ghost use Rattle.std.specs.Prelude.{◌≡◌, ◌<◌, Some, IfOk, drop, length
 ghost use Rattle.adb_fields.specs.JoinedPath.{joined_path};
 ghost use Rattle.list_order.specs.Sorted.{sorted_by};
 ghost use Rattle.path_claims.specs.Claims.{PathClaim, claim_cmp, is_of_path};
-ghost use Rattle.path_claims.specs.Runs.{is_first_of_path, run_of};
+ghost use Rattle.path_claims.specs.Runs.{is_first_of_path, passing_front};
 ghost use Rattle.path_claims.specs.Seen.{claim_seen};
 
 use adb_fields::FilePath;
 use std::alloc::{AllocError, Global};
 
-/// A file that a member lists. The member's place counts from 0, those of the folder and of the file
-/// in it count from 1. The number says how many claims stand before it in the list of all.
+/// A file that a member lists. The member's place counts from 0, those of the folder and of the
+/// file in it count from 1. The number says how many claims stand before it in the list of all.
 #[derive(Clone, Copy)]
 pub struct Claim<'a> {
     pub path: FilePath<'a>,
@@ -44,7 +44,7 @@ pub(crate) fn begins_path(claims: &[Claim<'_>], i: usize) -> bool
 /// The claims from the front on that have a path.
 fn run_in_front<'c, 'a>(claims: &'c [Claim<'a>], path: &FilePath<'_>) -> &'c [Claim<'a>]
     ensures { map claim_seen result.now
-        ≡ run_of (is_of_path (joined_path path.now)) (map claim_seen claims.now) }
+        ≡ passing_front (is_of_path (joined_path path.now)) (map claim_seen claims.now) }
 {
     let mut end = 0;
     while end < claims.len() && claims[end].path.compare(path).is_eq() {
@@ -58,7 +58,7 @@ pub(crate) fn run_at<'c, 'a>(claims: &'c [Claim<'a>], from: usize) -> &'c [Claim
     requires { from < length claims.now }
     ensures { (c : PathClaim) → slice_get (map claim_seen claims.now) from ≡ Some c
         → map claim_seen result.now
-        ≡ run_of (is_of_path c.path) (drop from (map claim_seen claims.now)) }
+        ≡ passing_front (is_of_path c.path) (drop from (map claim_seen claims.now)) }
 {
     let path = claims[from].path;
     run_in_front(&claims[from..], &path)

@@ -1,8 +1,8 @@
 //! Who owns a path that several members list (apk-package(5), "replaces").
 //!
-//! A claim is a file that a member lists. `owners_of` sorts claims by their paths, and finds for each
-//! path the member that beats every other member that claims it. Which member beats which one is
-//! what a `Contest` says. The contracts cite `Contest` and `Claims` of `specs/`.
+//! A claim is a file that a member lists. `owners_of` sorts claims by their paths, and finds for
+//! each path the member that beats every other one that claims it. Which member beats which one a
+//! `Contest` says. The contracts cite `Contest` and `Claims` of `specs/`.
 #![tactic(auto)]
 
 mod claim;

@@ -1,10 +1,6 @@
-use Rattle.std.proofs.Common.{◌≡◌, ap, map, sym, ◌∙◌}
-use Rattle.std.specs.Prelude.{IfOk, Result, Ok, Err, option_map}
+use Rattle.std.proofs.Common.{map}
 use Rattle.db_core.specs.Seen.{members_of}
-use Rattle.list_order.specs.Sorted.{sorted_by}
-use Rattle.path_claims.specs.Claims.{claim_cmp}
 use Rattle.path_claims.specs.Seen.{claim_seen}
-use Rattle.file_owners.specs.Owners.{member_beats}
 use Rattle.file_owners.proofs.Claiming.{claims_seen, contested_seen_by, gathered_numbered, owned_seen, owners_seen}
 use Rattle.file_owners.proofs.OneWay.{members_one_way}
 use Rattle.file_owners.proofs.owner.owners_of_files.Goals as goal

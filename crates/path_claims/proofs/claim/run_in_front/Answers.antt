@@ -10,6 +10,6 @@ loop-end-preserved c =
 
 pub returns : goal.returns
 returns c = elim c.loop-end-test.branch [
-    then-loop-end-test+else-is_eq w ↦ run_ended c.args.claims.now c.loop-end.end _ _ w.is_eq.result _ (omega arith) (w.is_eq.ensures ∙ ap is_eq w.compare.ensures) w.if-is_eq.false c.loop-end.invariant.1
+  | then-loop-end-test+else-is_eq w ↦ run_ended c.args.claims.now c.loop-end.end _ _ w.is_eq.result _ (omega arith) (w.is_eq.ensures ∙ ap is_eq w.compare.ensures) w.if-is_eq.false c.loop-end.invariant.1
   | else-loop-end-test w ↦ run_whole c.args.claims.now c.loop-end.end _ _ (omega (arith, w.loop-end-test.false)) c.loop-end.invariant.1
-  ]
+]

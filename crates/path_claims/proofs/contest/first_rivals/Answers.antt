@@ -1,4 +1,4 @@
-use Rattle.std.proofs.Common.{◌≡◌, ℕ, Some, None, ap, sym, ◌∙◌, arith}
+use Rattle.std.proofs.Common.{Some, None, ap, sym, ◌∙◌, arith}
 use Rattle.std.specs.Prelude.{not}
 use Rattle.path_claims.proofs.Contests.{find_here, find_past, no_rivals, test, two_rivals}
 use Rattle.path_claims.proofs.contest.first_rivals.Goals as goal

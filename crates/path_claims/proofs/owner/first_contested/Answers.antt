@@ -1,4 +1,4 @@
-use Rattle.std.proofs.Common.{◌≡◌, ◌≤◌, length, map, subst, sym, arith}
+use Rattle.std.proofs.Common.{◌≤◌, length, map, subst, sym, arith}
 use Rattle.path_claims.specs.Claims.{contested_at, owner_by}
 use Rattle.path_claims.specs.Seen.{claim_seen}
 use Rattle.path_claims.proofs.FirstContested.{contested_here, first_of_path, none_by, not_contested, one_passed, within}

@@ -1,5 +1,5 @@
 use Rattle.std.proofs.Common.{sym, ◌∙◌}
-use Rattle.path_claims.proofs.Owned.{run_owner, same_owner}
+use Rattle.path_claims.proofs.Owned.{run_owner}
 use Rattle.path_claims.proofs.owner.owner_at.Goals as goal
 
 pub returns : goal.returns

@@ -1,5 +1,5 @@
-use Rattle.std.proofs.Common.{◌≡◌, ℕ, Option, ap, length, map, sym, ◌∙◌}
-use Rattle.path_claims.specs.Claims.{PathClaim, owner_by}
+use Rattle.std.proofs.Common.{ap, length, map, sym, ◌∙◌}
+use Rattle.path_claims.specs.Claims.{owner_by}
 use Rattle.path_claims.specs.Seen.{claim_seen}
 use Rattle.path_claims.proofs.Places.{map_len}
 use Rattle.path_claims.proofs.Whole.{alike, contested_is, flags_are, is_sorted, numbers_below, same_owners}
