@@ -1,11 +1,14 @@
 //! Who owns the files of packages, as text.
 
 use adb_schema::FilePath;
-use db_core::{MOST_MEMBERS, Members};
+use db_core::Members;
 use file_owners::{Contested, Owners, owners_of_files};
 use pkg_core::Package;
 use row_lines::{add_number, add_word};
 use std::alloc::{AllocError, Global};
+
+/// How many packages there may be.
+const MOST_MEMBERS: usize = 65536;
 
 /// Adds who owns the files of packages, which all come: for each path `PATH=PLACE`, or `PATH=?`
 /// where none owns it, then for each file that is listed `1` or `0` for whether its package owns

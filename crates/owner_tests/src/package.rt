@@ -74,10 +74,18 @@ fn add_files(dump: &mut Vec<u8>, paths: &[u8]) -> Result<(), AllocError> {
 /// Adds a folder's lines down to its files.
 fn add_folder(dump: &mut Vec<u8>, folder: &[u8]) -> Result<(), AllocError> {
     if folder.is_empty() {
-        add_rights(dump, b"  - acl:\n      mode: 493\n      user: ", b"      group: ")?;
+        add_rights(
+            dump,
+            b"  - acl:\n      mode: 493\n      user: ",
+            b"      group: ",
+        )?;
     } else {
         add_field(dump, b"  - name: ", folder)?;
-        add_rights(dump, b"    acl:\n      mode: 493\n      user: ", b"      group: ")?;
+        add_rights(
+            dump,
+            b"    acl:\n      mode: 493\n      user: ",
+            b"      group: ",
+        )?;
     }
     dump.extend_from_slice(b"    files:\n")
 }
