@@ -97,12 +97,12 @@ fn answer_of(alloc: Global, row: &Row<'_>, query: &[u8]) -> Result<Vec<u8>, RowF
 }
 
 // The answer over the payloads of a row.
-fn answer_over(
+fn answer_over<'a>(
     alloc: Global,
-    row: &Row<'_>,
+    row: &'a Row<'a>,
     query: &[u8],
-    payloads: &[Vec<u8>],
-    installed: &[u8],
+    payloads: &'a [Vec<u8>],
+    installed: &'a [u8],
 ) -> Result<Vec<u8>, RowFault> {
     let Ok(world) = World::read(alloc, row.world) else {
         return Err(RowFault::Text);
