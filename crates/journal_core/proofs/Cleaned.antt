@@ -11,7 +11,7 @@ use Rattle.base_core.specs.Listed.{AreNamesBelow, IsListOf, IsNameBelow}
 use Rattle.base_core.specs.Tree.{TreeState, File, bytes_at, files_of}
 use Rattle.base_core.specs.Calls.{IfObservable, HasNow}
 use Rattle.base_core.specs.Crash.{IsOrderly, Since}
-use Rattle.journal_core.specs.Kept.{StandsFor}
+use Rattle.journal_core.specs.Kept.{RecoversTo}
 use Rattle.journal_core.specs.Recovering.{AllStaged, IsEmptied, IsReplayed, IsWithout, unless_staged}
 use Rattle.journal_core.specs.Recovery.{Intent, IsSettled, RestsOn, intent_name, intent_at, intent_of, is_staged, recovered_files, recovered_files_by, after_actions, stage_folder, state_of}
 use Rattle.journal_core.specs.Quiet.{IsStill}
@@ -188,10 +188,10 @@ module _ (old mid new : History) where
   abbrev Unstaged : TreeState → TreeState → Type 0
   Unstaged v w = unstaged_files (files_of w) ≡ unstaged_files (files_of v)
 
-  pub replay_reads : IfObservable old (λ v. Since (StandsFor (recovered_files (files_of v))) old mid) → IfObservable old (λ v. Since (Unstaged v) old mid)
-  replay_reads told = observable_map old _ _ told (λ v t. since_weaker (StandsFor (recovered_files (files_of v))) (Unstaged v) old mid (λ w. same_unstaged (files_of w) (files_of v)) t)
+  pub replay_reads : IfObservable old (λ v. Since (RecoversTo (recovered_files (files_of v))) old mid) → IfObservable old (λ v. Since (Unstaged v) old mid)
+  replay_reads told = observable_map old _ _ told (λ v t. since_weaker (RecoversTo (recovered_files (files_of v))) (Unstaged v) old mid (λ w. same_unstaged (files_of w) (files_of v)) t)
 
-  pub all_reads : IfObservable old (λ v. Since (StandsFor (recovered_files (files_of v))) old mid) → IfObservable old (λ v. HasNow mid (IsReplayed v)) → IfObservable mid (λ u. Since (KeepsShown u) mid new) → IfObservable old (λ v. Since (Unstaged v) old new)
+  pub all_reads : IfObservable old (λ v. Since (RecoversTo (recovered_files (files_of v))) old mid) → IfObservable old (λ v. HasNow mid (IsReplayed v)) → IfObservable mid (λ u. Since (KeepsShown u) mid new) → IfObservable old (λ v. Since (Unstaged v) old new)
   all_reads told replayed empties = on_observable old _ (λ v rest is.
       since_on (Unstaged v) old mid new (observable_at old v rest is (λ u. Since (Unstaged u) old mid) (replay_reads told))
       (by_now mid (IsReplayed v) (Since (Unstaged v) mid new) (observable_at old v rest is (λ u. HasNow mid (IsReplayed u)) replayed)

@@ -5,7 +5,7 @@ use Rattle.base_core.specs.Tree.{TreeState, bytes_at, files_of, after_remove, af
 use Rattle.base_core.specs.Calls.{HasNow, Moves}
 use Rattle.base_core.specs.Crash.{IsOrderly, Since}
 use Rattle.journal_core.specs.Recovery.{IsSettled, RestsOn, intent_at, intent_name, recovered_files_by}
-use Rattle.journal_core.specs.Kept.{StandsFor}
+use Rattle.journal_core.specs.Kept.{RecoversTo}
 use Rattle.journal_core.specs.Quiet.{IsStill}
 use Rattle.journal_core.specs.Staged.{Staging, IsActing, action_count}
 use Rattle.journal_core.proofs.History.{History}
@@ -69,7 +69,7 @@ module _ (laws : CrashLaws) (stage : Staging) (all : stage.acted ≡ action_coun
         step_called (IsGone files) (λ w. (files_of w ≡ files) × (w.names intent_name ≡ None)) new r k b last (λ v q. (q.reads, q.absent))
 
   abbrev S : TreeState → Type 0
-  S = StandsFor files
+  S = RecoversTo files
 
   abbrev A : TreeState → Type 0
   A = IsActing stage files

@@ -19,9 +19,9 @@ IsOfAction intent acted q =
     ⊎ ((i : ℕ) × (acted ≡ length intent.removals + i)
     × ((slice_get intent.writes i ≡ Some q) ⊎ (q ≡ stage_name (i + 1))))
 
--- they stand for these files, once the intent that is read is done
-abbrev pub StandsFor : Files → TreeState → Type 0
-StandsFor files v = recovered_files (files_of v) ≡ files
+-- they are these files once the intent that is read is done and gone
+abbrev pub RecoversTo : Files → TreeState → Type 0
+RecoversTo files v = recovered_files (files_of v) ≡ files
 
 -- ---- the maps of names
 

@@ -8,7 +8,7 @@ ghost use Rattle.base_core.specs.Faults.{GoesOn, HasCause, IsNoFault};
 ghost use Rattle.base_core.specs.Files.{Files};
 ghost use Rattle.base_core.specs.Tree.{files_of};
 ghost use Rattle.base_core.specs.declared.cause.Cause.{Cause};
-ghost use Rattle.journal_core.specs.Kept.{IsInNoMap, KeepsFilesBut, StandsFor};
+ghost use Rattle.journal_core.specs.Kept.{IsInNoMap, KeepsFilesBut, RecoversTo};
 ghost use Rattle.journal_core.specs.Quiet.{IsStill};
 ghost use Rattle.journal_core.specs.Recovering.{AllStaged, IsEmptied, IsReplayed, IsWithout};
 ghost use Rattle.journal_core.specs.Recovery.{IsSettled, RestsOn, intent_name, intent_of, is_staged, recovered_files};
@@ -91,7 +91,7 @@ pub fn recover<T: Tree>(alloc: Global, tree: &mut T) -> Result<(), RecoverFault>
         → IsOrderly (RestsOn ignored) v
         → Since (IsStill ignored v) (T.history tree.old) (T.history tree.new)) }
 
-    // Whatever the order, the files as read stand for the same at each moment, apart from what waits.
+    // Whatever the order, the files as read stand for the same at each moment, but for what waits.
     ensures reads { IfObservable (T.history tree.old) (λ v.
         Since (λ w. unstaged_files (files_of w) ≡ unstaged_files (files_of v))
         (T.history tree.old) (T.history tree.new)) }
@@ -147,7 +147,7 @@ fn replay<T: Tree>(alloc: Global, tree: &mut T) -> Result<(), RecoverFault>
         → IsOrderly (RestsOn ignored) v
         → Since (IsStill ignored v) (T.history tree.old) (T.history tree.new)) }
     ensures reads { IfObservable (T.history tree.old) (λ v.
-        Since (StandsFor (recovered_files (files_of v)))
+        Since (RecoversTo (recovered_files (files_of v)))
         (T.history tree.old) (T.history tree.new)) }
     ensures replayed { IfObservable (T.history tree.old) (λ v.
         OnOk result (HasNow (T.history tree.new) (IsReplayed v))) }
@@ -190,7 +190,7 @@ fn replay_file<T: Tree>(alloc: Global, tree: &mut T, file: Vec<u8>) -> Result<()
         → IsOrderly (RestsOn ignored) v → files_of v intent_name ≡ Some file.items
         → Since (IsStill ignored v) (T.history tree.old) (T.history tree.new)) }
     ensures reads { IfObservable (T.history tree.old) (λ v. files_of v intent_name
-        ≡ Some file.items → Since (StandsFor (recovered_files (files_of v)))
+        ≡ Some file.items → Since (RecoversTo (recovered_files (files_of v)))
         (T.history tree.old) (T.history tree.new)) }
     ensures replayed { IfObservable (T.history tree.old) (λ v. files_of v intent_name
         ≡ Some file.items → OnOk result (HasNow (T.history tree.new) (IsReplayed v))) }
@@ -233,7 +233,7 @@ fn apply_all<T: Tree>(stage: &mut Stage, tree: &mut T) -> Result<(), Disk>
         → OnOk result (HasNow (T.history tree.new) (IsActing stage.new files))) }
     ensures reads { IfObservable (T.history tree.old) (λ v. (files : Files)
         → IsActing stage.old files v
-        → Since (StandsFor files) (T.history tree.old) (T.history tree.new)) }
+        → Since (RecoversTo files) (T.history tree.old) (T.history tree.new)) }
     ensures all { OnOk result (stage.new.acted ≡ action_count stage.new.intent) }
     ensures published { OnOk result (stage.new.published ≡ true) }
     ensures goes_on { GoesOn (T.counts tree.old) (T.counts tree.new) }

@@ -11,7 +11,7 @@ ghost use Rattle.base_core.specs.Restart.{SinceBy};
 ghost use Rattle.base_core.specs.Tree.{files_of};
 ghost use Rattle.base_core.specs.declared.cause.Cause.{Cause};
 ghost use Rattle.journal_core.specs.Acting.{IsNextName};
-ghost use Rattle.journal_core.specs.Kept.{IsInNoMap, IsOfAction, KeepsFilesBut, NamesLastBut, StandsFor};
+ghost use Rattle.journal_core.specs.Kept.{IsInNoMap, IsOfAction, KeepsFilesBut, NamesLastBut, RecoversTo};
 ghost use Rattle.journal_core.specs.Quiet.{IsStill};
 ghost use Rattle.journal_core.specs.Recovery.{IsSettled, RestsOn, after_actions, intent_name, read_intent, stage_name};
 ghost use Rattle.journal_core.specs.Staged.{Staging, HasRoomBeside, HasRoomToStage, IsActing, IsAlone, IsOnTheWay, IsStaged, PublishedBy, action_count, new_stage};
@@ -302,7 +302,7 @@ impl Stage {
         // Whatever the order, the files as read stand for the same at each moment.
         ensures reads { IfObservable (T.history tree.old) (λ v. (files : Files)
             → IsActing self.old files v
-            → Since (StandsFor files) (T.history tree.old) (T.history tree.new)) }
+            → Since (RecoversTo files) (T.history tree.old) (T.history tree.new)) }
 
         // Whatever it answers, it touches no other name than those of its action.
         ensures others { IfObservable (T.history tree.old) (λ v. HasNow (T.history tree.new)
@@ -343,7 +343,7 @@ impl Stage {
         // Whatever the order, the files as read stand for the same at each moment.
         ensures reads { IfObservable (T.history tree.old) (λ v. (files : Files)
             → IsActing self.old files v
-            → Since (StandsFor files) (T.history tree.old) (T.history tree.new)) }
+            → Since (RecoversTo files) (T.history tree.old) (T.history tree.new)) }
 
         // As soon as no intent is read, every other change of names lasts; and once it has answered
         // Ok, no crash brings the intent back.

@@ -1,7 +1,7 @@
 use Rattle.std.proofs.Common.{◌∙◌, ◌≡◌, refl}
 use Rattle.journal_core.specs.Recovery.{intent_name}
 use Rattle.journal_core.proofs.History.{on_observable}
-use Rattle.journal_core.specs.Kept.{StandsFor}
+use Rattle.journal_core.specs.Kept.{RecoversTo}
 use Rattle.journal_core.specs.Quiet.{IsStill}
 use Rattle.journal_core.proofs.OneCall.{one_failed}
 use Rattle.journal_core.proofs.Waiting.{still_self}
@@ -104,7 +104,7 @@ returns-clause-others g c =
 pub returns-in_err-sync_all_names-clause-reads : goal.returns-in_err-sync_all_names-clause-reads
 returns-in_err-sync_all_names-clause-reads g c =
     on_observable (g.T.Tree.history c.args.tree.now) _ (λ v rest is files acting.
-    one_failed _ _ v rest is (StandsFor files) _ c.in_err-sync_all_names.ensures.moves (λ may. acting.reads))
+    one_failed _ _ v rest is (RecoversTo files) _ c.in_err-sync_all_names.ensures.moves (λ may. acting.reads))
 
 pub returns-in_err-remove-clause-reads : goal.returns-in_err-remove-clause-reads
 returns-in_err-remove-clause-reads g c =
