@@ -1,11 +1,12 @@
 -- One action, clause by clause.
-use Rattle.std.proofs.Common.{◌≡◌, ◌⊎◌, ⊎_elim, ℕ, ◌+◌, ◌<◌, ◌^◌, Bool, List, ◌∷◌, length, slice_get, None, Some, IsSome, Result, Ok, Err, OnOk, refl, ◌∙◌, arith}
+use Rattle.std.proofs.Common.{◌≡◌, ◌⊎◌, inl, inr, ⊎_elim, ℕ, ◌+◌, ◌<◌, ◌^◌, Bool, List, ◌∷◌, length, slice_get, None, Some, IsSome, Result, Ok, Err, OnOk, refl, ◌∙◌, arith}
 use Rattle.base_core.specs.Files.{Files}
-use Rattle.base_core.specs.Tree.{after_remove, after_rename, Anywhere, CanRename}
+use Rattle.base_core.specs.Tree.{TreeState, after_remove, after_rename, Anywhere, CanRename}
 use Rattle.base_core.specs.Calls.{IfObservable, HasNow, Moves}
 use Rattle.base_core.specs.Crash.{IsOrderly, Since}
 use Rattle.journal_core.specs.Recovery.{Intent, RestsOn, stage_name}
 use Rattle.journal_intent.specs.FreeNames.{HasFreeNames}
+use Rattle.journal_core.specs.Kept.{RecoversTo}
 use Rattle.journal_core.specs.Quiet.{IsStill}
 use Rattle.journal_core.specs.Staged.{Staging, IsActing, HasRoomBeside}
 use Rattle.journal_core.specs.Acting.{acting_stage, MovesIfThere}
@@ -26,6 +27,11 @@ module _ (laws : CrashLaws) (intent : Intent) (free : HasFreeNames intent) (few 
     remove_moments = on_observable old _ (λ v rest is ignored files orderly acting.
         let still = remove_still laws (acting_stage intent i) (acting_stage intent (i + 1)) files v name acting proper at within refl refl ignored orderly in
         one_called old new v rest is (IsStill ignored v) r moves still (λ may. still))
+
+    pub remove_reads : IfObservable old (λ v. (files : Files) → IsActing (acting_stage intent i) files v → Since (RecoversTo files) old new)
+    remove_reads = on_observable old _ (λ v rest is files acting.
+        let reads = (remove_acting laws (acting_stage intent i) (acting_stage intent (i + 1)) files v name acting proper at within refl refl).reads in
+        one_called old new v rest is (RecoversTo files) r moves reads (λ may. reads))
 
   pub removed_acting : {T E : Type 0} (old new : History) (i : ℕ) → i < length intent.removals → (name : List ℕ) → slice_get intent.removals i ≡ Some name → (r : Result T E) → Moves Anywhere (after_remove name) (after_remove name) old new r
       → IfObservable old (λ v. (files : Files) → IsActing (acting_stage intent i) files v → OnOk r (HasNow new (IsActing (acting_stage intent (i + 1)) files)))
@@ -59,6 +65,17 @@ module _ (laws : CrashLaws) (intent : Intent) (free : HasFreeNames intent) (few 
         (λ none. now_is new v rest (IsActing after files) (none.1 ∙ is) (absent_acting laws before after files v place name j (j + 1) acting proper place_is refl at within behind refl refl none.0))
         (λ more. now_is new (after_rename place name v) old (IsActing after files) more (move_acting laws before after files v place name j (j + 1) acting proper place_is refl at within behind refl refl))
         (observable_at old v rest is (λ u. ((u.names place ≡ None) × (new ≡ old)) ⊎ (new ≡ after_rename place name u ∷ old)) moves.ok))
+
+    move_reads_at : (v : TreeState) (rest : History) → old ≡ v ∷ rest → (files : Files) → IsActing before files v → (new ≡ old) ⊎ (new ≡ after_rename place name v ∷ old) → Since (RecoversTo files) old new
+    move_reads_at v rest is files acting = ⊎_elim
+        (λ none. no_more (RecoversTo files) old old new (none_since (RecoversTo files) old) none)
+        (λ more. one_more (RecoversTo files) old old new (after_rename place name v) (none_since (RecoversTo files) old) more (move_acting laws before after files v place name j (j + 1) acting proper place_is refl at within behind refl refl).reads)
+
+    pub move_reads : {T E : Type 0} (r : Result T E) → MovesIfThere place name old new r → IfObservable old (λ v. (files : Files) → IsActing before files v → Since (RecoversTo files) old new)
+    move_reads (Ok x) moves = on_observable old _ (λ v rest is files acting. move_reads_at v rest is files acting
+        (⊎_elim (λ none. inl none.1) (λ more. inr more) (observable_at old v rest is (λ u. ((u.names place ≡ None) × (new ≡ old)) ⊎ (new ≡ after_rename place name u ∷ old)) moves.ok)))
+    move_reads (Err e) moves = on_observable old _ (λ v rest is files acting. move_reads_at v rest is files acting
+        (observable_at old v rest is (λ u. (new ≡ old) ⊎ (new ≡ after_rename place name u ∷ old)) moves.err))
 
     pub move_proper : (a b : ℕ) → IfObservable old (λ v. (IsSome (v.names place) → CanRename place name v) → b ≡ a) → IfObservable old (λ v. (files : Files) → IsActing before files v → HasRoomBeside files → b ≡ a)
     move_proper a b told = on_observable old _ (λ v rest is files acting room.

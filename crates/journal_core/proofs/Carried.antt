@@ -6,12 +6,13 @@ use Rattle.base_core.specs.Calls.{IfObservable, HasNow}
 use Rattle.base_core.specs.Crash.{IsOrderly, Since}
 use Rattle.journal_core.specs.Recovering.{IsReplayed}
 use Rattle.journal_core.specs.Recovery.{IsSettled, RestsOn, intent_name, intent_at, read_intent, recovered_files}
+use Rattle.journal_core.specs.Kept.{RecoversTo}
 use Rattle.journal_core.specs.Quiet.{IsStill}
 use Rattle.journal_core.specs.Staged.{Staging, HasRoomBeside, HasRoomToReplay, IsActing, action_count}
 use Rattle.journal_core.specs.Acting.{GoesWith}
 use Rattle.journal_core.proofs.Chain.{by_now}
 use Rattle.journal_core.proofs.History.{History, now_map, on_observable, observable_at, observable_map}
-use Rattle.journal_core.proofs.Rowing.{Rowed, rowed_called, rowed_done, rowed_start}
+use Rattle.journal_core.proofs.Rowing.{Rowed, reads_called, rowed_called, rowed_done, rowed_start}
 
 pub none_acted : (stage : Staging) → stage.acted ≡ 0 → stage.acted ≤ action_count stage.intent
 none_acted stage none = omega (arith, none)
@@ -36,6 +37,12 @@ module _ (first next : Staging) (file : List ℕ) (spells : read_intent file ≡
   pub act_failed : Moments → IfObservable old (λ v. (ignored : List ℕ → Bool) → IsOrderly (RestsOn ignored) v → files_of v intent_name ≡ Some file → Since (IsStill ignored v) old mid)
   act_failed moments = observable_map old _ _ moments (λ v m ignored orderly there. m ignored (recovered_files (files_of v)) orderly (acting_found first file v there spells none))
 
+  abbrev Reads : Type 0
+  Reads = IfObservable old (λ v. (files : Files) → IsActing first files v → Since (RecoversTo files) old mid)
+
+  pub act_reads : Reads → IfObservable old (λ v. files_of v intent_name ≡ Some file → Since (RecoversTo (recovered_files (files_of v))) old mid)
+  act_reads reads = observable_map old _ _ reads (λ v t there. t (recovered_files (files_of v)) (acting_found first file v there spells none))
+
   pub act_proper : (a b : ℕ) → IfObservable old (λ v. (files : Files) → IsActing first files v → HasRoomBeside files → b ≡ a)
       → IfObservable old (λ v. files_of v intent_name ≡ Some file → HasRoomToReplay (files_of v) → b ≡ a)
   act_proper a b proper = observable_map old _ _ proper (λ v p there room. let at = acting_found first file v there spells none in p (recovered_files (files_of v)) at (room (subst IsSome (sym at.stands) refl)))
@@ -45,6 +52,10 @@ module _ (first next : Staging) (file : List ℕ) (spells : read_intent file ≡
         → IfObservable old (λ v. (ignored : List ℕ → Bool) → IsOrderly (RestsOn ignored) v → files_of v intent_name ≡ Some file → Since (IsStill ignored v) old new)
     end_moments moments acting last =
         observable_map old _ _ (rowed_called first next old mid new (rowed moments acting) last) (λ v m ignored orderly there. m ignored (recovered_files (files_of v)) orderly (acting_found first file v there spells none))
+
+    pub end_reads : Reads → Acting → IfObservable mid (λ u. (files : Files) → IsActing next files u → Since (RecoversTo files) mid new)
+        → IfObservable old (λ v. files_of v intent_name ≡ Some file → Since (RecoversTo (recovered_files (files_of v))) old new)
+    end_reads reads acting last = observable_map old _ _ (reads_called first next old mid new acting reads last) (λ v t there. t (recovered_files (files_of v)) (acting_found first file v there spells none))
 
     pub end_settled : Moments → Acting → IfObservable mid (λ u. (ignored : List ℕ → Bool) (files : Files) → IsOrderly (RestsOn ignored) u → IsActing next files u → HasNow new (IsSettled ignored files))
         → IfObservable old (λ v. (ignored : List ℕ → Bool) → IsOrderly (RestsOn ignored) v → files_of v intent_name ≡ Some file → HasNow new (IsSettled ignored (recovered_files (files_of v))))

@@ -11,6 +11,7 @@ use Rattle.base_core.specs.Listed.{AreNamesBelow, IsListOf, IsNameBelow}
 use Rattle.base_core.specs.Tree.{TreeState, File, bytes_at, files_of}
 use Rattle.base_core.specs.Calls.{IfObservable, HasNow}
 use Rattle.base_core.specs.Crash.{IsOrderly, Since}
+use Rattle.journal_core.specs.Kept.{RecoversTo}
 use Rattle.journal_core.specs.Recovering.{AllStaged, IsEmptied, IsReplayed, IsWithout, unless_staged}
 use Rattle.journal_core.specs.Recovery.{Intent, IsSettled, RestsOn, intent_name, intent_at, intent_of, is_staged, recovered_files, recovered_files_by, after_actions, stage_folder, state_of}
 use Rattle.journal_core.specs.Quiet.{IsStill}
@@ -20,6 +21,7 @@ use Rattle.journal_core.proofs.Below.{begins, is_below}
 use Rattle.journal_intent.proofs.AtName.{drop_name-at, name_cases, off_name, other_name, same_name}
 use Rattle.journal_core.proofs.Chain.{by_now, now_both}
 use Rattle.journal_core.proofs.Compose.{settled_quiet}
+use Rattle.journal_core.proofs.Emptied.{KeepsShown}
 use Rattle.journal_core.proofs.History.{History, no_more, none_since, now_map, now_since, on_observable, since_on, since_weaker, observable_at, observable_map}
 use Rattle.journal_core.proofs.Waiting.{still_self}
 
@@ -79,6 +81,9 @@ module _ (names : List (List ℕ)) (folder : List ℕ) (folder_is : folder ≡ s
   pub empty_moments : AreNamesBelow folder names → IfObservable mid (λ v. (ignored : List ℕ → Bool) → IsOrderly (RestsOn ignored) v → v.names intent_name ≡ None → AllStaged names → Since (IsStill ignored v) mid new)
       → IfObservable old (λ v. (ignored : List ℕ → Bool) → IsOrderly (RestsOn ignored) v → v.names intent_name ≡ None → Since (IsStill ignored v) old new)
   empty_moments below told = observable_map old _ _ (back _ told) (λ v t ignored orderly none. subst (λ (l : History). Since (IsStill ignored v) l new) same (t ignored orderly none (all_staged folder names folder_is below)))
+
+  pub empty_shown : AreNamesBelow folder names → IfObservable mid (λ v. AllStaged names → Since (KeepsShown v) mid new) → IfObservable old (λ v. Since (KeepsShown v) old new)
+  empty_shown below told = observable_map old _ _ (back _ told) (λ v t. subst (λ (l : History). Since (KeepsShown v) l new) same (t (all_staged folder names folder_is below)))
 
   both_told : (h : History) (A B C : TreeState → Type 0) → ((v : TreeState) → A v → B v → C v) → IfObservable h A → IfObservable h B → IfObservable h C
   both_told [] A B C f a b = tt
@@ -154,6 +159,44 @@ module _ (old mid new : History) where
   all_proper a b c P first replayed then = on_observable old _ (λ v rest is room.
       by_now mid (IsReplayed v) (c ≡ b) (observable_at old v rest is (λ u. HasNow mid (IsReplayed u)) replayed) (observable_map mid _ (λ u. IsReplayed v u → c ≡ b) then (λ u t q. t))
       ∙ observable_at old v rest is (λ u. P u → b ≡ a) first room)
+
+pub empty_shown_none : (old new : History) → new ≡ old → IfObservable old (λ v. Since (KeepsShown v) old new)
+empty_shown_none old new same = on_observable old _ (λ v rest is. no_more (KeepsShown v) old old new (none_since (KeepsShown v) old) same)
+
+-- ---- what the files as read stand for
+
+none_recovered : (v : TreeState) → v.names intent_name ≡ None → recovered_files (files_of v) ≡ files_of v
+none_recovered v none = ap (λ o. recovered_files_by o (files_of v)) (ap intent_at (ap (bytes_at v.files) none))
+
+same_unstaged : (F G : Files) → recovered_files F ≡ recovered_files G → unstaged_files F ≡ unstaged_files G
+same_unstaged F G same i q = cond (is_staged q) None (same i q)
+
+shown_unstaged : (u w : TreeState) → u.names intent_name ≡ None → KeepsShown u w → unstaged_files (files_of w) ≡ unstaged_files (files_of u)
+shown_unstaged u w none keeps i q = by (is_staged q) refl i
+  where
+    read_none : intent_of (files_of w) ≡ None
+    read_none = ap intent_at (keeps intent_name (λ e. true_false (sym e)) ∙ ap (bytes_at u.files) none)
+
+    by : (b : Bool) → is_staged q ≡ b → unstaged_files (files_of w) q ≡ unstaged_files (files_of u) q
+    by true is = ap (λ b. cond b None (recovered_files (files_of w) q)) is ∙ sym (ap (λ b. cond b None (recovered_files (files_of u) q)) is)
+    by false is =
+        ap (λ b. cond b None (recovered_files (files_of w) q)) is
+        ∙ (ap (λ o. recovered_files_by o (files_of w) q) read_none ∙ keeps q (λ e. true_false (sym e ∙ is)) ∙ sym (ap (λ (F : Files). F q) (none_recovered u none)))
+        ∙ sym (ap (λ b. cond b None (recovered_files (files_of u) q)) is)
+
+module _ (old mid new : History) where
+  abbrev Unstaged : TreeState → TreeState → Type 0
+  Unstaged v w = unstaged_files (files_of w) ≡ unstaged_files (files_of v)
+
+  pub replay_reads : IfObservable old (λ v. Since (RecoversTo (recovered_files (files_of v))) old mid) → IfObservable old (λ v. Since (Unstaged v) old mid)
+  replay_reads told = observable_map old _ _ told (λ v t. since_weaker (RecoversTo (recovered_files (files_of v))) (Unstaged v) old mid (λ w. same_unstaged (files_of w) (files_of v)) t)
+
+  pub all_reads : IfObservable old (λ v. Since (RecoversTo (recovered_files (files_of v))) old mid) → IfObservable old (λ v. HasNow mid (IsReplayed v)) → IfObservable mid (λ u. Since (KeepsShown u) mid new) → IfObservable old (λ v. Since (Unstaged v) old new)
+  all_reads told replayed empties = on_observable old _ (λ v rest is.
+      since_on (Unstaged v) old mid new (observable_at old v rest is (λ u. Since (Unstaged u) old mid) (replay_reads told))
+      (by_now mid (IsReplayed v) (Since (Unstaged v) mid new) (observable_at old v rest is (λ u. HasNow mid (IsReplayed u)) replayed)
+      (observable_map mid _ (λ u. IsReplayed v u → Since (Unstaged v) mid new) empties (λ u t r. since_weaker (KeepsShown u) (Unstaged v) mid new
+      (λ w k. shown_unstaged u w r.absent k ∙ same_unstaged (files_of u) (files_of v) (none_recovered u r.absent ∙ r.reads)) t))))
 
 pub empty_none : (old new : History) → new ≡ old → IfObservable old (λ v. (ignored : List ℕ → Bool) → IsOrderly (RestsOn ignored) v → v.names intent_name ≡ None → Since (IsStill ignored v) old new)
 empty_none old new same = on_observable old _ (λ v rest is ignored orderly none. no_more (IsStill ignored v) old old new (none_since (IsStill ignored v) old) same)

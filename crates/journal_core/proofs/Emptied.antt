@@ -8,6 +8,7 @@ use Rattle.base_core.specs.Tree.{TreeState, bytes_at, files_of, remove_at, after
 use Rattle.base_core.specs.Calls.{IfObservable, HasNow, Moves, IsCounted}
 use Rattle.base_core.specs.Faults.{Counts}
 use Rattle.base_core.specs.Crash.{IsOrderly, Since}
+use Rattle.journal_core.specs.Kept.{KeepsFilesBut}
 use Rattle.journal_core.specs.Recovering.{AllStaged, IsWithout}
 use Rattle.journal_core.specs.Recovery.{RestsOn, intent_name, is_staged}
 use Rattle.journal_core.specs.Quiet.{IsStill}
@@ -142,6 +143,30 @@ module _ (laws : CrashLaws) (all : List (List ℕ)) (old h new : History) (i : �
 
 pub cleared_ends : (all : List (List ℕ)) (old h : History) → Cleared all old h → IfObservable old (λ v. (ignored : List ℕ → Bool) → IsOrderly (RestsOn ignored) v → v.names intent_name ≡ None → AllStaged all → Since (IsStill ignored v) old h)
 cleared_ends all old h cleared = observable_map old _ _ cleared (λ v runs ignored orderly none staged. (runs ignored orderly none staged).since)
+
+-- ---- what is read under the other names
+
+abbrev pub KeepsShown : TreeState → TreeState → Type 0
+KeepsShown = KeepsFilesBut (λ q. is_staged q ≡ true)
+
+abbrev pub Shown : List (List ℕ) → History → History → Type 0
+Shown all old h = IfObservable old (λ v. AllStaged all → Runs (KeepsShown v) (KeepsShown v) old h)
+
+pub shown_start : (all : List (List ℕ)) (old : History) → Shown all old old
+shown_start all old = on_observable old _ (λ v rest is staged. run_begun (KeepsShown v) (KeepsShown v) old v rest is (λ q off. refl))
+
+module _ (all : List (List ℕ)) (old h new : History) (i : ℕ) (name : List ℕ) (at : slice_get all i ≡ Some name) where
+  shown_step : AllStaged all → (start v : TreeState) → KeepsShown start v → KeepsShown start (after_remove name v)
+  shown_step staged start v k q off = removed_others name v (v.names name) q (λ e. off (ap is_staged e ∙ staged_at all i name staged at)) ∙ k q off
+
+  pub shown_failed : {T E : Type 0} (e : E) → Shown all old h → Moves {T = T} Anywhere (after_remove name) (after_remove name) h new (Err e) → IfObservable old (λ v. AllStaged all → Since (KeepsShown v) old new)
+  shown_failed e shown moves = observable_map old _ _ shown (λ v runs staged. run_failed (KeepsShown v) (KeepsShown v) old h new e (runs staged) moves (λ w may k. shown_step staged v w k))
+
+  pub shown_done : {T E : Type 0} (x : T) → Shown all old h → Moves {E = E} Anywhere (after_remove name) (after_remove name) h new (Ok x) → Shown all old new
+  shown_done x shown moves = observable_map old _ _ shown (λ v runs staged. run_done (KeepsShown v) (KeepsShown v) (KeepsShown v) old h new x (runs staged) moves (λ w k. k) (shown_step staged v))
+
+pub shown_ends : (all : List (List ℕ)) (old h : History) → Shown all old h → IfObservable old (λ v. AllStaged all → Since (KeepsShown v) old h)
+shown_ends all old h shown = observable_map old _ _ shown (λ v runs staged. (runs staged).since)
 
 -- ---- its counts and its end
 

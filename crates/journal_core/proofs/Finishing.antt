@@ -1,10 +1,11 @@
 -- The end of a stage, call by call.
-use Rattle.std.proofs.Common.{◌≡◌, ℕ, Bool, List, ◌∷◌, None, Result, Ok, Err, OnOk, sym, subst}
+use Rattle.std.proofs.Common.{◌≡◌, ℕ, Bool, List, ◌∷◌, None, Result, Ok, Err, OnOk, sym, ap, subst, ◌∙◌}
 use Rattle.base_core.specs.Files.{Files}
-use Rattle.base_core.specs.Tree.{TreeState, files_of, after_remove, after_sync_names, same_state, Anywhere}
+use Rattle.base_core.specs.Tree.{TreeState, bytes_at, files_of, after_remove, after_sync_names, same_state, Anywhere}
 use Rattle.base_core.specs.Calls.{HasNow, Moves}
 use Rattle.base_core.specs.Crash.{IsOrderly, Since}
-use Rattle.journal_core.specs.Recovery.{IsSettled, RestsOn, intent_name}
+use Rattle.journal_core.specs.Recovery.{IsSettled, RestsOn, intent_at, intent_name, recovered_files_by}
+use Rattle.journal_core.specs.Kept.{RecoversTo}
 use Rattle.journal_core.specs.Quiet.{IsStill}
 use Rattle.journal_core.specs.Staged.{Staging, IsActing, action_count}
 use Rattle.journal_core.proofs.History.{History}
@@ -66,3 +67,31 @@ module _ (laws : CrashLaws) (stage : Staging) (all : stage.acted ≡ action_coun
         let a = step_now (IsActing stage files) (IsActing stage files) h x old (now_is old start rest (IsActing stage files) is acting) first (sync_acting stage files) in
         let b = step_now (IsActing stage files) (IsGone files) k y h a second (λ v q. subst (λ (n : List ℕ). IsGone files (after_remove n v)) (sym name_is) (drop_gone laws stage files v q all)) in
         step_called (IsGone files) (λ w. (files_of w ≡ files) × (w.names intent_name ≡ None)) new r k b last (λ v q. (q.reads, q.absent))
+
+  abbrev S : TreeState → Type 0
+  S = RecoversTo files
+
+  abbrev A : TreeState → Type 0
+  A = IsActing stage files
+
+  gone_stands : (v : TreeState) → IsGone files v → S v
+  gone_stands v gone = ap (λ o. recovered_files_by o (files_of v)) (ap intent_at (ap (bytes_at v.files) gone.absent)) ∙ gone.reads
+
+  gone_at : (v : TreeState) → A v → IsGone files (after_remove name v)
+  gone_at v q = subst (λ (n : List ℕ). IsGone files (after_remove n v)) (sym name_is) (drop_gone laws stage files v q all)
+
+  begun_acting : Runs S A old old
+  begun_acting = run_begun S A old start rest is acting
+
+  module _ {T E : Type 0} (h new : History) where
+    pub stands_synced : (x : T) → Moves {E = E} Anywhere after_sync_names same_state old new (Ok x) → Runs S A old new
+    stands_synced x moves = run_done S A A old old new x begun_acting moves (λ v q. q.reads) (sync_acting stage files)
+
+    pub stands_drop_failed : (e : E) → Runs S A old h → Moves {T = T} Anywhere (after_remove name) (after_remove name) h new (Err e) → Since S old new
+    stands_drop_failed e runs moves = run_failed S A old h new e runs moves (λ v may q. gone_stands (after_remove name v) (gone_at v q))
+
+    pub stands_dropped : (x : T) → Runs S A old h → Moves {E = E} Anywhere (after_remove name) (after_remove name) h new (Ok x) → Runs S (IsGone files) old new
+    stands_dropped x runs moves = run_done S A (IsGone files) old h new x runs moves gone_stands gone_at
+
+    pub stands_last : (r : Result T E) → Runs S (IsGone files) old h → Moves Anywhere after_sync_names same_state h new r → Since S old new
+    stands_last r runs moves = run_called S (IsGone files) old h new r runs moves (λ v q. gone_stands v q) (λ v may q. gone_stands v q)

@@ -7,12 +7,13 @@ use Rattle.base_core.specs.Tree.{TreeState}
 use Rattle.base_core.specs.Calls.{IfObservable, HasNow}
 use Rattle.base_core.specs.Crash.{IsOrderly, Since}
 use Rattle.journal_core.specs.Recovery.{RestsOn}
+use Rattle.journal_core.specs.Kept.{RecoversTo}
 use Rattle.journal_core.specs.Quiet.{IsStill}
 use Rattle.journal_core.specs.Staged.{Staging, HasRoomBeside, IsActing, action_count}
 use Rattle.journal_core.specs.Acting.{GoesWith}
 use Rattle.journal_core.proofs.Acts.{still_on}
 use Rattle.journal_core.proofs.Chain.{Runs, by_now, now_both, run_begun}
-use Rattle.journal_core.proofs.History.{History, now_map, now_since, on_observable, since_on, since_weaker, observable_at, observable_map}
+use Rattle.journal_core.proofs.History.{History, none_since, now_map, now_since, on_observable, since_on, since_weaker, observable_at, observable_map}
 use Rattle.journal_core.proofs.OneCall.{now_is}
 use Rattle.journal_core.proofs.Waiting.{still_self}
 
@@ -62,6 +63,19 @@ module _ (first now : Staging) (old h new : History) where
 
     pub acts_done : ActsOn first now old h → ActsOn first next old new
     acts_done acts = observable_map old _ _ acts (λ v a files at. by_now h (IsActing now files) (HasNow new (IsActing next files)) (a files at) (observable_map h _ (λ u. IsActing now files u → HasNow new (IsActing next files)) acting (λ u t. t files)))
+
+-- what the files as read stand for so far
+abbrev pub ReadsOn : Staging → History → History → Type 0
+ReadsOn first old h = IfObservable old (λ v. (files : Files) → IsActing first files v → Since (RecoversTo files) old h)
+
+pub reads_start : (s : Staging) (old : History) → ReadsOn s old old
+reads_start s old = on_observable old _ (λ v rest is files acting. none_since (RecoversTo files) old)
+
+pub reads_called : (first now : Staging) (old h new : History) → ActsOn first now old h → ReadsOn first old h → IfObservable h (λ u. (files : Files) → IsActing now files u → Since (RecoversTo files) h new) → ReadsOn first old new
+reads_called first now old h new acts reads more = on_observable old _ (λ v rest is files at.
+    since_on (RecoversTo files) old h new (observable_at old v rest is (λ u. (F : Files) → IsActing first F u → Since (RecoversTo F) old h) reads files at)
+    (by_now h (IsActing now files) (Since (RecoversTo files) h new) (observable_at old v rest is (λ u. (F : Files) → IsActing first F u → HasNow h (IsActing now F)) acts files at)
+    (observable_map h _ (λ u. IsActing now files u → Since (RecoversTo files) h new) more (λ u t. t files))))
 
 -- the misuses so far
 module _ (first now : Staging) (old h : History) (a b c : ℕ) where

@@ -1,8 +1,8 @@
 -- What a call of a stage keeps: the files under other names, and the names that no crash undoes.
 use Rattle.std.specs.Prelude.{◌≡◌, ◌⊎◌, ℕ, ◌+◌, List, length, None, Some, slice_get}
-use Rattle.base_core.specs.Files.{NameMap}
+use Rattle.base_core.specs.Files.{Files, NameMap}
 use Rattle.base_core.specs.Tree.{TreeState, IsMapOf, files_of}
-use Rattle.journal_core.specs.Recovery.{Intent, stage_name}
+use Rattle.journal_core.specs.Recovery.{Intent, recovered_files, stage_name}
 use Rattle.journal_intent.specs.FreeNames.{IsNoneOf}
 
 -- ---- the files as read
@@ -18,6 +18,10 @@ IsOfAction intent acted q =
     (slice_get intent.removals acted ≡ Some q)
     ⊎ ((i : ℕ) × (acted ≡ length intent.removals + i)
     × ((slice_get intent.writes i ≡ Some q) ⊎ (q ≡ stage_name (i + 1))))
+
+-- they are these files once the intent that is read is done and gone
+abbrev pub RecoversTo : Files → TreeState → Type 0
+RecoversTo files v = recovered_files (files_of v) ≡ files
 
 -- ---- the maps of names
 

@@ -6,7 +6,7 @@ ghost use Rattle.base_core.specs.Faults.{GoesOn, HasCause, IsNoFault};
 ghost use Rattle.base_core.specs.Files.{Files};
 ghost use Rattle.base_core.specs.Tree.{CanRename};
 ghost use Rattle.journal_core.specs.Acting.{MovesIfThere, acting_stage};
-ghost use Rattle.journal_core.specs.Kept.{IsOfAction, KeepsFilesBut};
+ghost use Rattle.journal_core.specs.Kept.{IsOfAction, KeepsFilesBut, RecoversTo};
 ghost use Rattle.journal_core.specs.Quiet.{IsStill};
 ghost use Rattle.journal_core.specs.Recovery.{RestsOn};
 ghost use Rattle.journal_core.specs.Staged.{HasRoomBeside, IsActing, action_count};
@@ -30,6 +30,9 @@ pub(crate) fn act<T: Tree>(
         → IsActing (acting_stage intent.now acted) files v
         → IfOk result (λ next. HasNow (T.history tree.new)
         (IsActing (acting_stage intent.now next) files))) }
+    ensures reads { IfObservable (T.history tree.old) (λ v. (files : Files)
+        → IsActing (acting_stage intent.now acted) files v
+        → Since (RecoversTo files) (T.history tree.old) (T.history tree.new)) }
     ensures others { IfObservable (T.history tree.old) (λ v.
         HasNow (T.history tree.new) (KeepsFilesBut (IsOfAction intent.now acted) v)) }
     ensures more { acted < action_count intent.now → IfOk result (λ next. next ≡ acted + 1) }
@@ -66,6 +69,9 @@ fn remove_one<T: Tree>(intent: &PreparedIntent, i: usize, tree: &mut T) -> Resul
         → IsActing (acting_stage intent.now i) files v
         → OnOk result (HasNow (T.history tree.new)
         (IsActing (acting_stage intent.now (i + 1)) files))) }
+    ensures reads { IfObservable (T.history tree.old) (λ v. (files : Files)
+        → IsActing (acting_stage intent.now i) files v
+        → Since (RecoversTo files) (T.history tree.old) (T.history tree.new)) }
     ensures others { IfObservable (T.history tree.old) (λ v.
         HasNow (T.history tree.new) (KeepsFilesBut (IsOfAction intent.now i) v)) }
     ensures goes_on { GoesOn (T.counts tree.old) (T.counts tree.new) }
@@ -97,6 +103,9 @@ fn move_one<T: Tree>(
         → IsActing (acting_stage intent.now acted) files v
         → OnOk result (HasNow (T.history tree.new)
         (IsActing (acting_stage intent.now (acted + 1)) files))) }
+    ensures reads { IfObservable (T.history tree.old) (λ v. (files : Files)
+        → IsActing (acting_stage intent.now acted) files v
+        → Since (RecoversTo files) (T.history tree.old) (T.history tree.new)) }
     ensures others { IfObservable (T.history tree.old) (λ v.
         HasNow (T.history tree.new) (KeepsFilesBut (IsOfAction intent.now acted) v)) }
     ensures goes_on { GoesOn (T.counts tree.old) (T.counts tree.new) }

@@ -8,10 +8,10 @@ ghost use Rattle.base_core.specs.Faults.{GoesOn, HasCause, IsNoFault};
 ghost use Rattle.base_core.specs.Files.{Files};
 ghost use Rattle.base_core.specs.Tree.{files_of};
 ghost use Rattle.base_core.specs.declared.cause.Cause.{Cause};
-ghost use Rattle.journal_core.specs.Kept.{IsInNoMap};
+ghost use Rattle.journal_core.specs.Kept.{IsInNoMap, KeepsFilesBut, RecoversTo};
 ghost use Rattle.journal_core.specs.Quiet.{IsStill};
 ghost use Rattle.journal_core.specs.Recovering.{AllStaged, IsEmptied, IsReplayed, IsWithout};
-ghost use Rattle.journal_core.specs.Recovery.{IsSettled, RestsOn, intent_name, intent_of, recovered_files};
+ghost use Rattle.journal_core.specs.Recovery.{IsSettled, RestsOn, intent_name, intent_of, is_staged, recovered_files};
 ghost use Rattle.journal_core.specs.Staged.{HasRoomBeside, HasRoomToReplay, IsActing, IsEmptyStage, IsIntentFault, action_count, unstaged_files};
 ghost use Rattle.journal_core.specs.declared.recovering.RecoverFault.TheVariants.{Disk as DiskFault, Memory as MemoryFault};
 
@@ -91,6 +91,11 @@ pub fn recover<T: Tree>(alloc: Global, tree: &mut T) -> Result<(), RecoverFault>
         → IsOrderly (RestsOn ignored) v
         → Since (IsStill ignored v) (T.history tree.old) (T.history tree.new)) }
 
+    // Whatever the order, the files as read stand for the same at each moment, but for what waits.
+    ensures reads { IfObservable (T.history tree.old) (λ v.
+        Since (λ w. unstaged_files (files_of w) ≡ unstaged_files (files_of v))
+        (T.history tree.old) (T.history tree.new)) }
+
     // Once it has answered Ok, the files as read have the intent done and nothing that waits; and
     // no intent is read.
     ensures files { IfObservable (T.history tree.old) (λ v.
@@ -141,6 +146,9 @@ fn replay<T: Tree>(alloc: Global, tree: &mut T) -> Result<(), RecoverFault>
     ensures moments { IfObservable (T.history tree.old) (λ v. (ignored : List ℕ → Bool)
         → IsOrderly (RestsOn ignored) v
         → Since (IsStill ignored v) (T.history tree.old) (T.history tree.new)) }
+    ensures reads { IfObservable (T.history tree.old) (λ v.
+        Since (RecoversTo (recovered_files (files_of v)))
+        (T.history tree.old) (T.history tree.new)) }
     ensures replayed { IfObservable (T.history tree.old) (λ v.
         OnOk result (HasNow (T.history tree.new) (IsReplayed v))) }
     ensures settled { IfObservable (T.history tree.old) (λ v. (ignored : List ℕ → Bool)
@@ -181,6 +189,9 @@ fn replay_file<T: Tree>(alloc: Global, tree: &mut T, file: Vec<u8>) -> Result<()
     ensures moments { IfObservable (T.history tree.old) (λ v. (ignored : List ℕ → Bool)
         → IsOrderly (RestsOn ignored) v → files_of v intent_name ≡ Some file.items
         → Since (IsStill ignored v) (T.history tree.old) (T.history tree.new)) }
+    ensures reads { IfObservable (T.history tree.old) (λ v. files_of v intent_name
+        ≡ Some file.items → Since (RecoversTo (recovered_files (files_of v)))
+        (T.history tree.old) (T.history tree.new)) }
     ensures replayed { IfObservable (T.history tree.old) (λ v. files_of v intent_name
         ≡ Some file.items → OnOk result (HasNow (T.history tree.new) (IsReplayed v))) }
     ensures settled { IfObservable (T.history tree.old) (λ v. (ignored : List ℕ → Bool)
@@ -220,6 +231,9 @@ fn apply_all<T: Tree>(stage: &mut Stage, tree: &mut T) -> Result<(), Disk>
     ensures acting { IfObservable (T.history tree.old) (λ v. (files : Files)
         → IsActing stage.old files v
         → OnOk result (HasNow (T.history tree.new) (IsActing stage.new files))) }
+    ensures reads { IfObservable (T.history tree.old) (λ v. (files : Files)
+        → IsActing stage.old files v
+        → Since (RecoversTo files) (T.history tree.old) (T.history tree.new)) }
     ensures all { OnOk result (stage.new.acted ≡ action_count stage.new.intent) }
     ensures published { OnOk result (stage.new.published ≡ true) }
     ensures goes_on { GoesOn (T.counts tree.old) (T.counts tree.new) }
@@ -240,6 +254,9 @@ fn empty_stage<T: Tree>(alloc: Global, tree: &mut T) -> Result<(), TreeFault>
     ensures moments { IfObservable (T.history tree.old) (λ v. (ignored : List ℕ → Bool)
         → IsOrderly (RestsOn ignored) v → v.names intent_name ≡ None
         → Since (IsStill ignored v) (T.history tree.old) (T.history tree.new)) }
+    ensures shown { IfObservable (T.history tree.old) (λ v.
+        Since (KeepsFilesBut (λ q. is_staged q ≡ true) v)
+        (T.history tree.old) (T.history tree.new)) }
     ensures emptied { IfObservable (T.history tree.old) (λ v.
         OnOk result (HasNow (T.history tree.new) (IsEmptied v))) }
     ensures gone { IfObservable (T.history tree.old) (λ v. OnOk result (IsInNoMap intent_name v
@@ -267,6 +284,9 @@ fn remove_all<T: Tree>(tree: &mut T, names: &Names) -> Result<(), Disk>
     ensures moments { IfObservable (T.history tree.old) (λ v. (ignored : List ℕ → Bool)
         → IsOrderly (RestsOn ignored) v → v.names intent_name ≡ None → AllStaged names.now
         → Since (IsStill ignored v) (T.history tree.old) (T.history tree.new)) }
+    ensures shown { IfObservable (T.history tree.old) (λ v. AllStaged names.now
+        → Since (KeepsFilesBut (λ q. is_staged q ≡ true) v)
+        (T.history tree.old) (T.history tree.new)) }
     ensures cleared { IfObservable (T.history tree.old) (λ v.
         OnOk result (HasNow (T.history tree.new) (IsWithout names.now v))) }
     ensures gone { IfObservable (T.history tree.old) (λ v. OnOk result (IsInNoMap intent_name v

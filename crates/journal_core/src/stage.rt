@@ -11,7 +11,7 @@ ghost use Rattle.base_core.specs.Restart.{SinceBy};
 ghost use Rattle.base_core.specs.Tree.{files_of};
 ghost use Rattle.base_core.specs.declared.cause.Cause.{Cause};
 ghost use Rattle.journal_core.specs.Acting.{IsNextName};
-ghost use Rattle.journal_core.specs.Kept.{IsInNoMap, IsOfAction, KeepsFilesBut, NamesLastBut};
+ghost use Rattle.journal_core.specs.Kept.{IsInNoMap, IsOfAction, KeepsFilesBut, NamesLastBut, RecoversTo};
 ghost use Rattle.journal_core.specs.Quiet.{IsStill};
 ghost use Rattle.journal_core.specs.Recovery.{IsSettled, RestsOn, after_actions, intent_name, read_intent, stage_name};
 ghost use Rattle.journal_core.specs.Staged.{Staging, HasRoomBeside, HasRoomToStage, IsActing, IsAlone, IsOnTheWay, IsStaged, PublishedBy, action_count, new_stage};
@@ -299,6 +299,11 @@ impl Stage {
             → IsActing self.old files v
             → OnOk result (HasNow (T.history tree.new) (IsActing self.new files))) }
 
+        // Whatever the order, the files as read stand for the same at each moment.
+        ensures reads { IfObservable (T.history tree.old) (λ v. (files : Files)
+            → IsActing self.old files v
+            → Since (RecoversTo files) (T.history tree.old) (T.history tree.new)) }
+
         // Whatever it answers, it touches no other name than those of its action.
         ensures others { IfObservable (T.history tree.old) (λ v. HasNow (T.history tree.new)
             (KeepsFilesBut (IsOfAction self.old.intent self.old.acted) v)) }
@@ -334,6 +339,11 @@ impl Stage {
         ensures files { IfObservable (T.history tree.old) (λ v. (files : Files)
             → IsActing self.old files v → OnOk result (HasNow (T.history tree.new)
             (λ w. (files_of w ≡ files) × (w.names intent_name ≡ None)))) }
+
+        // Whatever the order, the files as read stand for the same at each moment.
+        ensures reads { IfObservable (T.history tree.old) (λ v. (files : Files)
+            → IsActing self.old files v
+            → Since (RecoversTo files) (T.history tree.old) (T.history tree.new)) }
 
         // As soon as no intent is read, every other change of names lasts; and once it has answered
         // Ok, no crash brings the intent back.

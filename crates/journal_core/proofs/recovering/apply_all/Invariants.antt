@@ -1,7 +1,7 @@
 use Rattle.std.proofs.Common.{◌≡◌, ◌≤◌, ◌-◌, true}
 use Rattle.base_core.specs.Faults.{GoesOn, IsNoFault}
 use Rattle.journal_core.specs.Staged.{action_count}
-use Rattle.journal_core.proofs.Rowing.{ActsOn, Proper, Rowed}
+use Rattle.journal_core.proofs.Rowing.{ActsOn, Proper, ReadsOn, Rowed}
 use Rattle.journal_core.proofs.recovering.apply_all.Given as goal
 
 abbrev pub invariant-loop-stage : goal.invariant-loop-stage
@@ -13,6 +13,7 @@ invariant-loop-stage g l =
     × Proper l.fn.stage (g.T.Tree.history l.fn.tree) (g.T.Tree.counts l.fn.tree).misuses (g.T.Tree.counts l.tree).misuses
     × GoesOn (g.T.Tree.counts l.fn.tree) (g.T.Tree.counts l.tree)
     × IsNoFault (g.T.Tree.counts l.fn.tree) (g.T.Tree.counts l.tree)
+    × ReadsOn l.fn.stage (g.T.Tree.history l.fn.tree) (g.T.Tree.history l.tree)
 
 abbrev pub decreases-loop-stage : goal.decreases-loop-stage
 decreases-loop-stage g l = action_count l.stage.intent - l.stage.acted

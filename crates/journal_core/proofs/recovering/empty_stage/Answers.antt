@@ -1,5 +1,5 @@
 use Rattle.std.proofs.Common.{refl}
-use Rattle.journal_core.proofs.Cleaned.{empty_emptied, empty_idle, empty_moments, empty_none}
+use Rattle.journal_core.proofs.Cleaned.{empty_emptied, empty_idle, empty_moments, empty_none, empty_shown, empty_shown_none}
 use Rattle.journal_core.proofs.Lasting.{stays_back}
 use Rattle.journal_core.proofs.recovering.empty_stage.Goals as goal
 
@@ -31,3 +31,15 @@ returns-clause-idle g c =
 
 pub returns-clause-gone : goal.returns-clause-gone
 returns-clause-gone g c = stays_back _ _ _ c.list.ensures.same c.in_ok-remove_all.ensures.gone
+
+pub returns-in_err-folder-clause-shown : goal.returns-in_err-folder-clause-shown
+returns-in_err-folder-clause-shown g c = empty_shown_none _ _ refl
+
+pub returns-in_err-names-clause-shown : goal.returns-in_err-names-clause-shown
+returns-in_err-names-clause-shown g c = empty_shown_none _ _ c.list.ensures.same
+
+pub returns-in_err-remove_all-clause-shown : goal.returns-in_err-remove_all-clause-shown
+returns-in_err-remove_all-clause-shown g c = empty_shown _ _ c.in_ok-folder.ensures _ _ _ c.list.ensures.same c.in_ok-names.ensures.order c.remove_all.ensures.shown
+
+pub returns-clause-shown : goal.returns-clause-shown
+returns-clause-shown g c = empty_shown _ _ c.in_ok-folder.ensures _ _ _ c.list.ensures.same c.in_ok-names.ensures.order c.remove_all.ensures.shown

@@ -1,5 +1,5 @@
 use Rattle.std.proofs.Common.{rules}
-use Rattle.journal_core.proofs.Cleaned.{all_files, all_moments, all_settled}
+use Rattle.journal_core.proofs.Cleaned.{all_files, all_moments, all_reads, all_settled, replay_reads}
 use Rattle.journal_core.proofs.Lasting.{all_gone}
 use Rattle.journal_core.proofs.recovering.recover.Goals as goal
 
@@ -20,3 +20,12 @@ returns-in_err-replay-clause-bad g c = λ cause e. c.in_err-replay.ensures.bad c
 
 pub returns-clause-gone : goal.returns-clause-gone
 returns-clause-gone g c = all_gone _ _ _ c.in_ok-replay.ensures.replayed c.in_ok-replay.ensures.gone c.in_ok-empty_stage.ensures.gone
+
+pub returns-in_err-replay-clause-reads : goal.returns-in_err-replay-clause-reads
+returns-in_err-replay-clause-reads g c = replay_reads _ _ (g.T.Tree.history c.args.tree.now) c.replay.ensures.reads
+
+pub returns-in_err-empty_stage-clause-reads : goal.returns-in_err-empty_stage-clause-reads
+returns-in_err-empty_stage-clause-reads g c = all_reads _ _ _ c.replay.ensures.reads c.in_ok-replay.ensures.replayed c.empty_stage.ensures.shown
+
+pub returns-clause-reads : goal.returns-clause-reads
+returns-clause-reads g c = all_reads _ _ _ c.replay.ensures.reads c.in_ok-replay.ensures.replayed c.empty_stage.ensures.shown

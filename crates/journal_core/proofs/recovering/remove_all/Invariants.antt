@@ -1,7 +1,7 @@
 use Rattle.std.proofs.Common.{◌≡◌, [], take}
 use Rattle.base_core.specs.Calls.{IfObservable}
 use Rattle.base_core.specs.Faults.{GoesOn, IsNoFault}
-use Rattle.journal_core.proofs.Emptied.{Cleared, Gone}
+use Rattle.journal_core.proofs.Emptied.{Cleared, Gone, Shown}
 use Rattle.journal_core.proofs.Lasting.{Stays}
 use Rattle.journal_core.proofs.recovering.remove_all.Given as goal
 
@@ -13,4 +13,5 @@ invariant-loop-i g l =
     × IsNoFault (g.T.Tree.counts l.fn.tree) (g.T.Tree.counts l.tree)
     × IfObservable (g.T.Tree.history l.fn.tree) (λ v. (g.T.Tree.counts l.tree).misuses ≡ (g.T.Tree.counts l.fn.tree).misuses)
     × Stays (g.T.Tree.history l.fn.tree) (g.T.Tree.history l.tree)
+    × Shown l.names (g.T.Tree.history l.fn.tree) (g.T.Tree.history l.tree)
     × (l.names ≡ [] → g.T.Tree.history l.tree ≡ g.T.Tree.history l.fn.tree)

@@ -1,4 +1,4 @@
-use Rattle.journal_core.proofs.Replaying.{absent_good, absent_replayed, absent_settled, found_bad, found_good_called, found_idle, found_moments, found_proper, found_replayed, found_settled, none_found, some_found}
+use Rattle.journal_core.proofs.Replaying.{absent_good, absent_replayed, absent_settled, found_bad, found_good_called, found_idle, found_moments, found_proper, found_reads, found_replayed, found_settled, none_found, some_found}
 use Rattle.journal_core.proofs.Lasting.{found_gone, none_gone}
 use Rattle.journal_core.proofs.recovering.replay.Goals as goal
 
@@ -37,3 +37,6 @@ returns-in-Some-clause-gone g c = found_gone c.replay_file.result (g.T.Tree.hist
 
 pub returns-clause-gone : goal.returns-clause-gone
 returns-clause-gone g c = none_gone _ _ _ c.in_ok-name.ensures (none_found _ _ _ c.in_ok-file.ensures.answer c.in-None.is)
+
+pub returns-in-Some-clause-reads : goal.returns-in-Some-clause-reads
+returns-in-Some-clause-reads g c = found_reads _ _ _ c.read_all.ensures.tree.same _ _ c.in_ok-name.ensures (some_found _ _ _ _ c.in_ok-file.ensures.answer c.in-Some.is) c.replay_file.ensures.reads

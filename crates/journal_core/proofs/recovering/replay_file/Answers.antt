@@ -1,4 +1,4 @@
-use Rattle.journal_core.proofs.Carried.{act_failed, act_proper, end_moments, end_proper, end_replayed, end_settled, none_acted}
+use Rattle.journal_core.proofs.Carried.{act_failed, act_proper, act_reads, end_moments, end_reads, end_proper, end_replayed, end_settled, none_acted}
 use Rattle.journal_core.proofs.recovering.replay_file.Goals as goal
 
 pub apply_all-requires-clause-within : goal.apply_all-requires-clause-within
@@ -35,3 +35,12 @@ returns-clause-settled g c =
 pub returns-clause-replayed : goal.returns-clause-replayed
 returns-clause-replayed g c =
     end_replayed _ _ _ c.in_ok-stage.ensures.intent c.in_ok-stage.ensures.none _ _ _ c.in_ok-apply_all.ensures.acting c.in_ok-finish.ensures.files
+
+pub returns-in_err-apply_all-clause-reads : goal.returns-in_err-apply_all-clause-reads
+returns-in_err-apply_all-clause-reads g c = act_reads _ c.apply_all.new.stage _ c.in_ok-stage.ensures.intent c.in_ok-stage.ensures.none _ _ c.apply_all.ensures.reads
+
+pub returns-in_err-finish-clause-reads : goal.returns-in_err-finish-clause-reads
+returns-in_err-finish-clause-reads g c = end_reads _ _ _ c.in_ok-stage.ensures.intent c.in_ok-stage.ensures.none _ _ _ c.apply_all.ensures.reads c.in_ok-apply_all.ensures.acting c.finish.ensures.reads
+
+pub returns-clause-reads : goal.returns-clause-reads
+returns-clause-reads g c = end_reads _ _ _ c.in_ok-stage.ensures.intent c.in_ok-stage.ensures.none _ _ _ c.apply_all.ensures.reads c.in_ok-apply_all.ensures.acting c.finish.ensures.reads

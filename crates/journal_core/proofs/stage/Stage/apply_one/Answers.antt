@@ -1,7 +1,9 @@
 use Rattle.std.proofs.Common.{refl, sym, ap}
+use Rattle.base_core.specs.Crash.{Since}
 use Rattle.journal_core.specs.Acting.{acting_stage}
+use Rattle.journal_core.specs.Kept.{RecoversTo}
 use Rattle.journal_core.specs.Staged.{Staging}
-use Rattle.journal_core.proofs.Again.{moments_as, behind_as}
+use Rattle.journal_core.proofs.Again.{moments_as, behind_as, told_as}
 use Rattle.journal_core.proofs.Keeping.{action_keeps_as}
 use Rattle.journal_core.proofs.stage.Stage.apply_one.Goals as goal
 
@@ -23,3 +25,13 @@ returns-in_err-acted-clause-others g c = action_keeps_as _ _ _ _ _ _ (ap (λ (s 
 
 pub returns-clause-others : goal.returns-clause-others
 returns-clause-others g c = action_keeps_as _ _ _ _ _ _ (ap (λ (s : Staging). s.intent) c.self.view_is) (ap (λ (s : Staging). s.acted) c.self.view_is) c.act.ensures.others
+
+pub returns-in_err-acted-clause-reads : goal.returns-in_err-acted-clause-reads
+returns-in_err-acted-clause-reads g c =
+    told_as c.args.self.now (acting_stage c.self.inside.intent c.self.inside.acted) _ (λ files v. Since (RecoversTo files) (g.T.Tree.history c.args.tree.now) (g.T.Tree.history c.act.new.tree))
+    (ap (λ (s : Staging). s.intent) (sym c.self.view_is)) (ap (λ (s : Staging). s.acted) (sym c.self.view_is)) c.act.ensures.reads
+
+pub returns-clause-reads : goal.returns-clause-reads
+returns-clause-reads g c =
+    told_as c.args.self.now (acting_stage c.self.inside.intent c.self.inside.acted) _ (λ files v. Since (RecoversTo files) (g.T.Tree.history c.args.tree.now) (g.T.Tree.history c.act.new.tree))
+    (ap (λ (s : Staging). s.intent) (sym c.self.view_is)) (ap (λ (s : Staging). s.acted) (sym c.self.view_is)) c.act.ensures.reads

@@ -1,11 +1,12 @@
 use Rattle.std.proofs.Common.{◌∙◌, ◌≡◌, refl}
 use Rattle.journal_core.specs.Recovery.{intent_name}
 use Rattle.journal_core.proofs.History.{on_observable}
+use Rattle.journal_core.specs.Kept.{RecoversTo}
 use Rattle.journal_core.specs.Quiet.{IsStill}
 use Rattle.journal_core.proofs.OneCall.{one_failed}
 use Rattle.journal_core.proofs.Waiting.{still_self}
 use Rattle.journal_core.proofs.Chain.{IsAny, any_now, any_step, proper_now}
-use Rattle.journal_core.proofs.Finishing.{sync_done, drop_failed, drop_done, last_called, last_settled, last_files}
+use Rattle.journal_core.proofs.Finishing.{sync_done, drop_failed, drop_done, last_called, last_settled, last_files, stands_drop_failed, stands_dropped, stands_last, stands_synced}
 use Rattle.journal_core.proofs.Keeping.{keeps_now, keeps_removed, keeps_synced}
 use Rattle.journal_core.proofs.Lasting.{finish_gone, finish_last, finish_remove_failed, finish_removed, finish_sync_failed, finish_synced}
 use Rattle.journal_core.proofs.stage.Stage.finish.Goals as goal
@@ -99,3 +100,21 @@ returns-clause-others g c =
     (keeps_removed (λ q. q ≡ intent_name) v _ _ _
     (keeps_synced (λ q. q ≡ intent_name) v _ _ _ (keeps_now (λ q. q ≡ intent_name) _ v rest is) c.in_ok-sync_all_names.ensures.moves)
     _ c.name.ensures c.in_ok-remove.ensures.moves) c.sync_all_names-2.ensures.moves)
+
+pub returns-in_err-sync_all_names-clause-reads : goal.returns-in_err-sync_all_names-clause-reads
+returns-in_err-sync_all_names-clause-reads g c =
+    on_observable (g.T.Tree.history c.args.tree.now) _ (λ v rest is files acting.
+    one_failed _ _ v rest is (RecoversTo files) _ c.in_err-sync_all_names.ensures.moves (λ may. acting.reads))
+
+pub returns-in_err-remove-clause-reads : goal.returns-in_err-remove-clause-reads
+returns-in_err-remove-clause-reads g c =
+    on_observable (g.T.Tree.history c.args.tree.now) _ (λ v rest is files acting.
+    stands_drop_failed (record { left = c.a_crash_may_leave_the_files_as_read.ensures.by_map; outlasts = c.order_outlasts_a_crash.ensures }) _ c.requires.all _ c.name.ensures files v _ rest is acting _ _ _
+    (stands_synced (record { left = c.a_crash_may_leave_the_files_as_read.ensures.by_map; outlasts = c.order_outlasts_a_crash.ensures }) _ c.requires.all _ c.name.ensures files v _ rest is acting (g.T.Tree.history c.args.tree.now) _ _ c.in_ok-sync_all_names.ensures.moves) c.in_err-remove.ensures.moves)
+
+pub returns-clause-reads : goal.returns-clause-reads
+returns-clause-reads g c =
+    on_observable (g.T.Tree.history c.args.tree.now) _ (λ v rest is files acting.
+    stands_last (record { left = c.a_crash_may_leave_the_files_as_read.ensures.by_map; outlasts = c.order_outlasts_a_crash.ensures }) _ c.requires.all _ c.name.ensures files v _ rest is acting _ _ c.sync_all_names-2.result
+    (stands_dropped (record { left = c.a_crash_may_leave_the_files_as_read.ensures.by_map; outlasts = c.order_outlasts_a_crash.ensures }) _ c.requires.all _ c.name.ensures files v _ rest is acting _ _ _
+    (stands_synced (record { left = c.a_crash_may_leave_the_files_as_read.ensures.by_map; outlasts = c.order_outlasts_a_crash.ensures }) _ c.requires.all _ c.name.ensures files v _ rest is acting (g.T.Tree.history c.args.tree.now) _ _ c.in_ok-sync_all_names.ensures.moves) c.in_ok-remove.ensures.moves) c.sync_all_names-2.ensures.moves)
