@@ -164,8 +164,8 @@ pub fn apk<T: Tree, O: Sink, E: Sink>(
     // each crash left the old ones before, or an intent was found and done.
     ensures settled { IfObservable (T.history tree.old) (λ v. (ignored : List ℕ → Bool)
         → IsOrderly (RestsOn ignored) v → HidesScratchOf (output words.now) ignored
-        → LeavesLasting (IsOutcome words.now (files_of v)) (effect_by (command_of words.now)) ignored v
-        (T.history tree.new) result) }
+        → LeavesLasting (IsOutcome words.now (files_of v)) (effect_by (command_of words.now))
+        ignored v (T.history tree.new) result) }
 {
     a_refusal_commits_nothing();
     let judged = judge(alloc, words, tree);
