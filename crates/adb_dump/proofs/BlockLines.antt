@@ -12,10 +12,11 @@ use Rattle.adb_tables.specs.Values.{entries_in, int_in, is_sound, text_in, value
 use Rattle.adb_tables.specs.declared.tables.Which.{Which}
 use Rattle.adb_tables.specs.declared.tables.Kind.{Kind}
 use Rattle.adb_tables.specs.declared.tables.Kind.TheVariants.{Int, Text, Hash, Obj, TextArr, ObjArr}
+use Rattle.adb_tables.specs.Shapes.{object_shape}
 use Rattle.adb_dump.specs.Dump.{Line, block_lines, with_dash, array_lines, fields_lines, indent, named_lines, or_null, text_form, unless_absent}
 use Rattle.adb_dump.specs.Words.{is_null, are_null, fields_at}
 use Rattle.adb_dump.proofs.Nulls.{obj_null}
-use Rattle.adb_dump.proofs.WordReads.{hash_plain, int_plain, object_shape, text_plain}
+use Rattle.adb_dump.proofs.WordReads.{hash_plain, int_plain, text_plain}
 
 pub int_lines : (p : List ℕ) (w n : ℕ) → n ≡ int_in (value_at p Int w) → is_null (value_at p Int w) ≡ false → block_lines (shape_of Int) (value_at p Int w) ≡ decimal n ∷ []
 unfolding block_lines shape_of

@@ -8,11 +8,11 @@ use Rattle.adb_schema.specs.Soundness.{schema_word}
 use Rattle.adb_tables.specs.declared.tables.Which.{Which}
 use Rattle.adb_tables.specs.declared.tables.Which.TheVariants.{Dep, Acl, PkgInfo, File, Dir, Scripts, Package, Index, Idb, Intent}
 use Rattle.adb_tables.specs.declared.tables.Kind.TheVariants.{Obj}
+use Rattle.adb_tables.specs.Shapes.{object_shape}
 use Rattle.adb_dump.specs.Dump.{Line, block_lines, dump_lines, dump_text, schema_line, value_lines}
 use Rattle.adb_dump.specs.ReadBack.{bind, block_read, split_lines, value_read}
 use Rattle.adb_dump.specs.Values.{IsOfBytes, IsValueOf}
 use Rattle.adb_dump.proofs.BlockLines.{no_lines, object_block}
-use Rattle.adb_dump.proofs.WordReads.{object_shape}
 use Rattle.adb_dump.proofs.Booleans.{both}
 use Rattle.adb_dump.proofs.ValueBack.{no_end, is_named, block_back}
 use Rattle.adb_dump.proofs.TextLines.{block_end, lines_of-text}

@@ -2,28 +2,15 @@
 use Rattle.std.proofs.Common.{◌≡◌, ℕ, Bool, true, false, cond, eqb, List, [], ◌∷◌, Option, Some, None, option_map, Result, Ok, Err, refl, sym, ap, ◌∙◌, inl, inr, ◌⊎◌}
 use Rattle.std.specs.Prelude.{is_some, unwrap_or}
 use Rattle.std.proofs.lemmas.Bool.{eqb-true}
-use Rattle.adb_view.specs.Plain.{Plain, null, int, Plains, none, object, Fields, no_fields, field, blob_value, obj_value, unless_null, from_answer, plain_of, plains_of}
+use Rattle.adb_view.specs.Plain.{Plain, null, int, Plains, none, Fields, no_fields, field, blob_value, obj_value, unless_null, from_answer, plain_of, plains_of}
 use Rattle.adb_view.specs.Readers.{int_of, blob_of, run_of, OBJECT}
-use Rattle.adb_tables.specs.Schema.{table, schema_number, shape_of, shapes_of}
+use Rattle.adb_tables.specs.Schema.{table, shape_of, shapes_of}
+use Rattle.adb_tables.specs.Shapes.{object_shape}
 use Rattle.adb_tables.specs.Values.{int_in, is_sound, text_in, value_at}
 use Rattle.base_core.specs.declared.cause.Cause.{Cause}
 use Rattle.adb_tables.specs.declared.tables.Which.{Which}
-use Rattle.adb_tables.specs.declared.tables.Which.TheVariants.{Dep, Acl, PkgInfo, File, Dir, Scripts, Package, Index, Idb, Intent}
 use Rattle.adb_tables.specs.declared.tables.Kind.TheVariants.{Int, Text, Hash, Obj}
 use Rattle.adb_dump.specs.Words.{fields_sound, fields_at, is_null}
-
-pub object_shape : (w : Which) → shape_of (Obj w) ≡ object (schema_number w) (shapes_of (table w))
-unfolding shape_of
-object_shape Dep = refl
-object_shape Acl = refl
-object_shape PkgInfo = refl
-object_shape File = refl
-object_shape Dir = refl
-object_shape Scripts = refl
-object_shape Package = refl
-object_shape Index = refl
-object_shape Idb = refl
-object_shape Intent = refl
 
 -- NULL or not
 null_or_not : (w : ℕ) → (w ≡ 0) ⊎ (eqb w 0 ≡ false)

@@ -1,7 +1,6 @@
 -- A command is run, and its outcome carried out.
 use Rattle.std.proofs.Common.{◌≡◌, inl, inr, ℕ, Bool, true, false, List, [], ◌∷◌, Option, Some, None, IsSome, Result, Ok, Err, refl, sym, ap, subst, ◌∙◌}
 use Rattle.std.specs.Prelude.{if◌then◌else◌, is_some, IfOk, IsErrOf, IsTrue, OnOk}
-use Rattle.std.proofs.lemmas.List.Elements.{All-nil}
 use Rattle.base_core.specs.Calls.{HasNow, IfObservable}
 use Rattle.base_core.specs.Crash.{IsOrderly, Since}
 use Rattle.base_core.specs.Faults.{Counts, IsNoFault}
@@ -21,8 +20,9 @@ use Rattle.make_index.specs.Files.{AreFiles}
 use Rattle.make_info.specs.Reads.{Reads}
 use Rattle.outcome.specs.Dump.{adbdump, dump_outcome, text_outcome, dump_of}
 use Rattle.outcome.specs.Make.{mkndx, mkpkg}
-use Rattle.outcome.specs.Commands.{IsFoundOutcomeOf, MayBeListedFor, IsListingFor, IsOutcome, IsOutcomeOf, reads_in, applet_outcome, command_outcome}
-use Rattle.outcome.specs.Effect.{does_only_read, effect_of, output, output_by, output_if, reads_only}
+use Rattle.outcome.specs.Commands.{IsFoundOutcomeOf, IsFoundOver, MayBeListedFor, IsListingFor, IsOutcome, IsOutcomeOf, IsOutcomeOver, reads_in, applet_outcome, command_outcome}
+use Rattle.outcome.specs.Effect.{Effect, does_only_read, effect_by, effect_of, output, output_by, output_if, reads_only}
+use Rattle.outcome.specs.Work.{recovery_fault}
 use Rattle.outcome.specs.Outcome.{Outcome, just_refusal, just_report, outcome_of, report_unless}
 use Rattle.outcome.specs.Verify.{verify_refusal, sound_lines}
 use Rattle.outcome.specs.Version.{order_report, invalid_lines, version_refusal}
@@ -38,15 +38,16 @@ use Rattle.command_core.specs.declared.command.Applet.{Applet}
 use Rattle.command_core.specs.declared.command.Applet.TheVariants.{Adbdump, Mkndx, Mkpkg, Verify, Version}
 use Rattle.command_core.specs.declared.operands.Operand.{Operand}
 use Rattle.apk_front.specs.Answers.{answer_by}
-use Rattle.apk_front.specs.Moments.{AreSafe, CommitsNothing, HasRoomFor, HidesScratchOf, IsReadApart, IsLeftUndone, LeavesLasting, Settles}
-use Rattle.apk_front.specs.Runs.{IsRun}
+use Rattle.apk_front.specs.Moments.{AnswersOutcome, AreSafe, CommitsNothing, HasNothingToRecover, HasRoomFor, HidesScratchOf, IsReadApart, IsReadOnItsWay, IsLeftUndone, LeavesLasting, LeavesRoom, LeavesRoomFor, Settles}
+use Rattle.apk_front.specs.Runs.{IsRun, IsWholeRun, IsWithoutCommit}
 use Rattle.apk_front.specs.Containers.{IsIndexOutcome, IsPackageOutcome}
 use Rattle.apk_front.specs.Verdicts.{IsPrinted, IsShown, Reports, ReportsOne, as_outcome}
 use Rattle.apk_front.specs.declared.answer.Answer.{Answer}
 use Rattle.apk_front.specs.declared.answer.Answer.TheVariants.{Ok as Done, Refused, TreeFault as TreeFailed, OutFault, Memory}
 use Rattle.apk_front.specs.declared.answer.Verdict.{Verdict}
-use Rattle.apk_front.proofs.Judged.{Runs, found_at, no_listing, no_listing_by_some}
-use Rattle.apk_front.proofs.Runs.{History, Judged, run_among, failed_at, idle_at, refused_at}
+use Rattle.apk_front.proofs.Judged.{Runs, fault_without, found_at, no_listing, no_listing_by_some, of_over, over_of, reads_without, work_without}
+use Rattle.apk_front.proofs.AfterRecovery.{whole_alone, whole_idle}
+use Rattle.apk_front.proofs.Runs.{History, Judged, run_among, run_idle}
 
 -- ---- an applet that only reads
 
@@ -83,43 +84,54 @@ look_leaves Mkndx command names files reads = cc
 look_leaves other command names files reads = (refl, refl)
 
 abbrev pub Ones : CommandLine → TreeState → Outcome → Type 0
-Ones command v = IsOutcomeOf (Ok command) (files_of v)
+Ones command v = IsOutcomeOver command (files_of v)
+
+-- the outcomes of a command that may first recover
+abbrev pub Wholes : CommandLine → TreeState → Outcome → Type 0
+Wholes command v = IsOutcomeOf (Ok command) (files_of v)
 
 pub look_found : (command : CommandLine) (old : History) (judged : Judged) → does_only_read (effect_of command.applet) ≡ true → IfOk judged (λ verdict. IfObservable old (λ v. as_outcome (files_of v) verdict ≡ command_outcome command [] (reads_in (files_of v)) (files_of v)))
-    → IfOk judged (λ verdict. IfObservable old (λ v. ReportsOne (Ones command v) verdict))
+    → IfOk judged (λ verdict. IfObservable old (λ v. ReportsOne (Wholes command v) verdict))
 look_found command old (Err e) reads found = tt
 look_found command [] (Ok verdict) reads found = tt
-look_found command (v ∷ rest) (Ok verdict) reads found = (as_outcome (files_of v) verdict, ([], no_listing command.applet command (files_of v) reads, found), refl)
+look_found command (v ∷ rest) (Ok verdict) reads found =
+    (as_outcome (files_of v) verdict, of_over command (files_of v) (as_outcome (files_of v) verdict) (reads_without (effect_of command.applet) reads) ([], no_listing command.applet command (files_of v) reads, found), refl)
 
 pub look_read : (command : CommandLine) (judged : Judged) → does_only_read (effect_of command.applet) ≡ true → IfOk judged (λ verdict. (read : Reads) × (as_outcome no_names verdict ≡ command_outcome command [] read no_names)) → IfOk judged (ReportsOne (IsFoundOutcomeOf (Ok command)))
 look_read command (Err e) reads found = tt
-look_read command (Ok verdict) reads (read, is) = (as_outcome no_names verdict, ([], no_listing_by_some command.applet command reads, read, is), refl)
+look_read command (Ok verdict) reads (read, is) = (as_outcome no_names verdict, inl ([], no_listing_by_some command.applet command reads, read, is), refl)
 
 always : (P : Type 0) (judged : Judged) → P → OnOk judged P
 always P (Ok verdict) p = p
 always P (Err e) p = tt
 
 pub look_run : (command : CommandLine) (old now : History) (judged : Judged) → does_only_read (effect_of command.applet) ≡ true → now ≡ old
-    → IfObservable old (λ v. IsRun (Ones command v) (output_if (effect_of command.applet) command) judged v old now)
-look_run command old now judged reads same =
-    idle_at (Ones command) (output_if (effect_of command.applet) command) judged old now same
-    (λ v o one none. always (Leaves (files_of v) o) judged (subst (Leaves (files_of v)) (sym one.2) (look_leaves command.applet command one.0 (files_of v) reads)))
+    → IfObservable old (λ v. IsWholeRun (Wholes command v) (effect_of command.applet) (output_if (effect_of command.applet) command) judged v old now)
+look_run command [] now judged reads same = tt
+look_run command (v ∷ rest) now judged reads same =
+    let none = reads_without (effect_of command.applet) reads in
+    let out = output_if (effect_of command.applet) command in
+    whole_alone (Wholes command v) (effect_of command.applet) out judged v (v ∷ rest) now none (fault_without (effect_of command.applet) (files_of v) none) (work_without (effect_of command.applet) (files_of v) none)
+    (run_among (Ones command v) (Wholes command v) out judged v (v ∷ rest) now (λ o one. of_over command (files_of v) o none one) (λ o one. over_of command (files_of v) o none one)
+    (run_idle (Ones command v) out judged v rest now same
+    (λ o one no. always (Leaves (files_of v) o) judged (subst (Leaves (files_of v)) (sym one.2) (look_leaves command.applet command one.0 (files_of v) reads)))))
+    (λ memory. same)
 
 -- ---- an applet that makes
 
-package_one : (command : CommandLine) (files : Files) (o : Outcome) → Mkpkg ≡ command.applet → IsPackageOutcome command files o → IsOutcomeOf (Ok command) files o
+package_one : (command : CommandLine) (files : Files) (o : Outcome) → Mkpkg ≡ command.applet → IsPackageOutcome command files o → IsOutcomeOver command files o
 package_one command files o same (names, listed, is) =
     (names, subst (λ (a : Applet). IsListingFor a command files names) same listed, is ∙ ap (λ (a : Applet). applet_outcome a command names (reads_in files) files) same)
 
-one_package : (command : CommandLine) (files : Files) (o : Outcome) → Mkpkg ≡ command.applet → IsOutcomeOf (Ok command) files o → IsPackageOutcome command files o
+one_package : (command : CommandLine) (files : Files) (o : Outcome) → Mkpkg ≡ command.applet → IsOutcomeOver command files o → IsPackageOutcome command files o
 one_package command files o same (names, listed, is) =
     (names, subst (λ (a : Applet). IsListingFor a command files names) (sym same) listed, is ∙ ap (λ (a : Applet). applet_outcome a command names (reads_in files) files) (sym same))
 
-index_one : (command : CommandLine) (files : Files) (o : Outcome) → Mkndx ≡ command.applet → IsIndexOutcome command files o → IsOutcomeOf (Ok command) files o
+index_one : (command : CommandLine) (files : Files) (o : Outcome) → Mkndx ≡ command.applet → IsIndexOutcome command files o → IsOutcomeOver command files o
 index_one command files o same is =
     ([], subst (λ (a : Applet). IsListingFor a command files []) same refl, is ∙ ap (λ (a : Applet). applet_outcome a command [] (reads_in files) files) same)
 
-one_index : (command : CommandLine) (files : Files) (o : Outcome) → Mkndx ≡ command.applet → IsOutcomeOf (Ok command) files o → IsIndexOutcome command files o
+one_index : (command : CommandLine) (files : Files) (o : Outcome) → Mkndx ≡ command.applet → IsOutcomeOver command files o → IsIndexOutcome command files o
 one_index command files o same (names, listed, is) = is ∙ ap (λ (a : Applet). applet_outcome a command names (reads_in files) files) (sym same)
 
 reports_among : (A B : TreeState → Outcome → Type 0) (old : History) (judged : Judged) → ((v : TreeState) (o : Outcome) → A v o → B v o) → IfOk judged (λ verdict. IfObservable old (λ v. ReportsOne (A v) verdict))
@@ -137,13 +149,13 @@ pub index_found_one : (command : CommandLine) (old : History) (judged : Judged) 
 index_found_one command old judged same found = reports_among (λ v. IsIndexOutcome command (files_of v)) (Ones command) old judged (λ v o one. index_one command (files_of v) o same one) found
 
 pub package_read_one : (command : CommandLine) (judged : Judged) → Mkpkg ≡ command.applet → IfOk judged (λ verdict. (names : List (List ℕ)) × AreNamesFor (values_with FILES command.values) names × (read : Reads) × Reports verdict (mkpkg read no_names command names))
-    → IfOk judged (ReportsOne (IsFoundOutcomeOf (Ok command)))
+    → IfOk judged (ReportsOne (IsFoundOver command))
 package_read_one command (Err e) same found = tt
 package_read_one command (Ok verdict) same (names, named, read, reports) =
     (mkpkg read no_names command names, (names, subst (λ (a : Applet). MayBeListedFor a command names) same named, read, ap (λ (a : Applet). applet_outcome a command names read no_names) same), reports)
 
 pub index_read_one : (command : CommandLine) (judged : Judged) → Mkndx ≡ command.applet → IfOk judged (λ verdict. (read : Reads) × AreFiles read 0 command.operands × Reports verdict (mkndx read no_names command))
-    → IfOk judged (ReportsOne (IsFoundOutcomeOf (Ok command)))
+    → IfOk judged (ReportsOne (IsFoundOver command))
 index_read_one command (Err e) same found = tt
 index_read_one command (Ok verdict) same (read, files, reports) =
     (mkndx read no_names command, ([], subst (λ (a : Applet). MayBeListedFor a command []) same refl, read, ap (λ (a : Applet). applet_outcome a command [] read no_names) same), reports)
@@ -187,37 +199,44 @@ index_proper command old P same proper =
 
 -- ---- the words
 
-pub by_command : (words : List (List ℕ)) (command : CommandLine) (old : History) (judged : Judged) → command_of words ≡ Ok command → IfOk judged (λ verdict. IfObservable old (λ v. ReportsOne (Ones command v) verdict))
+pub by_command : (words : List (List ℕ)) (command : CommandLine) (old : History) (judged : Judged) → command_of words ≡ Ok command → IfOk judged (λ verdict. IfObservable old (λ v. ReportsOne (Wholes command v) verdict))
     → IfOk judged (λ verdict. IfObservable old (λ v. ReportsOne (IsOutcome words (files_of v)) verdict))
 by_command words command old judged is found = subst (λ (r : Result CommandLine ℕ). IfOk judged (λ verdict. IfObservable old (λ v. ReportsOne (IsOutcomeOf r (files_of v)) verdict))) (sym is) found
 
 pub run_by_command : (words : List (List ℕ)) (command : CommandLine) (judged : Judged) (old now : History) → command_of words ≡ Ok command
-    → IfObservable old (λ v. IsRun (Ones command v) (output_if (effect_of command.applet) command) judged v old now) → Runs words judged old now
-run_by_command words command judged old now is run = subst (λ (r : Result CommandLine ℕ). IfObservable old (λ v. IsRun (IsOutcomeOf r (files_of v)) (output_by r) judged v old now)) (sym is) run
+    → IfObservable old (λ v. IsWholeRun (Wholes command v) (effect_of command.applet) (output_if (effect_of command.applet) command) judged v old now) → Runs words judged old now
+run_by_command words command judged old now is run = subst (λ (r : Result CommandLine ℕ). IfObservable old (λ v. IsWholeRun (IsOutcomeOf r (files_of v)) (effect_by r) (output_by r) judged v old now)) (sym is) run
 
 pub proper_by_command : (words : List (List ℕ)) (command : CommandLine) (old : History) (P : Type 0) → command_of words ≡ Ok command
-    → IfObservable old (λ v. RoomFor (Ones command v) (output_if (effect_of command.applet) command) (files_of v) → P) → IfObservable old (λ v. RoomFor (IsOutcome words (files_of v)) (output words) (files_of v) → P)
-proper_by_command words command old P is proper = subst (λ (r : Result CommandLine ℕ). IfObservable old (λ v. RoomFor (IsOutcomeOf r (files_of v)) (output_by r) (files_of v) → P)) (sym is) proper
+    → IfObservable old (λ v. LeavesRoomFor (effect_of command.applet) (output_if (effect_of command.applet) command) (Wholes command v) (files_of v) → P) → IfObservable old (λ v. LeavesRoom words (files_of v) → P)
+proper_by_command words command old P is proper = subst (λ (r : Result CommandLine ℕ). IfObservable old (λ v. LeavesRoomFor (effect_by r) (output_by r) (IsOutcomeOf r (files_of v)) (files_of v) → P)) (sym is) proper
 
 pub same_by_command : (words : List (List ℕ)) (command : CommandLine) (P : Type 0) → command_of words ≡ Ok command → (IsTrue (does_only_read (effect_of command.applet)) → P) → IsTrue (reads_only (command_of words)) → P
 same_by_command words command P is same = subst (λ (r : Result CommandLine ℕ). IsTrue (reads_only r) → P) (sym is) same
 
 pub usage_run : (words : List (List ℕ)) (q : ℕ) (fault : WordsFault) (judged : Judged) (old : History) → fault ≡ WrongWord q → IsWordsFault fault (command_of words) → Runs words judged old old
-usage_run words q fault judged old is of =
+usage_run words q fault judged [] is of = tt
+usage_run words q fault judged (v ∷ rest) is of =
     let read : command_of words ≡ Err q = subst (λ (f : WordsFault). IsWordsFault f (command_of words)) is of in
-    refused_at (λ v. IsOutcome words (files_of v)) (output words) judged old old refl
-    (λ v o one. let is_refused : o ≡ just_refusal (files_of v) (Usage q) = subst (λ (r : Result CommandLine ℕ). IsOutcomeOf r (files_of v) o) read one in
-    subst (λ (x : Outcome). IsSome x.refusal) (sym is_refused) refl)
+    whole_idle (IsOutcome words (files_of v)) (effect_by (command_of words)) (output words) judged v rest (v ∷ rest) refl
+    (λ P o one none. let is_refused : o ≡ just_refusal (files_of v) (Usage q) = subst (λ (r : Result CommandLine ℕ). IsOutcomeOf r (files_of v) o) read one in
+    absurd (let e : Some (Usage q) ≡ None = ap (λ (x : Outcome). x.refusal) (sym is_refused) ∙ none in cc))
 
 pub failed_run : (words : List (List ℕ)) (e : TreeFault) (old : History) → Runs words (Err e) old old
-failed_run words e old = failed_at (λ v. IsOutcome words (files_of v)) (output words) (Err e) e old old refl refl
+failed_run words e [] = tt
+failed_run words e (v ∷ rest) = whole_idle (IsOutcome words (files_of v)) (effect_by (command_of words)) (output words) (Err e) v rest (v ∷ rest) refl (λ P o one none. tt)
 
 -- ---- the answer
 
 pub reads_by : (words : List (List ℕ)) (judged : Judged) (old now : History) → Runs words judged old now
-    → IfObservable old (λ v. (o : Outcome) → IsOutcome words (files_of v) o → Since (IsReadApart (output words) o.files (files_of v)) old now)
+    → IfObservable old (λ v. (o : Outcome) → IsOutcome words (files_of v) o → HasNothingToRecover (effect_by (command_of words)) v → Since (IsReadApart (output words) o.files (files_of v)) old now)
 reads_by words judged [] now run = tt
 reads_by words judged (v ∷ rest) now run = run.reads
+
+pub states_by : (words : List (List ℕ)) (judged : Judged) (old now : History) → Runs words judged old now
+    → IfObservable old (λ v. (ignored : List ℕ → Bool) (o : Outcome) → IsOrderly (RestsOn ignored) v → IsOutcome words (files_of v) o → Since (IsReadOnItsWay (effect_by (command_of words)) (output words) ignored o.files v) old now)
+states_by words judged [] now run = tt
+states_by words judged (v ∷ rest) now run = run.states
 
 pub crash_by : (words : List (List ℕ)) (judged : Judged) (old now : History) → Runs words judged old now
     → IfObservable old (λ v. (ignored : List ℕ → Bool) → IsOrderly (RestsOn ignored) v → HidesScratchOf (output words) ignored → AreSafe (IsOutcome words (files_of v)) (is_some (output words)) ignored v old now)
@@ -235,27 +254,27 @@ no_refusal : (refusal : Option Refusal) → Done ≡ answer_by refusal → refus
 no_refusal None same = refl
 no_refusal (Some r) same = cc
 
-lasting_shown : (IsOne : Outcome → Type 0) (ignored : List ℕ → Bool) (v : TreeState) (now : History) (verdict : Verdict) (o : Outcome) (answer : Answer) (out err : SinkChange) → IsOne o → Reports verdict o
-    → (o.refusal ≡ None → Settles ignored v o → HasNow now (IsSettled ignored o.files)) → IsPrinted (as_outcome o.files verdict) answer out err → LeavesLasting IsOne ignored v now answer
-lasting_shown IsOne ignored v now verdict o Done out err one reports lasts printed =
+lasting_shown : (IsOne : Outcome → Type 0) (effect : Effect) (ignored : List ℕ → Bool) (v : TreeState) (now : History) (verdict : Verdict) (o : Outcome) (answer : Answer) (out err : SinkChange) → IsOne o → Reports verdict o
+    → (o.refusal ≡ None → Settles effect ignored v o → HasNow now (IsSettled ignored o.files)) → IsPrinted (as_outcome o.files verdict) answer out err → LeavesLasting IsOne effect ignored v now answer
+lasting_shown IsOne effect ignored v now verdict o Done out err one reports lasts printed =
     let none : o.refusal ≡ None = sym (ap (λ (x : Outcome). x.refusal) reports) ∙ no_refusal verdict.refusal printed.same in
     (o, one, none, lasts none)
-lasting_shown IsOne ignored v now verdict o OutFault out err one reports lasts printed = (o, one, lasts)
-lasting_shown IsOne ignored v now verdict o (Refused r) out err one reports lasts printed = tt
-lasting_shown IsOne ignored v now verdict o TreeFailed out err one reports lasts printed = tt
-lasting_shown IsOne ignored v now verdict o Memory out err one reports lasts printed = tt
+lasting_shown IsOne effect ignored v now verdict o OutFault out err one reports lasts printed = (o, one, lasts)
+lasting_shown IsOne effect ignored v now verdict o (Refused r) out err one reports lasts printed = tt
+lasting_shown IsOne effect ignored v now verdict o TreeFailed out err one reports lasts printed = tt
+lasting_shown IsOne effect ignored v now verdict o Memory out err one reports lasts printed = tt
 
-lasting_judged : (IsOne : Outcome → Type 0) (ignored : List ℕ → Bool) (v : TreeState) (now : History) (judged : Judged) (answer : Answer) (out err : SinkChange) → IfOk judged (ReportsOne IsOne) → IsShown judged answer out err
-    → ((o : Outcome) → IsOne o → o.refusal ≡ None → Settles ignored v o → OnOk judged (HasNow now (IsSettled ignored o.files))) → LeavesLasting IsOne ignored v now answer
-lasting_judged IsOne ignored v now (Ok verdict) answer out err (o, one, reports) is_shown settled = lasting_shown IsOne ignored v now verdict o answer out err one reports (settled o one) (is_shown o.files)
-lasting_judged IsOne ignored v now (Err Disk) answer out err found is_shown settled = subst (LeavesLasting IsOne ignored v now) (sym is_shown.0) tt
-lasting_judged IsOne ignored v now (Err NoMemory) answer out err found is_shown settled = subst (LeavesLasting IsOne ignored v now) (sym is_shown.0) tt
+lasting_judged : (IsOne : Outcome → Type 0) (effect : Effect) (ignored : List ℕ → Bool) (v : TreeState) (now : History) (judged : Judged) (answer : Answer) (out err : SinkChange) → IfOk judged (ReportsOne IsOne) → IsShown judged answer out err
+    → ((o : Outcome) → IsOne o → o.refusal ≡ None → Settles effect ignored v o → OnOk judged (HasNow now (IsSettled ignored o.files))) → LeavesLasting IsOne effect ignored v now answer
+lasting_judged IsOne effect ignored v now (Ok verdict) answer out err (o, one, reports) is_shown settled = lasting_shown IsOne effect ignored v now verdict o answer out err one reports (settled o one) (is_shown o.files)
+lasting_judged IsOne effect ignored v now (Err Disk) answer out err found is_shown settled = subst (LeavesLasting IsOne effect ignored v now) (sym is_shown.0) tt
+lasting_judged IsOne effect ignored v now (Err NoMemory) answer out err found is_shown settled = subst (LeavesLasting IsOne effect ignored v now) (sym is_shown.0) tt
 
 pub settled_by : (words : List (List ℕ)) (judged : Judged) (answer : Answer) (out err : SinkChange) (old now : History) → IsShown judged answer out err → IfOk judged (λ verdict. IfObservable old (λ v. ReportsOne (IsOutcome words (files_of v)) verdict)) → Runs words judged old now
-    → IfObservable old (λ v. (ignored : List ℕ → Bool) → IsOrderly (RestsOn ignored) v → HidesScratchOf (output words) ignored → LeavesLasting (IsOutcome words (files_of v)) ignored v now answer)
+    → IfObservable old (λ v. (ignored : List ℕ → Bool) → IsOrderly (RestsOn ignored) v → HidesScratchOf (output words) ignored → LeavesLasting (IsOutcome words (files_of v)) (effect_by (command_of words)) ignored v now answer)
 settled_by words judged answer out err [] now is_shown found run = tt
 settled_by words judged answer out err (v ∷ rest) now is_shown found run = λ ignored orderly hides.
-    lasting_judged (IsOutcome words (files_of v)) ignored v now judged answer out err (found_at v rest judged (λ verdict w. ReportsOne (IsOutcome words (files_of w)) verdict) found) is_shown
+    lasting_judged (IsOutcome words (files_of v)) (effect_by (command_of words)) ignored v now judged answer out err (found_at v rest judged (λ verdict w. ReportsOne (IsOutcome words (files_of w)) verdict) found) is_shown
     (λ o one none lasts. run.settled ignored o orderly hides one none lasts)
 
 -- ---- nothing is committed
@@ -264,28 +283,49 @@ refused_answer : (refusal : Option Refusal) (r : Refusal) → Refused r ≡ answ
 refused_answer None r same = cc
 refused_answer (Some x) r same = refl
 
-pub undone_by : (judged : Judged) (answer : Answer) (out err : SinkChange) (P : Type 0) → IsShown judged answer out err → IfOk judged (λ verdict. IsSome verdict.refusal → P) → (IsErrOf judged NoMemory → P) → IsLeftUndone answer → P
-undone_by (Ok verdict) Done out err P is_shown refused memory undone = absurd undone
-undone_by (Ok verdict) (Refused r) out err P is_shown refused memory undone = refused (refused_answer verdict.refusal r (is_shown no_names).same)
-undone_by (Ok verdict) TreeFailed out err P is_shown refused memory undone = absurd undone
-undone_by (Ok verdict) OutFault out err P is_shown refused memory undone = absurd undone
-undone_by (Ok verdict) Memory out err P is_shown refused memory undone = absurd (is_shown no_names)
-undone_by (Err Disk) answer out err P is_shown refused memory undone = absurd (subst IsLeftUndone is_shown.0 undone)
-undone_by (Err NoMemory) answer out err P is_shown refused memory undone = memory refl
+-- a refusal commits nothing
+abbrev pub RefusesAll : Type 0
+RefusesAll = (words : List (List ℕ)) (files : Files) (o : Outcome) → IsOutcome words files o → IsSome o.refusal → o.commits ≡ false
 
-nothing_by : (IsOne : Outcome → Type 0) (answer : Answer) (P : Type 0) → (IsLeftUndone answer → P) → ((o : Outcome) → IsOne o → o.commits ≡ false → P) → CommitsNothing IsOne answer → P
-nothing_by IsOne answer P undone idle (inl left) = undone left
-nothing_by IsOne answer P undone idle (inr (o, one, nothing)) = idle o one nothing
+undone_without : RefusesAll → (words : List (List ℕ)) (v : TreeState) (judged : Judged) (answer : Answer) (out err : SinkChange) → IsShown judged answer out err → IfOk judged (ReportsOne (IsOutcome words (files_of v))) → IsLeftUndone answer → IsWithoutCommit (IsOutcome words (files_of v)) judged
+undone_without law words v (Ok verdict) Done out err is_shown found undone = absurd undone
+undone_without law words v (Ok verdict) (Refused r) out err is_shown (o, one, reports) undone =
+    inr (o, one, law words (files_of v) o one (subst (λ (x : Option Refusal). IsSome x) (ap (λ (x : Outcome). x.refusal) reports) (refused_answer verdict.refusal r (is_shown no_names).same)))
+undone_without law words v (Ok verdict) TreeFailed out err is_shown found undone = absurd undone
+undone_without law words v (Ok verdict) OutFault out err is_shown found undone = absurd undone
+undone_without law words v (Ok verdict) Memory out err is_shown found undone = absurd (is_shown no_names)
+undone_without law words v (Err Disk) answer out err is_shown found undone = absurd (subst IsLeftUndone is_shown.0 undone)
+undone_without law words v (Err NoMemory) answer out err is_shown found undone = inl refl
 
-pub idle_by : (words : List (List ℕ)) (judged : Judged) (answer : Answer) (old now : History) → (IsLeftUndone answer → now ≡ old) → Runs words judged old now
-    → IfObservable old (λ v. CommitsNothing (IsOutcome words (files_of v)) answer → now ≡ old)
-idle_by words judged answer [] now undone run = tt
-idle_by words judged answer (v ∷ rest) now undone run = nothing_by (IsOutcome words (files_of v)) answer (now ≡ v ∷ rest) undone run.idle
+without : RefusesAll → (words : List (List ℕ)) (v : TreeState) (judged : Judged) (answer : Answer) (out err : SinkChange) → IsShown judged answer out err → IfOk judged (ReportsOne (IsOutcome words (files_of v))) → CommitsNothing (IsOutcome words (files_of v)) answer → IsWithoutCommit (IsOutcome words (files_of v)) judged
+without law words v judged answer out err is_shown found (inl undone) = undone_without law words v judged answer out err is_shown found undone
+without law words v judged answer out err is_shown found (inr one) = inr one
 
-pub left_by : (words : List (List ℕ)) (answer : Answer) (old now : History) → IfObservable old (λ v. CommitsNothing (IsOutcome words (files_of v)) answer → now ≡ old)
+abbrev pub FindsOne : List (List ℕ) → Judged → History → Type 0
+FindsOne words judged old = IfOk judged (λ verdict. IfObservable old (λ v. ReportsOne (IsOutcome words (files_of v)) verdict))
+
+found_first : (words : List (List ℕ)) (judged : Judged) (v : TreeState) (rest : History) → FindsOne words judged (v ∷ rest) → IfOk judged (ReportsOne (IsOutcome words (files_of v)))
+found_first words judged v rest found = found_at v rest judged (λ verdict w. ReportsOne (IsOutcome words (files_of w)) verdict) found
+
+pub idle_by : RefusesAll → (words : List (List ℕ)) (judged : Judged) (answer : Answer) (out err : SinkChange) (old now : History) → IsShown judged answer out err → FindsOne words judged old → Runs words judged old now
+    → IfObservable old (λ v. CommitsNothing (IsOutcome words (files_of v)) answer → HasNothingToRecover (effect_by (command_of words)) v → now ≡ old)
+idle_by law words judged answer out err [] now is_shown found run = tt
+idle_by law words judged answer out err (v ∷ rest) now is_shown found run = λ nothing. run.idle (without law words v judged answer out err is_shown (found_first words judged v rest found) nothing)
+
+pub left_by : RefusesAll → (words : List (List ℕ)) (judged : Judged) (answer : Answer) (out err : SinkChange) (old now : History) → IsShown judged answer out err → FindsOne words judged old → Runs words judged old now
     → IfObservable old (λ v. CommitsNothing (IsOutcome words (files_of v)) answer → (ignored : List ℕ → Bool) → IsOrderly (RestsOn ignored) v → Since (IsStill ignored v) old now)
-left_by words answer [] now idle = tt
-left_by words answer (v ∷ rest) now idle = λ nothing ignored orderly. record { added = []; is = idle nothing; each = All-nil (IsStill ignored v) }
+left_by law words judged answer out err [] now is_shown found run = tt
+left_by law words judged answer out err (v ∷ rest) now is_shown found run = λ nothing. run.left (without law words v judged answer out err is_shown (found_first words judged v rest found) nothing)
+
+answered_ok : (judged : Judged) (answer : Answer) (out err : SinkChange) (P : Type 0) → IsShown judged answer out err → AnswersOutcome answer → OnOk judged P → P
+answered_ok (Ok verdict) answer out err P is_shown answers p = p
+answered_ok (Err Disk) answer out err P is_shown answers p = absurd (subst AnswersOutcome is_shown.0 answers)
+answered_ok (Err NoMemory) answer out err P is_shown answers p = absurd (subst AnswersOutcome is_shown.0 answers)
+
+pub bad_by : (words : List (List ℕ)) (judged : Judged) (answer : Answer) (out err : SinkChange) (old now : History) → IsShown judged answer out err → Runs words judged old now
+    → IfObservable old (λ v. IsSome (recovery_fault (effect_by (command_of words)) (files_of v)) → AnswersOutcome answer → now ≡ old)
+bad_by words judged answer out err [] now is_shown run = tt
+bad_by words judged answer out err (v ∷ rest) now is_shown run = λ some answers. answered_ok judged answer out err (now ≡ v ∷ rest) is_shown answers (run.bad some)
 
 pub usage_reported : (words : List (List ℕ)) (old : History) (verdict : Verdict) → ((v : TreeState) → IsOutcome words (files_of v) (as_outcome (files_of v) verdict)) → IfObservable old (λ v. ReportsOne (IsOutcome words (files_of v)) verdict)
 usage_reported words [] verdict is = tt
@@ -331,14 +371,6 @@ pub nothing_by_words : (command : CommandLine) (verdict : Verdict) → IsNothing
 nothing_by_words command verdict nothing is files = is files ∙ sym (nothing (reads_in files) files)
 
 -- ---- what is said of every run
-
-pub look_proper : (command : CommandLine) (old : History) (P : Type 0) → IfObservable old (λ v. P) → IfObservable old (λ v. RoomFor (Ones command v) (output_if (effect_of command.applet) command) (files_of v) → P)
-look_proper command [] P proper = tt
-look_proper command (v ∷ rest) P proper = λ room. proper
-
-pub look_refused : (judged : Judged) (P : Type 0) → P → IfOk judged (λ verdict. IsSome verdict.refusal → P)
-look_refused (Ok verdict) P p = λ some. p
-look_refused (Err e) P p = tt
 
 -- want of memory is no fault of the tree
 pub look_memory : (judged : Judged) (old new : History) (a b : Counts) → OnlyReads Disk old new a b judged → IsErrOf judged NoMemory → IsNoFault a b

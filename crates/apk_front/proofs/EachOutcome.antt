@@ -12,7 +12,7 @@ use Rattle.journal_core.specs.Recovery.{IsOldOrNew, IsSettled}
 use Rattle.journal_core.specs.Replacing.{IsReplacing}
 use Rattle.journal_core.specs.Staged.{IsOnTheWay}
 use Rattle.outcome.specs.Commands.{IsOutcome}
-use Rattle.outcome.specs.Effect.{output, reads_only}
+use Rattle.outcome.specs.Effect.{Effect, effect_by, output, reads_only}
 use Rattle.outcome.specs.Outcome.{Outcome}
 use Rattle.words_core.specs.Grammar.{command_of}
 use Rattle.apk_front.specs.Moments.{AreOnTheWay, AreSafe, IsCarriedOut, LeavesLasting, Settles}
@@ -54,26 +54,26 @@ safe_for_each unique law words ignored v outcome old now (inr (o, its, commits, 
 
 -- ---- what lasts
 
-settles : MakerCommits → (words : List (List ℕ)) (ignored : List ℕ → Bool) (v : TreeState) (o : Outcome) → IsOutcome words (files_of v) o → o.refusal ≡ None → (IsTrue (reads_only (command_of words)) → IsSettled ignored (files_of v) v) → Settles ignored v o
-settles law words ignored v o one none before =
-    elim (reads_only (command_of words)) as (λ b. (IsTrue b → IsSettled ignored (files_of v) v) → (b ≡ false → o.commits ≡ not (is_some o.refusal)) → Settles ignored v o) [
-      | true ↦ λ s m. inr (s refl)
-      | false ↦ λ s m. inl (m refl ∙ ap (λ r. not (is_some r)) none)
+settles : MakerCommits → (effect : Effect) (words : List (List ℕ)) (ignored : List ℕ → Bool) (v : TreeState) (o : Outcome) → IsOutcome words (files_of v) o → o.refusal ≡ None → (IsTrue (reads_only (command_of words)) → IsSettled ignored (files_of v) v) → Settles effect ignored v o
+settles law effect words ignored v o one none before =
+    elim (reads_only (command_of words)) as (λ b. (IsTrue b → IsSettled ignored (files_of v) v) → (b ≡ false → o.commits ≡ not (is_some o.refusal)) → Settles effect ignored v o) [
+      | true ↦ λ s m. inl (inr (s refl))
+      | false ↦ λ s m. inl (inl (m refl ∙ ap (λ r. not (is_some r)) none))
     ] before (λ makes. law words (files_of v) o makes one)
 
-lasts_for : MakerCommits → (words : List (List ℕ)) (ignored : List ℕ → Bool) (v : TreeState) (o outcome : Outcome) (now : List TreeState) → o ≡ outcome → IsOutcome words (files_of v) outcome → outcome.refusal ≡ None
-    → (IsTrue (reads_only (command_of words)) → IsSettled ignored (files_of v) v) → (Settles ignored v o → HasNow now (IsSettled ignored o.files)) → HasNow now (IsSettled ignored outcome.files)
-lasts_for law words ignored v o outcome now same one none before last =
-    subst (λ (x : Outcome). (Settles ignored v x → HasNow now (IsSettled ignored x.files))) same last (settles law words ignored v outcome one none before)
+lasts_for : MakerCommits → (effect : Effect) (words : List (List ℕ)) (ignored : List ℕ → Bool) (v : TreeState) (o outcome : Outcome) (now : List TreeState) → o ≡ outcome → IsOutcome words (files_of v) outcome → outcome.refusal ≡ None
+    → (IsTrue (reads_only (command_of words)) → IsSettled ignored (files_of v) v) → (Settles effect ignored v o → HasNow now (IsSettled ignored o.files)) → HasNow now (IsSettled ignored outcome.files)
+lasts_for law effect words ignored v o outcome now same one none before last =
+    subst (λ (x : Outcome). (Settles effect ignored v x → HasNow now (IsSettled ignored x.files))) same last (settles law effect words ignored v outcome one none before)
 
 pub lasting_for_each : IsUnique → MakerCommits → (words : List (List ℕ)) (ignored : List ℕ → Bool) (v : TreeState) (outcome : Outcome) (now : List TreeState) (answer : Answer)
-    → LeavesLasting (IsOutcome words (files_of v)) ignored v now answer → IsCarriedOut answer → IsOutcome words (files_of v) outcome → outcome.refusal ≡ None
+    → LeavesLasting (IsOutcome words (files_of v)) (effect_by (command_of words)) ignored v now answer → IsCarriedOut answer → IsOutcome words (files_of v) outcome → outcome.refusal ≡ None
     → (IsTrue (reads_only (command_of words)) → IsSettled ignored (files_of v) v) → HasNow now (IsSettled ignored outcome.files)
 lasting_for_each unique law words ignored v outcome now Ok (o, its, its_none, last) carried one none before =
-    lasts_for law words ignored v o outcome now (unique words (files_of v) o outcome its one) one none before last
+    lasts_for law (effect_by (command_of words)) words ignored v o outcome now (unique words (files_of v) o outcome its one) one none before last
 lasting_for_each unique law words ignored v outcome now OutFault (o, its, last) carried one none before =
     let same = unique words (files_of v) o outcome its one in
-    lasts_for law words ignored v o outcome now same one none before (last (ap (λ (x : Outcome). x.refusal) same ∙ none))
+    lasts_for law (effect_by (command_of words)) words ignored v o outcome now same one none before (last (ap (λ (x : Outcome). x.refusal) same ∙ none))
 lasting_for_each unique law words ignored v outcome now (Refused r) lasting carried one none before = absurd carried
 lasting_for_each unique law words ignored v outcome now TreeFault lasting carried one none before = absurd carried
 lasting_for_each unique law words ignored v outcome now Memory lasting carried one none before = absurd carried

@@ -1,5 +1,5 @@
 -- What was judged and shown is the answer.
-use Rattle.std.proofs.Common.{◌≡◌, ◌⊎◌, inl, inr, ℕ, List, [], ◌∷◌, Option, None, true, Result, Ok, Err, OnOk, IfOk, IsErrOf, IsTrue, MatchResult, refl, sym, ap, subst, ◌∙◌}
+use Rattle.std.proofs.Common.{◌≡◌, ◌⊎◌, inl, inr, ℕ, List, [], ◌∷◌, Option, None, true, false, Result, Ok, Err, OnOk, IfOk, IsErrOf, IsTrue, MatchResult, refl, sym, ap, subst, ◌∙◌}
 use Rattle.base_core.specs.Calls.{IfObservable, HasNow}
 use Rattle.base_core.specs.Faults.{Counts, HasCause, IsNoFault}
 use Rattle.base_core.specs.Files.{Files, no_names}
@@ -19,10 +19,12 @@ use Rattle.command_core.specs.declared.command.Flags.{Flags}
 use Rattle.command_core.specs.declared.operands.Operand.{Operand}
 use Rattle.outcome.specs.Outcome.{Outcome, just_refusal}
 use Rattle.outcome.specs.Version.{version}
-use Rattle.outcome.specs.Commands.{IsFoundOutcome, IsFoundOutcomeOf, MayBeListedFor, IsOutcome, IsOutcomeOf, IsListingFor, reads_in, applet_outcome, command_outcome}
-use Rattle.outcome.specs.Effect.{Effect, Makes, does_only_read, does_rest_on_words, effect_of, output, rests_on_words}
+use Rattle.outcome.specs.Commands.{IsFoundOutcome, IsFoundOutcomeOf, MayBeListedFor, IsOutcome, IsOutcomeOf, IsOutcomeOver, IsOutcomeUnless, IsListingFor, reads_in, applet_outcome, command_outcome}
+use Rattle.outcome.specs.Effect.{Effect, Makes, does_only_read, does_recover, does_rest_on_words, effect_by, effect_of, output, rests_on_words}
+use Rattle.outcome.specs.Work.{recovery_fault, work_files}
+use Rattle.base_core.specs.declared.cause.Cause.{Cause}
 use Rattle.apk_front.specs.Answers.{IsAnswerTo, IsAnswerOf, LeavesFiles, LeavesAny, HasCauses, IsFaultless, IsComplete, IsStated, DidNotFail, FailedAt, answer_by}
-use Rattle.apk_front.specs.Runs.{IsRun}
+use Rattle.apk_front.specs.Runs.{IsWholeRun}
 use Rattle.apk_front.specs.Verdicts.{as_outcome, IsPrinted, IsShown, Reports, ReportsOne}
 use Rattle.apk_front.proofs.Printing.{either_failed}
 use Rattle.apk_front.specs.declared.answer.Answer.{Answer}
@@ -46,8 +48,32 @@ words_read : (effect : Effect) → does_rest_on_words effect ≡ true → does_o
 words_read Makes rests = cc
 words_read other rests = refl
 
+-- ---- a command that does not recover
+
+pub reads_without : (effect : Effect) → does_only_read effect ≡ true → does_recover effect ≡ false
+reads_without Makes reads = cc
+reads_without other reads = refl
+
+pub fault_without : (effect : Effect) (files : Files) → does_recover effect ≡ false → recovery_fault effect files ≡ None
+fault_without Makes files none = cc
+fault_without other files none = refl
+
+pub work_without : (effect : Effect) (files : Files) → does_recover effect ≡ false → work_files effect files ≡ files
+work_without Makes files none = cc
+work_without other files none = refl
+
+pub of_over : (command : CommandLine) (files : Files) (o : Outcome) → does_recover (effect_of command.applet) ≡ false → IsOutcomeOver command files o → IsOutcomeOf (Ok command) files o
+of_over command files o none over =
+    subst (λ (fault : Option Cause). IsOutcomeUnless fault command files o) (sym (fault_without (effect_of command.applet) files none))
+    (subst (λ (f : Files). IsOutcomeOver command f o) (sym (work_without (effect_of command.applet) files none)) over)
+
+pub over_of : (command : CommandLine) (files : Files) (o : Outcome) → does_recover (effect_of command.applet) ≡ false → IsOutcomeOf (Ok command) files o → IsOutcomeOver command files o
+over_of command files o none of =
+    subst (λ (f : Files). IsOutcomeOver command f o) (work_without (effect_of command.applet) files none)
+    (subst (λ (fault : Option Cause). IsOutcomeUnless fault command files o) (fault_without (effect_of command.applet) files none) of)
+
 pub ran_over : (words : List (List ℕ)) (command : CommandLine) (files : Files) (o : Outcome) → command_of words ≡ Ok command → does_only_read (effect_of command.applet) ≡ true → o ≡ command_outcome command [] (reads_in files) files → IsOutcome words files o
-ran_over words command files o is reads ran = subst (λ (r : Result CommandLine ℕ). IsOutcomeOf r files o) (sym is) ([], no_listing command.applet command files reads, ran)
+ran_over words command files o is reads ran = subst (λ (r : Result CommandLine ℕ). IsOutcomeOf r files o) (sym is) (of_over command files o (reads_without (effect_of command.applet) reads) ([], no_listing command.applet command files reads, ran))
 
 pub ran_by_words : (words : List (List ℕ)) (command : CommandLine) (judged : Result Verdict TreeFault) → command_of words ≡ Ok command
     → (IsTrue (does_rest_on_words (effect_of command.applet)) → MatchResult judged (λ verdict. (files : Files) → as_outcome files verdict ≡ command_outcome command [] (reads_in files) files) (λ fault. fault ≡ NoMemory))
@@ -141,7 +167,7 @@ leaves_if (Err e) P Q f = tt
 
 -- the runs of a command line
 abbrev pub Runs : List (List ℕ) → Judged → List TreeState → List TreeState → Type 0
-Runs words judged old now = IfObservable old (λ v. IsRun (IsOutcome words (files_of v)) (output words) judged v old now)
+Runs words judged old now = IfObservable old (λ v. IsWholeRun (IsOutcome words (files_of v)) (effect_by (command_of words)) (output words) judged v old now)
 
 pub answered : (words : List (List ℕ)) (old now : List TreeState) (tree_failed : Type 0) (judged : Judged) (answer : Answer) (out err : SinkChange)
     → IfOk judged (λ verdict. IfObservable old (λ v. ReportsOne (IsOutcome words (files_of v)) verdict)) → Runs words judged old now → (IsErrOf judged Disk → tree_failed) → IsShown judged answer out err

@@ -10,4 +10,6 @@ pub mod NothingFailed
 pub mod Carried
 pub mod Named
 pub mod Effects
+pub mod AfterRecovery
+pub mod Behind
 pub mod EachOutcome

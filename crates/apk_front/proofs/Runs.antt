@@ -16,7 +16,7 @@ use Rattle.journal_core.specs.Reading.{IsReadAs}
 use Rattle.outcome.specs.Make.{make_outcome}
 use Rattle.outcome.specs.Outcome.{Outcome, commit_report, just_refusal, just_report}
 use Rattle.report_core.specs.declared.refusal.Refusal.TheVariants.{Reserved}
-use Rattle.apk_front.specs.Moments.{AreSafe, HasRoomFor, HidesScratchOf, IsReadApart, Settles}
+use Rattle.apk_front.specs.Moments.{AreSafe, HasRoomFor, HidesScratchOf, IsReadApart, SettlesUnrecovered}
 use Rattle.apk_front.specs.Runs.{IsRun}
 use Rattle.apk_front.specs.Verdicts.{Reports, as_outcome}
 use Rattle.apk_front.specs.declared.answer.Verdict.{Verdict}
@@ -44,7 +44,7 @@ abbrev pub IsIdle : (Outcome → Type 0) → Judged → TreeState → Type 0
 IsIdle IsOne judged v = (o : Outcome) → IsOne o → o.refusal ≡ None → OnOk judged ((o.files ≡ files_of v) × (o.commits ≡ false))
 
 -- what commits nothing is settled where it was so before
-settled_before : (ignored : List ℕ → Bool) (v : TreeState) (o : Outcome) → o.commits ≡ false → Settles ignored v o → IsSettled ignored (files_of v) v
+settled_before : (ignored : List ℕ → Bool) (v : TreeState) (o : Outcome) → o.commits ≡ false → SettlesUnrecovered ignored v o → IsSettled ignored (files_of v) v
 settled_before ignored v o none (inl commits) = absurd (false≢true (sym none ∙ commits))
 settled_before ignored v o none (inr before) = before
 

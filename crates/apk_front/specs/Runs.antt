@@ -1,15 +1,20 @@
 -- What a run leaves of a tree.
-use Rattle.std.specs.Prelude.{◌≡◌, ℕ, Bool, false, is_some, List, Option, None, Result, OnOk}
+use Rattle.std.specs.Prelude.{◌≡◌, ◌⊎◌, ℕ, Bool, false, is_some, IsSome, IsErrOf, List, Option, None, Result, OnOk}
 use Rattle.base_core.specs.Calls.{HasNow}
 use Rattle.base_core.specs.Crash.{IsOrderly, Since}
 use Rattle.base_core.specs.Tree.{TreeState, files_of}
 use Rattle.base_core.specs.declared.tree.TreeFault.{TreeFault}
+use Rattle.base_core.specs.declared.tree.TreeFault.TheVariants.{Memory}
+use Rattle.journal_core.specs.Quiet.{IsStill}
 use Rattle.journal_core.specs.Recovery.{RestsOn, IsSettled}
+use Rattle.outcome.specs.Effect.{Effect}
 use Rattle.outcome.specs.Outcome.{Outcome}
-use Rattle.apk_front.specs.Moments.{AreSafe, HidesScratchOf, IsReadApart, Settles}
+use Rattle.outcome.specs.Work.{recovery_fault}
+use Rattle.apk_front.specs.Moments.{AreSafe, HasNothingToRecover, HidesScratchOf, IsReadApart, IsReadOnItsWay, Settles, SettlesUnrecovered}
 use Rattle.apk_front.specs.declared.answer.Verdict.{Verdict}
 
--- What a run leaves of a tree that is in a state v, where its outcome is one of these.
+-- What a run leaves of a tree that is in a state v, from which on it recovers nothing, where its
+-- outcome is one of these.
 pub record IsRun (IsOne : Outcome → Type 0) (output : Option (List ℕ))
     (judged : Result Verdict TreeFault) (v : TreeState) (old now : List TreeState) : Type 0 where
   -- at each moment the tree is orderly, and a crash leaves a state from before or that of the files
@@ -25,7 +30,7 @@ pub record IsRun (IsOne : Outcome → Type 0) (output : Option (List ℕ))
   -- their state
   pub settled : (ignored : List ℕ → Bool) (outcome : Outcome)
       → IsOrderly (RestsOn ignored) v → HidesScratchOf output ignored
-      → IsOne outcome → outcome.refusal ≡ None → Settles ignored v outcome
+      → IsOne outcome → outcome.refusal ≡ None → SettlesUnrecovered ignored v outcome
       → OnOk judged (HasNow now (IsSettled ignored outcome.files))
   -- at each moment the files as read are the old ones, apart from the scratch name, or the
   -- outcome's
@@ -36,3 +41,36 @@ pub record IsRun (IsOne : Outcome → Type 0) (output : Option (List ℕ))
       → OnOk judged (HasNow now (λ w. files_of w ≡ outcome.files))
   -- a run that commits nothing writes nothing
   pub idle : (outcome : Outcome) → IsOne outcome → outcome.commits ≡ false → now ≡ old
+
+-- memory ran out, or an outcome commits nothing
+abbrev pub IsWithoutCommit : (Outcome → Type 0) → Result Verdict TreeFault → Type 0
+IsWithoutCommit IsOne judged =
+    IsErrOf judged Memory ⊎ ((outcome : Outcome) × IsOne outcome × (outcome.commits ≡ false))
+
+-- What a run leaves that recovers first, if its command does.
+pub record IsWholeRun (IsOne : Outcome → Type 0) (effect : Effect) (output : Option (List ℕ))
+    (judged : Result Verdict TreeFault) (v : TreeState) (old now : List TreeState) : Type 0 where
+  pub moments : (ignored : List ℕ → Bool)
+      → IsOrderly (RestsOn ignored) v → HidesScratchOf output ignored
+      → AreSafe IsOne (is_some output) ignored v old now
+  pub orderly : (ignored : List ℕ → Bool)
+      → IsOrderly (RestsOn ignored) v → HidesScratchOf output ignored
+      → HasNow now (IsOrderly (RestsOn ignored))
+  pub settled : (ignored : List ℕ → Bool) (outcome : Outcome)
+      → IsOrderly (RestsOn ignored) v → HidesScratchOf output ignored
+      → IsOne outcome → outcome.refusal ≡ None → Settles effect ignored v outcome
+      → OnOk judged (HasNow now (IsSettled ignored outcome.files))
+  -- a run that commits nothing leaves the state, and writes nothing where there is nothing to
+  -- recover
+  pub left : IsWithoutCommit IsOne judged → (ignored : List ℕ → Bool)
+      → IsOrderly (RestsOn ignored) v → Since (IsStill ignored v) old now
+  pub idle : IsWithoutCommit IsOne judged → HasNothingToRecover effect v → now ≡ old
+  -- nor where the intent is refused
+  pub bad : IsSome (recovery_fault effect (files_of v)) → OnOk judged (now ≡ old)
+  pub reads : (outcome : Outcome) → IsOne outcome → HasNothingToRecover effect v
+      → Since (IsReadApart output outcome.files (files_of v)) old now
+  pub states : (ignored : List ℕ → Bool) (outcome : Outcome)
+      → IsOrderly (RestsOn ignored) v → IsOne outcome
+      → Since (IsReadOnItsWay effect output ignored outcome.files v) old now
+  pub leaves : (outcome : Outcome) → IsOne outcome → outcome.refusal ≡ None
+      → OnOk judged (HasNow now (λ w. files_of w ≡ outcome.files))

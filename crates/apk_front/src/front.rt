@@ -1,7 +1,7 @@
 //! The top call. Its contract is what this repository proves of a run of `apk`.
-ghost use Rattle.std.specs.Prelude.{◌≡◌, ℕ, Bool, List, IsTrue, is_some};
+ghost use Rattle.std.specs.Prelude.{◌≡◌, ℕ, Bool, List, IsSome, IsTrue, is_some};
 ghost use Rattle.apk_front.specs.Answers.{name_an_applet, IsAnswerOf, IsAnswerTo, LeavesFiles, LeavesAny, HasCauses, IsFaultless, IsComplete, IsUnplanned, IsOutcomeUnlessMemory};
-ghost use Rattle.apk_front.specs.Moments.{AreSafe, CommitsNothing, HidesScratchOf, IsLeftUndone, IsReadApart, LeavesLasting, LeavesRoom};
+ghost use Rattle.apk_front.specs.Moments.{AnswersOutcome, AreSafe, CommitsNothing, HasNothingToRecover, HidesScratchOf, IsReadApart, IsReadOnItsWay, LeavesLasting, LeavesRoom};
 ghost use Rattle.base_core.specs.Calls.{HasNow, IfObservable};
 ghost use Rattle.base_core.specs.Crash.{IsOrderly, Since};
 ghost use Rattle.base_core.specs.Faults.{GoesOn, HasCause};
@@ -11,13 +11,15 @@ ghost use Rattle.base_core.specs.Tree.{files_of};
 ghost use Rattle.journal_core.specs.Quiet.{IsStill};
 ghost use Rattle.journal_core.specs.Recovery.{RestsOn};
 ghost use Rattle.outcome.specs.Commands.{IsFoundOutcome, IsOutcome};
-ghost use Rattle.outcome.specs.Effect.{output, reads_only, rests_on_words};
+ghost use Rattle.outcome.specs.Effect.{effect_by, output, reads_only, rests_on_words};
 ghost use Rattle.outcome.specs.Outcome.{Outcome};
+ghost use Rattle.outcome.specs.Work.{recovery_fault};
 ghost use Rattle.words_core.specs.Grammar.{command_of};
 
 use crate::answer::{Answer, show};
 use crate::judge::judge;
 use base_core::{Sink, Tree, Words};
+use outcome::a_refusal_commits_nothing;
 use std::alloc::Global;
 
 /// Runs a command line, without the program's name, on a tree of files and two sinks, as apk(8)
@@ -84,8 +86,9 @@ pub fn apk<T: Tree, O: Sink, E: Sink>(
     // Want of memory is answered only where the words name an applet.
     ensures memory { result ≡ Answer.Memory → IsTrue (name_an_applet words.now) }
 
-    // No call is a misuse of the tree, where its files leave room for the output: then OUTPUT and
-    // OUTPUT.apk-tmp are no folder of another file, and no file is a folder of them.
+    // No call is a misuse of the tree, where its files leave room for what an intent has still to
+    // do, and for the output: then OUTPUT and OUTPUT.apk-tmp are no folder of another of the
+    // recovered files, and none is a folder of them.
     ensures proper { IfObservable (T.history tree.old) (λ v. LeavesRoom words.now (files_of v)
         → (T.counts tree.new).misuses ≡ (T.counts tree.old).misuses) }
 
@@ -104,26 +107,39 @@ pub fn apk<T: Tree, O: Sink, E: Sink>(
     // Where the outcome rests on the words alone, no call is made on the tree.
     ensures untouched { IsTrue (rests_on_words (command_of words.now)) → tree.new ≡ tree.old }
 
-    // A command that only reads leaves the tree as it is, and so does a run that is refused, or for
-    // which there is no memory.
+    // A command that only reads leaves the tree as it is.
     ensures same { IsTrue (reads_only (command_of words.now))
         → T.history tree.new ≡ T.history tree.old }
-    ensures undone { IsLeftUndone result → T.history tree.new ≡ T.history tree.old }
 
-    // Nothing is written either where the outcome commits nothing, whatever is answered in its
-    // place: of a refusal, say, that could not be printed.
+    // Where there is nothing to recover, nothing is written by a run that is refused, or for which
+    // there is no memory, or whose outcome commits nothing, whatever is answered in its place.
     ensures idle { IfObservable (T.history tree.old) (λ v.
         CommitsNothing (IsOutcome words.now (files_of v)) result
+        → HasNothingToRecover (effect_by (command_of words.now)) v
         → T.history tree.new ≡ T.history tree.old) }
 
-    // At each moment the files as read are the old ones, but for OUTPUT.apk-tmp, or the outcome's:
-    // no other file is touched, also where the tree fails.
+    // A bad intent is refused, and nothing is written.
+    ensures bad_intent { IfObservable (T.history tree.old) (λ v.
+        IsSome (recovery_fault (effect_by (command_of words.now)) (files_of v))
+        → AnswersOutcome result → T.history tree.new ≡ T.history tree.old) }
+
+    // At each moment the files as read are the old ones, but for OUTPUT.apk-tmp, or the outcome's,
+    // where there is nothing to recover: no other file is touched, also where the tree fails.
     ensures reads { IfObservable (T.history tree.old) (λ v. (outcome : Outcome)
         → IsOutcome words.now (files_of v) outcome
+        → HasNothingToRecover (effect_by (command_of words.now)) v
         → Since (IsReadApart (output words.now) outcome.files (files_of v))
         (T.history tree.old) (T.history tree.new)) }
 
     // ---- what a crash leaves, of a tree that was orderly
+
+    // While the files are recovered their state is the old one at each moment; from then on the
+    // files as read are the recovered ones, but for OUTPUT.apk-tmp, or the outcome's.
+    ensures states { IfObservable (T.history tree.old) (λ v. (ignored : List ℕ → Bool)
+        (outcome : Outcome)
+        → IsOrderly (RestsOn ignored) v → IsOutcome words.now (files_of v) outcome
+        → Since (IsReadOnItsWay (effect_by (command_of words.now)) (output words.now) ignored
+        outcome.files v) (T.history tree.old) (T.history tree.new)) }
 
     // A run that commits nothing leaves the state as it was: at each moment a crash leaves a state
     // from before, and the files as read have the old one.
@@ -145,11 +161,13 @@ pub fn apk<T: Tree, O: Sink, E: Sink>(
         → HasNow (T.history tree.new) (IsOrderly (RestsOn ignored))) }
 
     // Once the outcome is carried out, each crash leaves its files; where it commits nothing, if
-    // each crash left the old ones before.
+    // each crash left the old ones before, or an intent was found and done.
     ensures settled { IfObservable (T.history tree.old) (λ v. (ignored : List ℕ → Bool)
         → IsOrderly (RestsOn ignored) v → HidesScratchOf (output words.now) ignored
-        → LeavesLasting (IsOutcome words.now (files_of v)) ignored v (T.history tree.new) result) }
+        → LeavesLasting (IsOutcome words.now (files_of v)) (effect_by (command_of words.now)) ignored v
+        (T.history tree.new) result) }
 {
+    a_refusal_commits_nothing();
     let judged = judge(alloc, words, tree);
     show(judged, out, err)
 }

@@ -1,8 +1,8 @@
 //! A command line is judged: its words are read, and its applet is run.
-ghost use Rattle.std.specs.Prelude.{◌≡◌, [], None, Ok, IfOk, IsErrOf, IsSome, IsTrue, MatchResult, OnOk};
+ghost use Rattle.std.specs.Prelude.{◌≡◌, [], Ok, IfOk, IsErrOf, IsTrue, MatchResult, OnOk};
 ghost use Rattle.apk_front.specs.Answers.{name_an_applet};
-ghost use Rattle.apk_front.specs.Moments.{HasRoomFor, LeavesRoom};
-ghost use Rattle.apk_front.specs.Runs.{IsRun};
+ghost use Rattle.apk_front.specs.Moments.{LeavesRoom, LeavesRoomFor};
+ghost use Rattle.apk_front.specs.Runs.{IsWholeRun};
 ghost use Rattle.apk_front.specs.Verdicts.{ReportsOne, as_outcome};
 ghost use Rattle.base_core.specs.Calls.{IfObservable};
 ghost use Rattle.base_core.specs.Faults.{GoesOn, HasCause, IsNoFault};
@@ -11,13 +11,12 @@ ghost use Rattle.base_core.specs.Read.{OnlyReads};
 ghost use Rattle.base_core.specs.Tree.{files_of};
 ghost use Rattle.make_info.specs.Reads.{Reads};
 ghost use Rattle.outcome.specs.Commands.{IsFoundOutcome, IsFoundOutcomeOf, IsOutcome, IsOutcomeOf, reads_in, command_outcome};
-ghost use Rattle.outcome.specs.Effect.{does_only_read, does_rest_on_words, effect_of, output, output_if, reads_only, rests_on_words};
-ghost use Rattle.outcome.specs.Outcome.{Outcome};
+ghost use Rattle.outcome.specs.Effect.{does_only_read, does_rest_on_words, effect_by, effect_of, output, output_if, reads_only, rests_on_words};
 ghost use Rattle.words_core.specs.Grammar.{command_of};
 
 use crate::answer::Verdict;
 use crate::dump::adbdump;
-use crate::make::{mkndx, mkpkg};
+use crate::recovered::make;
 use crate::verify::verify;
 use crate::version::version;
 use base_core::{Tree, TreeFault, Words};
@@ -40,14 +39,11 @@ pub(crate) fn judge<T: Tree>(
         (λ verdict. (files : Files) → IsOutcome words.now files (as_outcome files verdict))
         (λ fault. fault ≡ TreeFault.Memory) }
     ensures untouched { IsTrue (rests_on_words (command_of words.now)) → tree.new ≡ tree.old }
-    ensures run { IfObservable (T.history tree.old) (λ v. IsRun
-        (IsOutcome words.now (files_of v)) (output words.now)
+    ensures run { IfObservable (T.history tree.old) (λ v. IsWholeRun
+        (IsOutcome words.now (files_of v)) (effect_by (command_of words.now)) (output words.now)
         result v (T.history tree.old) (T.history tree.new)) }
     ensures same { IsTrue (reads_only (command_of words.now))
         → T.history tree.new ≡ T.history tree.old }
-    ensures refused { IfOk result (λ verdict. IsSome verdict.refusal
-        → T.history tree.new ≡ T.history tree.old) }
-    ensures undone { IsErrOf result TreeFault.Memory → T.history tree.new ≡ T.history tree.old }
     ensures goes_on { GoesOn (T.counts tree.old) (T.counts tree.new) }
     ensures disk { IsErrOf result TreeFault.Disk
         → HasCause (T.counts tree.old) (T.counts tree.new) }
@@ -80,15 +76,12 @@ fn run<T: Tree>(alloc: Global, command: &Command, tree: &mut T) -> Result<Verdic
         (λ fault. fault ≡ TreeFault.Memory) }
     ensures untouched { IsTrue (does_rest_on_words (effect_of command.now.applet))
         → tree.new ≡ tree.old }
-    ensures run { IfObservable (T.history tree.old) (λ v. IsRun
-        (IsOutcomeOf (Ok command.now) (files_of v))
+    ensures run { IfObservable (T.history tree.old) (λ v. IsWholeRun
+        (IsOutcomeOf (Ok command.now) (files_of v)) (effect_of command.now.applet)
         (output_if (effect_of command.now.applet) command.now)
         result v (T.history tree.old) (T.history tree.new)) }
     ensures same { IsTrue (does_only_read (effect_of command.now.applet))
         → T.history tree.new ≡ T.history tree.old }
-    ensures refused { IfOk result (λ verdict. IsSome verdict.refusal
-        → T.history tree.new ≡ T.history tree.old) }
-    ensures undone { IsErrOf result TreeFault.Memory → T.history tree.new ≡ T.history tree.old }
     ensures goes_on { GoesOn (T.counts tree.old) (T.counts tree.new) }
     ensures disk { IsErrOf result TreeFault.Disk
         → HasCause (T.counts tree.old) (T.counts tree.new) }
@@ -96,14 +89,13 @@ fn run<T: Tree>(alloc: Global, command: &Command, tree: &mut T) -> Result<Verdic
     ensures memory { IsErrOf result TreeFault.Memory
         → IsNoFault (T.counts tree.old) (T.counts tree.new) }
     ensures proper { IfObservable (T.history tree.old) (λ v.
-        ((outcome : Outcome) → IsOutcomeOf (Ok command.now) (files_of v) outcome
-        → outcome.refusal ≡ None
-        → HasRoomFor (output_if (effect_of command.now.applet) command.now) (files_of v))
+        LeavesRoomFor (effect_of command.now.applet)
+        (output_if (effect_of command.now.applet) command.now)
+        (IsOutcomeOf (Ok command.now) (files_of v)) (files_of v)
         → (T.counts tree.new).misuses ≡ (T.counts tree.old).misuses) }
 {
     match command.applet() {
-        Applet::Mkpkg => mkpkg(alloc, command, tree),
-        Applet::Mkndx => mkndx(alloc, command, tree),
+        Applet::Mkpkg | Applet::Mkndx => make(alloc, command, tree),
         _ => look(alloc, command, tree),
     }
 }

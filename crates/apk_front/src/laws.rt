@@ -9,7 +9,7 @@ ghost use Rattle.base_core.specs.Tree.{TreeState, files_of};
 ghost use Rattle.journal_core.specs.Recovery.{IsSettled};
 ghost use Rattle.journal_core.specs.Replacing.{IsReplacing};
 ghost use Rattle.outcome.specs.Commands.{IsOutcome};
-ghost use Rattle.outcome.specs.Effect.{output, reads_only};
+ghost use Rattle.outcome.specs.Effect.{effect_by, output, reads_only};
 ghost use Rattle.outcome.specs.Outcome.{Outcome};
 ghost use Rattle.words_core.specs.Grammar.{command_of};
 
@@ -35,7 +35,8 @@ pub fn a_crash_leaves_the_old_files_or_those_of_the_outcome()
 pub fn what_is_carried_out_lasts()
     ensures { (words : List (List ℕ)) (ignored : List ℕ → Bool) (v : TreeState) (outcome : Outcome)
         (now : List TreeState) (answer : Answer)
-        → LeavesLasting (IsOutcome words (files_of v)) ignored v now answer → IsCarriedOut answer
+        → LeavesLasting (IsOutcome words (files_of v)) (effect_by (command_of words)) ignored v now
+        answer → IsCarriedOut answer
         → IsOutcome words (files_of v) outcome → outcome.refusal ≡ None
         → (IsTrue (reads_only (command_of words)) → IsSettled ignored (files_of v) v)
         → HasNow now (IsSettled ignored outcome.files) }

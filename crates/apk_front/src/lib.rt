@@ -15,6 +15,7 @@ mod front;
 mod judge;
 mod laws;
 mod make;
+mod recovered;
 mod verify;
 mod version;
 

@@ -11,7 +11,10 @@ use Rattle.adb_write.specs.Canonical.{Layout, write, empty_layout, payload_with_
 use Rattle.adb_write.specs.Size.{size_of, value_count}
 use Rattle.adb_tables.specs.Schema.{shape_of}
 use Rattle.adb_tables.specs.Values.{is_sound, value_at, nth, entry_in, text_in}
+use Rattle.adb_rules.specs.SoundValues.{IsPackage}
 use Rattle.adb_schema.specs.Soundness.{root_value, payload_in, first_fault}
+use Rattle.adb_schema.specs.SoundContainers.{IsSoundValue}
+use Rattle.adb_tables.specs.declared.tables.Which.{Which}
 use Rattle.adb_tables.specs.declared.tables.Which.TheVariants as Tables
 use Rattle.adb_tables.specs.declared.tables.Kind.{Kind}
 use Rattle.adb_tables.specs.declared.tables.Kind.TheVariants as Kinds
@@ -22,7 +25,6 @@ use Rattle.make_index.specs.Kept.{HoldsEntry, IsKeyed, copy_of_entry}
 use Rattle.version_core.specs.Order.{is_version}
 use Rattle.std.proofs.lemmas.List.{get_or_default}
 use Rattle.make_index.proofs.IndexAgain.{entry_again, entry_id, entry_name, entry_normal, entry_shape, entry_version}
-use Rattle.make_index.proofs.IndexRules.{package_version}
 use Rattle.sha2.specs.Sha256.{sha256}
 use Rattle.std.specs.declared.alloc.Global.{Global}
 use Rattle.adb_copy.proofs.Shapes.{FoundShapes, info_of_package, value_shape}
@@ -114,17 +116,27 @@ module _
 package_info_shape : FoundShapes → (payload : List ℕ) → HasShape (shape_of (Kinds.Obj Tables.PkgInfo)) (entry_in (root_value Tables.Package payload) 0)
 package_info_shape shapes payload = info_of_package (root_value Tables.Package payload) (value_shape shapes payload (Kinds.Obj Tables.Package) (root_of payload))
 
+-- what a law of `adb_schema` says
+abbrev pub SoundContainers : Type 0
+SoundContainers = (which : Which) (file : List ℕ) → first_fault which file ≡ None → IsSoundValue which (root_value which (payload_in file))
+
+package_version : SoundContainers → (file : List ℕ) → first_fault Tables.Package file ≡ None → is_version (text_in (entry_in (entry_in (root_value Tables.Package (payload_in file)) 0) 1)) ≡ true
+package_version containers file sound =
+    let held : IsPackage Tables.Package (root_value Tables.Package (payload_in file)) = (containers Tables.Package file sound).rules in
+    let info = held.info in
+    info.version
+
 -- ---- what an entry is ordered by
 
-pub keyed_of : (file name version id : List ℕ) (info : Plain) → info ≡ entry_in (root_value Tables.Package (payload_in file)) 0 → name ≡ text_in (entry_in info 0) → version ≡ text_in (entry_in info 1) → id ≡ package_id file → first_fault Tables.Package file ≡ None → IsKeyed name version id (entry_of_package file)
-keyed_of file name version id info is e0 e1 e2 sound =
+pub keyed_of : SoundContainers → (file name version id : List ℕ) (info : Plain) → info ≡ entry_in (root_value Tables.Package (payload_in file)) 0 → name ≡ text_in (entry_in info 0) → version ≡ text_in (entry_in info 1) → id ≡ package_id file → first_fault Tables.Package file ≡ None → IsKeyed name version id (entry_of_package file)
+keyed_of containers file name version id info is e0 e1 e2 sound =
     let here : Plain = entry_in (root_value Tables.Package (payload_in file)) 0 in
     let v : version ≡ text_in (entry_in here 1) = e1 ∙ ap (λ i. text_in (entry_in i 1)) is in
     record {
       by_name = e0 ∙ (ap (λ i. text_in (entry_in i 0)) is ∙ sym (entry_name here (package_id file) (length file)));
       by_version = v ∙ sym (entry_version here (package_id file) (length file));
       by_id = e2 ∙ sym (entry_id here (package_id file) (length file));
-      sound = ap is_version v ∙ package_version file sound;
+      sound = ap is_version v ∙ package_version containers file sound;
     }
 
 pub if_some : {T : Type 0} (P Q : T → Type 0) (o : Option T) → ((x : T) → P x → Q x) → IfSome o P → IfSome o Q
@@ -153,8 +165,8 @@ holds_found shapes read_back overflows normal file value payload is_value is_pay
 pub entry_of_shape : FoundShapes → (file : List ℕ) → HasShape (shape_of (Kinds.Obj Tables.PkgInfo)) (entry_of_package file)
 entry_of_shape shapes file = entry_shape (entry_in (root_value Tables.Package (payload_in file)) 0) (package_id file) (length file) (package_info_shape shapes (payload_in file))
 
-pub entry_of_version : (file : List ℕ) → first_fault Tables.Package file ≡ None → is_version (text_in (entry_in (entry_of_package file) 1)) ≡ true
-entry_of_version file sound = ap is_version (entry_version (entry_in (root_value Tables.Package (payload_in file)) 0) (package_id file) (length file)) ∙ package_version file sound
+pub entry_of_version : SoundContainers → (file : List ℕ) → first_fault Tables.Package file ≡ None → is_version (text_in (entry_in (entry_of_package file) 1)) ≡ true
+entry_of_version containers file sound = ap is_version (entry_version (entry_in (root_value Tables.Package (payload_in file)) 0) (package_id file) (length file)) ∙ package_version containers file sound
 
 all_normal : ((payload : List ℕ) → All (λ b. b < 256) payload → (shape : Shape) (word : ℕ) → IfSome (plain_of payload shape word) IsNormal) → (p : List ℕ) (k : Kind) (w : ℕ) → All (λ b. b < 256) p → IsNormal (value_at p k w)
 unfolding value_at IsNormal

@@ -4,6 +4,5 @@ pub mod IndexLists
 pub mod IndexMade
 pub mod IndexOrdering
 pub mod IndexReads
-pub mod IndexRules
 pub mod IndexSound
 pub mod IndexWhole

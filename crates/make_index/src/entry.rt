@@ -16,6 +16,7 @@ ghost use Rattle.version_core.specs.Order.{is_version, version_cmp};
 ghost use Rattle.adb_tables.specs.declared.tables.Which.TheVariants as Tables;
 
 use crate::source::{EntryPayload, EntrySource, PackageFile, entry_payload};
+use adb_schema::sound_containers_hold_sound_values;
 use adb_view::{Val, values_are_normal, values_have_their_shape};
 use adb_write::{Writer, a_canonical_payload_is_read_back, a_value_overflows_exactly_past_a_limit};
 use base_core::Cause;
@@ -122,6 +123,7 @@ fn read_parts(alloc: Global, place: u32, file: &[u8]) -> Result<Parts, MakeFault
 {
     a_canonical_payload_is_read_back();
     a_value_overflows_exactly_past_a_limit();
+    sound_containers_hold_sound_values();
     values_are_normal();
     values_have_their_shape();
     let pkg = open_tested(alloc, place, file)?;

@@ -28,7 +28,7 @@ ghost use Rattle.version_core.specs.Order.{is_version};
 ghost use Rattle.command_core.specs.Named.{are_files};
 
 use crate::entry::Entry;
-use adb_schema::INDEX_WORD;
+use adb_schema::{INDEX_WORD, sound_containers_hold_sound_values};
 use adb_view::{Val, values_are_normal, values_have_their_shape};
 use adb_write::{
     Writer, a_value_written_depth_first_is_canonical, file_of, values_are_written_depth_first,
@@ -215,6 +215,7 @@ pub fn an_entry_is_an_info()
     ensures version { (file : List ℕ) → first_fault Tables.Package file ≡ None
         → is_version (version_in (entry_of_package file)) ≡ true }
 {
+    sound_containers_hold_sound_values();
     values_are_normal();
     values_have_their_shape();
 }

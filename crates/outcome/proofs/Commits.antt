@@ -3,6 +3,7 @@ use Rattle.std.proofs.Common.{◌≡◌, ℕ, Bool, true, false, List, [], lengt
 use Rattle.std.specs.Prelude.{if◌then◌else◌, is_some, not, IsTrue}
 use Rattle.adb_rules.specs.Reserved.{is_reserved}
 use Rattle.base_core.specs.Files.{Files}
+use Rattle.base_core.specs.declared.cause.Cause.{Cause}
 use Rattle.command_core.specs.Command.{CommandLine}
 use Rattle.command_core.specs.declared.command.Applet.{Applet}
 use Rattle.command_core.specs.declared.command.Applet.TheVariants.{Mkndx, Mkpkg}
@@ -14,10 +15,11 @@ use Rattle.make_package.specs.Making.{made_package}
 use Rattle.report_core.specs.declared.refusal.Refusal.TheVariants.{Reserved, ResultTooLarge}
 use Rattle.words_core.specs.Grammar.{command_of}
 use Rattle.outcome.proofs.MadeSound.{IsRefusalOrMade, index_fine, package_fine}
-use Rattle.outcome.specs.Commands.{IsOutcome, IsOutcomeOf, applet_outcome, reads_in}
+use Rattle.outcome.specs.Commands.{IsOutcome, IsOutcomeOf, IsOutcomeUnless, applet_outcome, reads_in}
 use Rattle.outcome.specs.Effect.{does_only_read, effect_of, reads_only}
 use Rattle.outcome.specs.Make.{files_with, index_line, make_outcome, unless_reserved}
 use Rattle.outcome.specs.Outcome.{Outcome, commit_report, just_refusal}
+use Rattle.outcome.specs.Work.{recovery_fault, work_files}
 
 -- it commits, or is refused, and not both
 abbrev pub CommitsUnlessRefused : Outcome → Type 0
@@ -45,9 +47,13 @@ applet_commits Mkpkg command names files makes = made_commits files (output_name
 applet_commits Mkndx command names files makes = made_commits files (output_name command) (index_line (length command.operands)) (made_index command (reads_in files)) (index_fine command (reads_in files))
 applet_commits other command names files makes = cc
 
+commits_unless : (fault : Option Cause) (command : CommandLine) (files : Files) (o : Outcome) → does_only_read (effect_of command.applet) ≡ false → IsOutcomeUnless fault command files o → CommitsUnlessRefused o
+commits_unless (Some cause) command files o makes is = subst CommitsUnlessRefused (sym is) refl
+commits_unless None command files o makes (names, listed, is) = subst CommitsUnlessRefused (sym is) (applet_commits command.applet command names (work_files (effect_of command.applet) files) makes)
+
 commits_by : (read : Result CommandLine ℕ) (files : Files) (o : Outcome) → reads_only read ≡ false → IsOutcomeOf read files o → CommitsUnlessRefused o
 commits_by (Err place) files o makes is = cc
-commits_by (Ok command) files o makes (names, listed, is) = subst CommitsUnlessRefused (sym is) (applet_commits command.applet command names files makes)
+commits_by (Ok command) files o makes is = commits_unless (recovery_fault (effect_of command.applet) files) command files o makes is
 
 pub maker_commits : (words : List (List ℕ)) (files : Files) (o : Outcome) → reads_only (command_of words) ≡ false → IsOutcome words files o → CommitsUnlessRefused o
 maker_commits words files o makes is = commits_by (command_of words) files o makes is

@@ -1,12 +1,13 @@
 -- A command line has one outcome.
-use Rattle.std.proofs.Common.{◌≡◌, ℕ, true, false, List, [], ◌∷◌, ◌++◌, codes, None, IsSome, Result, Ok, Err, refl, sym, ap, ◌∙◌}
+use Rattle.std.proofs.Common.{◌≡◌, ℕ, true, false, List, [], ◌∷◌, ◌++◌, codes, Option, Some, None, IsSome, Result, Ok, Err, refl, sym, ap, ◌∙◌}
 use Rattle.std.specs.Prelude.{if◌then◌else◌, nat_eq}
 use Rattle.std.specs.List.{list_any, starts_with}
 use Rattle.std.specs.Str.{bytes_eq}
 use Rattle.std.proofs.lemmas.Bool.{false≢true}
 use Rattle.base_core.specs.Files.{Files, IsWithin}
 use Rattle.base_core.specs.Listed.{IsNamesOf}
-use Rattle.report_core.specs.declared.refusal.Refusal.TheVariants.{Usage}
+use Rattle.base_core.specs.declared.cause.Cause.{Cause}
+use Rattle.report_core.specs.declared.refusal.Refusal.TheVariants.{IntentBad, Usage}
 use Rattle.command_core.specs.Command.{CommandLine}
 use Rattle.command_core.specs.Files.{without_dot}
 use Rattle.command_core.specs.declared.values.TheConstants.{FILES}
@@ -16,9 +17,12 @@ use Rattle.command_core.specs.declared.command.Applet.{Applet}
 use Rattle.command_core.specs.declared.command.Applet.TheVariants.{Mkpkg}
 use Rattle.command_core.specs.declared.values.OptionValue.{OptionValue}
 use Rattle.make_package.specs.Sources.{values_with}
-use Rattle.outcome.specs.Commands.{IsListingFor, IsOutcome, IsOutcomeOf, reads_in, command_outcome}
+use Rattle.outcome.proofs.Recovered.{unstaged_within}
+use Rattle.outcome.specs.Commands.{IsListingFor, IsOutcome, IsOutcomeOf, IsOutcomeOver, IsOutcomeUnless, reads_in, command_outcome}
+use Rattle.outcome.specs.Effect.{Effect, Makes, effect_of}
 use Rattle.outcome.specs.Make.{IsListing, files_below}
 use Rattle.outcome.specs.Outcome.{Outcome, just_refusal}
+use Rattle.outcome.specs.Work.{recovery_fault, work_files}
 
 -- files under finitely many names have a list of them, and no second one
 abbrev pub HaveList : Type 0
@@ -43,11 +47,21 @@ names_exist : HaveList → (applet : Applet) (command : CommandLine) (files : Fi
 names_exist have Mkpkg command files within h = listing_exists have (values_with FILES command.values) files within h
 names_exist have other command files within h = ([], refl)
 
+work_within : (effect : Effect) (files : Files) (within : List (List ℕ)) → IsWithin within files → (names : List (List ℕ)) × IsWithin names (work_files effect files)
+work_within Makes files within h = unstaged_within files within h
+work_within other files within h = (within, h)
+
+outcome_unless : HaveList → (fault : Option Cause) (command : CommandLine) (files : Files) (within : List (List ℕ)) → IsWithin within files → (o : Outcome) × IsOutcomeUnless fault command files o
+outcome_unless have (Some cause) command files within h = (just_refusal files (IntentBad cause), refl)
+outcome_unless have None command files within h =
+    let work = work_files (effect_of command.applet) files in
+    let (within_work, is) = work_within (effect_of command.applet) files within h in
+    let (names, listed) = names_exist have command.applet command work within_work is in
+    (command_outcome command names (reads_in work) work, (names, listed, refl))
+
 outcome_by : HaveList → (read : Result CommandLine ℕ) (files : Files) (within : List (List ℕ)) → IsWithin within files → (o : Outcome) × IsOutcomeOf read files o
 outcome_by have (Err place) files within h = (just_refusal files (Usage place), refl)
-outcome_by have (Ok command) files within h =
-    let found = names_exist have command.applet command files within h in
-    (command_outcome command found.0 (reads_in files) files, (found.0, found.1, refl))
+outcome_by have (Ok command) files within h = outcome_unless have (recovery_fault (effect_of command.applet) files) command files within h
 
 pub outcome_exists : HaveList → (words within : List (List ℕ)) (files : Files) → IsWithin within files → (o : Outcome) × IsOutcome words files o
 outcome_exists have words within files h = outcome_by have (command_of words) files within h
@@ -60,10 +74,17 @@ names_one : HaveOneList → (applet : Applet) (command : CommandLine) (files : F
 names_one one Mkpkg command files a b x y = listing_one one (values_with FILES command.values) files a b x y
 names_one one other command files a b x y = x ∙ sym y
 
+over_one : HaveOneList → (command : CommandLine) (files : Files) (a b : Outcome) → IsOutcomeOver command files a → IsOutcomeOver command files b → a ≡ b
+over_one one command files a b (n, g, x) (m, k, y) =
+    x ∙ (ap (λ names. command_outcome command names (reads_in files) files) (names_one one command.applet command files n m g k) ∙ sym y)
+
+unless_one : HaveOneList → (fault : Option Cause) (command : CommandLine) (files : Files) (a b : Outcome) → IsOutcomeUnless fault command files a → IsOutcomeUnless fault command files b → a ≡ b
+unless_one one (Some cause) command files a b x y = x ∙ sym y
+unless_one one None command files a b x y = over_one one command (work_files (effect_of command.applet) files) a b x y
+
 outcome_one : HaveOneList → (read : Result CommandLine ℕ) (files : Files) (a b : Outcome) → IsOutcomeOf read files a → IsOutcomeOf read files b → a ≡ b
 outcome_one one (Err place) files a b x y = x ∙ sym y
-outcome_one one (Ok command) files a b (n, g, x) (m, k, y) =
-    x ∙ (ap (λ names. command_outcome command names (reads_in files) files) (names_one one command.applet command files n m g k) ∙ sym y)
+outcome_one one (Ok command) files a b x y = unless_one one (recovery_fault (effect_of command.applet) files) command files a b x y
 
 pub outcome_unique : HaveOneList → (words : List (List ℕ)) (files : Files) (a b : Outcome) → IsOutcome words files a → IsOutcome words files b → a ≡ b
 outcome_unique one words files a b x y = outcome_one one (command_of words) files a b x y

@@ -1,4 +1,5 @@
 pub mod Listings
+pub mod Recovered
 pub mod Existing
 pub mod MadeSound
 pub mod Commits

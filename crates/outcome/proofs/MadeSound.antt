@@ -13,6 +13,7 @@ use Rattle.base_core.specs.Tree.{IsWhole, TreeState, files_of}
 use Rattle.base_core.specs.declared.cause.Cause.{Cause}
 use Rattle.command_core.specs.declared.values.TheConstants.{FILES, SCRIPT, TRIGGER}
 use Rattle.journal_core.specs.Replacing.{replaced_files, scratch_of}
+use Rattle.journal_core.specs.Staged.{unstaged_files}
 use Rattle.make_package.specs.Folders.{FolderListing, folders_of, last_part_of}
 use Rattle.make_index.specs.Index.{and_entries, found_entries, found_entry, index_container, index_of, index_of_found, value_of_index, entry_unless, description_in, made_index}
 use Rattle.make_index.specs.EntryOrder.{entry_cmp}
@@ -29,7 +30,7 @@ use Rattle.make_info.specs.declared.fault.MakeFault.TheVariants.{FileMissing, Fi
 use Rattle.pkg_core.specs.Contents.{Contents}
 use Rattle.pkg_core.specs.Whole.{container_fault, package_fault}
 use Rattle.report_core.specs.declared.refusal.Refusal.{Refusal}
-use Rattle.report_core.specs.declared.refusal.Refusal.TheVariants.{Reserved, ResultTooLarge}
+use Rattle.report_core.specs.declared.refusal.Refusal.TheVariants.{IntentBad, Reserved, ResultTooLarge}
 use Rattle.command_core.specs.Command.{CommandLine}
 use Rattle.command_core.specs.Files.{without_dot}
 use Rattle.words_core.specs.Grammar.{command_of}
@@ -39,11 +40,12 @@ use Rattle.command_core.specs.declared.command.Applet.TheVariants.{Mkndx, Mkpkg}
 use Rattle.command_core.specs.declared.operands.Operand.{Operand}
 use Rattle.command_core.specs.declared.values.OptionValue.{OptionValue}
 use Rattle.outcome.proofs.Listings.{if_some, is_below}
-use Rattle.outcome.specs.Commands.{IsListingFor, IsOutcome, IsOutcomeOf, reads_in, applet_outcome}
-use Rattle.outcome.specs.Effect.{effect_of, output, output_by, output_if}
+use Rattle.outcome.specs.Commands.{IsListingFor, IsOutcome, IsOutcomeOf, IsOutcomeUnless, reads_in, applet_outcome}
+use Rattle.outcome.specs.Effect.{Effect, Makes, effect_of, output, output_by, output_if}
 use Rattle.outcome.specs.Make.{IsListing, files_below, index_line, make_outcome, mkndx, mkpkg}
 use Rattle.outcome.specs.Outcome.{Outcome, commit_report, just_refusal}
 use Rattle.outcome.specs.Sound.{IsSoundAt}
+use Rattle.outcome.specs.Work.{recovery_fault, work_files}
 
 -- a package that is made of names below its folder is sound, and so is an index of files
 abbrev pub SoundPackage : Type 0
@@ -249,14 +251,28 @@ applet_sound packages indexes Mkpkg command names files name good are is none = 
 applet_sound packages indexes Mkndx command names files name good are is none = index_sound indexes command files name good is none
 applet_sound packages indexes other command names files name good are is none = absurd (cc (is))
 
-sound_by : SoundPackage → SoundIndex → (read : Result CommandLine ℕ) (files : Files) (o : Outcome) (name : List ℕ) → AreNamedFiles files → IsOutcomeOf read files o → o.refusal ≡ None → output_by read ≡ Some name
-    → IsSoundAt name o.files
-sound_by packages indexes (Err place) files o name good is none named = absurd (cc (named))
-sound_by packages indexes (Ok command) files o name good (names, are, is) none named =
-    subst (λ (p : Outcome). IsSoundAt name p.files) (sym is)
-    (applet_sound packages indexes command.applet command names files name good are named (ap (λ (p : Outcome). p.refusal) (sym is) ∙ none))
+-- named files stay so where they are recovered
+abbrev pub StayNamed : Type 0
+StayNamed = (files : Files) → AreNamedFiles files → AreNamedFiles (unstaged_files files)
 
-pub made_sound : ((v : TreeState) → IsWhole v → AreNamedFiles (files_of v)) → SoundPackage → SoundIndex
+work_named : StayNamed → (effect : Effect) (files : Files) → AreNamedFiles files → AreNamedFiles (work_files effect files)
+work_named stay Makes files good = stay files good
+work_named stay other files good = good
+
+sound_unless : StayNamed → SoundPackage → SoundIndex → (fault : Option Cause) (command : CommandLine) (files : Files) (o : Outcome) (name : List ℕ) → AreNamedFiles files → IsOutcomeUnless fault command files o → o.refusal ≡ None
+    → output_if (effect_of command.applet) command ≡ Some name → IsSoundAt name o.files
+sound_unless stay packages indexes (Some cause) command files o name good is none named = absurd (let e : Some (IntentBad cause) ≡ None = ap (λ (p : Outcome). p.refusal) (sym is) ∙ none in cc)
+sound_unless stay packages indexes None command files o name good (names, are, is) none named =
+    let work = work_files (effect_of command.applet) files in
+    subst (λ (p : Outcome). IsSoundAt name p.files) (sym is)
+    (applet_sound packages indexes command.applet command names work name (work_named stay (effect_of command.applet) files good) are named (ap (λ (p : Outcome). p.refusal) (sym is) ∙ none))
+
+sound_by : StayNamed → SoundPackage → SoundIndex → (read : Result CommandLine ℕ) (files : Files) (o : Outcome) (name : List ℕ) → AreNamedFiles files → IsOutcomeOf read files o → o.refusal ≡ None → output_by read ≡ Some name
+    → IsSoundAt name o.files
+sound_by stay packages indexes (Err place) files o name good is none named = absurd (cc (named))
+sound_by stay packages indexes (Ok command) files o name good is none named = sound_unless stay packages indexes (recovery_fault (effect_of command.applet) files) command files o name good is none named
+
+pub made_sound : ((v : TreeState) → IsWhole v → AreNamedFiles (files_of v)) → StayNamed → SoundPackage → SoundIndex
     → (words : List (List ℕ)) (v : TreeState) (o : Outcome) (name : List ℕ) → IsWhole v → IsOutcome words (files_of v) o → o.refusal ≡ None → output words ≡ Some name
     → IsSoundAt name o.files
-made_sound named packages indexes words v o name whole is none under = sound_by packages indexes (command_of words) (files_of v) o name (named v whole) is none under
+made_sound named stay packages indexes words v o name whole is none under = sound_by stay packages indexes (command_of words) (files_of v) o name (named v whole) is none under

@@ -1,19 +1,24 @@
 -- The outcome of a command line.
-use Rattle.std.specs.Prelude.{◌≡◌, ℕ, List, [], Result, Ok, Err}
+use Rattle.std.specs.Prelude.{◌≡◌, ◌⊎◌, ℕ, true, List, [], Option, Some, None, Result, Ok, Err}
+use Rattle.adb_schema.specs.Soundness.{first_fault}
+use Rattle.adb_tables.specs.declared.tables.Which.TheVariants.{Intent as IntentTable}
 use Rattle.base_core.specs.Files.{Files, no_names}
+use Rattle.base_core.specs.declared.cause.Cause.{Cause}
 use Rattle.command_core.specs.declared.values.TheConstants.{FILES}
 use Rattle.make_info.specs.Reads.{Reads}
 use Rattle.make_package.specs.Sources.{AreNamesFor, values_with}
-use Rattle.report_core.specs.declared.refusal.Refusal.TheVariants.{Usage}
+use Rattle.report_core.specs.declared.refusal.Refusal.TheVariants.{IntentBad, Usage}
 use Rattle.command_core.specs.Command.{CommandLine}
 use Rattle.words_core.specs.Grammar.{command_of}
 use Rattle.command_core.specs.declared.command.Applet.{Applet}
 use Rattle.command_core.specs.declared.command.Applet.TheVariants.{Adbdump, Mkndx, Mkpkg, Verify, Version}
 use Rattle.outcome.specs.Dump.{adbdump}
+use Rattle.outcome.specs.Effect.{does_recover, effect_of}
 use Rattle.outcome.specs.Make.{IsListing, mkndx, mkpkg}
 use Rattle.outcome.specs.Outcome.{Outcome, just_refusal, just_report}
 use Rattle.outcome.specs.Verify.{verify}
 use Rattle.outcome.specs.Version.{version}
+use Rattle.outcome.specs.Work.{recovery_fault, work_files}
 
 -- ---- the outcome of an applet
 
@@ -41,12 +46,24 @@ IsListingFor other command files names = names ≡ []
 abbrev pub reads_in : Files → Reads
 reads_in files n name = files name
 
-abbrev pub IsOutcomeOf : Result CommandLine ℕ → Files → Outcome → Type 0
-IsOutcomeOf (Err place) files outcome = outcome ≡ just_refusal files (Usage place)
-IsOutcomeOf (Ok command) files outcome =
+-- the outcome of a command that works on these files
+abbrev pub IsOutcomeOver : CommandLine → Files → Outcome → Type 0
+IsOutcomeOver command files outcome =
     (names : List (List ℕ))
     × IsListingFor command.applet command files names
     × (outcome ≡ command_outcome command names (reads_in files) files)
+
+-- a bad intent is refused before all else but a usage error, and nothing changes
+abbrev pub IsOutcomeUnless : Option Cause → CommandLine → Files → Outcome → Type 0
+IsOutcomeUnless (Some cause) command files outcome =
+    outcome ≡ just_refusal files (IntentBad cause)
+IsOutcomeUnless None command files outcome =
+    IsOutcomeOver command (work_files (effect_of command.applet) files) outcome
+
+abbrev pub IsOutcomeOf : Result CommandLine ℕ → Files → Outcome → Type 0
+IsOutcomeOf (Err place) files outcome = outcome ≡ just_refusal files (Usage place)
+IsOutcomeOf (Ok command) files outcome =
+    IsOutcomeUnless (recovery_fault (effect_of command.applet) files) command files outcome
 
 -- the outcome of a command line over these files
 abbrev pub IsOutcome : List (List ℕ) → Files → Outcome → Type 0
@@ -60,15 +77,28 @@ abbrev pub MayBeListedFor : Applet → CommandLine → List (List ℕ) → Type 
 MayBeListedFor Mkpkg command names = AreNamesFor (values_with FILES command.values) names
 MayBeListedFor other command names = names ≡ []
 
-abbrev pub IsFoundOutcomeOf : Result CommandLine ℕ → Outcome → Type 0
-IsFoundOutcomeOf (Err place) outcome = outcome ≡ just_refusal no_names (Usage place)
-IsFoundOutcomeOf (Ok command) outcome =
+abbrev pub IsFoundOver : CommandLine → Outcome → Type 0
+IsFoundOver command outcome =
     (names : List (List ℕ))
     × MayBeListedFor command.applet command names
     × (read : Reads)
     × (outcome ≡ command_outcome command names read no_names)
 
--- the outcome of a command line for some listing, and for some contents, or none, at each read;
--- nothing is said of the files afterwards
+-- some file is no intent container, and that is refused
+abbrev pub IsFoundUnrecovered : Outcome → Type 0
+IsFoundUnrecovered outcome =
+    (file : List ℕ)
+    × (cause : Cause)
+    × (first_fault IntentTable file ≡ Some cause)
+    × (outcome ≡ just_refusal no_names (IntentBad cause))
+
+abbrev pub IsFoundOutcomeOf : Result CommandLine ℕ → Outcome → Type 0
+IsFoundOutcomeOf (Err place) outcome = outcome ≡ just_refusal no_names (Usage place)
+IsFoundOutcomeOf (Ok command) outcome =
+    IsFoundOver command outcome
+    ⊎ ((does_recover (effect_of command.applet) ≡ true) × IsFoundUnrecovered outcome)
+
+-- the outcome of a command line for some listing, and for some contents, or none, at each read and
+-- of the intent; nothing is said of the files afterwards
 abbrev pub IsFoundOutcome : List (List ℕ) → Outcome → Type 0
 IsFoundOutcome words outcome = IsFoundOutcomeOf (command_of words) outcome

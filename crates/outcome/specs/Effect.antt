@@ -30,12 +30,21 @@ abbrev pub does_only_read : Effect → Bool
 does_only_read Makes = false
 does_only_read other = true
 
+-- whether it first recovers: it finishes the change that an intent tells of
+abbrev pub does_recover : Effect → Bool
+does_recover Makes = true
+does_recover other = false
+
 -- the name under which a command writes a file, if it writes one
 abbrev pub output_if : Effect → CommandLine → Option (List ℕ)
 output_if Makes command = output_name command
 output_if other command = None
 
 -- ---- of a command line; a usage error looks at nothing, and changes nothing
+
+abbrev pub effect_by : Result CommandLine ℕ → Effect
+effect_by (Ok command) = effect_of command.applet
+effect_by (Err place) = Computes
 
 abbrev pub rests_on_words : Result CommandLine ℕ → Bool
 rests_on_words (Ok command) = does_rest_on_words (effect_of command.applet)

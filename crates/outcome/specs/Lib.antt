@@ -2,6 +2,7 @@
 pub mod Outcome
 pub mod Commands
 pub mod Effect
+pub mod Work
 pub mod Version
 pub mod Verify
 pub mod Dump

@@ -19,7 +19,9 @@ ghost use Rattle.outcome.specs.Outcome.{Outcome, outcome_of};
 ghost use Rattle.outcome.specs.Sound.{IsSoundAt};
 ghost use Rattle.words_core.specs.Grammar.{command_of};
 
+use adb_schema::sound_containers_hold_sound_values;
 use base_core::{files_have_one_list_of_names, the_files_of_a_whole_state_are_named_files};
+use journal_intent::an_intent_is_read_from_a_sound_container;
 use make_core::{a_made_index_is_sound, a_made_package_is_sound};
 
 /// A command line has an outcome over any files under finitely many names.
@@ -84,6 +86,8 @@ pub fn what_is_made_is_sound()
         → output words ≡ Some name → IsSoundAt name o.files }
 {
     the_files_of_a_whole_state_are_named_files();
+    an_intent_is_read_from_a_sound_container();
+    sound_containers_hold_sound_values();
     a_made_package_is_sound();
     a_made_index_is_sound();
 }

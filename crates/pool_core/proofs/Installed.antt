@@ -7,7 +7,7 @@ use Rattle.std.specs.Cmp.Lexicographic.{bytes_decides}
 use Rattle.std.specs.List.{list_any}
 use Rattle.std.specs.Str.{bytes_eq}
 use Rattle.pool_core.specs.Candidates.{Candidate, as_installed, as_installed_where_same, is_same_package, offers_name, with_installed}
-use Rattle.pool_core.specs.Listing.{is_same_at, marked_at}
+use Rattle.pool_core.specs.CandidateList.{is_same_at, marked_at}
 use Rattle.pool_core.specs.Options.{places_from}
 use Rattle.pool_core.proofs.OptionLists.{bool_cases}
 
@@ -48,11 +48,11 @@ at_front : (installed c : Candidate) (front cs : List Candidate) → marked_at i
 at_front installed c [] cs = refl
 at_front installed c (d ∷ front) cs = ap (λ (z : List Candidate). d ∷ z) (at_front installed c front cs)
 
-and_first : (p q : Bool) → (p && q) ≡ true → p ≡ true
+pub and_first : (p q : Bool) → (p && q) ≡ true → p ≡ true
 and_first true q h = refl
 and_first false q h = h
 
-and_last : (p q : Bool) → (p && q) ≡ true → q ≡ true
+pub and_last : (p q : Bool) → (p && q) ≡ true → q ≡ true
 and_last true q h = h
 and_last false q h = absurd (cc)
 

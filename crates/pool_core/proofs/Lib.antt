@@ -9,6 +9,8 @@ pub mod Answering
 pub mod Filtered
 pub mod LoopTests
 pub mod Installed
+pub mod SamePackage
+pub mod FieldsByName
 pub mod Steps
 pub mod Sealing
 pub mod TableAdding

@@ -8,8 +8,8 @@ use Rattle.std.specs.Str.{bytes_eq}
 use Rattle.std.proofs.Math.ListN.{set}
 use Rattle.dep_core.specs.Dependency.{Dependency}
 use Rattle.pool_core.specs.declared.marks.Effect.{Effect}
-use Rattle.pool_core.specs.declared.marks.Effect.TheVariants.{Exclusion, Pin}
-use Rattle.pool_core.specs.Candidates.{Candidate, is_allowed, is_excluded_by, offers_name}
+use Rattle.pool_core.specs.declared.marks.Effect.TheVariants.{Bar, Pin}
+use Rattle.pool_core.specs.Candidates.{Candidate, is_allowed, is_barred_by, offers_name}
 use Rattle.pool_core.specs.Marks.{affects, is_affected, mark_at, marks_with}
 use Rattle.pool_core.specs.Options.{places_from}
 use Rattle.pool_core.specs.Rank.{is_pinned, is_pinned_to}
@@ -110,7 +110,7 @@ pinned_offers name d (Some tag) h = elim (bool_cases (bytes_eq name d.name)) [
 ]
 
 affected_offers : (effect : Effect) (d : Dependency) (c : Candidate) → affects effect d c ≡ true → offers_name d.name c ≡ true
-affected_offers Exclusion d c h = elim (bool_cases d.conflict) [
+affected_offers Bar d c h = elim (bool_cases d.conflict) [
   | inl e ↦ meeting_offers d c (rw e at h)
   | inr e ↦ let bad : false ≡ true = rw e at h in absurd (cc)
 ]
@@ -157,10 +157,10 @@ opposite allowed excluded (c ∷ cs) =
     ap (λ (b : Bool). b ∷ map not (map (λ (c : Candidate). not (allowed c) || excluded c) cs)) (not_or (allowed c) (excluded c))
     ∙ ap (λ (z : List Bool). (allowed c && not (excluded c)) ∷ z) (opposite allowed excluded cs)
 
-pub eligible_by_marks : (tagged conflicts : List Dependency) (cs : List Candidate) (barred marked : List Bool) → barred ≡ map (λ (c : Candidate). not (is_allowed tagged c)) cs → marked ≡ marks_with (is_affected Exclusion conflicts) barred cs → map not marked ≡ map (λ (c : Candidate). is_allowed tagged c && not (is_excluded_by conflicts c)) cs
+pub eligible_by_marks : (tagged conflicts : List Dependency) (cs : List Candidate) (barred marked : List Bool) → barred ≡ map (λ (c : Candidate). not (is_allowed tagged c)) cs → marked ≡ marks_with (is_affected Bar conflicts) barred cs → map not marked ≡ map (λ (c : Candidate). is_allowed tagged c && not (is_barred_by conflicts c)) cs
 eligible_by_marks tagged conflicts cs barred marked start is =
-    ap (map not) (is ∙ (ap (λ (ms : List Bool). marks_with (is_affected Exclusion conflicts) ms cs) start ∙ marks_with-map (is_affected Exclusion conflicts) (λ (c : Candidate). not (is_allowed tagged c)) cs))
-    ∙ opposite (is_allowed tagged) (is_excluded_by conflicts) cs
+    ap (map not) (is ∙ (ap (λ (ms : List Bool). marks_with (is_affected Bar conflicts) ms cs) start ∙ marks_with-map (is_affected Bar conflicts) (λ (c : Candidate). not (is_allowed tagged c)) cs))
+    ∙ opposite (is_allowed tagged) (is_barred_by conflicts) cs
 
 no_pin : (ds : List Dependency) → list_any (λ (d : Dependency). false) ds ≡ false
 no_pin [] = refl

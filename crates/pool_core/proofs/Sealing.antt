@@ -6,7 +6,7 @@ use Rattle.std.specs.List.{filter, list_any}
 use Rattle.std.specs.Str.{bytes_eq}
 use Rattle.dep_core.specs.Dependency.{Dependency}
 use Rattle.pool_core.specs.declared.sealed.EntryKind.TheVariants.{Conflict, Tagged}
-use Rattle.pool_core.specs.Candidates.{Candidate, has_usable_install_if, is_allowed, is_eligible, is_excluded_by, meets_dependency, uses_tag}
+use Rattle.pool_core.specs.Candidates.{Candidate, has_usable_install_if, is_allowed, is_eligible, is_barred_by, meets_dependency, uses_tag}
 use Rattle.pool_core.specs.Options.{places_from}
 use Rattle.pool_core.specs.Rank.{is_pinned, is_pinned_to}
 use Rattle.pool_core.specs.World.{entries_of_kind, has_positive_install_if, is_entry_of_kind, places_marked}
@@ -42,8 +42,8 @@ pinned_to-tagged world name tag =
     any_filter (λ (d : Dependency). bytes_eq name d.name && option_map_or (bytes_eq tag) d.tag false) (is_entry_of_kind Tagged) world
     (λ d h. tag_there tag d.tag (both_last (bytes_eq name d.name) (option_map_or (bytes_eq tag) d.tag false) h))
 
-excluded-conflicts : (world : List Dependency) (c : Candidate) → is_excluded_by (entries_of_kind Conflict world) c ≡ is_excluded_by world c
-excluded-conflicts world c =
+barred-conflicts : (world : List Dependency) (c : Candidate) → is_barred_by (entries_of_kind Conflict world) c ≡ is_barred_by world c
+barred-conflicts world c =
     any_filter (λ (d : Dependency). d.conflict && meets_dependency d c) (is_entry_of_kind Conflict) world
     (λ d h. both_first d.conflict (meets_dependency d c) h)
 
@@ -54,8 +54,8 @@ tag_or (Some t) p q d same = same t
 allowed-tagged : (world : List Dependency) (c : Candidate) → is_allowed (entries_of_kind Tagged world) c ≡ is_allowed world c
 allowed-tagged world c = ap (λ (b : Bool). c.installed || (not (is_some c.repository) || b)) (tag_or c.tag (uses_tag (entries_of_kind Tagged world)) (uses_tag world) true (uses_tag-tagged world))
 
-eligible_is : (world : List Dependency) (c : Candidate) → (is_allowed (entries_of_kind Tagged world) c && not (is_excluded_by (entries_of_kind Conflict world) c)) ≡ is_eligible world c
-eligible_is world c = ap (λ (a : Bool). a && not (is_excluded_by (entries_of_kind Conflict world) c)) (allowed-tagged world c) ∙ ap (λ (b : Bool). is_allowed world c && not b) (excluded-conflicts world c)
+eligible_is : (world : List Dependency) (c : Candidate) → (is_allowed (entries_of_kind Tagged world) c && not (is_barred_by (entries_of_kind Conflict world) c)) ≡ is_eligible world c
+eligible_is world c = ap (λ (a : Bool). a && not (is_barred_by (entries_of_kind Conflict world) c)) (allowed-tagged world c) ∙ ap (λ (b : Bool). is_allowed world c && not b) (barred-conflicts world c)
 
 pinned_is : (world : List Dependency) (c : Candidate) → is_pinned (entries_of_kind Tagged world) c ≡ is_pinned world c
 pinned_is world c = tag_or c.tag (is_pinned_to (entries_of_kind Tagged world) c.name) (is_pinned_to world c.name) false (pinned_to-tagged world c.name)
@@ -64,11 +64,11 @@ map_same : (f g : Candidate → Bool) (cs : List Candidate) → ((c : Candidate)
 map_same f g [] same = refl
 map_same f g (c ∷ cs) same = ap (λ (b : Bool). b ∷ map f cs) (same c) ∙ ap (λ (bs : List Bool). g c ∷ bs) (map_same f g cs same)
 
-pub eligible_marked : (world tagged conflicts : List Dependency) (marks : List Bool) (cs : List Candidate) → tagged ≡ entries_of_kind Tagged world → conflicts ≡ entries_of_kind Conflict world → marks ≡ map (λ (c : Candidate). is_allowed tagged c && not (is_excluded_by conflicts c)) cs → marks ≡ map (is_eligible world) cs
+pub eligible_marked : (world tagged conflicts : List Dependency) (marks : List Bool) (cs : List Candidate) → tagged ≡ entries_of_kind Tagged world → conflicts ≡ entries_of_kind Conflict world → marks ≡ map (λ (c : Candidate). is_allowed tagged c && not (is_barred_by conflicts c)) cs → marks ≡ map (is_eligible world) cs
 eligible_marked world tagged conflicts marks cs t k is =
-    is ∙ (ap (λ (ds : List Dependency). map (λ (c : Candidate). is_allowed ds c && not (is_excluded_by conflicts c)) cs) t
-    ∙ (ap (λ (ds : List Dependency). map (λ (c : Candidate). is_allowed (entries_of_kind Tagged world) c && not (is_excluded_by ds c)) cs) k
-    ∙ map_same (λ (c : Candidate). is_allowed (entries_of_kind Tagged world) c && not (is_excluded_by (entries_of_kind Conflict world) c)) (is_eligible world) cs (eligible_is world)))
+    is ∙ (ap (λ (ds : List Dependency). map (λ (c : Candidate). is_allowed ds c && not (is_barred_by conflicts c)) cs) t
+    ∙ (ap (λ (ds : List Dependency). map (λ (c : Candidate). is_allowed (entries_of_kind Tagged world) c && not (is_barred_by ds c)) cs) k
+    ∙ map_same (λ (c : Candidate). is_allowed (entries_of_kind Tagged world) c && not (is_barred_by (entries_of_kind Conflict world) c)) (is_eligible world) cs (eligible_is world)))
 
 pub pinned_marked : (world tagged : List Dependency) (marks : List Bool) (cs : List Candidate) → tagged ≡ entries_of_kind Tagged world → marks ≡ map (λ (c : Candidate). is_pinned tagged c) cs → marks ≡ map (is_pinned world) cs
 pinned_marked world tagged marks cs t is =

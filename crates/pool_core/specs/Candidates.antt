@@ -11,9 +11,11 @@ use Rattle.dep_core.specs.Dependency.{Dependency}
 use Rattle.dep_core.specs.Meets.{meets}
 use Rattle.dep_core.specs.ValueReading.{dependency_of_value}
 
--- a package to choose from. The version is none only where the text is no version, which no tested
--- container has. Repositories count from 1; an installed package that no index has is of none
+-- a package to choose from: what its index, or the database, says of it, and what is read of that.
+-- The version is none only where the text is no version, which no tested container has.
+-- Repositories count from 1; an installed package that no index has is of none
 pub record Candidate : Type 0 where
+  pub info : Plain
   pub name : List ℕ
   pub version : Option (List ℕ)
   pub id : List ℕ
@@ -45,10 +47,12 @@ abbrev pub dependencies_in : Plain → List Dependency
 dependencies_in value = dependencies_of (entries_in value)
 
 abbrev pub candidate_by :
-    List ℕ → Option (List ℕ) → List ℕ → List Dependency → List Dependency → List Dependency →
+    Plain → List ℕ → Option (List ℕ) → List ℕ →
+    List Dependency → List Dependency → List Dependency →
     ℕ → Option ℕ → Option (List ℕ) → Bool → Candidate
-candidate_by name version id depends provides install_if priority repository tag installed =
+candidate_by info name version id depends provides install_if priority repository tag installed =
     record {
+      info = info;
       name = name;
       version = version;
       id = id;
@@ -64,7 +68,7 @@ candidate_by name version id depends provides install_if priority repository tag
 -- the candidate that a package's information is
 abbrev pub candidate_of : Plain → Option ℕ → Option (List ℕ) → Bool → Candidate
 candidate_of info repository tag installed =
-    candidate_by (text_in (entry_in info 0)) (version_of_text (text_in (entry_in info 1)))
+    candidate_by info (text_in (entry_in info 0)) (version_of_text (text_in (entry_in info 1)))
     (text_in (entry_in info 2)) (dependencies_in (entry_in info 14))
     (dependencies_in (entry_in info 15)) (dependencies_in (entry_in info 17))
     (int_in (entry_in info 13)) repository tag installed
@@ -127,11 +131,11 @@ need_name (named name) = name
 abbrev pub is_met_by_entry : Dependency → Dependency → Bool
 is_met_by_entry d p = not p.conflict && meets d p.name p.version
 
-abbrev pub meets_itself : Dependency → Candidate → Bool
-meets_itself d c = meets d c.name c.version
+abbrev pub meets_by_own_name : Dependency → Candidate → Bool
+meets_by_own_name d c = meets d c.name c.version
 
 abbrev pub meets_dependency : Dependency → Candidate → Bool
-meets_dependency d c = meets_itself d c || list_any (is_met_by_entry d) c.provides
+meets_dependency d c = meets_by_own_name d c || list_any (is_met_by_entry d) c.provides
 
 -- a name that an install-if raises is met only by a candidate of that name
 abbrev pub meets_need : Need → Candidate → Bool
@@ -142,7 +146,7 @@ meets_need (named name) c = bytes_eq name c.name
 -- meets it
 abbrev pub version_under : Need → Candidate → Option (List ℕ)
 version_under (entry d) c =
-    if meets_itself d c then c.version
+    if meets_by_own_name d c then c.version
     else option_and_then (λ (p : Dependency). p.version) (find (is_met_by_entry d) c.provides)
 version_under (named name) c = c.version
 
@@ -177,12 +181,12 @@ is_allowed world c =
     c.installed || (not (is_some c.repository) || option_map_or (uses_tag world) c.tag true)
 
 -- whether it meets a conflict of world
-abbrev pub is_excluded_by : List Dependency → Candidate → Bool
-is_excluded_by world c = list_any (λ (d : Dependency). d.conflict && meets_dependency d c) world
+abbrev pub is_barred_by : List Dependency → Candidate → Bool
+is_barred_by world c = list_any (λ (d : Dependency). d.conflict && meets_dependency d c) world
 
 -- whether it may be selected
 abbrev pub is_eligible : List Dependency → Candidate → Bool
-is_eligible world c = is_allowed world c && not (is_excluded_by world c)
+is_eligible world c = is_allowed world c && not (is_barred_by world c)
 
 -- whether it has an install-if that can come to apply: it may be selected itself, and the
 -- install-if is not empty and has no conflict

@@ -1,10 +1,12 @@
--- what the contract of `apk` says
+-- what the contract of `solve` cites
 pub mod Candidates
 pub mod Rank
 pub mod Options
--- what only inner contracts and proofs use
+-- what only other contracts and proofs use
 pub mod Values
+pub mod PlainCode
+pub mod FieldNames
 pub mod Table
 pub mod World
-pub mod Listing
+pub mod CandidateList
 pub mod Marks

@@ -5,12 +5,12 @@ use Rattle.std.specs.List.{list_any}
 use Rattle.std.specs.Str.{bytes_eq}
 use Rattle.dep_core.specs.Dependency.{Dependency}
 use Rattle.pool_core.specs.declared.marks.Effect.{Effect}
-use Rattle.pool_core.specs.declared.marks.Effect.TheVariants.{Exclusion, Pin}
+use Rattle.pool_core.specs.declared.marks.Effect.TheVariants.{Bar, Pin}
 use Rattle.pool_core.specs.Candidates.{Candidate, meets_dependency}
 
 -- whether an entry of world has an effect on a candidate
 abbrev pub affects : Effect → Dependency → Candidate → Bool
-affects Exclusion d c = d.conflict && meets_dependency d c
+affects Bar d c = d.conflict && meets_dependency d c
 affects Pin d c =
     option_map_or (λ tag. bytes_eq c.name d.name && option_map_or (bytes_eq tag) d.tag false) c.tag
     false

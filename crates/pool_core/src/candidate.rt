@@ -117,6 +117,8 @@ pub struct Details<'a> {
 }
 
 impl<'a> Model for Details<'a> {
+    ghost use Rattle.std.specs.Coded.{codes};
+    ghost use Rattle.pool_core.specs.PlainCode.{plain_code};
     ghost use Rattle.std.specs.Prelude.{◌≡◌, option_copied};
     ghost use Rattle.adb_schema.specs.Views.{info_value};
     ghost use Rattle.adb_tables.specs.Values.{entry_in, text_in};
@@ -124,11 +126,13 @@ impl<'a> Model for Details<'a> {
 
     ghost Value = { CandidateValue };
 
-    ghost view = { λ d. candidate_by d.name.now d.version
+    ghost coded = { Prim.hlevel (codes, plain_code) };
+
+    ghost view = { λ d. candidate_by (info_value d.info) d.name.now d.version
         (text_in (entry_in (info_value d.info) 2)) d.depends d.provides d.install_if d.priority
         d.repo (option_copied d.tag) d.installed };
 
-    ghost invariant = { λ d. candidate_by d.name.now d.version
+    ghost invariant = { λ d. candidate_by (info_value d.info) d.name.now d.version
         (text_in (entry_in (info_value d.info) 2)) d.depends d.provides d.install_if d.priority
         d.repo (option_copied d.tag) d.installed
         ≡ candidate_of (info_value d.info) d.repo (option_copied d.tag) d.installed };
@@ -166,7 +170,7 @@ impl<'a> Details<'a> {
         })
     }
 
-    /// The candidate as it was given.
+    /// The candidate, with the information that it was read of.
     pub(crate) fn candidate(&self) -> Candidate<'a>
         ensures { candidate_value result ≡ self.now }
     {

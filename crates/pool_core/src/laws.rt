@@ -1,10 +1,13 @@
 //! What the definitions of candidates, ranks and options keep, each as the contract of a function
 //! that does nothing.
-ghost use Rattle.std.specs.Prelude.{◌≡◌, ◌<◌, true, false, ℕ, List, [], ◌∷◌, ◌++◌, length};
+ghost use Rattle.std.specs.Prelude.{◌≡◌, ◌<◌, Bool, true, false, ℕ, List, [], ◌∷◌, ◌++◌, length, Option, Some, slice_get, codes, if◌then◌else◌};
 ghost use Rattle.std.specs.Cmp.{IsTotalOrder};
 ghost use Rattle.std.specs.declared.cmp.Ordering.TheVariants.{Equal};
 ghost use Rattle.std.specs.List.{list_any};
-ghost use Rattle.pool_core.specs.Candidates.{Candidate, Need, is_same_package, need_name, offers_name, with_installed};
+ghost use Rattle.adb_view.specs.Plain.{Plain};
+ghost use Rattle.adb_tables.specs.Values.{int_in, text_in};
+ghost use Rattle.pool_core.specs.Candidates.{Candidate, Need, as_installed, candidate_by, candidate_of, dependencies_in, is_same_id, is_same_package, need_name, offers_name, version_of_text, with_installed};
+ghost use Rattle.pool_core.specs.FieldNames.{info_under_name};
 ghost use Rattle.pool_core.specs.Rank.{SealedPool, is_at, is_better, is_eligible_at, meets_at, rank_cmp};
 ghost use Rattle.pool_core.specs.Options.{IsBestFirst, IsMember, AreRising, options_for, places_offering};
 
@@ -50,8 +53,37 @@ pub fn offers_hold_what_meets()
         IsMember c (places_offering (need_name need) pool.candidates) }
 {}
 
+/// Each part of a candidate is the value of the field of its name.
+pub fn a_candidate_is_read_by_field_names()
+    ensures { (info : Plain) (repository : Option ℕ) (tag : Option (List ℕ)) (installed : Bool) →
+        candidate_of info repository tag installed
+        ≡ candidate_by info (text_in (info_under_name (codes "name") info))
+        (version_of_text (text_in (info_under_name (codes "version") info)))
+        (text_in (info_under_name (codes "hashes") info))
+        (dependencies_in (info_under_name (codes "depends") info))
+        (dependencies_in (info_under_name (codes "provides") info))
+        (dependencies_in (info_under_name (codes "install-if") info))
+        (int_in (info_under_name (codes "provider-priority") info)) repository tag installed }
+{}
+
+/// An installed package is known in an index by its name, by the text of its version, and by its
+/// id, of which an index may keep a front alone. Without an id it is known in none.
+pub fn an_installed_package_is_known_by_text_and_id()
+    ensures name { (installed c : Candidate) → is_same_package installed c ≡ true →
+        c.name ≡ installed.name }
+    ensures text { (installed c : Candidate) → is_same_package installed c ≡ true →
+        c.version ≡ installed.version }
+    ensures id { (installed c : Candidate) → is_same_package installed c ≡ true →
+        is_same_id c.id installed.id ≡ true }
+    ensures empty { (installed c : Candidate) → installed.id ≡ [] →
+        is_same_package installed c ≡ false }
+    ensures either { (a b : List ℕ) → is_same_id a b ≡ is_same_id b a }
+    ensures front { (id rest : List ℕ) → 0 < length id → is_same_id id (id ++ rest) ≡ true }
+{}
+
 /// An installed package adds a candidate only where no index has it: then it stands last, and else
-/// the list keeps its length.
+/// the list keeps its length. Each place keeps its candidate, which counts as installed where it is
+/// the installed package.
 pub fn installed_candidates_count_once()
     ensures once { (candidates : List Candidate) (installed : Candidate) →
         list_any (is_same_package installed) candidates ≡ true →
@@ -59,4 +91,8 @@ pub fn installed_candidates_count_once()
     ensures apart { (candidates : List Candidate) (installed : Candidate) →
         list_any (is_same_package installed) candidates ≡ false →
         with_installed candidates installed ≡ candidates ++ installed ∷ [] }
+    ensures kept { (candidates : List Candidate) (installed c : Candidate) (place : ℕ) →
+        slice_get candidates place ≡ Some c →
+        slice_get (with_installed candidates installed) place
+        ≡ Some (if is_same_package installed c then as_installed c else c) }
 {}

@@ -16,6 +16,7 @@ mod table;
 
 pub use candidate::{CandId, Candidate, Deps, Details};
 pub use laws::{
+    a_candidate_is_read_by_field_names, an_installed_package_is_known_by_text_and_id,
     installed_candidates_count_once, offers_are_the_places, offers_hold_what_meets,
     options_are_the_best_first, rank_is_total,
 };

@@ -6,7 +6,7 @@ ghost use Rattle.std.specs.Option.{option_map_or};
 ghost use Rattle.std.specs.List.{list_any};
 ghost use Rattle.std.specs.Str.{bytes_eq};
 ghost use Rattle.dep_core.specs.Meets.{dependency};
-ghost use Rattle.pool_core.specs.Candidates.{is_allowed, is_excluded_by, uses_tag};
+ghost use Rattle.pool_core.specs.Candidates.{is_allowed, is_barred_by, uses_tag};
 ghost use Rattle.pool_core.specs.Marks.{affects, is_affected, mark_at, marks_with};
 ghost use Rattle.pool_core.specs.Options.{places_offering};
 ghost use Rattle.pool_core.specs.Rank.{is_pinned};
@@ -20,8 +20,8 @@ use std::alloc::{AllocError, Global};
 /// What an entry of world does to a candidate.
 #[derive(Clone, Copy)]
 pub(crate) enum Effect {
-    /// It keeps the candidate out.
-    Exclusion,
+    /// It bars the candidate: no selection has it.
+    Bar,
     /// It pins the candidate's name to its tag.
     Pin,
 }
@@ -37,11 +37,11 @@ pub(crate) fn eligible_marks(
     requires { LeadsToOffers table.now details.now }
     ensures { IfOk result (λ marks. marks.items ≡ map (λ one.
         is_allowed (map dependency tagged.now) one
-        && not (is_excluded_by (map dependency conflicts.now) one)) details.now) }
+        && not (is_barred_by (map dependency conflicts.now) one)) details.now) }
 {
-    let mut barred = barred_marks(alloc, details, tagged)?;
-    mark_affected(&mut barred, details, table, conflicts, Effect::Exclusion);
-    opposite_marks(alloc, &barred)
+    let mut ineligible = disallowed_marks(alloc, details, tagged)?;
+    mark_affected(&mut ineligible, details, table, conflicts, Effect::Bar);
+    opposite_marks(alloc, &ineligible)
 }
 
 /// For each candidate, whether world pins its name to its tag.
@@ -61,7 +61,7 @@ pub(crate) fn pinned_marks(
 }
 
 // For each candidate, whether it is of a repository whose tag world does not use.
-fn barred_marks(
+fn disallowed_marks(
     alloc: Global,
     details: &[Details<'_>],
     tagged: &[Dep<'_>],
@@ -146,7 +146,7 @@ fn affects(effect: Effect, entry: &Dep<'_>, one: &Details<'_>) -> bool
     ensures { result ≡ affects effect (dependency entry.now) one.now }
 {
     match effect {
-        Effect::Exclusion => entry.conflict && one.meets(entry),
+        Effect::Bar => entry.conflict && one.meets(entry),
         Effect::Pin => pins(entry, one),
     }
 }

@@ -7,14 +7,14 @@ ghost use Rattle.adb_fields.specs.ListValue.{list_value};
 ghost use Rattle.adb_tables.specs.Values.{count_of, entries_in, entry_in};
 ghost use Rattle.pool_core.specs.Candidates.{as_installed_where_same, candidate_of, candidates_of_index, is_same_package, with_installed};
 ghost use Rattle.pool_core.specs.Options.{IsMember, places_offering};
-ghost use Rattle.pool_core.specs.Listing.{IsPoolListing, is_same_at, marked_at};
+ghost use Rattle.pool_core.specs.CandidateList.{IsCandidateList, is_same_at, marked_at};
 ghost use Rattle.pool_core.specs.Rank.{sealed_pool_by};
 ghost use Rattle.pool_core.specs.Table.{LeadsToOffers};
 ghost use Rattle.pool_core.specs.Values.{IsPoolFault, names_upgraded_by};
 
 use crate::candidate::{CandId, Details};
 use crate::need::Upgrade;
-use crate::sealed::{Sealed, seal_listing};
+use crate::sealed::{Sealed, seal_list};
 use crate::table::Table;
 use adb_schema::{IndexView, List, PkgInfo};
 use dep_core::World;
@@ -46,27 +46,27 @@ pub const MOST_CANDIDATES: usize = 65536;
 
 /// The candidates so far, and the table of the names that they offer.
 #[derive(Drop)]
-pub(crate) struct Listing<'a> {
+pub(crate) struct CandidateList<'a> {
     pub(crate) details: Vec<Details<'a>>,
     pub(crate) table: Table<'a>,
 }
 
-impl<'a> Listing<'a> {
+impl<'a> CandidateList<'a> {
     /// No candidates.
-    fn new(alloc: Global) -> Listing<'a>
-        ensures listing { IsPoolListing result }
+    fn new(alloc: Global) -> CandidateList<'a>
+        ensures list { IsCandidateList result }
         ensures none { result.details.items ≡ [] }
     {
-        Listing {
+        CandidateList {
             details: Vec::new(alloc),
             table: Table::new(alloc),
         }
     }
 
-    // Puts a candidate behind the others. After a refusal the listing may only be dropped.
+    // Puts a candidate behind the others. After a refusal the list may only be dropped.
     fn push(&mut self, details: Details<'a>) -> Result<(), PoolFault>
-        requires { IsPoolListing self.old }
-        ensures listing { OnOk result (IsPoolListing self.new) }
+        requires { IsCandidateList self.old }
+        ensures list { OnOk result (IsCandidateList self.new) }
         ensures pushed { OnOk result (self.new.details.items
             ≡ self.old.details.items ++ details.entry ∷ []) }
         ensures fault { IfErr result (λ fault.
@@ -94,8 +94,8 @@ impl<'a> Listing<'a> {
         repo: u64,
         tag: Option<&'a [u8]>,
     ) -> Result<(), PoolFault>
-        requires { IsPoolListing self.old }
-        ensures listing { OnOk result (IsPoolListing self.new) }
+        requires { IsCandidateList self.old }
+        ensures list { OnOk result (IsCandidateList self.new) }
         ensures pushed { OnOk result (self.new.details.items ≡ self.old.details.items
             ++ candidates_of_index repo (option_copied tag.entry)
             (entries_in (list_value packages.entry))) }
@@ -115,8 +115,8 @@ impl<'a> Listing<'a> {
     // Adds an installed package, or lets the candidates that are the same package count as
     // installed.
     fn push_installed(&mut self, alloc: Global, info: PkgInfo<'a>) -> Result<(), PoolFault>
-        requires { IsPoolListing self.old }
-        ensures listing { OnOk result (IsPoolListing self.new) }
+        requires { IsCandidateList self.old }
+        ensures list { OnOk result (IsCandidateList self.new) }
         ensures pushed { OnOk result (self.new.details.items ≡ with_installed
             self.old.details.items (candidate_of (info_value info.entry) None None true)) }
         ensures fault { IfErr result (λ fault. IsPoolFault fault (length (with_installed
@@ -127,8 +127,8 @@ impl<'a> Listing<'a> {
     }
 
     fn push_or_mark(&mut self, installed: Details<'a>) -> Result<(), PoolFault>
-        requires { IsPoolListing self.old }
-        ensures listing { OnOk result (IsPoolListing self.new) }
+        requires { IsCandidateList self.old }
+        ensures list { OnOk result (IsCandidateList self.new) }
         ensures pushed { OnOk result (self.new.details.items
             ≡ with_installed self.old.details.items installed.entry) }
         ensures fault { IfErr result (λ fault. IsPoolFault fault
@@ -143,8 +143,8 @@ impl<'a> Listing<'a> {
     // Lets the candidates that are an installed package count as installed, and answers whether
     // there is one.
     fn mark_same(&mut self, installed: &Details<'a>) -> bool
-        requires { IsPoolListing self.old }
-        ensures listing { IsPoolListing self.new }
+        requires { IsCandidateList self.old }
+        ensures list { IsCandidateList self.new }
         ensures some { result ≡ list_any (is_same_package installed.now) self.old.details.items }
         ensures same { self.new.details.items
             ≡ as_installed_where_same installed.now self.old.details.items }
@@ -194,25 +194,30 @@ fn mark_one<'a>(details: &mut Vec<Details<'a>>, id: CandId, installed: &Details<
     true
 }
 
-/// Candidates in the making: add all indexes before the first installed package. After a refusal
-/// the pool is empty.
+/// Candidates in the making. Add all indexes before the first installed package: one that is added
+/// behind it stands behind it in the list, and its packages do not count as installed. After a
+/// refusal the pool is empty.
 #[derive(Drop)]
 pub struct Pool<'a> {
     alloc: Global,
-    listing: Option<Listing<'a>>,
+    list: Option<CandidateList<'a>>,
 }
 
 impl<'a> Model for Pool<'a> {
+    ghost use Rattle.std.specs.Coded.{codes};
+    ghost use Rattle.pool_core.specs.PlainCode.{plain_code};
     ghost use Rattle.std.specs.Prelude.{List as Items};
     ghost use Rattle.std.specs.Option.{ForSome};
     ghost use Rattle.pool_core.specs.Candidates.{Candidate};
-    ghost use Rattle.pool_core.specs.Listing.{IsPoolListing, candidates_in};
+    ghost use Rattle.pool_core.specs.CandidateList.{IsCandidateList, candidates_in};
 
     ghost Value = { Items Candidate };
 
-    ghost view = { λ pool. candidates_in pool.listing };
+    ghost coded = { Prim.hlevel (codes, plain_code) };
 
-    ghost invariant = { λ pool. ForSome pool.listing (λ listing. IsPoolListing listing) };
+    ghost view = { λ pool. candidates_in pool.list };
+
+    ghost invariant = { λ pool. ForSome pool.list (λ list. IsCandidateList list) };
 }
 
 impl<'a> Pool<'a> {
@@ -220,35 +225,36 @@ impl<'a> Pool<'a> {
     pub fn new(alloc: Global) -> Pool<'a>
         ensures { result ≡ [] }
     {
-        Pool {
-            alloc,
-            listing: None,
-        }
+        Pool { alloc, list: None }
     }
 
     // The candidates so far, taken out.
-    fn take_listing(&mut self) -> Listing<'a>
-        ensures listing { IsPoolListing result }
+    fn take_list(&mut self) -> CandidateList<'a>
+        ensures list { IsCandidateList result }
         ensures taken { result.details.items ≡ self.old }
         ensures rest { self.new ≡ [] }
     {
-        match self.listing.take() {
-            Some(listing) => listing,
-            None => Listing::new(self.alloc),
+        match self.list.take() {
+            Some(list) => list,
+            None => CandidateList::new(self.alloc),
         }
     }
 
     // Keeps the candidates, unless they were refused.
-    fn keep(&mut self, listing: Listing<'a>, added: Result<(), PoolFault>) -> Result<(), PoolFault>
-        requires listing { OnOk added (IsPoolListing listing) }
+    fn keep(
+        &mut self,
+        list: CandidateList<'a>,
+        added: Result<(), PoolFault>,
+    ) -> Result<(), PoolFault>
+        requires list { OnOk added (IsCandidateList list) }
         requires none { self.old ≡ [] }
         ensures answer { result ≡ added }
-        ensures ok { OnOk added (self.new ≡ listing.entry.details.items) }
+        ensures ok { OnOk added (self.new ≡ list.entry.details.items) }
         ensures err { OnErr added (self.new ≡ []) }
     {
         match added {
             Ok(()) => {
-                self.listing = Some(listing);
+                self.list = Some(list);
                 Ok(())
             }
             Err(fault) => Err(fault),
@@ -256,7 +262,8 @@ impl<'a> Pool<'a> {
     }
 
     /// Adds the packages of a repository's index; repositories are counted from 1. TooMany comes
-    /// exactly where the list would pass its limit.
+    /// only where the list would pass its limit, and Ok only where it does not; want of memory may
+    /// stand for either.
     pub fn add_index(
         &mut self,
         index: IndexView<'a>,
@@ -271,13 +278,14 @@ impl<'a> Pool<'a> {
             (length self.old + count_of (entries_in (entry_in (index_value index.entry) 1)))) }
         ensures err { OnErr result (self.new ≡ []) }
     {
-        let mut listing = self.take_listing();
-        let added = listing.push_all(self.alloc, index.packages(), repo, tag);
-        self.keep(listing, added)
+        let mut list = self.take_list();
+        let added = list.push_all(self.alloc, index.packages(), repo, tag);
+        self.keep(list, added)
     }
 
     /// Adds an installed package, or lets the candidates that are the same package count as
-    /// installed. TooMany comes exactly where the list would pass its limit.
+    /// installed. TooMany comes only where the list would pass its limit, and Ok only where it does
+    /// not; want of memory may stand for either.
     pub fn add_installed(&mut self, info: PkgInfo<'a>) -> Result<(), PoolFault>
         ensures ok { OnOk result (self.new
             ≡ with_installed self.old (candidate_of (info_value info.entry) None None true)) }
@@ -287,9 +295,9 @@ impl<'a> Pool<'a> {
             (candidate_of (info_value info.entry) None None true)))) }
         ensures err { OnErr result (self.new ≡ []) }
     {
-        let mut listing = self.take_listing();
-        let added = listing.push_installed(self.alloc, info);
-        self.keep(listing, added)
+        let mut list = self.take_list();
+        let added = list.push_installed(self.alloc, info);
+        self.keep(list, added)
     }
 
     /// The candidates under a world and the names that a command upgrades.
@@ -299,7 +307,7 @@ impl<'a> Pool<'a> {
     {
         let mut pool = self;
         let alloc = pool.alloc;
-        let listing = pool.take_listing();
-        seal_listing(alloc, listing, world, upgrade)
+        let list = pool.take_list();
+        seal_list(alloc, list, world, upgrade)
     }
 }

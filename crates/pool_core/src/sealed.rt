@@ -7,8 +7,8 @@ ghost use Rattle.std.specs.Ordering.{bool_cmp, flip_args};
 ghost use Rattle.std.specs.Str.{bytes_eq};
 ghost use Rattle.dep_core.specs.Dependency.{Dependency};
 ghost use Rattle.dep_core.specs.Meets.{dependency};
-ghost use Rattle.pool_core.specs.Candidates.{Candidate as CandidateValue, has_usable_install_if, is_allowed, is_eligible, is_excluded_by, meets_dependency, positive_entries_of, uses_tag};
-ghost use Rattle.pool_core.specs.Listing.{IsPoolListing};
+ghost use Rattle.pool_core.specs.Candidates.{Candidate as CandidateValue, has_usable_install_if, is_allowed, is_eligible, is_barred_by, meets_dependency, positive_entries_of, uses_tag};
+ghost use Rattle.pool_core.specs.CandidateList.{IsCandidateList};
 ghost use Rattle.pool_core.specs.Options.{may_meet, places_offering, options_for, places_from};
 ghost use Rattle.pool_core.specs.Rank.{candidate_at, candidate_cmp, is_at, is_eligible_at, is_pinned, is_pinned_at, is_pinned_to, rank_cmp, sealed_pool_by};
 ghost use Rattle.pool_core.specs.Values.{candidate_value, names_upgraded_by, need_by, need_of};
@@ -18,7 +18,7 @@ use crate::candidate::{CandId, Candidate, Details};
 use crate::laws::rank_is_total;
 use crate::marks::{eligible_marks, pinned_marks};
 use crate::need::{Need, NeedRef, Options, Upgrade};
-use crate::pool::Listing;
+use crate::pool::CandidateList;
 use crate::rank::by_details;
 use crate::table::Table;
 use dep_core::{Dep, World};
@@ -40,6 +40,8 @@ pub struct Sealed<'a> {
 }
 
 impl<'a> Model for Sealed<'a> {
+    ghost use Rattle.std.specs.Coded.{codes};
+    ghost use Rattle.pool_core.specs.PlainCode.{plain_code};
     ghost use Rattle.std.specs.Prelude.{◌≡◌, map};
     ghost use Rattle.dep_core.specs.Meets.{dependency};
     ghost use Rattle.pool_core.specs.Candidates.{has_usable_install_if, is_eligible, positive_entries_of};
@@ -49,6 +51,8 @@ impl<'a> Model for Sealed<'a> {
     ghost use Rattle.pool_core.specs.Values.{names_upgraded_by};
 
     ghost Value = { SealedPool };
+
+    ghost coded = { Prim.hlevel (codes, plain_code) };
 
     ghost view = { λ s.
         sealed_pool_by s.details.items s.world.now (names_upgraded_by s.upgrade) };
@@ -76,7 +80,7 @@ impl<'a> Sealed<'a> {
         self.details.is_empty()
     }
 
-    /// A candidate, as it was given.
+    /// A candidate, with all that its index, or the database, says of it.
     pub fn candidate(&self, id: CandId) -> Candidate<'a>
         requires { id < length self.now.candidates }
         ensures { slice_get self.now.candidates id ≡ Some (candidate_value result) }
@@ -239,18 +243,18 @@ enum EntryKind {
 }
 
 /// Joins a list of candidates to a world.
-pub(crate) fn seal_listing<'a>(
+pub(crate) fn seal_list<'a>(
     alloc: Global,
-    listing: Listing<'a>,
+    list: CandidateList<'a>,
     world: &'a World,
     upgrade: Upgrade<'a>,
 ) -> Result<Sealed<'a>, AllocError>
-    requires { IsPoolListing listing }
+    requires { IsCandidateList list }
     ensures { IfOk result (λ sealed. sealed
-        ≡ sealed_pool_by listing.entry.details.items world.entry.now
+        ≡ sealed_pool_by list.entry.details.items world.entry.now
         (names_upgraded_by upgrade.entry)) }
 {
-    let Listing { details, table } = listing;
+    let CandidateList { details, table } = list;
     let positive_entries = entries_of_kind(alloc, world, EntryKind::Positive)?;
     let conflicts = entries_of_kind(alloc, world, EntryKind::Conflict)?;
     let tagged = entries_of_kind(alloc, world, EntryKind::Tagged)?;

@@ -8,7 +8,8 @@ use adb_view::Adb;
 use base_core::Words;
 use dep_core::{World, read_dep};
 use pool_core::{CandId, Need, Pool, PoolFault, Sealed, Upgrade};
-use solve_core::solve;
+use row_lines::{add_number, value_named};
+use solve_core::{Trace, solve};
 use std::alloc::{AllocError, AllocFailed, Global};
 
 /// Why a row has no answer.
@@ -43,17 +44,47 @@ impl From<PoolFault> for RowFault {
     }
 }
 
+/// What a question asks for.
+#[derive(Clone, Copy)]
+enum Question {
+    Candidates,
+    Offers,
+    Options,
+    Named,
+    Select,
+    Count,
+}
+
+/// The words that questions over a pool begin with.
+const QUESTIONS: [(&[u8], Question); 6] = [
+    (b"candidates", Question::Candidates),
+    (b"offers", Question::Offers),
+    (b"options", Question::Options),
+    (b"named", Question::Named),
+    (b"select", Question::Select),
+    (b"count", Question::Count),
+];
+
 /// The answer of a question, as often as the row says, or what stands in its way.
 pub fn answer(alloc: Global, row: &Row<'_>, query: &[u8]) -> Result<Vec<u8>, AllocError> {
     match answer_of(alloc, row, query) {
         Ok(text) => Ok(text),
         Err(RowFault::Memory) => Err(AllocError),
         Err(RowFault::Text) => Vec::from_slice(alloc, b"no row"),
-        Err(RowFault::TooMany(count)) => {
-            let text = format!(in alloc; "{count} candidates are too many")?;
-            Vec::from_slice(alloc, text.as_bytes())
-        }
+        Err(RowFault::TooMany(count)) => too_many(alloc, count),
     }
+}
+
+fn too_many(alloc: Global, count: u64) -> Result<Vec<u8>, AllocError> {
+    let mut text = number_text(alloc, count)?;
+    text.extend_from_slice(b" candidates are too many")?;
+    Ok(text)
+}
+
+fn number_text(alloc: Global, number: u64) -> Result<Vec<u8>, AllocError> {
+    let mut text = Vec::new(alloc);
+    add_number(alloc, &mut text, u128::from(number))?;
+    Ok(text)
 }
 
 fn answer_of(alloc: Global, row: &Row<'_>, query: &[u8]) -> Result<Vec<u8>, RowFault> {
@@ -62,34 +93,28 @@ fn answer_of(alloc: Global, row: &Row<'_>, query: &[u8]) -> Result<Vec<u8>, RowF
         payloads.push(index_payload(alloc, repository.packages)?)?;
     }
     let installed = index_payload(alloc, row.installed)?;
-    if query == b"bytes".as_slice() {
-        return byte_count(alloc, &payloads);
-    }
+    answer_over(alloc, row, query, &payloads, &installed)
+}
+
+// The answer over the payloads of a row.
+fn answer_over<'a>(
+    alloc: Global,
+    row: &'a Row<'a>,
+    query: &[u8],
+    payloads: &'a [Vec<u8>],
+    installed: &'a [u8],
+) -> Result<Vec<u8>, RowFault> {
     let Ok(world) = World::read(alloc, row.world) else {
         return Err(RowFault::Text);
     };
     let upgraded = words_of(alloc, row.upgraded)?;
     let packages = Packages {
         repositories: &row.repositories,
-        payloads: &payloads,
-        installed: &installed,
+        payloads,
+        installed,
         upgrade: upgrade_of(row.upgraded, &upgraded),
     };
-    let mut text = Vec::new(alloc);
-    for _ in 0..row.times {
-        text = packages.answer(alloc, &world, query)?;
-    }
-    Ok(text)
-}
-
-// How many bytes the payloads of the repositories have.
-fn byte_count(alloc: Global, payloads: &[Vec<u8>]) -> Result<Vec<u8>, RowFault> {
-    let mut count = 0u64;
-    for payload in payloads {
-        count = count.saturating_add(payload.len() as u64);
-    }
-    let text = format!(in alloc; "{count}")?;
-    Ok(Vec::from_slice(alloc, text.as_bytes())?)
+    packages.last_answer(alloc, &world, query, row.times)
 }
 
 /// The packages of a row, as payloads, and what the command upgrades.
@@ -102,19 +127,54 @@ struct Packages<'a> {
 }
 
 impl<'a> Packages<'a> {
-    fn answer(&self, alloc: Global, world: &'a World, query: &[u8]) -> Result<Vec<u8>, RowFault> {
+    // The answer, computed so many times.
+    fn last_answer(
+        &self,
+        alloc: Global,
+        world: &'a World,
+        query: &[u8],
+        times: u64,
+    ) -> Result<Vec<u8>, RowFault> {
+        let (word, rest) = split_word(query);
+        if word == b"bytes".as_slice() {
+            return Ok(number_text(alloc, self.byte_count())?);
+        }
+        let Some(question) = value_named(&QUESTIONS, word) else {
+            return Err(RowFault::Text);
+        };
+        let mut text = Vec::new(alloc);
+        for _ in 0..times {
+            text = self.answer(alloc, world, question, rest)?;
+        }
+        Ok(text)
+    }
+
+    fn answer(
+        &self,
+        alloc: Global,
+        world: &'a World,
+        question: Question,
+        rest: &[u8],
+    ) -> Result<Vec<u8>, RowFault> {
         let pool = self.pool(alloc)?;
         let sealed = pool.seal(world, self.upgrade)?;
-        let (word, rest) = split_word(query);
-        match word {
-            b"candidates" => candidate_count(alloc, &sealed),
-            b"offers" => texts_of(alloc, &sealed, sealed.offers(rest)),
-            b"options" => options_of(alloc, &sealed, rest),
-            b"named" => named_options(alloc, &sealed, rest),
-            b"select" => selection(alloc, &sealed, world, false),
-            b"count" => selection(alloc, &sealed, world, true),
-            _ => Err(RowFault::Text),
+        match question {
+            Question::Candidates => Ok(number_text(alloc, sealed.len() as u64)?),
+            Question::Offers => texts_of(alloc, &sealed, sealed.offers(rest)),
+            Question::Options => options_of(alloc, &sealed, rest),
+            Question::Named => named_options(alloc, &sealed, rest),
+            Question::Select => selection(alloc, &sealed, world),
+            Question::Count => selection_count(alloc, &sealed, world),
         }
+    }
+
+    // How many bytes the payloads of the repositories have.
+    fn byte_count(&self) -> u64 {
+        let mut count = 0u64;
+        for payload in self.payloads {
+            count = count.saturating_add(payload.len() as u64);
+        }
+        count
     }
 
     // The pool of all packages.
@@ -157,16 +217,13 @@ fn words_of(alloc: Global, text: &[u8]) -> Result<Words, RowFault> {
 }
 
 fn upgrade_of<'a>(text: &[u8], words: &'a Words) -> Upgrade<'a> {
-    match text {
-        b"" => Upgrade::Nothing,
-        b"all" => Upgrade::All,
-        _ => Upgrade::Listed(words),
+    if text.is_empty() {
+        return Upgrade::Nothing;
     }
-}
-
-fn candidate_count(alloc: Global, pool: &Sealed<'_>) -> Result<Vec<u8>, RowFault> {
-    let text = format!(in alloc; "{}", pool.len())?;
-    Ok(Vec::from_slice(alloc, text.as_bytes())?)
+    if text == b"all".as_slice() {
+        return Upgrade::All;
+    }
+    Upgrade::Listed(words)
 }
 
 // The options of a dependency.
@@ -184,22 +241,27 @@ fn named_options(alloc: Global, pool: &Sealed<'_>, name: &[u8]) -> Result<Vec<u8
     texts_of(alloc, pool, options.into_ids().as_slice())
 }
 
-// The choices of the first selection, or how many there are, or `none`.
-fn selection(
-    alloc: Global,
-    pool: &Sealed<'_>,
-    world: &World,
-    counted: bool,
-) -> Result<Vec<u8>, RowFault>
+// The choices of the first selection, or `none`.
+fn selection(alloc: Global, pool: &Sealed<'_>, world: &World) -> Result<Vec<u8>, RowFault>
     requires { world.now ≡ pool.now.world }
 {
-    let Some(trace) = solve(alloc, pool, world)? else {
-        return Ok(Vec::from_slice(alloc, b"none")?);
-    };
-    if counted {
-        let text = format!(in alloc; "{}", trace.len())?;
-        return Ok(Vec::from_slice(alloc, text.as_bytes())?);
+    match solve(alloc, pool, world)? {
+        Some(trace) => choices_of(alloc, pool, &trace),
+        None => Ok(Vec::from_slice(alloc, b"none")?),
     }
+}
+
+// How many choices the first selection has, or `none`.
+fn selection_count(alloc: Global, pool: &Sealed<'_>, world: &World) -> Result<Vec<u8>, RowFault>
+    requires { world.now ≡ pool.now.world }
+{
+    match solve(alloc, pool, world)? {
+        Some(trace) => Ok(number_text(alloc, trace.len() as u64)?),
+        None => Ok(Vec::from_slice(alloc, b"none")?),
+    }
+}
+
+fn choices_of(alloc: Global, pool: &Sealed<'_>, trace: &Trace) -> Result<Vec<u8>, RowFault> {
     let mut ids: Vec<CandId> = Vec::new(alloc);
     for i in 0..trace.len() {
         ids.push(trace.get(i))?;
@@ -236,8 +298,8 @@ fn add_candidate(
     }
     let number = details.repo().unwrap_or(0);
     if number != 1 {
-        let mark = format!(in alloc; "/{number}")?;
-        text.extend_from_slice(mark.as_bytes())?;
+        text.push(b'/')?;
+        add_number(alloc, text, u128::from(number))?;
     }
     Ok(())
 }

@@ -1,12 +1,31 @@
 //! Payloads of indexes, from short texts. Packages stand between `;`, and their parts between
 //! spaces: `NAME=VERSION`, and `N*` before it for N such packages; `d:` and depends, `p:` and
 //! provides, `i:` and install-if, each list with `,` between dependencies; `k:` and the
-//! provider-priority; `h:` and the id, which is the same for all where none stands.
+//! provider-priority; `h:` and the id, which is none behind a bare `h:`, and the same for all where
+//! no `h:` stands.
 use crate::row::number_of;
 use adb_view::Val;
 use adb_write::Writer;
 use dep_core::{Dep, read_dep};
+use row_lines::value_named;
 use std::alloc::{AllocError, Global};
+
+/// How the value of a field is written.
+#[derive(Clone, Copy)]
+enum Form {
+    Dependencies,
+    Number,
+    Bytes,
+}
+
+/// What a part begins with: the place of the field, counted from 0, and its form.
+const FIELDS: [(&[u8], (usize, Form)); 5] = [
+    (b"d:", (14, Form::Dependencies)),
+    (b"p:", (15, Form::Dependencies)),
+    (b"i:", (17, Form::Dependencies)),
+    (b"k:", (13, Form::Number)),
+    (b"h:", (2, Form::Bytes)),
+];
 
 /// The payload of an index with these packages. What is no part of a package is passed over, and
 /// an index that passes a limit has none.
@@ -48,14 +67,15 @@ fn add_packages(
 // The value of a package.
 fn package_value(alloc: Global, writer: &mut Writer, part: &[u8]) -> Result<Val, AllocError> {
     let mut fields = [Val::of(0); 18];
+    if part.is_empty() {
+        return Ok(Val::of(0));
+    }
+    fields[2] = writer.blob(b"01234567890123456789")?;
     for word in part.split(|byte| *byte == b' ') {
         add_field(alloc, writer, &mut fields, word)?;
     }
     if fields[0].is_null() {
         return Ok(Val::of(0));
-    }
-    if fields[2].is_null() {
-        fields[2] = writer.blob(b"01234567890123456789")?;
     }
     writer.obj(&fields)
 }
@@ -66,19 +86,36 @@ fn add_field(
     fields: &mut [Val; 18],
     word: &[u8],
 ) -> Result<(), AllocError> {
-    match word {
-        [] => {}
-        [b'd', b':', list @ ..] => fields[14] = list_value(alloc, writer, list)?,
-        [b'p', b':', list @ ..] => fields[15] = list_value(alloc, writer, list)?,
-        [b'i', b':', list @ ..] => fields[17] = list_value(alloc, writer, list)?,
-        [b'k', b':', digits @ ..] => fields[13] = writer.int(number_of(digits))?,
-        [b'h', b':', id @ ..] => fields[2] = writer.blob(id)?,
-        _ => {
-            if let Some(dep) = read_dep(word) {
-                fields[0] = writer.blob(dep.name)?;
-                fields[1] = version_value(writer, &dep)?;
-            }
-        }
+    let (front, rest) = word.split_at(word.len().min(2));
+    let Some((place, form)) = value_named(&FIELDS, front) else {
+        return add_name(writer, fields, word);
+    };
+    let value = value_of(alloc, writer, form, rest)?;
+    if place < fields.len() {
+        fields[place] = value;
+    }
+    Ok(())
+}
+
+// The value of a field, as its text has it.
+fn value_of(
+    alloc: Global,
+    writer: &mut Writer,
+    form: Form,
+    text: &[u8],
+) -> Result<Val, AllocError> {
+    match form {
+        Form::Dependencies => list_value(alloc, writer, text),
+        Form::Number => writer.int(number_of(text)),
+        Form::Bytes => writer.blob(text),
+    }
+}
+
+// Adds the name and the version of a package.
+fn add_name(writer: &mut Writer, fields: &mut [Val; 18], word: &[u8]) -> Result<(), AllocError> {
+    if let Some(dep) = read_dep(word) {
+        fields[0] = writer.blob(dep.name)?;
+        fields[1] = version_value(writer, &dep)?;
     }
     Ok(())
 }

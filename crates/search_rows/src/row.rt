@@ -1,5 +1,25 @@
 //! A row: the packages to choose from, world, and what is asked. It borrows its text.
+use row_lines::value_named;
 use std::alloc::{AllocError, Global};
+
+/// What a line says of a row.
+#[derive(Clone, Copy)]
+enum Part {
+    Repository,
+    Installed,
+    World,
+    Upgrade,
+    Times,
+}
+
+/// The words that lines of a row begin with.
+const PARTS: [(&[u8], Part); 5] = [
+    (b"repository", Part::Repository),
+    (b"installed", Part::Installed),
+    (b"world", Part::World),
+    (b"upgrade", Part::Upgrade),
+    (b"times", Part::Times),
+];
 
 /// The packages of a repository.
 #[derive(Clone, Copy)]
@@ -53,16 +73,18 @@ impl<'t> Row<'t> {
     /// Takes what a line says of the row.
     pub fn take_line(&mut self, line: &'t [u8]) -> Result<Said, AllocError> {
         let (word, rest) = split_word(line);
-        match word {
-            b"repository" => {
+        let Some(part) = value_named(&PARTS, word) else {
+            return Ok(Said::Nothing);
+        };
+        match part {
+            Part::Repository => {
                 let number = (self.repositories.len() as u64).saturating_add(1);
                 self.repositories.push(repository_of(rest, number))?;
             }
-            b"installed" => self.installed = rest,
-            b"world" => self.world = rest,
-            b"upgrade" => self.upgraded = rest,
-            b"times" => self.times = number_of(rest),
-            _ => return Ok(Said::Nothing),
+            Part::Installed => self.installed = rest,
+            Part::World => self.world = rest,
+            Part::Upgrade => self.upgraded = rest,
+            Part::Times => self.times = number_of(rest),
         }
         Ok(Said::Row)
     }

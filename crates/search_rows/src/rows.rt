@@ -1,6 +1,7 @@
 //! All rows of a text, and what is printed of them.
 use crate::answer::answer;
 use crate::row::{Row, Said, split_word};
+use row_lines::{add_number, value_named};
 use std::alloc::{AllocError, Global};
 
 /// Runs all rows of a text, adds a line for each answer that is not the wanted one, and one with
@@ -22,6 +23,26 @@ pub fn run_rows(alloc: Global, text: &[u8], report: &mut Vec<u8>) -> Result<bool
     Ok(run.failed == 0)
 }
 
+/// What a line is, by the word that it begins with.
+#[derive(Clone, Copy)]
+enum Line {
+    Comment,
+    Row,
+    Question,
+    Wanted,
+    Printed,
+}
+
+/// The words that lines begin with.
+const LINES: [(&[u8], Line); 6] = [
+    (b"", Line::Comment),
+    (b"#", Line::Comment),
+    (b"row", Line::Row),
+    (b"$", Line::Question),
+    (b">", Line::Wanted),
+    (b"?", Line::Printed),
+];
+
 /// Where a run over rows stands.
 #[derive(Drop)]
 struct Run<'t> {
@@ -36,18 +57,23 @@ struct Run<'t> {
 impl<'t> Run<'t> {
     fn take_line(&mut self, line: &'t [u8], report: &mut Vec<u8>) -> Result<(), AllocError> {
         let (word, rest) = split_word(line);
-        match word {
-            b"" | b"#" => Ok(()),
-            b"row" => self.begin_row(rest, report),
-            b"$" => {
-                self.end_row(report)?;
-                self.query = Some(rest);
-                Ok(())
-            }
-            b">" => self.compare(rest, report),
-            b"?" => self.print(report),
-            _ => self.take_row_line(line, report),
+        let Some(kind) = value_named(&LINES, word) else {
+            return self.take_row_line(line, report);
+        };
+        match kind {
+            Line::Comment => Ok(()),
+            Line::Row => self.begin_row(rest, report),
+            Line::Question => self.begin_question(rest, report),
+            Line::Wanted => self.compare(rest, report),
+            Line::Printed => self.print(report),
         }
+    }
+
+    // A question is asked.
+    fn begin_question(&mut self, query: &'t [u8], report: &mut Vec<u8>) -> Result<(), AllocError> {
+        self.end_row(report)?;
+        self.query = Some(query);
+        Ok(())
     }
 
     // A new row begins.
@@ -116,10 +142,11 @@ impl<'t> Run<'t> {
     }
 
     fn add_counts(&self, report: &mut Vec<u8>) -> Result<(), AllocError> {
-        let line = format!(in self.alloc;
-            "{} rows, {} answers, {} failed\n",
-            self.rows, self.answers, self.failed
-        )?;
-        report.extend_from_slice(line.as_bytes())
+        add_number(self.alloc, report, u128::from(self.rows))?;
+        report.extend_from_slice(b" rows, ")?;
+        add_number(self.alloc, report, u128::from(self.answers))?;
+        report.extend_from_slice(b" answers, ")?;
+        add_number(self.alloc, report, u128::from(self.failed))?;
+        report.extend_from_slice(b" failed\n")
     }
 }

@@ -22,7 +22,7 @@ use Rattle.solve_core.proofs.PoolFacts.{bool_cases, find_in, map_in, in_map}
 use Rattle.solve_core.proofs.Queued.{filter_twice, filtered, find_here, past_end, met_more, met_next, queue_more}
 
 abbrev pub IsBefore : SealedPool → List ℕ → Checkpoint → Type 0
-IsBefore pool u b = (b.queue ≡ length (queue_of pool u)) × AreMet pool u b.at × (b.with_conflicts ≡ length (filter (has_conflict_at pool) u))
+IsBefore pool u b = (b.queue_len ≡ length (queue_of pool u)) × AreMet pool u b.cursor × (b.with_conflicts_len ≡ length (filter (has_conflict_at pool) u))
 
 pub checkpoints_more : (pool : SealedPool) (u cs : List ℕ) (bs : List Checkpoint) (c : ℕ) (b : Checkpoint) → AreCheckpoints pool u cs bs → IsBefore pool (u ++ cs) b → AreCheckpoints pool u (cs ++ c ∷ []) (bs ++ b ∷ [])
 checkpoints_more pool u [] [] c b checkpoints last =
@@ -66,7 +66,7 @@ passing_is_within pool p k h = at_within p pool.candidates k h
 conflicting_one : (pool : SealedPool) (c : ℕ) → filter (has_conflict_at pool) (c ∷ []) ≡ (if list_any (λ (d : Dependency). d.conflict) (depends_at pool c) then c ∷ [] else [])
 conflicting_one pool c = refl
 
-pub consistent_more : (old new : Choices) (c : ℕ) (deps : List Dependency) (b : Checkpoint) → IsConsistent old → c < length (pool_of old).candidates → deps ≡ depends_at (pool_of old) c → pool_of new ≡ pool_of old → choices_of new ≡ choices_of old ++ c ∷ [] → new.queue.items ≡ old.queue.items ++ raised_deps (Some c) deps → new.at ≡ old.at → new.with_conflicts.items ≡ old.with_conflicts.items ++ (if list_any (λ (d : Dependency). d.conflict) deps then c ∷ [] else []) → new.checkpoints.items ≡ old.checkpoints.items ++ b ∷ [] → b.queue ≡ length old.queue.items → b.at ≡ old.at → b.with_conflicts ≡ length old.with_conflicts.items → IsConsistent new
+pub consistent_more : (old new : Choices) (c : ℕ) (deps : List Dependency) (b : Checkpoint) → IsConsistent old → c < length (pool_of old).candidates → deps ≡ depends_at (pool_of old) c → pool_of new ≡ pool_of old → choices_of new ≡ choices_of old ++ c ∷ [] → new.queue.items ≡ old.queue.items ++ raised_deps (Some c) deps → new.cursor ≡ old.cursor → new.with_conflicts.items ≡ old.with_conflicts.items ++ (if list_any (λ (d : Dependency). d.conflict) deps then c ∷ [] else []) → new.checkpoints.items ≡ old.checkpoints.items ++ b ∷ [] → b.queue_len ≡ length old.queue.items → b.cursor ≡ old.cursor → b.with_conflicts_len ≡ length old.with_conflicts.items → IsConsistent new
 consistent_more old new c deps b consistent small is pool choices queue at with_conflicts checkpoints b_queue b_at b_conflicts =
     let p = pool_of old in
     let t = choices_of old in
@@ -78,7 +78,7 @@ consistent_more old new c deps b consistent small is pool choices queue at with_
     let all_conflicting : new.with_conflicts.items ≡ filter (has_conflict_at p) t' =
     with_conflicts ∙ (ap (λ (z : List ℕ). z ++ (if list_any (λ (d : Dependency). d.conflict) deps then c ∷ [] else [])) consistent.with_conflicts
     ∙ (ap (λ (z : List Dependency). filter (has_conflict_at p) t ++ (if list_any (λ (d : Dependency). d.conflict) z then c ∷ [] else [])) is ∙ sym (filtered (has_conflict_at p) t (c ∷ [])))) in
-    let all_met : AreMet p t' new.at = subst (λ (k : ℕ). AreMet p t' k) (sym at) (met_more p t c old.at consistent.met) in
+    let all_met : AreMet p t' new.cursor = subst (λ (k : ℕ). AreMet p t' k) (sym at) (met_more p t c old.cursor consistent.met) in
     let all_saved : AreCheckpoints p [] t' new.checkpoints.items =
     subst (λ (z : List Checkpoint). AreCheckpoints p [] t' z) (sym checkpoints) (checkpoints_more p [] t old.checkpoints.items c b consistent.checkpoints before) in
     let all_within : (k : ℕ) → IsMember k t' → k < length p.candidates = λ k h. elim (in_append k t (c ∷ []) h) [
@@ -88,7 +88,7 @@ consistent_more old new c deps b consistent small is pool choices queue at with_
     record {
       within = λ k h. subst (λ (q : SealedPool). k < length q.candidates) (sym pool) (all_within k (subst (λ (z : List ℕ). IsMember k z) choices h));
       queue = all_queue ∙ (ap (queue_of p) (sym choices) ∙ ap (λ (q : SealedPool). queue_of q (choices_of new)) (sym pool));
-      met = subst (λ (q : SealedPool). AreMet q (choices_of new) new.at) (sym pool) (subst (λ (z : List ℕ). AreMet p z new.at) (sym choices) all_met);
+      met = subst (λ (q : SealedPool). AreMet q (choices_of new) new.cursor) (sym pool) (subst (λ (z : List ℕ). AreMet p z new.cursor) (sym choices) all_met);
       with_conflicts = all_conflicting ∙ (ap (filter (has_conflict_at p)) (sym choices) ∙ ap (λ (q : SealedPool). filter (has_conflict_at q) (choices_of new)) (sym pool));
       checkpoints = subst (λ (q : SealedPool). AreCheckpoints q [] (choices_of new) new.checkpoints.items) (sym pool) (subst (λ (z : List ℕ). AreCheckpoints p [] z new.checkpoints.items) (sym choices) all_saved);
     }
@@ -105,7 +105,7 @@ met_start pool t = (omega arith, ap (find (is_unmet_dep pool t)) (take_none (que
 abbrev of_world : Dependency → RaisedDepValue
 of_world d = (d, None)
 
-pub consistent_start : (chosen : Choices) → choices_of chosen ≡ [] → chosen.queue.items ≡ [] ++ raised_deps None (positive_entries_of (pool_of chosen).world) → chosen.at ≡ 0 → chosen.with_conflicts.items ≡ [] → chosen.checkpoints.items ≡ [] → IsConsistent chosen
+pub consistent_start : (chosen : Choices) → choices_of chosen ≡ [] → chosen.queue.items ≡ [] ++ raised_deps None (positive_entries_of (pool_of chosen).world) → chosen.cursor ≡ 0 → chosen.with_conflicts.items ≡ [] → chosen.checkpoints.items ≡ [] → IsConsistent chosen
 consistent_start chosen none queue at with_conflicts checkpoints =
     let p = pool_of chosen in
     let all : raised_deps None (positive_entries_of p.world) ≡ queue_of p [] =
@@ -120,14 +120,14 @@ consistent_start chosen none queue at with_conflicts checkpoints =
 
 -- ---- the cursor
 
-pub consistent_on : (old new : Choices) → IsConsistent old → pool_of new ≡ pool_of old → choices_of new ≡ choices_of old → new.queue.items ≡ old.queue.items → new.with_conflicts.items ≡ old.with_conflicts.items → new.checkpoints.items ≡ old.checkpoints.items → AreMet (pool_of old) (choices_of old) new.at → IsConsistent new
+pub consistent_on : (old new : Choices) → IsConsistent old → pool_of new ≡ pool_of old → choices_of new ≡ choices_of old → new.queue.items ≡ old.queue.items → new.with_conflicts.items ≡ old.with_conflicts.items → new.checkpoints.items ≡ old.checkpoints.items → AreMet (pool_of old) (choices_of old) new.cursor → IsConsistent new
 consistent_on old new consistent pool choices queue with_conflicts checkpoints met =
     let p = pool_of old in
     let t = choices_of old in
     record {
       within = λ k h. subst (λ (q : SealedPool). k < length q.candidates) (sym pool) (consistent.within k (subst (λ (z : List ℕ). IsMember k z) choices h));
       queue = queue ∙ (consistent.queue ∙ (ap (queue_of p) (sym choices) ∙ ap (λ (q : SealedPool). queue_of q (choices_of new)) (sym pool)));
-      met = subst (λ (q : SealedPool). AreMet q (choices_of new) new.at) (sym pool) (subst (λ (z : List ℕ). AreMet p z new.at) (sym choices) met);
+      met = subst (λ (q : SealedPool). AreMet q (choices_of new) new.cursor) (sym pool) (subst (λ (z : List ℕ). AreMet p z new.cursor) (sym choices) met);
       with_conflicts = with_conflicts ∙ (consistent.with_conflicts ∙ (ap (filter (has_conflict_at p)) (sym choices) ∙ ap (λ (q : SealedPool). filter (has_conflict_at q) (choices_of new)) (sym pool)));
       checkpoints = subst (λ (q : SealedPool). AreCheckpoints q [] (choices_of new) new.checkpoints.items) (sym pool) (subst (λ (z : List ℕ). AreCheckpoints p [] z new.checkpoints.items) (sym choices) (subst (λ (z : List Checkpoint). AreCheckpoints p [] t z) (sym checkpoints) consistent.checkpoints));
     }

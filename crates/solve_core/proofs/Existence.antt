@@ -6,7 +6,7 @@ use Rattle.pool_core.specs.Candidates.{Need}
 use Rattle.pool_core.specs.Rank.{SealedPool, is_eligible_at}
 use Rattle.pool_core.specs.Options.{IsMember, options_for}
 use Rattle.solve_core.specs.Selection.{exclude_each_other, next_need}
-use Rattle.solve_core.specs.Reasons.{IsConflictFree}
+use Rattle.solve_core.specs.Reasons.{AreCompatible}
 use Rattle.solve_core.proofs.Theory as law
 use Rattle.solve_core.proofs.Theory.{in_left, in_right, in_append, none_or_some, removed}
 use Rattle.solve_core.proofs.Turns.{PoolFacts}
@@ -43,8 +43,8 @@ module _ (pool : SealedPool) (facts : PoolFacts pool) where
   ])
 
   -- the options of a need, one after the other
-  over_options : (t : List ℕ) (q : Need) → next_need pool t ≡ Some q → IsConflictFree pool t → law.Led facts [] t
-      → ((y : ℕ) → is_eligible_at pool y ≡ true → (IsMember y t → ⊥) → IsConflictFree pool (t ++ y ∷ []) → law.Led facts [] (t ++ y ∷ []) → Found ⊎ law.Dead facts (t ++ y ∷ []))
+  over_options : (t : List ℕ) (q : Need) → next_need pool t ≡ Some q → AreCompatible pool t → law.Led facts [] t
+      → ((y : ℕ) → is_eligible_at pool y ≡ true → (IsMember y t → ⊥) → AreCompatible pool (t ++ y ∷ []) → law.Led facts [] (t ++ y ∷ []) → Found ⊎ law.Dead facts (t ++ y ∷ []))
       → (xs ys : List ℕ) → options_for pool q ≡ xs ++ ys → law.AllDead facts t xs → Found ⊎ law.Dead facts t
   over_options t q e clean led deeper xs [] is dead = inr (law.open_spent facts t xs (q, e, is, dead))
   over_options t q e clean led deeper xs (y ∷ ys) is dead =
@@ -64,7 +64,7 @@ module _ (pool : SealedPool) (facts : PoolFacts pool) where
       ]
 
   -- behind some choices, where R holds each other candidate that may be selected
-  explore : (fuel : ℕ) (R t : List ℕ) → length R ≤ fuel → ((c : ℕ) → is_eligible_at pool c ≡ true → IsMember c t ⊎ IsMember c R) → IsConflictFree pool t → law.Led facts [] t → Found ⊎ law.Dead facts t
+  explore : (fuel : ℕ) (R t : List ℕ) → length R ≤ fuel → ((c : ℕ) → is_eligible_at pool c ≡ true → IsMember c t ⊎ IsMember c R) → AreCompatible pool t → law.Led facts [] t → Found ⊎ law.Dead facts t
   explore zero R t len parts clean led = elim (none_or_some (next_need pool t)) [
     | inl e ↦ inl (t, law.first_of_led facts t led clean e)
     | inr some ↦ over_options t some.0 some.1 clean led (λ y good new clean' led'. elim (parts y good) [

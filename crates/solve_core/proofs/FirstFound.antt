@@ -4,7 +4,7 @@ use Rattle.std.specs.Prelude.{Option, Some, None, MatchOption, refl}
 use Rattle.pool_core.specs.Candidates.{Need}
 use Rattle.pool_core.specs.Rank.{SealedPool}
 use Rattle.solve_core.specs.Selection.{IsSatisfying, IsFirstSelection, next_need}
-use Rattle.solve_core.specs.Reasons.{FrameValue, IsConflictFree, IsReason, AreTurnsFrom, choices_in}
+use Rattle.solve_core.specs.Reasons.{FrameValue, AreCompatible, IsReason, AreTurnsFrom, choices_in}
 use Rattle.solve_core.specs.Choices.{IsSearch, HasOptions, choices_of, pool_of}
 use Rattle.solve_core.specs.declared.choices.Choices.{Choices}
 use Rattle.solve_core.proofs.Turns.{turns_found}
@@ -16,7 +16,7 @@ first_found pool has chosen turns search same end =
     let facts = pool_facts pool has in
     let t = choices_in turns in
     let taken : AreTurnsFrom pool [] turns = subst (λ (p : SealedPool). AreTurnsFrom p [] turns) same search.taken in
-    let clean : IsConflictFree pool t = subst (λ (p : SealedPool). IsConflictFree p t) same (subst (λ (z : List ℕ). IsConflictFree (pool_of chosen) z) search.choices search.clean) in
+    let clean : AreCompatible pool t = subst (λ (p : SealedPool). AreCompatible p t) same (subst (λ (z : List ℕ). AreCompatible (pool_of chosen) z) search.choices search.clean) in
     let none : next_need pool t ≡ None = subst (λ (p : SealedPool). next_need p t ≡ None) same (subst (λ (z : List ℕ). next_need (pool_of chosen) z ≡ None) search.choices end) in
     let all = turns_found pool facts turns taken clean none in
     let found : IsFirstSelection pool t = record {

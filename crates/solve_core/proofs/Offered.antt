@@ -6,7 +6,7 @@ use Rattle.std.specs.List.{list_any}
 use Rattle.std.specs.Str.{bytes_eq}
 use Rattle.dep_core.specs.Dependency.{Dependency}
 use Rattle.dep_core.specs.Meets.{is_wanted}
-use Rattle.pool_core.specs.Candidates.{Candidate, entry, is_met_by_entry, named, meets_dependency, meets_itself, offers_name}
+use Rattle.pool_core.specs.Candidates.{Candidate, entry, is_met_by_entry, named, meets_dependency, meets_by_own_name, offers_name}
 use Rattle.pool_core.specs.Rank.{SealedPool, meets_at}
 use Rattle.pool_core.specs.Options.{IsMember, places_offering, places_from}
 use Rattle.solve_core.specs.Selection.{is_met}
@@ -42,7 +42,7 @@ pub offered_below : (name : List ℕ) (cs : List Candidate) (k d : ℕ) → k < 
 offered_below name cs k d h = let r = places_below 0 (offers_name name) cs k d h in omega arith
 
 meets_offers : (d : Dependency) (c : Candidate) → meets_dependency d c ≡ true → offers_name d.name c ≡ true
-meets_offers d c h = elim (or_true (meets_itself d c) (list_any (is_met_by_entry d) c.provides) h) [
+meets_offers d c h = elim (or_true (meets_by_own_name d c) (list_any (is_met_by_entry d) c.provides) h) [
   | inl e ↦ true_or (bytes_eq d.name c.name) _ (inl (and_true (bytes_eq d.name c.name) (is_wanted d.version d.bits c.version) e).0)
   | inr e ↦
       let a = any_one (is_met_by_entry d) c.provides e in

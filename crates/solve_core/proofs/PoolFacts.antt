@@ -10,7 +10,7 @@ use Rattle.pool_core.specs.Candidates.{Candidate, Need, entry, has_usable_instal
 use Rattle.pool_core.specs.Rank.{SealedPool, byte_cmp, is_eligible_at, is_better, meets_at}
 use Rattle.pool_core.specs.Options.{IsMember, IsBestFirst, options_for}
 use Rattle.solve_core.specs.Selection.{AreMembers, AreDistinct, exclude_each_other, names_by_install_if, install_if_applies, depends_at, is_met, is_unmet, keeps_out, least_name, lesser_name, needs, positive_needs, next_need, raised_needs}
-use Rattle.solve_core.specs.Reasons.{IsConflictFree}
+use Rattle.solve_core.specs.Reasons.{AreCompatible}
 use Rattle.solve_core.specs.Choices.{HasOptions}
 use Rattle.solve_core.proofs.Theory.{Sorted, sorted_split, in_left, in_right, in_append}
 use Rattle.solve_core.proofs.Turns.{PoolFacts}
@@ -253,7 +253,7 @@ module _ (pool : SealedPool) where
   last_is P c o h (inl e) = subst P (sym e) h
   last_is P c o h (inr bad) = absurd bad
 
-  clean_more : (t : List ℕ) (c : ℕ) → IsConflictFree pool t → is_eligible_at pool c ≡ true → (IsMember c t → ⊥) → ((m : ℕ) → IsMember m t → exclude_each_other pool m c ≡ true → ⊥) → IsConflictFree pool (t ++ c ∷ [])
+  clean_more : (t : List ℕ) (c : ℕ) → AreCompatible pool t → is_eligible_at pool c ≡ true → (IsMember c t → ⊥) → ((m : ℕ) → IsMember m t → exclude_each_other pool m c ≡ true → ⊥) → AreCompatible pool (t ++ c ∷ [])
   clean_more t c clean eligible out free = (
     distinct_more t c clean.0 out,
     (λ o h. elim (in_append o t (c ∷ []) h) [

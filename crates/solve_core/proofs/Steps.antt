@@ -5,7 +5,7 @@ use Rattle.pool_core.specs.Candidates.{Need}
 use Rattle.pool_core.specs.Rank.{SealedPool}
 use Rattle.pool_core.specs.Options.{IsMember, options_for}
 use Rattle.solve_core.specs.Selection.{AreMembers, AreDistinct, exclude_each_other}
-use Rattle.solve_core.specs.Reasons.{IsConflictFree, IsReason, RulesOut, FrameValue, options_in, AreRuledOut, IsFrameOf, IsSpentFrame, IsFrameTaking, AreTurnsFrom, choices_in, others_in, dead_end_reason, HasSameMembers}
+use Rattle.solve_core.specs.Reasons.{AreCompatible, IsReason, RulesOut, FrameValue, options_in, AreRuledOut, IsFrameOf, IsSpentFrame, IsFrameTaking, AreTurnsFrom, choices_in, others_in, dead_end_reason, HasSameMembers}
 use Rattle.solve_core.specs.Choices.{IsSearch, HasOptions, IsConsistent, choices_of, pool_of}
 use Rattle.solve_core.specs.declared.choices.Choices.{Choices}
 use Rattle.solve_core.proofs.Theory as law
@@ -31,7 +31,7 @@ module _ (pool : SealedPool) where
   )
 
   -- a fitting option joins the choices
-  pub fits_in : ((need : Need) → HasOptions pool need) → (t : List ℕ) (g : FrameValue) (c : ℕ) → IsFrameTaking pool t g c → IsConflictFree pool t → ((m : ℕ) → IsMember m t → exclude_each_other pool m c ≡ false) → IsConflictFree pool (t ++ c ∷ [])
+  pub fits_in : ((need : Need) → HasOptions pool need) → (t : List ℕ) (g : FrameValue) (c : ℕ) → IsFrameTaking pool t g c → AreCompatible pool t → ((m : ℕ) → IsMember m t → exclude_each_other pool m c ≡ false) → AreCompatible pool (t ++ c ∷ [])
   fits_in has t g c taken clean free =
       law.take_clean (pool_facts pool has) t (options_in g.0) g.1 c (taken.0, taken.1, taken.2, law_dead) clean (λ m h bad. let no : exclude_each_other pool m c ≡ false = free m h in absurd (cc))
     where
@@ -43,7 +43,7 @@ module _ (pool : SealedPool) where
   distinct_front (x ∷ t) c d = ((λ h. d.0 (in_left x t (c ∷ []) h)), distinct_front t c d.1)
 
   -- fewer choices are clean too
-  pub clean_less : (t : List ℕ) (c : ℕ) → IsConflictFree pool (t ++ c ∷ []) → IsConflictFree pool t
+  pub clean_less : (t : List ℕ) (c : ℕ) → AreCompatible pool (t ++ c ∷ []) → AreCompatible pool t
   clean_less t c clean = (
     distinct_front t c clean.0,
     λ o h. clean.1 o (in_left o t (c ∷ []) h),
@@ -80,11 +80,11 @@ module _ (pool : SealedPool) where
   pub dead_same : (xs ys : List ℕ) → HasSameMembers ys xs → IsReason pool xs → IsReason pool ys
   dead_same xs ys same dead S closed inside = dead S closed (λ c h. inside c (same.1 c h))
 
-pub searching_more : (old new : Choices) (turns : List (FrameValue × ℕ)) (f : FrameValue) (c : ℕ) → IsSearch old turns → IsFrameTaking (pool_of old) (choices_of old) f c → IsConflictFree (pool_of old) (choices_of old ++ c ∷ []) → IsConsistent new → pool_of new ≡ pool_of old → choices_of new ≡ choices_of old ++ c ∷ [] → IsSearch new (turns ++ (f, c) ∷ [])
+pub searching_more : (old new : Choices) (turns : List (FrameValue × ℕ)) (f : FrameValue) (c : ℕ) → IsSearch old turns → IsFrameTaking (pool_of old) (choices_of old) f c → AreCompatible (pool_of old) (choices_of old ++ c ∷ []) → IsConsistent new → pool_of new ≡ pool_of old → choices_of new ≡ choices_of old ++ c ∷ [] → IsSearch new (turns ++ (f, c) ∷ [])
 searching_more old new turns f c search taken clean consistent pool choices = record {
   consistent = consistent;
   choices = choices ∙ (ap (λ (z : List ℕ). z ++ c ∷ []) search.choices ∙ sym (choices-append turns f c));
-  clean = subst (λ (p : SealedPool). IsConflictFree p (choices_of new)) (sym pool) (subst (λ (z : List ℕ). IsConflictFree (pool_of old) z) (sym choices) clean);
+  clean = subst (λ (p : SealedPool). AreCompatible p (choices_of new)) (sym pool) (subst (λ (z : List ℕ). AreCompatible (pool_of old) z) (sym choices) clean);
   taken = subst (λ (p : SealedPool). AreTurnsFrom p [] (turns ++ (f, c) ∷ [])) (sym pool) (turns_more (pool_of old) [] turns f c search.taken (subst (λ (z : List ℕ). IsFrameTaking (pool_of old) z f c) search.choices taken));
 }
 
@@ -97,7 +97,7 @@ searching_less old new turns f c search consistent pool popped =
       record {
         consistent = consistent;
         choices = now;
-        clean = subst (λ (p : SealedPool). IsConflictFree p (choices_of new)) (sym pool) (subst (λ (z : List ℕ). IsConflictFree (pool_of old) z) (sym now) (clean_less (pool_of old) (choices_in turns) c (subst (λ (z : List ℕ). IsConflictFree (pool_of old) z) was search.clean)));
+        clean = subst (λ (p : SealedPool). AreCompatible p (choices_of new)) (sym pool) (subst (λ (z : List ℕ). AreCompatible (pool_of old) z) (sym now) (clean_less (pool_of old) (choices_in turns) c (subst (λ (z : List ℕ). AreCompatible (pool_of old) z) was search.clean)));
         taken = subst (λ (p : SealedPool). AreTurnsFrom p [] turns) (sym pool) parts.0;
       },
       subst (λ (p : SealedPool). IsFrameTaking p (choices_of new) f c) (sym pool) (subst (λ (z : List ℕ). IsFrameTaking (pool_of old) z f c) (sym now) parts.1),

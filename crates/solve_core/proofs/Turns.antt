@@ -5,14 +5,14 @@ use Rattle.pool_core.specs.Candidates.{Need}
 use Rattle.pool_core.specs.Rank.{SealedPool, is_eligible_at, is_better, meets_at}
 use Rattle.pool_core.specs.Options.{IsMember, options_for}
 use Rattle.solve_core.specs.Selection.{AreMembers, exclude_each_other, needs, next_need}
-use Rattle.solve_core.specs.Reasons.{IsConflictFree, RulesOut, FrameValue, options_in, AreRuledOut, IsFrameOf, IsFrameTaking, AreTurnsFrom, choices_in}
+use Rattle.solve_core.specs.Reasons.{AreCompatible, RulesOut, FrameValue, options_in, AreRuledOut, IsFrameOf, IsFrameTaking, AreTurnsFrom, choices_in}
 use Rattle.solve_core.proofs.Theory as law
 use Rattle.solve_core.proofs.Theory.{Facts, in_left, in_right, in_append}
 
 abbrev pub PoolFacts : SealedPool → Type 0
 PoolFacts pool =
     Facts Need (next_need pool) (λ chosen q. IsMember q (needs pool chosen)) (λ c q. meets_at pool c q ≡ true)
-    (λ c. is_eligible_at pool c ≡ true) (IsConflictFree pool) (λ a b. exclude_each_other pool a b ≡ true) (options_for pool)
+    (λ c. is_eligible_at pool c ≡ true) (AreCompatible pool) (λ a b. exclude_each_other pool a b ≡ true) (options_for pool)
     (λ q a b. is_better pool q a b ≡ true)
 
 module _ (pool : SealedPool) (facts : PoolFacts pool) where
@@ -37,7 +37,7 @@ module _ (pool : SealedPool) (facts : PoolFacts pool) where
         turns_led (u ++ turn.1 ∷ []) turns taken.1,
       )
 
-  pub turns_found : (turns : List (FrameValue × ℕ)) → AreTurnsFrom pool [] turns → IsConflictFree pool (choices_in turns) → next_need pool (choices_in turns) ≡ None → law.FirstAll facts (choices_in turns)
+  pub turns_found : (turns : List (FrameValue × ℕ)) → AreTurnsFrom pool [] turns → AreCompatible pool (choices_in turns) → next_need pool (choices_in turns) ≡ None → law.FirstAll facts (choices_in turns)
   turns_found turns taken clean end = law.first_of_led facts (choices_in turns) (turns_led [] turns taken) clean end
 
 pub choices-append : (turns : List (FrameValue × ℕ)) (f : FrameValue) (c : ℕ) → choices_in (turns ++ (f, c) ∷ []) ≡ choices_in turns ++ c ∷ []

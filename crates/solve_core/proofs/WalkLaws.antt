@@ -1,15 +1,15 @@
 -- What the walks of satisfying selections keep.
-use Rattle.std.proofs.Common.{◌≡◌, ◌⊎◌, inl, inr, ℕ, ◌+◌, Bool, true, false, List, [], ◌∷◌, ◌++◌, refl, sym, subst, ap, ◌∙◌, arith}
+use Rattle.std.proofs.Common.{◌≡◌, ◌⊎◌, inl, inr, ℕ, ◌+◌, Bool, true, false, List, [], ◌∷◌, ◌++◌, append_assoc, append-nil, refl, sym, subst, ap, ◌∙◌, arith}
 use Rattle.std.specs.Prelude.{Some}
 use Rattle.std.specs.Cmp.{IsTotalOrder}
 use Rattle.std.specs.Ordering.{is_lt, ordering_reverse}
 use Rattle.std.specs.declared.cmp.Ordering.{Ordering}
 use Rattle.std.specs.declared.cmp.Ordering.TheVariants.{Less, Equal, Greater}
 use Rattle.pool_core.specs.Candidates.{Need, is_eligible}
-use Rattle.pool_core.specs.Rank.{SealedPool, is_better, rank_cmp}
+use Rattle.pool_core.specs.Rank.{SealedPool, is_better, meets_at, rank_cmp}
 use Rattle.pool_core.specs.Options.{IsBestFirst, IsMember, options_for, places_from}
 use Rattle.solve_core.specs.Choices.{HasOptions}
-use Rattle.solve_core.specs.Selection.{ComesBefore, ComesBeforeFrom, IsFirstSelection, IsSatisfying, IsWalk, next_need}
+use Rattle.solve_core.specs.Selection.{AreMembers, ComesBefore, ComesBeforeFrom, IsFirstSelection, IsSatisfying, IsWalk, IsWalkFrom, next_need}
 use Rattle.solve_core.proofs.Theory as law
 use Rattle.solve_core.proofs.Turns.{PoolFacts}
 use Rattle.solve_core.proofs.PoolFacts.{pool_facts}
@@ -84,6 +84,58 @@ module _ (pool : SealedPool) (total : (need : Need) → IsTotalOrder (rank_cmp p
 
     pub before_is_transitive : (a b c : List ℕ) → ComesBefore pool a b → ComesBefore pool b c → ComesBefore pool a c
     before_is_transitive a b c x y = before_chain [] a b c x y
+
+    -- of a selection that has the choices in front and another option, the walk takes these choices
+    -- too, and then none that is better than the option
+    as_good : (trace selection u front rest w : List ℕ) (c o : ℕ) (need : Need) → IsWalkFrom pool trace u (front ++ c ∷ rest) → IsWalkFrom pool selection u w → (w ≡ front ++ c ∷ rest) ⊎ ComesBeforeFrom pool u (front ++ c ∷ rest) w → next_need pool (u ++ front) ≡ Some need → AreMembers (front ++ o ∷ []) selection → meets_at pool o need ≡ true → (o ≡ c) ⊎ (is_better pool need c o ≡ true)
+    as_good trace selection u [] rest [] c o need tw sw first next in_it meets = elim first [
+      | inl e ↦ absurd (cc)
+      | inr b ↦ absurd b
+    ]
+    as_good trace selection u [] rest (d ∷ w) c o need tw sw first next in_it meets =
+        let next_here : next_need pool u ≡ Some need = subst (λ (z : List ℕ). next_need pool z ≡ Some need) (append-nil u) next in
+        let same : sw.0 ≡ need = same_need sw.0 need u sw.1 next_here in
+        let meets_here : meets_at pool o sw.0 ≡ true = subst (λ (q : Need). meets_at pool o q ≡ true) (sym same) meets in
+        let best : (o ≡ d) ⊎ (is_better pool need d o ≡ true) = subst (λ (q : Need). (o ≡ d) ⊎ (is_better pool q d o ≡ true)) same (sw.2.2 o (in_it o (inl refl)) meets_here) in
+        elim first [
+          | inl e ↦ let is : d ≡ c = cc in subst (λ (z : ℕ). (o ≡ z) ⊎ (is_better pool need z o ≡ true)) is best
+          | inr b ↦ elim b [
+            | inl better ↦
+                let ahead : is_better pool need c d ≡ true = subst (λ (q : Need). is_better pool q c d ≡ true) (same_need better.0 need u better.1 next_here) better.2 in
+                elim best [
+                  | inl e ↦ inr (subst (λ (z : ℕ). is_better pool need c z ≡ true) (sym e) ahead)
+                  | inr more ↦ inr (chain need c d o ahead more)
+                ]
+            | inr on ↦ subst (λ (z : ℕ). (o ≡ z) ⊎ (is_better pool need z o ≡ true)) (sym on.0) best
+          ]
+        ]
+    as_good trace selection u (f ∷ front) rest [] c o need tw sw first next in_it meets = elim first [
+      | inl e ↦ absurd (cc)
+      | inr b ↦ absurd b
+    ]
+    as_good trace selection u (f ∷ front) rest (d ∷ w) c o need tw sw first next in_it meets =
+        let further : next_need pool ((u ++ f ∷ []) ++ front) ≡ Some need = subst (λ (z : List ℕ). next_need pool z ≡ Some need) (sym (append_assoc u (f ∷ []) front)) next in
+        let on : f ≡ d → (w ≡ front ++ c ∷ rest) ⊎ ComesBeforeFrom pool (u ++ f ∷ []) (front ++ c ∷ rest) w → (o ≡ c) ⊎ (is_better pool need c o ≡ true) = λ e after.
+        as_good trace selection (u ++ f ∷ []) front rest w c o need tw.3 (subst (λ (z : ℕ). IsWalkFrom pool selection (u ++ z ∷ []) w) (sym e) sw.3) after further (λ k h. in_it k (inr h)) meets in
+        elim first [
+          | inl e ↦ let is : f ≡ d = cc in let rest_is : w ≡ front ++ c ∷ rest = cc in on is (inl rest_is)
+          | inr b ↦ elim b [
+            | inl better ↦
+                let same : tw.0 ≡ sw.0 = same_need tw.0 sw.0 u tw.1 sw.1 in
+                let meets_here : meets_at pool f sw.0 ≡ true = subst (λ (q : Need). meets_at pool f q ≡ true) same tw.2.1 in
+                let ahead : is_better pool sw.0 f d ≡ true = subst (λ (q : Need). is_better pool q f d ≡ true) (same_need better.0 sw.0 u better.1 sw.1) better.2 in
+                elim (sw.2.2 f (in_it f (inl refl)) meets_here) [
+                  | inl e ↦ absurd (one_way sw.0 f d ahead (subst (λ (z : ℕ). is_better pool sw.0 d z ≡ true) (sym e) (subst (λ (z : ℕ). is_better pool sw.0 z d ≡ true) e ahead)))
+                  | inr back ↦ absurd (one_way sw.0 f d ahead back)
+                ]
+            | inr more ↦ on more.0 (inr more.1)
+          ]
+        ]
+
+    pub best_completed : (front rest selection : List ℕ) (c o : ℕ) (need : Need) → IsFirstSelection pool (front ++ c ∷ rest) → next_need pool front ≡ Some need → IsSatisfying pool selection → AreMembers (front ++ o ∷ []) selection → meets_at pool o need ≡ true → (o ≡ c) ⊎ (is_better pool need c o ≡ true)
+    best_completed front rest selection c o need first next s in_it meets =
+        let walk = has_a_walk selection s in
+        as_good (front ++ c ∷ rest) selection [] front rest walk.0 c o need first.walked walk.1 (first.first selection walk.0 s walk.1) next in_it meets
 
     pub first_is_unique : (a b : List ℕ) → IsFirstSelection pool a → IsFirstSelection pool b → a ≡ b
     first_is_unique a b fa fb = elim (fa.first b b fb.satisfies fb.walked) [

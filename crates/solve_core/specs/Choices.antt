@@ -6,7 +6,7 @@ use Rattle.pool_core.specs.Options.{IsMember, IsBestFirst, options_for}
 use Rattle.std.specs.List.{filter}
 use Rattle.solve_core.specs.Queue.{AreMet, has_conflict_at, queue_of}
 use Rattle.solve_core.specs.declared.queue.Checkpoint.{Checkpoint}
-use Rattle.solve_core.specs.Reasons.{FrameValue, IsConflictFree, AreTurnsFrom, choices_in}
+use Rattle.solve_core.specs.Reasons.{FrameValue, AreCompatible, AreTurnsFrom, choices_in}
 use Rattle.solve_core.specs.declared.choices.Choices.{Choices}
 
 abbrev pub pool_of : Choices → SealedPool
@@ -22,7 +22,7 @@ AreCheckpoints pool u [] [] = Unit {0}
 AreCheckpoints pool u [] (b ∷ bs) = ⊥
 AreCheckpoints pool u (c ∷ cs) [] = ⊥
 AreCheckpoints pool u (c ∷ cs) (b ∷ bs) =
-    (b.queue ≡ length (queue_of pool u)) × AreMet pool u b.at × (b.with_conflicts
+    (b.queue_len ≡ length (queue_of pool u)) × AreMet pool u b.cursor × (b.with_conflicts_len
     ≡ length (filter (has_conflict_at pool) u))
     × AreCheckpoints pool (u ++ c ∷ []) cs bs
 
@@ -31,7 +31,7 @@ AreCheckpoints pool u (c ∷ cs) (b ∷ bs) =
 pub record IsConsistent (chosen : Choices) : Type 0 where
   pub within : (c : ℕ) → IsMember c (choices_of chosen) → c < length (pool_of chosen).candidates
   pub queue : chosen.queue.items ≡ queue_of (pool_of chosen) (choices_of chosen)
-  pub met : AreMet (pool_of chosen) (choices_of chosen) chosen.at
+  pub met : AreMet (pool_of chosen) (choices_of chosen) chosen.cursor
   pub with_conflicts : chosen.with_conflicts.items ≡ filter (has_conflict_at (pool_of chosen))
       (choices_of chosen)
   pub checkpoints : AreCheckpoints (pool_of chosen) [] (choices_of chosen) chosen.checkpoints.items
@@ -40,7 +40,7 @@ pub record IsConsistent (chosen : Choices) : Type 0 where
 pub record IsSearch (chosen : Choices) (turns : List (FrameValue × ℕ)) : Type 0 where
   pub consistent : IsConsistent chosen
   pub choices : choices_of chosen ≡ choices_in turns
-  pub clean : IsConflictFree (pool_of chosen) (choices_of chosen)
+  pub clean : AreCompatible (pool_of chosen) (choices_of chosen)
   pub taken : AreTurnsFrom (pool_of chosen) [] turns
 
 -- what a pool promises of the options of a need

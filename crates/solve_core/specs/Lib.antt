@@ -1,6 +1,6 @@
--- what the contract of `apk` says
+-- what the contract of `solve` cites
 pub mod Selection
--- what only inner contracts and proofs use
+-- what only serves proofs
 pub mod Reasons
 pub mod Queue
 pub mod InstallIf

@@ -7,14 +7,14 @@ use Rattle.pool_core.specs.Options.{IsMember, options_for}
 use Rattle.solve_core.specs.Selection.{AreMembers, AreDistinct, exclude_each_other, needs, next_need}
 
 -- each member may be selected, none stands twice, and no two exclude each other
-abbrev pub IsConflictFree : SealedPool → List ℕ → Type 0
-IsConflictFree pool chosen =
+abbrev pub AreCompatible : SealedPool → List ℕ → Type 0
+AreCompatible pool chosen =
     AreDistinct chosen × ((c : ℕ) → IsMember c chosen → is_eligible_at pool c ≡ true)
     × ((a b : ℕ) → IsMember a chosen → IsMember b chosen → exclude_each_other pool a b ≡ true → ⊥)
 
 -- satisfying, as the search sees it
 abbrev pub IsSolution : SealedPool → List ℕ → Type 0
-IsSolution pool selection = IsConflictFree pool selection × (next_need pool selection ≡ None)
+IsSolution pool selection = AreCompatible pool selection × (next_need pool selection ≡ None)
 
 -- a reason
 abbrev pub IsReason : SealedPool → List ℕ → Type 0

@@ -99,8 +99,8 @@ exclude_each_other pool a b = not (a == b) && (keeps_out pool a b || keeps_out p
 -- ---- satisfying selections
 
 -- a selection satisfies the world: its members are different and may be selected; each entry of
--- world and each dependency of a member is met; no conflict of a member is met by another; each name
--- is occupied by one member at most; and each name whose install-if applies is a member's
+-- world and each dependency of a member is met; no conflict of a member is met by another; each
+-- name is occupied by one member at most; and each name whose install-if applies is a member's
 pub record IsSatisfying (pool : SealedPool) (selection : List ℕ) : Type 0 where
   pub once : AreDistinct selection
   pub eligible : (c : ℕ) → IsMember c selection → is_eligible_at pool c ≡ true

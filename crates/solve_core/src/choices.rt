@@ -31,7 +31,7 @@ pub(crate) struct Choices<'p> {
     pool: &'p Sealed<'p>,
     choices: CandidateSet,
     queue: Vec<RaisedDep<'p>>,
-    at: usize,
+    cursor: usize,
     checkpoints: Vec<Checkpoint>,
     with_conflicts: Vec<CandId>,
 }
@@ -50,7 +50,7 @@ impl<'p> Choices<'p> {
             pool,
             choices: CandidateSet::new(alloc),
             queue,
-            at: 0,
+            cursor: 0,
             checkpoints: Vec::new(alloc),
             with_conflicts: Vec::new(alloc),
         })
@@ -66,9 +66,9 @@ impl<'p> Choices<'p> {
         ensures choices { OnOk result (choices_of self.new ≡ choices_of self.old ++ id ∷ []) }
     {
         let before = Checkpoint {
-            queue: self.queue.len(),
-            at: self.at,
-            with_conflicts: self.with_conflicts.len(),
+            queue_len: self.queue.len(),
+            cursor: self.cursor,
+            with_conflicts_len: self.with_conflicts.len(),
         };
         let deps = self.pool.details(id).depends().as_slice();
         queue_all(&mut self.queue, deps, id)?;
@@ -88,9 +88,9 @@ impl<'p> Choices<'p> {
     {
         if let Some(before) = self.checkpoints.pop() {
             self.choices.pop();
-            self.queue.truncate(before.queue);
-            self.with_conflicts.truncate(before.with_conflicts);
-            self.at = before.at;
+            self.queue.truncate(before.queue_len);
+            self.with_conflicts.truncate(before.with_conflicts_len);
+            self.cursor = before.cursor;
         }
     }
 
@@ -124,12 +124,12 @@ impl<'p> Choices<'p> {
         ensures consistent { IsConsistent self.new }
         ensures pool { pool_of self.new ≡ pool_of self.old }
         ensures choices { choices_of self.new ≡ choices_of self.old }
-        ensures front { slice_get self.new.queue.items self.new.at
+        ensures front { slice_get self.new.queue.items self.new.cursor
             ≡ find (is_unmet_dep (pool_of self.old) (choices_of self.old)) (queue_of
             (pool_of self.old) (choices_of self.old)) }
     {
         while self.is_front_met() {
-            self.at += 1;
+            self.cursor += 1;
         }
     }
 
@@ -137,7 +137,7 @@ impl<'p> Choices<'p> {
     fn is_front_met(&self) -> bool
         requires { IsConsistent self.now }
         ensures { MatchBool result (AreMet (pool_of self.now) (choices_of self.now)
-            (self.now.at + 1)) (slice_get self.now.queue.items self.now.at
+            (self.now.cursor + 1)) (slice_get self.now.queue.items self.now.cursor
             ≡ find (is_unmet_dep (pool_of self.now) (choices_of self.now)) (queue_of
             (pool_of self.now) (choices_of self.now))) }
     {
@@ -149,9 +149,9 @@ impl<'p> Choices<'p> {
 
     // The raised dependency at the cursor, if the queue has one there.
     fn front(&self) -> Option<&RaisedDep<'p>>
-        ensures { option_copied result ≡ slice_get self.now.queue.items self.now.at }
+        ensures { option_copied result ≡ slice_get self.now.queue.items self.now.cursor }
     {
-        self.queue.get(self.at)
+        self.queue.get(self.cursor)
     }
 
     // The frame of the byte-least name whose install-if applies and that no choice has.

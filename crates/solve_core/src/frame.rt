@@ -7,12 +7,12 @@ use std::marker::Model;
 
 /// An option that is ruled out, and why: no satisfying selection holds it and all of the others.
 #[derive(Drop)]
-pub(crate) struct RuledOut {
+pub(crate) struct RuledOutOption {
     option: CandId,
     others: Vec<CandId>,
 }
 
-impl Model for RuledOut {
+impl Model for RuledOutOption {
     ghost use Rattle.std.specs.Prelude.{ℕ, List};
 
     ghost Value = { ℕ × List ℕ };
@@ -20,7 +20,7 @@ impl Model for RuledOut {
     ghost view = { λ ruled_out. (ruled_out.option, ruled_out.others.items) };
 }
 
-impl RuledOut {
+impl RuledOutOption {
     /// The option.
     pub(crate) fn option(&self) -> CandId
         ensures { result ≡ self.now.0 }
@@ -40,7 +40,7 @@ impl RuledOut {
 /// is ruled out with its reason; and the choices that raised the need.
 #[derive(Drop)]
 pub(crate) struct Frame {
-    ruled_out: Vec<RuledOut>,
+    ruled_out: Vec<RuledOutOption>,
     options: Vec<CandId>,
     next: usize,
     by: Vec<CandId>,
@@ -92,7 +92,7 @@ impl Frame {
           self.old.2,
         )) }
     {
-        self.ruled_out.push(RuledOut { option, others })?;
+        self.ruled_out.push(RuledOutOption { option, others })?;
         Ok(())
     }
 
@@ -104,14 +104,14 @@ impl Frame {
     }
 
     /// The options that are ruled out, with their reasons.
-    pub(crate) fn ruled_out(&self) -> &[RuledOut]
+    pub(crate) fn ruled_out(&self) -> &[RuledOutOption]
         ensures { result.now ≡ self.now.0 }
     {
         self.ruled_out.as_slice()
     }
 
     /// One of them, if there are so many.
-    pub(crate) fn ruled_out_at(&self, i: usize) -> Option<&RuledOut>
+    pub(crate) fn ruled_out_at(&self, i: usize) -> Option<&RuledOutOption>
         ensures { IfSome result (λ ruled_out. slice_get self.now.0 i ≡ Some ruled_out.now) }
     {
         if i < self.ruled_out.len() {

@@ -1,8 +1,9 @@
 //! What the definitions of selections and walks keep, each as the contract of a function that does
 //! nothing.
-ghost use Rattle.std.specs.Prelude.{◌≡◌, ◌⊎◌, ℕ, List};
-ghost use Rattle.pool_core.specs.Rank.{SealedPool};
-ghost use Rattle.solve_core.specs.Selection.{ComesBefore, IsFirstSelection, IsSatisfying, IsWalk};
+ghost use Rattle.std.specs.Prelude.{◌≡◌, ◌⊎◌, ℕ, true, List, [], ◌∷◌, ◌++◌, Some};
+ghost use Rattle.pool_core.specs.Candidates.{Need};
+ghost use Rattle.pool_core.specs.Rank.{SealedPool, is_better, meets_at};
+ghost use Rattle.solve_core.specs.Selection.{AreMembers, ComesBefore, IsFirstSelection, IsSatisfying, IsWalk, next_need};
 
 use crate::selection::options_are_as_promised;
 use pool_core::rank_is_total;
@@ -58,6 +59,18 @@ pub fn the_first_selection_is_unique()
 pub fn a_first_selection_exists()
     ensures { (pool : SealedPool) (selection : List ℕ) →
         IsSatisfying pool selection → (trace : List ℕ) × IsFirstSelection pool trace }
+{
+    options_are_as_promised();
+    rank_is_total();
+}
+
+/// Each choice of the first selection is the best ranked candidate with which, and with the choices
+/// before it, the world can still be satisfied.
+pub fn each_choice_is_the_best_that_can_be_completed()
+    ensures { (pool : SealedPool) (front rest selection : List ℕ) (c o : ℕ) (need : Need) →
+        IsFirstSelection pool (front ++ c ∷ rest) → next_need pool front ≡ Some need →
+        IsSatisfying pool selection → AreMembers (front ++ o ∷ []) selection →
+        meets_at pool o need ≡ true → (o ≡ c) ⊎ (is_better pool need c o ≡ true) }
 {
     options_are_as_promised();
     rank_is_total();

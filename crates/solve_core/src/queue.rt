@@ -49,9 +49,9 @@ impl<'p> RaisedDep<'p> {
 /// Where the lists and the cursor stood before a choice.
 #[derive(Clone, Copy)]
 pub(crate) struct Checkpoint {
-    pub(crate) queue: usize,
-    pub(crate) at: usize,
-    pub(crate) with_conflicts: usize,
+    pub(crate) queue_len: usize,
+    pub(crate) cursor: usize,
+    pub(crate) with_conflicts_len: usize,
 }
 
 /// Queues what world asks for.

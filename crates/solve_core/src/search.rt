@@ -2,13 +2,13 @@
 ghost use Rattle.std.specs.Prelude.{◌≡◌, ◌<◌, ◌^◌, ◌≤◌, ◌==◌, not, filter, ℕ, [], ◌∷◌, ◌++◌, false, true, length, IfOk, OnOk, IfSome, MatchOption, None, Some, slice_get};
 ghost use Rattle.pool_core.specs.Options.{IsMember};
 ghost use Rattle.solve_core.specs.Selection.{AreMembers, exclude_each_other, next_need};
-ghost use Rattle.solve_core.specs.Reasons.{IsConflictFree, IsReason, HasSameMembers, RulesOut, IsFrameOf, IsSpentFrame, IsFrameTaking, dead_end_reason};
+ghost use Rattle.solve_core.specs.Reasons.{AreCompatible, IsReason, HasSameMembers, RulesOut, IsFrameOf, IsSpentFrame, IsFrameTaking, dead_end_reason};
 ghost use Rattle.solve_core.specs.Measure.{weight_of};
 ghost use Rattle.solve_core.specs.Choices.{IsSearch, choices_of, pool_of};
 
 use crate::candidate_set::CandidateSet;
 use crate::choices::Choices;
-use crate::frame::{Frame, RuledOut};
+use crate::frame::{Frame, RuledOutOption};
 use crate::selection::{Trace, options_are_as_promised};
 use pool_core::{CandId, Sealed};
 use std::alloc::{AllocError, Global};
@@ -31,7 +31,7 @@ impl Model for Turn {
 
 impl Turn {
     // One of the options ruled out there, if there are so many.
-    fn ruled_out_at(&self, i: usize) -> Option<&RuledOut>
+    fn ruled_out_at(&self, i: usize) -> Option<&RuledOutOption>
         ensures { IfSome result (λ ruled_out. slice_get self.now.0.0 i ≡ Some ruled_out.now) }
     {
         self.frame.ruled_out_at(i)
@@ -155,7 +155,7 @@ impl<'p> Search<'p> {
         ensures found { IfOk result (λ found. MatchOption found (IsSpentFrame
             (pool_of self.old.chosen) (choices_of self.old.chosen) top.new)
             (λ id. IsFrameTaking (pool_of self.old.chosen) (choices_of self.old.chosen) top.new id
-            × IsConflictFree (pool_of self.old.chosen)
+            × AreCompatible (pool_of self.old.chosen)
             (choices_of self.old.chosen ++ id ∷ []))) }
         ensures fewer { IfOk result (λ found. MatchOption found
             (length top.new.1 ≤ length top.old.1) (λ _. length top.new.1 < length top.old.1)) }
@@ -182,7 +182,7 @@ impl<'p> Search<'p> {
         requires search { IsSearch self.old.chosen self.old.turns.items }
         requires taken { IsFrameTaking (pool_of self.old.chosen)
             (choices_of self.old.chosen) frame choice }
-        requires clean { IsConflictFree (pool_of self.old.chosen) (choices_of self.old.chosen
+        requires clean { AreCompatible (pool_of self.old.chosen) (choices_of self.old.chosen
             ++ choice ∷ []) }
         ensures search { OnOk result (IsSearch self.new.chosen self.new.turns.items) }
         ensures pool { pool_of self.new.chosen ≡ pool_of self.old.chosen }

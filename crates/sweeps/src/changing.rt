@@ -1,64 +1,117 @@
-//! The change that the tests make by a stage: the name `x` is removed, and the name `y` is written
-//! with the one byte `2`, in a tree that holds `x` with the one byte `1`.
-ghost use Rattle.std.specs.Prelude.{◌≡◌, [], ◌∷◌, true, codes, IfOk, OnOk};
+//! The two changes that the rows make by a stage. Each removes `x` and writes `y` with the one byte
+//! `2`; the second writes `z` too, with the one byte `3`.
+ghost use Rattle.std.specs.Prelude.{◌≡◌, [], ◌∷◌, ◌++◌, true, codes, IfOk, IfSome, OnOk};
 ghost use Rattle.journal_core.specs.Staged.{new_stage};
 
-use base_core::{Disk, Name, Names, read_all};
-use journal_core::Stage;
-use std::alloc::Global;
-use std::test::Fail;
+use base_core::{Disk, Name, Names};
+use journal_core::{Stage, recover};
+use row_lines::{add_word, value_named};
+use std::alloc::{AllocError, Global};
 use tree_memory::MemoryTree;
 
-/// The name that these bytes are.
-pub fn name_of(alloc: Global, bytes: &[u8]) -> Result<Name, Fail>
-    ensures { IfOk result (λ name. name ≡ bytes.now) }
-{
-    match Name::read(alloc, bytes)? {
-        Some(name) => Ok(name),
-        None => Err("no name")?,
+/// One of the changes.
+#[derive(Clone, Copy)]
+pub enum Change {
+    OneWrite,
+    TwoWrites,
+}
+
+/// How far a change came.
+#[derive(Clone, Copy, PartialEq)]
+pub enum Reached {
+    Nothing,
+    Published,
+    Finished,
+}
+
+/// The change that a word names.
+pub fn change_named(word: &[u8]) -> Option<Change> {
+    value_named(
+        &[(b"one", Change::OneWrite), (b"two", Change::TwoWrites)],
+        word,
+    )
+}
+
+/// Adds the word for how far a change came.
+pub fn add_reached(answer: &mut Vec<u8>, reached: Reached) -> Result<(), AllocError> {
+    match reached {
+        Reached::Nothing => add_word(answer, b"nothing"),
+        Reached::Published => add_word(answer, b"published"),
+        Reached::Finished => add_word(answer, b"finished"),
+    }
+}
+
+/// Recovers the tree, and makes the change.
+pub fn run_change(
+    alloc: Global,
+    change: Change,
+    tree: &mut MemoryTree,
+) -> Result<Reached, AllocError> {
+    if recover(alloc, tree).is_err() {
+        return Ok(Reached::Nothing);
+    }
+    match change {
+        Change::OneWrite => run_one_write(alloc, tree),
+        Change::TwoWrites => run_two_writes(alloc, tree),
     }
 }
 
 /// A list of one name.
-fn one_name(alloc: Global, bytes: &[u8]) -> Result<Names, Fail>
-    ensures { IfOk result (λ names. names ≡ bytes.now ∷ []) }
+fn one_name(alloc: Global, bytes: &[u8]) -> Result<Option<Names>, AllocError>
+    ensures { IfOk result (λ found. IfSome found (λ names. names ≡ bytes.now ∷ [])) }
 {
+    let Some(name) = Name::read(alloc, bytes)? else {
+        return Ok(None);
+    };
     let mut names = Names::new(alloc);
-    names.push(name_of(alloc, bytes)?)?;
-    Ok(names)
+    names.push(name)?;
+    Ok(Some(names))
 }
 
-/// A file that is there from the start.
-pub fn put(alloc: Global, tree: &mut MemoryTree, name: &[u8], bytes: &[u8]) -> Result<(), Fail> {
-    let name = name_of(alloc, name)?;
-    if !tree.can_put(&name) {
-        Err("no room")?
-    }
-    tree.put(&name, bytes)?;
-    Ok(())
-}
-
-/// The tree before the change.
-pub fn old_tree(alloc: Global) -> Result<MemoryTree, Fail> {
-    let mut tree = MemoryTree::new(alloc);
-    put(alloc, &mut tree, b"x", b"1")?;
-    Ok(tree)
-}
-
-/// The stage of the change.
-pub fn new_change(alloc: Global) -> Result<Stage, Fail>
-    ensures { IfOk result (λ stage. stage ≡ new_stage (codes "x" ∷ []) (codes "y" ∷ [])) }
+/// A list of one name more.
+fn one_more_name(alloc: Global, names: Names, bytes: &[u8]) -> Result<Option<Names>, AllocError>
+    ensures { IfOk result (λ found. IfSome found (λ more. more ≡ names ++ bytes.now ∷ [])) }
 {
-    let removals = one_name(alloc, b"x")?;
-    let writes = one_name(alloc, b"y")?;
+    let Some(name) = Name::read(alloc, bytes)? else {
+        return Ok(None);
+    };
+    let mut names = names;
+    names.push(name)?;
+    Ok(Some(names))
+}
+
+// ---- one write
+
+fn run_one_write(alloc: Global, tree: &mut MemoryTree) -> Result<Reached, AllocError> {
+    let Some(mut stage) = begin_one_write(alloc)? else {
+        return Ok(Reached::Nothing);
+    };
+    if publish_one_write(&mut stage, tree).is_err() {
+        return Ok(Reached::Nothing);
+    }
+    if act_on_one_write(&mut stage, tree).is_err() {
+        return Ok(Reached::Published);
+    }
+    Ok(Reached::Finished)
+}
+
+fn begin_one_write(alloc: Global) -> Result<Option<Stage>, AllocError>
+    ensures { IfOk result (λ found. IfSome found
+        (λ stage. stage ≡ new_stage (codes "x" ∷ []) (codes "y" ∷ []))) }
+{
+    let Some(removals) = one_name(alloc, b"x")? else {
+        return Ok(None);
+    };
+    let Some(writes) = one_name(alloc, b"y")? else {
+        return Ok(None);
+    };
     match Stage::begin(alloc, &removals, &writes) {
-        Ok(stage) => Ok(stage),
-        Err(_) => Err("no stage")?,
+        Ok(stage) => Ok(Some(stage)),
+        Err(_) => Ok(None),
     }
 }
 
-/// Stages the file of `y`, and publishes the change.
-pub fn publish(stage: &mut Stage, tree: &mut MemoryTree) -> Result<(), Disk>
+fn publish_one_write(stage: &mut Stage, tree: &mut MemoryTree) -> Result<(), Disk>
     requires { stage.old ≡ new_stage (codes "x" ∷ []) (codes "y" ∷ []) }
     ensures { OnOk result (stage.new ≡ record (new_stage (codes "x" ∷ []) (codes "y" ∷ [])) {
       staged = 1;
@@ -71,32 +124,77 @@ pub fn publish(stage: &mut Stage, tree: &mut MemoryTree) -> Result<(), Disk>
     stage.publish(tree)
 }
 
-/// Does both actions, and finishes the change; whether the calls told that two actions were left.
-pub fn act(stage: &mut Stage, tree: &mut MemoryTree) -> Result<bool, Disk>
+/// Does both actions; a third call makes none.
+fn act_on_one_write(stage: &mut Stage, tree: &mut MemoryTree) -> Result<(), Disk>
     requires { stage.old ≡ record (new_stage (codes "x" ∷ []) (codes "y" ∷ [])) {
       staged = 1;
       published = true;
     } }
 {
-    let first = stage.apply_one(tree)?;
-    let second = stage.apply_one(tree)?;
-    let third = stage.apply_one(tree)?;
-    stage.finish(tree)?;
-    Ok(first && second && !third)
+    stage.apply_one(tree)?;
+    stage.apply_one(tree)?;
+    stage.apply_one(tree)?;
+    stage.finish(tree)
 }
 
-/// Whether the tree is that behind the change; else it is the one before it. No other name stands.
-pub fn is_changed(alloc: Global, tree: &mut MemoryTree) -> Result<bool, Fail> {
-    let x = read_all(alloc, tree, &name_of(alloc, b"x")?)?;
-    let y = read_all(alloc, tree, &name_of(alloc, b"y")?)?;
-    if tree.names(alloc)?.len() != 1 {
-        Err("not just one file")?
+// ---- two writes
+
+fn run_two_writes(alloc: Global, tree: &mut MemoryTree) -> Result<Reached, AllocError> {
+    let Some(mut stage) = begin_two_writes(alloc)? else {
+        return Ok(Reached::Nothing);
+    };
+    if stage_two_files(&mut stage, tree).is_err() || stage.publish(tree).is_err() {
+        return Ok(Reached::Nothing);
     }
-    if x.as_deref() == Some(b"1".as_slice()) && y.is_none() {
-        return Ok(false);
+    if act_on_two_writes(&mut stage, tree).is_err() {
+        return Ok(Reached::Published);
     }
-    if y.as_deref() == Some(b"2".as_slice()) && x.is_none() {
-        return Ok(true);
+    Ok(Reached::Finished)
+}
+
+fn begin_two_writes(alloc: Global) -> Result<Option<Stage>, AllocError>
+    ensures { IfOk result (λ found. IfSome found
+        (λ stage. stage ≡ new_stage (codes "x" ∷ []) (codes "y" ∷ codes "z" ∷ []))) }
+{
+    let Some(removals) = one_name(alloc, b"x")? else {
+        return Ok(None);
+    };
+    let Some(writes) = one_name(alloc, b"y")? else {
+        return Ok(None);
+    };
+    let Some(writes) = one_more_name(alloc, writes, b"z")? else {
+        return Ok(None);
+    };
+    match Stage::begin(alloc, &removals, &writes) {
+        Ok(stage) => Ok(Some(stage)),
+        Err(_) => Ok(None),
     }
-    Err("neither the old files nor the new")?
+}
+
+fn stage_two_files(stage: &mut Stage, tree: &mut MemoryTree) -> Result<(), Disk>
+    requires { stage.old ≡ new_stage (codes "x" ∷ []) (codes "y" ∷ codes "z" ∷ []) }
+    ensures { OnOk result (stage.new
+        ≡ record (new_stage (codes "x" ∷ []) (codes "y" ∷ codes "z" ∷ [])) { staged = 2 }) }
+{
+    stage.file_begin(tree)?;
+    stage.file_append(tree, b"2")?;
+    stage.file_end(tree)?;
+    stage.file_begin(tree)?;
+    stage.file_append(tree, b"3")?;
+    stage.file_end(tree)
+}
+
+/// Does the three actions; a fourth call makes none.
+fn act_on_two_writes(stage: &mut Stage, tree: &mut MemoryTree) -> Result<(), Disk>
+    requires { stage.old
+        ≡ record (new_stage (codes "x" ∷ []) (codes "y" ∷ codes "z" ∷ [])) {
+          staged = 2;
+          published = true;
+        } }
+{
+    stage.apply_one(tree)?;
+    stage.apply_one(tree)?;
+    stage.apply_one(tree)?;
+    stage.apply_one(tree)?;
+    stage.finish(tree)
 }

@@ -1,136 +1,93 @@
 //! Recoveries of trees that no change of this program leaves, and of changes that are partly done.
-use crate::changing::{is_changed, name_of, new_change, old_tree, publish, put};
+use crate::changing::{Change, add_reached, change_named, run_change};
+use crate::trees::{add_count, add_tree, long_at, put, text_of, tree_of};
+use base_core::Words;
 use journal_core::{RecoverFault, recover};
-use std::alloc::Global;
-use std::test::Fail;
+use row_lines::{add_word, word_at};
+use std::alloc::{AllocError, Global};
 use tree_memory::MemoryTree;
 
-/// The bytes of the change's intent.
-fn intent(alloc: Global) -> Result<Vec<u8>, Fail> {
-    let mut tree = old_tree(alloc)?;
-    let mut stage = new_change(alloc)?;
-    publish(&mut stage, &mut tree)?;
-    let name = name_of(alloc, b"lib/apk/intent")?;
-    let file = tree.file(&name).ok_or("no intent")?;
-    Ok(Vec::from_slice(alloc, file)?)
+/// The name of the intent.
+const INTENT: &[u8] = b"lib/apk/intent";
+
+/// Answers `recover (NAME BYTES)..`: what a recovery of these files answers, how many calls of it
+/// write, what it leaves, and how many write once it is recovered again.
+pub fn add_recovery(alloc: Global, words: &Words, answer: &mut Vec<u8>) -> Result<(), AllocError> {
+    let mut tree = tree_of(alloc, words, 1)?;
+    add_both_recoveries(alloc, &mut tree, answer)
 }
 
-/// A tree of these files.
-fn tree_of(alloc: Global, files: &[(&[u8], &[u8])]) -> Result<MemoryTree, Fail> {
-    let mut tree = MemoryTree::new(alloc);
-    for (name, bytes) in files {
-        put(alloc, &mut tree, name, bytes)?;
-    }
-    Ok(tree)
+fn add_both_recoveries(
+    alloc: Global,
+    tree: &mut MemoryTree,
+    answer: &mut Vec<u8>,
+) -> Result<(), AllocError> {
+    add_answer(answer, recover(alloc, tree))?;
+    add_count(alloc, answer, b"writes", tree.writes())?;
+    add_tree(alloc, tree, answer)?;
+    add_word(answer, b"again")?;
+    add_answer(answer, recover(alloc, tree))?;
+    add_count(alloc, answer, b"writes", tree.writes())
 }
 
-/// Whether the tree holds just these names.
-fn has_just(alloc: Global, tree: &MemoryTree, wanted: &[&[u8]]) -> Result<bool, Fail> {
-    let names = tree.names(alloc)?;
-    if names.len() != wanted.len() {
-        return Ok(false);
+/// Adds the word for what a recovery answers.
+fn add_answer(answer: &mut Vec<u8>, found: Result<(), RecoverFault>) -> Result<(), AllocError> {
+    match found {
+        Ok(()) => add_word(answer, b"ok"),
+        Err(RecoverFault::IntentBad(_)) => add_word(answer, b"bad"),
+        Err(RecoverFault::Disk) => add_word(answer, b"disk"),
+        Err(RecoverFault::Memory) => add_word(answer, b"memory"),
     }
-    for (i, name) in wanted.iter().enumerate() {
-        if names.get(i).as_bytes() != *name {
-            return Ok(false);
+}
+
+/// Answers `cuts INTENT (NAME BYTES)..`: at how many lengths the intent is cut off, and at how many
+/// of them it is refused and nothing is written.
+pub fn add_cuts(alloc: Global, words: &Words, answer: &mut Vec<u8>) -> Result<(), AllocError> {
+    let intent = word_at(words, 1);
+    let mut refused: u64 = 0;
+    for len in 0..intent.len() {
+        if is_cut_refused(alloc, words, &intent[..len])? {
+            refused = refused.saturating_add(1);
         }
     }
-    Ok(true)
+    add_count(alloc, answer, b"cuts", intent.len() as u64)?;
+    add_count(alloc, answer, b"refused", refused)
 }
 
-#[test]
-fn an_intent_that_is_cut_is_refused(rt: HostRuntime) -> Result<(), Fail> {
-    let alloc = rt.alloc();
-    let whole = intent(alloc)?;
-    for len in 0..whole.len() {
-        let files: [(&[u8], &[u8]); 3] = [
-            (b"x", b"1"),
-            (b"lib/apk/stage/1", b"2"),
-            (b"lib/apk/intent", &whole[..len]),
-        ];
-        let mut tree = tree_of(alloc, &files)?;
-        let refused = matches!(recover(alloc, &mut tree), Err(RecoverFault::IntentBad(_)));
-        let names: [&[u8]; 3] = [b"lib/apk/intent", b"lib/apk/stage/1", b"x"];
-        if !refused || tree.writes() != 0 || !has_just(alloc, &tree, &names)? {
-            Err("not refused, or changed")?
-        }
-    }
-    Ok(())
+/// Whether this intent is refused beside the files of the row, and nothing is written.
+fn is_cut_refused(alloc: Global, words: &Words, intent: &[u8]) -> Result<bool, AllocError> {
+    let mut tree = tree_of(alloc, words, 2)?;
+    is_refused(alloc, &mut tree, intent)
 }
 
-#[test]
-fn an_intent_is_done_from_wherever_it_stands(rt: HostRuntime) -> Result<(), Fail> {
-    let alloc = rt.alloc();
-    let whole = intent(alloc)?;
-    let waits: (&[u8], &[u8]) = (b"lib/apk/stage/1", b"2");
-    let moved: (&[u8], &[u8]) = (b"y", b"2");
-    let old_y: (&[u8], &[u8]) = (b"y", b"0");
-    let x: (&[u8], &[u8]) = (b"x", b"1");
-    let more: (&[u8], &[u8]) = (b"lib/apk/stage/2", b"3");
-    let told: (&[u8], &[u8]) = (b"lib/apk/intent", &whole);
-    let trees: [&[(&[u8], &[u8])]; 6] = [
-        &[told, x, waits],
-        &[told, x, waits, old_y],
-        &[told, waits],
-        &[told, x, moved],
-        &[told, moved],
-        &[told, x, waits, more],
-    ];
-    for files in trees {
-        let mut tree = tree_of(alloc, files)?;
-        assert!(rt; recover(alloc, &mut tree).is_ok());
-        assert!(rt; is_changed(alloc, &mut tree)?);
-    }
-    Ok(())
+fn is_refused(alloc: Global, tree: &mut MemoryTree, intent: &[u8]) -> Result<bool, AllocError> {
+    put(alloc, tree, INTENT, intent)?;
+    let before = text_of(alloc, tree)?;
+    let refused = matches!(recover(alloc, tree), Err(RecoverFault::IntentBad(_)));
+    let behind = text_of(alloc, tree)?;
+    Ok(refused && tree.writes() == 0 && before.as_slice() == behind.as_slice())
 }
 
-#[test]
-fn a_folder_where_a_file_should_wait_is_no_file(rt: HostRuntime) -> Result<(), Fail> {
-    let alloc = rt.alloc();
-    let whole = intent(alloc)?;
-    let files: [(&[u8], &[u8]); 3] = [
-        (b"z", b"1"),
-        (b"lib/apk/stage/1/a", b"2"),
-        (b"lib/apk/intent", &whole),
-    ];
-    let mut tree = tree_of(alloc, &files)?;
-    assert!(rt; recover(alloc, &mut tree).is_ok());
-    let names: [&[u8]; 1] = [b"z"];
-    assert!(rt; has_just(alloc, &tree, &names)?);
-    Ok(())
+/// Answers `change CHANGE CALLS (NAME BYTES)..`: how far a change of these files comes that is cut
+/// off behind so many calls, how many of them write, how many maps of names a crash may leave, and
+/// what then stands in the tree.
+pub fn add_change(alloc: Global, words: &Words, answer: &mut Vec<u8>) -> Result<(), AllocError> {
+    let Some(change) = change_named(word_at(words, 1)) else {
+        return answer.extend_from_slice(b"no change");
+    };
+    let mut tree = tree_of(alloc, words, 3)?;
+    tree.stop_after(long_at(words, 2));
+    add_changed_tree(alloc, change, &mut tree, answer)
 }
 
-#[test]
-fn what_waits_without_an_intent_goes(rt: HostRuntime) -> Result<(), Fail> {
-    let alloc = rt.alloc();
-    let files: [(&[u8], &[u8]); 6] = [
-        (b"lib/apk/intents", b"1"),
-        (b"lib/apk/stage/7", b"2"),
-        (b"lib/apk/stage/a/b", b"3"),
-        (b"lib/apk/stage0", b"4"),
-        (b"stage/1", b"5"),
-        (b"x", b"6"),
-    ];
-    let mut tree = tree_of(alloc, &files)?;
-    assert!(rt; recover(alloc, &mut tree).is_ok());
-    assert_eq!(rt; tree.writes(), 2);
-    let names: [&[u8]; 4] = [b"lib/apk/intents", b"lib/apk/stage0", b"stage/1", b"x"];
-    assert!(rt; has_just(alloc, &tree, &names)?);
-    assert!(rt; recover(alloc, &mut tree).is_ok());
-    assert_eq!(rt; tree.writes(), 2);
-    Ok(())
-}
-
-#[test]
-fn a_file_in_place_of_the_stage_fails_the_change(rt: HostRuntime) -> Result<(), Fail> {
-    let alloc = rt.alloc();
-    let files: [(&[u8], &[u8]); 2] = [(b"x", b"1"), (b"lib/apk/stage", b"2")];
-    let mut tree = tree_of(alloc, &files)?;
-    assert!(rt; recover(alloc, &mut tree).is_ok());
-    assert_eq!(rt; tree.writes(), 0);
-    let mut stage = new_change(alloc)?;
-    assert!(rt; publish(&mut stage, &mut tree).is_err());
-    let names: [&[u8]; 2] = [b"lib/apk/stage", b"x"];
-    assert!(rt; has_just(alloc, &tree, &names)?);
-    Ok(())
+fn add_changed_tree(
+    alloc: Global,
+    change: Change,
+    tree: &mut MemoryTree,
+    answer: &mut Vec<u8>,
+) -> Result<(), AllocError> {
+    add_reached(answer, run_change(alloc, change, tree)?)?;
+    add_count(alloc, answer, b"writes", tree.writes())?;
+    add_count(alloc, answer, b"maps", tree.maps())?;
+    add_tree(alloc, tree, answer)
 }

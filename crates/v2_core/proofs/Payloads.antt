@@ -4,7 +4,7 @@ use Rattle.adb_view.specs.Plain.{Plain, Plains, none, more, arr_value, obj_value
 use Rattle.adb_write.specs.Canonical.{PayloadCounts, written_of}
 use Rattle.adb_write.specs.DepthFirst.{WritesValue, WritesValues}
 use Rattle.adb_write.specs.Writing.{Writing, empty_writing, finish_result}
-use Rattle.v2_core.specs.Database.{database_value}
+use Rattle.v2_core.specs.Database.{value_of_records}
 use Rattle.v2_core.specs.Payload.{IsV2Fault, or_too_large, tested_payload, written_payload}
 use Rattle.v2_core.specs.Records.{Record}
 use Rattle.v2_core.specs.Writing.{IsLineFault, WritesDatabase, WritesRead}
@@ -17,7 +17,7 @@ EndsCanonical = (v : Plain) (root : ℕ) (w : Writing) → WritesValue empty_wri
 
 pub finished : EndsCanonical → (read : Result (List Record) ℕ) (root : ℕ) (w : Writing) (answer : Result (List ℕ) PayloadCounts) → WritesDatabase empty_writing read root w → finish_result root w ≡ answer → written_payload read ≡ or_too_large answer
 finished law (Ok records) root w answer so is =
-    ap or_too_large (sym (law (database_value records) root w so) ∙ is)
+    ap or_too_large (sym (law (value_of_records records) root w so) ∙ is)
 finished law (Err line) root w answer so is = absurd so
 
 -- a bad line is why there is no payload

@@ -42,7 +42,8 @@ joined_value f info = array_of (map plain_value (flat_map (values_for f) info))
 unfoldable pub record_info_value : List InfoLine → Plain
 record_info_value info =
     object_of
-    (single_value Fields.Name info ∷ single_value Fields.Version info ∷ single_value Fields.Hashes info
+    (single_value Fields.Name info ∷ single_value Fields.Version info
+    ∷ single_value Fields.Hashes info
     ∷ single_value Fields.Description info ∷ single_value Fields.Arch info
     ∷ single_value Fields.License info ∷ single_value Fields.Origin info
     ∷ single_value Fields.Maintainer info ∷ single_value Fields.Url info
@@ -66,7 +67,8 @@ listed_hash_value (Some hash) = blob_value hash
 abbrev pub listed_file_value : ListedFile → Plain
 listed_file_value file =
     object_of
-    (blob_value file.name ∷ listed_access_value file.access ∷ null ∷ null ∷ listed_hash_value file.hash ∷ [])
+    (blob_value file.name ∷ listed_access_value file.access ∷ null ∷ null
+    ∷ listed_hash_value file.hash ∷ [])
 
 -- name, acl, files
 abbrev pub listed_folder_value : ListedFolder → Plain
@@ -84,5 +86,5 @@ record_value r =
     (record_info_value r.info ∷ array_of (map listed_folder_value r.folders) ∷ null ∷ null
     ∷ single_value Fields.ReplacesPriority r.info ∷ [])
 
-abbrev pub database_value : List Record → Plain
-database_value records = object_of (array_of (map record_value records) ∷ [])
+abbrev pub value_of_records : List Record → Plain
+value_of_records records = object_of (array_of (map record_value records) ∷ [])

@@ -8,7 +8,7 @@ use Rattle.adb_schema.specs.Soundness.{payload_fault}
 use Rattle.adb_tables.specs.declared.tables.Which.TheVariants.{Idb}
 use Rattle.v2_core.specs.declared.fault.V2Fault.{V2Fault}
 use Rattle.v2_core.specs.declared.fault.V2Fault.TheVariants.{Bad, TooLarge, Memory}
-use Rattle.v2_core.specs.Database.{database_value}
+use Rattle.v2_core.specs.Database.{value_of_records}
 use Rattle.v2_core.specs.Reading.{records_of}
 use Rattle.v2_core.specs.Records.{Record}
 
@@ -22,7 +22,7 @@ or_too_large (Err counts) = Err (TooLarge counts.0 counts.1)
 
 -- the payload of the database that the records of a text say, before it is tested
 abbrev pub written_payload : Result (List Record) ℕ → Result (List ℕ) V2Fault
-written_payload (Ok records) = or_too_large (written_of (database_value records))
+written_payload (Ok records) = or_too_large (written_of (value_of_records records))
 written_payload (Err line) = Err (Bad (TextLine line))
 
 -- a payload that passes the tests of an installed database, or the first of them that it fails

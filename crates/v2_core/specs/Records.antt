@@ -59,13 +59,15 @@ has_line_of f info = list_any (is_line_of f) info
 -- a second line is taken of a list alone
 abbrev pub with_info : InfoField → List FieldValue → List InfoLine → Option (List InfoLine)
 with_info f values info =
-    if not (adds_to_list f) && has_line_of f info then None else Some (info ++ info_by f values ∷ [])
+    if not (adds_to_list f) && has_line_of f info then None
+    else Some (info ++ info_by f values ∷ [])
 
 -- a list with another last element
 abbrev pub with_last_changed : {A : Type 0} → (A → Option A) → List A → Option (List A)
 with_last_changed change [] = None
 with_last_changed change (x ∷ []) = option_map (λ y. y ∷ []) (change x)
-with_last_changed change (x ∷ y ∷ rest) = option_map (λ rest. x ∷ rest) (with_last_changed change (y ∷ rest))
+with_last_changed change (x ∷ y ∷ rest) =
+    option_map (λ rest. x ∷ rest) (with_last_changed change (y ∷ rest))
 
 abbrev pub file_with_access : Access → ListedFile → Option ListedFile
 file_with_access a file =

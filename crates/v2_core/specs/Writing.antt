@@ -7,7 +7,7 @@ use Rattle.base_core.specs.declared.cause.Cause.TheVariants.{TextLine}
 use Rattle.make_info.specs.Values.{plains_of}
 use Rattle.v2_core.specs.declared.fault.V2Fault.{V2Fault}
 use Rattle.v2_core.specs.declared.fault.V2Fault.TheVariants.{Bad, TooLarge, Memory}
-use Rattle.v2_core.specs.Database.{database_value, record_value}
+use Rattle.v2_core.specs.Database.{value_of_records, record_value}
 use Rattle.v2_core.specs.Reading.{with_records}
 use Rattle.v2_core.specs.Records.{Record}
 
@@ -20,7 +20,8 @@ WritesPackages before records words later = WritesList before (map record_value 
 
 -- the database of a text that has no bad line was written
 abbrev pub WritesDatabase : Writing → Result (List Record) ℕ → ℕ → Writing → Type 0
-WritesDatabase before (Ok records) word later = WritesValue before (database_value records) word later
+WritesDatabase before (Ok records) word later =
+    WritesValue before (value_of_records records) word later
 WritesDatabase before (Err line) word later = ⊥
 
 -- the packages of a text that has no bad line were written

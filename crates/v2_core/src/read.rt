@@ -60,7 +60,8 @@ fn check_database(alloc: Global, payload: &[u8]) -> Result<(), ReadFault>
 
 // Writes the payload of what a text says.
 fn write_payload(alloc: Global, bytes: &[u8]) -> Result<Vec<u8>, V2Fault>
-    ensures ok { IfOk result (λ payload. written_payload (records_of bytes.now) ≡ Ok payload.items) }
+    ensures ok { IfOk result
+        (λ payload. written_payload (records_of bytes.now) ≡ Ok payload.items) }
     ensures err { IfErr result (λ fault. IsV2Fault fault (written_payload (records_of bytes.now))) }
 {
     a_value_written_depth_first_is_canonical();

@@ -77,7 +77,8 @@ pub(crate) fn write_package(
 
 #[tactic(auto, unfolding(crate::specs::Database::record_info_value))]
 fn write_info(alloc: Global, writer: &mut Writer, info: &[InfoLine<'_>]) -> Result<Val, AllocError>
-    ensures { IfOk result (λ word. WritesValue writer.old (record_info_value info.now) word writer.new) }
+    ensures { IfOk result (λ word. WritesValue writer.old (record_info_value info.now) word
+        writer.new) }
 {
     let words = write_columns(alloc, writer, info, &COLUMNS)?;
     writer.obj(&words)
@@ -141,8 +142,8 @@ fn find_line<'a, 'b>(info: &'a [InfoLine<'b>], field: InfoField) -> Option<&'a I
 
 // Writes the value that a field has once.
 fn write_first(writer: &mut Writer, value: &Value<'_>) -> Result<Val, AllocError>
-    ensures { IfOk result (λ word. WritesValue writer.old (value_of_first (line_value_view value.now)) word
-        writer.new) }
+    ensures { IfOk result (λ word. WritesValue writer.old
+        (value_of_first (line_value_view value.now)) word writer.new) }
 {
     match value {
         Value::Text(text) => writer.blob(text),
@@ -261,7 +262,8 @@ fn write_files(alloc: Global, writer: &mut Writer, files: &[File<'_>]) -> Result
 }
 
 fn write_file(writer: &mut Writer, file: &File<'_>) -> Result<Val, AllocError>
-    ensures { IfOk result (λ word. WritesValue writer.old (listed_file_value file.now) word writer.new) }
+    ensures { IfOk result (λ word. WritesValue writer.old (listed_file_value file.now) word
+        writer.new) }
 {
     values_are_written_depth_first();
     let name = writer.blob(file.name)?;
@@ -271,8 +273,8 @@ fn write_file(writer: &mut Writer, file: &File<'_>) -> Result<Val, AllocError>
 }
 
 fn write_access(writer: &mut Writer, access: &Option<Access<'_>>) -> Result<Val, AllocError>
-    ensures { IfOk result (λ word. WritesValue writer.old (listed_access_value (access_views access.now))
-        word writer.new) }
+    ensures { IfOk result (λ word. WritesValue writer.old
+        (listed_access_value (access_views access.now)) word writer.new) }
 {
     let Some(access) = access else {
         return write_null(writer);
@@ -292,8 +294,8 @@ fn write_known_access(writer: &mut Writer, access: &Access<'_>) -> Result<Val, A
 }
 
 fn write_hash(writer: &mut Writer, hash: &Option<Vec<u8>>) -> Result<Val, AllocError>
-    ensures { IfOk result (λ word. WritesValue writer.old (listed_hash_value (hash_view hash.now)) word
-        writer.new) }
+    ensures { IfOk result (λ word. WritesValue writer.old
+        (listed_hash_value (hash_view hash.now)) word writer.new) }
 {
     match hash {
         Some(hash) => writer.blob(hash),

@@ -65,7 +65,8 @@ fn text_if(text: &[u8], is_good: bool) -> Option<Value<'_>>
 }
 
 fn number_value<'a>(digits: &[u8]) -> Option<Value<'a>>
-    ensures { option_map line_value_view result ≡ option_map one_number (decimal_number digits.now) }
+    ensures { option_map line_value_view result
+        ≡ option_map one_number (decimal_number digits.now) }
 {
     let n = read_number(digits)?;
     Some(Value::Number(n))

@@ -28,6 +28,7 @@ const QUESTIONS: [(&[u8], Question); 3] = [
 ];
 
 /// The crate; it keeps nothing from one row to the next.
+#[derive(Drop)]
 struct TextDatabases;
 
 impl Subject for TextDatabases {

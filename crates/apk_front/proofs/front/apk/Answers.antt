@@ -1,4 +1,4 @@
-use Rattle.apk_front.proofs.Carried.{crash_by, idle_by, left_by, orderly_by, reads_by, settled_by, undone_by}
+use Rattle.apk_front.proofs.Carried.{bad_by, crash_by, idle_by, left_by, orderly_by, reads_by, settled_by, states_by}
 use Rattle.apk_front.proofs.Judged.{answered, completed, answered_by_reads, answered_by_words, caused}
 use Rattle.apk_front.proofs.Unplanned.{ends_unless_memory}
 use Rattle.apk_front.proofs.Named.{memory_named}
@@ -21,16 +21,17 @@ returns-clause-causes g c = caused _ _ c.judge-judged.result _ _ _ c.judge-judge
 pub returns-clause-found : goal.returns-clause-found
 returns-clause-found g c = answered_by_reads _ _ c.judge-judged.result _ _ _ c.judge-judged.ensures.by_reads c.judge-judged.ensures.disk c.show.ensures.shown
 
-pub returns-clause-undone : goal.returns-clause-undone
-returns-clause-undone g c = undone_by c.judge-judged.result c.show.result _ _ _ c.show.ensures.shown c.judge-judged.ensures.refused c.judge-judged.ensures.undone
-
 pub returns-clause-idle : goal.returns-clause-idle
-returns-clause-idle g c = idle_by c.args.words.now c.judge-judged.result c.show.result _ _ (undone_by c.judge-judged.result c.show.result _ _ _ c.show.ensures.shown c.judge-judged.ensures.refused c.judge-judged.ensures.undone) c.judge-judged.ensures.run
+returns-clause-idle g c = idle_by c.a_refusal_commits_nothing.ensures c.args.words.now c.judge-judged.result c.show.result _ _ _ _ c.show.ensures.shown c.judge-judged.ensures.found c.judge-judged.ensures.run
 
 pub returns-clause-left : goal.returns-clause-left
-returns-clause-left g c =
-    left_by c.args.words.now c.show.result _ _
-    (idle_by c.args.words.now c.judge-judged.result c.show.result _ _ (undone_by c.judge-judged.result c.show.result _ _ _ c.show.ensures.shown c.judge-judged.ensures.refused c.judge-judged.ensures.undone) c.judge-judged.ensures.run)
+returns-clause-left g c = left_by c.a_refusal_commits_nothing.ensures c.args.words.now c.judge-judged.result c.show.result _ _ _ _ c.show.ensures.shown c.judge-judged.ensures.found c.judge-judged.ensures.run
+
+pub returns-clause-bad_intent : goal.returns-clause-bad_intent
+returns-clause-bad_intent g c = bad_by c.args.words.now c.judge-judged.result c.show.result _ _ _ _ c.show.ensures.shown c.judge-judged.ensures.run
+
+pub returns-clause-states : goal.returns-clause-states
+returns-clause-states g c = states_by c.args.words.now c.judge-judged.result _ _ c.judge-judged.ensures.run
 
 pub returns-clause-reads : goal.returns-clause-reads
 returns-clause-reads g c = reads_by c.args.words.now c.judge-judged.result _ _ c.judge-judged.ensures.run

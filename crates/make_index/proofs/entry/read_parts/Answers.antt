@@ -7,7 +7,7 @@ use Rattle.make_index.proofs.entry.read_parts.Goals as goal
 
 pub returns-clause-keys : goal.returns-clause-keys
 returns-clause-keys c =
-    keyed_of c.args.file.now _ _ _ (info_value c.info-info.result)
+    keyed_of c.sound_containers_hold_sound_values.ensures.value c.args.file.now _ _ _ (info_value c.info-info.result)
     (c.info-info.ensures ∙ ap (λ v. entry_in v 0) (c.view.ensures ∙ c.in_ok-pkg.ensures.value))
     (c.in_ok-extend_from_slice.ensures.items ∙ (ap (λ (xs : List ℕ). xs ++ c.name.result.now) c.new-name.ensures.items ∙ c.name.ensures))
     (c.in_ok-extend_from_slice-2.ensures.items ∙ (ap (λ (xs : List ℕ). xs ++ c.version.result.now) c.new-version.ensures.items ∙ c.version.ensures))

@@ -3,7 +3,7 @@ use Rattle.std.specs.Prelude.{◌&&◌, not, Vec}
 use Rattle.std.specs.Global.{Global}
 use Rattle.dep_core.specs.Dependency.{Dependency}
 use Rattle.dep_core.specs.Meets.{dependency}
-use Rattle.pool_core.specs.Candidates.{Candidate, is_allowed, is_excluded_by}
+use Rattle.pool_core.specs.Candidates.{Candidate, is_allowed, is_barred_by}
 use Rattle.pool_core.proofs.MarksThroughTable.{eligible_by_marks}
 use Rattle.pool_core.proofs.Steps.{if_ok}
 use Rattle.pool_core.proofs.marks.eligible_marks.Goals as goal
@@ -14,6 +14,6 @@ returns c =
     let tagged : List Dependency = map dependency c.args.tagged.now in
     let conflicts : List Dependency = map dependency c.args.conflicts.now in
     if_ok c.opposite_marks.result (λ (marks : Vec Bool Global). marks.items ≡ map not c.deref.result.now)
-    (λ (marks : Vec Bool Global). marks.items ≡ map (λ (one : Candidate). is_allowed tagged one && not (is_excluded_by conflicts one)) cs)
-    (λ marks h. h ∙ (ap (map not) c.deref.ensures.value ∙ eligible_by_marks tagged conflicts cs c.in_ok-barred.barred.items c.mark_affected.new.marks.items c.in_ok-barred.ensures c.mark_affected.ensures))
+    (λ (marks : Vec Bool Global). marks.items ≡ map (λ (one : Candidate). is_allowed tagged one && not (is_barred_by conflicts one)) cs)
+    (λ marks h. h ∙ (ap (map not) c.deref.ensures.value ∙ eligible_by_marks tagged conflicts cs c.in_ok-ineligible.ineligible.items c.mark_affected.new.marks.items c.in_ok-ineligible.ensures c.mark_affected.ensures))
     c.opposite_marks.ensures

@@ -3,7 +3,7 @@ use Rattle.std.specs.Prelude.{◌||◌}
 use Rattle.std.specs.List.{list_any}
 use Rattle.std.proofs.lemmas.List.{take_all, take_more}
 use Rattle.pool_core.specs.Candidates.{Candidate, offers_name}
-use Rattle.pool_core.specs.Listing.{is_same_at, marked_at}
+use Rattle.pool_core.specs.CandidateList.{is_same_at, marked_at}
 use Rattle.pool_core.specs.Options.{IsMember}
 use Rattle.pool_core.proofs.Installed.{any_same, length-marked_among, marked_all, marked_among, marked_more, same_among_still}
 use Rattle.pool_core.proofs.OfferLists.{places_below}

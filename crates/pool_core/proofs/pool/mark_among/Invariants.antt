@@ -1,6 +1,6 @@
 use Rattle.std.proofs.Common.{◌≡◌, take}
 use Rattle.std.specs.List.{list_any}
-use Rattle.pool_core.specs.Listing.{is_same_at}
+use Rattle.pool_core.specs.CandidateList.{is_same_at}
 use Rattle.pool_core.proofs.Installed.{marked_among}
 use Rattle.pool_core.proofs.pool.mark_among.Given as goal
 

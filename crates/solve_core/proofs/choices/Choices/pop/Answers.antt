@@ -19,13 +19,13 @@ returns-in-Some-clause-consistent c =
     let rest = less.0 in
     let is : c.pop-in-Some.new.self ≡ rest = c.pop-in-Some.ensures rest less.1 less.2 in
     let queue : c.truncate.new.self.items ≡ queue_of pool rest =
-    c.truncate.ensures.items ∙ (ap (take before.queue) (c.requires.queue ∙ (ap (queue_of pool) less.2 ∙ queue_more pool rest less.1)) ∙ take_front (queue_of pool rest) (raised_deps_at pool less.1) before.queue less.4.0) in
+    c.truncate.ensures.items ∙ (ap (take before.queue_len) (c.requires.queue ∙ (ap (queue_of pool) less.2 ∙ queue_more pool rest less.1)) ∙ take_front (queue_of pool rest) (raised_deps_at pool less.1) before.queue_len less.4.0) in
     let with_conflicts : c.truncate-in-Some.new.self.items ≡ filter (has_conflict_at pool) rest =
-    c.truncate-in-Some.ensures.items ∙ (ap (take before.with_conflicts) (c.requires.with_conflicts ∙ (ap (filter (has_conflict_at pool)) less.2 ∙ filtered (has_conflict_at pool) rest (less.1 ∷ []))) ∙ take_front (filter (has_conflict_at pool) rest) (filter (has_conflict_at pool) (less.1 ∷ [])) before.with_conflicts less.4.2) in
+    c.truncate-in-Some.ensures.items ∙ (ap (take before.with_conflicts_len) (c.requires.with_conflicts ∙ (ap (filter (has_conflict_at pool)) less.2 ∙ filtered (has_conflict_at pool) rest (less.1 ∷ []))) ∙ take_front (filter (has_conflict_at pool) rest) (filter (has_conflict_at pool) (less.1 ∷ [])) before.with_conflicts_len less.4.2) in
     record {
       within = λ k h. c.requires.within k (subst (λ (z : List ℕ). IsMember k z) (sym less.2) (in_left k rest (less.1 ∷ []) (subst (λ (z : List ℕ). IsMember k z) is h)));
       queue = queue ∙ ap (queue_of pool) (sym is);
-      met = subst (λ (z : List ℕ). AreMet pool z before.at) (sym is) less.4.1;
+      met = subst (λ (z : List ℕ). AreMet pool z before.cursor) (sym is) less.4.1;
       with_conflicts = with_conflicts ∙ ap (filter (has_conflict_at pool)) (sym is);
       checkpoints = subst (λ (z : List ℕ). AreCheckpoints pool [] z c.pop.new.self.items) (sym is) less.3;
     }

@@ -10,4 +10,4 @@ invariant-loop-self l = record {
 }
 
 abbrev pub decreases-loop-self : goal.decreases-loop-self
-decreases-loop-self l = vec_len l.self.queue - l.self.at
+decreases-loop-self l = vec_len l.self.queue - l.self.cursor

@@ -1,7 +1,7 @@
 use Rattle.std.proofs.Common.{◌∷◌, ◌++◌, [], length, subst, sym, ap, arith}
 use Rattle.solve_core.specs.Choices.{choices_of, pool_of}
 use Rattle.solve_core.specs.declared.choices.Choices.{Choices}
-use Rattle.solve_core.specs.Reasons.{FrameValue, IsConflictFree, IsFrameOf, IsSpentFrame, IsFrameTaking}
+use Rattle.solve_core.specs.Reasons.{FrameValue, AreCompatible, IsFrameOf, IsSpentFrame, IsFrameTaking}
 use Rattle.solve_core.proofs.Steps.{taken_of_open, spent_of_open, fits_in}
 use Rattle.solve_core.proofs.Turns.{passed_over}
 use Rattle.solve_core.proofs.Consistency.{taken_within}
@@ -12,7 +12,7 @@ returns-in-None-clause-found c =
     let pool = pool_of c.loop-id.self.chosen in
     let chosen = choices_of c.loop-id.self.chosen in
     let taken = taken_of_open pool chosen c.loop-id.top c.take_next.new.self c.in-Some.id c.loop-id.invariant.open_now c.in-Some.ensures.ruled_out c.in-Some.ensures.left c.in-Some.ensures.by in
-    subst (λ (z : Choices). IsFrameTaking (pool_of z) (choices_of z) c.take_next.new.self c.in-Some.id × IsConflictFree (pool_of z) (choices_of z ++ c.in-Some.id ∷ []))
+    subst (λ (z : Choices). IsFrameTaking (pool_of z) (choices_of z) c.take_next.new.self c.in-Some.id × AreCompatible (pool_of z) (choices_of z ++ c.in-Some.id ∷ []))
     c.loop-id.invariant.chosen
     (taken, fits_in pool (λ need. c.options_are_as_promised.ensures pool need) chosen c.take_next.new.self c.in-Some.id taken c.loop-id.invariant.search.clean (rw c.in-None.is at c.in_ok-reason_against.ensures))
 

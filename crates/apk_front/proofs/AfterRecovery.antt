@@ -1,0 +1,220 @@
+-- A run behind a recovery.
+use Rattle.std.proofs.Common.{◌≡◌, inl, inr, ℕ, Bool, true, false, List, [], ◌∷◌, ◌++◌, append_assoc, Option, None, IsSome, Ok, Err, sym, ap, subst, ◌∙◌, arith}
+use Rattle.std.specs.Prelude.{is_some, All, IsErrOf, OnOk}
+use Rattle.std.proofs.lemmas.Bool.{false≢true}
+use Rattle.std.proofs.lemmas.List.Elements.{All-append, All-head, All-nil, All-tail, All-weaker}
+use Rattle.base_core.specs.Calls.{HasNow}
+use Rattle.base_core.specs.Crash.{IsOrderly, Since}
+use Rattle.base_core.specs.Files.{Files}
+use Rattle.base_core.specs.Restart.{EachMoment}
+use Rattle.base_core.specs.Tree.{TreeState, files_of}
+use Rattle.base_core.specs.declared.cause.Cause.{Cause}
+use Rattle.base_core.specs.declared.tree.TreeFault.{TreeFault}
+use Rattle.base_core.specs.declared.tree.TreeFault.TheVariants.{Memory as NoMemory}
+use Rattle.journal_core.specs.Quiet.{IsQuiet, IsStill}
+use Rattle.journal_core.specs.Recovery.{IsOldOrNew, IsSettled, RestsOn, intent_name, intent_of, state_of}
+use Rattle.journal_core.specs.Replacing.{IsReplacing}
+use Rattle.journal_core.specs.Staged.{IsEmptyStage, IsOnTheWay, unstaged_files}
+use Rattle.outcome.specs.Effect.{Effect, does_recover}
+use Rattle.outcome.specs.Outcome.{Outcome}
+use Rattle.outcome.specs.Work.{recovery_fault, work_files}
+use Rattle.apk_front.specs.Moments.{AreOnTheWay, AreSafe, HasNothingToRecover, IsReadApart, IsReadOnItsWay, Settles, SettlesUnrecovered}
+use Rattle.apk_front.specs.Runs.{IsRun, IsWholeRun, IsWithoutCommit}
+use Rattle.apk_front.proofs.Runs.{History, Judged, err_ok}
+
+-- ---- laws
+
+abbrev pub Ignored : Type 0
+Ignored = List ℕ → Bool
+
+pub record AreLaws : Type 0 where
+  pub none : (ignored : Ignored) (v : TreeState) → IsOrderly (RestsOn ignored) v → IsStill ignored v v
+  pub calls : (ignored : Ignored) (v w : TreeState) (old between new : History) → Since (IsStill ignored v) old between → IsStill ignored v w → Since (IsStill ignored w) between new → Since (IsStill ignored v) old new
+  pub lasts : (ignored : Ignored) (files : Files) (a b : TreeState) → IsSettled ignored files a → IsQuiet ignored a b → IsSettled ignored files b
+  pub quiet : (ignored : Ignored) (a b : TreeState) (new : Files) → IsQuiet ignored a b → IsOldOrNew ignored a new b
+  pub behind : (ignored : Ignored) (a b c : TreeState) (new : Files) → IsQuiet ignored a b → IsOldOrNew ignored b new c → IsOldOrNew ignored a new c
+  pub still : (ignored : Ignored) (files : Files) (start v : TreeState) (earlier : History) → IsStill ignored start v → IsOnTheWay ignored files start earlier v
+  pub before : (ignored : Ignored) (files : Files) (start v w : TreeState) (earlier first : History) → IsStill ignored start v → IsOnTheWay ignored files v earlier w → IsOnTheWay ignored files start (earlier ++ first) w
+
+-- at each moment of a call nothing happens to the state
+abbrev pub IsCalm : TreeState → History → History → Type 0
+IsCalm v old now = (ignored : Ignored) → IsOrderly (RestsOn ignored) v → Since (IsStill ignored v) old now
+
+-- ---- the newest moment
+
+abbrev pub first_or : TreeState → History → TreeState
+first_or v [] = v
+first_or v (w ∷ h) = w
+
+newest_of : AreLaws → (ignored : Ignored) (v u : TreeState) (rest more added : History) → IsOrderly (RestsOn ignored) v → u ∷ more ≡ added ++ v ∷ rest → All (IsStill ignored v) added → IsStill ignored v u
+newest_of laws ignored v u rest more [] orderly is each = subst (IsStill ignored v) (sym (ap (first_or v) is)) (laws.none ignored v orderly)
+newest_of laws ignored v u rest more (m ∷ added) orderly is each = subst (IsStill ignored v) (sym (ap (first_or v) is)) (All-head (IsStill ignored v) m added each)
+
+newest : AreLaws → (ignored : Ignored) (v u : TreeState) (rest more : History) → IsOrderly (RestsOn ignored) v → Since (IsStill ignored v) (v ∷ rest) (u ∷ more) → IsStill ignored v u
+newest laws ignored v u rest more orderly since = newest_of laws ignored v u rest more since.added orderly since.is since.each
+
+-- whatever the history is
+pub newest_orderly : AreLaws → (ignored : Ignored) (v : TreeState) (rest now : History) → IsOrderly (RestsOn ignored) v → Since (IsStill ignored v) (v ∷ rest) now → HasNow now (IsOrderly (RestsOn ignored))
+newest_orderly laws ignored v rest now orderly since = by_added since.added since.is since.each
+  where
+    by_added : (added : History) → now ≡ added ++ v ∷ rest → All (IsStill ignored v) added → HasNow now (IsOrderly (RestsOn ignored))
+    by_added [] is each = subst (λ (h : History). HasNow h (IsOrderly (RestsOn ignored))) (sym is) orderly
+    by_added (m ∷ added) is each = subst (λ (h : History). HasNow h (IsOrderly (RestsOn ignored))) (sym is) (All-head (IsStill ignored v) m added each).orderly
+
+-- ---- moments in a row
+
+since_both : (P Q R : TreeState → Type 0) (old mid now : History) → ((w : TreeState) → P w → R w) → ((w : TreeState) → Q w → R w) → Since P old mid → Since Q mid now → Since R old now
+since_both P Q R old mid now p q first then = record {
+  added = then.added ++ first.added;
+  is = then.is ∙ ap (λ h. then.added ++ h) first.is ∙ sym (append_assoc then.added first.added old);
+  each = All-append R then.added first.added (All-weaker Q R q then.added then.each) (All-weaker P R p first.added first.each);
+}
+
+since_weaker : (P Q : TreeState → Type 0) (old now : History) → ((w : TreeState) → P w → Q w) → Since P old now → Since Q old now
+since_weaker P Q old now f since = record { added = since.added; is = since.is; each = All-weaker P Q f since.added since.each }
+
+still_replaces : AreLaws → (ignored : Ignored) (files : Files) (v w : TreeState) → IsStill ignored v w → IsReplacing ignored files v w
+still_replaces laws ignored files v w still = record { orderly = still.orderly; old_or_new = laws.quiet ignored v w files still.quiet; made = still.made }
+
+replaces_from : AreLaws → (ignored : Ignored) (files : Files) (v u w : TreeState) → IsStill ignored v u → IsReplacing ignored files u w → IsReplacing ignored files v w
+replaces_from laws ignored files v u w still there = record { orderly = there.orderly; old_or_new = laws.behind ignored v u w files still.quiet there.old_or_new; made = omega (arith, still.made, there.made) }
+
+each_still : AreLaws → (ignored : Ignored) (files : Files) (v : TreeState) (first : History) → All (IsStill ignored v) first → EachMoment (IsOnTheWay ignored files v) first
+each_still laws ignored files v [] each = tt
+each_still laws ignored files v (m ∷ first) each = (laws.still ignored files v m first (All-head (IsStill ignored v) m first each), each_still laws ignored files v first (All-tail (IsStill ignored v) m first each))
+
+each_behind : AreLaws → (ignored : Ignored) (files : Files) (v u : TreeState) (added first : History) → IsStill ignored v u → EachMoment (IsOnTheWay ignored files v) first → EachMoment (IsOnTheWay ignored files u) added → EachMoment (IsOnTheWay ignored files v) (added ++ first)
+each_behind laws ignored files v u [] first still earlier each = earlier
+each_behind laws ignored files v u (m ∷ added) first still earlier (here, others) = (laws.before ignored files v u m added first still here, each_behind laws ignored files v u added first still earlier others)
+
+way_behind : AreLaws → (makes : Bool) (ignored : Ignored) (files : Files) (v u : TreeState) (old mid now : History) → IsStill ignored v u → Since (IsStill ignored v) old mid → AreOnTheWay makes ignored files u mid now → AreOnTheWay makes ignored files v old now
+way_behind laws true ignored files v u old mid now still first way =
+    since_both (IsStill ignored v) (IsReplacing ignored files u) (IsReplacing ignored files v) old mid now (still_replaces laws ignored files v) (λ w there. replaces_from laws ignored files v u w still there) first way
+way_behind laws false ignored files v u old mid now still first way = record {
+  added = way.added ++ first.added;
+  is = way.is ∙ ap (λ h. way.added ++ h) first.is ∙ sym (append_assoc way.added first.added old);
+  each = each_behind laws ignored files v u way.added first.added still (each_still laws ignored files v first.added first.each) way.each;
+}
+
+safe_behind : AreLaws → (A B : Outcome → Type 0) (makes : Bool) (ignored : Ignored) (v u : TreeState) (old mid now : History) → ((o : Outcome) → A o → B o) → IsStill ignored v u → Since (IsStill ignored v) old mid
+    → AreSafe A makes ignored u mid now → AreSafe B makes ignored v old now
+safe_behind laws A B makes ignored v u old mid now into still first (inl then) = inl (laws.calls ignored v u old mid now first still then)
+safe_behind laws A B makes ignored v u old mid now into still first (inr (o, one, commits, way)) = inr (o, into o one, commits, way_behind laws makes ignored o.files v u old mid now still first way)
+
+-- ---- what lasts
+
+settled_same : (ignored : Ignored) (v u : TreeState) → IsSettled ignored (files_of v) u → state_of ignored (files_of u) ≡ state_of ignored (files_of v) → IsSettled ignored (files_of u) u
+settled_same ignored v u settled reads = λ image is. settled image is ∙ sym reads
+
+settles_behind : AreLaws → (effect : Effect) (ignored : Ignored) (v u : TreeState) (o : Outcome) → IsStill ignored v u → (IsSome (intent_of (files_of v)) → IsSettled ignored (files_of v) u) → Settles effect ignored v o → SettlesUnrecovered ignored u o
+settles_behind laws effect ignored v u o still found (inl (inl commits)) = inl commits
+settles_behind laws effect ignored v u o still found (inl (inr before)) = inr (settled_same ignored v u (laws.lasts ignored (files_of v) v u before still.quiet) still.reads)
+settles_behind laws effect ignored v u o still found (inr (recovers, some)) = inr (settled_same ignored v u (found some) still.reads)
+
+-- ---- a run that recovers nothing
+
+abbrev pub StaysWithout : History → History → Judged → Type 0
+StaysWithout old now judged = IsErrOf judged NoMemory → now ≡ old
+
+unwritten : (A B : Outcome → Type 0) (output : Option (List ℕ)) (judged : Judged) (u : TreeState) (mid now : History) → ((o : Outcome) → B o → A o) → IsRun A output judged u mid now → StaysWithout mid now judged → IsWithoutCommit B judged → now ≡ mid
+unwritten A B output judged u mid now from run memory (inl none) = memory none
+unwritten A B output judged u mid now from run memory (inr (o, one, commits)) = run.idle o (from o one) commits
+
+none_since : (P : TreeState → Type 0) (old now : History) → now ≡ old → Since P old now
+none_since P old now same = record { added = []; is = same; each = All-nil P }
+
+settles_alone : (effect : Effect) (ignored : Ignored) (v : TreeState) (o : Outcome) → does_recover effect ≡ false → Settles effect ignored v o → SettlesUnrecovered ignored v o
+settles_alone effect ignored v o none (inl settles) = settles
+settles_alone effect ignored v o none (inr (recovers, some)) = absurd (false≢true (sym none ∙ recovers))
+
+no_fault_to_recover : (effect : Effect) (files : Files) (P : Type 0) → recovery_fault effect files ≡ None → IsSome (recovery_fault effect files) → P
+no_fault_to_recover effect files P none some = absurd (false≢true (sym (ap (λ (o : Option Cause). is_some o) none) ∙ some))
+
+pub whole_alone : (IsOne : Outcome → Type 0) (effect : Effect) (output : Option (List ℕ)) (judged : Judged) (v : TreeState) (old now : History) → does_recover effect ≡ false → recovery_fault effect (files_of v) ≡ None → work_files effect (files_of v) ≡ files_of v
+    → IsRun IsOne output judged v old now → StaysWithout old now judged → IsWholeRun IsOne effect output judged v old now
+whole_alone IsOne effect output judged v old now alone good work run memory = record {
+  moments = run.moments;
+  orderly = run.orderly;
+  settled = λ ignored o orderly hides one none lasts. run.settled ignored o orderly hides one none (settles_alone effect ignored v o alone lasts);
+  left = λ without ignored orderly. none_since (IsStill ignored v) old now (unwritten IsOne IsOne output judged v old now (λ o one. one) run memory without);
+  idle = λ without nothing. unwritten IsOne IsOne output judged v old now (λ o one. one) run memory without;
+  bad = λ some. no_fault_to_recover effect (files_of v) (OnOk judged (now ≡ old)) good some;
+  reads = λ o one nothing. run.reads o one;
+  states = λ ignored o orderly one.
+      since_weaker (IsReadApart output o.files (files_of v)) (IsReadOnItsWay effect output ignored o.files v) old now
+      (λ w apart. inr (subst (λ (f : Files). IsReadApart output o.files f w) (sym work) apart)) (run.reads o one);
+  leaves = run.leaves;
+}
+
+-- ---- a run that recovers
+
+-- what a recovery says that ended well
+pub record IsRecovered (v : TreeState) (old mid : History) : Type 0 where
+  pub calm : IsCalm v old mid
+  pub files : HasNow mid (λ w. (files_of w ≡ unstaged_files (files_of v)) × (w.names intent_name ≡ None))
+  pub settled : (ignored : Ignored) → IsOrderly (RestsOn ignored) v → IsSome (intent_of (files_of v)) → HasNow mid (IsSettled ignored (files_of v))
+  pub idle : v.names intent_name ≡ None → IsEmptyStage v.names → mid ≡ old
+
+nothing_done : (effect : Effect) (v : TreeState) (P : Type 0) → does_recover effect ≡ true → (v.names intent_name ≡ None → IsEmptyStage v.names → P) → HasNothingToRecover effect v → P
+nothing_done effect v P recovers idle (inl not_so) = absurd (false≢true (sym not_so ∙ recovers))
+nothing_done effect v P recovers idle (inr (absent, empty)) = idle absent empty
+
+pub whole_behind : AreLaws → (A B : Outcome → Type 0) (effect : Effect) (output : Option (List ℕ)) (judged : Judged) (v u : TreeState) (rest more now : History)
+    → does_recover effect ≡ true → recovery_fault effect (files_of v) ≡ None → files_of u ≡ work_files effect (files_of v) → ((o : Outcome) → A o → B o) → ((o : Outcome) → B o → A o)
+    → IsRecovered v (v ∷ rest) (u ∷ more) → IsRun A output judged u (u ∷ more) now → StaysWithout (u ∷ more) now judged → IsWholeRun B effect output judged v (v ∷ rest) now
+whole_behind laws A B effect output judged v u rest more now recovers good work into from recovered run memory =
+    let still : (ignored : Ignored) → IsOrderly (RestsOn ignored) v → IsStill ignored v u = λ ignored orderly. newest laws ignored v u rest more orderly (recovered.calm ignored orderly) in
+    let same : HasNothingToRecover effect v → u ∷ more ≡ v ∷ rest = λ nothing. nothing_done effect v (u ∷ more ≡ v ∷ rest) recovers recovered.idle nothing in
+    record {
+      moments = λ ignored orderly hides.
+          safe_behind laws A B (is_some output) ignored v u (v ∷ rest) (u ∷ more) now into (still ignored orderly) (recovered.calm ignored orderly) (run.moments ignored (still ignored orderly).orderly hides);
+      orderly = λ ignored orderly hides. run.orderly ignored (still ignored orderly).orderly hides;
+      settled = λ ignored o orderly hides one none lasts.
+          run.settled ignored o (still ignored orderly).orderly hides (from o one) none
+          (settles_behind laws effect ignored v u o (still ignored orderly) (recovered.settled ignored orderly) lasts);
+      left = λ without ignored orderly.
+          subst (λ (h : History). Since (IsStill ignored v) (v ∷ rest) h) (sym (unwritten A B output judged u (u ∷ more) now from run memory without)) (recovered.calm ignored orderly);
+      idle = λ without nothing. unwritten A B output judged u (u ∷ more) now from run memory without ∙ same nothing;
+      bad = λ some. no_fault_to_recover effect (files_of v) (OnOk judged (now ≡ v ∷ rest)) good some;
+      reads = λ o one nothing.
+          subst (λ (h : History). Since (IsReadApart output o.files (files_of v)) h now) (same nothing)
+          (subst (λ (f : Files). Since (IsReadApart output o.files f) (u ∷ more) now) (ap (λ (h : History). files_of (first_or v h)) (same nothing)) (run.reads o (from o one)));
+      states = λ ignored o orderly one.
+          since_both (IsStill ignored v) (IsReadApart output o.files (files_of u)) (IsReadOnItsWay effect output ignored o.files v) (v ∷ rest) (u ∷ more) now (λ w s. inl s.reads)
+          (λ w apart. inr (subst (λ (f : Files). IsReadApart output o.files f w) work apart)) (recovered.calm ignored orderly) (run.reads o (from o one));
+      leaves = λ o one none. run.leaves o (from o one) none;
+    }
+
+-- the recovery failed
+pub whole_failed : AreLaws → (IsOne : Outcome → Type 0) (effect : Effect) (output : Option (List ℕ)) (judged : Judged) (e : TreeFault) (v : TreeState) (rest now : History) → does_recover effect ≡ true → judged ≡ Err e
+    → IsCalm v (v ∷ rest) now → (v.names intent_name ≡ None → IsEmptyStage v.names → now ≡ v ∷ rest) → IsWholeRun IsOne effect output judged v (v ∷ rest) now
+whole_failed laws IsOne effect output judged e v rest now recovers failed calm idle = record {
+  moments = λ ignored orderly hides. inl (calm ignored orderly);
+  orderly = λ ignored orderly hides. newest_orderly laws ignored v rest now orderly (calm ignored orderly);
+  settled = λ ignored o orderly hides one none lasts. err_ok (HasNow now (IsSettled ignored o.files)) judged e failed;
+  left = λ without ignored orderly. calm ignored orderly;
+  idle = λ without nothing. nothing_done effect v (now ≡ v ∷ rest) recovers idle nothing;
+  bad = λ some. err_ok (now ≡ v ∷ rest) judged e failed;
+  reads = λ o one nothing. none_since (IsReadApart output o.files (files_of v)) (v ∷ rest) now (nothing_done effect v (now ≡ v ∷ rest) recovers idle nothing);
+  states = λ ignored o orderly one. since_weaker (IsStill ignored v) (IsReadOnItsWay effect output ignored o.files v) (v ∷ rest) now (λ w s. inl s.reads) (calm ignored orderly);
+  leaves = λ o one none. err_ok (HasNow now (λ w. files_of w ≡ o.files)) judged e failed;
+}
+
+ok_always : (P : Type 0) (judged : Judged) → P → OnOk judged P
+ok_always P (Ok verdict) p = p
+ok_always P (Err e) p = tt
+
+-- nothing was written, and no outcome is carried out
+pub whole_idle : (IsOne : Outcome → Type 0) (effect : Effect) (output : Option (List ℕ)) (judged : Judged) (v : TreeState) (rest now : History) → now ≡ v ∷ rest → ((P : Type 0) (o : Outcome) → IsOne o → o.refusal ≡ None → OnOk judged P)
+    → IsWholeRun IsOne effect output judged v (v ∷ rest) now
+whole_idle IsOne effect output judged v rest now same never = record {
+  moments = λ ignored orderly hides. inl (none_since (IsStill ignored v) (v ∷ rest) now same);
+  orderly = λ ignored orderly hides. subst (λ (h : History). HasNow h (IsOrderly (RestsOn ignored))) (sym same) orderly;
+  settled = λ ignored o orderly hides one none lasts. never (HasNow now (IsSettled ignored o.files)) o one none;
+  left = λ without ignored orderly. none_since (IsStill ignored v) (v ∷ rest) now same;
+  idle = λ without nothing. same;
+  bad = λ some. ok_always (now ≡ v ∷ rest) judged same;
+  reads = λ o one nothing. none_since (IsReadApart output o.files (files_of v)) (v ∷ rest) now same;
+  states = λ ignored o orderly one. none_since (IsReadOnItsWay effect output ignored o.files v) (v ∷ rest) now same;
+  leaves = λ o one none. never (HasNow now (λ w. files_of w ≡ o.files)) o one none;
+}

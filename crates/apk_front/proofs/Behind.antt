@@ -1,0 +1,173 @@
+-- A command that makes a file, behind a recovery: its outcomes.
+use Rattle.std.proofs.Common.{◌≡◌, ◌⊎◌, inl, inr, ℕ, Bool, true, false, List, [], ◌∷◌, Option, Some, None, IsSome, Ok, Err, refl, sym, ap, subst, ◌∙◌}
+use Rattle.std.specs.Prelude.{IfOk, OnOk}
+use Rattle.std.proofs.lemmas.Bool.{false≢true}
+use Rattle.adb_schema.specs.Soundness.{first_fault}
+use Rattle.adb_tables.specs.declared.tables.Which.TheVariants.{Intent as IntentTable}
+use Rattle.base_core.specs.Calls.{HasNow, IfObservable}
+use Rattle.base_core.specs.Crash.{IsOrderly}
+use Rattle.base_core.specs.Files.{Files, no_names}
+use Rattle.base_core.specs.Tree.{TreeState, files_of}
+use Rattle.base_core.specs.declared.cause.Cause.{Cause}
+use Rattle.command_core.specs.Command.{CommandLine}
+use Rattle.command_core.specs.declared.command.Applet.{Applet}
+use Rattle.command_core.specs.declared.command.Applet.TheVariants.{Mkndx, Mkpkg}
+use Rattle.journal_core.specs.Recovery.{IsSettled, RestsOn, intent_name, intent_of}
+use Rattle.journal_core.specs.Staged.{HasRoomToReplay, IsEmptyStage, IsIntentFault, unstaged_files}
+use Rattle.journal_core.specs.declared.recovering.RecoverFault.{RecoverFault}
+use Rattle.journal_core.specs.declared.recovering.RecoverFault.TheVariants.{IntentBad as BadIntent}
+use Rattle.outcome.specs.Commands.{IsFoundOutcomeOf, IsFoundOver, IsOutcomeOf, IsOutcomeOver, IsOutcomeUnless}
+use Rattle.outcome.specs.Effect.{Effect, Makes, does_only_read, does_recover, effect_of}
+use Rattle.outcome.specs.Outcome.{Outcome, just_refusal}
+use Rattle.outcome.specs.Work.{fault_of_intent, recovery_fault, work_files}
+use Rattle.report_core.specs.declared.refusal.Refusal.TheVariants.{IntentBad}
+use Rattle.apk_front.specs.Moments.{HasRoomFor, LeavesRoomFor}
+use Rattle.apk_front.specs.Runs.{IsRun, IsWholeRun}
+use Rattle.apk_front.specs.Verdicts.{ReportsOne, as_outcome}
+use Rattle.apk_front.specs.declared.answer.Verdict.{Verdict}
+use Rattle.apk_front.proofs.Carried.{Ones, RoomFor, Wholes, only_reads_unless}
+use Rattle.apk_front.proofs.AfterRecovery.{AreLaws, IsCalm, StaysWithout, whole_behind, whole_failed, whole_idle}
+use Rattle.apk_front.proofs.Runs.{History, Judged}
+
+-- ---- a command that recovers
+
+pub recovers : (applet : Applet) → (applet ≡ Mkpkg) ⊎ (applet ≡ Mkndx) → does_recover (effect_of applet) ≡ true
+recovers applet (inl is) = ap (λ (a : Applet). does_recover (effect_of a)) is
+recovers applet (inr is) = ap (λ (a : Applet). does_recover (effect_of a)) is
+
+reads_not : (effect : Effect) → does_only_read effect ≡ true → does_recover effect ≡ false
+reads_not Makes reads = cc
+reads_not other reads = refl
+
+-- no other applet recovers
+pub no_other : (applet own : Applet) → applet ≡ own → does_recover (effect_of own) ≡ true → (applet ≡ Mkpkg → ⊥) → (applet ≡ Mkndx → ⊥) → ⊥
+no_other applet own same recovering p i =
+    false≢true (sym (reads_not (effect_of applet) (only_reads_unless applet p i)) ∙ ap (λ (a : Applet). does_recover (effect_of a)) same ∙ recovering)
+
+work_is : (effect : Effect) (files : Files) → does_recover effect ≡ true → work_files effect files ≡ unstaged_files files
+work_is Makes files recovering = refl
+work_is other files recovering = cc
+
+no_bad : (files : Files) → ((cause : Cause) → IsIntentFault files cause → ⊥) → fault_of_intent (files intent_name) ≡ None
+no_bad files good = by_found (files intent_name) refl
+  where
+    by_fault : (file : List ℕ) (fault : Option Cause) → files intent_name ≡ Some file → first_fault IntentTable file ≡ fault → fault ≡ None
+    by_fault file None at is = refl
+    by_fault file (Some cause) at is = absurd (good cause (file, at, is))
+
+    by_found : (found : Option (List ℕ)) → files intent_name ≡ found → fault_of_intent found ≡ None
+    by_found None at = refl
+    by_found (Some file) at = by_fault file (first_fault IntentTable file) at refl
+
+good_is : (effect : Effect) (files : Files) → does_recover effect ≡ true → ((cause : Cause) → IsIntentFault files cause → ⊥) → recovery_fault effect files ≡ None
+good_is Makes files recovering good = no_bad files good
+good_is other files recovering good = cc
+
+bad_is : (effect : Effect) (files : Files) (cause : Cause) → does_recover effect ≡ true → IsIntentFault files cause → recovery_fault effect files ≡ Some cause
+bad_is Makes files cause recovering (file, at, is) = ap fault_of_intent at ∙ is
+bad_is other files cause recovering bad = cc
+
+-- ---- the recovery ended well
+
+abbrev pub IsGood : TreeState → Type 0
+IsGood v = (cause : Cause) → IsIntentFault (files_of v) cause → ⊥
+
+abbrev pub LeavesUnstaged : TreeState → TreeState → Type 0
+LeavesUnstaged v w = (files_of w ≡ unstaged_files (files_of v)) × (w.names intent_name ≡ None)
+
+into : (command : CommandLine) (v u : TreeState) (o : Outcome) → does_recover (effect_of command.applet) ≡ true → IsGood v → LeavesUnstaged v u → Ones command u o → Wholes command v o
+into command v u o recovering good left one =
+    subst (λ (fault : Option Cause). IsOutcomeUnless fault command (files_of v) o) (sym (good_is (effect_of command.applet) (files_of v) recovering good))
+    (subst (λ (f : Files). IsOutcomeOver command f o) (left.0 ∙ sym (work_is (effect_of command.applet) (files_of v) recovering)) one)
+
+from : (command : CommandLine) (v u : TreeState) (o : Outcome) → does_recover (effect_of command.applet) ≡ true → IsGood v → LeavesUnstaged v u → Wholes command v o → Ones command u o
+from command v u o recovering good left one =
+    subst (λ (f : Files). IsOutcomeOver command f o) (sym (left.0 ∙ sym (work_is (effect_of command.applet) (files_of v) recovering)))
+    (subst (λ (fault : Option Cause). IsOutcomeUnless fault command (files_of v) o) (good_is (effect_of command.applet) (files_of v) recovering good) one)
+
+pub behind_found : (command : CommandLine) (old mid : History) (judged : Judged) → does_recover (effect_of command.applet) ≡ true → IfObservable old IsGood → IfObservable old (λ v. HasNow mid (LeavesUnstaged v))
+    → IfOk judged (λ verdict. IfObservable mid (λ u. ReportsOne (Ones command u) verdict)) → IfOk judged (λ verdict. IfObservable old (λ v. ReportsOne (Wholes command v) verdict))
+behind_found command old mid (Err e) recovering good left found = tt
+behind_found command [] mid (Ok verdict) recovering good left found = tt
+behind_found command (v ∷ rest) [] (Ok verdict) recovering good left found = absurd left
+behind_found command (v ∷ rest) (u ∷ more) (Ok verdict) recovering good left (o, one, reports) = (o, into command v u o recovering good left one, reports)
+
+pub behind_read : (command : CommandLine) (judged : Judged) → IfOk judged (ReportsOne (IsFoundOver command)) → IfOk judged (ReportsOne (IsFoundOutcomeOf (Ok command)))
+behind_read command (Err e) found = tt
+behind_read command (Ok verdict) (o, one, reports) = (o, inl one, reports)
+
+abbrev pub Settled : History → TreeState → Type 0
+Settled mid v = (ignored : List ℕ → Bool) → IsOrderly (RestsOn ignored) v → IsSome (intent_of (files_of v)) → HasNow mid (IsSettled ignored (files_of v))
+
+abbrev pub Idle : History → History → TreeState → Type 0
+Idle old mid v = v.names intent_name ≡ None → IsEmptyStage v.names → mid ≡ old
+
+pub behind_run : AreLaws → (command : CommandLine) (output : Option (List ℕ)) (judged : Judged) (old mid now : History) → does_recover (effect_of command.applet) ≡ true
+    → IfObservable old (λ v. IsCalm v old mid) → IfObservable old IsGood → IfObservable old (λ v. HasNow mid (LeavesUnstaged v)) → IfObservable old (Settled mid) → IfObservable old (Idle old mid)
+    → IfObservable mid (λ u. IsRun (Ones command u) output judged u mid now) → StaysWithout mid now judged
+    → IfObservable old (λ v. IsWholeRun (Wholes command v) (effect_of command.applet) output judged v old now)
+behind_run laws command output judged [] mid now recovering calm good left settled idle run memory = tt
+behind_run laws command output judged (v ∷ rest) [] now recovering calm good left settled idle run memory = absurd left
+behind_run laws command output judged (v ∷ rest) (u ∷ more) now recovering calm good left settled idle run memory =
+    whole_behind laws (Ones command u) (Wholes command v) (effect_of command.applet) output judged v u rest more now recovering (good_is (effect_of command.applet) (files_of v) recovering good)
+    (left.0 ∙ sym (work_is (effect_of command.applet) (files_of v) recovering)) (λ o one. into command v u o recovering good left one) (λ o one. from command v u o recovering good left one)
+    (record { calm = calm; files = left; settled = settled; idle = idle }) run memory
+
+pub behind_proper : (command : CommandLine) (output : Option (List ℕ)) (old mid : History) (first second last : ℕ) → does_recover (effect_of command.applet) ≡ true → IfObservable old IsGood → IfObservable old (λ v. HasNow mid (LeavesUnstaged v))
+    → IfObservable old (λ v. HasRoomToReplay (files_of v) → second ≡ first) → IfObservable mid (λ u. RoomFor (Ones command u) output (files_of u) → last ≡ second)
+    → IfObservable old (λ v. LeavesRoomFor (effect_of command.applet) output (Wholes command v) (files_of v) → last ≡ first)
+behind_proper command output [] mid first second last recovering good left before after = tt
+behind_proper command output (v ∷ rest) [] first second last recovering good left before after = absurd left
+behind_proper command output (v ∷ rest) (u ∷ more) first second last recovering good left before after = λ room.
+    after (λ o one none. subst (HasRoomFor output) (sym (left.0 ∙ sym (work_is (effect_of command.applet) (files_of v) recovering))) (room.1 o (into command v u o recovering good left one) none))
+    ∙ before (room.0 recovering)
+
+-- ---- it did not
+
+-- how a fault of the recovery is judged
+abbrev pub IsRefused : RecoverFault → Verdict → Type 0
+IsRefused fault verdict = (cause : Cause) × (fault ≡ BadIntent cause) × ((files : Files) → as_outcome files verdict ≡ just_refusal files (IntentBad cause))
+
+abbrev pub SaysBad : RecoverFault → History → History → Type 0
+SaysBad fault old mid = (cause : Cause) → fault ≡ BadIntent cause → (mid ≡ old) × IfObservable old (λ v. IsIntentFault (files_of v) cause)
+
+bad_one : (command : CommandLine) (files : Files) (cause : Cause) → does_recover (effect_of command.applet) ≡ true → IsIntentFault files cause → IsOutcomeOf (Ok command) files (just_refusal files (IntentBad cause))
+bad_one command files cause recovering bad =
+    subst (λ (fault : Option Cause). IsOutcomeUnless fault command files (just_refusal files (IntentBad cause))) (sym (bad_is (effect_of command.applet) files cause recovering bad)) refl
+
+pub refused_found : (command : CommandLine) (fault : RecoverFault) (old mid : History) (judged : Judged) → does_recover (effect_of command.applet) ≡ true → SaysBad fault old mid → IfOk judged (IsRefused fault)
+    → IfOk judged (λ verdict. IfObservable old (λ v. ReportsOne (Wholes command v) verdict))
+refused_found command fault old mid (Err e) recovering bad refused = tt
+refused_found command fault [] mid (Ok verdict) recovering bad refused = tt
+refused_found command fault (v ∷ rest) mid (Ok verdict) recovering bad (cause, is, same) =
+    (just_refusal (files_of v) (IntentBad cause), bad_one command (files_of v) cause recovering (bad cause is).1, same (files_of v))
+
+pub refused_read : (command : CommandLine) (fault : RecoverFault) (judged : Judged) → does_recover (effect_of command.applet) ≡ true → ((cause : Cause) → fault ≡ BadIntent cause → (file : List ℕ) × (first_fault IntentTable file ≡ Some cause)) → IfOk judged (IsRefused fault)
+    → IfOk judged (ReportsOne (IsFoundOutcomeOf (Ok command)))
+refused_read command fault (Err e) recovering found refused = tt
+refused_read command fault (Ok verdict) recovering found (cause, is, same) =
+    let (file, bad) = found cause is in
+    (just_refusal no_names (IntentBad cause), inr (recovering, (file, cause, bad, refl)), same no_names)
+
+only_refused : (command : CommandLine) (files : Files) (cause : Cause) (o : Outcome) → does_recover (effect_of command.applet) ≡ true → IsIntentFault files cause → IsOutcomeOf (Ok command) files o → o.refusal ≡ None → ⊥
+only_refused command files cause o recovering bad one none =
+    let is : o ≡ just_refusal files (IntentBad cause) = subst (λ (fault : Option Cause). IsOutcomeUnless fault command files o) (bad_is (effect_of command.applet) files cause recovering bad) one in
+    let e : Some (IntentBad cause) ≡ None = ap (λ (x : Outcome). x.refusal) (sym is) ∙ none in
+    cc
+
+pub refused_run : AreLaws → (command : CommandLine) (fault : RecoverFault) (output : Option (List ℕ)) (judged : Judged) (old mid : History) → does_recover (effect_of command.applet) ≡ true
+    → IfObservable old (λ v. IsCalm v old mid) → IfObservable old (Idle old mid) → SaysBad fault old mid → IfOk judged (IsRefused fault)
+    → IfObservable old (λ v. IsWholeRun (Wholes command v) (effect_of command.applet) output judged v old mid)
+refused_run laws command fault output judged [] mid recovering calm idle bad refused = tt
+refused_run laws command fault output (Ok verdict) (v ∷ rest) mid recovering calm idle bad (cause, is, same) =
+    whole_idle (Wholes command v) (effect_of command.applet) output (Ok verdict) v rest mid (bad cause is).0 (λ P o one none. absurd (only_refused command (files_of v) cause o recovering (bad cause is).1 one none))
+refused_run laws command fault output (Err e) (v ∷ rest) mid recovering calm idle bad refused =
+    whole_failed laws (Wholes command v) (effect_of command.applet) output (Err e) e v rest mid recovering refl calm idle
+
+pub refused_proper : (Room : TreeState → Type 0) (old : History) (P : Type 0) → ((v : TreeState) → Room v → HasRoomToReplay (files_of v)) → IfObservable old (λ v. HasRoomToReplay (files_of v) → P) → IfObservable old (λ v. Room v → P)
+refused_proper Room [] P f proper = tt
+refused_proper Room (v ∷ rest) P f proper = λ room. proper (f v room)
+
+pub refused_kept : (fault : RecoverFault) (judged : Judged) (P : Type 0) → ((cause : Cause) → fault ≡ BadIntent cause → P) → IfOk judged (IsRefused fault) → OnOk judged P
+refused_kept fault (Ok verdict) P kept (cause, is, same) = kept cause is
+refused_kept fault (Err e) P kept refused = tt

@@ -1,0 +1,110 @@
+//! A command that makes a file: what an intent has still to do is done first.
+ghost use Rattle.std.specs.Prelude.{◌≡◌, true, None, Ok, IfOk, IsErrOf, IsSome, OnOk};
+ghost use Rattle.apk_front.specs.Moments.{HasRoomFor, LeavesRoomFor};
+ghost use Rattle.apk_front.specs.Runs.{IsRun, IsWholeRun};
+ghost use Rattle.apk_front.specs.Verdicts.{ReportsOne, as_outcome};
+ghost use Rattle.base_core.specs.Calls.{IfObservable};
+ghost use Rattle.base_core.specs.Faults.{GoesOn, HasCause, IsNoFault};
+ghost use Rattle.base_core.specs.Files.{Files};
+ghost use Rattle.base_core.specs.Tree.{files_of};
+ghost use Rattle.base_core.specs.declared.cause.Cause.{Cause};
+ghost use Rattle.outcome.specs.Commands.{IsFoundOutcomeOf, IsFoundOver, IsOutcomeOf, IsOutcomeOver};
+ghost use Rattle.outcome.specs.Effect.{does_recover, effect_of, output_if};
+ghost use Rattle.outcome.specs.Outcome.{Outcome, just_refusal};
+ghost use Rattle.report_core.specs.declared.refusal.Refusal.TheVariants.{IntentBad};
+
+use crate::answer::Verdict;
+use crate::make::{mkndx, mkpkg};
+use base_core::{Tree, TreeFault, counts_of_calls_in_a_row_join};
+use command_core::{Applet, Command};
+use journal_core::{
+    RecoverFault, moments_on_the_way_join, quiet_then_old_or_new_is_old_or_new, recover,
+    settled_then_quiet_is_settled, still_moments_join,
+};
+use report_core::Refusal;
+use std::alloc::Global;
+
+/// Recovers the tree, and makes a file of what is then there.
+pub(crate) fn make<T: Tree>(
+    alloc: Global,
+    command: &Command,
+    tree: &mut T,
+) -> Result<Verdict, TreeFault>
+    requires { does_recover (effect_of command.now.applet) ≡ true }
+    ensures found { IfOk result (λ verdict. IfObservable (T.history tree.old) (λ v.
+        ReportsOne (IsOutcomeOf (Ok command.now) (files_of v)) verdict)) }
+    ensures by_reads { IfOk result (λ verdict.
+        ReportsOne (IsFoundOutcomeOf (Ok command.now)) verdict) }
+    ensures run { IfObservable (T.history tree.old) (λ v. IsWholeRun
+        (IsOutcomeOf (Ok command.now) (files_of v)) (effect_of command.now.applet)
+        (output_if (effect_of command.now.applet) command.now)
+        result v (T.history tree.old) (T.history tree.new)) }
+    ensures goes_on { GoesOn (T.counts tree.old) (T.counts tree.new) }
+    ensures disk { IsErrOf result TreeFault.Disk
+        → HasCause (T.counts tree.old) (T.counts tree.new) }
+    ensures kept { OnOk result (IsNoFault (T.counts tree.old) (T.counts tree.new)) }
+    ensures memory { IsErrOf result TreeFault.Memory
+        → IsNoFault (T.counts tree.old) (T.counts tree.new) }
+    ensures proper { IfObservable (T.history tree.old) (λ v.
+        LeavesRoomFor (effect_of command.now.applet)
+        (output_if (effect_of command.now.applet) command.now)
+        (IsOutcomeOf (Ok command.now) (files_of v)) (files_of v)
+        → (T.counts tree.new).misuses ≡ (T.counts tree.old).misuses) }
+{
+    counts_of_calls_in_a_row_join();
+    still_moments_join();
+    settled_then_quiet_is_settled();
+    quiet_then_old_or_new_is_old_or_new();
+    moments_on_the_way_join();
+    match recover(alloc, tree) {
+        Ok(()) => make_one(alloc, command, tree),
+        Err(fault) => refuse_to_recover(alloc, fault),
+    }
+}
+
+// Makes a file of what is there.
+fn make_one<T: Tree>(alloc: Global, command: &Command, tree: &mut T) -> Result<Verdict, TreeFault>
+    requires { does_recover (effect_of command.now.applet) ≡ true }
+    ensures found { IfOk result (λ verdict. IfObservable (T.history tree.old) (λ v.
+        ReportsOne (IsOutcomeOver command.now (files_of v)) verdict)) }
+    ensures by_reads { IfOk result (λ verdict. ReportsOne (IsFoundOver command.now) verdict) }
+    ensures run { IfObservable (T.history tree.old) (λ v. IsRun
+        (IsOutcomeOver command.now (files_of v))
+        (output_if (effect_of command.now.applet) command.now)
+        result v (T.history tree.old) (T.history tree.new)) }
+    ensures undone { IsErrOf result TreeFault.Memory → T.history tree.new ≡ T.history tree.old }
+    ensures goes_on { GoesOn (T.counts tree.old) (T.counts tree.new) }
+    ensures disk { IsErrOf result TreeFault.Disk
+        → HasCause (T.counts tree.old) (T.counts tree.new) }
+    ensures kept { OnOk result (IsNoFault (T.counts tree.old) (T.counts tree.new)) }
+    ensures memory { IsErrOf result TreeFault.Memory
+        → IsNoFault (T.counts tree.old) (T.counts tree.new) }
+    ensures proper { IfObservable (T.history tree.old) (λ v.
+        ((outcome : Outcome) → IsOutcomeOver command.now (files_of v) outcome
+        → outcome.refusal ≡ None
+        → HasRoomFor (output_if (effect_of command.now.applet) command.now) (files_of v))
+        → (T.counts tree.new).misuses ≡ (T.counts tree.old).misuses) }
+{
+    match command.applet() {
+        Applet::Mkpkg => mkpkg(alloc, command, tree),
+        Applet::Mkndx => mkndx(alloc, command, tree),
+        _ => unreachable!(),
+    }
+}
+
+// A bad intent is refused.
+fn refuse_to_recover(alloc: Global, fault: RecoverFault) -> Result<Verdict, TreeFault>
+    ensures refused { IfOk result (λ verdict. (cause : Cause)
+        × (fault ≡ RecoverFault.IntentBad cause)
+        × ((files : Files) → as_outcome files verdict ≡ just_refusal files (IntentBad cause))) }
+    ensures disk { IsErrOf result TreeFault.Disk → fault ≡ RecoverFault.Disk }
+    ensures memory { IsErrOf result TreeFault.Memory → fault ≡ RecoverFault.Memory }
+{
+    match fault {
+        RecoverFault::IntentBad(cause) => {
+            Ok(Verdict::refused(alloc, Refusal::IntentBad { cause }))
+        }
+        RecoverFault::Disk => Err(TreeFault::Disk),
+        RecoverFault::Memory => Err(TreeFault::Memory),
+    }
+}

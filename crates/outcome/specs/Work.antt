@@ -1,0 +1,25 @@
+-- The files on which a command works, and why it may not begin.
+use Rattle.std.specs.Prelude.{ℕ, List, Option, Some, None}
+use Rattle.adb_schema.specs.Soundness.{first_fault}
+use Rattle.adb_tables.specs.declared.tables.Which.TheVariants.{Intent as IntentTable}
+use Rattle.base_core.specs.Files.{Files}
+use Rattle.base_core.specs.declared.cause.Cause.{Cause}
+use Rattle.journal_core.specs.Recovery.{intent_name}
+use Rattle.journal_core.specs.Staged.{unstaged_files}
+use Rattle.outcome.specs.Effect.{Effect, Makes}
+
+-- those that a recovery leaves, of a command that recovers
+abbrev pub work_files : Effect → Files → Files
+work_files Makes files = unstaged_files files
+work_files other files = files
+
+-- why what stands under the intent's name is no intent container; where nothing stands, nothing is
+-- wrong
+abbrev pub fault_of_intent : Option (List ℕ) → Option Cause
+fault_of_intent None = None
+fault_of_intent (Some file) = first_fault IntentTable file
+
+-- why a command cannot recover these files, if it has to
+abbrev pub recovery_fault : Effect → Files → Option Cause
+recovery_fault Makes files = fault_of_intent (files intent_name)
+recovery_fault other files = None

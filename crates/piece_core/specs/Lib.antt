@@ -1,0 +1,6 @@
+-- what the contract of `apk` says: nothing
+-- what only inner contracts and proofs use
+pub mod Pieces
+pub mod Hashing
+pub mod Taking
+pub mod Places

@@ -1,0 +1,68 @@
+-- Where a reader stands in the blocks of a package, and what a block comes to.
+use Rattle.std.specs.Prelude.{◌≡◌, ◌≤◌, ℕ, ◌+◌, ◌-◌, min, List, [], length, take, drop, Option, Some, None, Result, Ok, Err}
+use Rattle.base_core.specs.declared.cause.Cause.{Cause}
+use Rattle.adb_block.specs.Framing.{Step as BlockStep, next_step}
+use Rattle.adb_block.specs.Frames.{framed_piece, raw_size}
+use Rattle.adb_block.specs.Piece.{padding_of}
+use Rattle.adb_block.specs.Reading.{reading_of}
+use Rattle.adb_block.specs.Standing.{Standing}
+use Rattle.adb_block.specs.declared.block.Frame.{Frame}
+use Rattle.pkg_core.specs.Contents.{contents_bytes}
+use Rattle.pkg_core.specs.Opened.{left_in}
+use Rattle.piece_core.specs.Pieces.{PiecesRead, no_piece, refusal, pieces_by_blocks}
+use Rattle.piece_core.specs.Taking.{HasTaken, pieces_in}
+use Rattle.piece_core.specs.declared.place.BlockPlace.{BlockPlace}
+use Rattle.piece_core.specs.declared.place.Step.{Step}
+use Rattle.piece_core.specs.declared.place.Step.TheVariants.{End, Passed, Opened}
+
+-- ---- of a file
+
+abbrev pub standing_at_place : BlockPlace → List ℕ → Standing
+standing_at_place place file =
+    record { schema = 0; last = Some place.last; at = place.at; left = drop place.at file }
+
+-- what stands there
+abbrev pub step_at : BlockPlace → List ℕ → BlockStep
+step_at place file = next_step (Some place.last) place.at (drop place.at file)
+
+-- the pieces that the blocks from there on give
+abbrev pub pieces_at : BlockPlace → List ℕ → PiecesRead
+pieces_at place file =
+    pieces_by_blocks (left_in place.walk) (reading_of (standing_at_place place file))
+
+-- the payload of a block that stands there
+abbrev pub payload_at : Frame → BlockPlace → List ℕ → List ℕ
+payload_at frame place file = (framed_piece frame (drop place.at file)).payload
+
+-- these are the first eight bytes of the block's payload, where it has as many
+abbrev pub HasPositions : Option Frame → List ℕ → BlockPlace → List ℕ → Type 0
+HasPositions None positions place file = Unit {0}
+HasPositions (Some frame) positions place file =
+    8 ≤ frame.payload_len → take 8 (payload_at frame place file) ≡ positions
+
+-- ---- a step
+
+-- how many bytes a block has with its padding, where so many are left
+abbrev pub whole_size : Frame → ℕ → ℕ
+whole_size frame left = raw_size frame + min (padding_of (raw_size frame)) (left - raw_size frame)
+
+abbrev pub place_behind : BlockPlace → Frame → BlockPlace
+place_behind place frame = record {
+  len = place.len;
+  walk = place.walk;
+  last = frame.kind;
+  at = place.at + whole_size frame (place.len - place.at);
+}
+
+-- no block is left, a block was passed, or the contents of a file begin and the pieces behind them
+-- come from where the reader stands then; or the first failed test
+abbrev pub IsStepped : Option Frame → BlockPlace → List ℕ → Result Step Cause → BlockPlace → Type 0
+IsStepped framing before file (Ok End) after = pieces_at before file ≡ no_piece
+IsStepped framing before file (Ok Passed) after = pieces_at before file ≡ pieces_at after file
+IsStepped None before file (Ok (Opened f)) after = ⊥
+IsStepped (Some frame) before file (Ok (Opened f)) after =
+    (pieces_at before file
+    ≡ pieces_in f [] (contents_bytes (payload_at frame before file)) (pieces_at after file))
+    × HasTaken f []
+    × (length (contents_bytes (payload_at frame before file)) ≡ f.wanted.size)
+IsStepped framing before file (Err c) after = pieces_at before file ≡ refusal c

@@ -1,0 +1,46 @@
+-- Where a file stands whose bytes are handed in piece by piece.
+use Rattle.std.specs.Prelude.{◌≡◌, ℕ, ◌-◌, min, List, [], ◌++◌, length, Option, Some, None, Result, Ok, Err}
+use Rattle.base_core.specs.declared.cause.Cause.{Cause}
+use Rattle.pkg_core.specs.Contents.{contents_bytes, hash_fault}
+use Rattle.pkg_core.specs.Opened.{expected_of}
+use Rattle.piece_core.specs.Hashing.{HoldsFor}
+use Rattle.piece_core.specs.Pieces.{PiecesRead, piece, refusal, pieces_from, whole_pieces}
+use Rattle.piece_core.specs.declared.file.FilePieces.{FilePieces}
+use Rattle.piece_core.specs.declared.part.Part.{Part}
+use Rattle.piece_core.specs.declared.part.TheConstants.{PIECE_LEN}
+
+-- how many bytes the next piece has
+abbrev pub next_len : FilePieces → ℕ
+next_len f = min (f.wanted.size - f.done) PIECE_LEN
+
+-- just these bytes were handed in
+pub record HasTaken (f : FilePieces) (so_far : List ℕ) : Type 0 where
+  pub hashed : HoldsFor f.hasher f.wanted.hash.now so_far
+  pub long : length so_far ≡ f.done
+
+-- the pieces of the bytes that are left of the file, behind those so far, and then further ones
+abbrev pub pieces_in : FilePieces → List ℕ → List ℕ → PiecesRead → PiecesRead
+pieces_in f so_far left further =
+    pieces_from (whole_pieces (length left)) (expected_of f.wanted)
+    (hash_fault f.wanted.hash.now (so_far ++ left)) left further
+
+-- these bytes are the next piece, and then comes what is left or, behind the last piece, what is
+-- further; or the digest differs
+abbrev pub IsTaken : FilePieces → List ℕ → List ℕ → List ℕ → PiecesRead
+    → Result (Part × Option FilePieces) Cause → Type 0
+IsTaken f so_far bytes left further (Ok (part, Some g)) =
+    (pieces_in f so_far (bytes ++ left) further
+    ≡ piece part bytes (pieces_in g (so_far ++ bytes) left further))
+    × HasTaken g (so_far ++ bytes) × (g.wanted ≡ f.wanted)
+IsTaken f so_far bytes left further (Ok (part, None)) =
+    pieces_in f so_far (bytes ++ left) further ≡ piece part bytes further
+IsTaken f so_far bytes left further (Err c) =
+    pieces_in f so_far (bytes ++ left) further ≡ refusal c
+
+-- the block's contents are those of a file, of which nothing was handed in yet; or the first failed
+-- test
+abbrev pub IsOpened : PiecesRead → List ℕ → PiecesRead → Result FilePieces Cause → Type 0
+IsOpened before payload further (Ok f) =
+    (before ≡ pieces_in f [] (contents_bytes payload) further) × HasTaken f []
+    × (length (contents_bytes payload) ≡ f.wanted.size)
+IsOpened before payload further (Err c) = before ≡ refusal c

@@ -1,0 +1,136 @@
+//! A file of a package whose contents are handed in piece by piece.
+
+ghost use Rattle.std.specs.Prelude.{◌≡◌, ◌≤◌, ℕ, List, ◌++◌, length, take};
+ghost use Rattle.adb_schema.specs.Soundness.{file_pair};
+ghost use Rattle.pkg_core.specs.Contents.{Expected, contents_bytes};
+ghost use Rattle.pkg_core.specs.Opened.{expected_of, left_in};
+ghost use Rattle.piece_core.specs.Pieces.{PiecesRead, part_of, pieces_of_payload, position_or_size_fault};
+ghost use Rattle.piece_core.specs.Taking.{HasTaken, IsOpened, IsTaken, next_len};
+
+use crate::hasher::Hasher;
+use crate::part::{PIECE_LEN, Part};
+use adb_schema::file_pair;
+use base_core::Cause;
+use pkg_core::{Walk, Wanted};
+
+/// The bytes in front of a file's own in its contents: the positions of its folder and of itself.
+const POSITIONS_LEN: u64 = 8;
+
+/// A file whose contents are handed in: which one is due, and how many of its bytes were taken.
+/// Contracts see, by `Taking` of `specs/`, which bytes these were.
+#[derive(Drop)]
+pub struct FilePieces<'a> {
+    wanted: Wanted<'a>,
+    done: u64,
+    hasher: Hasher,
+}
+
+impl<'a> FilePieces<'a> {
+    /// How many bytes the next piece has: 65,536, or what is left of the file.
+    pub fn next_len(&self) -> usize
+        ensures { result ≡ next_len self.now }
+    {
+        let left = self.wanted.size.saturating_sub(self.done);
+        left.min(PIECE_LEN as u64) as usize
+    }
+
+    /// Takes the next piece, and gives which part of which file it is and, unless it is the last,
+    /// what is left of the file.
+    ///
+    /// # Errors
+    ///
+    /// `HashDiffers`, behind the last piece, where all bytes together do not have the file's
+    /// digest.
+    #[tactic(auto, using(crate::proofs::Taken::more_left, crate::proofs::Taken::last_good, crate::proofs::Taken::last_bad))]
+    pub fn take(self, bytes: &[u8]) -> Result<(Part, Option<FilePieces<'a>>), Cause>
+        requires { length bytes.now ≡ next_len self }
+        ensures { (so_far left : List ℕ) (further : PiecesRead) → HasTaken self.entry so_far
+            → length (so_far ++ (bytes.now ++ left)) ≡ self.entry.wanted.size
+            → IsTaken self.entry so_far bytes.now left further result }
+    {
+        let wanted = self.wanted;
+        let left = wanted.size.saturating_sub(self.done);
+        let len = bytes.len() as u64;
+        let mut hasher = self.hasher;
+        hasher.update(bytes);
+        if len < left {
+            let done = self.done + len;
+            let further = FilePieces {
+                wanted,
+                done,
+                hasher,
+            };
+            return Ok((part_of(wanted, false), Some(further)));
+        }
+        match hasher.fault(wanted.hash) {
+            Some(cause) => Err(cause),
+            None => Ok((part_of(wanted, true), None)),
+        }
+    }
+}
+
+/// A part of this file.
+fn part_of(wanted: Wanted<'_>, last: bool) -> Part
+    ensures { result ≡ part_of (expected_of wanted.entry) last }
+{
+    Part {
+        path: wanted.folder,
+        file: wanted.file,
+        last,
+    }
+}
+
+/// Opens the file whose contents a block holds: the next one of the walk. The block's payload has
+/// so many bytes, and begins with these positions of a folder and of a file in it.
+///
+/// # Errors
+///
+/// First the positions are compared, then the size: `DataOrder`, with (0, 0) where no file is due,
+/// or `DataSize`.
+pub fn open_file<'a>(
+    walk: &mut Walk<'a>,
+    len: u64,
+    positions: &[u8; 8],
+) -> Result<FilePieces<'a>, Cause>
+    requires { 8 ≤ len }
+    ensures { (payload : List ℕ) (further : List Expected → PiecesRead) → length payload ≡ len
+        → take 8 payload ≡ positions.now
+        → IsOpened (pieces_of_payload payload further (left_in walk.old)) payload
+        (further (left_in walk.new)) result }
+{
+    let found = file_pair(positions);
+    let Some(wanted) = walk.next() else {
+        return Err(Cause::DataOrder {
+            expected: (0, 0),
+            found,
+        });
+    };
+    match position_or_size_fault(found, len - POSITIONS_LEN, wanted) {
+        Some(cause) => Err(cause),
+        None => Ok(FilePieces {
+            wanted,
+            done: 0,
+            hasher: Hasher::new(wanted.hash),
+        }),
+    }
+}
+
+/// Why contents are not those of a file, by what is known before their bytes: first the positions
+/// are compared, then the size.
+fn position_or_size_fault(found: (u32, u32), size: u64, wanted: Wanted<'_>) -> Option<Cause>
+    ensures { (payload : List ℕ) → length (contents_bytes payload) ≡ size
+        → file_pair payload ≡ found
+        → result ≡ position_or_size_fault payload (expected_of wanted.entry) }
+{
+    let expected = (wanted.folder, wanted.file);
+    if found != expected {
+        return Some(Cause::DataOrder { expected, found });
+    }
+    if size != wanted.size {
+        return Some(Cause::DataSize {
+            wanted: wanted.size,
+            found: size,
+        });
+    }
+    None
+}

@@ -1,0 +1,127 @@
+//! Where a reader stands in the blocks of a package, and what the next block comes to.
+
+ghost use Rattle.std.specs.Prelude.{◌≡◌, ◌≤◌, ◌-◌, ℕ, List, None, Some, Ok, length, drop, IfSome};
+ghost use Rattle.adb_block.specs.Framing.{ended};
+ghost use Rattle.adb_block.specs.Frames.{IsFramed, raw_size};
+ghost use Rattle.adb_block.specs.declared.block.BlockKind.TheVariants as Kinds;
+ghost use Rattle.piece_core.specs.Places.{HasPositions, IsStepped, place_behind, step_at};
+
+use crate::file::{FilePieces, open_file};
+use adb_block::{BlockKind, Frame, padding_of};
+use base_core::Cause;
+use pkg_core::Walk;
+
+/// How many bytes stand in front of a file's own in its contents: the positions of its folder and
+/// of itself.
+const POSITIONS_LEN: u64 = 8;
+
+/// Where a reader stands in the blocks of a package behind the first one: in a file of `len` bytes,
+/// behind a block of the kind `last`, at the offset of the next block; and the walk over the files
+/// whose contents are due.
+#[derive(Clone, Copy)]
+pub struct BlockPlace<'a> {
+    pub len: u64,
+    pub walk: Walk<'a>,
+    pub last: BlockKind,
+    pub at: u64,
+}
+
+/// What a block behind the first one comes to.
+#[derive(Drop)]
+pub enum Step<'a> {
+    /// No block is left, and no file is due.
+    End,
+    /// The block holds no contents.
+    Passed,
+    /// The contents of the next file begin.
+    Opened(FilePieces<'a>),
+}
+
+impl<'a> BlockPlace<'a> {
+    /// Goes on behind the block that stands there: `framing` is what its header frames (`frame_of`
+    /// of `adb_block`), and `positions` are the first eight bytes of its payload, which count only
+    /// where it has as many.
+    ///
+    /// # Errors
+    ///
+    /// `Truncated` where contents have fewer than eight bytes; those of `open_file`; and `DataOrder`
+    /// with (0, 0) where no block is left and a file is due.
+    pub fn step(&mut self, framing: Option<Frame>, positions: &[u8; 8]) -> Result<Step<'a>, Cause>
+        requires at { self.old.at ≤ self.old.len }
+        requires fits { IfSome framing (λ frame. raw_size frame ≤ self.old.len - self.old.at) }
+        ensures { (file : List ℕ) → length file ≡ self.old.len
+            → IsFramed (Ok framing) (drop self.old.at file) (step_at self.old file)
+            → HasPositions framing positions.now self.old file
+            → IsStepped framing self.old file result self.new }
+    {
+        match framing {
+            None => self.end(),
+            Some(frame) => self.step_over(frame, positions),
+        }
+    }
+
+    /// Where no block is left, no file may be due.
+    #[tactic(auto, using(crate::proofs::Placed::end_good, crate::proofs::Placed::end_bad))]
+    fn end(&mut self) -> Result<Step<'a>, Cause>
+        ensures { (file : List ℕ) → step_at self.old file ≡ ended
+            → IsStepped None self.old file result self.new }
+    {
+        match self.walk.end() {
+            Ok(()) => Ok(Step::End),
+            Err(cause) => Err(cause),
+        }
+    }
+
+    /// Goes on behind this block.
+    fn step_over(&mut self, frame: Frame, positions: &[u8; 8]) -> Result<Step<'a>, Cause>
+        requires at { self.old.at ≤ self.old.len }
+        requires fits { raw_size frame ≤ self.old.len - self.old.at }
+        ensures { (file : List ℕ) → length file ≡ self.old.len
+            → IsFramed (Ok (Some frame)) (drop self.old.at file) (step_at self.old file)
+            → HasPositions (Some frame) positions.now self.old file
+            → IsStepped (Some frame) self.old file result self.new }
+    {
+        match frame.kind {
+            BlockKind::Contents => self.open(frame, positions),
+            BlockKind::Adb | BlockKind::Signature => {
+                self.pass(frame);
+                Ok(Step::Passed)
+            }
+        }
+    }
+
+    /// Opens the file whose contents this block holds.
+    fn open(&mut self, frame: Frame, positions: &[u8; 8]) -> Result<Step<'a>, Cause>
+        requires at { self.old.at ≤ self.old.len }
+        requires fits { raw_size frame ≤ self.old.len - self.old.at }
+        requires kind { frame.kind ≡ Kinds.Contents }
+        ensures { (file : List ℕ) → length file ≡ self.old.len
+            → IsFramed (Ok (Some frame)) (drop self.old.at file) (step_at self.old file)
+            → HasPositions (Some frame) positions.now self.old file
+            → IsStepped (Some frame) self.old file result self.new }
+    {
+        if frame.payload_len < POSITIONS_LEN {
+            return Err(Cause::Truncated { at: self.at });
+        }
+        match open_file(&mut self.walk, frame.payload_len, positions) {
+            Ok(file) => {
+                self.pass(frame);
+                Ok(Step::Opened(file))
+            }
+            Err(cause) => Err(cause),
+        }
+    }
+
+    /// Goes on behind a block and its padding, as much of it as is there.
+    fn pass(&mut self, frame: Frame)
+        requires at { self.old.at ≤ self.old.len }
+        requires fits { raw_size frame ≤ self.old.len - self.old.at }
+        ensures { self.new ≡ place_behind self.old frame }
+    {
+        let left = self.len - self.at;
+        let raw = frame.head_len + frame.payload_len;
+        let padding = padding_of(raw as usize) as u64;
+        self.at += raw + padding.min(left - raw);
+        self.last = frame.kind;
+    }
+}

@@ -1,0 +1,16 @@
+use Rattle.std.proofs.Common.{◌≡◌, ℕ, List, refl, true}
+use Rattle.std.specs.Prelude.{codes}
+use Rattle.adb_view.specs.Plain.{Plain}
+use Rattle.adb_tables.specs.FormatTables.{format_table}
+use Rattle.adb_tables.specs.Values.{entries_in, entry_in}
+use Rattle.adb_tables.specs.declared.tables.Which.TheVariants.{PkgInfo}
+use Rattle.pool_core.specs.FieldNames.{info_under_name}
+use Rattle.pool_core.proofs.FieldsByName.{by_place, is_place_of}
+use Rattle.pool_core.proofs.laws.a_candidate_is_read_by_field_names.Goals as goal
+
+at : (name : List ℕ) (i : ℕ) (info : Plain) → is_place_of name i (format_table PkgInfo).1 ≡ true → info_under_name name info ≡ entry_in info i
+at name i info h = by_place name i (format_table PkgInfo).1 (entries_in info) h
+
+pub returns : goal.returns
+returns c = λ info repository tag installed.
+    rw (at (codes "name") 0 info refl, at (codes "version") 1 info refl, at (codes "hashes") 2 info refl, at (codes "depends") 14 info refl, at (codes "provides") 15 info refl, at (codes "install-if") 17 info refl, at (codes "provider-priority") 13 info refl) refl

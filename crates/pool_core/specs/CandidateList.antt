@@ -1,0 +1,28 @@
+-- The list of candidates in the making.
+use Rattle.std.specs.Prelude.{◌≤◌, ℕ, zero, suc, Bool, false, if◌then◌else◌, List, [], ◌∷◌, length, Option, Some, None, slice_get}
+use Rattle.std.specs.Option.{option_map_or}
+use Rattle.pool_core.specs.declared.pool.CandidateList.{CandidateList}
+use Rattle.pool_core.specs.declared.pool.TheConstants.{MOST_CANDIDATES}
+use Rattle.pool_core.specs.Candidates.{Candidate, as_installed, is_same_package}
+use Rattle.pool_core.specs.Table.{LeadsToOffers}
+
+-- the table leads each name to the candidates that offer it, and they are not too many
+pub record IsCandidateList (list : CandidateList) : Type 0 where
+  pub leads : LeadsToOffers list.table list.details.items
+  pub fits : length list.details.items ≤ MOST_CANDIDATES
+
+-- after a refusal there is no list
+abbrev pub candidates_in : Option CandidateList → List Candidate
+candidates_in None = []
+candidates_in (Some list) = list.details.items
+
+-- whether the candidate at a place is the installed package
+abbrev pub is_same_at : Candidate → List Candidate → ℕ → Bool
+is_same_at installed cs place = option_map_or (is_same_package installed) (slice_get cs place) false
+
+-- the list, where the candidate at a place counts as installed if it is the installed package
+abbrev pub marked_at : Candidate → ℕ → List Candidate → List Candidate
+marked_at installed place [] = []
+marked_at installed zero (c ∷ cs) =
+    (if is_same_package installed c then as_installed c else c) ∷ cs
+marked_at installed (suc place) (c ∷ cs) = c ∷ marked_at installed place cs

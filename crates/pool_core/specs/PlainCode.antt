@@ -1,0 +1,85 @@
+-- How plain values are told apart: each has a list of steps that build it again. The steps say
+-- nothing of the format.
+use Rattle.std.specs.Prelude.{◌≡◌, ℕ, zero, suc, List, [], ◌∷◌}
+use mathlib.Core.Path.{refl, ap, ◌∙◌}
+use Rattle.std.specs.Coded.{Coded, code_by, coded×, coded_list, coded_ℕ}
+use Rattle.adb_view.specs.Plain.{Plain, Plains, null, int, blob, arr, obj, none, more}
+
+-- built values, where an array gets a value in front of its others
+abbrev pub with_first : Plain → Plain → List Plain → List Plain
+with_first v null rest = rest
+with_first v (int n) rest = rest
+with_first v (blob b) rest = rest
+with_first v (arr vs) rest = arr (more v vs) ∷ rest
+with_first v (obj vs) rest = rest
+
+abbrev pub first_with_second : List Plain → List Plain
+first_with_second [] = []
+first_with_second (v ∷ []) = []
+first_with_second (v ∷ (w ∷ rest)) = with_first v w rest
+
+abbrev pub as_object : Plain → Plain
+as_object null = null
+as_object (int n) = null
+as_object (blob b) = null
+as_object (arr vs) = obj vs
+as_object (obj vs) = null
+
+abbrev pub first_as_object : List Plain → List Plain
+first_as_object [] = []
+first_as_object (v ∷ rest) = as_object v ∷ rest
+
+-- a step: what it does to the values that the steps behind it built, and its number and bytes
+abbrev pub BuildStep : Type 0
+BuildStep = ℕ × (ℕ × List ℕ)
+
+abbrev pub built_with : ℕ → ℕ → List ℕ → List Plain → List Plain
+built_with zero n b vs = null ∷ vs
+built_with (suc zero) n b vs = int n ∷ vs
+built_with (suc (suc zero)) n b vs = blob b ∷ vs
+built_with (suc (suc (suc zero))) n b vs = arr none ∷ vs
+built_with (suc (suc (suc (suc zero)))) n b vs = first_with_second vs
+built_with (suc (suc (suc (suc (suc k))))) n b vs = first_as_object vs
+
+abbrev pub built : List BuildStep → List Plain
+built [] = []
+built (i ∷ steps) = built_with i.0 i.1.0 i.1.1 (built steps)
+
+abbrev mutual
+  pub steps_of : Plain → List BuildStep → List BuildStep
+  steps_of null steps = (0, (0, [])) ∷ steps
+  steps_of (int n) steps = (1, (n, [])) ∷ steps
+  steps_of (blob b) steps = (2, (0, b)) ∷ steps
+  steps_of (arr vs) steps = steps_of_all vs steps
+  steps_of (obj vs) steps = (5, (0, [])) ∷ steps_of_all vs steps
+
+  pub steps_of_all : Plains → List BuildStep → List BuildStep
+  steps_of_all none steps = (3, (0, [])) ∷ steps
+  steps_of_all (more v vs) steps = (4, (0, [])) ∷ steps_of v (steps_of_all vs steps)
+
+mutual
+  pub built_again :
+      (v : Plain) (steps : List BuildStep) → built (steps_of v steps) ≡ v ∷ built steps
+  built_again null steps = refl
+  built_again (int n) steps = refl
+  built_again (blob b) steps = refl
+  built_again (arr vs) steps = all_built_again vs steps
+  built_again (obj vs) steps = ap first_as_object (all_built_again vs steps)
+
+  pub all_built_again :
+      (vs : Plains) (steps : List BuildStep) →
+      built (steps_of_all vs steps) ≡ arr vs ∷ built steps
+  all_built_again none steps = refl
+  all_built_again (more v vs) steps =
+      ap first_with_second
+      (built_again v (steps_of_all vs steps)
+      ∙ ap (λ (z : List Plain). v ∷ z) (all_built_again vs steps))
+
+abbrev pub first_of : List Plain → Plain
+first_of [] = null
+first_of (v ∷ vs) = v
+
+abbrev pub plain_code : Coded Plain
+plain_code =
+    code_by (List BuildStep) (coded_list (coded× coded_ℕ (coded× coded_ℕ (coded_list coded_ℕ))))
+    (λ v. steps_of v []) (λ steps. first_of (built steps)) (λ v. ap first_of (built_again v []))

@@ -1,0 +1,82 @@
+//! Answers questions to `journal_core`: what a change by a stage leaves where it is cut off or a
+//! call fails, and what a recovery makes of it; which intents are refused; and a file that is
+//! replaced again and again while the names are never synced. Its stored run has all rows;
+//! `tests/lines.md` describes their form.
+#![tactic(auto)]
+
+mod changing;
+mod intents;
+mod many;
+mod replacing;
+mod sweeping;
+mod trees;
+
+use base_core::Words;
+use intents::{add_change, add_cuts, add_recovery};
+use many::add_many;
+use replacing::add_replacements;
+use row_lines::{Subject, run_lines, value_named, word_at};
+use std::alloc::{AllocError, Global};
+use std::io;
+use std::io::{Read, Write};
+use std::process::ExitCode;
+use sweeping::{add_fault, add_stop};
+
+/// What is asked.
+#[derive(Clone, Copy)]
+enum Question {
+    Change,
+    Stop,
+    Fault,
+    Recover,
+    Cuts,
+    Many,
+    Replace,
+}
+
+#[rattlefmt::skip]
+const QUESTIONS: [(&[u8], Question); 7] = [
+    (b"change", Question::Change),
+    (b"stop", Question::Stop),
+    (b"fault", Question::Fault),
+    (b"recover", Question::Recover),
+    (b"cuts", Question::Cuts),
+    (b"many", Question::Many),
+    (b"replace", Question::Replace),
+];
+
+/// Each row has trees of its own.
+#[derive(Drop)]
+struct Sweeps;
+
+impl Subject for Sweeps {
+    fn answer(
+        &mut self,
+        alloc: Global,
+        words: &Words,
+        answer: &mut Vec<u8>,
+    ) -> Result<(), AllocError> {
+        let Some(question) = value_named(&QUESTIONS, word_at(words, 0)) else {
+            return answer.extend_from_slice(b"no question");
+        };
+        match question {
+            Question::Change => add_change(alloc, words, answer),
+            Question::Stop => add_stop(alloc, words, answer),
+            Question::Fault => add_fault(alloc, words, answer),
+            Question::Recover => add_recovery(alloc, words, answer),
+            Question::Cuts => add_cuts(alloc, words, answer),
+            Question::Many => add_many(alloc, words, answer),
+            Question::Replace => add_replacements(alloc, words, answer),
+        }
+    }
+}
+
+fn main(rt: HostRuntime) -> io::Result<ExitCode> {
+    let alloc = rt.alloc();
+    let mut text = Vec::new(alloc);
+    rt.stdin().read_to_end(&mut text)?;
+    let mut report = Vec::new(alloc);
+    let passed = run_lines(alloc, &mut Sweeps, &text, &mut report)?;
+    rt.stdout().write_all(&report)?;
+    Ok(ExitCode::from(if passed { 0 } else { 1 }))
+}

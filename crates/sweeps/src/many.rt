@@ -1,0 +1,161 @@
+//! An intent of so many writes that a walk over their pairs would not end in time.
+use crate::trees::{add_count, long_at, put};
+use adb_schema::INTENT_WORD;
+use adb_view::Val;
+use adb_write::{Writer, file_of};
+use base_core::{Name, Words};
+use journal_core::recover;
+use journal_intent::PreparedIntent;
+use row_lines::add_word;
+use std::alloc::{AllocError, Global};
+use tree_memory::MemoryTree;
+
+/// The number of the first name. All numbers have as many digits, so that the names rise in byte
+/// order and a tree in memory adds each at its end.
+const FIRST: usize = 100_000;
+
+/// The most bytes of a payload.
+const MOST_BYTES: usize = 268_435_455;
+
+/// The most writes of a row.
+const MOST: u64 = 65_536;
+
+/// Answers `many WRITES WAITING`: whether an intent of so many writes is read back, name by name,
+/// and what a recovery makes of it, where the last so many files wait and the others were moved
+/// before: how many calls of it write, and how many of the files then stand under their names.
+pub fn add_many(alloc: Global, words: &Words, answer: &mut Vec<u8>) -> Result<(), AllocError> {
+    let count = long_at(words, 1).min(MOST) as usize;
+    let waiting = long_at(words, 2).min(MOST) as usize;
+    let Some(file) = intent_file(alloc, count)? else {
+        return answer.extend_from_slice(b"no intent");
+    };
+    add_count(alloc, answer, b"read", names_read(alloc, &file)?)?;
+    add_recovered(alloc, &file, count, waiting, answer)
+}
+
+fn add_recovered(
+    alloc: Global,
+    file: &[u8],
+    count: usize,
+    waiting: usize,
+    answer: &mut Vec<u8>,
+) -> Result<(), AllocError> {
+    let mut tree = MemoryTree::new(alloc);
+    add_recovered_tree(alloc, &mut tree, file, count, waiting, answer)
+}
+
+fn add_recovered_tree(
+    alloc: Global,
+    tree: &mut MemoryTree,
+    file: &[u8],
+    count: usize,
+    waiting: usize,
+    answer: &mut Vec<u8>,
+) -> Result<(), AllocError> {
+    put_many(alloc, tree, file, count, waiting)?;
+    let recovered = recover(alloc, tree).is_ok();
+    add_word(answer, if recovered { b"ok" } else { b"refused" })?;
+    add_count(alloc, answer, b"writes", tree.writes())?;
+    add_count(alloc, answer, b"names", names_in_place(alloc, tree)?)
+}
+
+/// The name with this index.
+fn name_text(alloc: Global, i: usize) -> Result<Vec<u8>, AllocError> {
+    let number = FIRST.saturating_add(i);
+    let text = format!(in alloc; "f{number}")?;
+    Vec::from_slice(alloc, text.as_bytes())
+}
+
+/// The container of an intent of so many writes, where the writer takes it.
+fn intent_file(alloc: Global, count: usize) -> Result<Option<Vec<u8>>, AllocError> {
+    let mut writer = Writer::new(alloc);
+    let mut writes = Vec::new(alloc);
+    for i in 0..count {
+        writes.push(write_name(alloc, &mut writer, i)?)?;
+    }
+    let root = write_root(&mut writer, &writes)?;
+    match writer.finish(root) {
+        Ok(payload) => file_of_payload(alloc, &payload),
+        Err(_) => Ok(None),
+    }
+}
+
+fn write_name(alloc: Global, writer: &mut Writer, i: usize) -> Result<Val, AllocError> {
+    let name = name_text(alloc, i)?;
+    writer.blob(&name)
+}
+
+/// No removals, and these writes.
+fn write_root(writer: &mut Writer, writes: &[Val]) -> Result<Val, AllocError> {
+    let writes = writer.arr(writes)?;
+    writer.obj(&[Val::of(0), writes])
+}
+
+fn file_of_payload(alloc: Global, payload: &[u8]) -> Result<Option<Vec<u8>>, AllocError> {
+    if payload.len() > MOST_BYTES {
+        return Ok(None);
+    }
+    Ok(Some(file_of(alloc, INTENT_WORD, payload)?))
+}
+
+/// How many writes an intent is read with, as far as each has its own name.
+fn names_read(alloc: Global, file: &[u8]) -> Result<u64, AllocError> {
+    let file = Vec::from_slice(alloc, file)?;
+    let Ok(intent) = PreparedIntent::of_file(alloc, file) else {
+        return Ok(0);
+    };
+    let mut read: u64 = 0;
+    for i in 0..intent.writes_len() {
+        if is_name_at(alloc, intent.write(i), i)? {
+            read = read.saturating_add(1);
+        }
+    }
+    Ok(read)
+}
+
+/// Whether this is the name with that index.
+fn is_name_at(alloc: Global, name: &Name, i: usize) -> Result<bool, AllocError> {
+    let text = name_text(alloc, i)?;
+    Ok(name.as_bytes() == text.as_slice())
+}
+
+/// Puts this intent and its files, of which so many wait, the last ones, and the others were moved.
+fn put_many(
+    alloc: Global,
+    tree: &mut MemoryTree,
+    file: &[u8],
+    count: usize,
+    waiting: usize,
+) -> Result<(), AllocError> {
+    let moved = count.saturating_sub(waiting);
+    for i in 0..moved {
+        put_moved(alloc, tree, i)?;
+    }
+    put(alloc, tree, b"lib/apk/intent", file)?;
+    for i in moved..count {
+        put_waiting(alloc, tree, i + 1)?;
+    }
+    Ok(())
+}
+
+fn put_moved(alloc: Global, tree: &mut MemoryTree, i: usize) -> Result<(), AllocError> {
+    let name = name_text(alloc, i)?;
+    put(alloc, tree, &name, b"1")
+}
+
+fn put_waiting(alloc: Global, tree: &mut MemoryTree, k: usize) -> Result<(), AllocError> {
+    let place = format!(in alloc; "lib/apk/stage/{k}")?;
+    put(alloc, tree, place.as_bytes(), b"1")
+}
+
+/// How many names of the tree are those of its writes, in their order.
+fn names_in_place(alloc: Global, tree: &MemoryTree) -> Result<u64, AllocError> {
+    let names = tree.names(alloc)?;
+    let mut found: u64 = 0;
+    for i in 0..names.len() {
+        if is_name_at(alloc, names.get(i), i)? {
+            found = found.saturating_add(1);
+        }
+    }
+    Ok(found)
+}

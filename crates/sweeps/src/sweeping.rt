@@ -1,0 +1,355 @@
+//! A change that is cut off behind a call, or whose call fails, and the recovery of each image.
+use crate::changing::{Change, Reached, add_reached, change_named, run_change};
+use crate::trees::{add_count, long_at, text_of, tree_of};
+use base_core::Words;
+use journal_core::recover;
+use row_lines::word_at;
+use std::alloc::{AllocError, Global};
+use tree_memory::MemoryTree;
+
+/// More calls than a change or a recovery makes.
+const CALLS: u64 = 80;
+
+/// The place of the first file in a row.
+const FILES: usize = 3;
+
+/// The files before and behind the change of a row, as text.
+#[derive(Drop)]
+struct Wanted {
+    old: Vec<u8>,
+    new: Vec<u8>,
+}
+
+/// What a recovered tree holds.
+#[derive(Clone, Copy, PartialEq)]
+enum Found {
+    Old,
+    New,
+    Other,
+}
+
+/// How many recovered trees have the old files, how many the new ones, and how many others, or
+/// other ones behind a second recovery; and whether the last planned failure came.
+#[derive(Clone, Copy)]
+struct Tally {
+    old: u64,
+    new: u64,
+    other: u64,
+    fails: bool,
+}
+
+impl Tally {
+    fn none() -> Tally {
+        Tally {
+            old: 0,
+            new: 0,
+            other: 0,
+            fails: false,
+        }
+    }
+
+    fn with(self, found: Found) -> Tally {
+        let mut tally = self;
+        match found {
+            Found::Old => tally.old = tally.old.saturating_add(1),
+            Found::New => tally.new = tally.new.saturating_add(1),
+            Found::Other => tally.other = tally.other.saturating_add(1),
+        }
+        tally
+    }
+
+    fn that_fails(self, fails: bool) -> Tally {
+        let mut tally = self;
+        tally.fails = fails;
+        tally
+    }
+
+    fn add_to(self, alloc: Global, answer: &mut Vec<u8>) -> Result<(), AllocError> {
+        add_count(alloc, answer, b"old", self.old)?;
+        add_count(alloc, answer, b"new", self.new)?;
+        add_count(alloc, answer, b"other", self.other)
+    }
+}
+
+// ---- what is wanted, and what is found
+
+/// The files of a row before and behind its change, where it can be made.
+fn wanted_texts(
+    alloc: Global,
+    words: &Words,
+    change: Change,
+) -> Result<Option<Wanted>, AllocError> {
+    let mut tree = tree_of(alloc, words, FILES)?;
+    texts_of_change(alloc, change, &mut tree)
+}
+
+fn texts_of_change(
+    alloc: Global,
+    change: Change,
+    tree: &mut MemoryTree,
+) -> Result<Option<Wanted>, AllocError> {
+    let old = text_of(alloc, tree)?;
+    if run_change(alloc, change, tree)? != Reached::Finished {
+        return Ok(None);
+    }
+    let new = text_of(alloc, tree)?;
+    Ok(Some(Wanted { old, new }))
+}
+
+fn found_of(wanted: &Wanted, text: &[u8]) -> Found {
+    if text == wanted.old.as_slice() {
+        return Found::Old;
+    }
+    if text == wanted.new.as_slice() {
+        return Found::New;
+    }
+    Found::Other
+}
+
+/// What a tree holds once it is recovered; and what a crash then leaves of it is the same once that
+/// is recovered.
+fn found_in(
+    alloc: Global,
+    wanted: &Wanted,
+    tree: &mut MemoryTree,
+    choice: u64,
+) -> Result<Found, AllocError> {
+    if recover(alloc, tree).is_err() {
+        return Ok(Found::Other);
+    }
+    let text = text_of(alloc, tree)?;
+    if is_settled(alloc, tree, &text, choice)? {
+        return Ok(found_of(wanted, &text));
+    }
+    Ok(Found::Other)
+}
+
+/// Whether an image of a tree recovers to these files.
+fn is_settled(
+    alloc: Global,
+    tree: &MemoryTree,
+    text: &[u8],
+    choice: u64,
+) -> Result<bool, AllocError> {
+    let mut image = tree.pick_image(alloc, choice)?;
+    recovers_to(alloc, &mut image, text)
+}
+
+fn recovers_to(alloc: Global, tree: &mut MemoryTree, text: &[u8]) -> Result<bool, AllocError> {
+    if recover(alloc, tree).is_err() {
+        return Ok(false);
+    }
+    let found = text_of(alloc, tree)?;
+    Ok(found.as_slice() == text)
+}
+
+// ---- stops
+
+/// Answers `stop CHANGE CALLS (NAME BYTES)..`: how far a change comes that is cut off behind so
+/// many calls, how many maps of names a crash may then leave, and what the images recover to.
+pub fn add_stop(alloc: Global, words: &Words, answer: &mut Vec<u8>) -> Result<(), AllocError> {
+    let Some(change) = change_named(word_at(words, 1)) else {
+        return answer.extend_from_slice(b"no change");
+    };
+    let Some(wanted) = wanted_texts(alloc, words, change)? else {
+        return answer.extend_from_slice(b"no change");
+    };
+    add_stop_of(alloc, words, change, &wanted, answer)
+}
+
+fn add_stop_of(
+    alloc: Global,
+    words: &Words,
+    change: Change,
+    wanted: &Wanted,
+    answer: &mut Vec<u8>,
+) -> Result<(), AllocError> {
+    let mut tree = tree_of(alloc, words, FILES)?;
+    tree.stop_after(long_at(words, 2));
+    add_images(alloc, change, wanted, &mut tree, answer)
+}
+
+fn add_images(
+    alloc: Global,
+    change: Change,
+    wanted: &Wanted,
+    tree: &mut MemoryTree,
+    answer: &mut Vec<u8>,
+) -> Result<(), AllocError> {
+    add_reached(answer, run_change(alloc, change, tree)?)?;
+    add_count(alloc, answer, b"maps", tree.maps())?;
+    tally_of_images(alloc, wanted, tree)?.add_to(alloc, answer)
+}
+
+/// What the images of a tree recover to.
+fn tally_of_images(alloc: Global, wanted: &Wanted, tree: &MemoryTree) -> Result<Tally, AllocError> {
+    let mut tally = Tally::none();
+    for choice in 0..tree.maps().saturating_mul(3) {
+        tally = tally.with(found_in_image(alloc, wanted, tree, choice)?);
+    }
+    Ok(tally)
+}
+
+fn found_in_image(
+    alloc: Global,
+    wanted: &Wanted,
+    tree: &MemoryTree,
+    choice: u64,
+) -> Result<Found, AllocError> {
+    let mut image = tree.pick_image(alloc, choice)?;
+    found_in(alloc, wanted, &mut image, choice)
+}
+
+// ---- faults
+
+/// The numbers of the calls that fail: one of the change, one of its recovery, and one of a second
+/// recovery.
+#[derive(Clone, Copy)]
+struct Failing {
+    call: u64,
+    first: u64,
+    second: u64,
+}
+
+/// Answers `fault CHANGE CALL (NAME BYTES)..`: how far a change comes whose call with this number
+/// fails, and what a third recovery leaves, behind one and a second that fail, each at each of its
+/// calls.
+pub fn add_fault(alloc: Global, words: &Words, answer: &mut Vec<u8>) -> Result<(), AllocError> {
+    let Some(change) = change_named(word_at(words, 1)) else {
+        return answer.extend_from_slice(b"no change");
+    };
+    let Some(wanted) = wanted_texts(alloc, words, change)? else {
+        return answer.extend_from_slice(b"no change");
+    };
+    add_failed_change(alloc, words, change, answer)?;
+    tally_of_first(alloc, words, change, &wanted)?.add_to(alloc, answer)
+}
+
+fn add_failed_change(
+    alloc: Global,
+    words: &Words,
+    change: Change,
+    answer: &mut Vec<u8>,
+) -> Result<(), AllocError> {
+    let mut tree = tree_of(alloc, words, FILES)?;
+    add_reached(
+        answer,
+        run_failing(alloc, change, &mut tree, long_at(words, 2))?,
+    )
+}
+
+/// How far a change comes whose call with this number fails.
+fn run_failing(
+    alloc: Global,
+    change: Change,
+    tree: &mut MemoryTree,
+    call: u64,
+) -> Result<Reached, AllocError> {
+    tree.fail_at(&[call])?;
+    run_change(alloc, change, tree)
+}
+
+/// With each call of the first recovery failing.
+fn tally_of_first(
+    alloc: Global,
+    words: &Words,
+    change: Change,
+    wanted: &Wanted,
+) -> Result<Tally, AllocError> {
+    let call = long_at(words, 2);
+    let mut tally = Tally::none();
+    for first in 1..CALLS {
+        let failing = Failing {
+            call,
+            first,
+            second: 1,
+        };
+        tally = tally_of_second(alloc, words, change, wanted, failing, tally)?;
+        if !tally.fails {
+            break;
+        }
+    }
+    Ok(tally)
+}
+
+/// With each call of a second recovery failing; whether the first one failed is kept.
+fn tally_of_second(
+    alloc: Global,
+    words: &Words,
+    change: Change,
+    wanted: &Wanted,
+    failing: Failing,
+    tally: Tally,
+) -> Result<Tally, AllocError> {
+    let mut tally = tally;
+    for second in 1..CALLS {
+        let failing = Failing {
+            call: failing.call,
+            first: failing.first,
+            second,
+        };
+        tally = tally_of_third(alloc, words, change, wanted, failing, tally)?;
+        if !tally.fails {
+            break;
+        }
+    }
+    let fails = first_fails(alloc, words, change, failing)?;
+    Ok(tally.that_fails(fails))
+}
+
+/// Whether the first recovery fails.
+fn first_fails(
+    alloc: Global,
+    words: &Words,
+    change: Change,
+    failing: Failing,
+) -> Result<bool, AllocError> {
+    let mut tree = tree_of(alloc, words, FILES)?;
+    run_and_recover(alloc, change, &mut tree, failing)
+}
+
+/// Whether the recovery of a change that failed fails too.
+fn run_and_recover(
+    alloc: Global,
+    change: Change,
+    tree: &mut MemoryTree,
+    failing: Failing,
+) -> Result<bool, AllocError> {
+    run_failing(alloc, change, tree, failing.call)?;
+    recovery_fails(alloc, tree, failing.first)
+}
+
+/// With what the third recovery leaves; whether the second one failed is kept.
+fn tally_of_third(
+    alloc: Global,
+    words: &Words,
+    change: Change,
+    wanted: &Wanted,
+    failing: Failing,
+    tally: Tally,
+) -> Result<Tally, AllocError> {
+    let mut tree = tree_of(alloc, words, FILES)?;
+    recover_thrice(alloc, change, wanted, &mut tree, failing, tally)
+}
+
+fn recover_thrice(
+    alloc: Global,
+    change: Change,
+    wanted: &Wanted,
+    tree: &mut MemoryTree,
+    failing: Failing,
+    tally: Tally,
+) -> Result<Tally, AllocError> {
+    run_and_recover(alloc, change, tree, failing)?;
+    let fails = recovery_fails(alloc, tree, failing.second)?;
+    let found = found_in(alloc, wanted, tree, failing.second)?;
+    Ok(tally.with(found).that_fails(fails))
+}
+
+/// Whether the recovery of a tree fails where its call with this number does.
+fn recovery_fails(alloc: Global, tree: &mut MemoryTree, call: u64) -> Result<bool, AllocError> {
+    tree.fail_at(&[call])?;
+    let fails = recover(alloc, tree).is_err();
+    tree.fail_at(&[])?;
+    Ok(fails)
+}

@@ -1,0 +1,71 @@
+//! The trees of the rows, and what they hold.
+use base_core::{Name, Words};
+use row_lines::{add_number, add_word, number_of, word_at};
+use std::alloc::{AllocError, Global};
+use tree_memory::MemoryTree;
+
+/// The number that a word is; 0 where it is none.
+pub fn long_at(words: &Words, i: usize) -> u64 {
+    number_of(word_at(words, i))
+        .and_then(|number| u64::try_from(number).ok())
+        .unwrap_or(0)
+}
+
+/// A tree of the files that words name from a place on: a name, its bytes, and so on. A name that
+/// may not be put is left out.
+pub fn tree_of(alloc: Global, words: &Words, first: usize) -> Result<MemoryTree, AllocError> {
+    let mut tree = MemoryTree::new(alloc);
+    for i in first..words.len() {
+        if (i - first) % 2 == 1 {
+            put(alloc, &mut tree, words.word(i - 1), words.word(i))?;
+        }
+    }
+    Ok(tree)
+}
+
+/// Puts a file where it may be put.
+pub fn put(
+    alloc: Global,
+    tree: &mut MemoryTree,
+    name: &[u8],
+    bytes: &[u8],
+) -> Result<(), AllocError> {
+    let Some(name) = Name::read(alloc, name)? else {
+        return Ok(());
+    };
+    if tree.can_put(&name) {
+        return tree.put(&name, bytes);
+    }
+    Ok(())
+}
+
+/// Adds each name with the bytes of its file.
+pub fn add_tree(alloc: Global, tree: &MemoryTree, answer: &mut Vec<u8>) -> Result<(), AllocError> {
+    let names = tree.names(alloc)?;
+    for i in 0..names.len() {
+        let name = names.get(i);
+        add_word(answer, name.as_bytes())?;
+        answer.push(b'=')?;
+        answer.extend_from_slice(tree.file(name).unwrap_or(b"absent"))?;
+    }
+    Ok(())
+}
+
+/// Each name with the bytes of its file.
+pub fn text_of(alloc: Global, tree: &MemoryTree) -> Result<Vec<u8>, AllocError> {
+    let mut text = Vec::new(alloc);
+    add_tree(alloc, tree, &mut text)?;
+    Ok(text)
+}
+
+/// Adds a count, and what is counted before it.
+pub fn add_count(
+    alloc: Global,
+    answer: &mut Vec<u8>,
+    what: &[u8],
+    count: u64,
+) -> Result<(), AllocError> {
+    add_word(answer, what)?;
+    add_word(answer, b"")?;
+    add_number(alloc, answer, u128::from(count))
+}
