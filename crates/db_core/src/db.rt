@@ -81,7 +81,8 @@ impl<'a> Db<'a> {
     /// The place of the package with this name, counted from 0; of several the first. None comes
     /// exactly where no package has the name.
     pub fn find(&self, name: &[u8]) -> Option<usize>
-        ensures found { result ≡ position_from (is_package_named name.now) 0 (packages_of self.now) }
+        ensures found { result
+            ≡ position_from (is_package_named name.now) 0 (packages_of self.now) }
         ensures within { IfSome result (λ i. i < length (packages_of self.now)) }
     {
         match &self.idb {

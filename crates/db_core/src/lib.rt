@@ -12,5 +12,5 @@ mod members;
 mod owned;
 
 pub use db::Db;
-pub use members::Members;
+pub use members::{MOST_MEMBERS, Members};
 pub use owned::Owned;

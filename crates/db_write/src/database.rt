@@ -17,8 +17,8 @@ use db_core::{Members, Owned};
 use std::alloc::{AllocError, Global};
 
 /// Writes the database that lists these members, and of their files those that are theirs, by one
-/// flag for each in the order of members, folders and files: the container's bytes. A file without a
-/// flag is not theirs.
+/// flag for each in the order of members, folders and files: the container's bytes. A file without
+/// a flag is not theirs.
 ///
 /// # Errors
 ///

@@ -38,7 +38,8 @@ pub(crate) fn write_folders<'a>(
 
 /// The flags behind those of the files of these folders.
 pub(crate) fn flags_behind<'a, 'f>(folders: &List<'a, DirInfo<'a>>, flags: &'f [bool]) -> &'f [bool]
-    ensures { result.now ≡ drop (total_of file_count (list_of (entries_in (list_value folders.now))))
+    ensures { result.now
+        ≡ drop (total_of file_count (list_of (entries_in (list_value folders.now))))
         flags.entry.now }
 {
     let mut left = flags;

@@ -80,8 +80,9 @@ fn write_member_info(
     }
 }
 
-/// Writes the scripts of a package. The mark serves the borrow checker alone, which does not know the
-/// parts of a view that is made and lent here unless the signature names the view as an argument.
+/// Writes the scripts of a package. The mark serves the borrow checker alone, which does not know
+/// the parts of a view that is made and lent here unless the signature names the view as an
+/// argument.
 fn write_package_scripts<'a>(
     writer: &mut Writer,
     pkg: &PackageView<'a>,

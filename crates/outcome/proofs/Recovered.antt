@@ -7,7 +7,7 @@ use Rattle.std.proofs.lemmas.Bool.{and_parts}
 use Rattle.std.proofs.lemmas.Option.{same_Some}
 use Rattle.std.proofs.lemmas.Slice.Eq.{bytes_eq-Decides}
 use Rattle.adb_fields.specs.Repeated.{list_of}
-use Rattle.adb_rules.specs.Reserved.{is_stage_name}
+use Rattle.adb_rules.specs.Reserved.{is_intent_or_stage_name}
 use Rattle.adb_rules.specs.Rules.{is_change_name}
 use Rattle.adb_rules.specs.SoundValues.{IsChangeName}
 use Rattle.adb_schema.specs.SoundContainers.{IsSound, IsSoundValue}
@@ -132,7 +132,7 @@ abbrev NamedFile : Property
 NamedFile q bytes = IsName q × IsFile bytes
 
 change_named : (name : List ℕ) → is_change_name name ≡ true → IsName name
-change_named name h = (and_parts (is_name name) (not (is_stage_name name)) h).0
+change_named name h = (and_parts (is_name name) (not (is_intent_or_stage_name name)) h).0
 
 named_carries : (vs : Plains) → Each IsChangeName vs → Carries NamedFile (map text_in (list_of vs))
 named_carries none each = tt

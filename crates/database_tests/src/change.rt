@@ -1,0 +1,158 @@
+//! Changes of a database, from the words of a row.
+ghost use Rattle.adb_fields.specs.Repeated.{package_name};
+ghost use Rattle.adb_view.specs.Plain.{Plain};
+ghost use Rattle.db_core.specs.Seen.{packages_of};
+ghost use Rattle.pkg_core.specs.Opened.{opened_value};
+ghost use Rattle.std.specs.Prelude.{◌≡◌, ◌<◌, Some, length, slice_get};
+
+use adb_schema::{PackageView, ReadFault};
+use adb_write::WriteFault;
+use base_core::Words;
+use db_core::{Db, MOST_MEMBERS, Members, Owned};
+use db_write::write_db;
+use pkg_core::{Package, PackageFault};
+use row_lines::word_at;
+use std::alloc::{AllocError, Global};
+use std::marker::PhantomData;
+
+/// The database after `change FLAGS NAME ..`: the packages of the database without those of these
+/// names, and behind them those that come, with the files whose flag is 1. A file that is none has
+/// no packages. None: they are not in order, one that comes is bad, or the database is too large.
+pub fn changed_database<'a>(
+    alloc: Global,
+    file: &'a [u8],
+    coming: &'a [Vec<u8>],
+    words: &Words,
+) -> Result<Option<Vec<u8>>, AllocError> {
+    match Db::read(alloc, file) {
+        Ok(db) => change_of(alloc, &db, coming, words),
+        Err(ReadFault::Bad(_)) => change_of(alloc, &Db::empty(), coming, words),
+        Err(ReadFault::Memory) => Err(AllocError),
+    }
+}
+
+fn change_of<'a>(
+    alloc: Global,
+    db: &Db<'a>,
+    coming: &'a [Vec<u8>],
+    words: &Words,
+) -> Result<Option<Vec<u8>>, AllocError> {
+    let mut members = Members::new(alloc);
+    for i in 0..db.len() {
+        let stays = !is_among(words, name_at(db, i, PhantomData));
+        if stays && !add_installed(&mut members, db, i)? {
+            return Ok(None);
+        }
+    }
+    for file in coming {
+        if !add_coming(alloc, &mut members, file)? {
+            return Ok(None);
+        }
+    }
+    written(alloc, &members, word_at(words, 1))
+}
+
+/// Whether a database is written again as it was read.
+pub fn unchanged_database(alloc: Global, file: &[u8]) -> Result<bool, AllocError> {
+    match Db::read(alloc, file) {
+        Ok(db) => is_written_again(alloc, &db, file),
+        Err(ReadFault::Bad(_)) => Ok(false),
+        Err(ReadFault::Memory) => Err(AllocError),
+    }
+}
+
+fn is_written_again(alloc: Global, db: &Db<'_>, file: &[u8]) -> Result<bool, AllocError> {
+    let mut members = Members::new(alloc);
+    for i in 0..db.len() {
+        if !add_installed(&mut members, db, i)? {
+            return Ok(false);
+        }
+    }
+    match written(alloc, &members, &[b'1'; 100])? {
+        Some(again) => Ok(again.as_slice() == file),
+        None => Ok(false),
+    }
+}
+
+/// Whether a name is one of the words behind the flags.
+fn is_among(words: &Words, name: &[u8]) -> bool {
+    for i in 2..words.len() {
+        if words.word(i) == name {
+            return true;
+        }
+    }
+    false
+}
+
+/// The name of the package at a place, counted from 0.
+fn name_at<'a>(db: &Db<'a>, i: usize, _mark: PhantomData<PackageView<'a>>) -> &'a [u8]
+    requires { i < length (packages_of db.now) }
+    ensures { (pkg : Plain) → slice_get (packages_of db.now) i ≡ Some pkg
+        → result.now ≡ package_name pkg }
+{
+    let package = db.package(i);
+    package.info().name()
+}
+
+/// Adds the package at a place of the database, unless it is not in order.
+fn add_installed<'a>(members: &mut Members<'a>, db: &Db<'a>, i: usize) -> Result<bool, AllocError>
+    requires { i < length (packages_of db.now) }
+{
+    if members.len() >= MOST_MEMBERS {
+        return Ok(false);
+    }
+    if !members.comes_behind(name_at(db, i, PhantomData)) {
+        return Ok(false);
+    }
+    members.stays(db, i)?;
+    Ok(true)
+}
+
+/// Adds the package in a file, unless it is bad or not in order.
+fn add_coming<'a>(
+    alloc: Global,
+    members: &mut Members<'a>,
+    file: &'a [u8],
+) -> Result<bool, AllocError> {
+    match Package::new(alloc, file) {
+        Ok(pkg) => add_package(members, &pkg),
+        Err(PackageFault::Bad(_)) => Ok(false),
+        Err(PackageFault::Memory) => Err(AllocError),
+    }
+}
+
+fn add_package<'a>(members: &mut Members<'a>, pkg: &Package<'a>) -> Result<bool, AllocError> {
+    if members.len() >= MOST_MEMBERS {
+        return Ok(false);
+    }
+    if !members.comes_behind(name_of(pkg, PhantomData)) {
+        return Ok(false);
+    }
+    members.comes(pkg)?;
+    Ok(true)
+}
+
+/// The name of a package.
+fn name_of<'a>(pkg: &Package<'a>, _mark: PhantomData<PackageView<'a>>) -> &'a [u8]
+    ensures { result.now ≡ package_name (opened_value pkg.now) }
+{
+    let info = pkg.view().info();
+    info.name()
+}
+
+/// The database of members with these flags.
+fn written(
+    alloc: Global,
+    members: &Members<'_>,
+    flags: &[u8],
+) -> Result<Option<Vec<u8>>, AllocError> {
+    let mut owned = Owned::new(alloc);
+    for flag in flags {
+        owned.push(*flag == b'1')?;
+    }
+    match write_db(alloc, members, &owned) {
+        Ok(file) => Ok(Some(file)),
+        Err(WriteFault::TooLarge { .. }) => Ok(None),
+        Err(WriteFault::Memory) => Err(AllocError),
+    }
+}

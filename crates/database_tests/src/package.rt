@@ -1,0 +1,79 @@
+//! Packages, from the words of a row.
+use adb_schema::PACKAGE_WORD;
+use adb_view::Val;
+use adb_write::{WriteFault, Writer, file_of};
+use base_core::Words;
+use row_lines::word_at;
+use std::alloc::{AllocError, Global};
+
+/// The most bytes of a payload.
+const MOST_BYTES: usize = 268_435_455;
+
+/// The file of `package NAME VERSION ..`: a word that ends in a slash is a folder, another one a
+/// file in the folder before it. The root is a slash alone.
+pub fn package_file(alloc: Global, words: &Words) -> Result<Vec<u8>, AllocError> {
+    let mut writer = Writer::new(alloc);
+    let root = write_package(alloc, &mut writer, words)?;
+    match writer.finish(root) {
+        Ok(payload) => container(alloc, &payload),
+        Err(WriteFault::Memory | WriteFault::TooLarge { .. }) => Err(AllocError),
+    }
+}
+
+fn container(alloc: Global, payload: &[u8]) -> Result<Vec<u8>, AllocError> {
+    if payload.len() > MOST_BYTES {
+        return Err(AllocError);
+    }
+    file_of(alloc, PACKAGE_WORD, payload)
+}
+
+fn write_package(alloc: Global, writer: &mut Writer, words: &Words) -> Result<Val, AllocError> {
+    let name = writer.blob(word_at(words, 1))?;
+    let version = writer.blob(word_at(words, 2))?;
+    let fields = [name, version];
+    let info = writer.obj(&fields)?;
+    let folders = write_folders(alloc, writer, words)?;
+    let fields = [info, folders];
+    writer.obj(&fields)
+}
+
+fn write_folders(alloc: Global, writer: &mut Writer, words: &Words) -> Result<Val, AllocError> {
+    let mut folders = Vec::new(alloc);
+    for i in 3..words.len() {
+        if let [name @ .., b'/'] = words.word(i) {
+            folders.push(write_folder(alloc, writer, words, i, name)?)?;
+        }
+    }
+    writer.arr(&folders)
+}
+
+/// Writes the folder whose word has this place.
+fn write_folder(
+    alloc: Global,
+    writer: &mut Writer,
+    words: &Words,
+    place: usize,
+    name: &[u8],
+) -> Result<Val, AllocError> {
+    let mut files = Vec::new(alloc);
+    for i in place..words.len() {
+        let word = words.word(i);
+        if word.last() == Some(&b'/') {
+            if i > place {
+                break;
+            }
+        } else {
+            files.push(write_file(writer, word)?)?;
+        }
+    }
+    let name = writer.blob(name)?;
+    let files = writer.arr(&files)?;
+    let fields = [name, Val::of(0), files];
+    writer.obj(&fields)
+}
+
+fn write_file(writer: &mut Writer, name: &[u8]) -> Result<Val, AllocError> {
+    let name = writer.blob(name)?;
+    let fields = [name];
+    writer.obj(&fields)
+}

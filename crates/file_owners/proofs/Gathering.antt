@@ -1,0 +1,104 @@
+-- Claims to which the files of folders and members are added one by one.
+use Rattle.std.proofs.Common.{◌≡◌, ℕ, suc, zero, ◌+◌, ◌<◌, ◌≤◌, List, [], ◌∷◌, ◌++◌, length, drop, Some, refl, ap, sym, ◌∙◌, arith}
+use Rattle.std.specs.Prelude.{slice_get}
+use Rattle.adb_view.specs.Plain.{Plain, Plains, none, more}
+use Rattle.adb_tables.specs.Values.{count_of, nth}
+use Rattle.adb_fields.specs.Paths.{path_of}
+use Rattle.adb_fields.specs.Repeated.{files_in, list_of, name_of}
+use Rattle.db_core.specs.Members.{Listing, Member, member_listing, listings_by, listings_from, listings_in_folder, listings_in_folders, member_listings}
+use Rattle.path_claims.specs.Claims.{PathClaim}
+use Rattle.file_owners.specs.Gathered.{with_listings}
+use Rattle.file_owners.specs.Owners.{claim_by}
+
+pub with_more : (cs : List PathClaim) (xs ys : List Listing) → with_listings (with_listings cs xs) ys ≡ with_listings cs (xs ++ ys)
+with_more cs [] ys = refl
+with_more cs (x ∷ xs) ys = with_more (cs ++ (claim_by (length cs) x ∷ [])) xs ys
+
+nothing : (n : ℕ) → drop {A = Plain} n [] ≡ []
+nothing zero = refl
+nothing (suc n) = refl
+
+front : (vs : Plains) (i : ℕ) → i < count_of vs → drop i (list_of vs) ≡ nth vs i ∷ drop (suc i) (list_of vs)
+front none i h = absurd (omega arith)
+front (more v vs) zero h = refl
+front (more v vs) (suc i) h = front vs i (omega arith)
+
+past : (vs : Plains) (i : ℕ) → count_of vs ≤ i → drop i (list_of vs) ≡ []
+past none i h = nothing i
+past (more v vs) zero h = absurd (omega arith)
+past (more v vs) (suc i) h = past vs i (omega arith)
+
+-- ---- the files of a folder
+
+abbrev pub FilesLeft : List PathClaim → List PathClaim → Member → ℕ → ℕ → List ℕ → Plains → ℕ → Type 0
+FilesLeft old now m member folder name vs i =
+    with_listings now (listings_in_folder m member folder (i + 1) name (drop i (list_of vs)))
+    ≡ with_listings old (listings_in_folder m member folder 1 name (list_of vs))
+
+pub file_added : (old now new : List PathClaim) (m : Member) (member folder : ℕ) (name : List ℕ) (vs : Plains) (i : ℕ) (file : List ℕ) → i < count_of vs
+    → file ≡ name_of (nth vs i)
+    → ((l : Listing) → l.path ≡ path_of name file → l.place ≡ member → l.folder ≡ folder → l.file ≡ i + 1 → new ≡ with_listings now (l ∷ []))
+    → FilesLeft old now m member folder name vs i → FilesLeft old new m member folder name vs (i + 1)
+file_added old now new m member folder name vs i file h e add inv =
+    let s : i + 1 ≡ suc i = omega arith in
+    let l : Listing = member_listing m member folder (i + 1) name (nth vs i) in
+    let one : new ≡ with_listings now (l ∷ []) = add l (ap (path_of name) (sym e)) refl refl refl in
+    (λ j. with_listings (one j) (listings_in_folder m member folder (i + 1 + 1) name (drop (s j) (list_of vs))))
+    ∙ (ap (λ ps. with_listings now (listings_in_folder m member folder (i + 1) name ps)) (sym (front vs i h)) ∙ inv)
+
+pub files_added : (old now : List PathClaim) (m : Member) (member folder : ℕ) (name : List ℕ) (vs : Plains) (i : ℕ) → count_of vs ≤ i
+    → FilesLeft old now m member folder name vs i → now ≡ with_listings old (listings_in_folder m member folder 1 name (list_of vs))
+files_added old now m member folder name vs i h inv =
+    ap (λ ps. with_listings now (listings_in_folder m member folder (i + 1) name ps)) (sym (past vs i h)) ∙ inv
+
+-- ---- folders
+
+abbrev pub FoldersLeft : List PathClaim → List PathClaim → Member → ℕ → Plains → ℕ → Type 0
+FoldersLeft old now m member vs i =
+    with_listings now (listings_in_folders m member (i + 1) (drop i (list_of vs)))
+    ≡ with_listings old (listings_in_folders m member 1 (list_of vs))
+
+pub folder_added : (old now new : List PathClaim) (m : Member) (member : ℕ) (vs : Plains) (i : ℕ) → i < count_of vs
+    → new ≡ with_listings now (listings_in_folder m member (i + 1) 1 (name_of (nth vs i)) (files_in (nth vs i)))
+    → FoldersLeft old now m member vs i → FoldersLeft old new m member vs (i + 1)
+folder_added old now new m member vs i h one inv =
+    let s : i + 1 ≡ suc i = omega arith in
+    (λ j. with_listings (one j) (listings_in_folders m member (i + 1 + 1) (drop (s j) (list_of vs))))
+    ∙ (with_more now (listings_in_folder m member (i + 1) 1 (name_of (nth vs i)) (files_in (nth vs i))) (listings_in_folders m member (i + 1 + 1) (drop (suc i) (list_of vs)))
+    ∙ (ap (λ ps. with_listings now (listings_in_folders m member (i + 1) ps)) (sym (front vs i h)) ∙ inv))
+
+pub folders_added : (old now : List PathClaim) (m : Member) (member : ℕ) (vs : Plains) (i : ℕ) → count_of vs ≤ i
+    → FoldersLeft old now m member vs i → now ≡ with_listings old (listings_in_folders m member 1 (list_of vs))
+folders_added old now m member vs i h inv =
+    ap (λ ps. with_listings now (listings_in_folders m member (i + 1) ps)) (sym (past vs i h)) ∙ inv
+
+-- ---- members
+
+abbrev pub MembersLeft : List PathClaim → List Member → ℕ → Type 0
+MembersLeft now members i =
+    with_listings now (listings_from i (drop i members)) ≡ with_listings [] (listings_from 0 members)
+
+front_member : (ms : List Member) (i : ℕ) → i < length ms → (m : Member) × (slice_get ms i ≡ Some m) × (drop i ms ≡ m ∷ drop (suc i) ms)
+front_member [] i h = absurd (omega arith)
+front_member (m ∷ ms) zero h = (m, refl, refl)
+front_member (m ∷ ms) (suc i) h = front_member ms i (omega arith)
+
+past_members : (ms : List Member) (i : ℕ) → length ms ≤ i → drop i ms ≡ []
+past_members [] zero h = refl
+past_members [] (suc i) h = refl
+past_members (m ∷ ms) zero h = absurd (omega arith)
+past_members (m ∷ ms) (suc i) h = past_members ms i (omega arith)
+
+pub member_added : (now new : List PathClaim) (ms : List Member) (i : ℕ) → i < length ms
+    → ((m : Member) → slice_get ms i ≡ Some m → new ≡ with_listings now (listings_by i m))
+    → MembersLeft now ms i → MembersLeft new ms (i + 1)
+member_added now new ms i h add inv =
+    let s : i + 1 ≡ suc i = omega arith in
+    let f = front_member ms i h in
+    (λ j. with_listings (add f.0 f.1 j) (listings_from (i + 1) (drop (s j) ms)))
+    ∙ (with_more now (listings_by i f.0) (listings_from (i + 1) (drop (suc i) ms))
+    ∙ (ap (λ xs. with_listings now (listings_from i xs)) (sym f.2) ∙ inv))
+
+pub members_added : (now : List PathClaim) (ms : List Member) (i : ℕ) → length ms ≤ i → MembersLeft now ms i → now ≡ with_listings [] (member_listings ms)
+unfolding member_listings
+members_added now ms i h inv = ap (λ xs. with_listings now (listings_from i xs)) (sym (past_members ms i h)) ∙ inv

@@ -1,0 +1,3 @@
+pub mod OneWay
+pub mod Gathering
+pub mod Claiming

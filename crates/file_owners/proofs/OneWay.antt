@@ -1,0 +1,84 @@
+-- No two members beat each other.
+use Rattle.std.proofs.Common.{◌≡◌, ℕ, suc, zero, ◌<◌, ◌≤◌, Bool, true, false, List, [], ◌∷◌, length, Option, Some, None, refl, ap, sym, ◌∙◌, arith, true≢false}
+use Rattle.std.specs.Prelude.{◌||◌, ◌&&◌, not, nat_lt, ◌==◌, slice_get}
+use Rattle.std.specs.Ordering.{is_lt, ordering_reverse}
+use Rattle.std.specs.declared.cmp.Ordering.{Ordering}
+use Rattle.std.specs.declared.cmp.Ordering.TheVariants.{Less, Equal, Greater}
+use Rattle.std.proofs.lemmas.Cmp.{nat_list_cmp_total}
+use Rattle.adb_view.specs.Plain.{Plain}
+use Rattle.adb_fields.specs.Repeated.{package_name}
+use Rattle.list_order.specs.ByteOrder.{bytes_cmp, precedes}
+use Rattle.db_core.specs.Members.{Member}
+use Rattle.path_claims.specs.Contest.{IsOneWay}
+use Rattle.file_owners.specs.Owners.{member_beats, takes_over_if_any}
+use Rattle.file_owners.specs.Replaces.{is_preferred_to, names_package, replacing_priority, takes_over}
+
+turned : (r : Ordering) → is_lt r ≡ true → is_lt (ordering_reverse r) ≡ false
+turned Less h = refl
+turned Equal h = absurd (true≢false (sym h))
+turned Greater h = absurd (true≢false (sym h))
+
+precedes_one_way : (a b : List ℕ) → precedes a b ≡ true → precedes b a ≡ false
+precedes_one_way a b h = ap is_lt (nat_list_cmp_total.antisymm b a) ∙ turned (bytes_cmp a b) h
+
+by_number : (m n : ℕ) (s t : Bool) → (s ≡ true → t ≡ false) → (nat_lt n m || ((m == n) && s)) ≡ true → (nat_lt m n || ((n == m) && t)) ≡ false
+by_number m n true t f h = let e : t ≡ false = f refl in grind (arith, e)
+by_number m n false t f h = grind arith
+
+by_names : (a b p q : Bool) → (p ≡ true → q ≡ false) → (a && (not b || p)) ≡ true → (b && (not a || q)) ≡ false
+by_names true true p q f h = f h
+by_names true false p q f h = refl
+by_names false b p q f h = absurd (true≢false (sym h))
+
+pub takes_over_one_way : (x y : Plain) → takes_over x y ≡ true → takes_over y x ≡ false
+unfolding takes_over is_preferred_to
+takes_over_one_way x y h =
+    by_names (names_package x y) (names_package y x) (is_preferred_to x y) (is_preferred_to y x)
+    (by_number (replacing_priority x) (replacing_priority y) (precedes (package_name y) (package_name x)) (precedes (package_name x) (package_name y)) (precedes_one_way (package_name y) (package_name x))) h
+
+pub members_one_way : (members : List Member) → IsOneWay (member_beats members)
+unfolding member_beats
+members_one_way members x y h = go (slice_get members x) (slice_get members y) h
+  where
+    go : (a b : Option Member) → takes_over_if_any a b ≡ true → takes_over_if_any b a ≡ false
+    go None b h = absurd (true≢false (sym h))
+    go (Some a) None h = refl
+    go (Some a) (Some b) h = takes_over_one_way a.pkg b.pkg h
+
+none_beats : (members : List Member) (x y : ℕ) → slice_get members x ≡ None → false ≡ member_beats members x y
+unfolding member_beats
+none_beats members x y g = sym (ap (λ a. takes_over_if_any a (slice_get members y)) g)
+
+none_is_beaten : (members : List Member) (x y : ℕ) → slice_get members y ≡ None → false ≡ member_beats members x y
+unfolding member_beats
+none_is_beaten members x y g = sym (ap (takes_over_if_any (slice_get members x)) g ∙ go (slice_get members x))
+  where
+    go : (a : Option Member) → takes_over_if_any a None ≡ false
+    go None = refl
+    go (Some a) = refl
+
+-- two members by their places
+some_member : (members : List Member) (i : ℕ) → i < length members → (m : Member) × (slice_get members i ≡ Some m)
+some_member [] i l = absurd (omega arith)
+some_member (m ∷ members) zero l = (m, refl)
+some_member (m ∷ members) (suc i) l = some_member members i (omega arith)
+
+none_member : (members : List Member) (i : ℕ) → length members ≤ i → slice_get members i ≡ None
+none_member [] i l = refl
+none_member (m ∷ members) zero l = absurd (omega arith)
+none_member (m ∷ members) (suc i) l = none_member members i (omega arith)
+
+pub two_members : (members : List Member) (x y : ℕ) (v w : Plain) (t : Bool) → x < length members → y < length members
+    → ((m : Member) → slice_get members x ≡ Some m → v ≡ m.pkg) → ((m : Member) → slice_get members y ≡ Some m → w ≡ m.pkg)
+    → t ≡ takes_over v w → t ≡ member_beats members x y
+unfolding member_beats
+two_members members x y v w t l k f g h =
+    let m = some_member members x l in
+    let n = some_member members y k in
+    h ∙ ((λ j. takes_over (f m.0 m.1 j) (g n.0 n.1 j)) ∙ sym (λ j. takes_over_if_any (m.1 j) (n.1 j)))
+
+pub no_first : (members : List Member) (x y : ℕ) → length members ≤ x → false ≡ member_beats members x y
+no_first members x y l = none_beats members x y (none_member members x l)
+
+pub no_second : (members : List Member) (x y : ℕ) → length members ≤ y → false ≡ member_beats members x y
+no_second members x y l = none_is_beaten members x y (none_member members y l)

@@ -1,0 +1,5 @@
+-- what the contract of `apk` says
+pub mod Replaces
+pub mod Owners
+-- what only inner contracts and proofs use
+pub mod Gathered

@@ -1,0 +1,48 @@
+-- Who owns the files that members list.
+use Rattle.std.specs.Prelude.{ℕ, ◌+◌, Bool, false, List, [], ◌∷◌, map, Option, Some, None, slice_get}
+use Rattle.db_core.specs.Members.{Listing, Member, claims_of, member_listings}
+use Rattle.path_claims.specs.Claims.{ContestedPath, PathClaim, contested_by, is_member}
+use Rattle.path_claims.specs.Contest.{winner}
+use Rattle.file_owners.specs.Replaces.{takes_over}
+
+abbrev pub takes_over_if_any : Option Member → Option Member → Bool
+takes_over_if_any None y = false
+takes_over_if_any (Some x) None = false
+takes_over_if_any (Some x) (Some y) = takes_over x.pkg y.pkg
+
+-- whether the member at one place takes over the files of the one at another
+unfoldable pub member_beats : List Member → ℕ → ℕ → Bool
+member_beats members x y = takes_over_if_any (slice_get members x) (slice_get members y)
+
+-- the place of the member that owns a path: it beats each other one that lists the path
+unfoldable pub owner_of_path : List Member → List ℕ → Option ℕ
+owner_of_path members path =
+    winner (member_beats members) (map (λ l. l.place) (claims_of members path))
+
+-- for each file that members list, whether its member owns it
+unfoldable pub owned_of : List Member → List Bool
+owned_of members =
+    map (λ l. is_member l.place (owner_of_path members l.path)) (member_listings members)
+
+abbrev pub claim_by : ℕ → Listing → PathClaim
+claim_by number l = record {
+  path = l.path;
+  member = l.place;
+  folder = l.folder;
+  file = l.file;
+  number = number;
+}
+
+-- with the numbers from one on
+abbrev pub claims_from : ℕ → List Listing → List PathClaim
+claims_from number [] = []
+claims_from number (l ∷ listings) = claim_by number l ∷ claims_from (number + 1) listings
+
+-- each file that members list, with how many stand before it
+unfoldable pub claims_in : List Member → List PathClaim
+claims_in members = claims_from 0 (member_listings members)
+
+-- the first path in byte order that no member owns, with the first member that lists it and the
+-- first other one that this one does not beat
+unfoldable pub contested_of : List Member → Option ContestedPath
+contested_of members = contested_by (member_beats members) (claims_in members)

@@ -1,0 +1,49 @@
+-- Which of two packages takes over the files of the other (apk-package(5), "replaces").
+use Rattle.std.specs.Prelude.{ℕ, ◌==◌, nat_lt, Bool, false, not, ◌&&◌, ◌||◌, List, Option, Some, None}
+use Rattle.std.specs.List.{list_any}
+use Rattle.adb_view.specs.Plain.{Plain}
+use Rattle.adb_tables.specs.Values.{entry_in, int_in, text_in}
+use Rattle.adb_fields.specs.Repeated.{entries_at, package_name}
+use Rattle.version_core.specs.Order.{is_version}
+use Rattle.dep_core.specs.Dependency.{Dependency}
+use Rattle.dep_core.specs.Meets.{meets}
+use Rattle.dep_core.specs.ValueReading.{dependency_of_value}
+use Rattle.list_order.specs.ByteOrder.{precedes}
+
+abbrev pub version_text : Plain → List ℕ
+version_text pkg = text_in (entry_in (entry_in pkg 0) 1)
+
+-- a positive dependency is met by a name and a version
+abbrev pub is_replaced_by : Option Dependency → List ℕ → List ℕ → Bool
+is_replaced_by None name version = false
+is_replaced_by (Some d) name version = not d.conflict && meets d name (Some version)
+
+abbrev pub replaced_dependency : Plain → Option Dependency
+replaced_dependency v =
+    dependency_of_value (text_in (entry_in v 0)) (text_in (entry_in v 1)) (int_in (entry_in v 2))
+
+-- one of the entries is positive, and met by a name and a version
+abbrev pub is_any_replaced : List Plain → List ℕ → List ℕ → Bool
+is_any_replaced entries name version =
+    list_any (λ v. is_replaced_by (replaced_dependency v) name version) entries
+
+-- x names y: what x replaces is met by y's own name and version
+unfoldable pub names_package : Plain → Plain → Bool
+names_package x y =
+    is_version (version_text y)
+    && is_any_replaced (entries_at 16 (entry_in x 0)) (package_name y) (version_text y)
+
+abbrev pub replacing_priority : Plain → ℕ
+replacing_priority pkg = int_in (entry_in pkg 4)
+
+-- of two that name each other: the one with the greater priority, and of equal ones the one whose
+-- name is the later in byte order
+unfoldable pub is_preferred_to : Plain → Plain → Bool
+is_preferred_to x y =
+    nat_lt (replacing_priority y) (replacing_priority x)
+    || ((replacing_priority x == replacing_priority y)
+    && precedes (package_name y) (package_name x))
+
+-- x takes over the files of y
+unfoldable pub takes_over : Plain → Plain → Bool
+takes_over x y = names_package x y && (not (names_package y x) || is_preferred_to x y)

@@ -1,0 +1,141 @@
+//! The files that members list, as claims.
+
+ghost use Rattle.std.specs.Prelude.{◌≡◌, ◌<◌, ◌+◌, ◌^◌, [], ◌∷◌, Some, IfOk, length, map, slice_get};
+ghost use Rattle.adb_fields.specs.Paths.{path_of};
+ghost use Rattle.adb_fields.specs.ListValue.{list_value};
+ghost use Rattle.adb_fields.specs.Repeated.{files_in, list_of, name_of};
+ghost use Rattle.adb_tables.specs.Values.{count_of, entries_in, nth};
+ghost use Rattle.db_core.specs.Members.{Listing, Member, listings_by, listings_in_folder, listings_in_folders, member_listings};
+ghost use Rattle.db_core.specs.Seen.{members_of};
+ghost use Rattle.path_claims.specs.Seen.{claim_seen};
+ghost use Rattle.file_owners.specs.Gathered.{with_listings};
+
+use adb_schema::{DirInfo, FileInfo, FilePath, List};
+use db_core::Members;
+use path_claims::Claim;
+use std::alloc::{AllocError, Global};
+
+/// Where a folder stands: the member's place counts from 0, the folder's in it from 1.
+#[derive(Clone, Copy)]
+struct FolderPlace<'a> {
+    member: u32,
+    folder: u32,
+    name: &'a [u8],
+}
+
+/// Adds a file of a folder. Its position there counts from 1.
+fn add_file<'a>(
+    claims: &mut Vec<Claim<'a>>,
+    place: &FolderPlace<'a>,
+    name: &'a [u8],
+    file: u32,
+) -> Result<(), AllocError>
+    ensures { IfOk result (λ _. (l : Listing) → l.path ≡ path_of place.now.name.now name.now
+        → l.place ≡ place.now.member → l.folder ≡ place.now.folder → l.file ≡ file
+        → map claim_seen claims.new.items
+        ≡ with_listings (map claim_seen claims.old.items) (l ∷ [])) }
+{
+    let number = claims.len();
+    claims.push(Claim {
+        path: FilePath {
+            folder: place.name,
+            name,
+        },
+        member: place.member,
+        folder: place.folder,
+        file,
+        number,
+    })?;
+    Ok(())
+}
+
+/// Adds the files of a folder.
+fn add_files<'a>(
+    claims: &mut Vec<Claim<'a>>,
+    place: &FolderPlace<'a>,
+    files: &List<'a, FileInfo<'a>>,
+) -> Result<(), AllocError>
+    ensures { IfOk result (λ _. (m : Member) → map claim_seen claims.new.items
+        ≡ with_listings (map claim_seen claims.old.items)
+        (listings_in_folder m place.now.member place.now.folder 1 place.now.name.now
+        (list_of (entries_in (list_value files.now))))) }
+{
+    for i in 0..files.len() {
+        add_file(claims, place, files.get(i + 1).name(), i as u32 + 1)?;
+    }
+    Ok(())
+}
+
+/// Adds the files of the folder with this index, which counts from 0.
+fn add_folder<'a>(
+    claims: &mut Vec<Claim<'a>>,
+    member: u32,
+    folders: &List<'a, DirInfo<'a>>,
+    i: usize,
+) -> Result<(), AllocError>
+    requires { i < count_of (entries_in (list_value folders.now)) }
+    ensures { IfOk result (λ _. (m : Member) → map claim_seen claims.new.items
+        ≡ with_listings (map claim_seen claims.old.items)
+        (listings_in_folder m member (i + 1) 1
+        (name_of (nth (entries_in (list_value folders.now)) i))
+        (files_in (nth (entries_in (list_value folders.now)) i)))) }
+{
+    if i >= folders.len() {
+        unreachable!();
+    }
+    let folder = folders.get(i + 1);
+    let place = FolderPlace {
+        member,
+        folder: i as u32 + 1,
+        name: folder.name(),
+    };
+    add_files(claims, &place, &folder.files())
+}
+
+/// Adds the files of folders.
+fn add_folders<'a>(
+    claims: &mut Vec<Claim<'a>>,
+    member: u32,
+    folders: &List<'a, DirInfo<'a>>,
+) -> Result<(), AllocError>
+    ensures { IfOk result (λ _. (m : Member) → map claim_seen claims.new.items
+        ≡ with_listings (map claim_seen claims.old.items)
+        (listings_in_folders m member 1 (list_of (entries_in (list_value folders.now))))) }
+{
+    for i in 0..folders.len() {
+        add_folder(claims, member, folders, i)?;
+    }
+    Ok(())
+}
+
+/// Adds the files of the member at a place, counted from 0.
+fn add_member<'a>(
+    claims: &mut Vec<Claim<'a>>,
+    members: &Members<'a>,
+    i: usize,
+) -> Result<(), AllocError>
+    requires at { i < length (members_of members.now) }
+    requires few { length (members_of members.now) < 2 ^ 32 }
+    ensures { IfOk result (λ _. (m : Member) → slice_get (members_of members.now) i ≡ Some m
+        → map claim_seen claims.new.items
+        ≡ with_listings (map claim_seen claims.old.items) (listings_by i m)) }
+{
+    let view = members.view(i);
+    add_folders(claims, i as u32, &view.paths())
+}
+
+/// All files that members list.
+pub(crate) fn claims_in<'a>(
+    alloc: Global,
+    members: &Members<'a>,
+) -> Result<Vec<Claim<'a>>, AllocError>
+    requires { length (members_of members.now) < 2 ^ 32 }
+    ensures { IfOk result (λ claims. map claim_seen claims.items
+        ≡ with_listings [] (member_listings (members_of members.now))) }
+{
+    let mut claims = Vec::new(alloc);
+    for i in 0..members.len() {
+        add_member(&mut claims, members, i)?;
+    }
+    Ok(claims)
+}

@@ -1,0 +1,66 @@
+//! The owners of the files that members list.
+
+ghost use Rattle.std.specs.Prelude.{◌≡◌, ◌<◌, ◌^◌, Some, IfOk, length, map, option_map, slice_get};
+ghost use Rattle.db_core.specs.Members.{Member};
+ghost use Rattle.db_core.specs.Seen.{members_of};
+ghost use Rattle.list_order.specs.Sorted.{sorted_by};
+ghost use Rattle.path_claims.specs.Claims.{claim_cmp};
+ghost use Rattle.path_claims.specs.ContestedSeen.{contested_seen};
+ghost use Rattle.path_claims.specs.Seen.{claim_seen};
+ghost use Rattle.file_owners.specs.Owners.{claims_in, contested_of, member_beats, owned_of, owner_of_path};
+ghost use Rattle.file_owners.specs.Replaces.{takes_over};
+
+use crate::gather::claims_in;
+use crate::replaces::takes_over;
+use db_core::Members;
+use path_claims::{Contest, Owners, owners_of};
+use std::alloc::{AllocError, Global};
+
+/// Members, some of which take over the files of others.
+#[derive(Clone, Copy)]
+struct Claimants<'m, 'a> {
+    members: &'m Members<'a>,
+}
+
+impl<'m, 'a> Contest for Claimants<'m, 'a> {
+    ghost beats = { λ claimants. member_beats (members_of claimants.members.now) };
+
+    fn beats(&self, one: u32, other: u32) -> bool {
+        let one = one as usize;
+        let other = other as usize;
+        if one >= self.members.len() || other >= self.members.len() {
+            return false;
+        }
+        member_beats(self.members, one, other)
+    }
+}
+
+/// Whether the member at one place takes over the files of the one at another.
+fn member_beats(members: &Members<'_>, one: usize, other: usize) -> bool
+    requires one { one < length (members_of members.now) }
+    requires other { other < length (members_of members.now) }
+    ensures { result ≡ member_beats (members_of members.now) one other }
+{
+    takes_over(members.view(one), members.view(other))
+}
+
+/// Finds who owns the files that members list. It takes a few words for each file, and compares
+/// paths as a sort does.
+///
+/// # Errors
+///
+/// Want of memory.
+pub fn owners_of_files<'a>(alloc: Global, members: &Members<'a>) -> Result<Owners<'a>, AllocError>
+    requires { length (members_of members.now) < 2 ^ 32 }
+    ensures claims { IfOk result (λ found. map claim_seen found.claims.items
+        ≡ sorted_by claim_cmp (claims_in (members_of members.now))) }
+    ensures owners { IfOk result (λ found. found.owners.items
+        ≡ map (λ c. owner_of_path (members_of members.now) c.path)
+        (map claim_seen found.claims.items)) }
+    ensures owned { IfOk result (λ found. found.owned.items ≡ owned_of (members_of members.now)) }
+    ensures contested { IfOk result (λ found. option_map contested_seen found.contested
+        ≡ contested_of (members_of members.now)) }
+{
+    let claims = claims_in(alloc, members)?;
+    owners_of(alloc, &Claimants { members }, claims)
+}

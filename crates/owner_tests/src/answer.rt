@@ -1,0 +1,96 @@
+//! Who owns the files of packages, as text.
+
+use adb_schema::FilePath;
+use db_core::{MOST_MEMBERS, Members};
+use file_owners::{Contested, Owners, owners_of_files};
+use pkg_core::Package;
+use row_lines::{add_number, add_word};
+use std::alloc::{AllocError, Global};
+
+/// Adds who owns the files of packages, which all come: for each path `PATH=PLACE`, or `PATH=?`
+/// where none owns it, then for each file that is listed `1` or `0` for whether its package owns
+/// it, and then the path that is contested and the places of two packages that contend for it.
+pub fn add_owners(
+    alloc: Global,
+    containers: &[Vec<u8>],
+    answer: &mut Vec<u8>,
+) -> Result<(), AllocError> {
+    let mut members = Members::new(alloc);
+    for container in containers {
+        let Ok(package) = Package::new(alloc, container) else {
+            return answer.extend_from_slice(b"a package is bad");
+        };
+        let name = package.view().info().name();
+        if !members.comes_behind(name) || members.len() >= MOST_MEMBERS {
+            return answer.extend_from_slice(b"packages are not in order");
+        }
+        members.comes(&package)?;
+    }
+    if members.len() > MOST_MEMBERS {
+        return Ok(());
+    }
+    let found = owners_of_files(alloc, &members)?;
+    add_paths(alloc, &found, answer)?;
+    add_flags(&found, answer)?;
+    match &found.contested {
+        Some(contested) => add_contested(alloc, contested, answer),
+        None => Ok(()),
+    }
+}
+
+/// Adds each path once, with the place of its owner.
+fn add_paths(alloc: Global, found: &Owners<'_>, answer: &mut Vec<u8>) -> Result<(), AllocError> {
+    let mut last: Option<FilePath<'_>> = None;
+    for i in 0..found.claims.len() {
+        let path = found.claims[i].path;
+        if is_other(&last, &path) && i < found.owners.len() {
+            add_word(answer, b"")?;
+            add_path(&path, answer)?;
+            answer.extend_from_slice(b"=")?;
+            match found.owners[i] {
+                Some(place) => add_number(alloc, answer, u128::from(place))?,
+                None => answer.extend_from_slice(b"?")?,
+            }
+        }
+        last = Some(path);
+    }
+    Ok(())
+}
+
+/// Whether a path is another than the last one.
+fn is_other(last: &Option<FilePath<'_>>, path: &FilePath<'_>) -> bool {
+    match last {
+        Some(last) => !last.compare(path).is_eq(),
+        None => true,
+    }
+}
+
+fn add_path(path: &FilePath<'_>, answer: &mut Vec<u8>) -> Result<(), AllocError> {
+    if !path.folder.is_empty() {
+        answer.extend_from_slice(path.folder)?;
+        answer.push(b'/')?;
+    }
+    answer.extend_from_slice(path.name)
+}
+
+/// Adds the flags of the files that are listed.
+fn add_flags(found: &Owners<'_>, answer: &mut Vec<u8>) -> Result<(), AllocError> {
+    add_word(answer, b"")?;
+    for owned in &found.owned {
+        answer.push(if *owned { b'1' } else { b'0' })?;
+    }
+    Ok(())
+}
+
+fn add_contested(
+    alloc: Global,
+    contested: &Contested<'_>,
+    answer: &mut Vec<u8>,
+) -> Result<(), AllocError> {
+    add_word(answer, b"")?;
+    add_path(&contested.path, answer)?;
+    answer.push(b':')?;
+    add_number(alloc, answer, u128::from(contested.rivals.first))?;
+    answer.push(b',')?;
+    add_number(alloc, answer, u128::from(contested.rivals.second))
+}

@@ -1,0 +1,76 @@
+//! Answers questions to `file_owners`: who owns the files that packages list. Its stored run has
+//! all rows; `tests/lines.md` describes their form.
+#![tactic(auto)]
+
+mod answer;
+mod package;
+
+use answer::add_owners;
+use base_core::Words;
+use package::package_of;
+use row_lines::{Subject, run_lines, value_named, word_at};
+use std::alloc::{AllocError, Global};
+use std::io;
+use std::io::{Read, Write};
+use std::process::ExitCode;
+
+/// What is asked.
+#[derive(Clone, Copy)]
+enum Question {
+    New,
+    Package,
+    Owners,
+}
+
+#[rattlefmt::skip]
+const QUESTIONS: [(&[u8], Question); 3] = [
+    (b"new", Question::New),
+    (b"package", Question::Package),
+    (b"owners", Question::Owners),
+];
+
+/// The containers of the packages that come, in the order in which they were told.
+#[derive(Drop)]
+struct Change {
+    packages: Vec<Vec<u8>>,
+}
+
+impl Subject for Change {
+    fn answer(
+        &mut self,
+        alloc: Global,
+        words: &Words,
+        answer: &mut Vec<u8>,
+    ) -> Result<(), AllocError> {
+        let Some(question) = value_named(&QUESTIONS, word_at(words, 0)) else {
+            return answer.extend_from_slice(b"no question");
+        };
+        match question {
+            Question::New => {
+                self.packages.clear();
+                Ok(())
+            }
+            Question::Package => match package_of(alloc, words)? {
+                Some(package) => {
+                    self.packages.push(package)?;
+                    Ok(())
+                }
+                None => answer.extend_from_slice(b"no package"),
+            },
+            Question::Owners => add_owners(alloc, &self.packages, answer),
+        }
+    }
+}
+
+fn main(rt: HostRuntime) -> io::Result<ExitCode> {
+    let alloc = rt.alloc();
+    let mut text = Vec::new(alloc);
+    rt.stdin().read_to_end(&mut text)?;
+    let mut report = Vec::new(alloc);
+    let mut change = Change {
+        packages: Vec::new(alloc),
+    };
+    let passed = run_lines(alloc, &mut change, &text, &mut report)?;
+    rt.stdout().write_all(&report)?;
+    Ok(ExitCode::from(if passed { 0 } else { 1 }))
+}

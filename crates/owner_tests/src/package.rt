@@ -1,0 +1,105 @@
+//! The containers of packages, from the words of a row.
+
+use base_core::Words;
+use row_dump::{DumpFault, container_of};
+use row_lines::word_at;
+use std::alloc::{AllocError, Global};
+
+/// The container of `package NAME VERSION PRIORITY PATHS REPLACES..`. The paths have commas between
+/// them, and each is that of an empty file. What is replaced is `NAME:VERSION:MATCH`, where the
+/// number says which versions match. None where the words give no container.
+pub fn package_of(alloc: Global, words: &Words) -> Result<Option<Vec<u8>>, AllocError> {
+    let mut dump = Vec::new(alloc);
+    dump.extend_from_slice(b"#%SCHEMA: 676b6370\ninfo:\n")?;
+    add_field(&mut dump, b"  name: ", word_at(words, 1))?;
+    add_field(&mut dump, b"  version: ", word_at(words, 2))?;
+    add_replaces(&mut dump, words)?;
+    add_files(&mut dump, word_at(words, 4))?;
+    add_field(&mut dump, b"replaces-priority: ", word_at(words, 3))?;
+    match container_of(alloc, &dump) {
+        Ok(container) => Ok(Some(container)),
+        Err(DumpFault::NoDump) => Ok(None),
+        Err(DumpFault::Memory) => Err(AllocError),
+    }
+}
+
+/// Adds a field's line, if the field has a value.
+fn add_field(dump: &mut Vec<u8>, field: &[u8], value: &[u8]) -> Result<(), AllocError> {
+    if value.is_empty() {
+        return Ok(());
+    }
+    dump.extend_from_slice(field)?;
+    dump.extend_from_slice(value)?;
+    dump.extend_from_slice(b"\n")
+}
+
+/// Adds what the package replaces.
+fn add_replaces(dump: &mut Vec<u8>, words: &Words) -> Result<(), AllocError> {
+    if words.len() > 5 {
+        dump.extend_from_slice(b"  replaces:\n")?;
+    }
+    for i in 5..words.len() {
+        let (name, rest) = parted(word_at(words, i), b':');
+        let (version, matching) = parted(rest, b':');
+        add_field(dump, b"    - name: ", name)?;
+        add_field(dump, b"      version: ", version)?;
+        add_field(dump, b"      match: ", matching)?;
+    }
+    Ok(())
+}
+
+/// Adds folders with their files. Files of one folder that stand side by side share it.
+fn add_files(dump: &mut Vec<u8>, paths: &[u8]) -> Result<(), AllocError> {
+    if paths.is_empty() {
+        return Ok(());
+    }
+    dump.extend_from_slice(b"paths:\n")?;
+    let mut above: Option<&[u8]> = None;
+    for path in paths.split(|byte| *byte == b',') {
+        let (folder, name) = parted_last(path);
+        if above != Some(folder) {
+            add_folder(dump, folder)?;
+        }
+        above = Some(folder);
+        add_field(dump, b"      - name: ", name)?;
+        add_rights(
+            dump,
+            b"        acl:\n          mode: 420\n          user: ",
+            b"          group: ",
+        )?;
+    }
+    Ok(())
+}
+
+/// Adds a folder's lines down to its files.
+fn add_folder(dump: &mut Vec<u8>, folder: &[u8]) -> Result<(), AllocError> {
+    if folder.is_empty() {
+        add_rights(dump, b"  - acl:\n      mode: 493\n      user: ", b"      group: ")?;
+    } else {
+        add_field(dump, b"  - name: ", folder)?;
+        add_rights(dump, b"    acl:\n      mode: 493\n      user: ", b"      group: ")?;
+    }
+    dump.extend_from_slice(b"    files:\n")
+}
+
+/// Adds the lines of an access list of root.
+fn add_rights(dump: &mut Vec<u8>, user: &[u8], group: &[u8]) -> Result<(), AllocError> {
+    add_field(dump, user, b"root")?;
+    add_field(dump, group, b"root")
+}
+
+/// What stands before the first byte of this kind, and what behind it.
+fn parted(text: &[u8], mark: u8) -> (&[u8], &[u8]) {
+    match text.iter().position(|byte| *byte == mark) {
+        Some(i) if i < text.len() => (&text[..i], &text[i + 1..]),
+        _ => (text, b""),
+    }
+}
+
+/// The folder and the name of a path.
+fn parted_last(path: &[u8]) -> (&[u8], &[u8]) {
+    match path.iter().rposition(|byte| *byte == b'/') {
+        Some(i) if i < path.len() => (&path[..i], &path[i + 1..]),
+        _ => (b"", path),
+    }
+}

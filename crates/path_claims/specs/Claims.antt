@@ -1,0 +1,66 @@
+-- The members that claim a path, and the one that owns it.
+use Rattle.std.specs.Prelude.{◌≡◌, ℕ, ◌==◌, Bool, false, List, map, Option, Some, None, is_none, option_map, option_and_then, slice_get, bytes_eq}
+use Rattle.std.specs.List.{filter, find}
+use Rattle.std.specs.Ordering.{on}
+use Rattle.std.specs.declared.cmp.Ordering.{Ordering}
+use Rattle.list_order.specs.ByteOrder.{bytes_cmp}
+use Rattle.list_order.specs.Sorted.{sorted_by}
+use Rattle.path_claims.specs.Contest.{winner, first_rivals}
+use Rattle.path_claims.specs.declared.contest.Rivals.{Rivals}
+
+-- A file that a member lists. The member's place counts from 0, those of the folder and of the file
+-- in it count from 1; the number says how many claims stand before it.
+pub record PathClaim : Type 0 where
+  pub path : List ℕ
+  pub member : ℕ
+  pub folder : ℕ
+  pub file : ℕ
+  pub number : ℕ
+
+-- each claim's number is its place
+abbrev pub AreNumbered : List PathClaim → Type 0
+AreNumbered claims = (i : ℕ) (c : PathClaim) → slice_get claims i ≡ Some c → c.number ≡ i
+
+abbrev pub is_of_path : List ℕ → PathClaim → Bool
+is_of_path path c = bytes_eq c.path path
+
+-- the members that claim a path, in the order of the claims
+abbrev pub claimants : List PathClaim → List ℕ → List ℕ
+claimants claims path = map (λ c. c.member) (filter (is_of_path path) claims)
+
+-- the claimant that beats every other
+abbrev pub owner_by : (ℕ → ℕ → Bool) → List PathClaim → List ℕ → Option ℕ
+owner_by beats claims path = winner beats (claimants claims path)
+
+abbrev pub is_member : ℕ → Option ℕ → Bool
+is_member m None = false
+is_member m (Some owner) = m == owner
+
+-- whether the claim's member owns its path
+abbrev pub is_owner_by : (ℕ → ℕ → Bool) → List PathClaim → PathClaim → Bool
+is_owner_by beats claims c = is_member c.member (owner_by beats claims c.path)
+
+-- by path
+unfoldable pub claim_cmp : PathClaim → PathClaim → Ordering
+claim_cmp = on (λ c. c.path) bytes_cmp
+
+-- of the paths that no claimant owns, the first in byte order
+abbrev pub contested_path : (ℕ → ℕ → Bool) → List PathClaim → Option (List ℕ)
+contested_path beats claims =
+    find (λ path. is_none (owner_by beats claims path))
+    (sorted_by bytes_cmp (map (λ c. c.path) claims))
+
+-- a path, and two claimants neither of which takes it over
+pub record ContestedPath : Type 0 where
+  pub path : List ℕ
+  pub rivals : Rivals
+
+abbrev pub contested_at : (ℕ → ℕ → Bool) → List PathClaim → List ℕ → Option ContestedPath
+contested_at beats claims path =
+    option_map (λ rivals. record { path = path; rivals = rivals })
+    (first_rivals beats (claimants claims path))
+
+-- the first path that no claimant owns
+unfoldable pub contested_by : (ℕ → ℕ → Bool) → List PathClaim → Option ContestedPath
+contested_by beats claims =
+    option_and_then (contested_at beats claims) (contested_path beats claims)

@@ -1,0 +1,24 @@
+-- Of members that beat each other, the one that beats every other.
+use Rattle.std.specs.Prelude.{◌≡◌, ℕ, ◌==◌, Bool, true, false, not, ◌||◌, List, [], ◌∷◌, Option, None, option_map}
+use Rattle.std.specs.List.{find, list_all}
+use Rattle.path_claims.specs.declared.contest.Rivals.{Rivals}
+
+-- x beats each other member
+abbrev pub beats_each : (ℕ → ℕ → Bool) → List ℕ → ℕ → Bool
+beats_each beats members x = list_all (λ y. (x == y) || beats x y) members
+
+unfoldable pub winner : (ℕ → ℕ → Bool) → List ℕ → Option ℕ
+winner beats members = find (beats_each beats members) members
+
+abbrev pub rivals_of : ℕ → ℕ → Rivals
+rivals_of x y = record { first = x; second = y }
+
+-- the first member, and the first other one that it does not beat
+unfoldable pub first_rivals : (ℕ → ℕ → Bool) → List ℕ → Option Rivals
+first_rivals beats [] = None
+first_rivals beats (x ∷ members) =
+    option_map (rivals_of x) (find (λ y. not ((x == y) || beats x y)) (x ∷ members))
+
+-- no two beat each other
+abbrev pub IsOneWay : (ℕ → ℕ → Bool) → Type 0
+IsOneWay beats = (x y : ℕ) → beats x y ≡ true → beats y x ≡ false

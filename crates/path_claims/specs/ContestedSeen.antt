@@ -1,0 +1,7 @@
+-- What a contested path of the program stands for.
+use Rattle.adb_fields.specs.JoinedPath.{joined_path}
+use Rattle.path_claims.specs.Claims.{ContestedPath}
+use Rattle.path_claims.specs.declared.owner.Contested.{Contested}
+
+abbrev pub contested_seen : Contested → ContestedPath
+contested_seen c = record { path = joined_path c.path; rivals = c.rivals }

@@ -1,0 +1,65 @@
+//! Claims in the order of their paths.
+
+ghost use Rattle.std.specs.Prelude.{◌≡◌, ◌<◌, Some, IfOk, drop, length, map, slice_get};
+ghost use Rattle.adb_fields.specs.JoinedPath.{joined_path};
+ghost use Rattle.list_order.specs.Sorted.{sorted_by};
+ghost use Rattle.path_claims.specs.Claims.{PathClaim, claim_cmp, is_of_path};
+ghost use Rattle.path_claims.specs.Runs.{is_first_of_path, passing_front};
+ghost use Rattle.path_claims.specs.Seen.{claim_seen};
+
+use adb_fields::FilePath;
+use std::alloc::{AllocError, Global};
+
+/// A file that a member lists. The member's place counts from 0, those of the folder and of the
+/// file in it count from 1. The number says how many claims stand before it in the list of all.
+#[derive(Clone, Copy)]
+pub struct Claim<'a> {
+    pub path: FilePath<'a>,
+    pub member: u32,
+    pub folder: u32,
+    pub file: u32,
+    pub number: usize,
+}
+
+/// Puts claims into the order of their paths. Those of one path stay in theirs.
+pub(crate) fn sort_claims(claims: &mut Vec<Claim<'_>>) -> Result<(), AllocError>
+    ensures { IfOk result (λ _. map claim_seen claims.new.items
+        ≡ sorted_by claim_cmp (map claim_seen claims.old.items)) }
+{
+    claims.sort_by(|one, other| one.path.compare(&other.path))?;
+    Ok(())
+}
+
+/// Whether a claim has another path than the one before it.
+pub(crate) fn begins_path(claims: &[Claim<'_>], i: usize) -> bool
+    requires { i < length claims.now }
+    ensures { result ≡ is_first_of_path (map claim_seen claims.now) i }
+{
+    if i == 0 {
+        return true;
+    }
+    !claims[i - 1].path.compare(&claims[i].path).is_eq()
+}
+
+/// The claims from the front on that have a path.
+fn run_in_front<'c, 'a>(claims: &'c [Claim<'a>], path: &FilePath<'_>) -> &'c [Claim<'a>]
+    ensures { map claim_seen result.now
+        ≡ passing_front (is_of_path (joined_path path.now)) (map claim_seen claims.now) }
+{
+    let mut end = 0;
+    while end < claims.len() && claims[end].path.compare(path).is_eq() {
+        end += 1;
+    }
+    &claims[..end]
+}
+
+/// The claims from one on that have its path.
+pub(crate) fn run_at<'c, 'a>(claims: &'c [Claim<'a>], from: usize) -> &'c [Claim<'a>]
+    requires { from < length claims.now }
+    ensures { (c : PathClaim) → slice_get (map claim_seen claims.now) from ≡ Some c
+        → map claim_seen result.now
+        ≡ passing_front (is_of_path c.path) (drop from (map claim_seen claims.now)) }
+{
+    let path = claims[from].path;
+    run_in_front(&claims[from..], &path)
+}

@@ -1,0 +1,92 @@
+//! Which of several members, of which some beat others, beats every other one.
+
+ghost use Rattle.std.specs.Prelude.{◌≡◌, ◌==◌, ◌||◌, ℕ, Bool, map};
+ghost use Rattle.path_claims.specs.Contest.{IsOneWay, beats_each, first_rivals, winner};
+ghost use Rattle.path_claims.specs.LeftOver.{left_over};
+
+use crate::claim::Claim;
+
+/// Which of two members beats the other. Members are known by their places, which count from 0.
+pub trait Contest {
+    ghost beats: { Self → ℕ → ℕ → Bool };
+
+    /// Whether the first member beats the second.
+    fn beats(&self, one: u32, other: u32) -> bool
+        ensures { result ≡ Self.beats self.now one other };
+}
+
+/// The places of two members that claim one path.
+#[derive(Clone, Copy)]
+pub struct Rivals {
+    pub first: u32,
+    pub second: u32,
+}
+
+/// The only member that can beat all others: whoever is not beaten by the one before takes its
+/// place.
+fn left_over<C: Contest>(contest: &C, first: u32, claims: &[Claim<'_>]) -> u32
+    ensures { result ≡ left_over (C.beats contest.now) first (map (λ c. c.member) claims.now) }
+{
+    let mut left = first;
+    for claim in claims {
+        if !contest.beats(left, claim.member) {
+            left = claim.member;
+        }
+    }
+    left
+}
+
+/// Whether a member beats each other one.
+fn is_winner<C: Contest>(contest: &C, one: u32, claims: &[Claim<'_>]) -> bool
+    ensures { result ≡ beats_each (C.beats contest.now) (map (λ c. c.member) claims.now) one }
+{
+    for claim in claims {
+        if !is_same_or_beaten(contest, one, claim.member) {
+            return false;
+        }
+    }
+    true
+}
+
+/// Whether two members are one, or the first beats the second.
+fn is_same_or_beaten<C: Contest>(contest: &C, one: u32, other: u32) -> bool
+    ensures { result ≡ ((one == other) || C.beats contest.now one other) }
+{
+    if one == other {
+        return true;
+    }
+    contest.beats(one, other)
+}
+
+/// Of the members that claim a path the one that beats every other.
+pub(crate) fn winner<C: Contest>(contest: &C, claims: &[Claim<'_>]) -> Option<u32>
+    requires { IsOneWay (C.beats contest.now) }
+    ensures { result ≡ winner (C.beats contest.now) (map (λ c. c.member) claims.now) }
+{
+    if claims.is_empty() {
+        return None;
+    }
+    let left = left_over(contest, claims[0].member, claims);
+    if is_winner(contest, left, claims) {
+        Some(left)
+    } else {
+        None
+    }
+}
+
+/// Of the members that claim a path the first, and the first other one that it does not beat.
+pub(crate) fn first_rivals<C: Contest>(contest: &C, claims: &[Claim<'_>]) -> Option<Rivals>
+    ensures { result ≡ first_rivals (C.beats contest.now) (map (λ c. c.member) claims.now) }
+{
+    if claims.is_empty() {
+        return None;
+    }
+    let first = claims[0].member;
+    for claim in claims {
+        if !is_same_or_beaten(contest, first, claim.member) {
+            let second = claim.member;
+            return Some(Rivals { first, second });
+        }
+    }
+    None
+}

@@ -1,0 +1,16 @@
+//! Who owns a path that several members list (apk-package(5), "replaces").
+//!
+//! A claim is a file that a member lists. `owners_of` sorts claims by their paths, and finds for
+//! each path the member that beats every other one that claims it. Which member beats which one a
+//! `Contest` says. The contracts cite `Contest` and `Claims` of `specs/`.
+#![tactic(auto)]
+
+mod claim;
+mod contest;
+mod laws;
+mod owner;
+
+pub use claim::Claim;
+pub use contest::{Contest, Rivals};
+pub use laws::a_path_has_one_owner;
+pub use owner::{Contested, Owners, owners_of};

@@ -1,0 +1,215 @@
+//! The owner of each path, and which claims are their owner's.
+
+ghost use Rattle.std.specs.Prelude.{◌≡◌, ◌+◌, ◌<◌, ℕ, Bool, Option, Some, true, IfOk, is_none, length, map, option_and_then, option_map, slice_get};
+ghost use Rattle.std.specs.List.Sorted.{IsSorted};
+ghost use Rattle.list_order.specs.Sorted.{sorted_by};
+ghost use Rattle.path_claims.specs.Claims.{AreNumbered, PathClaim, claim_cmp, contested_at, contested_by, is_member, is_owner_by, owner_by};
+ghost use Rattle.path_claims.specs.Contest.{IsOneWay};
+ghost use Rattle.path_claims.specs.Runs.{is_first_of_path};
+ghost use Rattle.path_claims.specs.Seen.{claim_seen};
+ghost use Rattle.path_claims.specs.ContestedSeen.{contested_seen};
+ghost use Rattle.std.specs.List.{find};
+
+use crate::claim::{Claim, begins_path, run_at, sort_claims};
+use crate::contest::{Contest, Rivals, first_rivals, winner};
+use adb_fields::FilePath;
+use std::alloc::{AllocError, Global};
+
+/// A path that no member owns, and two that claim it, neither of which takes it over.
+#[derive(Clone, Copy)]
+pub struct Contested<'a> {
+    pub path: FilePath<'a>,
+    pub rivals: Rivals,
+}
+
+/// Claims in the order of their paths, and who owns these.
+#[derive(Drop)]
+pub struct Owners<'a> {
+    /// The claims in the order of their paths. Those of one path stand as in the list of all.
+    pub claims: Vec<Claim<'a>>,
+    /// For each of these claims the member that owns its path, if one does.
+    pub owners: Vec<Option<u32>>,
+    /// For each claim in the list of all, whether its member owns its path.
+    pub owned: Vec<bool>,
+    /// The first path in byte order that no member owns.
+    pub contested: Option<Contested<'a>>,
+}
+
+/// The owner of a claim's path, where the owner of the path before it is known.
+fn owner_at<C: Contest>(
+    contest: &C,
+    claims: &[Claim<'_>],
+    i: usize,
+    before: Option<u32>,
+) -> Option<u32>
+    requires at { i < length claims.now }
+    requires one_way { IsOneWay (C.beats contest.now) }
+    requires sorted { IsSorted claim_cmp (map claim_seen claims.now) }
+    requires before { (j : ℕ) (c : PathClaim) → j + 1 ≡ i
+        → slice_get (map claim_seen claims.now) j ≡ Some c
+        → before ≡ owner_by (C.beats contest.now) (map claim_seen claims.now) c.path }
+    ensures { (c : PathClaim) → slice_get (map claim_seen claims.now) i ≡ Some c
+        → result ≡ owner_by (C.beats contest.now) (map claim_seen claims.now) c.path }
+{
+    if !begins_path(claims, i) {
+        return before;
+    }
+    winner(contest, run_at(claims, i))
+}
+
+/// For each claim the owner of its path.
+fn owners_in_order<C: Contest>(
+    alloc: Global,
+    contest: &C,
+    claims: &[Claim<'_>],
+) -> Result<Vec<Option<u32>>, AllocError>
+    requires one_way { IsOneWay (C.beats contest.now) }
+    requires sorted { IsSorted claim_cmp (map claim_seen claims.now) }
+    ensures { IfOk result (λ owners. owners.items
+        ≡ map (λ c. owner_by (C.beats contest.now) (map claim_seen claims.now) c.path)
+        (map claim_seen claims.now)) }
+{
+    let mut owners = Vec::new(alloc);
+    let mut owner = None;
+    for i in 0..claims.len() {
+        owner = owner_at(contest, claims, i, owner);
+        owners.push(owner)?;
+    }
+    Ok(owners)
+}
+
+/// Whether a member is the owner, if there is one.
+fn is_member(member: u32, owner: Option<u32>) -> bool
+    ensures { result ≡ is_member member owner }
+{
+    match owner {
+        Some(owner) => member == owner,
+        None => false,
+    }
+}
+
+/// Notes for each claim, by its number, whether its member is the owner.
+fn mark_owned(flags: &mut [bool], claims: &[Claim<'_>], owners: &[Option<u32>])
+    requires owners { length owners.now ≡ length claims.now }
+    requires flags { (j : ℕ) (c : PathClaim) → slice_get (map claim_seen claims.now) j ≡ Some c
+        → c.number < length flags.old }
+    requires same { (j k : ℕ) (c d : PathClaim) (o p : Option ℕ)
+        → slice_get (map claim_seen claims.now) j ≡ Some c → slice_get owners.now j ≡ Some o
+        → slice_get (map claim_seen claims.now) k ≡ Some d → slice_get owners.now k ≡ Some p
+        → c.number ≡ d.number → is_member c.member o ≡ is_member d.member p }
+    ensures len { length flags.new ≡ length flags.old }
+    ensures marked { (j : ℕ) (c : PathClaim) (o : Option ℕ)
+        → slice_get (map claim_seen claims.now) j ≡ Some c → slice_get owners.now j ≡ Some o
+        → slice_get flags.new c.number ≡ Some (is_member c.member o) }
+{
+    for i in 0..claims.len() {
+        flags[claims[i].number] = is_member(claims[i].member, owners[i]);
+    }
+}
+
+/// The path of a claim that no member owns. The claim is the first of its path.
+fn contested_from<'a, C: Contest>(
+    contest: &C,
+    claims: &[Claim<'a>],
+    i: usize,
+) -> Option<Contested<'a>>
+    requires at { i < length claims.now }
+    requires sorted { IsSorted claim_cmp (map claim_seen claims.now) }
+    requires first { is_first_of_path (map claim_seen claims.now) i ≡ true }
+    ensures { (c : PathClaim) → slice_get (map claim_seen claims.now) i ≡ Some c
+        → option_map contested_seen result
+        ≡ contested_at (C.beats contest.now) (map claim_seen claims.now) c.path }
+{
+    match first_rivals(contest, run_at(claims, i)) {
+        Some(rivals) => Some(Contested {
+            path: claims[i].path,
+            rivals,
+        }),
+        None => None,
+    }
+}
+
+/// The first path that no member owns.
+fn first_contested<'a, C: Contest>(
+    contest: &C,
+    claims: &[Claim<'a>],
+    owners: &[Option<u32>],
+) -> Option<Contested<'a>>
+    requires sorted { IsSorted claim_cmp (map claim_seen claims.now) }
+    requires owners { owners.now
+        ≡ map (λ c. owner_by (C.beats contest.now) (map claim_seen claims.now) c.path)
+        (map claim_seen claims.now) }
+    ensures { option_map contested_seen result
+        ≡ option_and_then (contested_at (C.beats contest.now) (map claim_seen claims.now))
+        (find
+        (λ path. is_none (owner_by (C.beats contest.now) (map claim_seen claims.now) path))
+        (map (λ c. c.path) (map claim_seen claims.now))) }
+{
+    for i in 0..claims.len() {
+        if owners[i].is_none() {
+            return contested_from(contest, claims, i);
+        }
+    }
+    None
+}
+
+/// The flags of claims by their numbers, which say whether a claim's member is the owner.
+fn owned_flags(
+    alloc: Global,
+    claims: &[Claim<'_>],
+    owners: &[Option<u32>],
+) -> Result<Vec<bool>, AllocError>
+    requires owners { length owners.now ≡ length claims.now }
+    requires numbers { (j : ℕ) (c : PathClaim) → slice_get (map claim_seen claims.now) j ≡ Some c
+        → c.number < length claims.now }
+    requires same { (j k : ℕ) (c d : PathClaim) (o p : Option ℕ)
+        → slice_get (map claim_seen claims.now) j ≡ Some c → slice_get owners.now j ≡ Some o
+        → slice_get (map claim_seen claims.now) k ≡ Some d → slice_get owners.now k ≡ Some p
+        → c.number ≡ d.number → is_member c.member o ≡ is_member d.member p }
+    ensures len { IfOk result (λ flags. length flags.items ≡ length claims.now) }
+    ensures marked { IfOk result (λ flags. (j : ℕ) (c : PathClaim) (o : Option ℕ)
+        → slice_get (map claim_seen claims.now) j ≡ Some c → slice_get owners.now j ≡ Some o
+        → slice_get flags.items c.number ≡ Some (is_member c.member o)) }
+{
+    let mut flags = Vec::new(alloc);
+    flags.resize(claims.len(), false)?;
+    mark_owned(&mut flags, claims, owners);
+    Ok(flags)
+}
+
+/// Finds who owns the paths that members claim. It takes a few words for each claim, and compares
+/// as a sort does; each claim is asked of the contest at most twice.
+///
+/// # Errors
+///
+/// Want of memory.
+pub fn owners_of<'a, C: Contest>(
+    alloc: Global,
+    contest: &C,
+    claims: Vec<Claim<'a>>,
+) -> Result<Owners<'a>, AllocError>
+    requires one_way { IsOneWay (C.beats contest.now) }
+    requires numbered { AreNumbered (map claim_seen claims.items) }
+    ensures claims { IfOk result (λ found. map claim_seen found.claims.items
+        ≡ sorted_by claim_cmp (map claim_seen claims.entry.items)) }
+    ensures owners { IfOk result (λ found. found.owners.items
+        ≡ map (λ c. owner_by (C.beats contest.now) (map claim_seen claims.entry.items) c.path)
+        (map claim_seen found.claims.items)) }
+    ensures owned { IfOk result (λ found. found.owned.items
+        ≡ map (is_owner_by (C.beats contest.now) (map claim_seen claims.entry.items))
+        (map claim_seen claims.entry.items)) }
+    ensures contested { IfOk result (λ found. option_map contested_seen found.contested
+        ≡ contested_by (C.beats contest.now) (map claim_seen claims.entry.items)) }
+{
+    let mut claims = claims;
+    sort_claims(&mut claims)?;
+    let owners = owners_in_order(alloc, contest, &claims)?;
+    let owned = owned_flags(alloc, &claims, &owners)?;
+    let contested = first_contested(contest, &claims, &owners);
+    Ok(Owners {
+        claims,
+        owners,
+        owned,
+        contested,
+    })
+}
