@@ -1,11 +1,14 @@
-//! Answers questions to `piece_core`: a file's contents piece by piece, and the front of a block
-//! against the next file. Its stored run has all rows; `tests/lines.md` describes their form.
+//! Answers questions to `piece_core` and `pkg_pieces`: a file's contents piece by piece, the front of
+//! a block against the next file, and the front of a package. Its stored run has all rows; `tests/lines.md` describes their form.
 #![tactic(auto)]
 
 ghost use Rattle.std.specs.Prelude.{◌≡◌, IfSome};
 ghost use Rattle.adb_schema.specs.Checked.{which_of};
 ghost use Rattle.adb_tables.specs.declared.tables.Which.TheVariants as Tables;
 
+mod front;
+
+use crate::front::add_cuts;
 use adb_schema::Checked;
 use adb_tables::{Which, shape};
 use adb_view::Adb;
@@ -35,12 +38,14 @@ const ONE: &[u8] =
 enum Question {
     Pieces,
     Open,
+    Cuts,
 }
 
 #[rattlefmt::skip]
-const QUESTIONS: [(&[u8], Question); 2] = [
+const QUESTIONS: [(&[u8], Question); 3] = [
     (b"pieces", Question::Pieces),
     (b"open", Question::Open),
+    (b"cuts", Question::Cuts),
 ];
 
 /// The contents of a package's files.
@@ -57,6 +62,7 @@ impl Subject for Files {
         match value_named(&QUESTIONS, word_at(words, 0)) {
             Some(Question::Pieces) => add_pieces(alloc, words, answer),
             Some(Question::Open) => add_opened(alloc, words, answer),
+            Some(Question::Cuts) => add_cuts(alloc, word_at(words, 1), answer),
             None => answer.extend_from_slice(b"no question"),
         }
     }
@@ -167,7 +173,11 @@ fn add_part(alloc: Global, part: Part, len: usize, answer: &mut Vec<u8>) -> Resu
 }
 
 /// Adds a cause, as its variant and its fields; of a digest that differs no more than that.
-fn add_cause(alloc: Global, cause: Cause, answer: &mut Vec<u8>) -> Result<(), AllocError> {
+pub(crate) fn add_cause(
+    alloc: Global,
+    cause: Cause,
+    answer: &mut Vec<u8>,
+) -> Result<(), AllocError> {
     match cause {
         Cause::HashDiffers { .. } => add_word(answer, b"another digest"),
         _ => {

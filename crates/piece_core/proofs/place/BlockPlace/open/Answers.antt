@@ -1,7 +1,6 @@
 -- The block holds contents.
-use Rattle.std.proofs.Common.{◌≡◌, ◌≤◌, List, [], ℕ, ap, sym, ◌∙◌, arith}
+use Rattle.std.proofs.Common.{◌≤◌, [], ap, sym, ◌∙◌, arith}
 use Rattle.piece_core.specs.Places.{payload_at, pieces_at}
-use Rattle.piece_core.specs.Pieces.{PiecesRead, pieces_from, whole_pieces}
 use Rattle.piece_core.specs.Taking.{pieces_in}
 use Rattle.piece_core.specs.declared.place.BlockPlace.{BlockPlace}
 use Rattle.pkg_core.specs.Contents.{contents_bytes}
