@@ -1,6 +1,5 @@
 pub mod Heads
 pub mod SeenBytes
-pub mod BlockRuns
 pub mod HeaderFront
 pub mod FrontSteps
 pub mod FrontSeen
