@@ -39,7 +39,8 @@ use Rattle.command_core.specs.declared.command.Applet.{Applet}
 use Rattle.command_core.specs.declared.command.Applet.TheVariants.{Mkndx, Mkpkg}
 use Rattle.command_core.specs.declared.operands.Operand.{Operand}
 use Rattle.command_core.specs.declared.values.OptionValue.{OptionValue}
-use Rattle.outcome.proofs.Listings.{if_some, is_below}
+use Rattle.journal_core.proofs.Below.{is_below}
+use Rattle.outcome.proofs.Listings.{if_some}
 use Rattle.outcome.specs.Commands.{IsListingFor, IsOutcome, IsOutcomeOf, IsOutcomeUnless, reads_in, applet_outcome}
 use Rattle.outcome.specs.Effect.{Effect, Makes, effect_of, output, output_by, output_if}
 use Rattle.outcome.specs.Make.{IsListing, files_below, index_line, make_outcome, mkndx, mkpkg}
