@@ -12,15 +12,19 @@ ghost use Rattle.adb_view.specs.Plain.{Plain};
 ghost use Rattle.adb_view.specs.Shaped.{HasShape};
 ghost use Rattle.adb_write.specs.Canonical.{written_of};
 ghost use Rattle.adb_write.specs.File.{file_of};
-ghost use Rattle.db_core.specs.Members.{Member};
+ghost use Rattle.db_core.specs.Members.{AreInOrder, Member};
 ghost use Rattle.db_write.specs.NewDatabase.{database_of, database_value, packages_after};
 ghost use Rattle.db_write.specs.OwnedListings.{owned_paths};
+ghost use Rattle.db_write.specs.SoundMembers.{AreOfSoundContainers, MayBeListed};
 ghost use Rattle.db_write.specs.Unchanged.{all_owned, staying_members};
 ghost use Rattle.pkg_core.specs.Whole.{container_fault};
 ghost use Rattle.std.specs.List.{flat_map};
 ghost use Rattle.std.specs.Prelude.{◌≡◌, ℕ, Bool, List, None, Ok};
 
+use adb_fields::no_name_is_repeated_where_each_stands_once;
+use adb_rules::no_text_is_bad_where_each_keeps_its_rule;
 use adb_sound::{a_container_of_a_good_value_is_sound, what_a_container_is_made_of_is_read_back};
+use adb_write::a_value_overflows_exactly_past_a_limit;
 
 /// A database whose value may stand at the root of a container passes all tests when it is written,
 /// and its packages are read back: those of the members, each with the files that it owns.
@@ -35,6 +39,20 @@ pub fn a_written_database_is_read_back()
 {
     a_container_of_a_good_value_is_sound();
     what_a_container_is_made_of_is_read_back();
+}
+
+/// The value of a database that is written may stand at the root of a container: where each member
+/// that stays was read from a sound database, and each that comes from a sound package with its id,
+/// members are in order, each path that they own stands once, and none is reserved.
+pub fn a_database_of_sound_packages_may_stand_at_the_root()
+    ensures { (members : List Member) (flags : List Bool) (bytes : List ℕ)
+        → AreOfSoundContainers members → AreInOrder members
+        → MayBeListed (owned_paths members flags) → database_of members flags ≡ Ok bytes
+        → IsRootOf Tables.Idb (database_value members flags) }
+{
+    a_value_overflows_exactly_past_a_limit();
+    no_text_is_bad_where_each_keeps_its_rule();
+    no_name_is_repeated_where_each_stands_once();
 }
 
 /// The packages of a database after a change list the files that members list and own, in their
