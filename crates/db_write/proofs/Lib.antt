@@ -1,6 +1,7 @@
 pub mod Container
 pub mod Listed
 pub mod Marking
+pub mod OneOwner
 pub mod OwnedPaths
 pub mod ReadBack
 pub mod Root

@@ -57,13 +57,13 @@ none_owned : (ls : List Listing) → owned_listings ls [] ≡ []
 none_owned [] = refl
 none_owned (l ∷ ls) = refl
 
-owned_joined : (ls others : List Listing) (flags : List Bool) → owned_listings (ls ++ others) flags ≡ owned_listings ls flags ++ owned_listings others (drop (length ls) flags)
+pub owned_joined : (ls others : List Listing) (flags : List Bool) → owned_listings (ls ++ others) flags ≡ owned_listings ls flags ++ owned_listings others (drop (length ls) flags)
 owned_joined [] others flags = refl
 owned_joined (l ∷ ls) others [] = sym (none_owned others)
 owned_joined (l ∷ ls) others (true ∷ flags) = ap (λ r. l ∷ r) (owned_joined ls others flags)
 owned_joined (l ∷ ls) others (false ∷ flags) = owned_joined ls others flags
 
-abbrev paths_of : List Listing → List Bool → List (List ℕ)
+abbrev pub paths_of : List Listing → List Bool → List (List ℕ)
 paths_of ls flags = map (λ l. l.path) (owned_listings ls flags)
 
 paths_joined : (ls others : List Listing) (n : ℕ) (flags : List Bool) → length ls ≡ n → paths_of (ls ++ others) flags ≡ paths_of ls flags ++ paths_of others (drop n flags)
@@ -96,7 +96,7 @@ folders_owned m place i (d ∷ ds) flags =
 
 -- ---- packages
 
-package_owned : (m : Member) (place : ℕ) (flags : List Bool) → paths_in (package_after m flags) ≡ paths_of (listings_by place m) flags
+pub package_owned : (m : Member) (place : ℕ) (flags : List Bool) → paths_in (package_after m flags) ≡ paths_of (listings_by place m) flags
 package_owned m place flags =
     let folders : folders_in (package_after m flags) ≡ list_of (folders_after (folders_in m.pkg) flags) =
     ap (λ v. list_of (entries_in v)) (nth_obj (more (info_after m.id (entry_in m.pkg 0)) (more (arr_value (folders_after (folders_in m.pkg) flags))
@@ -104,7 +104,7 @@ package_owned m place flags =
     ∙ ap list_of (entries_arr (folders_after (folders_in m.pkg) flags)) in
     ap (flat_map paths_under) folders ∙ folders_owned m place 1 (folders_in m.pkg) flags
 
-members_owned : (place : ℕ) (members : List Member) (flags : List Bool) → flat_map paths_in (list_of (packages_after members flags)) ≡ paths_of (listings_from place members) flags
+pub members_owned : (place : ℕ) (members : List Member) (flags : List Bool) → flat_map paths_in (list_of (packages_after members flags)) ≡ paths_of (listings_from place members) flags
 members_owned place [] flags = refl
 members_owned place (m ∷ members) flags =
     (λ j. package_owned m place flags j ++ members_owned (place + 1) members (drop (member_file_count m) flags) j)

@@ -12,9 +12,9 @@ use Rattle.adb_rules.specs.Texts.{text_fault}
 use Rattle.adb_write.specs.Canonical.{PayloadCounts, canonical, or_overflow, overflow_of, passes, written_of, MOST_BYTES, MOST_VALUES}
 use Rattle.adb_write.specs.Size.{size_of, value_count}
 use Rattle.adb_sound.specs.Root.{IsRootOf}
-use Rattle.db_core.specs.Members.{AreInOrder, Member}
+use Rattle.db_core.specs.Members.{AreInOrder, Member, member_listings}
 use Rattle.db_write.specs.NewDatabase.{database_container, database_of, database_value}
-use Rattle.db_write.specs.OwnedListings.{owned_paths}
+use Rattle.db_write.specs.OwnedListings.{owned_listings}
 use Rattle.db_write.specs.SoundMembers.{AreOfSoundContainers, MayBeListed}
 use Rattle.db_write.proofs.RootNames.{names_once}
 use Rattle.db_write.proofs.RootParts.{EachIn, database_normal, database_shape, members_enter}
@@ -46,7 +46,7 @@ Kept = (which : Which) (v : Plain) → (text_fault which v ≡ None) ↔ KeepsRu
 abbrev pub Once : Type 0
 Once = (which : Which) (v : Plain) → (repeated_fault which v ≡ None) ↔ NamesStandOnce which v
 
-pub database_root : Exact → Kept → Once → (members : List Member) (flags : List Bool) (bytes : List ℕ) → AreOfSoundContainers members → AreInOrder members → MayBeListed (owned_paths members flags)
+pub database_root : Exact → Kept → Once → (members : List Member) (flags : List Bool) (bytes : List ℕ) → AreOfSoundContainers members → AreInOrder members → MayBeListed (owned_listings (member_listings members) flags)
     → database_of members flags ≡ Ok bytes → IsRootOf Idb (database_value members flags)
 database_root exact kept once members flags bytes sound order listed written =
     let v : Plain = database_value members flags in
@@ -59,5 +59,5 @@ database_root exact kept once members flags bytes sound order listed written =
       fits = ltb-false MOST_BYTES (size_of v) limits.0;
       few = ltb-false MOST_VALUES (value_count v) limits.1;
       texts = (kept Idb v).1 (rules_kept members flags sound listed.free);
-      once = (once Idb v).1 (names_once members flags enter order listed.once);
+      once = (once Idb v).1 (names_once members flags enter order listed.one_owner);
     }

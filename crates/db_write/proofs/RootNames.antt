@@ -11,14 +11,16 @@ use Rattle.adb_view.specs.Plain.{Plain, Plains, int, blob}
 use Rattle.adb_tables.specs.Values.{entries_in, entry_in, int_in, text_in}
 use Rattle.adb_tables.specs.declared.tables.Which.TheVariants.{Idb}
 use Rattle.adb_fields.specs.FirstPair.{IsIn}
-use Rattle.adb_fields.specs.Once.{AllDistinct, AreApart, AreDistinctNames, IsInOneOf, NamesStandOnce, StandOnceBetween, StandOnceInside}
-use Rattle.adb_fields.specs.Repeated.{files_in, folders_in, list_of, name_of, package_name, paths_in}
+use Rattle.adb_fields.specs.Once.{AllDistinct, AreDistinctNames, NamesStandOnce, StandOnceBetween, StandOnceInside}
+use Rattle.adb_fields.specs.Repeated.{files_in, folders_in, list_of, name_of, package_name}
 use Rattle.adb_copy.specs.Zeros.{info_with, with_at, without_zeros}
 use Rattle.adb_copy.proofs.Zeros.{at_other, nth_obj, nth_zeros}
-use Rattle.db_core.specs.Members.{AreInOrder, Member, member_name}
+use Rattle.db_core.specs.Members.{AreInOrder, Member, member_listings, member_name}
 use Rattle.db_write.specs.NewDatabase.{database_value, file_count, folder_after, folders_after, info_after, member_file_count, owned_entries, package_after, packages_after}
-use Rattle.db_write.specs.OwnedListings.{owned_paths}
-use Rattle.db_write.proofs.OwnedPaths.{all_owned_listed, entries_arr, name_zeros, text_blob, text_zeros}
+use Rattle.db_write.specs.OwnedListings.{owned_listings}
+use Rattle.db_write.specs.SoundMembers.{HaveOneOwner}
+use Rattle.db_write.proofs.OneOwner.{owned_apart}
+use Rattle.db_write.proofs.OwnedPaths.{entries_arr, name_zeros, text_blob, text_zeros}
 use Rattle.db_write.proofs.ReadBack.{packages_in}
 use Rattle.db_write.proofs.RootParts.{EachIn, fields_of_folder, fields_of_package}
 use Rattle.db_write.proofs.SoundPackages.{MayEnter}
@@ -133,48 +135,16 @@ rising_distinct (x ∷ xs) pairs = (
   rising_distinct xs (λ i j d before below. pairs (suc i) (suc j) d (omega arith) (omega arith)),
 )
 
--- ---- paths that are distinct stand in one package each
-
-in_back : (name : List ℕ) (xs ys : List (List ℕ)) → IsIn name ys → IsIn name (xs ++ ys)
-in_back name [] ys h = h
-in_back name (x ∷ xs) ys h = inr (in_back name xs ys h)
-
-in_one : (f : Plain → List (List ℕ)) (name : List ℕ) (vs : List Plain) → IsInOneOf name (map f vs) → IsIn name (flat_map f vs)
-in_one f name [] h = absurd h
-in_one f name (v ∷ vs) (inl here) = in_front (f v) here
-  where
-    in_front : (xs : List (List ℕ)) → IsIn name xs → IsIn name (xs ++ flat_map f vs)
-    in_front [] here = absurd here
-    in_front (x ∷ xs) (inl is) = inl is
-    in_front (x ∷ xs) (inr here) = inr (in_front xs here)
-in_one f name (v ∷ vs) (inr h) = in_back name (f v) (flat_map f vs) (in_one f name vs h)
-
-distinct_behind : (xs ys : List (List ℕ)) → AreDistinctNames (xs ++ ys) → AreDistinctNames ys
-distinct_behind [] ys h = h
-distinct_behind (x ∷ xs) ys h = distinct_behind xs ys h.1
-
-not_both : (name : List ℕ) (xs ys : List (List ℕ)) → AreDistinctNames (xs ++ ys) → IsIn name xs → IsIn name ys → ⊥
-not_both name [] ys h here there = absurd here
-not_both name (x ∷ xs) ys h (inl is) there = h.0 (subst (λ (q : List ℕ). IsIn q (xs ++ ys)) is (in_back name xs ys there))
-not_both name (x ∷ xs) ys h (inr here) there = not_both name xs ys h.1 here there
-
-distinct_apart : (f : Plain → List (List ℕ)) (vs : List Plain) → AreDistinctNames (flat_map f vs) → AreApart (map f vs)
-distinct_apart f [] h = tt
-distinct_apart f (v ∷ vs) h = (
-  λ name here there. not_both name (f v) (flat_map f vs) h here (in_one f name vs there),
-  distinct_apart f vs (distinct_behind (f v) (flat_map f vs) h),
-)
-
 -- ---- the database
 
-pub names_once : (members : List Member) (flags : List Bool) → EachIn (λ (m : Member). MayEnter m.pkg) members → AreInOrder members → AreDistinctNames (owned_paths members flags)
+pub names_once : (members : List Member) (flags : List Bool) → EachIn (λ (m : Member). MayEnter m.pkg) members → AreInOrder members → HaveOneOwner (owned_listings (member_listings members) flags)
     → NamesStandOnce Idb (database_value members flags)
-names_once members flags enter order paths =
+names_once members flags enter order owned =
     let packages : List Plain = list_of (packages_after members flags) in
     subst (λ (ps : List Plain). StandOnceInside ps × StandOnceBetween ps) (sym (packages_in members flags)) (
       record { folders = folders_inside members flags enter; files = files_inside members flags enter },
       record {
         packages_once = subst AreDistinctNames (sym (package_names members flags)) (rising_distinct (map member_name members) order);
-        paths_once = distinct_apart paths_in packages (subst AreDistinctNames (sym (all_owned_listed members flags)) paths);
+        paths_once = owned_apart members flags owned;
       },
     )

@@ -12,9 +12,9 @@ ghost use Rattle.adb_view.specs.Plain.{Plain};
 ghost use Rattle.adb_view.specs.Shaped.{HasShape};
 ghost use Rattle.adb_write.specs.Canonical.{written_of};
 ghost use Rattle.adb_write.specs.File.{file_of};
-ghost use Rattle.db_core.specs.Members.{AreInOrder, Member};
+ghost use Rattle.db_core.specs.Members.{AreInOrder, Member, member_listings};
 ghost use Rattle.db_write.specs.NewDatabase.{database_of, database_value, packages_after};
-ghost use Rattle.db_write.specs.OwnedListings.{owned_paths};
+ghost use Rattle.db_write.specs.OwnedListings.{owned_listings, owned_paths};
 ghost use Rattle.db_write.specs.SoundMembers.{AreOfSoundContainers, MayBeListed};
 ghost use Rattle.db_write.specs.Unchanged.{all_owned, staying_members};
 ghost use Rattle.pkg_core.specs.Whole.{container_fault};
@@ -43,11 +43,12 @@ pub fn a_written_database_is_read_back()
 
 /// The value of a database that is written may stand at the root of a container: where each member
 /// that stays was read from a sound database, and each that comes from a sound package with its id,
-/// members are in order, each path that they own stands once, and none is reserved.
+/// members are in order, each path that is owned has one owner, and none is reserved.
 pub fn a_database_of_sound_packages_may_stand_at_the_root()
     ensures { (members : List Member) (flags : List Bool) (bytes : List ℕ)
         → AreOfSoundContainers members → AreInOrder members
-        → MayBeListed (owned_paths members flags) → database_of members flags ≡ Ok bytes
+        → MayBeListed (owned_listings (member_listings members) flags)
+        → database_of members flags ≡ Ok bytes
         → IsRootOf Tables.Idb (database_value members flags) }
 {
     a_value_overflows_exactly_past_a_limit();
