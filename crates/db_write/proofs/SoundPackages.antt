@@ -1,7 +1,8 @@
 -- What is known of a package of a sound container, be it a package or a database.
 use Rattle.std.proofs.Common.{◌≡◌, ℕ, Bool, true, false, ◌||◌, if◌then◌else◌, List, [], ◌∷◌, ◌++◌, map, length, Option, Some, None, refl, sym, subst, inl, inr}
+use Rattle.std.specs.Prelude.{◌<◌, All}
 use Rattle.std.specs.List.{flat_map}
-use Rattle.adb_view.specs.Plain.{Plain, Plains, none, more}
+use Rattle.adb_view.specs.Plain.{Plain, Plains, none, more, IsNormal}
 use Rattle.adb_view.specs.Shaped.{Each, HasShape, IsArrayOf}
 use Rattle.adb_tables.specs.Schema.{shape_of, shapes_of, table}
 use Rattle.adb_tables.specs.Values.{entries_in, entry_in, text_in}
@@ -14,6 +15,8 @@ use Rattle.adb_fields.specs.Repeated.{entries_at, files_in, folders_in, list_of,
 use Rattle.adb_rules.specs.Rules.{is_digest_length, is_digest_length_or_none, is_file_name, is_folder_name, is_target}
 use Rattle.adb_rules.specs.SoundValues.{IsFileOf, IsFolder, IsInformation, IsPackage}
 use Rattle.adb_rules.specs.Texts.{is_with_contents, needs_hash}
+use Rattle.adb_schema.specs.SoundContainers.{IsSound, IsSoundValue}
+use Rattle.adb_schema.specs.Soundness.{payload_in, root_value}
 use Rattle.adb_copy.proofs.Shapes.{entries_shape, nth_shape}
 use Rattle.db_write.specs.SoundMembers.{IsOfSoundContainer, IsOfSoundDatabase, IsOfSoundPackage}
 use Rattle.db_write.proofs.Unchanged.{array_entries}
@@ -137,3 +140,18 @@ database_enters pkg h =
 pub member_enters : (pkg : Plain) (id : Option (List ℕ)) → IsOfSoundContainer pkg id → MayEnter pkg
 member_enters pkg None h = database_enters pkg h
 member_enters pkg (Some id) h = package_enters pkg id h
+
+-- ---- what sound containers hold
+
+abbrev pub Holds : Type 0
+Holds = (which : Which) (file : List ℕ) → IsSound which file → IsSoundValue which (root_value which (payload_in file))
+
+abbrev pub HoldsNormal : Type 0
+HoldsNormal = (which : Which) (file : List ℕ) → IsSound which file → All (λ b. b < 256) (payload_in file) → IsNormal (root_value which (payload_in file))
+
+pub may_stay : Holds → HoldsNormal → (file : List ℕ) (pkg : Plain) → IsSound Tables.Idb file → All (λ b. b < 256) (payload_in file) → IsIn pkg (entries_at 0 (root_value Tables.Idb (payload_in file))) → IsOfSoundContainer pkg None
+may_stay holds normal file pkg sound bytes listed = record { database = root_value Tables.Idb (payload_in file); sound = holds Tables.Idb file sound; normal = normal Tables.Idb file sound bytes; listed = listed }
+
+pub may_come : Holds → HoldsNormal → (file id : List ℕ) → IsSound Tables.Package file → All (λ b. b < 256) (payload_in file) → is_digest_length (length id) ≡ true
+    → IsOfSoundContainer (root_value Tables.Package (payload_in file)) (Some id)
+may_come holds normal file id sound bytes digest = record { sound = holds Tables.Package file sound; normal = normal Tables.Package file sound bytes; digest = digest }

@@ -14,4 +14,5 @@ pub use database::write_db;
 pub use laws::{
     a_database_lists_the_owned_files, a_database_of_sound_packages_may_stand_at_the_root,
     a_database_without_changes_stays_the_same, a_written_database_is_read_back,
+    packages_of_sound_containers_may_be_members,
 };
