@@ -1,7 +1,14 @@
 pub mod Container
 pub mod Listed
 pub mod Marking
+pub mod OneOwner
 pub mod OwnedPaths
 pub mod ReadBack
+pub mod Root
+pub mod RootNames
+pub mod RootParts
+pub mod RootRules
 pub mod Segments
+pub mod SoundPackages
 pub mod Unchanged
+pub mod WithoutZeros

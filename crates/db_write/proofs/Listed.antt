@@ -1,10 +1,10 @@
 -- How many files members list.
-use Rattle.std.proofs.Common.{◌≡◌, ℕ, suc, zero, ◌+◌, ◌<◌, List, [], ◌∷◌, ◌++◌, length, Option, Some, None, refl, ap, sym, ◌∙◌, arith, length-append}
+use Rattle.std.proofs.Common.{◌≡◌, ℕ, suc, zero, ◌+◌, ◌<◌, List, [], ◌∷◌, length, Option, Some, refl, ap, sym, ◌∙◌, arith, length-append}
 use Rattle.std.specs.Prelude.{slice_get}
 use Rattle.adb_view.specs.Plain.{Plain}
-use Rattle.adb_fields.specs.Repeated.{files_in, folders_in, name_of}
-use Rattle.db_core.specs.Members.{Member, listings_by, listings_from, listings_in_folder, listings_in_folders, member_listings}
-use Rattle.db_write.specs.NewDatabase.{file_count, member_file_count, total_of}
+use Rattle.adb_fields.specs.Repeated.{files_in, name_of}
+use Rattle.db_core.specs.Members.{Member, listings_in_folder, listings_in_folders}
+use Rattle.db_write.specs.NewDatabase.{file_count, total_of}
 
 pub in_folder : (m : Member) (place folder i : ℕ) (above : List ℕ) (entries : List Plain) → length (listings_in_folder m place folder i above entries) ≡ length entries
 in_folder m place folder i above [] = refl

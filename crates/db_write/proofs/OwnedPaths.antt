@@ -1,21 +1,21 @@
 -- The database lists the files that are owned, and no others.
-use Rattle.std.proofs.Common.{◌≡◌, ℕ, suc, zero, ◌+◌, Bool, true, false, List, [], ◌∷◌, ◌++◌, map, drop, length, Option, Some, None, refl, ap, sym, ◌∙◌}
+use Rattle.std.proofs.Common.{◌≡◌, ℕ, suc, zero, ◌+◌, Bool, true, false, List, [], ◌∷◌, ◌++◌, map, drop, length, refl, ap, sym, ◌∙◌}
 use Rattle.std.proofs.lemmas.List.{map-append}
 use Rattle.std.specs.List.{flat_map}
-use Rattle.adb_view.specs.Plain.{Plain, null, int, blob, arr, obj, Plains, none, more, arr_value, blob_value, obj_of, obj_value, without_last_nulls}
+use Rattle.adb_view.specs.Plain.{Plain, null, int, blob, arr, obj, Plains, none, more, arr_value, blob_value, obj_of, without_last_nulls}
 use Rattle.adb_tables.specs.Values.{entries_in, entry_in, int_in, nth, text_in}
 use Rattle.adb_fields.specs.Paths.{path_of}
 use Rattle.adb_fields.specs.Repeated.{files_in, folders_in, list_of, name_of, paths_in, paths_under}
 use Rattle.adb_copy.specs.Zeros.{all_without_zeros, int_value, without_zeros}
 use Rattle.adb_copy.proofs.Zeros.{nth_obj, nth_zeros}
 use Rattle.db_core.specs.Members.{Listing, Member, listings_by, listings_from, listings_in_folder, listings_in_folders, member_listings}
-use Rattle.db_write.specs.NewDatabase.{each_by_flags, file_count, folder_after, folders_after, info_after, member_file_count, owned_entries, package_after, packages_after}
+use Rattle.db_write.specs.NewDatabase.{file_count, folder_after, folders_after, info_after, member_file_count, owned_entries, package_after, packages_after}
 use Rattle.db_write.specs.OwnedListings.{owned_listings, owned_paths}
 use Rattle.db_write.proofs.Listed.{in_folder, in_folders}
 
 -- ---- a name without zeros
 
-text_zeros : (v : Plain) → text_in (without_zeros v) ≡ text_in v
+pub text_zeros : (v : Plain) → text_in (without_zeros v) ≡ text_in v
 unfolding without_zeros
 text_zeros null = refl
 text_zeros (int zero) = refl
@@ -44,10 +44,10 @@ entry_zeros (blob (x ∷ xs)) i = refl
 entry_zeros (arr vs) i = ap (λ us. nth us i) (entries_arr (all_without_zeros vs)) ∙ nth_zeros vs i
 entry_zeros (obj vs) i = nth_obj (all_without_zeros vs) i ∙ nth_zeros vs i
 
-name_zeros : (v : Plain) → name_of (without_zeros v) ≡ name_of v
+pub name_zeros : (v : Plain) → name_of (without_zeros v) ≡ name_of v
 name_zeros v = ap text_in (entry_zeros v 0) ∙ text_zeros (entry_in v 0)
 
-text_blob : (b : List ℕ) → text_in (blob_value b) ≡ b
+pub text_blob : (b : List ℕ) → text_in (blob_value b) ≡ b
 text_blob [] = refl
 text_blob (x ∷ xs) = refl
 
@@ -57,13 +57,13 @@ none_owned : (ls : List Listing) → owned_listings ls [] ≡ []
 none_owned [] = refl
 none_owned (l ∷ ls) = refl
 
-owned_joined : (ls others : List Listing) (flags : List Bool) → owned_listings (ls ++ others) flags ≡ owned_listings ls flags ++ owned_listings others (drop (length ls) flags)
+pub owned_joined : (ls others : List Listing) (flags : List Bool) → owned_listings (ls ++ others) flags ≡ owned_listings ls flags ++ owned_listings others (drop (length ls) flags)
 owned_joined [] others flags = refl
 owned_joined (l ∷ ls) others [] = sym (none_owned others)
 owned_joined (l ∷ ls) others (true ∷ flags) = ap (λ r. l ∷ r) (owned_joined ls others flags)
 owned_joined (l ∷ ls) others (false ∷ flags) = owned_joined ls others flags
 
-abbrev paths_of : List Listing → List Bool → List (List ℕ)
+abbrev pub paths_of : List Listing → List Bool → List (List ℕ)
 paths_of ls flags = map (λ l. l.path) (owned_listings ls flags)
 
 paths_joined : (ls others : List Listing) (n : ℕ) (flags : List Bool) → length ls ≡ n → paths_of (ls ++ others) flags ≡ paths_of ls flags ++ paths_of others (drop n flags)
@@ -96,7 +96,7 @@ folders_owned m place i (d ∷ ds) flags =
 
 -- ---- packages
 
-package_owned : (m : Member) (place : ℕ) (flags : List Bool) → paths_in (package_after m flags) ≡ paths_of (listings_by place m) flags
+pub package_owned : (m : Member) (place : ℕ) (flags : List Bool) → paths_in (package_after m flags) ≡ paths_of (listings_by place m) flags
 package_owned m place flags =
     let folders : folders_in (package_after m flags) ≡ list_of (folders_after (folders_in m.pkg) flags) =
     ap (λ v. list_of (entries_in v)) (nth_obj (more (info_after m.id (entry_in m.pkg 0)) (more (arr_value (folders_after (folders_in m.pkg) flags))
@@ -104,7 +104,7 @@ package_owned m place flags =
     ∙ ap list_of (entries_arr (folders_after (folders_in m.pkg) flags)) in
     ap (flat_map paths_under) folders ∙ folders_owned m place 1 (folders_in m.pkg) flags
 
-members_owned : (place : ℕ) (members : List Member) (flags : List Bool) → flat_map paths_in (list_of (packages_after members flags)) ≡ paths_of (listings_from place members) flags
+pub members_owned : (place : ℕ) (members : List Member) (flags : List Bool) → flat_map paths_in (list_of (packages_after members flags)) ≡ paths_of (listings_from place members) flags
 members_owned place [] flags = refl
 members_owned place (m ∷ members) flags =
     (λ j. package_owned m place flags j ++ members_owned (place + 1) members (drop (member_file_count m) flags) j)

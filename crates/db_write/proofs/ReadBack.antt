@@ -1,5 +1,5 @@
 -- What is written is sound, and is read back.
-use Rattle.std.proofs.Common.{◌≡◌, ◌≢◌, ℕ, Bool, List, Option, Some, None, Result, Ok, Err, refl, ap, sym, subst, ◌∙◌}
+use Rattle.std.proofs.Common.{◌≡◌, ◌≢◌, ℕ, Bool, List, Option, Some, None, Ok, refl, ap, sym, subst, ◌∙◌}
 use Rattle.adb_view.specs.Plain.{Plain, none, more, arr_value}
 use Rattle.adb_tables.specs.Values.{entries_in}
 use Rattle.adb_tables.specs.declared.tables.Which.{Which}
@@ -38,7 +38,7 @@ pub is_sound : Sound → (members : List Member) (flags : List Bool) (bytes : Li
 is_sound law members flags bytes root h =
     subst (λ (file : List ℕ). container_fault file ≡ None) (is_file members flags bytes h) (law Idb IDB_WORD (database_value members flags) refl not_package root)
 
-packages_in : (members : List Member) (flags : List Bool) → entries_at 0 (database_value members flags) ≡ list_of (packages_after members flags)
+pub packages_in : (members : List Member) (flags : List Bool) → entries_at 0 (database_value members flags) ≡ list_of (packages_after members flags)
 unfolding database_value
 packages_in members flags =
     ap (λ v. list_of (entries_in v)) (nth_obj (more (arr_value (packages_after members flags)) none) 0) ∙ ap list_of (entries_arr (packages_after members flags))

@@ -1,6 +1,6 @@
 -- Where nothing changes, the value is written as it was, without zeros.
-use Rattle.std.proofs.Common.{◌≡◌, ℕ, suc, zero, ◌+◌, ◌-◌, ◌≤◌, Bool, true, List, [], ◌∷◌, map, drop, length, replicate, Option, Some, None, Result, Ok, Err, refl, ap, sym, ◌∙◌, subst, arith}
-use Rattle.adb_view.specs.Plain.{Plain, null, int, blob, arr, obj, Plains, none, more, blob_value, arr_value, obj_value, array}
+use Rattle.std.proofs.Common.{◌≡◌, ℕ, suc, zero, ◌-◌, ◌≤◌, Bool, true, List, [], ◌∷◌, map, drop, replicate, None, Ok, refl, ap, sym, ◌∙◌, subst, arith}
+use Rattle.adb_view.specs.Plain.{Plain, null, int, blob, arr, obj, Plains, none, more, blob_value, arr_value, obj_value}
 use Rattle.adb_view.specs.Shaped.{Each, HasShape, IsArrayOf}
 use Rattle.adb_tables.specs.Schema.{shape_of, shapes_of, table}
 use Rattle.adb_tables.specs.Values.{count_of, entries_in, entry_in, int_in, text_in}
@@ -10,7 +10,7 @@ use Rattle.adb_fields.specs.Repeated.{entries_at, files_in, folders_in, list_of,
 use Rattle.adb_schema.specs.declared.read.TheConstants.{IDB_WORD}
 use Rattle.adb_write.specs.Canonical.{written_of}
 use Rattle.adb_write.specs.File.{file_of}
-use Rattle.adb_copy.specs.Zeros.{all_without_zeros, info_with, int_value, without_zeros}
+use Rattle.adb_copy.specs.Zeros.{all_without_zeros, int_value, without_zeros}
 use Rattle.adb_copy.proofs.Fields.{INFO, info_written, object_written}
 use Rattle.adb_copy.proofs.Shapes.{entries_shape, nth_shape}
 use Rattle.adb_copy.proofs.Zeros.{zeros_array}
@@ -52,7 +52,7 @@ map_same (v ∷ vs) = ap (λ r. v ∷ r) (map_same vs)
 
 -- ---- folders
 
-array_entries : (P : Plain → Type 0) (v : Plain) → IsArrayOf P v → Each P (entries_in v)
+pub array_entries : (P : Plain → Type 0) (v : Plain) → IsArrayOf P v → Each P (entries_in v)
 array_entries P null h = tt
 array_entries P (int n) h = absurd h
 array_entries P (blob b) h = absurd h

@@ -2,5 +2,6 @@
 pub mod NewDatabase
 -- what only inner contracts and proofs use
 pub mod OwnedListings
+pub mod SoundMembers
 pub mod Unchanged
 pub mod Written

@@ -1,7 +1,10 @@
 //! What a database that is written says when it is read, and that nothing changes where nothing
 //! was to be changed.
 ghost use Rattle.adb_copy.specs.Zeros.{without_zeros};
+ghost use Rattle.adb_fields.specs.FirstPair.{IsIn};
 ghost use Rattle.adb_fields.specs.Repeated.{entries_at, list_of, paths_in};
+ghost use Rattle.adb_rules.specs.Rules.{is_digest_length};
+ghost use Rattle.adb_schema.specs.SoundContainers.{IsSound};
 ghost use Rattle.adb_schema.specs.Soundness.{payload_in, root_value};
 ghost use Rattle.adb_schema.specs.declared.read.TheConstants.{IDB_WORD};
 ghost use Rattle.adb_sound.specs.Root.{IsRootOf};
@@ -12,15 +15,20 @@ ghost use Rattle.adb_view.specs.Plain.{Plain};
 ghost use Rattle.adb_view.specs.Shaped.{HasShape};
 ghost use Rattle.adb_write.specs.Canonical.{written_of};
 ghost use Rattle.adb_write.specs.File.{file_of};
-ghost use Rattle.db_core.specs.Members.{Member};
+ghost use Rattle.db_core.specs.Members.{AreInOrder, Member, member_listings};
 ghost use Rattle.db_write.specs.NewDatabase.{database_of, database_value, packages_after};
-ghost use Rattle.db_write.specs.OwnedListings.{owned_paths};
+ghost use Rattle.db_write.specs.OwnedListings.{owned_listings, owned_paths};
+ghost use Rattle.db_write.specs.SoundMembers.{AreOfSoundContainers, IsOfSoundContainer, MayBeListed};
 ghost use Rattle.db_write.specs.Unchanged.{all_owned, staying_members};
 ghost use Rattle.pkg_core.specs.Whole.{container_fault};
 ghost use Rattle.std.specs.List.{flat_map};
-ghost use Rattle.std.specs.Prelude.{◌≡◌, ℕ, Bool, List, None, Ok};
+ghost use Rattle.std.specs.Prelude.{◌≡◌, ◌<◌, ℕ, All, Bool, List, None, Ok, Some, length, true};
 
+use adb_fields::no_name_is_repeated_where_each_stands_once;
+use adb_rules::no_text_is_bad_where_each_keeps_its_rule;
+use adb_schema::sound_containers_hold_sound_values;
 use adb_sound::{a_container_of_a_good_value_is_sound, what_a_container_is_made_of_is_read_back};
+use adb_write::a_value_overflows_exactly_past_a_limit;
 
 /// A database whose value may stand at the root of a container passes all tests when it is written,
 /// and its packages are read back: those of the members, each with the files that it owns.
@@ -35,6 +43,36 @@ pub fn a_written_database_is_read_back()
 {
     a_container_of_a_good_value_is_sound();
     what_a_container_is_made_of_is_read_back();
+}
+
+/// The value of a database that is written may stand at the root of a container: where each member
+/// that stays was read from a sound database, and each that comes from a sound package with its id,
+/// members are in order, each path that is owned has one owner, and none is reserved.
+pub fn a_database_of_sound_packages_may_stand_at_the_root()
+    ensures { (members : List Member) (flags : List Bool) (bytes : List ℕ)
+        → AreOfSoundContainers members → AreInOrder members
+        → MayBeListed (owned_listings (member_listings members) flags)
+        → database_of members flags ≡ Ok bytes
+        → IsRootOf Tables.Idb (database_value members flags) }
+{
+    a_value_overflows_exactly_past_a_limit();
+    no_text_is_bad_where_each_keeps_its_rule();
+    no_name_is_repeated_where_each_stands_once();
+}
+
+/// What sound containers of bytes hold may be members: each package of a database, which stays, and
+/// the value of a package, which comes with a digest as its id.
+pub fn packages_of_sound_containers_may_be_members()
+    ensures stays { (file : List ℕ) (pkg : Plain)
+        → IsSound Tables.Idb file → All (λ b. b < 256) (payload_in file)
+        → IsIn pkg (entries_at 0 (root_value Tables.Idb (payload_in file)))
+        → IsOfSoundContainer pkg None }
+    ensures comes { (file id : List ℕ)
+        → IsSound Tables.Package file → All (λ b. b < 256) (payload_in file)
+        → is_digest_length (length id) ≡ true
+        → IsOfSoundContainer (root_value Tables.Package (payload_in file)) (Some id) }
+{
+    sound_containers_hold_sound_values();
 }
 
 /// The packages of a database after a change list the files that members list and own, in their

@@ -1,8 +1,8 @@
 //! Writes the installed database that stands after a change (apk-v3(5)).
 //!
 //! The members of a change and the files that are theirs come in, the bytes of a container go out.
-//! The contracts cite `NewDatabase` of `specs/`: the database's value, field by field, and its file.
-//! `laws` says what follows from it.
+//! The contracts cite `NewDatabase` (the database's value, field by field, and its file) and
+//! `SoundMembers` (members that come out of sound containers) of `specs/`. `laws` says what follows.
 #![tactic(auto)]
 
 mod database;
@@ -12,6 +12,7 @@ mod packages;
 
 pub use database::write_db;
 pub use laws::{
-    a_database_lists_the_owned_files, a_database_without_changes_stays_the_same,
-    a_written_database_is_read_back,
+    a_database_lists_the_owned_files, a_database_of_sound_packages_may_stand_at_the_root,
+    a_database_without_changes_stays_the_same, a_written_database_is_read_back,
+    packages_of_sound_containers_may_be_members,
 };

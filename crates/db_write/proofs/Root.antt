@@ -1,0 +1,63 @@
+-- The value of a new database may stand at the root of a container.
+use Rattle.std.proofs.Common.{◌≡◌, ℕ, ◌↔◌, ◌||◌, Bool, true, false, List, Option, Some, None, Ok, refl, sym, ◌∙◌}
+use Rattle.std.specs.Prelude.{is_some}
+use Rattle.std.proofs.lemmas.Bool.{ltb-false}
+use Rattle.adb_view.specs.Plain.{IsNormal, Plain}
+use Rattle.adb_tables.specs.declared.tables.Which.{Which}
+use Rattle.adb_tables.specs.declared.tables.Which.TheVariants.{Idb}
+use Rattle.adb_fields.specs.Once.{NamesStandOnce}
+use Rattle.adb_fields.specs.Repeated.{repeated_fault}
+use Rattle.adb_rules.specs.SoundValues.{KeepsRules}
+use Rattle.adb_rules.specs.Texts.{text_fault}
+use Rattle.adb_write.specs.Canonical.{PayloadCounts, canonical, or_overflow, overflow_of, passes, written_of, MOST_BYTES, MOST_VALUES}
+use Rattle.adb_write.specs.Size.{size_of, value_count}
+use Rattle.adb_sound.specs.Root.{IsRootOf}
+use Rattle.db_core.specs.Members.{AreInOrder, Member, member_listings}
+use Rattle.db_write.specs.NewDatabase.{database_container, database_of, database_value}
+use Rattle.db_write.specs.OwnedListings.{owned_listings}
+use Rattle.db_write.specs.SoundMembers.{AreOfSoundContainers, MayBeListed}
+use Rattle.db_write.proofs.RootNames.{names_once}
+use Rattle.db_write.proofs.RootParts.{EachIn, database_normal, database_shape, members_enter}
+use Rattle.db_write.proofs.RootRules.{rules_kept}
+use Rattle.db_write.proofs.SoundPackages.{MayEnter}
+
+-- ---- what is written is within the limits
+
+within_by : (v : Plain) (o : Option PayloadCounts) (bytes : List ℕ) → database_container (or_overflow (canonical v) o) ≡ Ok bytes → is_some o ≡ false
+within_by v None bytes h = refl
+within_by v (Some c) bytes h = absurd (cc (h))
+
+within : (members : List Member) (flags : List Bool) (bytes : List ℕ) → database_of members flags ≡ Ok bytes → is_some (overflow_of (database_value members flags)) ≡ false
+unfolding database_of written_of
+within members flags bytes h = within_by (database_value members flags) (overflow_of (database_value members flags)) bytes h
+
+both_false : (a b : Bool) → (a || b) ≡ false → (a ≡ false) × (b ≡ false)
+both_false false b e = (refl, e)
+both_false true b e = (cc)
+
+-- ---- what the layers below say
+
+abbrev pub Exact : Type 0
+Exact = (v : Plain) → IsNormal v → is_some (overflow_of v) ≡ passes (size_of v, value_count v)
+
+abbrev pub Kept : Type 0
+Kept = (which : Which) (v : Plain) → (text_fault which v ≡ None) ↔ KeepsRules which v
+
+abbrev pub Once : Type 0
+Once = (which : Which) (v : Plain) → (repeated_fault which v ≡ None) ↔ NamesStandOnce which v
+
+pub database_root : Exact → Kept → Once → (members : List Member) (flags : List Bool) (bytes : List ℕ) → AreOfSoundContainers members → AreInOrder members → MayBeListed (owned_listings (member_listings members) flags)
+    → database_of members flags ≡ Ok bytes → IsRootOf Idb (database_value members flags)
+database_root exact kept once members flags bytes sound order listed written =
+    let v : Plain = database_value members flags in
+    let enter : EachIn (λ (m : Member). MayEnter m.pkg) members = members_enter members sound in
+    let normal : IsNormal v = database_normal members flags enter in
+    let limits = both_false _ _ (sym (exact v normal) ∙ within members flags bytes written) in
+    record {
+      normal = normal;
+      shaped = database_shape members flags enter;
+      fits = ltb-false MOST_BYTES (size_of v) limits.0;
+      few = ltb-false MOST_VALUES (value_count v) limits.1;
+      texts = (kept Idb v).1 (rules_kept members flags sound listed.free);
+      once = (once Idb v).1 (names_once members flags enter order listed.one_owner);
+    }

@@ -1,0 +1,148 @@
+-- The value of a new database is normal and has its shape, part by part.
+use Rattle.std.proofs.Common.{ℕ, Bool, true, false, List, [], ◌∷◌, drop, Option}
+use Rattle.std.specs.Prelude.{unwrap_or}
+use Rattle.adb_view.specs.Plain.{Plain, Plains, int, blob, none, more, arr_value, blob_value, IsNormal, AreNormal}
+use Rattle.adb_view.specs.Shaped.{Each, HasShape, IsArrayOf, HaveShapes}
+use Rattle.adb_tables.specs.Schema.{shape_of, shapes_of, table}
+use Rattle.adb_tables.specs.Values.{entries_in, entry_in, int_in, text_in}
+use Rattle.adb_tables.specs.declared.tables.Kind.TheVariants.{Obj, TextArr}
+use Rattle.adb_tables.specs.declared.tables.Which.TheVariants as Tables
+use Rattle.adb_fields.specs.Repeated.{files_in, folders_in, list_of, name_of}
+use Rattle.adb_copy.specs.Zeros.{info_with, int_value, without_zeros}
+use Rattle.adb_copy.proofs.Fields.{INFO}
+use Rattle.adb_copy.proofs.Shapes.{arr_value_shape, entries_shape, nth_shape, obj_value_shape}
+use Rattle.db_core.specs.Members.{Member}
+use Rattle.db_write.specs.NewDatabase.{database_value, each_by_flags, file_count, folder_after, folders_after, info_after, member_file_count, owned_entries, package_after, packages_after}
+use Rattle.db_write.specs.SoundMembers.{AreOfSoundContainers}
+use Rattle.db_write.proofs.SoundPackages.{MayEnter, member_enters}
+use Rattle.db_write.proofs.Unchanged.{array_entries}
+use Rattle.db_write.proofs.WithoutZeros.{HasInts, HaveInts, arr_normal, blob_normal, each_ints, entries_ints, int_normal, int_shape, nth_ints, obj_normal, placed_normal, placed_shape, read_small, text_shape, zeros_normal, zeros_shape}
+
+-- ---- lists
+
+abbrev pub EachIn : {X : Type 0} → (X → Type 0) → List X → Type 0
+EachIn P [] = Unit {0}
+EachIn P (x ∷ xs) = P x × EachIn P xs
+
+pub each_listed : (P : Plain → Type 0) (vs : Plains) → Each P vs → EachIn P (list_of vs)
+each_listed P none h = tt
+each_listed P (more v vs) h = (h.0, each_listed P vs h.1)
+
+pub each_made : {X : Type 0} (count : X → ℕ) (value : X → List Bool → Plain) (P : X → Type 0) (Q : Plain → Type 0) → ((x : X) (flags : List Bool) → P x → Q (value x flags))
+    → (xs : List X) (flags : List Bool) → EachIn P xs → Each Q (each_by_flags count value xs flags)
+each_made count value P Q f [] flags h = tt
+each_made count value P Q f (x ∷ xs) flags h = (f x flags h.0, each_made count value P Q f xs (drop (count x) flags) h.1)
+
+each_owned : (P Q : Plain → Type 0) → ((v : Plain) → P v → Q (without_zeros v)) → (vs : Plains) (flags : List Bool) → Each P vs → Each Q (owned_entries (list_of vs) flags)
+each_owned P Q f none flags h = tt
+each_owned P Q f (more v vs) [] h = tt
+each_owned P Q f (more v vs) (true ∷ flags) h = (f v h.0, each_owned P Q f vs flags h.1)
+each_owned P Q f (more v vs) (false ∷ flags) h = each_owned P Q f vs flags h.1
+
+all_normal : (vs : Plains) → Each IsNormal vs → AreNormal vs
+unfolding AreNormal
+all_normal none h = tt
+all_normal (more v vs) h = (h.0, all_normal vs h.1)
+
+pub members_enter : (members : List Member) → AreOfSoundContainers members → EachIn (λ (m : Member). MayEnter m.pkg) members
+members_enter [] h = tt
+members_enter (m ∷ members) h = (member_enters m.pkg m.id h.0, members_enter members h.1)
+
+-- ---- what is written of a folder, of a package and of a database
+
+abbrev pub fields_of_folder : Plain → List Bool → Plains
+fields_of_folder d flags = more (blob_value (name_of d)) (more (without_zeros (entry_in d 1)) (more (arr_value (owned_entries (files_in d) flags)) none))
+
+abbrev pub fields_of_package : Member → List Bool → Plains
+fields_of_package m flags = more (info_after m.id (entry_in m.pkg 0)) (more (arr_value (folders_after (folders_in m.pkg) flags))
+    (more (without_zeros (entry_in m.pkg 2)) (more (without_zeros (entry_in m.pkg 3)) (more (int_value (int_in (entry_in m.pkg 4))) none))))
+
+abbrev pub fields_of_database : List Member → List Bool → Plains
+fields_of_database members flags = more (arr_value (packages_after members flags)) none
+
+-- ---- normal
+
+info_normal : (id : Option (List ℕ)) (info : Plain) → HasInts info → IsNormal (info_after id info)
+unfolding info_with HasInts
+info_normal id info h = placed_normal 12 2 (int (int_in (entry_in info 12))) (blob (unwrap_or id (text_in (entry_in info 2)))) (entries_in info)
+    (read_small (entry_in info 12) (nth_ints (entries_in info) 12 (entries_ints info h))) tt (entries_ints info h)
+
+folder_normal : (d : Plain) (flags : List Bool) → HasInts d → IsNormal (folder_after d flags)
+unfolding AreNormal
+folder_normal d flags h =
+    let vs : Plains = entries_in (entry_in d 2) in
+    let fields : HaveInts (entries_in d) = entries_ints d h in
+    let files = all_normal (owned_entries (list_of vs) flags) (each_owned HasInts IsNormal zeros_normal vs flags (each_ints vs (entries_ints (entry_in d 2) (nth_ints (entries_in d) 2 fields)))) in
+    obj_normal (fields_of_folder d flags) (blob_normal (name_of d), (zeros_normal (entry_in d 1) (nth_ints (entries_in d) 1 fields), (arr_normal _ files, tt)))
+
+package_normal : (m : Member) (flags : List Bool) → HasInts m.pkg → IsNormal (package_after m flags)
+unfolding AreNormal
+package_normal m flags h =
+    let vs : Plains = entries_in m.pkg in
+    let fields : HaveInts vs = entries_ints m.pkg h in
+    let listed : Plains = entries_in (entry_in m.pkg 1) in
+    let folders = all_normal (folders_after (folders_in m.pkg) flags)
+    (each_made file_count folder_after HasInts IsNormal folder_normal (folders_in m.pkg) flags (each_listed HasInts listed (each_ints listed (entries_ints (entry_in m.pkg 1) (nth_ints vs 1 fields))))) in
+    obj_normal (fields_of_package m flags) (
+      info_normal m.id (entry_in m.pkg 0) (nth_ints vs 0 fields),
+      (
+        arr_normal _ folders,
+        (
+          zeros_normal (entry_in m.pkg 2) (nth_ints vs 2 fields),
+          (
+            zeros_normal (entry_in m.pkg 3) (nth_ints vs 3 fields),
+            (int_normal _ (read_small (entry_in m.pkg 4) (nth_ints vs 4 fields)), tt),
+          ),
+        ),
+      ),
+    )
+
+pub database_normal : (members : List Member) (flags : List Bool) → EachIn (λ (m : Member). MayEnter m.pkg) members → IsNormal (database_value members flags)
+unfolding AreNormal database_value
+database_normal members flags h =
+    obj_normal (fields_of_database members flags) (
+      arr_normal _ (all_normal (packages_after members flags)
+          (each_made member_file_count package_after (λ (m : Member). MayEnter m.pkg) IsNormal (λ m fs e. package_normal m fs e.ints) members flags h)),
+      tt,
+    )
+
+-- ---- of its shape
+
+info_shape : (id : Option (List ℕ)) (info : Plain) → HasShape (shape_of (Obj Tables.PkgInfo)) info → HasShape (shape_of (Obj Tables.PkgInfo)) (info_after id info)
+unfolding info_with HasShape shape_of
+info_shape id info h = placed_shape 3 INFO 12 2 (int (int_in (entry_in info 12))) (blob (unwrap_or id (text_in (entry_in info 2)))) (entries_in info) tt tt tt tt (entries_shape 3 INFO info h)
+
+folder_shape : (d : Plain) (flags : List Bool) → HasShape (shape_of (Obj Tables.Dir)) d → HasShape (shape_of (Obj Tables.Dir)) (folder_after d flags)
+unfolding shape_of HasShape HaveShapes
+folder_shape d flags h =
+    let fields = entries_shape 5 (shapes_of (table Tables.Dir)) d h in
+    let acl : HasShape (shape_of (Obj Tables.Acl)) (entry_in d 1) = nth_shape (shapes_of (table Tables.Dir)) (entries_in d) 1 fields in
+    let files : IsArrayOf (HasShape (shape_of (Obj Tables.File))) (entry_in d 2) = nth_shape (shapes_of (table Tables.Dir)) (entries_in d) 2 fields in
+    let owned = each_owned (HasShape (shape_of (Obj Tables.File))) (HasShape (shape_of (Obj Tables.File))) (zeros_shape (shape_of (Obj Tables.File))) (entries_in (entry_in d 2)) flags
+    (array_entries (HasShape (shape_of (Obj Tables.File))) (entry_in d 2) files) in
+    obj_value_shape 5 (shapes_of (table Tables.Dir)) (fields_of_folder d flags) (text_shape (name_of d), (zeros_shape (shape_of (Obj Tables.Acl)) (entry_in d 1) acl, (arr_value_shape (shape_of (Obj Tables.File)) _ owned, tt)))
+
+package_shape : (m : Member) (flags : List Bool) → HasShape (shape_of (Obj Tables.Package)) m.pkg → HasShape (shape_of (Obj Tables.Package)) (package_after m flags)
+unfolding shape_of HasShape HaveShapes
+package_shape m flags h =
+    let v : Plain = m.pkg in
+    let fields = entries_shape 7 (shapes_of (table Tables.Package)) v h in
+    let info : HasShape (shape_of (Obj Tables.PkgInfo)) (entry_in v 0) = nth_shape (shapes_of (table Tables.Package)) (entries_in v) 0 fields in
+    let listed : IsArrayOf (HasShape (shape_of (Obj Tables.Dir))) (entry_in v 1) = nth_shape (shapes_of (table Tables.Package)) (entries_in v) 1 fields in
+    let scripts : HasShape (shape_of (Obj Tables.Scripts)) (entry_in v 2) = nth_shape (shapes_of (table Tables.Package)) (entries_in v) 2 fields in
+    let triggers : HasShape (shape_of TextArr) (entry_in v 3) = nth_shape (shapes_of (table Tables.Package)) (entries_in v) 3 fields in
+    let folders = each_made file_count folder_after (HasShape (shape_of (Obj Tables.Dir))) (HasShape (shape_of (Obj Tables.Dir))) folder_shape (folders_in v) flags
+    (each_listed (HasShape (shape_of (Obj Tables.Dir))) (entries_in (entry_in v 1)) (array_entries (HasShape (shape_of (Obj Tables.Dir))) (entry_in v 1) listed)) in
+    obj_value_shape 7 (shapes_of (table Tables.Package)) (fields_of_package m flags) (
+      info_shape m.id (entry_in v 0) info,
+      (
+        arr_value_shape (shape_of (Obj Tables.Dir)) _ folders,
+        (zeros_shape (shape_of (Obj Tables.Scripts)) (entry_in v 2) scripts, (zeros_shape (shape_of TextArr) (entry_in v 3) triggers, (int_shape (int_in (entry_in v 4)), tt))),
+      ),
+    )
+
+pub database_shape : (members : List Member) (flags : List Bool) → EachIn (λ (m : Member). MayEnter m.pkg) members → HasShape (shape_of (Obj Tables.Idb)) (database_value members flags)
+unfolding shape_of HasShape HaveShapes database_value
+database_shape members flags h =
+    let packages = each_made member_file_count package_after (λ (m : Member). MayEnter m.pkg) (HasShape (shape_of (Obj Tables.Package))) (λ m fs e. package_shape m fs e.shape) members flags h in
+    obj_value_shape 9 (shapes_of (table Tables.Idb)) (fields_of_database members flags) (arr_value_shape (shape_of (Obj Tables.Package)) _ packages, tt)
