@@ -115,12 +115,15 @@ pub fn recover<T: Tree>(alloc: Global, tree: &mut T) -> Result<(), RecoverFault>
     ensures idle { IfObservable (T.history tree.old) (λ v. v.names intent_name ≡ None
         → IsEmptyStage v.names → T.history tree.new ≡ T.history tree.old) }
 
-    // The intent is refused exactly where it is no intent container, and nothing changes.
+    // The intent is refused exactly where it is no intent container. There nothing changes,
+    // whatever is answered.
     ensures bad { (cause : Cause) → IsErrOf result (RecoverFault.IntentBad cause)
         → (T.history tree.new ≡ T.history tree.old)
         × IfObservable (T.history tree.old) (λ v. IsIntentFault (files_of v) cause) }
     ensures good { IfObservable (T.history tree.old) (λ v. OnOk result ((cause : Cause)
         → IsIntentFault (files_of v) cause → ⊥)) }
+    ensures bad_idle { IfObservable (T.history tree.old) (λ v. (cause : Cause)
+        → IsIntentFault (files_of v) cause → T.history tree.new ≡ T.history tree.old) }
     ensures found { (cause : Cause) → IsErrOf result (RecoverFault.IntentBad cause)
         → (file : List ℕ) × (first_fault IntentTable file ≡ Some cause) }
     ensures goes_on { GoesOn (T.counts tree.old) (T.counts tree.new) }
@@ -164,6 +167,8 @@ fn replay<T: Tree>(alloc: Global, tree: &mut T) -> Result<(), RecoverFault>
         × IfObservable (T.history tree.old) (λ v. IsIntentFault (files_of v) cause) }
     ensures good { IfObservable (T.history tree.old) (λ v. OnOk result ((cause : Cause)
         → IsIntentFault (files_of v) cause → ⊥)) }
+    ensures bad_idle { IfObservable (T.history tree.old) (λ v. (cause : Cause)
+        → IsIntentFault (files_of v) cause → T.history tree.new ≡ T.history tree.old) }
     ensures found { (cause : Cause) → IsErrOf result (RecoverFault.IntentBad cause)
         → (file : List ℕ) × (first_fault IntentTable file ≡ Some cause) }
     ensures goes_on { GoesOn (T.counts tree.old) (T.counts tree.new) }
@@ -203,6 +208,8 @@ fn replay_file<T: Tree>(alloc: Global, tree: &mut T, file: Vec<u8>) -> Result<()
         → (T.history tree.new ≡ T.history tree.old)
         × (first_fault IntentTable file.items ≡ Some cause) }
     ensures good { OnOk result (first_fault IntentTable file.items ≡ None) }
+    ensures bad_idle { (cause : Cause) → first_fault IntentTable file.items ≡ Some cause
+        → T.history tree.new ≡ T.history tree.old }
     ensures goes_on { GoesOn (T.counts tree.old) (T.counts tree.new) }
     ensures disk { IsErrOf result RecoverFault.Disk
         → HasCause (T.counts tree.old) (T.counts tree.new) }

@@ -1,4 +1,5 @@
-use Rattle.journal_core.proofs.Replaying.{absent_good, absent_replayed, absent_settled, found_bad, found_good_called, found_idle, found_moments, found_proper, found_reads, found_replayed, found_settled, none_found, some_found}
+use Rattle.std.proofs.Common.{refl}
+use Rattle.journal_core.proofs.Replaying.{absent_good, absent_replayed, absent_settled, found_bad, found_bad_idle, found_good_called, found_idle, found_moments, found_proper, found_reads, found_replayed, found_settled, idle_none, none_found, some_found}
 use Rattle.journal_core.proofs.Lasting.{found_gone, none_gone}
 use Rattle.journal_core.proofs.recovering.replay.Goals as goal
 
@@ -40,3 +41,15 @@ returns-clause-gone g c = none_gone _ _ _ c.in_ok-name.ensures (none_found _ _ _
 
 pub returns-in-Some-clause-reads : goal.returns-in-Some-clause-reads
 returns-in-Some-clause-reads g c = found_reads _ _ _ c.read_all.ensures.tree.same _ _ c.in_ok-name.ensures (some_found _ _ _ _ c.in_ok-file.ensures.answer c.in-Some.is) c.replay_file.ensures.reads
+
+pub returns-in_err-name-clause-bad_idle : goal.returns-in_err-name-clause-bad_idle
+returns-in_err-name-clause-bad_idle g c = idle_none _ _ refl
+
+pub returns-in_err-file-clause-bad_idle : goal.returns-in_err-file-clause-bad_idle
+returns-in_err-file-clause-bad_idle g c = idle_none _ _ c.read_all.ensures.tree.same
+
+pub returns-in-Some-clause-bad_idle : goal.returns-in-Some-clause-bad_idle
+returns-in-Some-clause-bad_idle g c = found_bad_idle _ _ _ c.read_all.ensures.tree.same _ _ c.in_ok-name.ensures (some_found _ _ _ _ c.in_ok-file.ensures.answer c.in-Some.is) c.replay_file.ensures.bad_idle
+
+pub returns-clause-bad_idle : goal.returns-clause-bad_idle
+returns-clause-bad_idle g c = idle_none _ _ c.read_all.ensures.tree.same

@@ -1,3 +1,4 @@
+use Rattle.journal_core.proofs.Replaying.{no_fault}
 use Rattle.journal_core.proofs.Carried.{act_failed, act_proper, act_reads, end_moments, end_reads, end_proper, end_replayed, end_settled, none_acted}
 use Rattle.journal_core.proofs.recovering.replay_file.Goals as goal
 
@@ -44,3 +45,12 @@ returns-in_err-finish-clause-reads g c = end_reads _ _ _ c.in_ok-stage.ensures.i
 
 pub returns-clause-reads : goal.returns-clause-reads
 returns-clause-reads g c = end_reads _ _ _ c.in_ok-stage.ensures.intent c.in_ok-stage.ensures.none _ _ _ c.apply_all.ensures.reads c.in_ok-apply_all.ensures.acting c.finish.ensures.reads
+
+pub returns-in_err-apply_all-clause-bad_idle : goal.returns-in_err-apply_all-clause-bad_idle
+returns-in_err-apply_all-clause-bad_idle g c = λ cause is. absurd (no_fault _ cause c.in_ok-stage.ensures.good is)
+
+pub returns-in_err-finish-clause-bad_idle : goal.returns-in_err-finish-clause-bad_idle
+returns-in_err-finish-clause-bad_idle g c = λ cause is. absurd (no_fault _ cause c.in_ok-stage.ensures.good is)
+
+pub returns-clause-bad_idle : goal.returns-clause-bad_idle
+returns-clause-bad_idle g c = λ cause is. absurd (no_fault _ cause c.in_ok-stage.ensures.good is)
