@@ -43,7 +43,7 @@ sync_reads_at : (v : TreeState) (o : Option ℕ) (q : List ℕ) → files_of (ch
 sync_reads_at v None q = refl
 sync_reads_at v (Some n) q = sync_bytes v.files n (v.names q)
 
-moved_others : (from to : List ℕ) (v : TreeState) (o : Option ℕ) (q : List ℕ) → q ≢ from → q ≢ to → files_of (move_at from to v o) q ≡ files_of v q
+pub moved_others : (from to : List ℕ) (v : TreeState) (o : Option ℕ) (q : List ℕ) → q ≢ from → q ≢ to → files_of (move_at from to v o) q ≡ files_of v q
 moved_others from to v None q nf nt = refl
 moved_others from to v (Some n) q nf nt = ap (bytes_at v.files) (put_name-off (drop_name v.names from) to n q nt ∙ drop_name-off v.names from q nf)
 

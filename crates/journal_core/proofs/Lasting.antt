@@ -17,7 +17,7 @@ use Rattle.journal_intent.proofs.AtName.{name_cases, off_name, put_name-off, dro
 use Rattle.journal_intent.proofs.StageNames.{stage_name_no_intent}
 use Rattle.journal_intent.specs.FreeNames.{IsNoneOf}
 
-some_none : (o : Option ℕ) → o ≡ None → IsSome o → ⊥
+pub some_none : (o : Option ℕ) → o ≡ None → IsSome o → ⊥
 some_none None none some = cc
 some_none (Some n) none some = cc
 
@@ -65,11 +65,11 @@ last_moved_at v (Some n) none map (inr (inl is)) q off =
     ∙ drop_name-off v.names (stage_name 0) q (off_first q (stage_name 0) [] (off_rest q intent_name (stage_name 0 ∷ []) off)))
 last_moved_at v (Some n) none map (inr (inr among)) q off = absurd (no_more_maps v.older map none among)
 
-removed_absent : (name : List ℕ) (v : TreeState) (o : Option ℕ) → v.names name ≡ o → (remove_at name v o).names name ≡ None
+pub removed_absent : (name : List ℕ) (v : TreeState) (o : Option ℕ) → v.names name ≡ o → (remove_at name v o).names name ≡ None
 removed_absent name v None none = none
 removed_absent name v (Some n) some = drop_name-at v.names name name refl
 
-moved_absent : (from to : List ℕ) (v : TreeState) (o : Option ℕ) → v.names from ≡ o → from ≢ to → (move_at from to v o).names from ≡ None
+pub moved_absent : (from to : List ℕ) (v : TreeState) (o : Option ℕ) → v.names from ≡ o → from ≢ to → (move_at from to v o).names from ≡ None
 moved_absent from to v None none apart = none
 moved_absent from to v (Some n) some apart = put_name-off (drop_name v.names from) to n from apart ∙ drop_name-at v.names from from refl
 

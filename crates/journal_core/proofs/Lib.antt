@@ -21,6 +21,7 @@ pub mod Images
 pub mod Joined
 pub mod Keeping
 pub mod Lasting
+pub mod Leaving
 pub mod More
 pub mod OnTheWay
 pub mod OneCall

@@ -21,6 +21,16 @@ use Rattle.journal_core.proofs.OneCall.{now_is}
 pub still_none : (old new : History) → new ≡ old → IfObservable old (λ v. (ignored : List ℕ → Bool) → IsOrderly (RestsOn ignored) v → Since (IsStill ignored v) old new)
 still_none old new same = on_observable old _ (λ v rest is ignored orderly. no_more (IsStill ignored v) old old new (none_since (IsStill ignored v) old) same)
 
+-- nor where the intent is bad
+pub no_fault : (file : List ℕ) (cause : Cause) → first_fault IntentTable file ≡ None → first_fault IntentTable file ≡ Some cause → ⊥
+no_fault file cause good bad = cc (good, bad)
+
+pub idle_none : (old new : History) → new ≡ old → IfObservable old (λ v. (cause : Cause) → IsIntentFault (files_of v) cause → new ≡ old)
+idle_none old new same = on_observable old _ (λ v rest is cause fault. same)
+
+pub good_idle : (old mid new : History) → IfObservable old (λ v. (cause : Cause) → IsIntentFault (files_of v) cause → ⊥) → IfObservable old (λ v. (cause : Cause) → IsIntentFault (files_of v) cause → new ≡ old)
+good_idle old mid new good = observable_map old _ _ good (λ v none cause fault. absurd (none cause fault))
+
 both_told : (h : History) (A B C : TreeState → Type 0) → ((v : TreeState) → A v → B v → C v) → IfObservable h A → IfObservable h B → IfObservable h C
 both_told [] A B C f a b = tt
 both_told (v ∷ h) A B C f a b = f v a b
@@ -60,6 +70,11 @@ module _ (old mid new : History) (same : mid ≡ old) (name file : List ℕ) (na
 
   pub found_bad : (cause : Cause) → (new ≡ mid) × (first_fault IntentTable file ≡ Some cause) → (new ≡ old) × IfObservable old (λ v. IsIntentFault (files_of v) cause)
   found_bad cause bad = (bad.0 ∙ same, observable_map old There _ there (λ v at. (file, at, bad.1)))
+
+  pub found_bad_idle : ((cause : Cause) → first_fault IntentTable file ≡ Some cause → new ≡ mid) → IfObservable old (λ v. (cause : Cause) → IsIntentFault (files_of v) cause → new ≡ old)
+  found_bad_idle idle = observable_map old There _ there (λ v at cause fault.
+      let equal : fault.0 ≡ file = cc (at, fault.1) in
+      idle cause (sym (ap (first_fault IntentTable) equal) ∙ fault.2) ∙ same)
 
   pub found_good : first_fault IntentTable file ≡ None → IfObservable old (λ v. (cause : Cause) → IsIntentFault (files_of v) cause → ⊥)
   found_good good = observable_map old There _ there (λ v at cause fault.

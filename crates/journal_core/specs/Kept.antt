@@ -1,9 +1,9 @@
 -- What a call of a stage keeps: the files under other names, and the names that no crash undoes.
-use Rattle.std.specs.Prelude.{◌≡◌, ◌⊎◌, ℕ, ◌+◌, List, length, None, Some, slice_get}
+use Rattle.std.specs.Prelude.{◌≡◌, ◌≢◌, ◌⊎◌, ℕ, ◌+◌, false, List, length, None, Some, slice_get}
 use Rattle.base_core.specs.Files.{Files, NameMap}
 use Rattle.base_core.specs.Tree.{TreeState, IsMapOf, files_of}
-use Rattle.journal_core.specs.Recovery.{Intent, recovered_files, stage_name}
-use Rattle.journal_intent.specs.FreeNames.{IsNoneOf}
+use Rattle.journal_core.specs.Recovery.{Intent, intent_name, is_staged, recovered_files, stage_name}
+use Rattle.journal_intent.specs.FreeNames.{IsNoneOf, IsTakenName}
 
 -- ---- the files as read
 
@@ -23,12 +23,27 @@ IsOfAction intent acted q =
 abbrev pub RecoversTo : Files → TreeState → Type 0
 RecoversTo files v = recovered_files (files_of v) ≡ files
 
+-- the intent, and each file that waits, is as it was or is gone
+abbrev pub IsLessWaiting : TreeState → TreeState → Type 0
+IsLessWaiting start v = (q : List ℕ) → IsTakenName q
+    → (files_of v q ≡ None) ⊎ (files_of v q ≡ files_of start q)
+
+-- the intent stays, and each file that waits stays or goes
+pub record KeepsIntent (start v : TreeState) : Type 0 where
+  pub intent : v.names intent_name ≡ start.names intent_name
+  pub waiting : IsLessWaiting start v
+
 -- ---- the maps of names
 
 -- each name but these leads in every map where it leads as read, so no crash undoes its change
 abbrev pub NamesLastBut : List (List ℕ) → TreeState → Type 0
 NamesLastBut these v =
     (map : NameMap) → IsMapOf v map → (q : List ℕ) → IsNoneOf q these → map q ≡ v.names q
+
+-- so does each name but the intent's and those below the stage
+abbrev pub ShownNamesLast : TreeState → Type 0
+ShownNamesLast v = (map : NameMap) → IsMapOf v map → (q : List ℕ) → q ≢ intent_name
+    → is_staged q ≡ false → map q ≡ v.names q
 
 -- no crash brings the name back
 abbrev pub IsInNoMap : List ℕ → TreeState → Type 0

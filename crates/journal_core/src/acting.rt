@@ -6,7 +6,7 @@ ghost use Rattle.base_core.specs.Faults.{GoesOn, HasCause, IsNoFault};
 ghost use Rattle.base_core.specs.Files.{Files};
 ghost use Rattle.base_core.specs.Tree.{CanRename};
 ghost use Rattle.journal_core.specs.Acting.{MovesIfThere, acting_stage};
-ghost use Rattle.journal_core.specs.Kept.{IsOfAction, KeepsFilesBut, RecoversTo};
+ghost use Rattle.journal_core.specs.Kept.{IsOfAction, KeepsFilesBut, KeepsIntent, RecoversTo};
 ghost use Rattle.journal_core.specs.Quiet.{IsStill};
 ghost use Rattle.journal_core.specs.Recovery.{RestsOn};
 ghost use Rattle.journal_core.specs.Staged.{HasRoomBeside, IsActing, action_count};
@@ -33,6 +33,8 @@ pub(crate) fn act<T: Tree>(
     ensures reads { IfObservable (T.history tree.old) (λ v. (files : Files)
         → IsActing (acting_stage intent.now acted) files v
         → Since (RecoversTo files) (T.history tree.old) (T.history tree.new)) }
+    ensures waiting { IfObservable (T.history tree.old) (λ v.
+        Since (KeepsIntent v) (T.history tree.old) (T.history tree.new)) }
     ensures others { IfObservable (T.history tree.old) (λ v.
         HasNow (T.history tree.new) (KeepsFilesBut (IsOfAction intent.now acted) v)) }
     ensures more { acted < action_count intent.now → IfOk result (λ next. next ≡ acted + 1) }
@@ -72,6 +74,8 @@ fn remove_one<T: Tree>(intent: &PreparedIntent, i: usize, tree: &mut T) -> Resul
     ensures reads { IfObservable (T.history tree.old) (λ v. (files : Files)
         → IsActing (acting_stage intent.now i) files v
         → Since (RecoversTo files) (T.history tree.old) (T.history tree.new)) }
+    ensures waiting { IfObservable (T.history tree.old) (λ v.
+        Since (KeepsIntent v) (T.history tree.old) (T.history tree.new)) }
     ensures others { IfObservable (T.history tree.old) (λ v.
         HasNow (T.history tree.new) (KeepsFilesBut (IsOfAction intent.now i) v)) }
     ensures goes_on { GoesOn (T.counts tree.old) (T.counts tree.new) }
@@ -106,6 +110,8 @@ fn move_one<T: Tree>(
     ensures reads { IfObservable (T.history tree.old) (λ v. (files : Files)
         → IsActing (acting_stage intent.now acted) files v
         → Since (RecoversTo files) (T.history tree.old) (T.history tree.new)) }
+    ensures waiting { IfObservable (T.history tree.old) (λ v.
+        Since (KeepsIntent v) (T.history tree.old) (T.history tree.new)) }
     ensures others { IfObservable (T.history tree.old) (λ v.
         HasNow (T.history tree.new) (KeepsFilesBut (IsOfAction intent.now acted) v)) }
     ensures goes_on { GoesOn (T.counts tree.old) (T.counts tree.new) }

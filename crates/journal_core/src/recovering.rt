@@ -8,7 +8,7 @@ ghost use Rattle.base_core.specs.Faults.{GoesOn, HasCause, IsNoFault};
 ghost use Rattle.base_core.specs.Files.{Files};
 ghost use Rattle.base_core.specs.Tree.{files_of};
 ghost use Rattle.base_core.specs.declared.cause.Cause.{Cause};
-ghost use Rattle.journal_core.specs.Kept.{IsInNoMap, KeepsFilesBut, RecoversTo};
+ghost use Rattle.journal_core.specs.Kept.{IsInNoMap, IsLessWaiting, KeepsFilesBut, KeepsIntent, RecoversTo, ShownNamesLast};
 ghost use Rattle.journal_core.specs.Quiet.{IsStill};
 ghost use Rattle.journal_core.specs.Recovering.{AllStaged, IsEmptied, IsReplayed, IsWithout};
 ghost use Rattle.journal_core.specs.Recovery.{IsSettled, RestsOn, intent_name, intent_of, is_staged, recovered_files};
@@ -107,6 +107,16 @@ pub fn recover<T: Tree>(alloc: Global, tree: &mut T) -> Result<(), RecoverFault>
         → IsOrderly (RestsOn ignored) v → IsSome (intent_of (files_of v))
         → OnOk result (HasNow (T.history tree.new) (IsSettled ignored (files_of v)))) }
 
+    // Whatever it answers, what waits only goes.
+    ensures waiting { IfObservable (T.history tree.old) (λ v.
+        Since (IsLessWaiting v) (T.history tree.old) (T.history tree.new)) }
+
+    // Where it found an intent: as soon as none is read, a crash undoes no change of a name that
+    // does not wait.
+    ensures last { IfObservable (T.history tree.old) (λ v. IsSome (v.names intent_name)
+        → Since (λ w. w.names intent_name ≡ None → ShownNamesLast w)
+        (T.history tree.old) (T.history tree.new)) }
+
     // Nor does a crash bring the intent back.
     ensures gone { IfObservable (T.history tree.old) (λ v. IsSome (v.names intent_name)
         → OnOk result (HasNow (T.history tree.new) (IsInNoMap intent_name))) }
@@ -115,12 +125,15 @@ pub fn recover<T: Tree>(alloc: Global, tree: &mut T) -> Result<(), RecoverFault>
     ensures idle { IfObservable (T.history tree.old) (λ v. v.names intent_name ≡ None
         → IsEmptyStage v.names → T.history tree.new ≡ T.history tree.old) }
 
-    // The intent is refused exactly where it is no intent container, and nothing changes.
+    // The intent is refused exactly where it is no intent container. There nothing changes,
+    // whatever is answered.
     ensures bad { (cause : Cause) → IsErrOf result (RecoverFault.IntentBad cause)
         → (T.history tree.new ≡ T.history tree.old)
         × IfObservable (T.history tree.old) (λ v. IsIntentFault (files_of v) cause) }
     ensures good { IfObservable (T.history tree.old) (λ v. OnOk result ((cause : Cause)
         → IsIntentFault (files_of v) cause → ⊥)) }
+    ensures bad_idle { IfObservable (T.history tree.old) (λ v. (cause : Cause)
+        → IsIntentFault (files_of v) cause → T.history tree.new ≡ T.history tree.old) }
     ensures found { (cause : Cause) → IsErrOf result (RecoverFault.IntentBad cause)
         → (file : List ℕ) × (first_fault IntentTable file ≡ Some cause) }
     ensures goes_on { GoesOn (T.counts tree.old) (T.counts tree.new) }
@@ -155,6 +168,11 @@ fn replay<T: Tree>(alloc: Global, tree: &mut T) -> Result<(), RecoverFault>
         → IsOrderly (RestsOn ignored) v → IsSome (intent_of (files_of v))
         → OnOk result (HasNow (T.history tree.new)
         (IsSettled ignored (recovered_files (files_of v))))) }
+    ensures waiting { IfObservable (T.history tree.old) (λ v.
+        Since (IsLessWaiting v) (T.history tree.old) (T.history tree.new)) }
+    ensures last { IfObservable (T.history tree.old) (λ v. IsSome (v.names intent_name)
+        → Since (λ w. w.names intent_name ≡ None → ShownNamesLast w)
+        (T.history tree.old) (T.history tree.new)) }
     ensures gone { IfObservable (T.history tree.old) (λ v. IsSome (v.names intent_name)
         → OnOk result (IfObservable (T.history tree.new) (IsInNoMap intent_name))) }
     ensures idle { IfObservable (T.history tree.old) (λ v. v.names intent_name ≡ None
@@ -164,6 +182,8 @@ fn replay<T: Tree>(alloc: Global, tree: &mut T) -> Result<(), RecoverFault>
         × IfObservable (T.history tree.old) (λ v. IsIntentFault (files_of v) cause) }
     ensures good { IfObservable (T.history tree.old) (λ v. OnOk result ((cause : Cause)
         → IsIntentFault (files_of v) cause → ⊥)) }
+    ensures bad_idle { IfObservable (T.history tree.old) (λ v. (cause : Cause)
+        → IsIntentFault (files_of v) cause → T.history tree.new ≡ T.history tree.old) }
     ensures found { (cause : Cause) → IsErrOf result (RecoverFault.IntentBad cause)
         → (file : List ℕ) × (first_fault IntentTable file ≡ Some cause) }
     ensures goes_on { GoesOn (T.counts tree.old) (T.counts tree.new) }
@@ -198,11 +218,18 @@ fn replay_file<T: Tree>(alloc: Global, tree: &mut T, file: Vec<u8>) -> Result<()
         → IsOrderly (RestsOn ignored) v → files_of v intent_name ≡ Some file.items
         → OnOk result (HasNow (T.history tree.new)
         (IsSettled ignored (recovered_files (files_of v))))) }
+    ensures waiting { IfObservable (T.history tree.old) (λ v.
+        Since (IsLessWaiting v) (T.history tree.old) (T.history tree.new)) }
+    ensures last { IfObservable (T.history tree.old) (λ v. IsSome (v.names intent_name)
+        → Since (λ w. w.names intent_name ≡ None → ShownNamesLast w)
+        (T.history tree.old) (T.history tree.new)) }
     ensures gone { OnOk result (IfObservable (T.history tree.new) (IsInNoMap intent_name)) }
     ensures bad { (cause : Cause) → IsErrOf result (RecoverFault.IntentBad cause)
         → (T.history tree.new ≡ T.history tree.old)
         × (first_fault IntentTable file.items ≡ Some cause) }
     ensures good { OnOk result (first_fault IntentTable file.items ≡ None) }
+    ensures bad_idle { (cause : Cause) → first_fault IntentTable file.items ≡ Some cause
+        → T.history tree.new ≡ T.history tree.old }
     ensures goes_on { GoesOn (T.counts tree.old) (T.counts tree.new) }
     ensures disk { IsErrOf result RecoverFault.Disk
         → HasCause (T.counts tree.old) (T.counts tree.new) }
@@ -234,6 +261,8 @@ fn apply_all<T: Tree>(stage: &mut Stage, tree: &mut T) -> Result<(), Disk>
     ensures reads { IfObservable (T.history tree.old) (λ v. (files : Files)
         → IsActing stage.old files v
         → Since (RecoversTo files) (T.history tree.old) (T.history tree.new)) }
+    ensures waiting { IfObservable (T.history tree.old) (λ v.
+        Since (KeepsIntent v) (T.history tree.old) (T.history tree.new)) }
     ensures all { OnOk result (stage.new.acted ≡ action_count stage.new.intent) }
     ensures published { OnOk result (stage.new.published ≡ true) }
     ensures goes_on { GoesOn (T.counts tree.old) (T.counts tree.new) }
@@ -257,6 +286,10 @@ fn empty_stage<T: Tree>(alloc: Global, tree: &mut T) -> Result<(), TreeFault>
     ensures shown { IfObservable (T.history tree.old) (λ v.
         Since (KeepsFilesBut (λ q. is_staged q ≡ true) v)
         (T.history tree.old) (T.history tree.new)) }
+    ensures waiting { IfObservable (T.history tree.old) (λ v.
+        Since (IsLessWaiting v) (T.history tree.old) (T.history tree.new)) }
+    ensures last { IfObservable (T.history tree.old) (λ v. ShownNamesLast v
+        → Since ShownNamesLast (T.history tree.old) (T.history tree.new)) }
     ensures emptied { IfObservable (T.history tree.old) (λ v.
         OnOk result (HasNow (T.history tree.new) (IsEmptied v))) }
     ensures gone { IfObservable (T.history tree.old) (λ v. OnOk result (IsInNoMap intent_name v
@@ -287,6 +320,11 @@ fn remove_all<T: Tree>(tree: &mut T, names: &Names) -> Result<(), Disk>
     ensures shown { IfObservable (T.history tree.old) (λ v. AllStaged names.now
         → Since (KeepsFilesBut (λ q. is_staged q ≡ true) v)
         (T.history tree.old) (T.history tree.new)) }
+    ensures waiting { IfObservable (T.history tree.old) (λ v.
+        Since (IsLessWaiting v) (T.history tree.old) (T.history tree.new)) }
+    ensures last { IfObservable (T.history tree.old) (λ v. AllStaged names.now
+        → ShownNamesLast v
+        → Since ShownNamesLast (T.history tree.old) (T.history tree.new)) }
     ensures cleared { IfObservable (T.history tree.old) (λ v.
         OnOk result (HasNow (T.history tree.new) (IsWithout names.now v))) }
     ensures gone { IfObservable (T.history tree.old) (λ v. OnOk result (IsInNoMap intent_name v

@@ -11,7 +11,7 @@ ghost use Rattle.base_core.specs.Restart.{SinceBy};
 ghost use Rattle.base_core.specs.Tree.{files_of};
 ghost use Rattle.base_core.specs.declared.cause.Cause.{Cause};
 ghost use Rattle.journal_core.specs.Acting.{IsNextName};
-ghost use Rattle.journal_core.specs.Kept.{IsInNoMap, IsOfAction, KeepsFilesBut, NamesLastBut, RecoversTo};
+ghost use Rattle.journal_core.specs.Kept.{IsInNoMap, IsLessWaiting, IsOfAction, KeepsFilesBut, KeepsIntent, NamesLastBut, RecoversTo};
 ghost use Rattle.journal_core.specs.Quiet.{IsStill};
 ghost use Rattle.journal_core.specs.Recovery.{IsSettled, RestsOn, after_actions, intent_name, read_intent, stage_name};
 ghost use Rattle.journal_core.specs.Staged.{Staging, HasRoomBeside, HasRoomToStage, IsActing, IsAlone, IsOnTheWay, IsStaged, PublishedBy, action_count, new_stage};
@@ -304,6 +304,10 @@ impl Stage {
             → IsActing self.old files v
             → Since (RecoversTo files) (T.history tree.old) (T.history tree.new)) }
 
+        // At each moment the intent stays, and each file that waits stays or goes.
+        ensures waiting { IfObservable (T.history tree.old) (λ v.
+            Since (KeepsIntent v) (T.history tree.old) (T.history tree.new)) }
+
         // Whatever it answers, it touches no other name than those of its action.
         ensures others { IfObservable (T.history tree.old) (λ v. HasNow (T.history tree.new)
             (KeepsFilesBut (IsOfAction self.old.intent self.old.acted) v)) }
@@ -351,6 +355,8 @@ impl Stage {
             → Since (λ w. w.names intent_name ≡ None → NamesLastBut (intent_name ∷ []) w)
             (T.history tree.old) (T.history tree.new)) }
         ensures gone { OnOk result (IfObservable (T.history tree.new) (IsInNoMap intent_name)) }
+        ensures waiting { IfObservable (T.history tree.old) (λ v.
+            Since (IsLessWaiting v) (T.history tree.old) (T.history tree.new)) }
         ensures others { IfObservable (T.history tree.old) (λ v. HasNow (T.history tree.new)
             (KeepsFilesBut (λ q. q ≡ intent_name) v)) }
         ensures goes_on { GoesOn (T.counts tree.old) (T.counts tree.new) }

@@ -1,3 +1,4 @@
+use Rattle.journal_core.proofs.Leaving.{move_waiting}
 use Rattle.journal_core.proofs.Acted.{move_moments, move_reads, moved_acting, move_proper}
 use Rattle.journal_core.proofs.Keeping.{move_keeps}
 use Rattle.journal_core.proofs.acting.move_one.Goals as goal
@@ -20,3 +21,6 @@ returns-clause-others g c = move_keeps c.args.intent.now _ _ c.args.j c.args.act
 pub returns-clause-reads : goal.returns-clause-reads
 returns-clause-reads g c =
     move_reads (record { left = c.a_crash_may_leave_the_files_as_read.ensures.by_map; outlasts = c.order_outlasts_a_crash.ensures }) _ c.names_are_free.ensures.free c.names_are_free.ensures.few _ _ _ _ c.requires.within c.requires.behind _ _ c.stage_name.ensures c.write.ensures c.move_waiting.result c.move_waiting.ensures.moves
+
+pub returns-clause-waiting : goal.returns-clause-waiting
+returns-clause-waiting g c = move_waiting _ c.names_are_free.ensures.free c.names_are_free.ensures.few _ _ c.args.j _ _ c.stage_name.ensures c.write.ensures c.move_waiting.result c.move_waiting.ensures.moves

@@ -1,3 +1,4 @@
+use Rattle.journal_core.proofs.Leaving.{removal_waiting}
 use Rattle.journal_core.proofs.Acted.{remove_moments, remove_reads, removed_acting}
 use Rattle.journal_core.proofs.Keeping.{removal_keeps}
 use Rattle.journal_core.proofs.acting.remove_one.Goals as goal
@@ -16,3 +17,6 @@ returns-clause-others g c = removal_keeps c.args.intent.now _ _ c.remove.result 
 pub returns-clause-reads : goal.returns-clause-reads
 returns-clause-reads g c =
     remove_reads (record { left = c.a_crash_may_leave_the_files_as_read.ensures.by_map; outlasts = c.order_outlasts_a_crash.ensures }) _ c.names_are_free.ensures.free c.names_are_free.ensures.few _ _ _ c.requires _ c.removal.ensures c.remove.result c.remove.ensures.moves
+
+pub returns-clause-waiting : goal.returns-clause-waiting
+returns-clause-waiting g c = removal_waiting _ c.names_are_free.ensures.free c.names_are_free.ensures.few _ _ c.args.i _ c.removal.ensures c.remove.result c.remove.ensures.moves

@@ -1,3 +1,4 @@
+use Rattle.journal_core.proofs.Leaving.{empty_lasts, empty_lasts_none, waiting_back, waiting_none}
 use Rattle.std.proofs.Common.{refl}
 use Rattle.journal_core.proofs.Cleaned.{empty_emptied, empty_idle, empty_moments, empty_none, empty_shown, empty_shown_none}
 use Rattle.journal_core.proofs.Lasting.{stays_back}
@@ -43,3 +44,27 @@ returns-in_err-remove_all-clause-shown g c = empty_shown _ _ c.in_ok-folder.ensu
 
 pub returns-clause-shown : goal.returns-clause-shown
 returns-clause-shown g c = empty_shown _ _ c.in_ok-folder.ensures _ _ _ c.list.ensures.same c.in_ok-names.ensures.order c.remove_all.ensures.shown
+
+pub returns-in_err-folder-clause-waiting : goal.returns-in_err-folder-clause-waiting
+returns-in_err-folder-clause-waiting g c = waiting_none _ _ refl
+
+pub returns-in_err-names-clause-waiting : goal.returns-in_err-names-clause-waiting
+returns-in_err-names-clause-waiting g c = waiting_none _ _ c.list.ensures.same
+
+pub returns-in_err-remove_all-clause-waiting : goal.returns-in_err-remove_all-clause-waiting
+returns-in_err-remove_all-clause-waiting g c = waiting_back _ _ _ c.list.ensures.same c.remove_all.ensures.waiting
+
+pub returns-clause-waiting : goal.returns-clause-waiting
+returns-clause-waiting g c = waiting_back _ _ _ c.list.ensures.same c.remove_all.ensures.waiting
+
+pub returns-in_err-folder-clause-last : goal.returns-in_err-folder-clause-last
+returns-in_err-folder-clause-last g c = empty_lasts_none _ _ refl
+
+pub returns-in_err-names-clause-last : goal.returns-in_err-names-clause-last
+returns-in_err-names-clause-last g c = empty_lasts_none _ _ c.list.ensures.same
+
+pub returns-in_err-remove_all-clause-last : goal.returns-in_err-remove_all-clause-last
+returns-in_err-remove_all-clause-last g c = empty_lasts _ _ c.in_ok-folder.ensures _ _ _ c.list.ensures.same c.in_ok-names.ensures.order c.remove_all.ensures.last
+
+pub returns-clause-last : goal.returns-clause-last
+returns-clause-last g c = empty_lasts _ _ c.in_ok-folder.ensures _ _ _ c.list.ensures.same c.in_ok-names.ensures.order c.remove_all.ensures.last

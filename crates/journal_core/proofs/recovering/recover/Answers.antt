@@ -1,4 +1,6 @@
+use Rattle.journal_core.proofs.Leaving.{all_lasts, waiting_on}
 use Rattle.std.proofs.Common.{rules}
+use Rattle.journal_core.proofs.Replaying.{good_idle}
 use Rattle.journal_core.proofs.Cleaned.{all_files, all_moments, all_reads, all_settled, replay_reads}
 use Rattle.journal_core.proofs.Lasting.{all_gone}
 use Rattle.journal_core.proofs.recovering.recover.Goals as goal
@@ -29,3 +31,21 @@ returns-in_err-empty_stage-clause-reads g c = all_reads _ _ _ c.replay.ensures.r
 
 pub returns-clause-reads : goal.returns-clause-reads
 returns-clause-reads g c = all_reads _ _ _ c.replay.ensures.reads c.in_ok-replay.ensures.replayed c.empty_stage.ensures.shown
+
+pub returns-in_err-empty_stage-clause-bad_idle : goal.returns-in_err-empty_stage-clause-bad_idle
+returns-in_err-empty_stage-clause-bad_idle g c = good_idle _ (g.T.Tree.history c.replay.new.tree) _ c.in_ok-replay.ensures.good
+
+pub returns-clause-bad_idle : goal.returns-clause-bad_idle
+returns-clause-bad_idle g c = good_idle _ (g.T.Tree.history c.replay.new.tree) _ c.in_ok-replay.ensures.good
+
+pub returns-in_err-empty_stage-clause-waiting : goal.returns-in_err-empty_stage-clause-waiting
+returns-in_err-empty_stage-clause-waiting g c = waiting_on _ _ _ c.replay.ensures.waiting c.empty_stage.ensures.waiting
+
+pub returns-in_err-empty_stage-clause-last : goal.returns-in_err-empty_stage-clause-last
+returns-in_err-empty_stage-clause-last g c = all_lasts _ _ _ c.replay.ensures.last c.in_ok-replay.ensures.replayed c.empty_stage.ensures.last
+
+pub returns-clause-waiting : goal.returns-clause-waiting
+returns-clause-waiting g c = waiting_on _ _ _ c.replay.ensures.waiting c.empty_stage.ensures.waiting
+
+pub returns-clause-last : goal.returns-clause-last
+returns-clause-last g c = all_lasts _ _ _ c.replay.ensures.last c.in_ok-replay.ensures.replayed c.empty_stage.ensures.last

@@ -1,4 +1,6 @@
-use Rattle.journal_core.proofs.Replaying.{absent_good, absent_replayed, absent_settled, found_bad, found_good_called, found_idle, found_moments, found_proper, found_reads, found_replayed, found_settled, none_found, some_found}
+use Rattle.journal_core.proofs.Leaving.{lasts_back, lasts_none, waiting_back, waiting_none}
+use Rattle.std.proofs.Common.{refl}
+use Rattle.journal_core.proofs.Replaying.{absent_good, absent_replayed, absent_settled, found_bad, found_bad_idle, found_good_called, found_idle, found_moments, found_proper, found_reads, found_replayed, found_settled, idle_none, none_found, some_found}
 use Rattle.journal_core.proofs.Lasting.{found_gone, none_gone}
 use Rattle.journal_core.proofs.recovering.replay.Goals as goal
 
@@ -40,3 +42,39 @@ returns-clause-gone g c = none_gone _ _ _ c.in_ok-name.ensures (none_found _ _ _
 
 pub returns-in-Some-clause-reads : goal.returns-in-Some-clause-reads
 returns-in-Some-clause-reads g c = found_reads _ _ _ c.read_all.ensures.tree.same _ _ c.in_ok-name.ensures (some_found _ _ _ _ c.in_ok-file.ensures.answer c.in-Some.is) c.replay_file.ensures.reads
+
+pub returns-in_err-name-clause-bad_idle : goal.returns-in_err-name-clause-bad_idle
+returns-in_err-name-clause-bad_idle g c = idle_none _ _ refl
+
+pub returns-in_err-file-clause-bad_idle : goal.returns-in_err-file-clause-bad_idle
+returns-in_err-file-clause-bad_idle g c = idle_none _ _ c.read_all.ensures.tree.same
+
+pub returns-in-Some-clause-bad_idle : goal.returns-in-Some-clause-bad_idle
+returns-in-Some-clause-bad_idle g c = found_bad_idle _ _ _ c.read_all.ensures.tree.same _ _ c.in_ok-name.ensures (some_found _ _ _ _ c.in_ok-file.ensures.answer c.in-Some.is) c.replay_file.ensures.bad_idle
+
+pub returns-clause-bad_idle : goal.returns-clause-bad_idle
+returns-clause-bad_idle g c = idle_none _ _ c.read_all.ensures.tree.same
+
+pub returns-in_err-name-clause-waiting : goal.returns-in_err-name-clause-waiting
+returns-in_err-name-clause-waiting g c = waiting_none _ _ refl
+
+pub returns-in_err-file-clause-waiting : goal.returns-in_err-file-clause-waiting
+returns-in_err-file-clause-waiting g c = waiting_none _ _ c.read_all.ensures.tree.same
+
+pub returns-in-Some-clause-waiting : goal.returns-in-Some-clause-waiting
+returns-in-Some-clause-waiting g c = waiting_back _ _ _ c.read_all.ensures.tree.same c.replay_file.ensures.waiting
+
+pub returns-clause-waiting : goal.returns-clause-waiting
+returns-clause-waiting g c = waiting_none _ _ c.read_all.ensures.tree.same
+
+pub returns-in_err-name-clause-last : goal.returns-in_err-name-clause-last
+returns-in_err-name-clause-last g c = lasts_none _ _ refl
+
+pub returns-in_err-file-clause-last : goal.returns-in_err-file-clause-last
+returns-in_err-file-clause-last g c = lasts_none _ _ c.read_all.ensures.tree.same
+
+pub returns-in-Some-clause-last : goal.returns-in-Some-clause-last
+returns-in-Some-clause-last g c = lasts_back _ _ _ c.read_all.ensures.tree.same c.replay_file.ensures.last
+
+pub returns-clause-last : goal.returns-clause-last
+returns-clause-last g c = lasts_none _ _ c.read_all.ensures.tree.same

@@ -1,3 +1,6 @@
+use Rattle.journal_core.proofs.Leaving.{act_lasts, end_lasts, intent_waiting, lasts_none, waiting_none, waiting_on}
+use Rattle.std.proofs.Common.{refl}
+use Rattle.journal_core.proofs.Replaying.{no_fault}
 use Rattle.journal_core.proofs.Carried.{act_failed, act_proper, act_reads, end_moments, end_reads, end_proper, end_replayed, end_settled, none_acted}
 use Rattle.journal_core.proofs.recovering.replay_file.Goals as goal
 
@@ -44,3 +47,36 @@ returns-in_err-finish-clause-reads g c = end_reads _ _ _ c.in_ok-stage.ensures.i
 
 pub returns-clause-reads : goal.returns-clause-reads
 returns-clause-reads g c = end_reads _ _ _ c.in_ok-stage.ensures.intent c.in_ok-stage.ensures.none _ _ _ c.apply_all.ensures.reads c.in_ok-apply_all.ensures.acting c.finish.ensures.reads
+
+pub returns-in_err-apply_all-clause-bad_idle : goal.returns-in_err-apply_all-clause-bad_idle
+returns-in_err-apply_all-clause-bad_idle g c = λ cause is. absurd (no_fault _ cause c.in_ok-stage.ensures.good is)
+
+pub returns-in_err-finish-clause-bad_idle : goal.returns-in_err-finish-clause-bad_idle
+returns-in_err-finish-clause-bad_idle g c = λ cause is. absurd (no_fault _ cause c.in_ok-stage.ensures.good is)
+
+pub returns-clause-bad_idle : goal.returns-clause-bad_idle
+returns-clause-bad_idle g c = λ cause is. absurd (no_fault _ cause c.in_ok-stage.ensures.good is)
+
+pub returns-in_err-stage-clause-waiting : goal.returns-in_err-stage-clause-waiting
+returns-in_err-stage-clause-waiting g c = waiting_none _ _ refl
+
+pub returns-in_err-stage-clause-last : goal.returns-in_err-stage-clause-last
+returns-in_err-stage-clause-last g c = lasts_none _ _ refl
+
+pub returns-in_err-apply_all-clause-waiting : goal.returns-in_err-apply_all-clause-waiting
+returns-in_err-apply_all-clause-waiting g c = intent_waiting _ _ c.apply_all.ensures.waiting
+
+pub returns-in_err-apply_all-clause-last : goal.returns-in_err-apply_all-clause-last
+returns-in_err-apply_all-clause-last g c = act_lasts _ _ c.apply_all.ensures.waiting
+
+pub returns-in_err-finish-clause-waiting : goal.returns-in_err-finish-clause-waiting
+returns-in_err-finish-clause-waiting g c = waiting_on _ _ _ (intent_waiting _ _ c.apply_all.ensures.waiting) c.finish.ensures.waiting
+
+pub returns-in_err-finish-clause-last : goal.returns-in_err-finish-clause-last
+returns-in_err-finish-clause-last g c = end_lasts _ _ _ c.apply_all.ensures.waiting c.finish.ensures.last
+
+pub returns-clause-waiting : goal.returns-clause-waiting
+returns-clause-waiting g c = waiting_on _ _ _ (intent_waiting _ _ c.apply_all.ensures.waiting) c.finish.ensures.waiting
+
+pub returns-clause-last : goal.returns-clause-last
+returns-clause-last g c = end_lasts _ _ _ c.apply_all.ensures.waiting c.finish.ensures.last

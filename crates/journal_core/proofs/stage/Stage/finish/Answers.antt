@@ -1,3 +1,4 @@
+use Rattle.journal_core.proofs.Leaving.{remove_waiting, sync_waiting, waiting_on}
 use Rattle.std.proofs.Common.{◌∙◌, ◌≡◌, refl}
 use Rattle.journal_core.specs.Recovery.{intent_name}
 use Rattle.journal_core.proofs.History.{on_observable}
@@ -118,3 +119,12 @@ returns-clause-reads g c =
     stands_last (record { left = c.a_crash_may_leave_the_files_as_read.ensures.by_map; outlasts = c.order_outlasts_a_crash.ensures }) _ c.requires.all _ c.name.ensures files v _ rest is acting _ _ c.sync_all_names-2.result
     (stands_dropped (record { left = c.a_crash_may_leave_the_files_as_read.ensures.by_map; outlasts = c.order_outlasts_a_crash.ensures }) _ c.requires.all _ c.name.ensures files v _ rest is acting _ _ _
     (stands_synced (record { left = c.a_crash_may_leave_the_files_as_read.ensures.by_map; outlasts = c.order_outlasts_a_crash.ensures }) _ c.requires.all _ c.name.ensures files v _ rest is acting (g.T.Tree.history c.args.tree.now) _ _ c.in_ok-sync_all_names.ensures.moves) c.in_ok-remove.ensures.moves) c.sync_all_names-2.ensures.moves)
+
+pub returns-in_err-sync_all_names-clause-waiting : goal.returns-in_err-sync_all_names-clause-waiting
+returns-in_err-sync_all_names-clause-waiting g c = sync_waiting _ _ _ c.in_err-sync_all_names.ensures.moves
+
+pub returns-in_err-remove-clause-waiting : goal.returns-in_err-remove-clause-waiting
+returns-in_err-remove-clause-waiting g c = waiting_on _ _ _ (sync_waiting _ _ _ c.in_ok-sync_all_names.ensures.moves) (remove_waiting _ _ _ _ c.in_err-remove.ensures.moves)
+
+pub returns-clause-waiting : goal.returns-clause-waiting
+returns-clause-waiting g c = waiting_on _ _ _ (waiting_on _ _ _ (sync_waiting (g.T.Tree.history c.args.tree.now) _ _ c.in_ok-sync_all_names.ensures.moves) (remove_waiting _ _ _ _ c.in_ok-remove.ensures.moves)) (sync_waiting _ _ c.sync_all_names-2.result c.sync_all_names-2.ensures.moves)
