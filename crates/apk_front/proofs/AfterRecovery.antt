@@ -1,5 +1,5 @@
 -- A run behind a recovery.
-use Rattle.std.proofs.Common.{◌≡◌, inl, inr, ℕ, Bool, true, false, List, [], ◌∷◌, ◌++◌, append_assoc, Option, None, IsSome, Ok, Err, sym, ap, subst, ◌∙◌, arith}
+use Rattle.std.proofs.Common.{◌≡◌, inl, inr, ℕ, Bool, true, false, List, [], ◌∷◌, ◌++◌, append_assoc, Option, None, IsSome, Err, sym, ap, subst, ◌∙◌, arith}
 use Rattle.std.specs.Prelude.{is_some, All, IsErrOf, OnOk}
 use Rattle.std.proofs.lemmas.Bool.{false≢true}
 use Rattle.std.proofs.lemmas.List.Elements.{All-append, All-head, All-nil, All-tail, All-weaker}
@@ -18,9 +18,9 @@ use Rattle.journal_core.specs.Staged.{IsEmptyStage, IsOnTheWay, unstaged_files}
 use Rattle.outcome.specs.Effect.{Effect, does_recover}
 use Rattle.outcome.specs.Outcome.{Outcome}
 use Rattle.outcome.specs.Work.{recovery_fault, work_files}
-use Rattle.apk_front.specs.Moments.{AreOnTheWay, AreSafe, HasNothingToRecover, IsReadApart, IsReadOnItsWay, Settles, SettlesUnrecovered}
+use Rattle.apk_front.specs.Moments.{AreOnTheWay, AreSafe, CanRecover, HasNothingToRecover, IsReadApart, IsReadOnItsWay, Settles, SettlesUnrecovered}
 use Rattle.apk_front.specs.Runs.{IsRun, IsWholeRun, IsWithoutCommit}
-use Rattle.apk_front.proofs.Runs.{History, Judged, err_ok}
+use Rattle.apk_front.proofs.Runs.{History, Judged, Leaves, err_ok, ok_always, on_ok, settled_before}
 
 -- ---- laws
 
@@ -135,7 +135,7 @@ pub whole_alone : (IsOne : Outcome → Type 0) (effect : Effect) (output : Optio
 whole_alone IsOne effect output judged v old now alone good work run memory = record {
   moments = run.moments;
   orderly = run.orderly;
-  settled = λ ignored o orderly hides one none lasts. run.settled ignored o orderly hides one none (settles_alone effect ignored v o alone lasts);
+  settled = λ ignored o orderly hides one lasts. run.settled ignored o orderly hides one (settles_alone effect ignored v o alone lasts);
   left = λ without ignored orderly. none_since (IsStill ignored v) old now (unwritten IsOne IsOne output judged v old now (λ o one. one) run memory without);
   idle = λ without nothing. unwritten IsOne IsOne output judged v old now (λ o one. one) run memory without;
   bad = λ some. no_fault_to_recover effect (files_of v) (OnOk judged (now ≡ old)) good some;
@@ -169,8 +169,8 @@ whole_behind laws A B effect output judged v u rest more now recovers good work 
       moments = λ ignored orderly hides.
           safe_behind laws A B (is_some output) ignored v u (v ∷ rest) (u ∷ more) now into (still ignored orderly) (recovered.calm ignored orderly) (run.moments ignored (still ignored orderly).orderly hides);
       orderly = λ ignored orderly hides. run.orderly ignored (still ignored orderly).orderly hides;
-      settled = λ ignored o orderly hides one none lasts.
-          run.settled ignored o (still ignored orderly).orderly hides (from o one) none
+      settled = λ ignored o orderly hides one lasts.
+          run.settled ignored o (still ignored orderly).orderly hides (from o one)
           (settles_behind laws effect ignored v u o (still ignored orderly) (recovered.settled ignored orderly) lasts);
       left = λ without ignored orderly.
           subst (λ (h : History). Since (IsStill ignored v) (v ∷ rest) h) (sym (unwritten A B output judged u (u ∷ more) now from run memory without)) (recovered.calm ignored orderly);
@@ -182,7 +182,7 @@ whole_behind laws A B effect output judged v u rest more now recovers good work 
       states = λ ignored o orderly one.
           since_both (IsStill ignored v) (IsReadApart output o.files (files_of u)) (IsReadOnItsWay effect output ignored o.files v) (v ∷ rest) (u ∷ more) now (λ w s. inl s.reads)
           (λ w apart. inr (subst (λ (f : Files). IsReadApart output o.files f w) work apart)) (recovered.calm ignored orderly) (run.reads o (from o one));
-      leaves = λ o one none. run.leaves o (from o one) none;
+      leaves = λ o one. run.leaves o (from o one);
     }
 
 -- the recovery failed
@@ -191,30 +191,37 @@ pub whole_failed : AreLaws → (IsOne : Outcome → Type 0) (effect : Effect) (o
 whole_failed laws IsOne effect output judged e v rest now recovers failed calm idle = record {
   moments = λ ignored orderly hides. inl (calm ignored orderly);
   orderly = λ ignored orderly hides. newest_orderly laws ignored v rest now orderly (calm ignored orderly);
-  settled = λ ignored o orderly hides one none lasts. err_ok (HasNow now (IsSettled ignored o.files)) judged e failed;
+  settled = λ ignored o orderly hides one lasts. err_ok (HasNow now (IsSettled ignored o.files)) judged e failed;
   left = λ without ignored orderly. calm ignored orderly;
   idle = λ without nothing. nothing_done effect v (now ≡ v ∷ rest) recovers idle nothing;
   bad = λ some. err_ok (now ≡ v ∷ rest) judged e failed;
   reads = λ o one nothing. none_since (IsReadApart output o.files (files_of v)) (v ∷ rest) now (nothing_done effect v (now ≡ v ∷ rest) recovers idle nothing);
   states = λ ignored o orderly one. since_weaker (IsStill ignored v) (IsReadOnItsWay effect output ignored o.files v) (v ∷ rest) now (λ w s. inl s.reads) (calm ignored orderly);
-  leaves = λ o one none. err_ok (HasNow now (λ w. files_of w ≡ o.files)) judged e failed;
+  leaves = λ o one. err_ok (HasNow now (λ w. files_of w ≡ o.files)) judged e failed;
 }
 
-ok_always : (P : Type 0) (judged : Judged) → P → OnOk judged P
-ok_always P (Ok verdict) p = p
-ok_always P (Err e) p = tt
+-- an outcome leaves the files, and no intent is found to be done
+abbrev pub LeavesAll : Effect → TreeState → Outcome → Type 0
+LeavesAll effect v o = Leaves (files_of v) o × (CanRecover effect v → ⊥)
 
--- nothing was written, and no outcome is carried out
-pub whole_idle : (IsOne : Outcome → Type 0) (effect : Effect) (output : Option (List ℕ)) (judged : Judged) (v : TreeState) (rest now : History) → now ≡ v ∷ rest → ((P : Type 0) (o : Outcome) → IsOne o → o.refusal ≡ None → OnOk judged P)
+settled_left : (effect : Effect) (ignored : Ignored) (v : TreeState) (o : Outcome) → LeavesAll effect v o → Settles effect ignored v o → IsSettled ignored (files_of v) v
+settled_left effect ignored v o (leaves, never) (inl settles) = settled_before ignored v o leaves.1 settles
+settled_left effect ignored v o (leaves, never) (inr can) = absurd (never can)
+
+-- nothing was written
+pub whole_idle : (IsOne : Outcome → Type 0) (effect : Effect) (output : Option (List ℕ)) (judged : Judged) (v : TreeState) (rest now : History) → now ≡ v ∷ rest → ((o : Outcome) → IsOne o → OnOk judged (LeavesAll effect v o))
     → IsWholeRun IsOne effect output judged v (v ∷ rest) now
-whole_idle IsOne effect output judged v rest now same never = record {
+whole_idle IsOne effect output judged v rest now same all = record {
   moments = λ ignored orderly hides. inl (none_since (IsStill ignored v) (v ∷ rest) now same);
   orderly = λ ignored orderly hides. subst (λ (h : History). HasNow h (IsOrderly (RestsOn ignored))) (sym same) orderly;
-  settled = λ ignored o orderly hides one none lasts. never (HasNow now (IsSettled ignored o.files)) o one none;
+  settled = λ ignored o orderly hides one lasts.
+      on_ok judged
+      (λ left. subst (λ (h : History). HasNow h (IsSettled ignored o.files)) (sym same) (subst (λ (f : Files). IsSettled ignored f v) (sym left.0.0) (settled_left effect ignored v o left lasts)))
+      (all o one);
   left = λ without ignored orderly. none_since (IsStill ignored v) (v ∷ rest) now same;
   idle = λ without nothing. same;
   bad = λ some. ok_always (now ≡ v ∷ rest) judged same;
   reads = λ o one nothing. none_since (IsReadApart output o.files (files_of v)) (v ∷ rest) now same;
   states = λ ignored o orderly one. none_since (IsReadOnItsWay effect output ignored o.files v) (v ∷ rest) now same;
-  leaves = λ o one none. never (HasNow now (λ w. files_of w ≡ o.files)) o one none;
+  leaves = λ o one. on_ok judged (λ left. subst (λ (h : History). HasNow h (λ w. files_of w ≡ o.files)) (sym same) (sym left.0.0)) (all o one);
 }

@@ -2,7 +2,7 @@
 use Rattle.std.proofs.Common.{◌≡◌, ◌⊎◌, inl, inr, ℕ, Bool, true, false, List, [], ◌∷◌, Option, Some, None, IsSome, Ok, Err, refl, sym, ap, subst, ◌∙◌}
 use Rattle.std.specs.Prelude.{IfOk, OnOk}
 use Rattle.std.proofs.lemmas.Bool.{false≢true}
-use Rattle.adb_schema.specs.Soundness.{first_fault}
+use Rattle.adb_schema.specs.Soundness.{first_fault, payload_in, root_value}
 use Rattle.adb_tables.specs.declared.tables.Which.TheVariants.{Intent as IntentTable}
 use Rattle.base_core.specs.Calls.{HasNow, IfObservable}
 use Rattle.base_core.specs.Crash.{IsOrderly}
@@ -12,7 +12,7 @@ use Rattle.base_core.specs.declared.cause.Cause.{Cause}
 use Rattle.command_core.specs.Command.{CommandLine}
 use Rattle.command_core.specs.declared.command.Applet.{Applet}
 use Rattle.command_core.specs.declared.command.Applet.TheVariants.{Mkndx, Mkpkg}
-use Rattle.journal_core.specs.Recovery.{IsSettled, RestsOn, intent_name, intent_of}
+use Rattle.journal_core.specs.Recovery.{IsSettled, RestsOn, intent_at, intent_name, intent_of, intent_unless, read_intent}
 use Rattle.journal_core.specs.Staged.{HasRoomToReplay, IsEmptyStage, IsIntentFault, unstaged_files}
 use Rattle.journal_core.specs.declared.recovering.RecoverFault.{RecoverFault}
 use Rattle.journal_core.specs.declared.recovering.RecoverFault.TheVariants.{IntentBad as BadIntent}
@@ -26,8 +26,8 @@ use Rattle.apk_front.specs.Runs.{IsRun, IsWholeRun}
 use Rattle.apk_front.specs.Verdicts.{ReportsOne, as_outcome}
 use Rattle.apk_front.specs.declared.answer.Verdict.{Verdict}
 use Rattle.apk_front.proofs.Carried.{Ones, RoomFor, Wholes, only_reads_unless}
-use Rattle.apk_front.proofs.AfterRecovery.{AreLaws, IsCalm, StaysWithout, whole_behind, whole_failed, whole_idle}
-use Rattle.apk_front.proofs.Runs.{History, Judged}
+use Rattle.apk_front.proofs.AfterRecovery.{AreLaws, IsCalm, LeavesAll, StaysWithout, whole_behind, whole_failed, whole_idle}
+use Rattle.apk_front.proofs.Runs.{History, Judged, Leaves, none_is_some}
 
 -- ---- a command that recovers
 
@@ -149,18 +149,22 @@ refused_read command fault (Ok verdict) recovering found (cause, is, same) =
     let (file, bad) = found cause is in
     (just_refusal no_names (IntentBad cause), inr (recovering, (file, cause, bad, refl)), same no_names)
 
-only_refused : (command : CommandLine) (files : Files) (cause : Cause) (o : Outcome) → does_recover (effect_of command.applet) ≡ true → IsIntentFault files cause → IsOutcomeOf (Ok command) files o → o.refusal ≡ None → ⊥
-only_refused command files cause o recovering bad one none =
-    let is : o ≡ just_refusal files (IntentBad cause) = subst (λ (fault : Option Cause). IsOutcomeUnless fault command files o) (bad_is (effect_of command.applet) files cause recovering bad) one in
-    let e : Some (IntentBad cause) ≡ None = ap (λ (x : Outcome). x.refusal) (sym is) ∙ none in
-    cc
+-- a bad intent is not read
+bad_unread : (files : Files) (cause : Cause) → IsIntentFault files cause → intent_of files ≡ None
+unfolding read_intent
+bad_unread files cause (file, at, is) = ap intent_at at ∙ ap (λ (fault : Option Cause). intent_unless fault (root_value IntentTable (payload_in file))) is
+
+bad_leaves : (command : CommandLine) (v : TreeState) (cause : Cause) (o : Outcome) → does_recover (effect_of command.applet) ≡ true → IsIntentFault (files_of v) cause → Wholes command v o → LeavesAll (effect_of command.applet) v o
+bad_leaves command v cause o recovering bad one =
+    let is : o ≡ just_refusal (files_of v) (IntentBad cause) = subst (λ (fault : Option Cause). IsOutcomeUnless fault command (files_of v) o) (bad_is (effect_of command.applet) (files_of v) cause recovering bad) one in
+    (subst (Leaves (files_of v)) (sym is) (refl, refl), λ can. none_is_some (intent_of (files_of v)) (bad_unread (files_of v) cause bad) can.1)
 
 pub refused_run : AreLaws → (command : CommandLine) (fault : RecoverFault) (output : Option (List ℕ)) (judged : Judged) (old mid : History) → does_recover (effect_of command.applet) ≡ true
     → IfObservable old (λ v. IsCalm v old mid) → IfObservable old (Idle old mid) → SaysBad fault old mid → IfOk judged (IsRefused fault)
     → IfObservable old (λ v. IsWholeRun (Wholes command v) (effect_of command.applet) output judged v old mid)
 refused_run laws command fault output judged [] mid recovering calm idle bad refused = tt
 refused_run laws command fault output (Ok verdict) (v ∷ rest) mid recovering calm idle bad (cause, is, same) =
-    whole_idle (Wholes command v) (effect_of command.applet) output (Ok verdict) v rest mid (bad cause is).0 (λ P o one none. absurd (only_refused command (files_of v) cause o recovering (bad cause is).1 one none))
+    whole_idle (Wholes command v) (effect_of command.applet) output (Ok verdict) v rest mid (bad cause is).0 (λ o one. bad_leaves command v cause o recovering (bad cause is).1 one)
 refused_run laws command fault output (Err e) (v ∷ rest) mid recovering calm idle bad refused =
     whole_failed laws (Wholes command v) (effect_of command.applet) output (Err e) e v rest mid recovering refl calm idle
 

@@ -21,7 +21,7 @@ use Rattle.make_info.specs.Reads.{Reads}
 use Rattle.outcome.specs.Dump.{adbdump, dump_outcome, text_outcome, dump_of}
 use Rattle.outcome.specs.Make.{mkndx, mkpkg}
 use Rattle.outcome.specs.Commands.{IsFoundOutcomeOf, IsFoundOver, MayBeListedFor, IsListingFor, IsOutcome, IsOutcomeOf, IsOutcomeOver, reads_in, applet_outcome, command_outcome}
-use Rattle.outcome.specs.Effect.{Effect, does_only_read, effect_by, effect_of, output, output_by, output_if, reads_only}
+use Rattle.outcome.specs.Effect.{Effect, does_only_read, does_recover, effect_by, effect_of, output, output_by, output_if, reads_only}
 use Rattle.outcome.specs.Work.{recovery_fault}
 use Rattle.outcome.specs.Outcome.{Outcome, just_refusal, just_report, outcome_of, report_unless}
 use Rattle.outcome.specs.Verify.{verify_refusal, sound_lines}
@@ -38,7 +38,7 @@ use Rattle.command_core.specs.declared.command.Applet.{Applet}
 use Rattle.command_core.specs.declared.command.Applet.TheVariants.{Adbdump, Mkndx, Mkpkg, Verify, Version}
 use Rattle.command_core.specs.declared.operands.Operand.{Operand}
 use Rattle.apk_front.specs.Answers.{answer_by}
-use Rattle.apk_front.specs.Moments.{AnswersOutcome, AreSafe, CommitsNothing, HasNothingToRecover, HasRoomFor, HidesScratchOf, IsReadApart, IsReadOnItsWay, IsLeftUndone, LeavesLasting, LeavesRoom, LeavesRoomFor, Settles}
+use Rattle.apk_front.specs.Moments.{AnswersOutcome, AreSafe, CommitsNothing, HasNothingToRecover, HasRoomFor, HidesScratchOf, IsReadApart, IsReadOnItsWay, IsLeftUndone, LeavesLasting, LeavesRoom, LeavesRoomFor, LeavesSettled, Settles}
 use Rattle.apk_front.specs.Runs.{IsRun, IsWholeRun, IsWithoutCommit}
 use Rattle.apk_front.specs.Containers.{IsIndexOutcome, IsPackageOutcome}
 use Rattle.apk_front.specs.Verdicts.{IsPrinted, IsShown, Reports, ReportsOne, as_outcome}
@@ -46,14 +46,10 @@ use Rattle.apk_front.specs.declared.answer.Answer.{Answer}
 use Rattle.apk_front.specs.declared.answer.Answer.TheVariants.{Ok as Done, Refused, TreeFault as TreeFailed, OutFault, Memory}
 use Rattle.apk_front.specs.declared.answer.Verdict.{Verdict}
 use Rattle.apk_front.proofs.Judged.{Runs, fault_without, found_at, no_listing, no_listing_by_some, of_over, over_of, reads_without, work_without}
-use Rattle.apk_front.proofs.AfterRecovery.{whole_alone, whole_idle}
-use Rattle.apk_front.proofs.Runs.{History, Judged, run_among, run_idle}
+use Rattle.apk_front.proofs.AfterRecovery.{LeavesAll, whole_alone, whole_idle}
+use Rattle.apk_front.proofs.Runs.{History, Judged, Leaves, ok_always, run_among, run_idle}
 
 -- ---- an applet that only reads
-
--- the files are as they were, and nothing is committed
-abbrev Leaves : Files → Outcome → Type 0
-Leaves files o = (o.files ≡ files) × (o.commits ≡ false)
 
 unless_leaves : (files : Files) (refusal : Option Refusal) (report : List ℕ) → Leaves files (report_unless files refusal report)
 unless_leaves files None report = (refl, refl)
@@ -101,10 +97,6 @@ pub look_read : (command : CommandLine) (judged : Judged) → does_only_read (ef
 look_read command (Err e) reads found = tt
 look_read command (Ok verdict) reads (read, is) = (as_outcome no_names verdict, inl ([], no_listing_by_some command.applet command reads, read, is), refl)
 
-always : (P : Type 0) (judged : Judged) → P → OnOk judged P
-always P (Ok verdict) p = p
-always P (Err e) p = tt
-
 pub look_run : (command : CommandLine) (old now : History) (judged : Judged) → does_only_read (effect_of command.applet) ≡ true → now ≡ old
     → IfObservable old (λ v. IsWholeRun (Wholes command v) (effect_of command.applet) (output_if (effect_of command.applet) command) judged v old now)
 look_run command [] now judged reads same = tt
@@ -114,7 +106,7 @@ look_run command (v ∷ rest) now judged reads same =
     whole_alone (Wholes command v) (effect_of command.applet) out judged v (v ∷ rest) now none (fault_without (effect_of command.applet) (files_of v) none) (work_without (effect_of command.applet) (files_of v) none)
     (run_among (Ones command v) (Wholes command v) out judged v (v ∷ rest) now (λ o one. of_over command (files_of v) o none one) (λ o one. over_of command (files_of v) o none one)
     (run_idle (Ones command v) out judged v rest now same
-    (λ o one no. always (Leaves (files_of v) o) judged (subst (Leaves (files_of v)) (sym one.2) (look_leaves command.applet command one.0 (files_of v) reads)))))
+    (λ o one. ok_always (Leaves (files_of v) o) judged (subst (Leaves (files_of v)) (sym one.2) (look_leaves command.applet command one.0 (files_of v) reads)))))
     (λ memory. same)
 
 -- ---- an applet that makes
@@ -214,17 +206,21 @@ proper_by_command words command old P is proper = subst (λ (r : Result CommandL
 pub same_by_command : (words : List (List ℕ)) (command : CommandLine) (P : Type 0) → command_of words ≡ Ok command → (IsTrue (does_only_read (effect_of command.applet)) → P) → IsTrue (reads_only (command_of words)) → P
 same_by_command words command P is same = subst (λ (r : Result CommandLine ℕ). IsTrue (reads_only r) → P) (sym is) same
 
+usage_recovers_not : (read : Result CommandLine ℕ) (q : ℕ) → read ≡ Err q → does_recover (effect_by read) ≡ true → ⊥
+usage_recovers_not (Err place) q is recovers = cc
+usage_recovers_not (Ok command) q is recovers = cc
+
 pub usage_run : (words : List (List ℕ)) (q : ℕ) (fault : WordsFault) (judged : Judged) (old : History) → fault ≡ WrongWord q → IsWordsFault fault (command_of words) → Runs words judged old old
 usage_run words q fault judged [] is of = tt
 usage_run words q fault judged (v ∷ rest) is of =
     let read : command_of words ≡ Err q = subst (λ (f : WordsFault). IsWordsFault f (command_of words)) is of in
     whole_idle (IsOutcome words (files_of v)) (effect_by (command_of words)) (output words) judged v rest (v ∷ rest) refl
-    (λ P o one none. let is_refused : o ≡ just_refusal (files_of v) (Usage q) = subst (λ (r : Result CommandLine ℕ). IsOutcomeOf r (files_of v) o) read one in
-    absurd (let e : Some (Usage q) ≡ None = ap (λ (x : Outcome). x.refusal) (sym is_refused) ∙ none in cc))
+    (λ o one. let is_refused : o ≡ just_refusal (files_of v) (Usage q) = subst (λ (r : Result CommandLine ℕ). IsOutcomeOf r (files_of v) o) read one in
+    ok_always (LeavesAll (effect_by (command_of words)) v o) judged (subst (Leaves (files_of v)) (sym is_refused) (refl, refl), λ can. usage_recovers_not (command_of words) q read can.0))
 
 pub failed_run : (words : List (List ℕ)) (e : TreeFault) (old : History) → Runs words (Err e) old old
 failed_run words e [] = tt
-failed_run words e (v ∷ rest) = whole_idle (IsOutcome words (files_of v)) (effect_by (command_of words)) (output words) (Err e) v rest (v ∷ rest) refl (λ P o one none. tt)
+failed_run words e (v ∷ rest) = whole_idle (IsOutcome words (files_of v)) (effect_by (command_of words)) (output words) (Err e) v rest (v ∷ rest) refl (λ o one. tt)
 
 -- ---- the answer
 
@@ -254,18 +250,22 @@ no_refusal : (refusal : Option Refusal) → Done ≡ answer_by refusal → refus
 no_refusal None same = refl
 no_refusal (Some r) same = cc
 
+the_refusal : (refusal : Option Refusal) (r : Refusal) → Refused r ≡ answer_by refusal → refusal ≡ Some r
+the_refusal None r same = cc
+the_refusal (Some x) r same = cc
+
 lasting_shown : (IsOne : Outcome → Type 0) (effect : Effect) (ignored : List ℕ → Bool) (v : TreeState) (now : History) (verdict : Verdict) (o : Outcome) (answer : Answer) (out err : SinkChange) → IsOne o → Reports verdict o
-    → (o.refusal ≡ None → Settles effect ignored v o → HasNow now (IsSettled ignored o.files)) → IsPrinted (as_outcome o.files verdict) answer out err → LeavesLasting IsOne effect ignored v now answer
+    → LeavesSettled effect ignored v now o → IsPrinted (as_outcome o.files verdict) answer out err → LeavesLasting IsOne effect ignored v now answer
 lasting_shown IsOne effect ignored v now verdict o Done out err one reports lasts printed =
-    let none : o.refusal ≡ None = sym (ap (λ (x : Outcome). x.refusal) reports) ∙ no_refusal verdict.refusal printed.same in
-    (o, one, none, lasts none)
+    (o, one, sym (ap (λ (x : Outcome). x.refusal) reports) ∙ no_refusal verdict.refusal printed.same, lasts)
+lasting_shown IsOne effect ignored v now verdict o (Refused r) out err one reports lasts printed =
+    (o, one, sym (ap (λ (x : Outcome). x.refusal) reports) ∙ the_refusal verdict.refusal r printed.same, lasts)
 lasting_shown IsOne effect ignored v now verdict o OutFault out err one reports lasts printed = (o, one, lasts)
-lasting_shown IsOne effect ignored v now verdict o (Refused r) out err one reports lasts printed = tt
 lasting_shown IsOne effect ignored v now verdict o TreeFailed out err one reports lasts printed = tt
 lasting_shown IsOne effect ignored v now verdict o Memory out err one reports lasts printed = tt
 
 lasting_judged : (IsOne : Outcome → Type 0) (effect : Effect) (ignored : List ℕ → Bool) (v : TreeState) (now : History) (judged : Judged) (answer : Answer) (out err : SinkChange) → IfOk judged (ReportsOne IsOne) → IsShown judged answer out err
-    → ((o : Outcome) → IsOne o → o.refusal ≡ None → Settles effect ignored v o → OnOk judged (HasNow now (IsSettled ignored o.files))) → LeavesLasting IsOne effect ignored v now answer
+    → ((o : Outcome) → IsOne o → Settles effect ignored v o → OnOk judged (HasNow now (IsSettled ignored o.files))) → LeavesLasting IsOne effect ignored v now answer
 lasting_judged IsOne effect ignored v now (Ok verdict) answer out err (o, one, reports) is_shown settled = lasting_shown IsOne effect ignored v now verdict o answer out err one reports (settled o one) (is_shown o.files)
 lasting_judged IsOne effect ignored v now (Err Disk) answer out err found is_shown settled = subst (LeavesLasting IsOne effect ignored v now) (sym is_shown.0) tt
 lasting_judged IsOne effect ignored v now (Err NoMemory) answer out err found is_shown settled = subst (LeavesLasting IsOne effect ignored v now) (sym is_shown.0) tt
@@ -275,7 +275,7 @@ pub settled_by : (words : List (List ℕ)) (judged : Judged) (answer : Answer) (
 settled_by words judged answer out err [] now is_shown found run = tt
 settled_by words judged answer out err (v ∷ rest) now is_shown found run = λ ignored orderly hides.
     lasting_judged (IsOutcome words (files_of v)) (effect_by (command_of words)) ignored v now judged answer out err (found_at v rest judged (λ verdict w. ReportsOne (IsOutcome words (files_of w)) verdict) found) is_shown
-    (λ o one none lasts. run.settled ignored o orderly hides one none lasts)
+    (λ o one lasts. run.settled ignored o orderly hides one lasts)
 
 -- ---- nothing is committed
 

@@ -1,8 +1,9 @@
 -- A container that is made, and its outcome.
-use Rattle.std.proofs.Common.{◌≡◌, ℕ, Bool, true, false, List, [], ◌∷◌, Option, None, IsSome, Result, Ok, Err, Vec, length, refl, sym, ap, subst, ◌∙◌}
-use Rattle.std.specs.Prelude.{IfOk, IfErr, is_ok}
+use Rattle.std.proofs.Common.{◌≡◌, ℕ, Bool, true, false, List, [], ◌∷◌, Option, Some, None, IsSome, Result, Ok, Err, Vec, length, refl, sym, ap, subst, ◌∙◌}
+use Rattle.std.specs.Prelude.{if◌then◌else◌, IfOk, IfErr, is_ok}
 use Rattle.std.specs.declared.alloc.Global.{Global}
 use Rattle.std.proofs.lemmas.Bool.{false≢true}
+use Rattle.adb_rules.specs.Reserved.{is_reserved}
 use Rattle.base_core.specs.Calls.{IfObservable}
 use Rattle.base_core.specs.Files.{Files, no_names}
 use Rattle.base_core.specs.Listed.{IsNamesOf}
@@ -22,7 +23,7 @@ use Rattle.outcome.specs.Commands.{reads_in}
 use Rattle.outcome.specs.Make.{IsListing, files_below, index_line, make_outcome, mkndx, mkpkg, unless_reserved}
 use Rattle.outcome.specs.Outcome.{Outcome, just_refusal}
 use Rattle.report_core.specs.declared.refusal.Refusal.{Refusal}
-use Rattle.report_core.specs.declared.refusal.Refusal.TheVariants.{ResultTooLarge}
+use Rattle.report_core.specs.declared.refusal.Refusal.TheVariants.{Reserved, ResultTooLarge}
 use Rattle.command_core.specs.Command.{CommandLine}
 use Rattle.command_core.specs.Files.{without_dot}
 use Rattle.command_core.specs.declared.values.OptionValue.{OptionValue}
@@ -32,7 +33,7 @@ use Rattle.apk_front.specs.Containers.{IsIndexMade, IsIndexFound, IsIndexOutcome
 use Rattle.apk_front.specs.Verdicts.{Reports, ReportsOne, as_outcome}
 use Rattle.apk_front.specs.declared.answer.Verdict.{Verdict}
 use Rattle.apk_front.proofs.Packages.{HaveListing, made_allowed, package_here}
-use Rattle.apk_front.proofs.Runs.{History, Judged, none_is_some, run_among, run_idle, failed_at, idle_at}
+use Rattle.apk_front.proofs.Runs.{History, Judged, Leaves, left_at, run_among, run_idle}
 use Rattle.make_info.specs.declared.fault.MakeFault.TheVariants as Faults
 
 abbrev pub Container : Type 0
@@ -131,16 +132,29 @@ pub refused_made : (output : Option (List ℕ)) (container : Container) (why : M
 refused_made output container why (Ok verdict) is found report = λ files. subst (λ (c : Container). Reports verdict (make_outcome files output report (made_in c))) (sym is) (found files report)
 refused_made output container why (Err e) is found report = tt
 
+unless_leaves : (output : Option (List ℕ)) (files : Files) (o : Outcome) → Leaves files o → Leaves files (unless_reserved files output o)
+unless_leaves None files o leaves = leaves
+unless_leaves (Some name) files o leaves =
+    elim (is_reserved name) as (λ b. Leaves files (if b then just_refusal files (Reserved name) else o)) [
+      | true ↦ (refl, refl)
+      | false ↦ leaves
+    ]
+
+-- where nothing was made the files are left
+fault_leaves : (output : Option (List ℕ)) (report : List ℕ) (files : Files) (why : MakeFault) → Leaves files (make_outcome files output report (Err why))
+fault_leaves output report files (Faults.FileMissing place) = (refl, refl)
+fault_leaves output report files (Faults.FileBad place cause) = (refl, refl)
+fault_leaves output report files (Faults.InfoBad place) = (refl, refl)
+fault_leaves output report files (Faults.TooLarge bytes values) = unless_leaves output files (just_refusal files (ResultTooLarge bytes values)) (refl, refl)
+fault_leaves output report files Faults.Disk = (refl, refl)
+fault_leaves output report files Faults.Memory = (refl, refl)
+
 -- what is made is refused
 pub refused_run : (output : Option (List ℕ)) (report : List ℕ) (container : Container) (why : MakeFault) (judged : Judged) (old now : History) → container ≡ Err why → now ≡ old
-    → IfOk judged (λ verdict. (files : Files) (report : List ℕ) → Reports verdict (make_outcome files output report (Err why))) → IfOk judged (λ verdict. IsSome verdict.refusal)
     → IfObservable old (λ v. IsRun (λ o. o ≡ make_outcome (files_of v) output report (made_in container)) output judged v old now)
-refused_run output report container why (Ok verdict) old now is same found refused =
-    idle_at (λ v o. o ≡ make_outcome (files_of v) output report (made_in container)) output (Ok verdict) old now same (λ v o one none.
-    let reports : Reports verdict (make_outcome (files_of v) output report (made_in container)) = subst (λ (c : Container). Reports verdict (make_outcome (files_of v) output report (made_in c))) (sym is) (found (files_of v) report) in
-    absurd (none_is_some verdict.refusal (ap (λ (x : Outcome). x.refusal) (reports ∙ sym one) ∙ none) refused))
-refused_run output report container why (Err e) old now is same found refused =
-    failed_at (λ v o. o ≡ make_outcome (files_of v) output report (made_in container)) output (Err e) e old now refl same
+refused_run output report container why judged old now is same =
+    left_at (λ v o. o ≡ make_outcome (files_of v) output report (made_in container)) output judged old now same
+    (λ v o one. subst (Leaves (files_of v)) (sym (one ∙ ap (λ (c : Container). make_outcome (files_of v) output report (made_in c)) is)) (fault_leaves output report (files_of v) why))
 
 -- what is made is written
 pub written_made : (output : Option (List ℕ)) (report : List ℕ) (container : Container) (file : Vec ℕ Global) (bytes : List ℕ) (judged : Judged) (old now : History) → container ≡ Ok file → bytes ≡ file.items
@@ -172,7 +186,7 @@ module _ (Means : TreeState → Result (List ℕ) MakeFault → Type 0) (IsOne :
       run_among (λ o. o ≡ make_outcome (files_of v) output report (made_in container)) (IsOne v) output judged v (v ∷ rest) now
       (λ o same. subst (IsOne v) (sym same) (are.one v (made_in container) (meant container (Means v) is found))) (are.only v (made_in container) (meant container (Means v) is found)) run
   runs_by (Ok verdict) v rest now true is found whole cut run = absurd (false≢true (sym whole ∙ is))
-  runs_by (Err e) v rest now true is found whole cut run = run_idle (IsOne v) output (Err e) v rest now (cut is) (λ o one none. tt)
+  runs_by (Err e) v rest now true is found whole cut run = run_idle (IsOne v) output (Err e) v rest now (cut is) (λ o one. tt)
 
   pub runs : (judged : Judged) (old mid now : History) → mid ≡ old → IfObservable old (λ v. OnMade container (Means v)) → IfOk judged (λ verdict. is_cut_off container ≡ false) → (is_cut_off container ≡ true → now ≡ mid)
       → IfObservable mid (λ v. IsRun (λ o. o ≡ make_outcome (files_of v) output report (made_in container)) output judged v mid now) → IfObservable old (λ v. IsRun (IsOne v) output judged v old now)

@@ -72,8 +72,7 @@ pub lasting_for_each : IsUnique → MakerCommits → (words : List (List ℕ)) (
 lasting_for_each unique law words ignored v outcome now Ok (o, its, its_none, last) carried one none before =
     lasts_for law (effect_by (command_of words)) words ignored v o outcome now (unique words (files_of v) o outcome its one) one none before last
 lasting_for_each unique law words ignored v outcome now OutFault (o, its, last) carried one none before =
-    let same = unique words (files_of v) o outcome its one in
-    lasts_for law (effect_by (command_of words)) words ignored v o outcome now same one none before (last (ap (λ (x : Outcome). x.refusal) same ∙ none))
+    lasts_for law (effect_by (command_of words)) words ignored v o outcome now (unique words (files_of v) o outcome its one) one none before last
 lasting_for_each unique law words ignored v outcome now (Refused r) lasting carried one none before = absurd carried
 lasting_for_each unique law words ignored v outcome now TreeFault lasting carried one none before = absurd carried
 lasting_for_each unique law words ignored v outcome now Memory lasting carried one none before = absurd carried

@@ -1,6 +1,6 @@
 -- What was judged and shown is the answer.
 use Rattle.std.proofs.Common.{◌≡◌, ◌⊎◌, inl, inr, ℕ, List, [], ◌∷◌, Option, None, true, false, Result, Ok, Err, OnOk, IfOk, IsErrOf, IsTrue, MatchResult, refl, sym, ap, subst, ◌∙◌}
-use Rattle.base_core.specs.Calls.{IfObservable, HasNow}
+use Rattle.base_core.specs.Calls.{IfObservable}
 use Rattle.base_core.specs.Faults.{Counts, HasCause, IsNoFault}
 use Rattle.base_core.specs.Files.{Files, no_names}
 use Rattle.base_core.specs.Sink.{SinkChange, SinkFailed, Gets, GetsSome}
@@ -161,10 +161,6 @@ pub found_at : (v : TreeState) (rest : List TreeState) (judged : Judged) (P : Ve
 found_at v rest (Ok verdict) P found = found
 found_at v rest (Err e) P found = found
 
-leaves_if : (judged : Judged) (P Q : Type 0) → (P → OnOk judged Q) → OnOk judged (P → Q)
-leaves_if (Ok verdict) P Q f = f
-leaves_if (Err e) P Q f = tt
-
 -- the runs of a command line
 abbrev pub Runs : List (List ℕ) → Judged → List TreeState → List TreeState → Type 0
 Runs words judged old now = IfObservable old (λ v. IsWholeRun (IsOutcome words (files_of v)) (effect_by (command_of words)) (output words) judged v old now)
@@ -175,7 +171,7 @@ pub answered : (words : List (List ℕ)) (old now : List TreeState) (tree_failed
 answered words [] now tree_failed judged answer out err found run disk is_shown = tt
 answered words (v ∷ rest) now tree_failed judged answer out err found run disk is_shown =
     judged_answer (IsOutcome words (files_of v)) (LeavesFiles now) tree_failed judged answer out err (found_at v rest judged (λ verdict w. ReportsOne (IsOutcome words (files_of w)) verdict) found)
-    (λ o is. leaves_if judged (o.refusal ≡ None) (HasNow now (λ w. files_of w ≡ o.files)) (run.leaves o is)) disk is_shown
+    (λ o is. run.leaves o is) disk is_shown
 
 -- ---- no count rose
 

@@ -30,21 +30,29 @@ Judged = Result Verdict TreeFault
 pub none_is_some : {X : Type 0} (o : Option X) → o ≡ None → IsSome o → ⊥
 none_is_some o none some = absurd (false≢true (subst (λ p. IsSome p) none some))
 
-on_ok : {P Q : Type 0} (judged : Judged) → (P → Q) → OnOk judged P → OnOk judged Q
+pub on_ok : {P Q : Type 0} (judged : Judged) → (P → Q) → OnOk judged P → OnOk judged Q
 on_ok (Ok verdict) f p = f p
 on_ok (Err fault) f p = tt
+
+pub ok_always : (P : Type 0) (judged : Judged) → P → OnOk judged P
+ok_always P (Ok verdict) p = p
+ok_always P (Err e) p = tt
 
 pub err_ok : (P : Type 0) (judged : Judged) (e : TreeFault) → judged ≡ Err e → OnOk judged P
 err_ok P judged e is = subst (λ (j : Judged). OnOk j P) (sym is) tt
 
 -- ---- nothing was written
 
--- an outcome that is no refusal leaves the files, where it was judged, and commits nothing
+-- the files are as they were, and nothing is committed
+abbrev pub Leaves : Files → Outcome → Type 0
+Leaves files o = (o.files ≡ files) × (o.commits ≡ false)
+
+-- so an outcome leaves the files, where it was judged
 abbrev pub IsIdle : (Outcome → Type 0) → Judged → TreeState → Type 0
-IsIdle IsOne judged v = (o : Outcome) → IsOne o → o.refusal ≡ None → OnOk judged ((o.files ≡ files_of v) × (o.commits ≡ false))
+IsIdle IsOne judged v = (o : Outcome) → IsOne o → OnOk judged (Leaves (files_of v) o)
 
 -- what commits nothing is settled where it was so before
-settled_before : (ignored : List ℕ → Bool) (v : TreeState) (o : Outcome) → o.commits ≡ false → SettlesUnrecovered ignored v o → IsSettled ignored (files_of v) v
+pub settled_before : (ignored : List ℕ → Bool) (v : TreeState) (o : Outcome) → o.commits ≡ false → SettlesUnrecovered ignored v o → IsSettled ignored (files_of v) v
 settled_before ignored v o none (inl commits) = absurd (false≢true (sym none ∙ commits))
 settled_before ignored v o none (inr before) = before
 
@@ -52,10 +60,10 @@ pub run_idle : (IsOne : Outcome → Type 0) (output : Option (List ℕ)) (judged
 run_idle IsOne output judged v rest now same idle = record {
   moments = λ ignored orderly hides. inl (record { added = []; is = same; each = All-nil (IsStill ignored v) });
   orderly = λ ignored orderly hides. subst (λ (h : History). HasNow h (IsOrderly (RestsOn ignored))) (sym same) orderly;
-  settled = λ ignored o orderly hides one none lasts.
-      on_ok judged (λ is. subst (λ (h : History). HasNow h (IsSettled ignored o.files)) (sym same) (subst (λ (f : Files). IsSettled ignored f v) (sym is.0) (settled_before ignored v o is.1 lasts))) (idle o one none);
+  settled = λ ignored o orderly hides one lasts.
+      on_ok judged (λ is. subst (λ (h : History). HasNow h (IsSettled ignored o.files)) (sym same) (subst (λ (f : Files). IsSettled ignored f v) (sym is.0) (settled_before ignored v o is.1 lasts))) (idle o one);
   reads = λ o one. record { added = []; is = same; each = All-nil (IsReadApart output o.files (files_of v)) };
-  leaves = λ o one none. on_ok judged (λ is. subst (λ (h : History). HasNow h (λ w. files_of w ≡ o.files)) (sym same) (sym is.0)) (idle o one none);
+  leaves = λ o one. on_ok judged (λ is. subst (λ (h : History). HasNow h (λ w. files_of w ≡ o.files)) (sym same) (sym is.0)) (idle o one);
   idle = λ o one no. same;
 }
 
@@ -65,11 +73,11 @@ idle_at IsOne output judged (v ∷ rest) now same idle = run_idle (IsOne v) outp
 
 -- it failed
 pub failed_at : (IsOne : TreeState → Outcome → Type 0) (output : Option (List ℕ)) (judged : Judged) (e : TreeFault) (old now : History) → judged ≡ Err e → now ≡ old → IfObservable old (λ v. IsRun (IsOne v) output judged v old now)
-failed_at IsOne output judged e old now is same = idle_at IsOne output judged old now same (λ v o one none. err_ok _ judged e is)
+failed_at IsOne output judged e old now is same = idle_at IsOne output judged old now same (λ v o one. err_ok _ judged e is)
 
--- it was refused
-pub refused_at : (IsOne : TreeState → Outcome → Type 0) (output : Option (List ℕ)) (judged : Judged) (old now : History) → now ≡ old → ((v : TreeState) (o : Outcome) → IsOne v o → IsSome o.refusal) → IfObservable old (λ v. IsRun (IsOne v) output judged v old now)
-refused_at IsOne output judged old now same all = idle_at IsOne output judged old now same (λ v o one none. absurd (none_is_some o.refusal none (all v o one)))
+-- each outcome leaves the files
+pub left_at : (IsOne : TreeState → Outcome → Type 0) (output : Option (List ℕ)) (judged : Judged) (old now : History) → now ≡ old → ((v : TreeState) (o : Outcome) → IsOne v o → Leaves (files_of v) o) → IfObservable old (λ v. IsRun (IsOne v) output judged v old now)
+left_at IsOne output judged old now same all = idle_at IsOne output judged old now same (λ v o one. ok_always (Leaves (files_of v) o) judged (all v o one))
 
 -- ---- a file was written
 
@@ -90,8 +98,8 @@ free_is output report file name files is free =
 pub reserved_run : (output : Option (List ℕ)) (report file name : List ℕ) (judged : Judged) (old now : History) → output ≡ Some name → is_reserved name ≡ true → now ≡ old
     → IfObservable old (λ v. IsRun (IsMade output report file v) output judged v old now)
 reserved_run output report file name judged old now is reserved same =
-    refused_at (IsMade output report file) output judged old now same
-    (λ v o one. subst (λ (x : Outcome). IsSome x.refusal) (sym (one ∙ reserved_is output report file name (files_of v) is reserved)) refl)
+    left_at (IsMade output report file) output judged old now same
+    (λ v o one. subst (Leaves (files_of v)) (sym (one ∙ reserved_is output report file name (files_of v) is reserved)) (refl, refl))
 
 pub reserved_reports : (output : Option (List ℕ)) (report file name : List ℕ) (verdict : Verdict) → output ≡ Some name → is_reserved name ≡ true → ((files : Files) → as_outcome files verdict ≡ just_refusal files (Reserved name))
     → (files : Files) → Reports verdict (make_outcome files output report (Ok file))
@@ -123,11 +131,11 @@ free_run output report file name judged v old now is free done =
       moments = λ ignored orderly hides. subst (λ (out : Option (List ℕ)). AreSafe (IsMade output report file v) (is_some out) ignored v old now) (sym is)
           (inr (commit_report (replaced_files name file (files_of v)) report, sym same, refl, done.moments ignored orderly (hidden ignored hides)));
       orderly = λ ignored orderly hides. done.orderly ignored orderly (hidden ignored hides);
-      settled = λ ignored o orderly hides one none lasts. subst (λ (f : Files). OnOk judged (HasNow now (IsSettled ignored f))) (left o one) (done.settled ignored orderly (hidden ignored hides));
+      settled = λ ignored o orderly hides one lasts. subst (λ (f : Files). OnOk judged (HasNow now (IsSettled ignored f))) (left o one) (done.settled ignored orderly (hidden ignored hides));
       reads = λ o one.
           subst (λ (out : Option (List ℕ)). Since (IsReadApart out o.files (files_of v)) old now) (sym is)
           (subst (λ (f : Files). Since (IsReadApart (Some name) f (files_of v)) old now) (left o one) done.reads);
-      leaves = λ o one none. subst (λ (f : Files). OnOk judged (HasNow now (λ w. files_of w ≡ f))) (left o one) done.leaves;
+      leaves = λ o one. subst (λ (f : Files). OnOk judged (HasNow now (λ w. files_of w ≡ f))) (left o one) done.leaves;
       idle = λ o one no. absurd (false≢true (sym no ∙ ap (λ (x : Outcome). x.commits) (one ∙ same)));
     }
 
@@ -194,8 +202,8 @@ pub run_among : (A B : Outcome → Type 0) (output : Option (List ℕ)) (judged 
 run_among A B output judged v old now into from run = record {
   moments = λ ignored orderly hides. safe_among A B (is_some output) ignored v old now into (run.moments ignored orderly hides);
   orderly = run.orderly;
-  settled = λ ignored o orderly hides one none lasts. run.settled ignored o orderly hides (from o one) none lasts;
+  settled = λ ignored o orderly hides one lasts. run.settled ignored o orderly hides (from o one) lasts;
   reads = λ o one. run.reads o (from o one);
-  leaves = λ o one none. run.leaves o (from o one) none;
+  leaves = λ o one. run.leaves o (from o one);
   idle = λ o one no. run.idle o (from o one) no;
 }

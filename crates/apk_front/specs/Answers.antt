@@ -84,9 +84,9 @@ abbrev pub IsAnswerTo :
 IsAnswerTo words files Leaves tree_failed answer out err =
     IsAnswerOf (IsOutcome words files) Leaves tree_failed answer out err
 
--- where the outcome is no refusal, the files as read are then its files
+-- the files as read are then the outcome's
 abbrev pub LeavesFiles : List TreeState → Outcome → Type 0
-LeavesFiles now outcome = outcome.refusal ≡ None → HasNow now (λ w. files_of w ≡ outcome.files)
+LeavesFiles now outcome = HasNow now (λ w. files_of w ≡ outcome.files)
 
 -- nothing is said of what it leaves
 abbrev pub LeavesAny : Outcome → Type 0

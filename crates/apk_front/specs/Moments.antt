@@ -122,18 +122,26 @@ abbrev pub CommitsNothing : (Outcome → Type 0) → Answer → Type 0
 CommitsNothing IsOne answer =
     IsLeftUndone answer ⊎ ((outcome : Outcome) × IsOne outcome × (outcome.commits ≡ false))
 
--- Once the command is carried out, though its report may not have been printed, each crash leaves
--- the outcome's files, where something makes them last.
+-- where something makes them last, each crash leaves the outcome's files
+abbrev pub LeavesSettled :
+    Effect → (List ℕ → Bool) → TreeState → List TreeState → Outcome → Type 0
+LeavesSettled effect ignored v now outcome =
+    Settles effect ignored v outcome → HasNow now (IsSettled ignored outcome.files)
+
+-- Once the outcome is answered, a refusal too, or a sink's fault in its place, its files last,
+-- where something makes them.
 abbrev pub LeavesLasting :
     (Outcome → Type 0) → Effect → (List ℕ → Bool) → TreeState → List TreeState → Answer → Type 0
 LeavesLasting IsOne effect ignored v now Ok =
     (outcome : Outcome)
     × IsOne outcome
     × (outcome.refusal ≡ None)
-    × (Settles effect ignored v outcome → HasNow now (IsSettled ignored outcome.files))
-LeavesLasting IsOne effect ignored v now OutFault =
+    × LeavesSettled effect ignored v now outcome
+LeavesLasting IsOne effect ignored v now (Refused refusal) =
     (outcome : Outcome)
     × IsOne outcome
-    × (outcome.refusal ≡ None → Settles effect ignored v outcome
-    → HasNow now (IsSettled ignored outcome.files))
+    × (outcome.refusal ≡ Some refusal)
+    × LeavesSettled effect ignored v now outcome
+LeavesLasting IsOne effect ignored v now OutFault =
+    (outcome : Outcome) × IsOne outcome × LeavesSettled effect ignored v now outcome
 LeavesLasting IsOne effect ignored v now other = Unit {0}

@@ -1,5 +1,5 @@
 -- What a run leaves of a tree.
-use Rattle.std.specs.Prelude.{◌≡◌, ◌⊎◌, ℕ, Bool, false, is_some, IsSome, IsErrOf, List, Option, None, Result, OnOk}
+use Rattle.std.specs.Prelude.{◌≡◌, ◌⊎◌, ℕ, Bool, false, is_some, IsSome, IsErrOf, List, Option, Result, OnOk}
 use Rattle.base_core.specs.Calls.{HasNow}
 use Rattle.base_core.specs.Crash.{IsOrderly, Since}
 use Rattle.base_core.specs.Tree.{TreeState, files_of}
@@ -26,18 +26,17 @@ pub record IsRun (IsOne : Outcome → Type 0) (output : Option (List ℕ))
   pub orderly : (ignored : List ℕ → Bool)
       → IsOrderly (RestsOn ignored) v → HidesScratchOf output ignored
       → HasNow now (IsOrderly (RestsOn ignored))
-  -- where it was judged to be no refusal, and something makes its files last, each crash leaves
-  -- their state
+  -- where an outcome was judged, and something makes its files last, each crash leaves their state
   pub settled : (ignored : List ℕ → Bool) (outcome : Outcome)
       → IsOrderly (RestsOn ignored) v → HidesScratchOf output ignored
-      → IsOne outcome → outcome.refusal ≡ None → SettlesUnrecovered ignored v outcome
+      → IsOne outcome → SettlesUnrecovered ignored v outcome
       → OnOk judged (HasNow now (IsSettled ignored outcome.files))
   -- at each moment the files as read are the old ones, apart from the scratch name, or the
   -- outcome's
   pub reads : (outcome : Outcome) → IsOne outcome
       → Since (IsReadApart output outcome.files (files_of v)) old now
-  -- and the outcome's once it was judged to be no refusal
-  pub leaves : (outcome : Outcome) → IsOne outcome → outcome.refusal ≡ None
+  -- and the outcome's once it was judged
+  pub leaves : (outcome : Outcome) → IsOne outcome
       → OnOk judged (HasNow now (λ w. files_of w ≡ outcome.files))
   -- a run that commits nothing writes nothing
   pub idle : (outcome : Outcome) → IsOne outcome → outcome.commits ≡ false → now ≡ old
@@ -58,7 +57,7 @@ pub record IsWholeRun (IsOne : Outcome → Type 0) (effect : Effect) (output : O
       → HasNow now (IsOrderly (RestsOn ignored))
   pub settled : (ignored : List ℕ → Bool) (outcome : Outcome)
       → IsOrderly (RestsOn ignored) v → HidesScratchOf output ignored
-      → IsOne outcome → outcome.refusal ≡ None → Settles effect ignored v outcome
+      → IsOne outcome → Settles effect ignored v outcome
       → OnOk judged (HasNow now (IsSettled ignored outcome.files))
   -- a run that commits nothing leaves the state, and writes nothing where there is nothing to
   -- recover
@@ -72,5 +71,5 @@ pub record IsWholeRun (IsOne : Outcome → Type 0) (effect : Effect) (output : O
   pub states : (ignored : List ℕ → Bool) (outcome : Outcome)
       → IsOrderly (RestsOn ignored) v → IsOne outcome
       → Since (IsReadOnItsWay effect output ignored outcome.files v) old now
-  pub leaves : (outcome : Outcome) → IsOne outcome → outcome.refusal ≡ None
+  pub leaves : (outcome : Outcome) → IsOne outcome
       → OnOk judged (HasNow now (λ w. files_of w ≡ outcome.files))

@@ -40,8 +40,9 @@ pub fn apk<T: Tree, O: Sink, E: Sink>(
 ) -> Answer
     // ---- what is answered, printed and left
 
-    // The answer, the bytes of the two sinks and the files left are the outcome's; or in its place
-    // stands a fault of the tree or of a sink, with its cause, or want of memory.
+    // The answer, the bytes of the two sinks and the files left are the outcome's, also where it
+    // is a refusal; or in its place stands a fault of the tree or of a sink, with its cause, or want
+    // of memory. Behind a sink's fault the files left are the outcome's all the same.
     ensures stated { IfObservable (T.history tree.old) (λ v.
         IsAnswerTo words.now (files_of v) (LeavesFiles (T.history tree.new))
         (HasCause (T.counts tree.old) (T.counts tree.new)) result
@@ -160,8 +161,9 @@ pub fn apk<T: Tree, O: Sink, E: Sink>(
         → IsOrderly (RestsOn ignored) v → HidesScratchOf (output words.now) ignored
         → HasNow (T.history tree.new) (IsOrderly (RestsOn ignored))) }
 
-    // Once the outcome is carried out, each crash leaves its files; where it commits nothing, if
-    // each crash left the old ones before, or an intent was found and done.
+    // Once the outcome is answered, a refusal too, or a sink's fault in its place, each crash
+    // leaves its files; where it commits nothing, if each crash left the old ones before, or an
+    // intent was found and done.
     ensures settled { IfObservable (T.history tree.old) (λ v. (ignored : List ℕ → Bool)
         → IsOrderly (RestsOn ignored) v → HidesScratchOf (output words.now) ignored
         → LeavesLasting (IsOutcome words.now (files_of v)) (effect_by (command_of words.now))

@@ -1,4 +1,5 @@
-use Rattle.apk_front.proofs.Carried.{proper_by_command, run_by_command, usage_reported}
+use Rattle.std.proofs.Common.{Ok}
+use Rattle.apk_front.proofs.Carried.{proper_by_command, run_by_command, usage_reported, usage_run}
 use Rattle.apk_front.proofs.Judged.{usage_found, usage_verdict}
 use Rattle.apk_front.proofs.Named.{command_named}
 use Rattle.apk_front.proofs.judge.judge.Goals as goal
@@ -11,6 +12,9 @@ returns-in-Ok-clause-proper g c = proper_by_command c.args.words.now _ _ _ c.in-
 
 pub returns-in-Err-Usage-clause-found : goal.returns-in-Err-Usage-clause-found
 returns-in-Err-Usage-clause-found g c = usage_reported c.args.words.now _ c.refused.result (λ v. usage_verdict c.args.words.now _ _ _ c.refused.result c.in-Err-Usage.place-is c.in-Err-Usage.field-0-is c.in-Err-Usage.ensures.usage c.refused.ensures _)
+
+pub returns-in-Err-Usage-clause-run : goal.returns-in-Err-Usage-clause-run
+returns-in-Err-Usage-clause-run g c = usage_run c.args.words.now _ _ (Ok c.refused.result) (g.T.Tree.history c.args.tree.now) c.in-Err-Usage.field-0-is c.in-Err-Usage.ensures.usage
 
 pub returns-in-Err-Usage-clause-by_reads : goal.returns-in-Err-Usage-clause-by_reads
 returns-in-Err-Usage-clause-by_reads g c = usage_found c.args.words.now _ _ _ c.refused.result c.in-Err-Usage.place-is c.in-Err-Usage.field-0-is c.in-Err-Usage.ensures.usage c.refused.ensures

@@ -7,7 +7,7 @@ pub returns-in-Err-clause-reported : goal.returns-in-Err-clause-reported
 returns-in-Err-clause-reported g c = refused_made (output_name c.args.command.now) c.args.container _ c.refuse.result c.in-Err.is c.refuse.ensures.reported c.args.report
 
 pub returns-in-Err-clause-run : goal.returns-in-Err-clause-run
-returns-in-Err-clause-run g c = refused_run (output_name c.args.command.now) c.args.report c.args.container _ c.refuse.result _ _ c.in-Err.is refl c.refuse.ensures.reported c.refuse.ensures.refused
+returns-in-Err-clause-run g c = refused_run (output_name c.args.command.now) c.args.report c.args.container _ c.refuse.result _ _ c.in-Err.is refl
 
 pub returns-in-Ok-clause-run : goal.returns-in-Ok-clause-run
 returns-in-Ok-clause-run g c = written_made (output_name c.args.command.now) c.args.report c.args.container c.in-Ok.file _ c.write.result _ _ c.in-Ok.is c.deref.ensures.value c.write.ensures.run
