@@ -1,11 +1,11 @@
 //! A file of a package whose contents are handed in piece by piece.
 
-ghost use Rattle.std.specs.Prelude.{◌≡◌, ◌≤◌, ℕ, List, ◌++◌, length, take};
+ghost use Rattle.std.specs.Prelude.{◌≡◌, ◌≤◌, ◌+◌, ◌-◌, ℕ, List, ◌++◌, length, take, None, IfOk, IfSome};
 ghost use Rattle.adb_schema.specs.Soundness.{file_pair};
 ghost use Rattle.pkg_core.specs.Contents.{Expected, contents_bytes};
 ghost use Rattle.pkg_core.specs.Opened.{expected_of, left_in};
 ghost use Rattle.piece_core.specs.Pieces.{PiecesRead, part_of, pieces_of_payload, position_or_size_fault};
-ghost use Rattle.piece_core.specs.Taking.{HasTaken, IsOpened, IsTaken, next_len};
+ghost use Rattle.piece_core.specs.Taking.{HasTaken, IsOpened, IsTaken, bytes_left, next_len};
 
 use crate::hasher::Hasher;
 use crate::part::{PIECE_LEN, Part};
@@ -44,9 +44,11 @@ impl<'a> FilePieces<'a> {
     #[tactic(auto, using(crate::proofs::Taken::more_left, crate::proofs::Taken::last_good, crate::proofs::Taken::last_bad))]
     pub fn take(self, bytes: &[u8]) -> Result<(Part, Option<FilePieces<'a>>), Cause>
         requires { length bytes.now ≡ next_len self }
-        ensures { (so_far left : List ℕ) (further : PiecesRead) → HasTaken self.entry so_far
+        ensures taken { (so_far left : List ℕ) (further : PiecesRead) → HasTaken self.entry so_far
             → length (so_far ++ (bytes.now ++ left)) ≡ self.entry.wanted.size
             → IsTaken self.entry so_far bytes.now left further result }
+        ensures left { IfOk result (λ taken. IfSome taken.1 (λ further.
+            bytes_left further ≡ bytes_left self.entry - length bytes.now)) }
     {
         let wanted = self.wanted;
         let left = wanted.size.saturating_sub(self.done);
@@ -93,10 +95,11 @@ pub fn open_file<'a>(
     positions: &[u8; 8],
 ) -> Result<FilePieces<'a>, Cause>
     requires { 8 ≤ len }
-    ensures { (payload : List ℕ) (further : List Expected → PiecesRead) → length payload ≡ len
+    ensures opened { (payload : List ℕ) (further : List Expected → PiecesRead) → length payload ≡ len
         → take 8 payload ≡ positions.now
         → IsOpened (pieces_of_payload payload further (left_in walk.old)) payload
         (further (left_in walk.new)) result }
+    ensures left { IfOk result (λ file. 8 + bytes_left file ≡ len) }
 {
     let found = file_pair(positions);
     let Some(wanted) = walk.next() else {
@@ -118,9 +121,10 @@ pub fn open_file<'a>(
 /// Why contents are not those of a file, by what is known before their bytes: first the positions
 /// are compared, then the size.
 fn position_or_size_fault(found: (u32, u32), size: u64, wanted: Wanted<'_>) -> Option<Cause>
-    ensures { (payload : List ℕ) → length (contents_bytes payload) ≡ size
+    ensures exact { (payload : List ℕ) → length (contents_bytes payload) ≡ size
         → file_pair payload ≡ found
         → result ≡ position_or_size_fault payload (expected_of wanted.entry) }
+    ensures size { result ≡ None → size ≡ wanted.entry.size }
 {
     let expected = (wanted.folder, wanted.file);
     if found != expected {

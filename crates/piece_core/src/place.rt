@@ -1,10 +1,11 @@
 //! Where a reader stands in the blocks of a package, and what the next block comes to.
 
-ghost use Rattle.std.specs.Prelude.{◌≡◌, ◌≤◌, ◌-◌, ℕ, List, None, Some, Ok, length, drop, IfSome};
+ghost use Rattle.std.specs.Prelude.{◌≡◌, ◌≤◌, ◌+◌, ◌-◌, ℕ, List, None, Some, Ok, length, drop, IfOk, IfSome, OnOk};
 ghost use Rattle.adb_block.specs.Framing.{ended};
 ghost use Rattle.adb_block.specs.Frames.{IsFramed, raw_size};
 ghost use Rattle.adb_block.specs.declared.block.BlockKind.TheVariants as Kinds;
-ghost use Rattle.piece_core.specs.Places.{HasPositions, IsStepped, place_behind, step_at};
+ghost use Rattle.piece_core.specs.Places.{HasAllLeft, HasPositions, IsStepped, place_behind, step_at, whole_size};
+ghost use Rattle.piece_core.specs.declared.place.Step.TheVariants.{End as Ended};
 
 use crate::file::{FilePieces, open_file};
 use adb_block::{BlockKind, Frame, padding_of};
@@ -49,10 +50,16 @@ impl<'a> BlockPlace<'a> {
     pub fn step(&mut self, framing: Option<Frame>, positions: &[u8; 8]) -> Result<Step<'a>, Cause>
         requires at { self.old.at ≤ self.old.len }
         requires fits { IfSome framing (λ frame. raw_size frame ≤ self.old.len - self.old.at) }
-        ensures { (file : List ℕ) → length file ≡ self.old.len
+        ensures step { (file : List ℕ) → length file ≡ self.old.len
             → IsFramed (Ok framing) (drop self.old.at file) (step_at self.old file)
             → HasPositions framing positions.now self.old file
             → IsStepped framing self.old file result self.new }
+        // A reader stands behind the block then, unless a test failed.
+        ensures len { self.new.len ≡ self.old.len }
+        ensures behind { IfSome framing (λ frame. OnOk result (self.new.at
+            ≡ self.old.at + whole_size frame (self.old.len - self.old.at))) }
+        ensures left { IfSome framing (λ frame. IfOk result (HasAllLeft frame)) }
+        ensures ended { framing ≡ None → IfOk result (λ step. step ≡ Ended) }
     {
         match framing {
             None => self.end(),
@@ -63,8 +70,10 @@ impl<'a> BlockPlace<'a> {
     /// Where no block is left, no file may be due.
     #[tactic(auto, using(crate::proofs::Placed::end_good, crate::proofs::Placed::end_bad))]
     fn end(&mut self) -> Result<Step<'a>, Cause>
-        ensures { (file : List ℕ) → step_at self.old file ≡ ended
+        ensures step { (file : List ℕ) → step_at self.old file ≡ ended
             → IsStepped None self.old file result self.new }
+        ensures len { self.new.len ≡ self.old.len }
+        ensures ended { IfOk result (λ step. step ≡ Ended) }
     {
         match self.walk.end() {
             Ok(()) => Ok(Step::End),
@@ -76,10 +85,14 @@ impl<'a> BlockPlace<'a> {
     fn step_over(&mut self, frame: Frame, positions: &[u8; 8]) -> Result<Step<'a>, Cause>
         requires at { self.old.at ≤ self.old.len }
         requires fits { raw_size frame ≤ self.old.len - self.old.at }
-        ensures { (file : List ℕ) → length file ≡ self.old.len
+        ensures step { (file : List ℕ) → length file ≡ self.old.len
             → IsFramed (Ok (Some frame)) (drop self.old.at file) (step_at self.old file)
             → HasPositions (Some frame) positions.now self.old file
             → IsStepped (Some frame) self.old file result self.new }
+        ensures len { self.new.len ≡ self.old.len }
+        ensures behind { OnOk result (self.new.at
+            ≡ self.old.at + whole_size frame (self.old.len - self.old.at)) }
+        ensures left { IfOk result (HasAllLeft frame) }
     {
         match frame.kind {
             BlockKind::Contents => self.open(frame, positions),
@@ -95,10 +108,14 @@ impl<'a> BlockPlace<'a> {
         requires at { self.old.at ≤ self.old.len }
         requires fits { raw_size frame ≤ self.old.len - self.old.at }
         requires kind { frame.kind ≡ Kinds.Contents }
-        ensures { (file : List ℕ) → length file ≡ self.old.len
+        ensures step { (file : List ℕ) → length file ≡ self.old.len
             → IsFramed (Ok (Some frame)) (drop self.old.at file) (step_at self.old file)
             → HasPositions (Some frame) positions.now self.old file
             → IsStepped (Some frame) self.old file result self.new }
+        ensures len { self.new.len ≡ self.old.len }
+        ensures behind { OnOk result (self.new.at
+            ≡ self.old.at + whole_size frame (self.old.len - self.old.at)) }
+        ensures left { IfOk result (HasAllLeft frame) }
     {
         if frame.payload_len < POSITIONS_LEN {
             return Err(Cause::Truncated { at: self.at });

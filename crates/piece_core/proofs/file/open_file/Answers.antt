@@ -4,14 +4,14 @@ use Rattle.pkg_core.specs.Opened.{expected_of, left_in}
 use Rattle.piece_core.proofs.Opened.{contents_len, opened_bad, opened_good, pair_alike, size_same}
 use Rattle.piece_core.proofs.file.open_file.Goals as goal
 
-pub returns-in-Some-position_or_size_fault : goal.returns-in-Some-position_or_size_fault
-returns-in-Some-position_or_size_fault c = λ payload further long begins.
-    let bad = c.in-Some-position_or_size_fault.ensures payload (contents_len payload c.args.len long) (pair_alike payload c.args.positions.now begins ∙ sym c.file_pair-found.ensures) in
+pub returns-in-Some-position_or_size_fault-clause-opened : goal.returns-in-Some-position_or_size_fault-clause-opened
+returns-in-Some-position_or_size_fault-clause-opened c = λ payload further long begins.
+    let bad = c.in-Some-position_or_size_fault.ensures.exact payload (contents_len payload c.args.len long) (pair_alike payload c.args.positions.now begins ∙ sym c.file_pair-found.ensures) in
     opened_bad (expected_of c.in-Some.wanted) _ (left_in c.next.new.self) payload further c.in-Some-position_or_size_fault.cause c.in-Some.ensures bad
 
-pub returns-in-None : goal.returns-in-None
-returns-in-None c = λ payload further long begins.
-    let good = c.in-None.ensures payload (contents_len payload c.args.len long) (pair_alike payload c.args.positions.now begins ∙ sym c.file_pair-found.ensures) in (
+pub returns-in-None-clause-opened : goal.returns-in-None-clause-opened
+returns-in-None-clause-opened c = λ payload further long begins.
+    let good = c.in-None.ensures.exact payload (contents_len payload c.args.len long) (pair_alike payload c.args.positions.now begins ∙ sym c.file_pair-found.ensures) in (
       opened_good (expected_of c.in-Some.wanted) _ (left_in c.next.new.self) payload further c.in-Some.ensures good,
       record { hashed = c.new.ensures; long = refl },
       size_same (expected_of c.in-Some.wanted) payload good,

@@ -8,8 +8,8 @@ use Rattle.piece_core.specs.declared.part.Part.{Part}
 use Rattle.piece_core.proofs.Taken.{more_left}
 use Rattle.piece_core.proofs.file.FilePieces.take.Goals as goal
 
-pub returns-then-len-left : goal.returns-then-len-left
-returns-then-len-left c = λ so_far left further taken long.
+pub returns-then-len-left-clause-taken : goal.returns-then-len-left-clause-taken
+returns-then-len-left-clause-taken c = λ so_far left further taken long.
     let wanted = c.args.self.wanted in
     let bytes : List ℕ = c.args.bytes.now in
     let count : length so_far ≡ c.args.self.done = taken.long in

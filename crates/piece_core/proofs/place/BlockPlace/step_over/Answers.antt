@@ -5,7 +5,7 @@ use Rattle.piece_core.specs.declared.place.BlockPlace.{BlockPlace}
 use Rattle.piece_core.proofs.Placed.{other_kind, passed}
 use Rattle.piece_core.proofs.place.BlockPlace.step_over.Goals as goal
 
-pub returns-in-Adb : goal.returns-in-Adb
-returns-in-Adb c = λ file long step positions.
+pub returns-in-Adb-clause-step : goal.returns-in-Adb-clause-step
+returns-in-Adb-clause-step c = λ file long step positions.
     passed c.args.self.now c.args.frame file long c.requires.fits step (other_kind c.args.frame.kind c.in-Adb.is)
     ∙ ap (λ (p : BlockPlace). pieces_at p file) (sym c.pass.ensures)

@@ -1,0 +1,88 @@
+-- What was seen of a block, and what it says of each file that has these bytes.
+use Rattle.std.proofs.Common.{◌≡◌, ℕ, ◌+◌, ◌-◌, ◌<◌, ◌≤◌, List, ◌++◌, length, take, drop, Option, Some, None, Result, Ok, Err, refl, ap, sym, subst, ◌∙◌, arith}
+use Rattle.std.specs.Prelude.{IfSome, IsErrAnd}
+use Rattle.std.proofs.lemmas.List.{append-nil, drop-drop, length-append, take-take}
+use Rattle.base_core.specs.Calls.{IfObservable}
+use Rattle.base_core.specs.Tree.{TreeState, files_of}
+use Rattle.base_core.specs.declared.cause.Cause.{Cause}
+use Rattle.adb_block.specs.Framing.{failed}
+use Rattle.adb_block.specs.Frames.{HoldsHead, head_len, raw_size}
+use Rattle.adb_block.specs.declared.block.Frame.{Frame}
+use Rattle.pkg_core.specs.Opened.{left_in}
+use Rattle.pkg_pieces.specs.Seen.{HasAt, IsSeen, IsSeenIn}
+use Rattle.pkg_pieces.proofs.SeenBytes.{has_rest, seen_by_read, seen_then}
+use Rattle.piece_core.specs.Pieces.{pieces_by_blocks, refusal}
+use Rattle.piece_core.specs.Places.{HasPositions, pieces_at, standing_at_place, step_at}
+use Rattle.piece_core.specs.declared.place.BlockPlace.{BlockPlace}
+use Rattle.piece_core.proofs.BlockRuns.{reading_failed}
+use Rattle.piece_reader.specs.Blocks.{IsBlockRead, IsInBlock, SeesPositions, head_size}
+use Rattle.piece_reader.specs.declared.block.BlockRead.{BlockRead}
+use Rattle.piece_reader.specs.declared.fault.PieceFault.{PieceFault}
+use Rattle.piece_reader.specs.declared.fault.PieceFault.TheVariants.{Bad, Disk}
+
+-- ---- the positions
+
+pub positions_seen : (h : List TreeState) (name : List ℕ) (at : ℕ) (framing : Option Frame) (frame : Frame) (bytes : List ℕ) → framing ≡ Some frame → 8 ≤ frame.payload_len → length bytes ≡ 8 → IfObservable h (λ v. IfSome (files_of v name) (λ file. bytes ≡ take 8 (drop (at + frame.head_len) file)))
+    → (seen : List ℕ) × SeesPositions framing bytes seen × ((file_len : ℕ) → IsSeen h name file_len (at + head_size framing) seen)
+positions_seen h name at framing frame bytes is room eight value =
+    subst (λ (f : Option Frame). (seen : List ℕ) × SeesPositions f bytes seen × ((file_len : ℕ) → IsSeen h name file_len (at + head_size f) seen)) (sym is)
+    (bytes, (omega (arith, room, eight), λ enough. refl), λ file_len. seen_by_read h name file_len (at + frame.head_len) 8 bytes value eight)
+
+pub fits_in : (framing : Option Frame) (at len : ℕ) → at ≤ len → IfSome framing (λ frame. (0 < len - at) × (raw_size frame ≤ len - at)) → IfSome framing (λ frame. at + raw_size frame ≤ len)
+fits_in None at len le h = tt
+fits_in (Some frame) at len le h = omega (arith, le, h.1)
+
+-- ---- the bytes
+
+-- a header that frames a block is there whole
+pub head_whole : (head : List ℕ) (frame : Frame) (left : ℕ) → HoldsHead head left → length head ≤ head_len head → frame.head_len ≡ head_len head → raw_size frame ≤ left → frame.head_len ≡ length head
+head_whole head frame left holds short same fits =
+    let whole = holds.whole (omega (arith, same, fits)) in
+    omega (arith, whole, short, same)
+
+pub head_in : (h : List TreeState) (name head : List ℕ) (len at : ℕ) → at ≤ len → HoldsHead head (len - at) → IsSeen h name len at head → IsSeenIn h name len at head
+head_in h name head len at le holds seen = record { seen = seen; within = omega (arith, le, holds.within) }
+
+pub block_seen : (h later : List TreeState) (name head positions seen : List ℕ) (len at : ℕ) (framing : Option Frame) → later ≡ h → at ≤ len → HoldsHead head (len - at) → length head ≤ head_len head → IfSome framing (λ frame. frame.head_len ≡ head_len head) → IfSome framing (λ frame. (0 < len - at) × (raw_size frame ≤ len - at)) → IsSeen h name len at head → SeesPositions framing positions seen → ((file_len : ℕ) → IsSeen later name file_len (at + head_size framing) seen)
+    → IsSeenIn h name len at (head ++ seen)
+block_seen h later name head positions seen len at None same le holds short is fits first sees further =
+    subst (λ (xs : List ℕ). IsSeenIn h name len at xs) (sym (ap (λ (ys : List ℕ). head ++ ys) sees ∙ append-nil head)) (head_in h name head len at le holds first)
+block_seen h later name head positions seen len at (Some frame) same le holds short is fits first sees further =
+    let whole = head_whole head frame (len - at) holds short is fits.1 in
+    let all = length-append head seen in
+    record {
+      seen = seen_then h name len at (at + frame.head_len) head seen (ap (λ (n : ℕ). at + n) whole) first (subst (λ (g : List TreeState). IsSeen g name len (at + frame.head_len) seen) same (further len));
+      within = omega (arith, whole, all, fits.1, sees.0, le);
+    }
+
+-- ---- a file
+
+pub positions_in : (place : BlockPlace) (file head positions seen : List ℕ) (left : ℕ) (framing : Option Frame) → HoldsHead head left → length head ≤ head_len head → IfSome framing (λ frame. frame.head_len ≡ head_len head) → IfSome framing (λ frame. (0 < left) × (raw_size frame ≤ left)) → length positions ≡ 8 → SeesPositions framing positions seen → HasAt file place.at (head ++ seen)
+    → HasPositions framing positions place file × IsInBlock framing (length (head ++ seen))
+positions_in place file head positions seen left None holds short is fits eight sees has = (tt, tt)
+positions_in place file head positions seen left (Some frame) holds short is fits eight sees has =
+    let whole = head_whole head frame left holds short is fits.1 in
+    let all = length-append head seen in
+    (by_room, omega (arith, whole, all, sees.0))
+  where
+    by_room : 8 ≤ frame.payload_len → take 8 (take frame.payload_len (drop frame.head_len (drop place.at file))) ≡ positions
+    by_room enough =
+        let whole : frame.head_len ≡ length head = head_whole head frame left holds short is fits.1 in
+        let there : HasAt file (place.at + length head) positions = subst (λ (xs : List ℕ). HasAt file (place.at + length head) xs) (sees.1 enough) (has_rest file place.at head seen has) in
+        take-take 8 frame.payload_len (drop frame.head_len (drop place.at file)) enough
+        ∙ (ap (take 8) (drop-drop frame.head_len place.at file ∙ ap (λ (n : ℕ). drop n file) (omega (arith, whole)))
+        ∙ (ap (λ (n : ℕ). take n (drop (place.at + length head) file)) (sym eight) ∙ there))
+
+-- ---- what is answered
+
+pub block_failed : (place : BlockPlace) (file : List ℕ) (c : Cause) → step_at place file ≡ failed c → pieces_at place file ≡ refusal c
+unfolding pieces_by_blocks
+block_failed place file c step = ap (pieces_by_blocks (left_in place.walk)) (reading_failed (standing_at_place place file) c step)
+
+pub read_bad : (place : BlockPlace) (file : List ℕ) (seen : ℕ) (c : Cause) (r : Result BlockRead PieceFault) → IsErrAnd r (λ fault. fault ≡ Bad c) → pieces_at place file ≡ refusal c → IsBlockRead place file seen r
+read_bad place file seen c (Ok read) is bad = absurd is
+read_bad place file seen c (Err (Bad d)) is bad = let e : Bad d ≡ Bad c = is in let same : c ≡ d = (cc) in bad ∙ ap refusal same
+read_bad place file seen c (Err Disk) is bad = tt
+
+pub bad_not_disk : (c : Cause) → Bad c ≡ Disk → ⊥
+bad_not_disk c e = (cc)

@@ -1,0 +1,41 @@
+-- What a block comes to, by what was read of it.
+use Rattle.std.proofs.Common.{◌≡◌, ℕ, ◌+◌, ◌<◌, List, [], length, take, drop, Option, Some, None, Ok, refl, ap, sym, subst, ◌∙◌, arith}
+use Rattle.std.specs.Prelude.{IfSome}
+use Rattle.std.proofs.lemmas.List.{drop-drop, drop-take}
+use Rattle.adb_block.specs.Frames.{raw_size}
+use Rattle.adb_block.specs.declared.block.Frame.{Frame}
+use Rattle.pkg_core.specs.Contents.{contents_bytes}
+use Rattle.piece_core.specs.Places.{HasAllLeft, IsStepped, payload_at, pieces_at}
+use Rattle.piece_core.specs.Taking.{HasTaken, bytes_left, pieces_in}
+use Rattle.piece_core.specs.declared.file.FilePieces.{FilePieces}
+use Rattle.piece_core.specs.declared.place.BlockPlace.{BlockPlace}
+use Rattle.piece_core.specs.declared.place.Step.TheVariants.{End as EndStep, Opened as OpenedStep}
+use Rattle.piece_reader.specs.Blocks.{head_size}
+use Rattle.piece_reader.specs.Opened.{IsOpenFile, bytes_to_come}
+use Rattle.piece_reader.specs.declared.open.OpenFile.{OpenFile}
+
+-- the payload's bytes behind the positions
+pub contents_at : (place : BlockPlace) (frame : Frame) (file : List ℕ) (n : ℕ) → 8 + n ≡ frame.payload_len → contents_bytes (payload_at frame place file) ≡ take n (drop (place.at + frame.head_len + 8) file)
+contents_at place frame file n is =
+    ap (λ (k : ℕ). drop 8 (take k (drop frame.head_len (drop place.at file)))) (sym is)
+    ∙ (drop-take 8 n (drop frame.head_len (drop place.at file))
+    ∙ (ap (λ (xs : List ℕ). take n (drop 8 xs)) (drop-drop frame.head_len place.at file)
+    ∙ ap (take n) (drop-drop 8 (place.at + frame.head_len) file)))
+
+pub opens : (before after : BlockPlace) (framing : Option Frame) (file : List ℕ) (o : OpenFile) (f : FilePieces) → o.file ≡ f → o.at ≡ before.at + head_size framing + 8 → IfSome framing (λ frame. HasAllLeft frame (OpenedStep f)) → IsStepped framing before file (Ok (OpenedStep f)) after → IsOpenFile o [] file (pieces_at after file) (pieces_at before file)
+opens before after None file o f is at left step = absurd step
+opens before after (Some frame) file o f is at left step = by_file o is at
+  where
+    by_file : (o : OpenFile) → o.file ≡ f → o.at ≡ before.at + frame.head_len + 8 → IsOpenFile o [] file (pieces_at after file) (pieces_at before file)
+    by_file o is at =
+        let come : contents_bytes (payload_at frame before file) ≡ bytes_to_come o file = contents_at before frame file (bytes_left f) left ∙ (ap (λ (n : ℕ). take (bytes_left f) (drop n file)) (sym at) ∙ ap (λ g. take (bytes_left g) (drop o.at file)) (sym is)) in
+        record {
+          taken = subst (λ g. HasTaken g []) (sym is) step.1;
+          long = ap length (sym come) ∙ (step.2 ∙ ap (λ g. g.wanted.size) (sym is));
+          come = step.0 ∙ (ap (λ (xs : List ℕ). pieces_in f [] xs (pieces_at after file)) come ∙ ap (λ g. pieces_in g [] (bytes_to_come o file) (pieces_at after file)) (sym is));
+        }
+
+-- an offset in a file fits in 64 bits, and so does that of the contents' own bytes
+pub opens_within : (framing : Option Frame) (at : ℕ) (f : FilePieces) → (framing ≡ None → OpenedStep f ≡ EndStep) → IfSome framing (λ frame. at + raw_size frame < 18446744073709551616) → IfSome framing (λ frame. HasAllLeft frame (OpenedStep f)) → at + head_size framing + 8 < 18446744073709551616
+opens_within None at f ended small left = absurd (let e : OpenedStep f ≡ EndStep = ended refl in (cc))
+opens_within (Some frame) at f ended small left = omega (arith, small, left)

@@ -1,0 +1,3 @@
+pub mod BlockSeen
+pub mod PieceRead
+pub mod BlockStepped

@@ -1,0 +1,55 @@
+-- What was read of a block, and what it comes to.
+use Rattle.std.specs.Prelude.{◌≡◌, ◌≤◌, ◌<◌, ℕ, ◌+◌, List, [], length, drop, Option, Some, None, Result, Ok, Err}
+use Rattle.adb_block.specs.Frames.{IsFramed, raw_size}
+use Rattle.adb_block.specs.declared.block.Frame.{Frame}
+use Rattle.piece_core.specs.Pieces.{no_piece, refusal}
+use Rattle.piece_core.specs.Places.{HasPositions, pieces_at, step_at}
+use Rattle.piece_core.specs.declared.place.BlockPlace.{BlockPlace}
+use Rattle.piece_core.specs.Taking.{bytes_left}
+use Rattle.piece_reader.specs.Opened.{IsOpenFile}
+use Rattle.piece_reader.specs.declared.block.BlockRead.{BlockRead}
+use Rattle.piece_reader.specs.declared.block.BlockStep.{BlockStep}
+use Rattle.piece_reader.specs.declared.block.BlockStep.TheVariants.{End, Passed, Opened}
+use Rattle.piece_reader.specs.declared.fault.PieceFault.{PieceFault}
+use Rattle.piece_reader.specs.declared.fault.PieceFault.TheVariants.{Bad, Disk}
+
+-- how many bytes stand in front of the payload
+abbrev pub head_size : Option Frame → ℕ
+head_size None = 0
+head_size (Some frame) = frame.head_len
+
+-- the positions were seen, where the payload has room for them, and no byte behind it was
+abbrev pub SeesPositions : Option Frame → List ℕ → List ℕ → Type 0
+SeesPositions None positions seen = seen ≡ []
+SeesPositions (Some frame) positions seen =
+    (length seen ≤ frame.payload_len) × (8 ≤ frame.payload_len → seen ≡ positions)
+
+-- no more of a block was seen than it has
+abbrev pub IsInBlock : Option Frame → ℕ → Type 0
+IsInBlock None seen = Unit {0}
+IsInBlock (Some frame) seen = seen ≤ raw_size frame
+
+-- what was read of a block is what stands there; or the first failed test
+abbrev pub IsBlockRead : BlockPlace → List ℕ → ℕ → Result BlockRead PieceFault → Type 0
+IsBlockRead place file seen (Ok read) =
+    IsFramed (Ok read.framing) (drop place.at file) (step_at place file)
+    × HasPositions read.framing read.positions place file × IsInBlock read.framing seen
+IsBlockRead place file seen (Err (Bad c)) = pieces_at place file ≡ refusal c
+IsBlockRead place file seen (Err Disk) = Unit {0}
+
+-- what was read of a block, in a package that has it: no block is left, a block was passed, or the
+-- contents of a file begin; or the first failed test
+abbrev pub IsNextBlock : BlockPlace → List ℕ → Result BlockStep PieceFault → BlockPlace → Type 0
+IsNextBlock before file (Ok End) after = pieces_at before file ≡ no_piece
+IsNextBlock before file (Ok Passed) after = pieces_at before file ≡ pieces_at after file
+IsNextBlock before file (Ok (Opened o)) after =
+    IsOpenFile o [] file (pieces_at after file) (pieces_at before file)
+IsNextBlock before file (Err (Bad c)) after = pieces_at before file ≡ refusal c
+IsNextBlock before file (Err Disk) after = Unit {0}
+
+-- a reader stands further on then, and within the package, and so do the bytes to come of a file
+abbrev pub GoesFurther : BlockPlace → BlockStep → BlockPlace → Type 0
+GoesFurther before End after = Unit {0}
+GoesFurther before Passed after = (before.at < after.at) × (after.at ≤ after.len)
+GoesFurther before (Opened o) after =
+    (o.at + bytes_left o.file ≤ after.at) × (after.at ≤ after.len)

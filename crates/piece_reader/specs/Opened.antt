@@ -1,0 +1,37 @@
+-- A file of a package whose pieces are read one by one, of the package's bytes.
+use Rattle.std.specs.Prelude.{◌≡◌, ℕ, List, ◌++◌, length, take, drop, Option, Some, None, Result, Ok, Err}
+use Rattle.piece_core.specs.Pieces.{PiecesRead, piece, refusal}
+use Rattle.piece_core.specs.Taking.{HasTaken, bytes_left, pieces_in}
+use Rattle.piece_core.specs.declared.part.Part.{Part}
+use Rattle.piece_reader.specs.declared.fault.PieceFault.{PieceFault}
+use Rattle.piece_reader.specs.declared.fault.PieceFault.TheVariants.{Bad, Disk}
+use Rattle.piece_reader.specs.declared.open.OpenFile.{OpenFile}
+
+-- the bytes of the file that are still to come
+abbrev pub bytes_to_come : OpenFile → List ℕ → List ℕ
+bytes_to_come o pkg = take (bytes_left o.file) (drop o.at pkg)
+
+-- just these bytes were taken, and the pieces that are still to come are those of the bytes to
+-- come, and then further ones
+pub record IsOpenFile (o : OpenFile) (so_far pkg : List ℕ)
+    (further pieces : PiecesRead) : Type 0 where
+  pub taken : HasTaken o.file so_far
+  pub long : length (so_far ++ bytes_to_come o pkg) ≡ o.file.wanted.size
+  pub come : pieces ≡ pieces_in o.file so_far (bytes_to_come o pkg) further
+
+-- it was not answered that the tree failed
+abbrev pub NotDisk : {A : Type 0} → Result A PieceFault → Type 0
+NotDisk (Ok value) = Unit {0}
+NotDisk (Err (Bad c)) = Unit {0}
+NotDisk (Err Disk) = ⊥
+
+-- these bytes are the next piece, and then comes what is left of the file or, behind its last
+-- piece, what is further; or the digest differs
+abbrev pub IsNextPiece : List ℕ → List ℕ → List ℕ → PiecesRead → PiecesRead
+    → Result (Part × Option OpenFile) PieceFault → Type 0
+IsNextPiece so_far pkg bytes further before (Ok (part, Some o)) = (after : PiecesRead)
+    × (before ≡ piece part bytes after) × IsOpenFile o (so_far ++ bytes) pkg further after
+IsNextPiece so_far pkg bytes further before (Ok (part, None)) =
+    before ≡ piece part bytes further
+IsNextPiece so_far pkg bytes further before (Err (Bad c)) = before ≡ refusal c
+IsNextPiece so_far pkg bytes further before (Err Disk) = Unit {0}

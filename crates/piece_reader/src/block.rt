@@ -1,0 +1,141 @@
+//! What is read of a block: its header, and the positions that contents begin with.
+
+ghost use Rattle.std.specs.Prelude.{◌≡◌, ◌≤◌, ◌<◌, ◌+◌, ◌-◌, ◌^◌, ℕ, List, length, IfErr, IfOk, IfSome};
+ghost use Rattle.adb_block.specs.Frames.{raw_size};
+ghost use Rattle.pkg_pieces.specs.Seen.{HasAt, IsSeen, IsSeenIn, ReadsFile};
+ghost use Rattle.piece_reader.specs.Blocks.{GoesFurther, IsBlockRead, IsNextBlock, SeesPositions, head_size};
+ghost use Rattle.piece_reader.specs.declared.fault.PieceFault.TheVariants.{Disk as DiskFault};
+
+use crate::fault::PieceFault;
+use crate::head::HeadBytes;
+use crate::open::OpenFile;
+use adb_block::{Frame, frame_of};
+use base_core::{Name, Tree};
+use piece_core::{BlockPlace, FilePieces, Step};
+
+/// The bytes in front of a file's own in its contents: the positions of its folder and of itself.
+const POSITIONS_LEN: u64 = 8;
+
+/// What was read of a block: what its header frames, and the first eight bytes of its payload,
+/// where it has as many.
+#[derive(Clone, Copy)]
+pub(crate) struct BlockRead {
+    pub framing: Option<Frame>,
+    pub positions: [u8; 8],
+}
+
+/// What a block of a package in a tree comes to.
+#[derive(Drop)]
+pub enum BlockStep<'a> {
+    /// No block is left, and no file is due.
+    End,
+    /// The block holds no contents.
+    Passed,
+    /// The contents of the next file begin.
+    Opened(OpenFile<'a>),
+}
+
+/// Goes on behind the block at a place, in the package of this name. No more is read of it than its
+/// header and the first eight bytes of its payload, and the tree stays as it is, whatever the
+/// answer.
+///
+/// # Errors
+///
+/// `Bad` with the first failed test: of the block's framing, as `frame_of` of `adb_block` tells it,
+/// or of its contents' positions and size, as `BlockPlace::step` of `piece_core` does; or `Disk`
+/// where the tree failed.
+pub fn next_block<'a, T: Tree>(
+    tree: &mut T,
+    name: &Name,
+    place: &mut BlockPlace<'a>,
+) -> Result<BlockStep<'a>, PieceFault>
+    requires { place.old.at ≤ place.old.len }
+    // Of each package that is so long and has the bytes that were seen, all of which stand in front
+    // of the next block.
+    ensures block { (seen : List ℕ)
+        × IsSeenIn (T.history tree.old) name.now place.old.len place.old.at seen
+        × ((file : List ℕ) → length file ≡ place.old.len → HasAt file place.old.at seen
+        → IsNextBlock place.old file result place.new) }
+    ensures len { place.new.len ≡ place.old.len }
+    ensures further { IfOk result (λ step. GoesFurther place.old step place.new) }
+    ensures tree { ReadsFile name.now place.old.len DiskFault (T.history tree.old)
+        (T.history tree.new) (T.counts tree.old) (T.counts tree.new) result }
+{
+    let read = read_block(tree, name, place)?;
+    let at = place.at;
+    match place.step(read.framing, &read.positions) {
+        Ok(Step::End) => Ok(BlockStep::End),
+        Ok(Step::Passed) => Ok(BlockStep::Passed),
+        Ok(Step::Opened(file)) => Ok(BlockStep::Opened(file_at(file, at, read.framing))),
+        Err(cause) => Err(PieceFault::Bad(cause)),
+    }
+}
+
+/// The file that a block at an offset opens: its bytes stand behind the header and the positions.
+fn file_at<'a>(file: FilePieces<'a>, at: u64, framing: Option<Frame>) -> OpenFile<'a>
+    requires { at + head_size framing + 8 < 2 ^ 64 }
+    ensures file { result.file ≡ file.entry }
+    ensures at { result.at ≡ at + head_size framing + 8 }
+{
+    let head_len = match framing {
+        Some(frame) => frame.head_len,
+        None => 0,
+    };
+    OpenFile {
+        file,
+        at: at + head_len + POSITIONS_LEN,
+    }
+}
+
+/// Reads what has to be known of the block at a place.
+pub(crate) fn read_block<T: Tree>(
+    tree: &mut T,
+    name: &Name,
+    place: &BlockPlace<'_>,
+) -> Result<BlockRead, PieceFault>
+    requires { place.now.at ≤ place.now.len }
+    ensures fits { IfOk result (λ read. IfSome read.framing (λ frame.
+        (0 < frame.head_len) × (raw_size frame ≤ place.now.len - place.now.at))) }
+    ensures small { IfOk result (λ read. IfSome read.framing (λ frame.
+        place.now.at + raw_size frame < 2 ^ 64)) }
+    ensures block { (seen : List ℕ)
+        × IsSeenIn (T.history tree.old) name.now place.now.len place.now.at seen
+        × ((file : List ℕ) → length file ≡ place.now.len → HasAt file place.now.at seen
+        → IsBlockRead place.now file (length seen) result) }
+    ensures tree { ReadsFile name.now place.now.len DiskFault (T.history tree.old)
+        (T.history tree.new) (T.counts tree.old) (T.counts tree.new) result }
+{
+    let at = place.at;
+    let left = place.len - at;
+    let head = HeadBytes::read(tree, name, at, left)?;
+    let framing = frame_of(Some(place.last), at, head.bytes(), left)?;
+    let positions = read_positions(tree, name, at, framing)?;
+    Ok(BlockRead { framing, positions })
+}
+
+/// Reads the first eight bytes of the payload of a block at an offset, where it has as many.
+#[tactic(auto, using(pkg_pieces::proofs::SeenBytes::seen_by_read, pkg_pieces::proofs::SeenBytes::proper_where_long))]
+fn read_positions<T: Tree>(
+    tree: &mut T,
+    name: &Name,
+    at: u64,
+    framing: Option<Frame>,
+) -> Result<[u8; 8], PieceFault>
+    requires { IfSome framing (λ frame. at + raw_size frame < 2 ^ 64) }
+    ensures seen { IfOk result (λ positions. (seen : List ℕ) × SeesPositions framing positions seen
+        × ((file_len : ℕ)
+        → IsSeen (T.history tree.old) name.now file_len (at + head_size framing) seen)) }
+    ensures disk { IfErr result (λ fault. fault ≡ DiskFault) }
+    ensures tree { (file_len : ℕ) → at ≤ file_len
+        → IfSome framing (λ frame. at + raw_size frame ≤ file_len)
+        → ReadsFile name.now file_len DiskFault (T.history tree.old) (T.history tree.new)
+        (T.counts tree.old) (T.counts tree.new) result }
+{
+    let mut positions = [0; 8];
+    if let Some(frame) = framing {
+        if frame.payload_len >= POSITIONS_LEN {
+            tree.read_at(name, at + frame.head_len, &mut positions)?;
+        }
+    }
+    Ok(positions)
+}

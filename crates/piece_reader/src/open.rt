@@ -1,0 +1,62 @@
+//! A file of a package whose pieces are read one by one.
+
+ghost use Rattle.std.specs.Prelude.{◌≡◌, ◌≤◌, ◌<◌, ◌+◌, ◌^◌, ℕ, List, length, IfOk, IfSome};
+ghost use Rattle.piece_core.specs.Pieces.{PiecesRead};
+ghost use Rattle.piece_core.specs.Taking.{bytes_left};
+ghost use Rattle.pkg_pieces.specs.Seen.{HasAt, IsSeen, ReadsFile};
+ghost use Rattle.piece_reader.specs.Opened.{IsNextPiece, IsOpenFile, NotDisk};
+ghost use Rattle.piece_reader.specs.declared.fault.PieceFault.TheVariants.{Disk as DiskFault};
+
+use crate::fault::PieceFault;
+use crate::piece::Piece;
+use base_core::{Name, Tree};
+use piece_core::{FilePieces, Part};
+
+/// A file of a package whose pieces are being read, and the offset of its next byte in the package.
+/// Contracts see, by `Opened` of `specs/`, which bytes of the package are still to come.
+#[derive(Drop)]
+pub struct OpenFile<'a> {
+    pub(crate) file: FilePieces<'a>,
+    pub(crate) at: u64,
+}
+
+impl<'a> OpenFile<'a> {
+    /// Reads the file's next piece, of 65,536 bytes, or of what is left, from the package of this
+    /// name, and gives which part of which file it is and, unless it is the last, what is left of
+    /// the file. The tree stays as it is, whatever the answer.
+    ///
+    /// # Errors
+    ///
+    /// `Bad` with `HashDiffers`, behind the last piece, where all bytes together do not have the
+    /// file's digest, or `Disk` where the tree failed.
+    pub fn next_piece<T: Tree>(
+        self,
+        tree: &mut T,
+        name: &Name,
+        piece: &mut Piece,
+    ) -> Result<(Part, Option<OpenFile<'a>>), PieceFault>
+        requires { self.at + bytes_left self.file < 2 ^ 64 }
+        ensures seen { NotDisk result → (file_len : ℕ)
+            → IsSeen (T.history tree.old) name.now file_len self.entry.at piece.new }
+        // Of each file that has the bytes that were seen.
+        ensures piece { (file so_far : List ℕ) (further before : PiecesRead)
+            → HasAt file self.entry.at piece.new
+            → self.entry.at + bytes_left self.entry.file ≤ length file
+            → IsOpenFile self.entry so_far file further before
+            → IsNextPiece so_far file piece.new further before result }
+        ensures room { IfOk result (λ read. IfSome read.1 (λ further.
+            further.at + bytes_left further.file ≡ self.entry.at + bytes_left self.entry.file)) }
+        ensures tree { (file_len : ℕ) → self.entry.at + bytes_left self.entry.file ≤ file_len
+            → ReadsFile name.now file_len DiskFault (T.history tree.old) (T.history tree.new)
+            (T.counts tree.old) (T.counts tree.new) result }
+    {
+        let len = self.file.next_len();
+        piece.read(tree, name, self.at, len)?;
+        let at = self.at + len as u64;
+        match self.file.take(piece.bytes()) {
+            Ok((part, Some(file))) => Ok((part, Some(OpenFile { file, at }))),
+            Ok((part, None)) => Ok((part, None)),
+            Err(cause) => Err(PieceFault::Bad(cause)),
+        }
+    }
+}

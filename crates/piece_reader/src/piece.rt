@@ -1,0 +1,70 @@
+//! The buffer of a piece.
+
+ghost use Rattle.std.specs.Prelude.{◌≡◌, ◌≤◌, ◌+◌, ℕ, [], length, IfErr, OnOk};
+ghost use Rattle.pkg_pieces.specs.Seen.{IsSeen, ReadsFile};
+ghost use Rattle.piece_reader.specs.declared.fault.PieceFault.TheVariants.{Disk as DiskFault};
+
+use crate::fault::PieceFault;
+use base_core::{Name, Tree};
+use piece_core::PIECE_LEN;
+use std::marker::Model;
+
+/// A buffer for one piece, of up to 65,536 bytes. Contracts see the bytes that it holds.
+#[derive(Drop)]
+pub struct Piece {
+    bytes: [u8; PIECE_LEN],
+    len: usize,
+}
+
+impl Model for Piece {
+    ghost use Rattle.std.specs.Prelude.{ℕ, ◌≤◌, List, take};
+
+    ghost Value = { List ℕ };
+
+    ghost view = { λ piece. take piece.len piece.bytes };
+
+    ghost invariant = { λ piece. piece.len ≤ 65536 };
+}
+
+impl Piece {
+    /// A piece of no bytes. It takes no memory.
+    pub fn new() -> Piece
+        ensures { result ≡ [] }
+    {
+        Piece {
+            bytes: [0; PIECE_LEN],
+            len: 0,
+        }
+    }
+
+    /// The bytes that it holds.
+    pub fn bytes(&self) -> &[u8]
+        ensures bytes { result.now ≡ self.now }
+        ensures few { length result.now ≤ 65536 }
+    {
+        &self.bytes[..self.len]
+    }
+
+    /// Reads so many bytes of a file, from an offset on. After an error it holds some bytes.
+    #[tactic(auto, using(pkg_pieces::proofs::SeenBytes::seen_by_read, pkg_pieces::proofs::SeenBytes::proper_where_long))]
+    pub(crate) fn read<T: Tree>(
+        &mut self,
+        tree: &mut T,
+        name: &Name,
+        at: u64,
+        len: usize,
+    ) -> Result<(), PieceFault>
+        requires { len ≤ 65536 }
+        ensures len { OnOk result (length self.new ≡ len) }
+        ensures disk { IfErr result (λ fault. fault ≡ DiskFault) }
+        ensures seen { OnOk result ((file_len : ℕ)
+            → IsSeen (T.history tree.old) name.now file_len at self.new) }
+        ensures tree { (file_len : ℕ) → at + len ≤ file_len
+            → ReadsFile name.now file_len DiskFault (T.history tree.old) (T.history tree.new)
+            (T.counts tree.old) (T.counts tree.new) result }
+    {
+        tree.read_at(name, at, &mut self.bytes[..len])?;
+        self.len = len;
+        Ok(())
+    }
+}
