@@ -1,11 +1,11 @@
 -- what the contract of `apk` says
 pub mod Recovery
 pub mod Replacing
--- what the contracts of a stage and of a recovery say; that of `apk` does not reach it yet
+pub mod Quiet
 pub mod Staged
+-- what the contracts of a stage and of a recovery say besides; that of `apk` does not reach it yet
 pub mod Kept
 -- what only inner contracts and proofs use
-pub mod Quiet
 pub mod Reading
 pub mod Filling
 pub mod Entering

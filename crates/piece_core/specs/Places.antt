@@ -10,7 +10,7 @@ use Rattle.adb_block.specs.declared.block.Frame.{Frame}
 use Rattle.pkg_core.specs.Contents.{contents_bytes}
 use Rattle.pkg_core.specs.Opened.{left_in}
 use Rattle.piece_core.specs.Pieces.{PiecesRead, no_piece, refusal, pieces_by_blocks}
-use Rattle.piece_core.specs.Taking.{HasTaken, bytes_left, pieces_in}
+use Rattle.piece_core.specs.Taking.{HasTaken, file_bytes_left, pieces_in}
 use Rattle.piece_core.specs.declared.place.BlockPlace.{BlockPlace}
 use Rattle.piece_core.specs.declared.place.Step.{Step}
 use Rattle.piece_core.specs.declared.place.Step.TheVariants.{End, Passed, Opened}
@@ -58,7 +58,7 @@ place_behind place frame = record {
 abbrev pub HasAllLeft : Frame → Step → Type 0
 HasAllLeft frame End = Unit {0}
 HasAllLeft frame Passed = Unit {0}
-HasAllLeft frame (Opened f) = 8 + bytes_left f ≡ frame.payload_len
+HasAllLeft frame (Opened f) = 8 + file_bytes_left f ≡ frame.payload_len
 
 -- no block is left, a block was passed, or the contents of a file begin and the pieces behind them
 -- come from where the reader stands then; or the first failed test

@@ -10,12 +10,12 @@ use Rattle.piece_core.specs.declared.part.Part.{Part}
 use Rattle.piece_core.specs.declared.part.TheConstants.{PIECE_LEN}
 
 -- how many bytes are still to be handed in
-abbrev pub bytes_left : FilePieces → ℕ
-bytes_left f = f.wanted.size - f.done
+abbrev pub file_bytes_left : FilePieces → ℕ
+file_bytes_left f = f.wanted.size - f.done
 
 -- how many bytes the next piece has
 abbrev pub next_len : FilePieces → ℕ
-next_len f = min (bytes_left f) PIECE_LEN
+next_len f = min (file_bytes_left f) PIECE_LEN
 
 -- just these bytes were handed in
 pub record HasTaken (f : FilePieces) (so_far : List ℕ) : Type 0 where

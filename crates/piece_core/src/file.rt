@@ -5,7 +5,7 @@ ghost use Rattle.adb_schema.specs.Soundness.{file_pair};
 ghost use Rattle.pkg_core.specs.Contents.{Expected, contents_bytes};
 ghost use Rattle.pkg_core.specs.Opened.{expected_of, left_in};
 ghost use Rattle.piece_core.specs.Pieces.{PiecesRead, part_of, pieces_of_payload, position_or_size_fault};
-ghost use Rattle.piece_core.specs.Taking.{HasTaken, IsOpened, IsTaken, bytes_left, next_len};
+ghost use Rattle.piece_core.specs.Taking.{HasTaken, IsOpened, IsTaken, file_bytes_left, next_len};
 
 use crate::hasher::Hasher;
 use crate::part::{PIECE_LEN, Part};
@@ -48,7 +48,7 @@ impl<'a> FilePieces<'a> {
             → length (so_far ++ (bytes.now ++ left)) ≡ self.entry.wanted.size
             → IsTaken self.entry so_far bytes.now left further result }
         ensures left { IfOk result (λ taken. IfSome taken.1 (λ further.
-            bytes_left further ≡ bytes_left self.entry - length bytes.now)) }
+            file_bytes_left further ≡ file_bytes_left self.entry - length bytes.now)) }
     {
         let wanted = self.wanted;
         let left = wanted.size.saturating_sub(self.done);
@@ -99,7 +99,7 @@ pub fn open_file<'a>(
         → take 8 payload ≡ positions.now
         → IsOpened (pieces_of_payload payload further (left_in walk.old)) payload
         (further (left_in walk.new)) result }
-    ensures left { IfOk result (λ file. 8 + bytes_left file ≡ len) }
+    ensures left { IfOk result (λ file. 8 + file_bytes_left file ≡ len) }
 {
     let found = file_pair(positions);
     let Some(wanted) = walk.next() else {

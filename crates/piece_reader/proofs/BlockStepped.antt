@@ -6,7 +6,7 @@ use Rattle.adb_block.specs.Frames.{raw_size}
 use Rattle.adb_block.specs.declared.block.Frame.{Frame}
 use Rattle.pkg_core.specs.Contents.{contents_bytes}
 use Rattle.piece_core.specs.Places.{HasAllLeft, IsStepped, payload_at, pieces_at}
-use Rattle.piece_core.specs.Taking.{HasTaken, bytes_left, pieces_in}
+use Rattle.piece_core.specs.Taking.{HasTaken, file_bytes_left, pieces_in}
 use Rattle.piece_core.specs.declared.file.FilePieces.{FilePieces}
 use Rattle.piece_core.specs.declared.place.BlockPlace.{BlockPlace}
 use Rattle.piece_core.specs.declared.place.Step.TheVariants.{End as EndStep, Opened as OpenedStep}
@@ -28,7 +28,7 @@ opens before after (Some frame) file o f is at left step = by_file o is at
   where
     by_file : (o : OpenFile) → o.file ≡ f → o.at ≡ before.at + frame.head_len + 8 → IsOpenFile o [] file (pieces_at after file) (pieces_at before file)
     by_file o is at =
-        let come : contents_bytes (payload_at frame before file) ≡ bytes_to_come o file = contents_at before frame file (bytes_left f) left ∙ (ap (λ (n : ℕ). take (bytes_left f) (drop n file)) (sym at) ∙ ap (λ g. take (bytes_left g) (drop o.at file)) (sym is)) in
+        let come : contents_bytes (payload_at frame before file) ≡ bytes_to_come o file = contents_at before frame file (file_bytes_left f) left ∙ (ap (λ (n : ℕ). take (file_bytes_left f) (drop n file)) (sym at) ∙ ap (λ g. take (file_bytes_left g) (drop o.at file)) (sym is)) in
         record {
           taken = subst (λ g. HasTaken g []) (sym is) step.1;
           long = ap length (sym come) ∙ (step.2 ∙ ap (λ g. g.wanted.size) (sym is));

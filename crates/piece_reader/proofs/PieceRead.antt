@@ -5,7 +5,7 @@ use Rattle.std.proofs.lemmas.List.{length-append}
 use Rattle.pkg_pieces.specs.Seen.{HasAt}
 use Rattle.pkg_pieces.proofs.SeenBytes.{drop_further, take_more}
 use Rattle.piece_core.specs.Pieces.{PiecesRead}
-use Rattle.piece_core.specs.Taking.{IsTaken, bytes_left, pieces_in}
+use Rattle.piece_core.specs.Taking.{IsTaken, file_bytes_left, pieces_in}
 use Rattle.piece_core.specs.declared.file.FilePieces.{FilePieces}
 use Rattle.piece_core.specs.declared.part.Part.{Part}
 use Rattle.piece_reader.specs.Opened.{IsNextPiece, IsOpenFile, NotDisk, bytes_to_come}
@@ -29,22 +29,22 @@ disk_piece so_far file bytes further before (Err Disk) fault is disk = tt
 
 -- of the bytes to come, those behind the piece
 abbrev pub behind_piece : OpenFile → List ℕ → List ℕ → List ℕ
-behind_piece o bytes file = take (bytes_left o.file - length bytes) (drop (o.at + length bytes) file)
+behind_piece o bytes file = take (file_bytes_left o.file - length bytes) (drop (o.at + length bytes) file)
 
-pub piece_first : (o : OpenFile) (file bytes : List ℕ) → length bytes ≤ bytes_left o.file → HasAt file o.at bytes → bytes_to_come o file ≡ bytes ++ behind_piece o bytes file
+pub piece_first : (o : OpenFile) (file bytes : List ℕ) → length bytes ≤ file_bytes_left o.file → HasAt file o.at bytes → bytes_to_come o file ≡ bytes ++ behind_piece o bytes file
 piece_first o file bytes few has =
-    let n = bytes_left o.file in
+    let n = file_bytes_left o.file in
     let both : n ≡ length bytes + (n - length bytes) = omega (arith, few) in
     ap (λ (k : ℕ). take k (drop o.at file)) both
     ∙ (take_more (length bytes) (n - length bytes) (drop o.at file)
     ∙ (ap (λ (xs : List ℕ). xs ++ take (n - length bytes) (drop (length bytes) (drop o.at file))) has
     ∙ ap (λ (xs : List ℕ). bytes ++ take (n - length bytes) xs) (drop_further o.at (length bytes) file)))
 
-pub all_long : (o : OpenFile) (so_far file bytes : List ℕ) (further before : PiecesRead) → length bytes ≤ bytes_left o.file → HasAt file o.at bytes → IsOpenFile o so_far file further before → length (so_far ++ (bytes ++ behind_piece o bytes file)) ≡ o.file.wanted.size
+pub all_long : (o : OpenFile) (so_far file bytes : List ℕ) (further before : PiecesRead) → length bytes ≤ file_bytes_left o.file → HasAt file o.at bytes → IsOpenFile o so_far file further before → length (so_far ++ (bytes ++ behind_piece o bytes file)) ≡ o.file.wanted.size
 all_long o so_far file bytes further before few has is =
     ap (λ (xs : List ℕ). length (so_far ++ xs)) (sym (piece_first o file bytes few has)) ∙ is.long
 
-pub before_is : (o : OpenFile) (so_far file bytes : List ℕ) (further before : PiecesRead) → length bytes ≤ bytes_left o.file → HasAt file o.at bytes → IsOpenFile o so_far file further before → before ≡ pieces_in o.file so_far (bytes ++ behind_piece o bytes file) further
+pub before_is : (o : OpenFile) (so_far file bytes : List ℕ) (further before : PiecesRead) → length bytes ≤ file_bytes_left o.file → HasAt file o.at bytes → IsOpenFile o so_far file further before → before ≡ pieces_in o.file so_far (bytes ++ behind_piece o bytes file) further
 before_is o so_far file bytes further before few has is =
     is.come ∙ ap (λ (xs : List ℕ). pieces_in o.file so_far xs further) (piece_first o file bytes few has)
 
@@ -57,10 +57,10 @@ append_assoc xs ys zs =
     omega (arith, a, b, c, d)
 
 -- a piece behind which more is left
-pub next_further : (o : OpenFile) (g : FilePieces) (at : ℕ) (so_far file bytes : List ℕ) (part : Part) (further before : PiecesRead) → length bytes ≤ bytes_left o.file → HasAt file o.at bytes → IsOpenFile o so_far file further before → IsTaken o.file so_far bytes (behind_piece o bytes file) further (Ok (part, Some g)) → at ≡ o.at + length bytes → bytes_left g ≡ bytes_left o.file - length bytes
+pub next_further : (o : OpenFile) (g : FilePieces) (at : ℕ) (so_far file bytes : List ℕ) (part : Part) (further before : PiecesRead) → length bytes ≤ file_bytes_left o.file → HasAt file o.at bytes → IsOpenFile o so_far file further before → IsTaken o.file so_far bytes (behind_piece o bytes file) further (Ok (part, Some g)) → at ≡ o.at + length bytes → file_bytes_left g ≡ file_bytes_left o.file - length bytes
     → IsNextPiece so_far file bytes further before (Ok (part, Some (record { file = g; at = at })))
 next_further o g at so_far file bytes part further before few has is taken stands left =
-    let come : behind_piece o bytes file ≡ take (bytes_left g) (drop at file) = ap (λ (n : ℕ). take n (drop (o.at + length bytes) file)) (sym left) ∙ ap (λ (n : ℕ). take (bytes_left g) (drop n file)) (sym stands) in
+    let come : behind_piece o bytes file ≡ take (file_bytes_left g) (drop at file) = ap (λ (n : ℕ). take n (drop (o.at + length bytes) file)) (sym left) ∙ ap (λ (n : ℕ). take (file_bytes_left g) (drop n file)) (sym stands) in
     let size : g.wanted.size ≡ o.file.wanted.size = ap (λ w. w.size) taken.2 in (
       pieces_in g (so_far ++ bytes) (behind_piece o bytes file) further,
       before_is o so_far file bytes further before few has is ∙ taken.0,

@@ -5,7 +5,7 @@ use Rattle.adb_block.specs.declared.block.Frame.{Frame}
 use Rattle.piece_core.specs.Pieces.{no_piece, refusal}
 use Rattle.piece_core.specs.Places.{HasPositions, pieces_at, step_at}
 use Rattle.piece_core.specs.declared.place.BlockPlace.{BlockPlace}
-use Rattle.piece_core.specs.Taking.{bytes_left}
+use Rattle.piece_core.specs.Taking.{file_bytes_left}
 use Rattle.piece_reader.specs.Opened.{IsOpenFile}
 use Rattle.piece_reader.specs.declared.block.BlockRead.{BlockRead}
 use Rattle.piece_reader.specs.declared.block.BlockStep.{BlockStep}
@@ -52,4 +52,4 @@ abbrev pub GoesFurther : BlockPlace → BlockStep → BlockPlace → Type 0
 GoesFurther before End after = Unit {0}
 GoesFurther before Passed after = (before.at < after.at) × (after.at ≤ after.len)
 GoesFurther before (Opened o) after =
-    (o.at + bytes_left o.file ≤ after.at) × (after.at ≤ after.len)
+    (o.at + file_bytes_left o.file ≤ after.at) × (after.at ≤ after.len)

@@ -1,7 +1,7 @@
 -- A file of a package whose pieces are read one by one, of the package's bytes.
 use Rattle.std.specs.Prelude.{◌≡◌, ℕ, List, ◌++◌, length, take, drop, Option, Some, None, Result, Ok, Err}
 use Rattle.piece_core.specs.Pieces.{PiecesRead, piece, refusal}
-use Rattle.piece_core.specs.Taking.{HasTaken, bytes_left, pieces_in}
+use Rattle.piece_core.specs.Taking.{HasTaken, file_bytes_left, pieces_in}
 use Rattle.piece_core.specs.declared.part.Part.{Part}
 use Rattle.piece_reader.specs.declared.fault.PieceFault.{PieceFault}
 use Rattle.piece_reader.specs.declared.fault.PieceFault.TheVariants.{Bad, Disk}
@@ -9,7 +9,7 @@ use Rattle.piece_reader.specs.declared.open.OpenFile.{OpenFile}
 
 -- the bytes of the file that are still to come
 abbrev pub bytes_to_come : OpenFile → List ℕ → List ℕ
-bytes_to_come o pkg = take (bytes_left o.file) (drop o.at pkg)
+bytes_to_come o pkg = take (file_bytes_left o.file) (drop o.at pkg)
 
 -- just these bytes were taken, and the pieces that are still to come are those of the bytes to
 -- come, and then further ones

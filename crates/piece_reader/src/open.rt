@@ -2,7 +2,7 @@
 
 ghost use Rattle.std.specs.Prelude.{◌≡◌, ◌≤◌, ◌<◌, ◌+◌, ◌^◌, ℕ, List, length, IfOk, IfSome};
 ghost use Rattle.piece_core.specs.Pieces.{PiecesRead};
-ghost use Rattle.piece_core.specs.Taking.{bytes_left};
+ghost use Rattle.piece_core.specs.Taking.{file_bytes_left};
 ghost use Rattle.pkg_pieces.specs.Seen.{HasAt, IsSeen, ReadsFile};
 ghost use Rattle.piece_reader.specs.Opened.{IsNextPiece, IsOpenFile, NotDisk};
 ghost use Rattle.piece_reader.specs.declared.fault.PieceFault.TheVariants.{Disk as DiskFault};
@@ -35,18 +35,18 @@ impl<'a> OpenFile<'a> {
         name: &Name,
         piece: &mut Piece,
     ) -> Result<(Part, Option<OpenFile<'a>>), PieceFault>
-        requires { self.at + bytes_left self.file < 2 ^ 64 }
+        requires { self.at + file_bytes_left self.file < 2 ^ 64 }
         ensures seen { NotDisk result → (file_len : ℕ)
             → IsSeen (T.history tree.old) name.now file_len self.entry.at piece.new }
         // Of each file that has the bytes that were seen.
         ensures piece { (file so_far : List ℕ) (further before : PiecesRead)
             → HasAt file self.entry.at piece.new
-            → self.entry.at + bytes_left self.entry.file ≤ length file
+            → self.entry.at + file_bytes_left self.entry.file ≤ length file
             → IsOpenFile self.entry so_far file further before
             → IsNextPiece so_far file piece.new further before result }
         ensures room { IfOk result (λ read. IfSome read.1 (λ further.
-            further.at + bytes_left further.file ≡ self.entry.at + bytes_left self.entry.file)) }
-        ensures tree { (file_len : ℕ) → self.entry.at + bytes_left self.entry.file ≤ file_len
+            further.at + file_bytes_left further.file ≡ self.entry.at + file_bytes_left self.entry.file)) }
+        ensures tree { (file_len : ℕ) → self.entry.at + file_bytes_left self.entry.file ≤ file_len
             → ReadsFile name.now file_len DiskFault (T.history tree.old) (T.history tree.new)
             (T.counts tree.old) (T.counts tree.new) result }
     {
