@@ -50,8 +50,7 @@ pub fn next_block<'a, T: Tree>(
     place: &mut BlockPlace<'a>,
 ) -> Result<BlockStep<'a>, PieceFault>
     requires { place.old.at ≤ place.old.len }
-    // Of each package that is so long and has the bytes that were seen, all of which stand in front
-    // of the next block.
+    // Of each package that is so long and has the bytes that were seen.
     ensures block { (seen : List ℕ)
         × IsSeenIn (T.history tree.old) name.now place.old.len place.old.at seen
         × ((file : List ℕ) → length file ≡ place.old.len → HasAt file place.old.at seen
