@@ -140,17 +140,22 @@ whole_alone IsOne effect output judged v old now alone good work run memory = re
   idle = λ without nothing. unwritten IsOne IsOne output judged v old now (λ o one. one) run memory without;
   bad = λ some. no_fault_to_recover effect (files_of v) (OnOk judged (now ≡ old)) good some;
   reads = λ o one nothing. run.reads o one;
-  states = λ ignored o orderly one.
-      since_weaker (IsReadApart output o.files (files_of v)) (IsReadOnItsWay effect output ignored o.files v) old now
+  states = λ o one.
+      since_weaker (IsReadApart output o.files (files_of v)) (IsReadOnItsWay effect output o.files v) old now
       (λ w apart. inr (subst (λ (f : Files). IsReadApart output o.files f w) (sym work) apart)) (run.reads o one);
   leaves = run.leaves;
 }
 
 -- ---- a run that recovers
 
+-- a recovery of the files as read leaves what one of the old files does
+abbrev pub RecoversAs : TreeState → TreeState → Type 0
+RecoversAs v w = unstaged_files (files_of w) ≡ unstaged_files (files_of v)
+
 -- what a recovery says that ended well
 pub record IsRecovered (v : TreeState) (old mid : History) : Type 0 where
   pub calm : IsCalm v old mid
+  pub reads : Since (RecoversAs v) old mid
   pub files : HasNow mid (λ w. (files_of w ≡ unstaged_files (files_of v)) × (w.names intent_name ≡ None))
   pub settled : (ignored : Ignored) → IsOrderly (RestsOn ignored) v → IsSome (intent_of (files_of v)) → HasNow mid (IsSettled ignored (files_of v))
   pub idle : v.names intent_name ≡ None → IsEmptyStage v.names → mid ≡ old
@@ -179,16 +184,16 @@ whole_behind laws A B effect output judged v u rest more now recovers good work 
       reads = λ o one nothing.
           subst (λ (h : History). Since (IsReadApart output o.files (files_of v)) h now) (same nothing)
           (subst (λ (f : Files). Since (IsReadApart output o.files f) (u ∷ more) now) (ap (λ (h : History). files_of (first_or v h)) (same nothing)) (run.reads o (from o one)));
-      states = λ ignored o orderly one.
-          since_both (IsStill ignored v) (IsReadApart output o.files (files_of u)) (IsReadOnItsWay effect output ignored o.files v) (v ∷ rest) (u ∷ more) now (λ w s. inl s.reads)
-          (λ w apart. inr (subst (λ (f : Files). IsReadApart output o.files f w) work apart)) (recovered.calm ignored orderly) (run.reads o (from o one));
+      states = λ o one.
+          since_both (RecoversAs v) (IsReadApart output o.files (files_of u)) (IsReadOnItsWay effect output o.files v) (v ∷ rest) (u ∷ more) now (λ w same. inl same)
+          (λ w apart. inr (subst (λ (f : Files). IsReadApart output o.files f w) work apart)) recovered.reads (run.reads o (from o one));
       leaves = λ o one. run.leaves o (from o one);
     }
 
 -- the recovery failed
 pub whole_failed : AreLaws → (IsOne : Outcome → Type 0) (effect : Effect) (output : Option (List ℕ)) (judged : Judged) (e : TreeFault) (v : TreeState) (rest now : History) → does_recover effect ≡ true → judged ≡ Err e
-    → IsCalm v (v ∷ rest) now → (v.names intent_name ≡ None → IsEmptyStage v.names → now ≡ v ∷ rest) → IsWholeRun IsOne effect output judged v (v ∷ rest) now
-whole_failed laws IsOne effect output judged e v rest now recovers failed calm idle = record {
+    → IsCalm v (v ∷ rest) now → Since (RecoversAs v) (v ∷ rest) now → (v.names intent_name ≡ None → IsEmptyStage v.names → now ≡ v ∷ rest) → IsWholeRun IsOne effect output judged v (v ∷ rest) now
+whole_failed laws IsOne effect output judged e v rest now recovers failed calm reads idle = record {
   moments = λ ignored orderly hides. inl (calm ignored orderly);
   orderly = λ ignored orderly hides. newest_orderly laws ignored v rest now orderly (calm ignored orderly);
   settled = λ ignored o orderly hides one lasts. err_ok (HasNow now (IsSettled ignored o.files)) judged e failed;
@@ -196,7 +201,7 @@ whole_failed laws IsOne effect output judged e v rest now recovers failed calm i
   idle = λ without nothing. nothing_done effect v (now ≡ v ∷ rest) recovers idle nothing;
   bad = λ some. err_ok (now ≡ v ∷ rest) judged e failed;
   reads = λ o one nothing. none_since (IsReadApart output o.files (files_of v)) (v ∷ rest) now (nothing_done effect v (now ≡ v ∷ rest) recovers idle nothing);
-  states = λ ignored o orderly one. since_weaker (IsStill ignored v) (IsReadOnItsWay effect output ignored o.files v) (v ∷ rest) now (λ w s. inl s.reads) (calm ignored orderly);
+  states = λ o one. since_weaker (RecoversAs v) (IsReadOnItsWay effect output o.files v) (v ∷ rest) now (λ w same. inl same) reads;
   leaves = λ o one. err_ok (HasNow now (λ w. files_of w ≡ o.files)) judged e failed;
 }
 
@@ -222,6 +227,6 @@ whole_idle IsOne effect output judged v rest now same all = record {
   idle = λ without nothing. same;
   bad = λ some. ok_always (now ≡ v ∷ rest) judged same;
   reads = λ o one nothing. none_since (IsReadApart output o.files (files_of v)) (v ∷ rest) now same;
-  states = λ ignored o orderly one. none_since (IsReadOnItsWay effect output ignored o.files v) (v ∷ rest) now same;
+  states = λ o one. none_since (IsReadOnItsWay effect output o.files v) (v ∷ rest) now same;
   leaves = λ o one. on_ok judged (λ left. subst (λ (h : History). HasNow h (λ w. files_of w ≡ o.files)) (sym same) (sym left.0.0)) (all o one);
 }

@@ -5,7 +5,7 @@ use Rattle.std.proofs.lemmas.Bool.{false≢true}
 use Rattle.adb_schema.specs.Soundness.{first_fault, payload_in, root_value}
 use Rattle.adb_tables.specs.declared.tables.Which.TheVariants.{Intent as IntentTable}
 use Rattle.base_core.specs.Calls.{HasNow, IfObservable}
-use Rattle.base_core.specs.Crash.{IsOrderly}
+use Rattle.base_core.specs.Crash.{IsOrderly, Since}
 use Rattle.base_core.specs.Files.{Files, no_names}
 use Rattle.base_core.specs.Tree.{TreeState, files_of}
 use Rattle.base_core.specs.declared.cause.Cause.{Cause}
@@ -26,7 +26,7 @@ use Rattle.apk_front.specs.Runs.{IsRun, IsWholeRun}
 use Rattle.apk_front.specs.Verdicts.{ReportsOne, as_outcome}
 use Rattle.apk_front.specs.declared.answer.Verdict.{Verdict}
 use Rattle.apk_front.proofs.Carried.{Ones, RoomFor, Wholes, only_reads_unless}
-use Rattle.apk_front.proofs.AfterRecovery.{AreLaws, IsCalm, LeavesAll, StaysWithout, whole_behind, whole_failed, whole_idle}
+use Rattle.apk_front.proofs.AfterRecovery.{AreLaws, IsCalm, LeavesAll, RecoversAs, StaysWithout, whole_behind, whole_failed, whole_idle}
 use Rattle.apk_front.proofs.Runs.{History, Judged, Leaves, none_is_some}
 
 -- ---- a command that recovers
@@ -103,15 +103,15 @@ abbrev pub Idle : History → History → TreeState → Type 0
 Idle old mid v = v.names intent_name ≡ None → IsEmptyStage v.names → mid ≡ old
 
 pub behind_run : AreLaws → (command : CommandLine) (output : Option (List ℕ)) (judged : Judged) (old mid now : History) → does_recover (effect_of command.applet) ≡ true
-    → IfObservable old (λ v. IsCalm v old mid) → IfObservable old IsGood → IfObservable old (λ v. HasNow mid (LeavesUnstaged v)) → IfObservable old (Settled mid) → IfObservable old (Idle old mid)
+    → IfObservable old (λ v. IsCalm v old mid) → IfObservable old (λ v. Since (RecoversAs v) old mid) → IfObservable old IsGood → IfObservable old (λ v. HasNow mid (LeavesUnstaged v)) → IfObservable old (Settled mid) → IfObservable old (Idle old mid)
     → IfObservable mid (λ u. IsRun (Ones command u) output judged u mid now) → StaysWithout mid now judged
     → IfObservable old (λ v. IsWholeRun (Wholes command v) (effect_of command.applet) output judged v old now)
-behind_run laws command output judged [] mid now recovering calm good left settled idle run memory = tt
-behind_run laws command output judged (v ∷ rest) [] now recovering calm good left settled idle run memory = absurd left
-behind_run laws command output judged (v ∷ rest) (u ∷ more) now recovering calm good left settled idle run memory =
+behind_run laws command output judged [] mid now recovering calm reads good left settled idle run memory = tt
+behind_run laws command output judged (v ∷ rest) [] now recovering calm reads good left settled idle run memory = absurd left
+behind_run laws command output judged (v ∷ rest) (u ∷ more) now recovering calm reads good left settled idle run memory =
     whole_behind laws (Ones command u) (Wholes command v) (effect_of command.applet) output judged v u rest more now recovering (good_is (effect_of command.applet) (files_of v) recovering good)
     (left.0 ∙ sym (work_is (effect_of command.applet) (files_of v) recovering)) (λ o one. into command v u o recovering good left one) (λ o one. from command v u o recovering good left one)
-    (record { calm = calm; files = left; settled = settled; idle = idle }) run memory
+    (record { calm = calm; reads = reads; files = left; settled = settled; idle = idle }) run memory
 
 pub behind_proper : (command : CommandLine) (output : Option (List ℕ)) (old mid : History) (first second last : ℕ) → does_recover (effect_of command.applet) ≡ true → IfObservable old IsGood → IfObservable old (λ v. HasNow mid (LeavesUnstaged v))
     → IfObservable old (λ v. HasRoomToReplay (files_of v) → second ≡ first) → IfObservable mid (λ u. RoomFor (Ones command u) output (files_of u) → last ≡ second)
@@ -160,13 +160,13 @@ bad_leaves command v cause o recovering bad one =
     (subst (Leaves (files_of v)) (sym is) (refl, refl), λ can. none_is_some (intent_of (files_of v)) (bad_unread (files_of v) cause bad) can.1)
 
 pub refused_run : AreLaws → (command : CommandLine) (fault : RecoverFault) (output : Option (List ℕ)) (judged : Judged) (old mid : History) → does_recover (effect_of command.applet) ≡ true
-    → IfObservable old (λ v. IsCalm v old mid) → IfObservable old (Idle old mid) → SaysBad fault old mid → IfOk judged (IsRefused fault)
+    → IfObservable old (λ v. IsCalm v old mid) → IfObservable old (λ v. Since (RecoversAs v) old mid) → IfObservable old (Idle old mid) → SaysBad fault old mid → IfOk judged (IsRefused fault)
     → IfObservable old (λ v. IsWholeRun (Wholes command v) (effect_of command.applet) output judged v old mid)
-refused_run laws command fault output judged [] mid recovering calm idle bad refused = tt
-refused_run laws command fault output (Ok verdict) (v ∷ rest) mid recovering calm idle bad (cause, is, same) =
+refused_run laws command fault output judged [] mid recovering calm reads idle bad refused = tt
+refused_run laws command fault output (Ok verdict) (v ∷ rest) mid recovering calm reads idle bad (cause, is, same) =
     whole_idle (Wholes command v) (effect_of command.applet) output (Ok verdict) v rest mid (bad cause is).0 (λ o one. bad_leaves command v cause o recovering (bad cause is).1 one)
-refused_run laws command fault output (Err e) (v ∷ rest) mid recovering calm idle bad refused =
-    whole_failed laws (Wholes command v) (effect_of command.applet) output (Err e) e v rest mid recovering refl calm idle
+refused_run laws command fault output (Err e) (v ∷ rest) mid recovering calm reads idle bad refused =
+    whole_failed laws (Wholes command v) (effect_of command.applet) output (Err e) e v rest mid recovering refl calm reads idle
 
 pub refused_proper : (Room : TreeState → Type 0) (old : History) (P : Type 0) → ((v : TreeState) → Room v → HasRoomToReplay (files_of v)) → IfObservable old (λ v. HasRoomToReplay (files_of v) → P) → IfObservable old (λ v. Room v → P)
 refused_proper Room [] P f proper = tt

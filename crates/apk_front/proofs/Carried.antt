@@ -230,7 +230,7 @@ reads_by words judged [] now run = tt
 reads_by words judged (v ∷ rest) now run = run.reads
 
 pub states_by : (words : List (List ℕ)) (judged : Judged) (old now : History) → Runs words judged old now
-    → IfObservable old (λ v. (ignored : List ℕ → Bool) (o : Outcome) → IsOrderly (RestsOn ignored) v → IsOutcome words (files_of v) o → Since (IsReadOnItsWay (effect_by (command_of words)) (output words) ignored o.files v) old now)
+    → IfObservable old (λ v. (o : Outcome) → IsOutcome words (files_of v) o → Since (IsReadOnItsWay (effect_by (command_of words)) (output words) o.files v) old now)
 states_by words judged [] now run = tt
 states_by words judged (v ∷ rest) now run = run.states
 

@@ -6,9 +6,9 @@ use Rattle.base_core.specs.Files.{Files}
 use Rattle.base_core.specs.Restart.{SinceBy}
 use Rattle.base_core.specs.Tree.{TreeState, files_of}
 use Rattle.journal_core.specs.Quiet.{IsStill}
-use Rattle.journal_core.specs.Recovery.{IsSettled, intent_name, intent_of, state_of}
+use Rattle.journal_core.specs.Recovery.{IsSettled, intent_name, intent_of}
 use Rattle.journal_core.specs.Replacing.{HasRoom, HidesScratch, IsReplacing, scratch_of}
-use Rattle.journal_core.specs.Staged.{HasRoomToReplay, IsEmptyStage, IsOnTheWay}
+use Rattle.journal_core.specs.Staged.{HasRoomToReplay, IsEmptyStage, IsOnTheWay, unstaged_files}
 use Rattle.outcome.specs.Commands.{IsOutcome}
 use Rattle.outcome.specs.Effect.{Effect, does_recover, effect_by, output}
 use Rattle.outcome.specs.Outcome.{Outcome}
@@ -58,12 +58,12 @@ HasNothingToRecover effect v =
 abbrev pub CanRecover : Effect → TreeState → Type 0
 CanRecover effect v = (does_recover effect ≡ true) × IsSome (intent_of (files_of v))
 
--- The files as read have the old state, as they do while they are recovered; or they are the
--- recovered ones, apart from the scratch name of an output; or the new ones.
-abbrev pub IsReadOnItsWay :
-    Effect → Option (List ℕ) → (List ℕ → Bool) → Files → TreeState → TreeState → Type 0
-IsReadOnItsWay effect output ignored new v w =
-    (state_of ignored (files_of w) ≡ state_of ignored (files_of v))
+-- The files as read stand for what the old ones do, but for what waits, as while they are
+-- recovered; or they are the recovered ones, apart from the scratch name of an output; or the new
+-- ones.
+abbrev pub IsReadOnItsWay : Effect → Option (List ℕ) → Files → TreeState → TreeState → Type 0
+IsReadOnItsWay effect output new v w =
+    (unstaged_files (files_of w) ≡ unstaged_files (files_of v))
     ⊎ IsReadApart output new (work_files effect (files_of v)) w
 
 -- ---- what a crash leaves

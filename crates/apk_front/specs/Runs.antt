@@ -68,8 +68,7 @@ pub record IsWholeRun (IsOne : Outcome → Type 0) (effect : Effect) (output : O
   pub bad : IsSome (recovery_fault effect (files_of v)) → OnOk judged (now ≡ old)
   pub reads : (outcome : Outcome) → IsOne outcome → HasNothingToRecover effect v
       → Since (IsReadApart output outcome.files (files_of v)) old now
-  pub states : (ignored : List ℕ → Bool) (outcome : Outcome)
-      → IsOrderly (RestsOn ignored) v → IsOne outcome
-      → Since (IsReadOnItsWay effect output ignored outcome.files v) old now
+  pub states : (outcome : Outcome) → IsOne outcome
+      → Since (IsReadOnItsWay effect output outcome.files v) old now
   pub leaves : (outcome : Outcome) → IsOne outcome
       → OnOk judged (HasNow now (λ w. files_of w ≡ outcome.files))

@@ -132,15 +132,15 @@ pub fn apk<T: Tree, O: Sink, E: Sink>(
         → Since (IsReadApart (output words.now) outcome.files (files_of v))
         (T.history tree.old) (T.history tree.new)) }
 
-    // ---- what a crash leaves, of a tree that was orderly
-
-    // While the files are recovered their state is the old one at each moment; from then on the
-    // files as read are the recovered ones, but for OUTPUT.apk-tmp, or the outcome's.
-    ensures states { IfObservable (T.history tree.old) (λ v. (ignored : List ℕ → Bool)
-        (outcome : Outcome)
-        → IsOrderly (RestsOn ignored) v → IsOutcome words.now (files_of v) outcome
-        → Since (IsReadOnItsWay (effect_by (command_of words.now)) (output words.now) ignored
+    // Where there is something to recover too, each moment is one of these: the files as read stand
+    // for what the old ones do, but for what waits; or they are the recovered files, but for
+    // OUTPUT.apk-tmp; or the outcome's.
+    ensures states { IfObservable (T.history tree.old) (λ v. (outcome : Outcome)
+        → IsOutcome words.now (files_of v) outcome
+        → Since (IsReadOnItsWay (effect_by (command_of words.now)) (output words.now)
         outcome.files v) (T.history tree.old) (T.history tree.new)) }
+
+    // ---- what a crash leaves, of a tree that was orderly
 
     // A run that commits nothing leaves the state as it was: at each moment a crash leaves a state
     // from before, and the files as read have the old one.
