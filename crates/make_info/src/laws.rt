@@ -18,9 +18,9 @@ pub fn an_option_gives_the_field_of_its_name()
         ≡ value_of_field f info }
 {}
 
-/// The value of `-I` that is reported is the first that offends, in the order given: it is not allowed,
-/// it is a second one of its field, or it is the version with which the output's name is too long.
-/// Where none is reported, none offends.
+/// The value of `-I` that is reported is the first that offends, in the order given: it is not
+/// allowed, it is a second one of its field, or it is the version with which the output's name is
+/// too long. Where none is reported, none offends.
 pub fn the_first_value_that_offends_is_reported()
     ensures offends { (too_long : Bool) (values : List OptionValue) (place : ℕ)
         → first_offence too_long [] values ≡ Some place

@@ -1,5 +1,5 @@
 -- The value of a package (apk-v3(5)) and the contents of its files, of what was read.
-use Rattle.std.specs.Prelude.{ℕ, ◌+◌, ◌==◌, nat_lt, Bool, not, ◌&&◌, if◌then◌else◌, List, [], ◌∷◌, ◌++◌, length, take, drop, map, codes, bytes_eq, sum_by, Option}
+use Rattle.std.specs.Prelude.{ℕ, ◌+◌, ◌*◌, ◌^◌, ◌==◌, nat_lt, Bool, not, ◌&&◌, if◌then◌else◌, List, [], ◌∷◌, ◌++◌, length, take, drop, map, codes, bytes_eq, sum_by, Option}
 use Rattle.std.specs.Str.{is_utf8}
 use Rattle.sha2.specs.Sha256.{sha256}
 use Rattle.adb_view.specs.Plain.{Plain, Plains, null, int, none, more, blob_value, arr_value, obj_value}
@@ -61,10 +61,18 @@ access_value mode =
     obj_value
     (more (int mode) (more (blob_value (codes "root")) (more (blob_value (codes "root")) none)))
 
+-- of a file 0644, of a folder 0755, by their octal digits: all may read and root may write, and all
+-- may enter a folder
+abbrev pub FILE_MODE : ℕ
+FILE_MODE = 6 * 8 ^ 2 + 4 * 8 + 4
+
+abbrev pub FOLDER_MODE : ℕ
+FOLDER_MODE = 7 * 8 ^ 2 + 5 * 8 + 5
+
 -- name, access list, size, time, hash and target
 abbrev pub file_fields : List ℕ → FileKind → Plains
 file_fields name kind =
-    more (blob_value name) (more (access_value 420) (more (size_value (size_of_kind kind))
+    more (blob_value name) (more (access_value FILE_MODE) (more (size_value (size_of_kind kind))
     (more null (more (blob_value (hash_of_kind kind))
     (more (blob_value (target_of_kind kind)) none)))))
 
@@ -77,7 +85,8 @@ value_of_file file = value_of_kind file.name (kind_of_file file.bytes)
 -- name, access list and files
 abbrev pub folder_fields : List ℕ → List Plain → Plains
 folder_fields name files =
-    more (blob_value name) (more (access_value 493) (more (arr_value (plains_of files)) none))
+    more (blob_value name) (more (access_value FOLDER_MODE)
+    (more (arr_value (plains_of files)) none))
 
 abbrev pub folder_with : List ℕ → List Plain → Plain
 folder_with name files = obj_value (folder_fields name files)

@@ -8,7 +8,7 @@ ghost use Rattle.make_info.specs.Fields.{field_word};
 ghost use Rattle.make_info.specs.Named.{value_by_name};
 ghost use Rattle.make_info.specs.Values.{number_value, plains_of, size_value};
 ghost use Rattle.make_package.specs.Folders.{folder_names, folders_of, folders_over};
-ghost use Rattle.make_package.specs.Package.{Script, access_value, file_fields, folder_fields, is_link_file, kind_of_file, link_text, package_fields, script_fields, script_in};
+ghost use Rattle.make_package.specs.Package.{FILE_MODE, FOLDER_MODE, Script, access_value, file_fields, folder_fields, is_link_file, kind_of_file, link_text, package_fields, script_fields, script_in};
 ghost use Rattle.make_package.specs.declared.file.FileKind.{FileKind};
 ghost use Rattle.sha2.specs.Sha256.{sha256};
 ghost use Rattle.std.specs.Cmp.Lexicographic.{slice_cmp};
@@ -66,14 +66,15 @@ pub fn the_fields_of_a_file_are_those_of_its_bytes()
         × (value_by_name (codes "target") (table File) (file_fields name (kind_of_file bytes))
         ≡ Some (blob_value (0 ∷ 160 ∷ link_text bytes))) }
     ensures named { (name : List ℕ) (kind : FileKind)
-        → (value_by_name (codes "name") (table File) (file_fields name kind) ≡ Some (blob_value name))
+        → (value_by_name (codes "name") (table File) (file_fields name kind)
+        ≡ Some (blob_value name))
         × (value_by_name (codes "acl") (table File) (file_fields name kind)
-        ≡ Some (access_value 420)) }
+        ≡ Some (access_value FILE_MODE)) }
     ensures folder { (name : List ℕ) (files : List Plain)
         → (value_by_name (codes "name") (table Dir) (folder_fields name files)
         ≡ Some (blob_value name))
         × (value_by_name (codes "acl") (table Dir) (folder_fields name files)
-        ≡ Some (access_value 493))
+        ≡ Some (access_value FOLDER_MODE))
         × (value_by_name (codes "files") (table Dir) (folder_fields name files)
         ≡ Some (arr_value (plains_of files))) }
 {}
