@@ -1,5 +1,5 @@
 //! Operands: which an applet takes, and those that a command has.
-ghost use Rattle.std.specs.Prelude.{◌≡◌, ◌<◌, ◌==◌, ◌++◌, ◌∷◌, [], IfOk, IsTrue, None, OnOk, Some, length, slice_get};
+ghost use Rattle.std.specs.Prelude.{◌≡◌, ◌<◌, ◌==◌, ◌++◌, ◌∷◌, [], IfOk, IsTrue, None, OnErr, OnOk, Some, length, slice_get};
 ghost use Rattle.std.specs.Option.{option_map};
 ghost use Rattle.command_core.specs.Files.{without_dot};
 ghost use Rattle.command_core.specs.Named.{file_name, are_files, operand_file};
@@ -164,9 +164,10 @@ impl Operands {
         }
     }
 
-    /// Adds the word at a place as an operand.
+    /// Adds the word at a place as an operand. A refused call changes nothing.
     pub fn push(&mut self, place: u32, word: &[u8]) -> Result<(), AllocError>
-        ensures { OnOk result (self.new ≡ self.old ++ operand_at place word.now ∷ []) }
+        ensures ok { OnOk result (self.new ≡ self.old ++ operand_at place word.now ∷ []) }
+        ensures err { OnErr result (self.new ≡ self.old) }
     {
         let file = read_file(self.alloc, word)?;
         let text = Text::of(self.alloc, word)?;

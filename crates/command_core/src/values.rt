@@ -1,5 +1,5 @@
 //! Options with values: which values each may have, and those that a command was given.
-ghost use Rattle.std.specs.Prelude.{◌≡◌, ◌<◌, ◌==◌, ◌++◌, ◌∷◌, [], IfOk, IfSome, IsTrue, OnOk, Some, length, not, slice_get};
+ghost use Rattle.std.specs.Prelude.{◌≡◌, ◌<◌, ◌==◌, ◌++◌, ◌∷◌, [], IfOk, IfSome, IsTrue, OnErr, OnOk, Some, length, not, slice_get};
 ghost use Rattle.std.specs.Option.{option_map};
 ghost use Rattle.command_core.specs.Files.{is_file, without_dot};
 ghost use Rattle.command_core.specs.Named.{file_name, file_in, file_part};
@@ -141,9 +141,11 @@ impl Values {
         }
     }
 
-    /// Adds a value of the option with a letter, which the word at a place holds.
+    /// Adds a value of the option with a letter, which the word at a place holds. A refused call
+    /// changes nothing.
     pub fn push(&mut self, place: u32, letter: u8, text: &[u8]) -> Result<(), AllocError>
-        ensures { OnOk result (self.new ≡ self.old ++ option_value place letter text.now ∷ []) }
+        ensures ok { OnOk result (self.new ≡ self.old ++ option_value place letter text.now ∷ []) }
+        ensures err { OnErr result (self.new ≡ self.old) }
     {
         let file = read_value_file(self.alloc, letter, text)?;
         let text = Text::of(self.alloc, text)?;

@@ -24,4 +24,4 @@ returns-then-is_end c =
 
 pub loop-i-preserved : goal.loop-i-preserved
 loop-i-preserved c =
-    reading_push _ (options_of c.args.start.now.applet) c.loop-i.state c.loop-i.operands c.push.new.self c.args.words.now c.loop-i.i c.word-word.result.now c.place_behind-in-loop-i.result c.word-word.ensures (sym c.expects.ensures ∙ c.if-expects.false) (sym c.is_end.ensures ∙ c.if-is_end.false) c.place_behind-in-loop-i.ensures c.in_ok-push.ensures c.loop-i.invariant
+    reading_push _ (options_of c.args.start.now.applet) c.loop-i.state c.loop-i.operands c.push.new.self c.args.words.now c.loop-i.i c.word-word.result.now c.place_behind-in-loop-i.result c.word-word.ensures (sym c.expects.ensures ∙ c.if-expects.false) (sym c.is_end.ensures ∙ c.if-is_end.false) c.place_behind-in-loop-i.ensures c.in_ok-push.ensures.ok c.loop-i.invariant
