@@ -161,6 +161,7 @@ impl Stage {
         ensures others { IfObservable (T.history tree.old) (λ v. HasNow (T.history tree.new)
             (KeepsFilesBut (λ q. q ≡ stage_name (self.old.staged + 1)) v)) }
         ensures view { OnOk result (self.new ≡ record self.old { is_open = true }) }
+        ensures err { OnErr result (self.new ≡ self.old) }
         ensures goes_on { GoesOn (T.counts tree.old) (T.counts tree.new) }
         ensures cause { OnErr result (HasCause (T.counts tree.old) (T.counts tree.new)) }
         ensures kept { OnOk result (IsNoFault (T.counts tree.old) (T.counts tree.new)) }
@@ -192,6 +193,7 @@ impl Stage {
             IsAlone (stage_name (self.old.staged + 1)) v → HasNow (T.history tree.new)
             (KeepsFilesBut (λ q. q ≡ stage_name (self.old.staged + 1)) v)) }
         ensures view { OnOk result (self.new ≡ self.old) }
+        ensures err { OnErr result (self.new ≡ self.old) }
         ensures goes_on { GoesOn (T.counts tree.old) (T.counts tree.new) }
         ensures cause { OnErr result (HasCause (T.counts tree.old) (T.counts tree.new)) }
         ensures kept { OnOk result (IsNoFault (T.counts tree.old) (T.counts tree.new)) }
@@ -219,6 +221,7 @@ impl Stage {
             (λ v. HasNow (T.history tree.new) (λ w. files_of w ≡ files_of v)) }
         ensures view { OnOk result
             (self.new ≡ record self.old { staged = self.old.staged + 1; is_open = false }) }
+        ensures err { OnErr result (self.new ≡ self.old) }
         ensures goes_on { GoesOn (T.counts tree.old) (T.counts tree.new) }
         ensures cause { OnErr result (HasCause (T.counts tree.old) (T.counts tree.new)) }
         ensures kept { OnOk result (IsNoFault (T.counts tree.old) (T.counts tree.new)) }
@@ -276,6 +279,7 @@ impl Stage {
         ensures reads { IfObservable (T.history tree.old) (λ v. OnOk result
             (HasNow (T.history tree.new) (KeepsFilesBut (λ q. q ≡ intent_name) v))) }
         ensures view { OnOk result (self.new ≡ record self.old { published = true; acted = 0 }) }
+        ensures err { OnErr result (self.new ≡ self.old) }
         ensures goes_on { GoesOn (T.counts tree.old) (T.counts tree.new) }
         ensures cause { OnErr result (HasCause (T.counts tree.old) (T.counts tree.new)) }
         ensures kept { OnOk result (IsNoFault (T.counts tree.old) (T.counts tree.new)) }
@@ -317,6 +321,7 @@ impl Stage {
             → OnOk result (self.new ≡ record self.old { acted = self.old.acted + 1 }) }
         ensures none_left { action_count self.old.intent ≤ self.old.acted
             → OnOk result (self.new ≡ self.old) × (tree.new ≡ tree.old) }
+        ensures err { OnErr result (self.new ≡ self.old) }
         ensures goes_on { GoesOn (T.counts tree.old) (T.counts tree.new) }
         ensures cause { OnErr result (HasCause (T.counts tree.old) (T.counts tree.new)) }
         ensures kept { OnOk result (IsNoFault (T.counts tree.old) (T.counts tree.new)) }
@@ -359,6 +364,7 @@ impl Stage {
             Since (IsLessWaiting v) (T.history tree.old) (T.history tree.new)) }
         ensures others { IfObservable (T.history tree.old) (λ v. HasNow (T.history tree.new)
             (KeepsFilesBut (λ q. q ≡ intent_name) v)) }
+        ensures view { self.new ≡ self.old }
         ensures goes_on { GoesOn (T.counts tree.old) (T.counts tree.new) }
         ensures cause { OnErr result (HasCause (T.counts tree.old) (T.counts tree.new)) }
         ensures kept { OnOk result (IsNoFault (T.counts tree.old) (T.counts tree.new)) }
