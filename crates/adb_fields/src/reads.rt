@@ -13,7 +13,8 @@ ghost use Rattle.adb_tables.specs.declared.tables.Kind.TheVariants as Kinds;
 use adb_tables::{Which, entry_word, object_entries};
 use adb_view::{Adb, Arr, Val};
 
-/// The field of a sound object, counted from 0; NULL where the object ends before it.
+/// The field of a sound object, counted from 0; NULL where the object ends before it. Of a place
+/// behind the table's last field nothing is said.
 #[tactic(auto, using(crate::proofs::FieldReads::object_runs))]
 pub fn field_word(adb: Adb<'_>, which: Which, object: Val, i: usize) -> Val
     requires { is_sound (payload_of adb) (Kinds.Obj which) object ≡ true }

@@ -7,7 +7,7 @@ pub mod Calls
 pub mod Listed
 pub mod Crash
 pub mod Sink
--- what only inner contracts and proofs use
 pub mod Restart
+-- what only inner contracts and proofs use
 pub mod Read
 pub mod Write
