@@ -5,7 +5,7 @@ use Rattle.adb_view.specs.Plain.{Plain}
 use Rattle.base_core.specs.Files.{Files}
 use Rattle.db_core.specs.Members.{Listing}
 use Rattle.pkg_core.specs.Contents as Packages
-use Rattle.change_files.specs.AsListed.{is_as_listed, is_link, link_bytes}
+use Rattle.file_guard.specs.AsListed.{is_as_listed, is_link, link_bytes}
 use Rattle.change_files.specs.Fate.{Fate, fate_of, gives_way, goes_aside, goes_in, is_guarded}
 use Rattle.change_files.specs.FileChange.{FileChange, coming_owner, is_claimed, old_entry, was_listed}
 

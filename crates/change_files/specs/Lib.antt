@@ -1,5 +1,4 @@
 -- what the contract of `apk` says
-pub mod AsListed
 pub mod FileChange
 pub mod Fate
 pub mod FilesAfter
