@@ -1,0 +1,3 @@
+-- what only inner contracts and proofs use
+pub mod Once
+pub mod Named

@@ -1,0 +1,7 @@
+-- Claims whose paths are names.
+use Rattle.std.specs.Prelude.{◌≡◌, ℕ, List, Some, slice_get}
+use Rattle.base_core.specs.Name.{IsName}
+use Rattle.path_claims.specs.Claims.{PathClaim}
+
+abbrev pub HaveNames : List PathClaim → Type 0
+HaveNames claims = (i : ℕ) (c : PathClaim) → slice_get claims i ≡ Some c → IsName c.path

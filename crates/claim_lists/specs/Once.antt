@@ -1,0 +1,10 @@
+-- The first claim of each path.
+use Rattle.std.specs.Prelude.{◌≡◌, ℕ, List, map}
+use Rattle.std.specs.List.{find}
+use Rattle.base_core.specs.Listed.{IsRising}
+use Rattle.path_claims.specs.Claims.{PathClaim, is_of_path}
+
+-- the second list has the first claim of each path that the first list has, in byte order
+pub record HasFirsts (all firsts : List PathClaim) : Type 0 where
+  pub rising : IsRising (map (λ c. c.path) firsts)
+  pub each : (path : List ℕ) → find (is_of_path path) firsts ≡ find (is_of_path path) all
