@@ -1,4 +1,5 @@
 pub mod AnyOf
+mod NamePlaces
 pub mod Ordered
 pub mod PathParts
 pub mod Places

@@ -3,4 +3,6 @@ pub mod Members
 pub mod Packages
 -- what only inner contracts and proofs use
 pub mod EntrySeen
+pub mod NamePlaces
+pub mod NameSeen
 pub mod Seen

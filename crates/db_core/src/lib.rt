@@ -9,6 +9,7 @@
 mod db;
 mod listed_paths;
 mod members;
+mod name_places;
 mod owned;
 
 pub use db::Db;

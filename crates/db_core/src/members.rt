@@ -5,13 +5,16 @@ ghost use Rattle.adb_view.specs.Plain.{Plain};
 ghost use Rattle.base_core.specs.Listed.{IsRising};
 ghost use Rattle.db_core.specs.EntrySeen.{member_by};
 ghost use Rattle.db_core.specs.Members.{Member, comes_behind, coming_member, member_name, staying_member};
+ghost use Rattle.db_core.specs.declared.members.TheConstants.{MOST_MEMBERS};
 ghost use Rattle.pkg_core.specs.Opened.{opened_payload, opened_value};
+ghost use Rattle.pkg_pieces.specs.Values.{payload_of_contents, value_of_contents};
 ghost use Rattle.sha2.specs.Sha256.{sha256};
-ghost use Rattle.std.specs.Prelude.{◌≡◌, ◌<◌, ◌++◌, ◌∷◌, [], true, ◌==◌, Some, None, length, map, slice_get, IfOk, OnOk, OnErr};
+ghost use Rattle.std.specs.Prelude.{◌≡◌, ◌<◌, ◌≤◌, ◌++◌, ◌∷◌, [], true, ◌==◌, Some, None, length, map, slice_get, IfOk, OnOk, OnErr};
 
 use crate::db::Db;
 use adb_schema::PackageView;
 use pkg_core::Package;
+use pkg_pieces::Contents;
 use std::alloc::{AllocError, Global};
 use std::marker::Model;
 
@@ -46,6 +49,7 @@ impl<'a> Model for Entry<'a> {
 pub struct Members<'a> {
     pub(crate) entries: Vec<Entry<'a>>,
     ghost in_order: { IsRising (map (λ e. member_name (member_by e)) entries.items) },
+    ghost few: { length entries.items ≤ MOST_MEMBERS },
 }
 
 impl<'a> Members<'a> {
@@ -100,6 +104,27 @@ impl<'a> Members<'a> {
         Ok(())
     }
 
+    /// Adds a package that comes and whose files are read in pieces, with its id. A refused call
+    /// changes nothing.
+    ///
+    /// # Errors
+    ///
+    /// Want of memory.
+    pub fn comes_in_pieces(&mut self, contents: &Contents<'a>) -> Result<(), AllocError>
+        requires behind { comes_behind (package_name (value_of_contents contents.now))
+            (members_of self.old) ≡ true }
+        requires few { length (members_of self.old) < MOST_MEMBERS }
+        ensures ok { OnOk result (members_of self.new ≡ members_of self.old
+            ++ coming_member (value_of_contents contents.now)
+            (sha256 (payload_of_contents contents.now)) ∷ []) }
+        ensures err { OnErr result (members_of self.new ≡ members_of self.old) }
+    {
+        let view = contents.view();
+        let id = contents.id();
+        self.entries.push(Entry { view, id: Some(id) })?;
+        Ok(())
+    }
+
     /// Whether a package with this name comes behind all others, as one that is added has to.
     pub fn comes_behind(&self, name: &[u8]) -> bool
         ensures { result ≡ comes_behind name.now (members_of self.now) }
@@ -114,7 +139,8 @@ impl<'a> Members<'a> {
 
     /// How many packages there are.
     pub fn len(&self) -> usize
-        ensures { result ≡ length (members_of self.now) }
+        ensures value { result ≡ length (members_of self.now) }
+        ensures few { result ≤ MOST_MEMBERS }
     {
         self.entries.len()
     }

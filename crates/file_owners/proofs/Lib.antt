@@ -1,3 +1,4 @@
 pub mod OneWay
 pub mod Gathering
 pub mod Claiming
+mod Staying
