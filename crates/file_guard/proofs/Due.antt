@@ -1,5 +1,5 @@
 -- Bytes that are due, in two parts, and bytes that come.
-use Rattle.std.proofs.Common.{◌≡◌, ◌⊎◌, inl, inr, ℕ, suc, ◌==◌, ◌+◌, ◌-◌, ◌≤◌, min, Bool, true, false, List, [], ◌∷◌, ◌++◌, length, take, drop, refl, ap, sym, ◌∙◌, append_assoc, arith}
+use Rattle.std.proofs.Common.{◌≡◌, ◌⊎◌, inl, inr, ℕ, suc, ◌==◌, ◌≤◌, min, Bool, true, false, List, [], ◌∷◌, ◌++◌, length, take, drop, refl, ap, sym, ◌∙◌, append_assoc, arith}
 use Rattle.std.specs.Str.{bytes_eq}
 use Rattle.std.proofs.Math.Seq.{take-append_seam}
 use Rattle.std.proofs.lemmas.Bool.Decides.{Decides-like, nat_tests, same_from_decides}
@@ -76,9 +76,9 @@ first_differs bytes first second n is differs further same =
     let short : n ≤ length first = omega arith in
     let long : length (take n bytes) ≡ n = length-take-le n bytes within in
     let fronts : take (length (take n bytes)) first ≡ take n bytes =
-        ap (λ (k : ℕ). take k first) long
-        ∙ (sym (take-append-le n first second short)
-        ∙ (ap (take n) (sym same) ∙ take-append-le n bytes further within)) in
+    ap (λ (k : ℕ). take k first) long
+    ∙ (sym (take-append-le n first second short)
+    ∙ (ap (take n) (sym same) ∙ take-append-le n bytes further within)) in
     both _ ((bytes_eq-Decides (take (length (take n bytes)) first) (take n bytes)).1 fronts) differs
 
 rest_differs : (bytes first second : List ℕ) (n : ℕ) → n ≡ min (length bytes) (length first)
@@ -88,13 +88,14 @@ rest_differs : (bytes first second : List ℕ) (n : ℕ) → n ≡ min (length b
 rest_differs bytes first second n is same differs none =
     let rest_is : drop n bytes ≡ [] = no_bytes (drop n bytes) none in
     let found : bytes_eq (take (length (drop n bytes)) second) (drop n bytes) ≡ true =
-        (bytes_eq-Decides (take (length (drop n bytes)) second) (drop n bytes)).1
-        (ap (λ (xs : List ℕ). take (length xs) second) rest_is ∙ (take_nothing second ∙ sym rest_is)) in
+    (bytes_eq-Decides (take (length (drop n bytes)) second) (drop n bytes)).1
+    (ap (λ (xs : List ℕ). take (length xs) second) rest_is ∙ (take_nothing second ∙ sym rest_is)) in
     both _ found differs
   where
     no_bytes : (xs : List ℕ) → length xs ≡ 0 → xs ≡ []
     no_bytes [] e = refl
     no_bytes (x ∷ xs) e = absurd (omega arith)
+
     take_nothing : (xs : List ℕ) → take 0 xs ≡ []
     take_nothing [] = refl
     take_nothing (x ∷ xs) = refl
@@ -115,18 +116,21 @@ second_differs bytes first second n is same_first differs further same =
         let rest_len = length-drop n bytes in
         let left_len = length-drop (length (take n bytes)) first in
         grind arith
+
     first_is : first ≡ take n bytes ++ drop (length (take n bytes)) first
     first_is = front_and_rest (length (take n bytes)) first (take n bytes) (drop (length (take n bytes)) first) ((bytes_eq-Decides (take (length (take n bytes)) first) (take n bytes)).0 same_first) refl
+
     nothing_behind : (front left : List ℕ) → length left ≡ 0 → front ++ left ≡ front
     nothing_behind front [] e = append-nil front
     nothing_behind front (x ∷ left) e = absurd (omega arith)
+
     behind_first : length (drop (length (take n bytes)) first) ≡ 0 → bytes_eq (take (length (drop n bytes)) second) (drop n bytes) ≡ true
     behind_first none =
         let all : first ≡ take n bytes = first_is ∙ nothing_behind (take n bytes) (drop (length (take n bytes)) first) none in
         let split : take n bytes ++ (drop n bytes ++ further) ≡ take n bytes ++ second =
-            sym (append_assoc (take n bytes) (drop n bytes) further)
-            ∙ (ap (λ (xs : List ℕ). xs ++ further) (take-append-drop n bytes)
-            ∙ (same ∙ ap (λ (xs : List ℕ). xs ++ second) all)) in
+        sym (append_assoc (take n bytes) (drop n bytes) further)
+        ∙ (ap (λ (xs : List ℕ). xs ++ further) (take-append-drop n bytes)
+        ∙ (same ∙ ap (λ (xs : List ℕ). xs ++ second) all)) in
         let second_is : drop n bytes ++ further ≡ second = append_cancel_left (take n bytes) (drop n bytes ++ further) second split in
         (bytes_eq-Decides (take (length (drop n bytes)) second) (drop n bytes)).1
         (ap (take (length (drop n bytes))) (sym second_is) ∙ take-append_seam (drop n bytes) further)

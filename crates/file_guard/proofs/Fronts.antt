@@ -3,15 +3,13 @@ use Rattle.std.proofs.Common.{◌≡◌, ◌∙◌, ◌≤◌, ℕ, ◌+◌, Boo
 use Rattle.std.specs.Option.{option_map}
 use Rattle.std.specs.Prelude.{IfErr, IfSome, IsErrOf, OnErr}
 use Rattle.std.proofs.Math.Seq.{take-add}
-use Rattle.std.proofs.lemmas.Grind.{common_steps}
 use Rattle.base_core.specs.Calls.{IfObservable, IsCounted}
 use Rattle.base_core.specs.Faults.{Counts, HasCause, IsNoFault}
 use Rattle.base_core.specs.Read.{OnlyReads}
-use Rattle.base_core.specs.Tree.{TreeState, Anywhere, CanRead, files_of}
+use Rattle.base_core.specs.Tree.{TreeState, CanRead, files_of}
 use Rattle.base_core.specs.declared.tree.Disk.{Disk}
-use Rattle.file_guard.specs.Listed.{comparison_by, is_as_told}
+use Rattle.file_guard.specs.Listed.{is_as_told}
 use Rattle.file_guard.specs.Watching.{Watches}
-use Rattle.file_guard.specs.declared.compare.Comparison.{Comparison}
 use Rattle.file_guard.specs.declared.listed.ListedFile.{ListedFile}
 use Rattle.file_guard.specs.declared.watch.Watch.{Watch}
 
@@ -31,15 +29,6 @@ of_file P (Some bytes) h = h bytes refl
 file_has : (P : List ℕ → Type 0) (found : Option (List ℕ)) (bytes : List ℕ) → found ≡ Some bytes → IfSome found P → P bytes
 file_has P found bytes is h = let Q : Option (List ℕ) → Type 0 = λ o. IfSome o P in subst Q is h
 
-nothing_taken : (bytes : List ℕ) → take 0 bytes ≡ []
-nothing_taken [] = refl
-nothing_taken (b ∷ bytes) = refl
-
-pub begun : (history : List TreeState) (name : List ℕ) (watch : Watch) (listed : Option ListedFile) → Watches watch (is_as_told listed) [] → WatchesFront history name watch listed 0
-begun [] name watch listed h = tt
-begun (v ∷ earlier) name watch listed h =
-    of_file _ (files_of v name) (λ bytes is. subst (λ (front : List ℕ). Watches watch (is_as_told listed) front) (sym (nothing_taken bytes)) h)
-
 further_in : (v : TreeState) (name : List ℕ) (watch after : Watch) (listed : Option ListedFile) (at n : ℕ) (piece : List ℕ)
     → ((test : List ℕ → Bool) (so_far : List ℕ) → Watches watch test so_far → Watches after test (so_far ++ piece))
     → IfSome (files_of v name) (λ bytes. piece ≡ take n (drop at bytes))
@@ -47,10 +36,10 @@ further_in : (v : TreeState) (name : List ℕ) (watch after : Watch) (listed : O
     → IfSome (files_of v name) (λ bytes. Watches after (is_as_told listed) (take (at + n) bytes))
 further_in v name watch after listed at n piece takes read h =
     of_file _ (files_of v name) (λ bytes is.
-      let piece_is : piece ≡ take n (drop at bytes) = file_has _ (files_of v name) bytes is read in
-      let front_is : take at bytes ++ piece ≡ take (at + n) bytes = ap (λ (xs : List ℕ). take at bytes ++ xs) piece_is ∙ sym (take-add at n bytes) in
-      subst (λ (front : List ℕ). Watches after (is_as_told listed) front) front_is
-      (takes (is_as_told listed) (take at bytes) (file_has _ (files_of v name) bytes is h)))
+    let piece_is : piece ≡ take n (drop at bytes) = file_has _ (files_of v name) bytes is read in
+    let front_is : take at bytes ++ piece ≡ take (at + n) bytes = ap (λ (xs : List ℕ). take at bytes ++ xs) piece_is ∙ sym (take-add at n bytes) in
+    subst (λ (front : List ℕ). Watches after (is_as_told listed) front) front_is
+    (takes (is_as_told listed) (take at bytes) (file_has _ (files_of v name) bytes is h)))
 
 pub further : (history later : List TreeState) (name : List ℕ) (watch after : Watch) (listed : Option ListedFile) (at n : ℕ) (piece : List ℕ)
     → later ≡ history
@@ -62,30 +51,6 @@ further (v ∷ earlier) later name watch after listed at n piece same takes read
     further_in v name watch after listed at n piece takes
     (subst (λ (states : List TreeState). IfObservable states (λ v. IfSome (files_of v name) (λ bytes. piece ≡ take n (drop at bytes)))) same read) h
 
--- the length that was told
-long_as_told : (found : Option (List ℕ)) (size : ℕ) (bytes : List ℕ) → Some size ≡ option_map length found → found ≡ Some bytes → length bytes ≡ size
-long_as_told found size bytes told is = let both : Some size ≡ Some (length bytes) = told ∙ ap (option_map length) is in (cc)
-
-all_taken : (n : ℕ) (xs : List ℕ) → length xs ≤ n → take n xs ≡ xs
-all_taken n xs le = grind (arith, common_steps)
-
-pub compared : (history : List TreeState) (name : List ℕ) (size at : ℕ) (watch_new watch_old : Watch) (new old : Option ListedFile) (as_new as_old : Bool)
-    → IfObservable history (λ v. Some size ≡ option_map length (files_of v name)) → size ≤ at
-    → ((test : List ℕ → Bool) (bytes : List ℕ) → Watches watch_new test bytes → as_new ≡ test bytes)
-    → ((test : List ℕ → Bool) (bytes : List ℕ) → Watches watch_old test bytes → as_old ≡ test bytes)
-    → WatchesFront history name watch_new new at → WatchesFront history name watch_old old at
-    → (comparison : Comparison) → comparison ≡ record { as_new = as_new; as_old = as_old }
-    → IfObservable history (λ v. IfSome (files_of v name) (λ bytes. comparison ≡ comparison_by new old bytes))
-compared [] name size at watch_new watch_old new old as_new as_old told end met_new met_old h_new h_old comparison shown = tt
-compared (v ∷ earlier) name size at watch_new watch_old new old as_new as_old told end met_new met_old h_new h_old comparison shown =
-    of_file _ (files_of v name) (λ bytes is.
-      let long : length bytes ≡ size = long_as_told (files_of v name) size bytes told is in
-      let whole : take at bytes ≡ bytes = all_taken at bytes (omega arith) in
-      let new_is : as_new ≡ is_as_told new bytes = met_new (is_as_told new) (take at bytes) (file_has _ (files_of v name) bytes is h_new) ∙ ap (is_as_told new) whole in
-      let old_is : as_old ≡ is_as_told old bytes = met_old (is_as_told old) (take at bytes) (file_has _ (files_of v name) bytes is h_old) ∙ ap (is_as_told old) whole in
-      shown ∙ (ap (λ (b : Bool). let c : Comparison = record { as_new = b; as_old = as_old } in c) new_is
-      ∙ ap (λ (b : Bool). let c : Comparison = record { as_new = is_as_told new bytes; as_old = b } in c) old_is))
-
 -- ---- the tree
 
 pub can_read_piece : (history : List TreeState) (name : List ℕ) (size at n : ℕ) → IfObservable history (λ v. Some size ≡ option_map length (files_of v name)) → at + n ≤ size → IfObservable history (λ v. CanRead name at n v)
@@ -95,10 +60,6 @@ can_read_piece (v ∷ earlier) name size at n told le = by_file (files_of v name
     by_file : (found : Option (List ℕ)) → Some size ≡ option_map length found → (bytes : List ℕ) × (found ≡ Some bytes) × (at + n ≤ length bytes)
     by_file None is = absurd (cc)
     by_file (Some bytes) is = (bytes, refl, let long : length bytes ≡ size = (cc) in omega arith)
-
-pub can_anywhere : (history : List TreeState) → IfObservable history Anywhere
-can_anywhere [] = tt
-can_anywhere (v ∷ earlier) = tt
 
 proper_where : (history : List TreeState) (can : TreeState → Type 0) (P : Type 0) → IfObservable history (λ v. can v → P) → IfObservable history can → IfObservable history (λ v. P)
 proper_where [] can P h may = tt
@@ -131,17 +92,5 @@ read_again fault old new a b value other h = record {
   disk = λ is. absurd (cc);
   kept = h.kept;
   others = tt;
-  proper = h.proper;
-}
-
--- the same fault, of a call that gives something else
-pub failed_again : {A B : Type 0} (fault : Disk) (old new : List TreeState) (a b : Counts) (cause : Disk) (r : Result B Disk) → r ≡ Err cause → OnlyReads {A = A} {E = Disk} fault old new a b (Err cause) → OnlyReads {A = B} {E = Disk} fault old new a b r
-failed_again fault old new a b cause (Ok value) is h = absurd (cc)
-failed_again fault old new a b cause (Err other) is h = record {
-  same = h.same;
-  goes_on = h.goes_on;
-  disk = λ failed. h.disk (λ j. Err cause);
-  kept = tt;
-  others = λ off. absurd (off refl);
   proper = h.proper;
 }

@@ -1,5 +1,5 @@
 -- Behind the last byte nothing more is due.
-use Rattle.std.proofs.Common.{◌≡◌, ◌==◌, ◌∙◌, false, true, length, ℕ, sym, subst, ap}
+use Rattle.std.proofs.Common.{◌∙◌, sym, subst}
 use Rattle.file_guard.specs.Watching.{Watches}
 use Rattle.file_guard.specs.declared.watch.Watch.{Watch}
 use Rattle.file_guard.proofs.Due.{first_due, never_met, second_due}
