@@ -1,0 +1,59 @@
+-- What becomes of files that come, claim by claim.
+use Rattle.std.specs.Prelude.{◌≡◌, ℕ, Bool, true, false, not, ◌&&◌, nat_le, List, [], ◌∷◌, map, length, Option, Some, None, cond, is_some}
+use Rattle.std.specs.List.{find}
+use Rattle.base_core.specs.Files.{Files}
+use Rattle.adb_view.specs.Plain.{Plain}
+use Rattle.path_claims.specs.Claims.{PathClaim, is_of_path}
+use Rattle.file_guard.specs.Listed.{IsOfEntry}
+use Rattle.file_guard.specs.declared.listed.ListedFile.{ListedFile}
+use Rattle.change_files.specs.Fate as Fates
+use Rattle.change_files.specs.Fate.{aside_name, fate_by, goes_aside, goes_in, gives_way}
+use Rattle.change_files.specs.FileChange.{FileChange, is_claimed}
+use Rattle.own_core.specs.ClaimEntries.{claim_entry}
+use Rattle.own_core.specs.declared.fate.Fate.{Fate}
+use Rattle.own_core.specs.declared.fate.Fate.TheVariants.{GivesWay, GoesAside, GoesIn}
+
+abbrev pub fate_seen : Fate → Fates.Fate
+fate_seen GoesIn = goes_in
+fate_seen GivesWay = gives_way
+fate_seen GoesAside = goes_aside
+
+-- of the file that a claim of a coming owner speaks of
+abbrev pub claim_fate : FileChange → Files → PathClaim → Fates.Fate
+claim_fate change files c = fate_by change c.path (claim_entry change.members c) (files c.path)
+
+-- no package lists the name beside a path, and it is short enough
+abbrev pub is_free_beside : FileChange → List ℕ → Bool
+is_free_beside change path =
+    nat_le (length (aside_name path)) 1024 && not (is_claimed change (aside_name path))
+
+-- a file that goes aside has a name there
+abbrev pub HasRoom : FileChange → List ℕ → Fates.Fate → Type 0
+HasRoom change path fate = fate ≡ goes_aside → is_free_beside change path ≡ true
+
+abbrev pub HaveRoom : FileChange → List PathClaim → List Fates.Fate → Type 0
+HaveRoom change [] fates = Unit {0}
+HaveRoom change (c ∷ cs) [] = ⊥
+HaveRoom change (c ∷ cs) (f ∷ fates) = HasRoom change c.path f × HaveRoom change cs fates
+
+-- what is read of an entry, where there is one
+abbrev pub IsOfEntryIfAny : Option ListedFile → Option Plain → Type 0
+IsOfEntryIfAny None None = Unit {0}
+IsOfEntryIfAny None (Some entry) = ⊥
+IsOfEntryIfAny (Some listed) None = ⊥
+IsOfEntryIfAny (Some listed) (Some entry) = IsOfEntry listed entry
+
+-- ---- claims by what becomes of them
+
+abbrev pub is_fate : Fates.Fate → Fates.Fate → Bool
+is_fate goes_in goes_in = true
+is_fate gives_way gives_way = true
+is_fate goes_aside goes_aside = true
+is_fate f g = false
+
+-- the claims whose marks pass
+abbrev pub marked_claims : {X : Type 0} → (X → Bool) → List PathClaim → List X → List PathClaim
+marked_claims test [] marks = []
+marked_claims test (c ∷ cs) [] = []
+marked_claims test (c ∷ cs) (m ∷ marks) =
+    cond (test m) (c ∷ marked_claims test cs marks) (marked_claims test cs marks)

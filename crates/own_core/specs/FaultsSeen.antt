@@ -1,0 +1,9 @@
+-- The plan's fault where the tree failed, or a call that reads it found no memory.
+use Rattle.base_core.specs.declared.tree.TreeFault.{TreeFault}
+use Rattle.base_core.specs.declared.tree.TreeFault.TheVariants as Reads
+use Rattle.own_core.specs.declared.fault.PlanFault.{PlanFault}
+use Rattle.own_core.specs.declared.fault.PlanFault.TheVariants.{Disk, Memory}
+
+abbrev pub fault_of_tree : TreeFault → PlanFault
+fault_of_tree Reads.Disk = Disk
+fault_of_tree Reads.Memory = Memory

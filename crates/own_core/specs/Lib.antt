@@ -1,0 +1,4 @@
+pub mod ClaimEntries
+pub mod Sides
+pub mod Fates
+pub mod FaultsSeen
