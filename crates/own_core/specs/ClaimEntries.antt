@@ -8,6 +8,7 @@ use Rattle.db_core.specs.Seen.{packages_of}
 use Rattle.db_core.specs.declared.db.Db.{Db}
 use Rattle.path_claims.specs.Claims.{PathClaim, is_member}
 use Rattle.file_owners.specs.Owners.{owner_of_path}
+use Rattle.change_files.specs.FileChange.{FileChange}
 
 -- ---- files
 
@@ -58,3 +59,6 @@ comes_at members place = comes_if_any (slice_get members place)
 unfoldable pub is_of_coming_owner : List Member → PathClaim → Bool
 is_of_coming_owner members c =
     is_member c.member (owner_of_path members c.path) && comes_at members c.member
+
+abbrev pub old_members : FileChange → List Member
+old_members change = map staying_member change.old

@@ -32,7 +32,8 @@ abbrev pub HasRoom : FileChange → List ℕ → Fates.Fate → Type 0
 HasRoom change path fate = fate ≡ goes_aside → is_free_beside change path ≡ true
 
 abbrev pub HaveRoom : FileChange → List PathClaim → List Fates.Fate → Type 0
-HaveRoom change [] fates = Unit {0}
+HaveRoom change [] [] = Unit {0}
+HaveRoom change [] (f ∷ fates) = ⊥
 HaveRoom change (c ∷ cs) [] = ⊥
 HaveRoom change (c ∷ cs) (f ∷ fates) = HasRoom change c.path f × HaveRoom change cs fates
 
@@ -57,3 +58,7 @@ marked_claims test [] marks = []
 marked_claims test (c ∷ cs) [] = []
 marked_claims test (c ∷ cs) (m ∷ marks) =
     cond (test m) (c ∷ marked_claims test cs marks) (marked_claims test cs marks)
+
+abbrev pub is_flag : Bool → Bool → Bool
+is_flag true b = b
+is_flag false b = not b

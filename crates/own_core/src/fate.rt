@@ -6,7 +6,7 @@ ghost use Rattle.adb_view.specs.Plain.{Plain};
 ghost use Rattle.base_core.specs.Calls.{IfObservable};
 ghost use Rattle.base_core.specs.Read.{OnlyReads};
 ghost use Rattle.base_core.specs.Tree.{files_of};
-ghost use Rattle.change_files.specs.Fate.{fate_beside, fate_by, is_guarded};
+ghost use Rattle.change_files.specs.Fate.{agrees_with_old, fate_beside, is_guarded};
 ghost use Rattle.change_files.specs.FileChange.{old_entry};
 ghost use Rattle.db_core.specs.Seen.{members_of};
 ghost use Rattle.file_guard.specs.Listed.{IsOfEntry};
@@ -101,7 +101,7 @@ fn fate_beside(
 }
 
 /// Whether a file stands there that is neither as the new entry says nor as the old one.
-fn is_changed(found: Option<Comparison>) -> bool
+pub(crate) fn is_changed(found: Option<Comparison>) -> bool
     ensures { IsTrue result ↔ IsSomeAnd found (λ c. (c.as_new ≡ false) × (c.as_old ≡ false)) }
 {
     match found {

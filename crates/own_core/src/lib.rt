@@ -7,3 +7,8 @@ mod entries;
 mod fate;
 mod fault;
 mod guarded;
+mod parts;
+mod writes;
+
+pub use fault::PlanFault;
+pub use writes::{Write, Writes};

@@ -1,0 +1,270 @@
+-- The lists of the program are the change's, over the files of the tree.
+use Rattle.std.proofs.Common.{◌≡◌, ◌⊎◌, inl, inr, ℕ, suc, zero, ◌+◌, ◌<◌, Bool, true, false, cond, List, [], ◌∷◌, ◌++◌, length, map, Option, Some, None, refl, ap, sym, ◌∙◌, subst, arith, true≢false}
+use Rattle.std.specs.Prelude.{◌&&◌, ◌||◌, ◌==◌, slice_get, option_map, option_and_then, bytes_eq, is_some, if◌then◌else◌, not}
+use Rattle.std.specs.Cmp.Lexicographic.{bytes_decides}
+use Rattle.std.specs.List.{filter, find, list_any}
+use Rattle.base_core.specs.Files.{Files}
+use Rattle.base_core.proofs.Rising as Names
+use Rattle.adb_view.specs.Plain.{Plain}
+use Rattle.list_order.specs.Sorted.{sorted_by}
+use Rattle.db_core.specs.Members.{Listing, Member, claims_of, is_coming, member_listings}
+use Rattle.path_claims.specs.Claims.{PathClaim, claim_cmp, is_of_path}
+use Rattle.path_claims.specs.Contest.{beats_each, winner}
+use Rattle.path_claims.proofs.Places.{no_some, value_or}
+use Rattle.claim_lists.specs.Once.{HasFirsts}
+use Rattle.claim_lists.proofs.Firsts.{found_in, in_found, paths}
+use Rattle.claim_lists.proofs.Lists.{found_passes}
+use Rattle.file_owners.specs.Owners.{claims_in, member_beats, owner_of_path}
+use Rattle.change_files.specs.Fate as Fates
+use Rattle.change_files.specs.Fate.{fate_by, fate_of, goes_aside, goes_in, gives_way, is_guarded}
+use Rattle.change_files.specs.FileChange.{FileChange, coming_owner, if_it_comes, is_claimed, old_entry, old_listings, owner_listing, was_listed}
+use Rattle.change_files.specs.FilesAfter.{if_aside, if_in, is_changed, is_kept, is_left_over, is_removed, is_written, laid_beside, may_stay, or_beside, path_beside, written_as, written_in}
+use Rattle.change_files.specs.NamesAfter.{coming_paths}
+use Rattle.change_files.specs.PlanLists.{aside_of, kept_of, old_paths, removals_of}
+use Rattle.own_core.specs.ClaimEntries.{claim_entry, is_of_coming_owner, old_members}
+use Rattle.own_core.specs.Fates.{claim_fate, is_fate, is_flag}
+use Rattle.own_core.specs.Going.{does_stay, is_beside, is_left}
+use Rattle.own_core.proofs.Listings.{GoTogether, IsClaimFor, IsPlaced, coming_is, coming_placed, entry_of, old_entry_is, same_found}
+use Rattle.own_core.proofs.NamesOnce.{found_kept, in_passing, keep_if, kept_rises, passing_in, same_names}
+
+-- ---- what a path of the program's claims is
+
+pub is_there : (cs : List PathClaim) (q : List ℕ) → Names.IsIn q (paths cs) → is_some (find (is_of_path q) cs) ≡ true
+is_there cs q here = ap is_some (found_in cs q here).1
+
+pub there_is : (cs : List PathClaim) (q : List ℕ) → is_some (find (is_of_path q) cs) ≡ true → Names.IsIn q (paths cs)
+there_is cs q h = go (find (is_of_path q) cs) refl h
+  where
+    go : (o : Option PathClaim) → find (is_of_path q) cs ≡ o → is_some o ≡ true → Names.IsIn q (paths cs)
+    go None e h = absurd (true≢false (sym h))
+    go (Some c) e h = in_found cs q c e
+
+-- ---- listings of paths
+
+listing_in : (s : Listing → Bool) (ls : List Listing) (l : Listing) → find s ls ≡ Some l → is_coming l.member ≡ true → Names.IsIn l.path (map (λ l. l.path) (filter (λ l. is_coming l.member) ls))
+listing_in s [] l e h = absurd (no_some l e)
+listing_in s (k ∷ ls) l e h = go (s k) (is_coming k.member) refl refl (λ f. listing_in s ls l f h) e
+  where
+    go : (a b : Bool) → s k ≡ a → is_coming k.member ≡ b → (find s ls ≡ Some l → Names.IsIn l.path (map (λ l. l.path) (filter (λ l. is_coming l.member) ls))) → cond a (Some k) (find s ls) ≡ Some l
+        → Names.IsIn l.path (map (λ l. l.path) (cond b (k ∷ filter (λ l. is_coming l.member) ls) (filter (λ l. is_coming l.member) ls)))
+    go true true p c rest f = inl (ap (λ x. x.path) (sym (ap (value_or k) f)))
+    go true false p c rest f = absurd (true≢false (sym h ∙ (ap (λ x. is_coming x.member) (sym (ap (value_or k) f)) ∙ c)))
+    go false true p c rest f = inr (rest f)
+    go false false p c rest f = rest f
+
+listed_in : (ls : List Listing) (q : List ℕ) → is_some (find (λ l. bytes_eq l.path q) ls) ≡ true → Names.IsIn q (map (λ l. l.path) ls)
+listed_in [] q h = absurd (true≢false (sym h))
+listed_in (l ∷ ls) q h = go (bytes_eq l.path q) refl (listed_in ls q) h
+  where
+    go : (b : Bool) → bytes_eq l.path q ≡ b → (is_some (find (λ l. bytes_eq l.path q) ls) ≡ true → Names.IsIn q (map (λ l. l.path) ls)) → is_some (cond b (Some l) (find (λ l. bytes_eq l.path q) ls)) ≡ true → Names.IsIn q (map (λ l. l.path) (l ∷ ls))
+    go true e rest h = inl (sym ((bytes_decides l.path q).0 e))
+    go false e rest h = inr (rest h)
+
+in_listed : (ls : List Listing) (q : List ℕ) → Names.IsIn q (map (λ l. l.path) ls) → is_some (find (λ l. bytes_eq l.path q) ls) ≡ true
+in_listed [] q here = absurd here
+in_listed (l ∷ ls) q here = go (bytes_eq l.path q) refl (in_listed ls q) here
+  where
+    go : (b : Bool) → bytes_eq l.path q ≡ b → (Names.IsIn q (map (λ l. l.path) ls) → is_some (find (λ l. bytes_eq l.path q) ls) ≡ true) → (q ≡ l.path) ⊎ Names.IsIn q (map (λ l. l.path) ls) → is_some (cond b (Some l) (find (λ l. bytes_eq l.path q) ls)) ≡ true
+    go true e rest here = refl
+    go false e rest (inl is) = absurd (true≢false (sym ((bytes_decides l.path q).1 (sym is)) ∙ e))
+    go false e rest (inr old) = rest old
+
+-- the owner that comes lists the path
+pub coming_path : (change : FileChange) (q : List ℕ) (l : Listing) → coming_owner change q ≡ Some l → (l.path ≡ q) × (is_coming l.member ≡ true)
+coming_path change q l e =
+    let f = coming_placed change q l e in
+    let t = found_passes _ (member_listings change.members) l f.0 in
+    ((bytes_decides l.path q).0 (first (bytes_eq l.path q) _ t), came (owner_listing change q) l e)
+  where
+    first : (a b : Bool) → (a && b) ≡ true → a ≡ true
+    first true b h = refl
+    first false b h = absurd (true≢false (sym h))
+
+    came : (o : Option Listing) (l : Listing) → if_it_comes o ≡ Some l → is_coming l.member ≡ true
+    came None l e = absurd (no_some l e)
+    came (Some k) l e = go (is_coming k.member) refl e
+      where
+        go : (b : Bool) → is_coming k.member ≡ b → (if b then Some k else None) ≡ Some l → is_coming l.member ≡ true
+        go true c f = ap (λ x. is_coming x.member) (sym (ap (value_or k) f)) ∙ c
+        go false c f = absurd (no_some l f)
+
+pub in_coming_paths : (change : FileChange) (q : List ℕ) → is_some (coming_owner change q) ≡ true → Names.IsIn q (coming_paths change.members)
+in_coming_paths change q h = go (coming_owner change q) refl h
+  where
+    go : (o : Option Listing) → coming_owner change q ≡ o → is_some o ≡ true → Names.IsIn q (coming_paths change.members)
+    go None e h = absurd (true≢false (sym h))
+    go (Some l) e h =
+        let p = coming_path change q l e in
+        subst (λ x. Names.IsIn x (coming_paths change.members)) p.0 (listing_in _ (member_listings change.members) l (coming_placed change q l e).0 p.1)
+
+-- ---- fates
+
+pub same_fate : (change : FileChange) (files : Files) (q : List ℕ) (l : Listing) (c : PathClaim) → coming_owner change q ≡ Some l → IsClaimFor l c → claim_fate change files c ≡ fate_of change files l
+unfolding fate_of
+same_fate change files q l c e h =
+    (λ j. fate_by change (h.path j) (claim_entry change.members c) (files (h.path j)))
+    ∙ ap (λ entry. fate_by change l.path entry (files l.path)) (entry_of change.members l c (coming_placed change q l e).1 h)
+
+module _ (change : FileChange) (files : Files) (coming : List PathClaim) (up : Names.Rises (paths coming))
+    (each : (q : List ℕ) → find (is_of_path q) coming ≡ find (is_of_path q) (filter (is_of_coming_owner change.members) (sorted_by claim_cmp (claims_in change.members)))) where
+  pub together : (q : List ℕ) → GoTogether (coming_owner change q) (find (is_of_path q) coming)
+  together q = subst (GoTogether (coming_owner change q)) (sym (each q)) (coming_is change q)
+
+  abbrev pub with_fate : Fates.Fate → List PathClaim
+  with_fate f = filter (λ c. is_fate f (claim_fate change files c)) coming
+
+  aside_test : (l : Listing) (f : Fates.Fate) → is_some (if_aside l f) ≡ is_fate goes_aside f
+  aside_test l goes_in = refl
+  aside_test l gives_way = refl
+  aside_test l goes_aside = refl
+
+  in_test : (l : Listing) (f : Fates.Fate) → is_some (if_in l f) ≡ is_fate goes_in f
+  in_test l goes_in = refl
+  in_test l gives_way = refl
+  in_test l goes_aside = refl
+
+  some_if : (t : Bool) (c : PathClaim) → is_some (cond t (Some c) None) ≡ t
+  some_if true c = refl
+  some_if false c = refl
+
+  pub laid_is : (q : List ℕ) → is_some (laid_beside change files q) ≡ is_some (find (is_of_path q) (with_fate goes_aside))
+  laid_is q = go (coming_owner change q) (find (is_of_path q) coming) refl refl (together q) ∙ sym (ap is_some (found_kept (λ c. is_fate goes_aside (claim_fate change files c)) coming up q))
+    where
+      go : (a : Option Listing) (b : Option PathClaim) → coming_owner change q ≡ a → find (is_of_path q) coming ≡ b → GoTogether a b
+          → is_some (option_and_then (λ l. if_aside l (fate_of change files l)) a) ≡ is_some (keep_if (λ c. is_fate goes_aside (claim_fate change files c)) b)
+      go None None e f h = refl
+      go None (Some c) e f h = absurd h
+      go (Some l) None e f h = absurd h
+      go (Some l) (Some c) e f h =
+          aside_test l (fate_of change files l) ∙ (ap (is_fate goes_aside) (sym (same_fate change files q l c e h)) ∙ sym (some_if (is_fate goes_aside (claim_fate change files c)) c))
+
+  pub in_is : (q : List ℕ) → is_some (written_in change files q) ≡ is_some (find (is_of_path q) (with_fate goes_in))
+  in_is q = go (coming_owner change q) (find (is_of_path q) coming) refl refl (together q) ∙ sym (ap is_some (found_kept (λ c. is_fate goes_in (claim_fate change files c)) coming up q))
+    where
+      go : (a : Option Listing) (b : Option PathClaim) → coming_owner change q ≡ a → find (is_of_path q) coming ≡ b → GoTogether a b
+          → is_some (option_and_then (λ l. if_in l (fate_of change files l)) a) ≡ is_some (keep_if (λ c. is_fate goes_in (claim_fate change files c)) b)
+      go None None e f h = refl
+      go None (Some c) e f h = absurd h
+      go (Some l) None e f h = absurd h
+      go (Some l) (Some c) e f h =
+          in_test l (fate_of change files l) ∙ (ap (is_fate goes_in) (sym (same_fate change files q l c e h)) ∙ sym (some_if (is_fate goes_in (claim_fate change files c)) c))
+
+  laid_comes : (q : List ℕ) → is_some (laid_beside change files q) ≡ true → is_some (coming_owner change q) ≡ true
+  laid_comes q h = go (coming_owner change q) h
+    where
+      go : (a : Option Listing) → is_some (option_and_then (λ l. if_aside l (fate_of change files l)) a) ≡ true → is_some a ≡ true
+      go None h = h
+      go (Some l) h = refl
+
+  -- the paths beside which a file is laid
+  pub aside_are : paths (with_fate goes_aside) ≡ aside_of change files
+  unfolding aside_of
+  aside_are = same_names (λ path. is_some (laid_beside change files path)) (paths (with_fate goes_aside)) (coming_paths change.members)
+      (kept_rises (λ c. is_fate goes_aside (claim_fate change files c)) coming up)
+      (λ q here. (let t = laid_is q ∙ is_there (with_fate goes_aside) q here in (in_coming_paths change q (laid_comes q t), t)))
+      (λ q here t. there_is (with_fate goes_aside) q (sym (laid_is q) ∙ t))
+
+  pub beside_is : (name : List ℕ) → is_beside (with_fate goes_aside) name ≡ is_some (option_and_then (laid_beside change files) (path_beside name))
+  beside_is name = go (path_beside name)
+    where
+      go : (p : Option (List ℕ)) → is_some (option_and_then (λ path. find (is_of_path path) (with_fate goes_aside)) p) ≡ is_some (option_and_then (laid_beside change files) p)
+      go None = refl
+      go (Some q) = sym (laid_is q)
+
+-- ---- what is left over
+
+no_claims : (ls : List Listing) (q : List ℕ) → list_any (λ l. bytes_eq l.path q) ls ≡ false → filter (λ l. bytes_eq l.path q) ls ≡ []
+no_claims [] q h = refl
+no_claims (l ∷ ls) q h = go (bytes_eq l.path q) (no_claims ls q) h
+  where
+    go : (b : Bool) → (list_any (λ l. bytes_eq l.path q) ls ≡ false → filter (λ l. bytes_eq l.path q) ls ≡ []) → (b || list_any (λ l. bytes_eq l.path q) ls) ≡ false → cond b (l ∷ filter (λ l. bytes_eq l.path q) ls) (filter (λ l. bytes_eq l.path q) ls) ≡ []
+    go true rest h = absurd (true≢false h)
+    go false rest h = rest h
+
+pub no_owner : (change : FileChange) (q : List ℕ) → is_claimed change q ≡ false → coming_owner change q ≡ None
+unfolding is_claimed owner_listing owner_of_path claims_of winner
+no_owner change q h =
+    let none = no_claims (member_listings change.members) q h in
+    (λ j. if_it_comes (option_and_then (λ place. find (λ l. l.place == place) (none j)) (find (beats_each (member_beats change.members) (map (λ l. l.place) (none j))) (map (λ l. l.place) (none j)))))
+
+pub left_is : (change : FileChange) (files : Files) (q : List ℕ) (b : Bool) → b ≡ is_some (option_and_then (laid_beside change files) (path_beside q))
+    → (not (is_claimed change q) && not (is_written change files q)) ≡ (not (is_claimed change q) && not b)
+unfolding written_as
+left_is change files q b e = go (is_claimed change q) refl
+  where
+    go : (c : Bool) → is_claimed change q ≡ c → (not c && not (is_some (or_beside (written_in change files q) (option_and_then (laid_beside change files) (path_beside q))))) ≡ (not c && not b)
+    go true h = refl
+    go false h =
+        ap (λ o. not (is_some (or_beside (option_and_then (λ l. if_in l (fate_of change files l)) o) (option_and_then (laid_beside change files) (path_beside q))))) (no_owner change q h)
+        ∙ ap not (sym e)
+
+module _ (change : FileChange) (files : Files) (before : List PathClaim) (up : Names.Rises (paths before))
+    (each : (q : List ℕ) → find (is_of_path q) before ≡ find (is_of_path q) (sorted_by claim_cmp (claims_in (old_members change))))
+    (asides : List PathClaim) (beside : (q : List ℕ) → is_beside asides q ≡ is_some (option_and_then (laid_beside change files) (path_beside q))) where
+  pub entries_are : (q : List ℕ) → option_map (claim_entry (old_members change)) (find (is_of_path q) before) ≡ old_entry change q
+  unfolding old_listings
+  entries_are q = ap (option_map (claim_entry (old_members change))) (each q ∙ same_found (claims_in (old_members change)) q) ∙ old_entry_is change (old_members change) refl q
+
+  abbrev pub left_over : List PathClaim
+  left_over = filter (λ c. is_left change asides c.path) before
+
+  abbrev pub going : Bool → List PathClaim
+  going stays = filter (λ c. is_flag stays (does_stay change files c)) left_over
+
+  -- by the test of a path that is listed
+  going_is : (stays : Bool) (q : List ℕ) → is_some (find (is_of_path q) (going stays))
+      ≡ (is_left_over change files q && is_flag stays (may_stay change q (files q) (old_entry change q)))
+  going_is stays q =
+      ap is_some (found_kept (λ c. is_flag stays (does_stay change files c)) left_over (kept_rises (λ c. is_left change asides c.path) before up) q)
+      ∙ (ap (λ o. is_some (keep_if (λ c. is_flag stays (does_stay change files c)) o)) (found_kept (λ c. is_left change asides c.path) before up q)
+      ∙ (go (find (is_of_path q) before) refl
+      ∙ (λ j. (is_some (entries_are q j) && (not (is_claimed change q) && not (is_written change files q))) && is_flag stays (may_stay change q (files q) (entries_are q j)))))
+    where
+      by_tests : (a s : Bool) (c : PathClaim) → is_some (keep_if (λ c. is_flag stays (does_stay change files c)) (cond a (Some c) None)) ≡ (a && is_flag stays (does_stay change files c))
+      by_tests true s c = some_cond (is_flag stays (does_stay change files c)) c
+        where
+          some_cond : (t : Bool) (c : PathClaim) → is_some (cond t (Some c) None) ≡ t
+          some_cond true c = refl
+          some_cond false c = refl
+      by_tests false s c = refl
+
+      go : (o : Option PathClaim) → find (is_of_path q) before ≡ o → is_some (keep_if (λ c. is_flag stays (does_stay change files c)) (keep_if (λ c. is_left change asides c.path) o))
+          ≡ ((is_some (option_map (claim_entry (old_members change)) o) && (not (is_claimed change q) && not (is_written change files q))) && is_flag stays (may_stay change q (files q) (option_map (claim_entry (old_members change)) o)))
+      go None e = refl
+      go (Some c) e =
+          let is : c.path ≡ q = (bytes_decides c.path q).0 (found_passes (is_of_path q) before c e) in
+          by_tests (is_left change asides c.path) true c
+          ∙ (λ j. left c is j && is_flag stays (is_guarded (is j) && (not change.purge && is_changed (claim_entry (old_members change) c) (files (is j)))))
+        where
+          left : (c : PathClaim) (is : c.path ≡ q) → is_left change asides c.path ≡ (not (is_claimed change q) && not (is_written change files q))
+          left c is = ap (is_left change asides) is ∙ sym (left_is change files q (is_beside asides q) (beside q))
+
+  old_path : (q : List ℕ) → is_left_over change files q ≡ true → Names.IsIn q (old_paths change)
+  unfolding old_entry
+  old_path q h = listed_in (old_listings change) q (mapped (find (λ l. bytes_eq l.path q) (old_listings change)) (first (was_listed change q) _ h))
+    where
+      first : (a b : Bool) → (a && b) ≡ true → a ≡ true
+      first true b h = refl
+      first false b h = absurd (true≢false (sym h))
+
+      mapped : (o : Option Listing) → is_some (option_map (λ l. l.entry) o) ≡ true → is_some o ≡ true
+      mapped None h = h
+      mapped (Some l) h = refl
+
+  front : (a b : Bool) → (a && b) ≡ true → a ≡ true
+  front true b h = refl
+  front false b h = absurd (true≢false (sym h))
+
+  pub kept_are : paths (going true) ≡ kept_of change files
+  unfolding kept_of is_kept
+  kept_are = same_names (is_kept change files) (paths (going true)) (old_paths change)
+      (kept_rises (λ c. is_flag true (does_stay change files c)) left_over (kept_rises (λ c. is_left change asides c.path) before up))
+      (λ q here. (let t = sym (going_is true q) ∙ is_there (going true) q here in (old_path q (front (is_left_over change files q) _ t), t)))
+      (λ q here t. there_is (going true) q (going_is true q ∙ t))
+
+  pub removals_are : paths (going false) ≡ removals_of change files
+  unfolding removals_of is_removed
+  removals_are = same_names (is_removed change files) (paths (going false)) (old_paths change)
+      (kept_rises (λ c. is_flag false (does_stay change files c)) left_over (kept_rises (λ c. is_left change asides c.path) before up))
+      (λ q here. (let t = sym (going_is false q) ∙ is_there (going false) q here in (old_path q (front (is_left_over change files q) _ t), t)))
+      (λ q here t. there_is (going false) q (going_is false q ∙ t))

@@ -1,0 +1,127 @@
+//! The names at which files that come are written.
+
+ghost use Rattle.std.specs.Prelude.{◌≡◌, ◌<◌, ◌==◌, ◌++◌, ◌∷◌, [], ℕ, List, IfOk, OnOk, Some, length, map, slice_get};
+ghost use Rattle.list_order.specs.Sorted.{sorted_by};
+ghost use Rattle.path_claims.specs.Seen.{claim_seen};
+ghost use Rattle.claim_lists.specs.Named.{HaveNames};
+ghost use Rattle.own_core.specs.WritesSeen.{HaveNamesBeside, aside_write, claim_write, write_by, write_cmp, write_seen};
+
+use crate::guarded::name_beside;
+use base_core::Name;
+use claim_lists::name_of_path;
+use path_claims::Claim;
+use std::alloc::{AllocError, Global};
+
+/// A name, and the file whose contents it gets. The member's place counts from 0; the folder's
+/// (`path`) and the file's in it count from 1, as in blocks of contents.
+#[derive(Drop)]
+pub struct Write {
+    pub name: Name,
+    pub member: u32,
+    pub path: u32,
+    pub file: u32,
+}
+
+/// What is written, in byte order of names.
+#[derive(Drop)]
+pub struct Writes {
+    pub(crate) writes: Vec<Write>,
+}
+
+impl Writes {
+    ghost use Rattle.own_core.specs.WritesSeen.{writes_in};
+
+    /// How many writes there are.
+    pub fn len(&self) -> usize
+        ensures { result ≡ length (writes_in self.now) }
+    {
+        self.writes.len()
+    }
+
+    /// Whether nothing is written.
+    pub fn is_empty(&self) -> bool
+        ensures { result ≡ (length (writes_in self.now) == 0) }
+    {
+        self.writes.is_empty()
+    }
+
+    /// The write at a place, counted from 0.
+    pub fn get(&self, i: usize) -> &Write
+        requires { i < length (writes_in self.now) }
+        ensures { slice_get (writes_in self.now) i ≡ Some (write_seen result.now) }
+    {
+        &self.writes[i]
+    }
+}
+
+/// Adds a write of the file that a claim speaks of.
+fn add_write(writes: &mut Vec<Write>, name: Name, claim: &Claim<'_>) -> Result<(), AllocError>
+    ensures { OnOk result (map write_seen writes.new.items
+        ≡ map write_seen writes.old.items ++ write_by name (claim_seen claim.now) ∷ []) }
+{
+    writes.push(Write {
+        name,
+        member: claim.member,
+        path: claim.folder,
+        file: claim.file,
+    })?;
+    Ok(())
+}
+
+/// Adds a write under its own path for each claim.
+fn add_in(alloc: Global, writes: &mut Vec<Write>, ins: &[Claim<'_>]) -> Result<(), AllocError>
+    requires { HaveNames (map claim_seen ins.now) }
+    ensures { OnOk result (map write_seen writes.new.items
+        ≡ map write_seen writes.old.items ++ map claim_write (map claim_seen ins.now)) }
+{
+    for claim in ins {
+        let name = name_of_path(alloc, &claim.path)?;
+        add_write(writes, name, claim)?;
+    }
+    Ok(())
+}
+
+/// Adds a write under the name beside its path for each claim.
+fn add_beside(
+    alloc: Global,
+    writes: &mut Vec<Write>,
+    asides: &[Claim<'_>],
+) -> Result<(), AllocError>
+    requires { HaveNamesBeside (map claim_seen asides.now) }
+    ensures { OnOk result (map write_seen writes.new.items
+        ≡ map write_seen writes.old.items ++ map aside_write (map claim_seen asides.now)) }
+{
+    for claim in asides {
+        let name = name_of_path(alloc, &claim.path)?;
+        let beside = name_beside(alloc, &name)?;
+        add_write(writes, beside, claim)?;
+    }
+    Ok(())
+}
+
+/// Puts writes into the order of their names.
+fn sort_writes(writes: &mut Vec<Write>) -> Result<(), AllocError>
+    ensures { OnOk result (map write_seen writes.new.items
+        ≡ sorted_by write_cmp (map write_seen writes.old.items)) }
+{
+    writes.sort_by(|one, other| one.name.as_bytes().cmp(other.name.as_bytes()))?;
+    Ok(())
+}
+
+/// The writes of files that take their paths and of files that are laid beside others.
+pub(crate) fn writes_of(
+    alloc: Global,
+    ins: &[Claim<'_>],
+    asides: &[Claim<'_>],
+) -> Result<Writes, AllocError>
+    requires ins { HaveNames (map claim_seen ins.now) }
+    requires asides { HaveNamesBeside (map claim_seen asides.now) }
+    ensures { IfOk result (λ writes. writes_in writes ≡ sorted_by write_cmp
+        (map claim_write (map claim_seen ins.now) ++ map aside_write (map claim_seen asides.now))) }
+{
+    let mut writes = Vec::new(alloc);
+    add_in(alloc, &mut writes, ins)?;
+    add_beside(alloc, &mut writes, asides)?;
+    sort_writes(&mut writes)?;
+    Ok(Writes { writes })
+}
