@@ -6,7 +6,7 @@ use Rattle.path_claims.specs.Claims.{PathClaim}
 use Rattle.path_claims.specs.Seen.{claim_seen}
 use Rattle.path_claims.specs.declared.claim.Claim.{Claim}
 use Rattle.path_claims.proofs.Places.{map_len, no_some, seen_at, value_or}
-use Rattle.claim_lists.proofs.Lists.{take_whole}
+use Rattle.claim_lists.proofs.Lists.{some_at, take_whole}
 use Rattle.own_core.specs.Fates.{marked_claims}
 
 pub map_more : {X Y : Type 0} (f : X → Y) (xs : List X) (x : X) → map f (xs ++ x ∷ []) ≡ map f xs ++ f x ∷ []
@@ -77,21 +77,23 @@ marked_step test (x ∷ cs) (y ∷ ms) (suc i) c m g k =
 pub marked_one : {Y Z : Type 0} (s : Z → Y) (test : Y → Bool) (xs gs hs : List Claim) (ms : List Z) (i : ℕ) (d : Claim) (e : Z) (t : Bool) → i < length xs → length ms ≡ length xs
     → t ≡ test (s (slice_index_or ms i e)) → t ≡ true → hs ≡ gs ++ slice_index_or xs i d ∷ [] → map claim_seen gs ≡ marked_claims test (take i (map claim_seen xs)) (take i (map s ms))
     → map claim_seen hs ≡ marked_claims test (take (i + 1) (map claim_seen xs)) (take (i + 1) (map s ms))
-marked_one s test xs gs hs ms i d e t l len is yes h inv =
+marked_one s test xs gs hs ms i d e t l len is passes h inv =
     let n : i + 1 ≡ suc i = omega arith in
     ap (map claim_seen) h ∙ (map_more claim_seen gs (slice_index_or xs i d)
-    ∙ ((λ j. inv j ++ cond ((sym yes ∙ is) j) (claim_seen (slice_index_or xs i d) ∷ []) [])
+    ∙ ((λ j. inv j ++ cond ((sym passes ∙ is) j) (claim_seen (slice_index_or xs i d) ∷ []) [])
     ∙ (sym (marked_step test (map claim_seen xs) (map s ms) i (claim_seen (slice_index_or xs i d)) (s (slice_index_or ms i e)) (seen_at claim_seen xs i d l) (seen_at s ms i e (omega arith)))
     ∙ ap (λ k. marked_claims test (take k (map claim_seen xs)) (take k (map s ms))) (sym n))))
 
-pub unmarked_one : {Y Z : Type 0} (s : Z → Y) (test : Y → Bool) (xs gs hs : List Claim) (ms : List Z) (i : ℕ) (d : Claim) (e : Z) (t : Bool) → i < length xs → length ms ≡ length xs
+pub unmarked_one : {Y Z : Type 0} (s : Z → Y) (test : Y → Bool) (xs gs hs : List Claim) (ms : List Z) (i : ℕ) (e : Z) (t : Bool) → i < length xs → length ms ≡ length xs
     → t ≡ test (s (slice_index_or ms i e)) → t ≡ false → hs ≡ gs → map claim_seen gs ≡ marked_claims test (take i (map claim_seen xs)) (take i (map s ms))
     → map claim_seen hs ≡ marked_claims test (take (i + 1) (map claim_seen xs)) (take (i + 1) (map s ms))
-unmarked_one s test xs gs hs ms i d e t l len is no h inv =
+unmarked_one s test xs gs hs ms i e t l len is fails h inv =
     let n : i + 1 ≡ suc i = omega arith in
+    let k : length (map claim_seen xs) ≡ length xs = map_len claim_seen xs in
+    let f = some_at (map claim_seen xs) i (omega (arith, k, l)) in
     ap (map claim_seen) h ∙ (sym (none_more (map claim_seen gs))
-    ∙ ((λ j. inv j ++ cond ((sym no ∙ is) j) (claim_seen (slice_index_or xs i d) ∷ []) [])
-    ∙ (sym (marked_step test (map claim_seen xs) (map s ms) i (claim_seen (slice_index_or xs i d)) (s (slice_index_or ms i e)) (seen_at claim_seen xs i d l) (seen_at s ms i e (omega arith)))
+    ∙ ((λ j. inv j ++ cond ((sym fails ∙ is) j) (f.0 ∷ []) [])
+    ∙ (sym (marked_step test (map claim_seen xs) (map s ms) i f.0 (s (slice_index_or ms i e)) f.1 (seen_at s ms i e (omega arith)))
     ∙ ap (λ k. marked_claims test (take k (map claim_seen xs)) (take k (map s ms))) (sym n))))
 
 pub marked_whole : {Y Z : Type 0} (s : Z → Y) (test : Y → Bool) (xs gs : List Claim) (ms : List Z) (i : ℕ) → length xs ≤ i → length ms ≡ length xs

@@ -1,5 +1,6 @@
 pub mod Endings
 pub mod Kept
+pub mod Written
 pub mod Listings
 pub mod ChangeClaims
 pub mod TreeLoops

@@ -79,7 +79,7 @@ sorted_rises xs d = strictly (sorted_by bytes_cmp xs) (Sorting.rises_in_order by
 abbrev pub write_names : List FileWrite → List (List ℕ)
 write_names ws = map (λ w. w.name) ws
 
-writes_total : IsTotalOrder write_cmp
+pub writes_total : IsTotalOrder write_cmp
 writes_total = on_total (λ w. w.name) nat_list_cmp_total
 
 pub names_sorted : (ws : List FileWrite) → write_names (sorted_by write_cmp ws) ≡ sorted_by bytes_cmp (write_names ws)

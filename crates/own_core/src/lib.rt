@@ -2,6 +2,7 @@
 #![tactic(auto)]
 
 mod change;
+mod clashes;
 mod coming;
 mod entries;
 mod fate;

@@ -4,7 +4,7 @@ ghost use Rattle.std.specs.Prelude.{◌≡◌, ◌<◌, ◌==◌, ◌++◌, ◌�
 ghost use Rattle.list_order.specs.Sorted.{sorted_by};
 ghost use Rattle.path_claims.specs.Seen.{claim_seen};
 ghost use Rattle.claim_lists.specs.Named.{HaveNames};
-ghost use Rattle.own_core.specs.WritesSeen.{HaveNamesBeside, aside_write, claim_write, write_by, write_cmp, write_seen};
+ghost use Rattle.own_core.specs.WritesSeen.{HaveNamesBeside, aside_write, claim_write, write_by, write_cmp, write_seen, writes_in};
 
 use crate::guarded::name_beside;
 use base_core::Name;
@@ -29,8 +29,6 @@ pub struct Writes {
 }
 
 impl Writes {
-    ghost use Rattle.own_core.specs.WritesSeen.{writes_in};
-
     /// How many writes there are.
     pub fn len(&self) -> usize
         ensures { result ≡ length (writes_in self.now) }

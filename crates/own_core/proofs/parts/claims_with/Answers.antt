@@ -10,7 +10,7 @@ loop-i-preserved c = elim c.if-is_fate.branch [
         marked_one fate_seen (is_fate (fate_seen c.args.fate)) c.args.coming.now c.loop-i.some.items c.if-is_fate.some.items c.args.fates.now c.loop-i.i _ _ c.is_fate.result c.loop-i-test.true c.requires
         c.is_fate.ensures w.if-is_fate.true (ap (λ v. v.items) w.some-is ∙ w.in_ok-push.ensures.items) c.loop-i.invariant
   | else-is_fate w ↦
-        unmarked_one fate_seen (is_fate (fate_seen c.args.fate)) c.args.coming.now c.loop-i.some.items c.if-is_fate.some.items c.args.fates.now c.loop-i.i _ _ c.is_fate.result c.loop-i-test.true c.requires
+        unmarked_one fate_seen (is_fate (fate_seen c.args.fate)) c.args.coming.now c.loop-i.some.items c.if-is_fate.some.items c.args.fates.now c.loop-i.i _ c.is_fate.result c.loop-i-test.true c.requires
         c.is_fate.ensures w.if-is_fate.false (ap (λ v. v.items) w.some-is) c.loop-i.invariant
 ]
 

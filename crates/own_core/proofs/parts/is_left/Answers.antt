@@ -1,4 +1,4 @@
-use Rattle.std.proofs.Common.{◌∙◌}
+use Rattle.std.proofs.Common.{◌∙◌, sym}
 use Rattle.adb_fields.specs.JoinedPath.{joined_path}
 use Rattle.change_files.specs.FileChange.{is_claimed}
 use Rattle.path_claims.specs.Seen.{claim_seen}
@@ -14,10 +14,10 @@ find_claim-requires c = after_sorted c.args.change.now c.requires.claims
 pub returns-then-is_some : goal.returns-then-is_some
 returns-then-is_some c =
     left_by (is_claimed (change_of c.args.change.now) (joined_path c.args.path.now)) (is_beside (map claim_seen c.args.asides.now) (joined_path c.args.path.now))
-    (claimed_there c.args.change.now c.requires.claims (joined_path c.args.path.now) c.is_some.result c.find_claim.result c.is_some.ensures c.find_claim.ensures.within c.find_claim.ensures.found ∙ c.if-is_some.true)
+    (claimed_there c.args.change.now c.requires.claims (joined_path c.args.path.now) c.is_some.result c.find_claim.result (sym c.is_some.ensures) c.find_claim.ensures.within c.find_claim.ensures.found ∙ c.if-is_some.true)
 
 pub returns : goal.returns
 returns c =
     left_by_not (is_claimed (change_of c.args.change.now) (joined_path c.args.path.now)) (is_beside (map claim_seen c.args.asides.now) (joined_path c.args.path.now)) c.is_beside.result
-    (claimed_there c.args.change.now c.requires.claims (joined_path c.args.path.now) c.is_some.result c.find_claim.result c.is_some.ensures c.find_claim.ensures.within c.find_claim.ensures.found ∙ c.if-is_some.false)
+    (claimed_there c.args.change.now c.requires.claims (joined_path c.args.path.now) c.is_some.result c.find_claim.result (sym c.is_some.ensures) c.find_claim.ensures.within c.find_claim.ensures.found ∙ c.if-is_some.false)
     c.is_beside.ensures

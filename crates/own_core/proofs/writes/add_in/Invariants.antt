@@ -1,0 +1,8 @@
+-- The writes of the claims so far stand behind the others.
+use Rattle.std.proofs.Common.{◌≡◌, ◌++◌, map, take}
+use Rattle.path_claims.specs.Seen.{claim_seen}
+use Rattle.own_core.specs.WritesSeen.{claim_write, write_seen}
+use Rattle.own_core.proofs.writes.add_in.Given as goal
+
+abbrev pub invariant-loop-claim : goal.invariant-loop-claim
+invariant-loop-claim l = map write_seen l.writes.items ≡ map write_seen l.fn.writes.items ++ map claim_write (map claim_seen (take l.claim-index l.ins))

@@ -1,0 +1,144 @@
+//! The names that a change writes and lets go of, and whether one of them is a folder of another.
+
+ghost use Rattle.std.specs.Prelude.{◌≡◌, ◌&&◌, ◌||◌, ◌++◌, ◌∷◌, [], not, is_some, IfOk, OnOk, map};
+ghost use Rattle.std.specs.List.{filter, find};
+ghost use Rattle.std.specs.List.Sorted.{IsSorted};
+ghost use Rattle.adb_fields.specs.JoinedPath.{joined_path};
+ghost use Rattle.change_files.specs.Fate.{aside_name};
+ghost use Rattle.change_files.specs.FilesAfter.{database_name, world_name};
+ghost use Rattle.db_core.specs.Seen.{members_of};
+ghost use Rattle.list_order.specs.ByteOrder.{bytes_cmp};
+ghost use Rattle.list_order.specs.Sorted.{sorted_by};
+ghost use Rattle.path_claims.specs.Claims.{claim_cmp, is_of_path};
+ghost use Rattle.path_claims.specs.Seen.{claim_seen};
+ghost use Rattle.own_core.specs.ClaimEntries.{AreClaimsOf, comes_at};
+ghost use Rattle.own_core.specs.WritesSeen.{HaveNamesBeside};
+
+use crate::coming::comes;
+use crate::guarded::name_beside;
+use adb_fields::FilePath;
+use base_core::Names;
+use claim_lists::{find_claim, name_of_path};
+use db_core::Members;
+use path_claims::Claim;
+use path_clashes::LetGo;
+use std::alloc::{AllocError, Global};
+
+/// The installed database.
+const DATABASE_NAME: &[u8] = b"lib/apk/db/installed.adb";
+
+/// The packages that the user asked for.
+const WORLD_NAME: &[u8] = b"etc/apk/world";
+
+/// The names beside the paths of claims.
+pub(crate) fn names_beside(alloc: Global, asides: &[Claim<'_>]) -> Result<Names, AllocError>
+    requires { HaveNamesBeside (map claim_seen asides.now) }
+    ensures { IfOk result
+        (λ names. names ≡ map (λ c. aside_name c.path) (map claim_seen asides.now)) }
+{
+    let mut names = Names::new(alloc);
+    for claim in asides {
+        let name = name_of_path(alloc, &claim.path)?;
+        names.push(name_beside(alloc, &name)?)?;
+    }
+    Ok(names)
+}
+
+/// Adds the paths that members which come list.
+fn add_coming<'a>(
+    paths: &mut Vec<FilePath<'a>>,
+    members: &Members<'_>,
+    claims: &[Claim<'a>],
+) -> Result<(), AllocError>
+    requires { AreClaimsOf (members_of members.now) (map claim_seen claims.now) }
+    ensures { OnOk result (map joined_path paths.new.items ≡ map joined_path paths.old.items
+        ++ map (λ c. c.path) (filter (λ c. comes_at (members_of members.now) c.member)
+        (map claim_seen claims.now))) }
+{
+    for claim in claims {
+        if comes(members, claim) {
+            paths.push(claim.path)?;
+        }
+    }
+    Ok(())
+}
+
+/// Adds names.
+fn add_names<'a>(paths: &mut Vec<FilePath<'a>>, names: &'a Names) -> Result<(), AllocError>
+    ensures { OnOk result
+        (map joined_path paths.new.items ≡ map joined_path paths.old.items ++ names.now) }
+{
+    for i in 0..names.len() {
+        paths.push(FilePath {
+            folder: &[],
+            name: names.get(i).as_bytes(),
+        })?;
+    }
+    Ok(())
+}
+
+/// Puts paths into byte order.
+fn sort_paths(paths: &mut Vec<FilePath<'_>>) -> Result<(), AllocError>
+    ensures { OnOk result (map joined_path paths.new.items
+        ≡ sorted_by bytes_cmp (map joined_path paths.old.items)) }
+{
+    paths.sort_by(|one, other| one.compare(other))?;
+    Ok(())
+}
+
+/// The names that count as written, in byte order: the paths that members which come list, the
+/// names of files that are laid beside others, the database and the world.
+pub(crate) fn written_paths<'a>(
+    alloc: Global,
+    members: &Members<'_>,
+    claims: &[Claim<'a>],
+    besides: &'a Names,
+) -> Result<Vec<FilePath<'a>>, AllocError>
+    requires { AreClaimsOf (members_of members.now) (map claim_seen claims.now) }
+    ensures { IfOk result (λ paths. map joined_path paths.items ≡ sorted_by bytes_cmp
+        (database_name ∷ world_name ∷ [] ++ map (λ c. c.path)
+        (filter (λ c. comes_at (members_of members.now) c.member) (map claim_seen claims.now))
+        ++ besides.now)) }
+{
+    let mut paths = Vec::new(alloc);
+    paths.push(FilePath {
+        folder: &[],
+        name: DATABASE_NAME,
+    })?;
+    paths.push(FilePath {
+        folder: &[],
+        name: WORLD_NAME,
+    })?;
+    add_coming(&mut paths, members, claims)?;
+    add_names(&mut paths, besides)?;
+    sort_paths(&mut paths)?;
+    Ok(paths)
+}
+
+/// The paths that packages before list, that no package lists any more and where no file is kept.
+#[derive(Clone, Copy)]
+pub(crate) struct LetGoPaths<'c, 'o, 'n> {
+    pub(crate) before: &'c [Claim<'o>],
+    pub(crate) after: &'c [Claim<'n>],
+    pub(crate) kept: &'c [Claim<'o>],
+    ghost before_sorted: { IsSorted claim_cmp (map claim_seen before.now) },
+    ghost after_sorted: { IsSorted claim_cmp (map claim_seen after.now) },
+    ghost kept_sorted: { IsSorted claim_cmp (map claim_seen kept.now) },
+}
+
+impl<'c, 'o, 'n> LetGo for LetGoPaths<'c, 'o, 'n> {
+    ghost lets_go = { λ paths name. is_some (find (is_of_path name) (map claim_seen paths.before.now))
+        && not (is_some (find (is_of_path name) (map claim_seen paths.after.now))
+        || is_some (find (is_of_path name) (map claim_seen paths.kept.now))) };
+
+    fn lets_go(&self, name: &[u8]) -> bool {
+        let path = FilePath {
+            folder: &[],
+            name,
+        };
+        if find_claim(self.before, &path).is_none() || find_claim(self.after, &path).is_some() {
+            return false;
+        }
+        find_claim(self.kept, &path).is_none()
+    }
+}
