@@ -13,7 +13,7 @@ pub map_more : {X Y : Type 0} (f : X → Y) (xs : List X) (x : X) → map f (xs 
 map_more f [] x = refl
 map_more f (y ∷ ys) x = ap (λ r. f y ∷ r) (map_more f ys x)
 
-none_more : {X : Type 0} (xs : List X) → xs ++ [] ≡ xs
+pub none_more : {X : Type 0} (xs : List X) → xs ++ [] ≡ xs
 none_more [] = refl
 none_more (x ∷ xs) = ap (λ r. x ∷ r) (none_more xs)
 

@@ -1,0 +1,7 @@
+-- The names so far stand behind the others.
+use Rattle.std.proofs.Common.{◌≡◌, ◌++◌, map, take}
+use Rattle.adb_fields.specs.JoinedPath.{joined_path}
+use Rattle.own_core.proofs.clashes.add_names.Given as goal
+
+abbrev pub invariant-loop-i : goal.invariant-loop-i
+invariant-loop-i l = map joined_path l.paths.items ≡ map joined_path l.fn.paths.items ++ take l.i l.names
