@@ -4,14 +4,17 @@ ghost use Rattle.adb_fields.specs.Repeated.{entries_at, list_of};
 ghost use Rattle.adb_schema.specs.ReadFaults.{IsReadFault};
 ghost use Rattle.adb_schema.specs.Soundness.{first_fault, payload_in, root_value};
 ghost use Rattle.adb_schema.specs.Views.{package_value};
-ghost use Rattle.adb_tables.specs.Values.{count_of, entries_in, entry_in};
+ghost use Rattle.adb_tables.specs.Values.{count_of, entries_in, entry_in, is_sound};
+ghost use Rattle.adb_tables.specs.declared.tables.Kind.TheVariants as Kinds;
 ghost use Rattle.adb_tables.specs.declared.tables.Which.TheVariants as Tables;
+ghost use Rattle.adb_view.specs.Head.{head_fault, root_of};
 ghost use Rattle.db_core.specs.Packages.{is_package_named, lists_path};
 ghost use Rattle.std.specs.List.{position_from};
-ghost use Rattle.std.specs.Prelude.{◌≡◌, ◌<◌, ◌^◌, ◌==◌, [], Some, None, IfSome, length, slice_get, IfOk, IfErr};
+ghost use Rattle.std.specs.Prelude.{◌≡◌, ◌<◌, ◌^◌, ◌==◌, [], Some, None, IfSome, length, slice_get, IfOk, IfErr, is_none, true};
 
 use crate::listed_paths::is_path_listed;
-use adb_schema::{IdbView, List, PackageView, ReadFault, Which, read_adb};
+use adb_schema::{IdbView, List, PackageView, ReadFault, View, Which, read_adb};
+use adb_view::Adb;
 use base_core::Name;
 use std::alloc::{AllocError, Global};
 
@@ -29,6 +32,20 @@ impl<'a> Db<'a> {
         ensures { packages_of result ≡ [] }
     {
         Db { idb: None }
+    }
+
+    /// The database in a payload whose head and root were tested. They are not tested again.
+    pub fn open(payload: &'a [u8]) -> Db<'a>
+        requires head { is_none (head_fault payload.now) ≡ true }
+        requires sound { is_sound payload.now (Kinds.Obj Tables.Idb) (root_of payload.now) ≡ true }
+        ensures { packages_of result ≡ entries_at 0 (root_value Tables.Idb payload.entry.now) }
+    {
+        let Ok(adb) = Adb::new(payload) else {
+            unreachable!()
+        };
+        Db {
+            idb: Some(IdbView::of(adb, adb.root())),
+        }
     }
 
     /// Reads a database, and makes all tests of its file.

@@ -1,0 +1,1 @@
+-- What the reads of a root explain.

@@ -1,0 +1,1 @@
+-- The pool, step by step.
