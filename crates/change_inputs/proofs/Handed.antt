@@ -49,5 +49,5 @@ module _ {A B C D : Type 0} (view : A → B) (whole : C → D) (next : B → Res
   refused_part_disk Memory part h = tt
 
 -- what follows a part that is given
-pub passed_part : {B C D : Type 0} (P : Result D Refusals.Refusal → Type 0) (part : Result B Refusals.Refusal) (b : B) (next : B → Result D Refusals.Refusal) → part ≡ Ok b → P (next b) → P (and_then part next)
+pub passed_part : {B D : Type 0} (P : Result D Refusals.Refusal → Type 0) (part : Result B Refusals.Refusal) (b : B) (next : B → Result D Refusals.Refusal) → part ≡ Ok b → P (next b) → P (and_then part next)
 passed_part P part b next is h = subst (λ x. P (and_then x next)) (sym is) h

@@ -5,7 +5,7 @@ use Rattle.std.specs.List.{slice_get}
 use Rattle.command_core.specs.declared.operands.Operand.{Operand}
 use Rattle.dep_core.specs.Dependency.{Dependency}
 use Rattle.dep_core.specs.World.{without_name}
-use Rattle.make_index.proofs.IndexReads.{left_at}
+use Rattle.command_core.proofs.Entries.{left_at}
 use Rattle.change_inputs.specs.World.{world_with_operand, world_with_operands, world_without_operands}
 
 abbrev pub IsAdded : List Operand → ℕ → List Dependency → List Dependency → Type 0

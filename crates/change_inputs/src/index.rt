@@ -17,7 +17,7 @@ use crate::refused::Refused;
 use adb_schema::{IndexView, ReadFault, View, Which};
 use adb_tables::values_of_few_visits_have_no_fault;
 use adb_view::Adb;
-use base_core::{Name, Tree, readings_in_a_row_join};
+use base_core::{Name, Tree};
 use dep_core::Repos;
 use report_core::Refusal;
 use std::alloc::{AllocError, Global};
@@ -85,7 +85,6 @@ pub(crate) fn read_index_files<T: Tree>(
     ensures tree { OnlyReads Refused.Disk (T.history tree.old) (T.history tree.new)
         (T.counts tree.old) (T.counts tree.new) result }
 {
-    readings_in_a_row_join::<Vec<u8>, Vec<u8>, Refused>();
     let mut files = Vec::new(alloc);
     for i in 0..repositories.len() {
         let file = read_index_file(alloc, i as u64 + 1, repositories.path(i), tree)?;

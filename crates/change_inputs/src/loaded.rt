@@ -3,6 +3,7 @@ ghost use Rattle.base_core.specs.Read.{OnlyReads};
 ghost use Rattle.change_inputs.specs.Answers.{Agrees, AgreesUnlessDisk};
 ghost use Rattle.change_inputs.specs.Candidates.{candidates_from, candidates_of, root_pool};
 ghost use Rattle.change_inputs.specs.Inputs.{inputs_of};
+ghost use Rattle.change_inputs.specs.RootFiles.{StandInRoot};
 ghost use Rattle.db_core.specs.Seen.{packages_of};
 ghost use Rattle.make_package.specs.Runs.{Explains};
 ghost use Rattle.pool_core.specs.declared.pool.TheConstants.{MOST_CANDIDATES};
@@ -47,11 +48,27 @@ impl Loaded {
         ensures tree { OnlyReads Refused.Disk (T.history tree.old) (T.history tree.new)
             (T.counts tree.old) (T.counts tree.new) result }
     {
-        readings_in_a_row_join::<RootFiles, Vec<Vec<u8>>, Refused>();
+        readings_in_a_row_join::<RootFiles, Loaded, Refused>();
         let files = read_root(alloc, tree)?;
+        Loaded::of_files(alloc, command, files, tree)
+    }
+
+    // By the files of a root, which say where the indexes lie.
+    fn of_files<T: Tree>(
+        alloc: Global,
+        command: &Command,
+        files: RootFiles,
+        tree: &mut T,
+    ) -> Result<Loaded, Refused>
+        requires { StandInRoot (T.history tree.old) files }
+        ensures found { Explains (T.history tree.old) (λ read.
+            AgreesUnlessDisk inputs_seen result (inputs_of command.now read)) }
+        ensures tree { OnlyReads Refused.Disk (T.history tree.old) (T.history tree.new)
+            (T.counts tree.old) (T.counts tree.new) result }
+    {
         let root = test_root(alloc, command, files)?;
-        let files = read_index_files(alloc, &root.repositories, tree)?;
-        let indexes = IndexFiles::test(alloc, files)?;
+        let found = read_index_files(alloc, &root.repositories, tree)?;
+        let indexes = IndexFiles::test(alloc, found)?;
         Ok(Loaded { root, indexes })
     }
 
