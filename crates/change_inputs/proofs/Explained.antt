@@ -190,6 +190,13 @@ indexes_good root fs files indexes there good =
     ap (λ (x : Result (List (List ℕ)) Refusals.Refusal). and_then (and_then x (indexes_in_files 1)) (λ indexes. Ok (inputs_by root indexes))) there
     ∙ ap (λ (x : Result (List Plain) Refusals.Refusal). and_then x (λ indexes. Ok (inputs_by root indexes))) good
 
+pub explained_good : (history : List TreeState) (command : CommandLine) (files : RootFiles) (root : Root) (fs : List (Option (List ℕ))) (found : List (List ℕ)) (indexes : List Plain) → StandInRoot history files
+    → root_found command (bytes_in files.database) (bytes_in files.text_database) (bytes_in files.world) (bytes_in files.repositories) ≡ Ok root
+    → StandAt history root.repositories fs → index_files_from 1 fs ≡ Ok found → indexes_in_files 1 found ≡ Ok indexes
+    → Explains history (λ read. inputs_of command read ≡ Ok (inputs_by root indexes))
+explained_good history command files root fs found indexes stand good those there are =
+    explained_indexes {A = Inputs} (λ inputs. inputs) history command files root fs (Ok (inputs_by root indexes)) stand good those (indexes_good root fs found indexes there are)
+
 -- ---- over a tree as it was before
 
 pub as_before : (old now : List TreeState) (P : Reads → Type 0) → now ≡ old → Explains now P → Explains old P

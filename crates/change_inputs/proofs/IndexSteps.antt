@@ -174,16 +174,16 @@ pub seen_at : (bs : List (List ℕ)) (i : ℕ) (b : List ℕ) → slice_get bs i
 seen_at bs i b at = slice_get-map index_of_file bs i ∙ ap (option_map index_of_file) at
 
 pub few_seen : (files : List (Vec ℕ Global)) (i : ℕ) → i < length (map index_of_file (bytes_of_each files)) → i < length files
-few_seen files i lt = subst (λ n. i < n) (length-map index_of_file (bytes_of_each files) ∙ length-map (λ (file : Vec ℕ Global). file.items) files) lt
+few_seen files i lt = subst (λ n. i < n) (length-map (bytes_of_each files) index_of_file ∙ length-map files (λ (file : Vec ℕ Global). file.items)) lt
 
 pub few_bytes : (files : List (Vec ℕ Global)) (i : ℕ) → length files ≤ i → length (bytes_of_each files) ≤ i
-few_bytes files i le = subst (λ n. n ≤ i) (sym (length-map (λ (file : Vec ℕ Global). file.items) files)) le
+few_bytes files i le = subst (λ n. n ≤ i) (sym (length-map files (λ (file : Vec ℕ Global). file.items))) le
 
 pub one_more : (files next : List (Vec ℕ Global)) (b : List ℕ) (i : ℕ) → bytes_of_each next ≡ bytes_of_each files ++ b ∷ [] → length files ≡ i → length next ≡ i + 1
 one_more files next b i pushed count =
     let e1 : length (bytes_of_each next) ≡ length (bytes_of_each files) + 1 = ap length pushed ∙ length-append (bytes_of_each files) (b ∷ []) in
-    let e2 = length-map (λ (file : Vec ℕ Global). file.items) files in
-    let e3 = length-map (λ (file : Vec ℕ Global). file.items) next in
+    let e2 = length-map files (λ (file : Vec ℕ Global). file.items) in
+    let e3 = length-map next (λ (file : Vec ℕ Global). file.items) in
     omega (arith, e1, e2, e3)
 
 -- those behind a place decide

@@ -1,7 +1,7 @@
 use Rattle.std.proofs.Common.{ℕ}
 use Rattle.std.specs.Prelude.{Vec}
 use Rattle.std.specs.declared.alloc.Global.{Global}
-use Rattle.change_inputs.proofs.Explained.{explained_indexes, explained_refusal, indexes_absent, indexes_bad, indexes_good}
+use Rattle.change_inputs.proofs.Explained.{explained_good, explained_indexes, explained_refusal, indexes_absent, indexes_bad}
 use Rattle.change_inputs.specs.IndexFiles.{bytes_of_each}
 use Rattle.change_inputs.specs.Seen.{indexes_seen, inputs_seen, root_seen}
 use Rattle.change_inputs.proofs.loaded.Loaded.of_files.Goals as goal
@@ -24,5 +24,4 @@ returns-in_err-indexes-clause-found g c =
 pub returns-clause-found : goal.returns-clause-found
 returns-clause-found g c =
     let f = c.in_ok-found.ensures.found in
-    explained_indexes inputs_seen _ c.args.command.now c.args.files (root_seen c.in_ok-root.root) f.0 _ c.requires c.in_ok-root.ensures f.1
-    (indexes_good (root_seen c.in_ok-root.root) f.0 _ (indexes_seen c.in_ok-indexes.indexes) f.2 c.in_ok-indexes.ensures.answer)
+    explained_good _ c.args.command.now c.args.files (root_seen c.in_ok-root.root) f.0 _ (indexes_seen c.in_ok-indexes.indexes) c.requires c.in_ok-root.ensures f.1 f.2 c.in_ok-indexes.ensures.answer
