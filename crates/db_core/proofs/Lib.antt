@@ -1,4 +1,5 @@
 pub mod AnyOf
+mod ListedNames
 mod NamePlaces
 pub mod Ordered
 pub mod PathParts

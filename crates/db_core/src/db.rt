@@ -8,9 +8,9 @@ ghost use Rattle.adb_tables.specs.Values.{count_of, entries_in, entry_in};
 ghost use Rattle.adb_tables.specs.declared.tables.Which.TheVariants as Tables;
 ghost use Rattle.db_core.specs.NamePlaces.{names_in_order};
 ghost use Rattle.db_core.specs.NameSeen.{name_seen};
-ghost use Rattle.db_core.specs.Packages.{is_package_named, lists_path, packages_by};
-ghost use Rattle.std.specs.List.{position_from};
-ghost use Rattle.std.specs.Prelude.{◌≡◌, ◌<◌, ◌^◌, ◌==◌, [], Some, None, IfSome, length, map, option_map, slice_get, IfOk, IfErr};
+ghost use Rattle.db_core.specs.Packages.{is_package_named, lists_names, lists_path, packages_by};
+ghost use Rattle.std.specs.List.{list_all, position_from};
+ghost use Rattle.std.specs.Prelude.{◌≡◌, ◌<◌, ◌^◌, ◌==◌, true, [], All, Some, None, IfSome, length, map, option_map, slice_get, IfOk, IfErr};
 
 use crate::listed_paths::is_path_listed;
 use crate::name_places::{NamePlace, place_of, sorted_names};
@@ -26,9 +26,12 @@ pub struct Db<'a> {
     pub(crate) names: Vec<NamePlace<'a>>,
     ghost by_name: { map name_seen names.items
         ≡ names_in_order (packages_by (option_map idb_value idb)) },
+    ghost named: { list_all lists_names (packages_by (option_map idb_value idb)) ≡ true },
 }
 
 impl<'a> Db<'a> {
+    ghost use Rattle.base_core.specs.Name.{IsName};
+    ghost use Rattle.db_core.specs.Members.{member_listings, staying_member};
     ghost use Rattle.db_core.specs.Seen.{packages_of};
 
     /// A database without packages.
@@ -54,6 +57,7 @@ impl<'a> Db<'a> {
             ≡ entries_at 0 (root_value Tables.Idb (payload_in bytes.entry.now))) }
     {
         let checked = read_adb(alloc, bytes, Which::Idb)?;
+        checked.values_keep_their_rules();
         let idb = checked.idb();
         let names = sorted_names(alloc, &idb.packages())?;
         Ok(Db {
@@ -112,6 +116,12 @@ impl<'a> Db<'a> {
             None => None,
         }
     }
+
+    /// Each path that a package of the database lists is a name.
+    pub fn listed_paths_are_names(&self)
+        ensures { All (λ l. IsName l.path)
+            (member_listings (map staying_member (packages_of self.now))) }
+    {}
 }
 
 /// The package at a place, counted from 0.
