@@ -38,18 +38,21 @@ impl Class {
         matches!(self, Class::End | Class::Stray)
     }
 
+    /// Whether it is of a component of the number.
     pub fn is_component(self) -> bool
         ensures { result ≡ is_component self }
     {
         matches!(self, Class::ZeroComponent | Class::Component)
     }
 
+    /// Whether it is of a suffix.
     pub fn is_suffix(self) -> bool
         ensures { result ≡ is_suffix self }
     {
         matches!(self, Class::PreRelease | Class::Suffix)
     }
 
+    /// Whether a suffix or a hash may follow.
     pub fn is_before_hash(self) -> bool
         ensures { result ≡ is_before_hash self }
     {
@@ -59,6 +62,7 @@ impl Class {
         }
     }
 
+    /// Whether a revision may follow.
     pub fn is_before_revision(self) -> bool
         ensures { result ≡ is_before_revision self }
     {
@@ -111,6 +115,7 @@ pub struct Tokens<'a> {
 }
 
 impl<'a> Tokens<'a> {
+    /// The tokens of a text.
     #[tactic(auto, unfolding(crate::specs::Order::tokens))]
     pub fn of(text: &'a [u8]) -> Tokens<'a>
         ensures { tokens_left result ≡ tokens text.entry.now }
