@@ -11,4 +11,3 @@ pub mod RootRules
 pub mod Segments
 pub mod SoundPackages
 pub mod Unchanged
-pub mod WithoutZeros

@@ -11,10 +11,9 @@ use Rattle.adb_write.specs.Canonical.{PayloadCounts, canonical, or_overflow, ove
 use Rattle.adb_write.specs.File.{file_of}
 use Rattle.adb_sound.specs.Root.{IsRootOf}
 use Rattle.pkg_core.specs.Whole.{container_fault}
-use Rattle.adb_copy.proofs.Zeros.{nth_obj}
+use Rattle.adb_tables.proofs.ValueEntries.{entries_arr, nth_obj}
 use Rattle.db_core.specs.Members.{Member}
 use Rattle.db_write.specs.NewDatabase.{database_container, database_of, database_value, packages_after}
-use Rattle.db_write.proofs.OwnedPaths.{entries_arr}
 
 written_by : (v : Plain) (o : Option PayloadCounts) (bytes : List ℕ) → database_container (or_overflow (canonical v) o) ≡ Ok bytes → file_of IDB_WORD (canonical v) ≡ bytes
 written_by v None bytes h = cc (h)

@@ -22,6 +22,6 @@ pub use laws::{
     spelled_texts_are_read, texts_are_read_back, values_are_read_back,
     words_of_different_names_are_a_world, worlds_are_read_back, worlds_hold_their_words,
 };
-pub use repos::{Repos, ReposFault};
+pub use repos::{Repos, ReposFault, without_slash};
 pub use text::{dep_of, dep_text, read_dep};
 pub use world::{World, WorldFault};

@@ -1,62 +1,12 @@
--- Values without zeros are normal, and keep their shape and their numbers.
-use Rattle.std.proofs.Common.{◌≡◌, ◌≢◌, ℕ, zero, suc, ◌^◌, ◌<◌, List, [], ◌∷◌, refl, ap, arith}
-use Rattle.adb_view.specs.Plain.{Plain, null, int, blob, arr, obj, Plains, none, more, Shape, number, text, hash, array, object, Fields, no_fields, field, blob_value, arr_value, obj_of, obj_value, keep, without_last_nulls, IsNormal, AreNormal}
+-- Values without zeros are normal, and keep their shape, their numbers and their texts.
+use Rattle.std.proofs.Common.{◌≡◌, ℕ, zero, suc, ◌^◌, ◌<◌, [], ◌∷◌, refl, arith}
+use Rattle.adb_view.specs.Plain.{Plain, null, int, blob, arr, obj, Plains, none, more, Shape, number, text, hash, array, object, Fields, no_fields, field, obj_of, without_last_nulls, IsNormal, AreNormal}
 use Rattle.adb_view.specs.Shaped.{Each, HasShape, HaveShapes}
-use Rattle.adb_tables.specs.Values.{nth, entries_in, int_in}
+use Rattle.adb_tables.specs.Values.{nth, entries_in, int_in, text_in}
 use Rattle.adb_copy.specs.Zeros.{int_value, with_at, without_zeros, all_without_zeros}
-use Rattle.adb_copy.proofs.Shapes.{arr_value_shape, obj_value_shape, shape_at, shape_null, shapes_none}
-
--- ---- normal objects, arrays and texts
-
-keep_again : (v : Plain) (us : Plains) → without_last_nulls us ≡ us → without_last_nulls (keep v us) ≡ keep v us
-keep_again null none e = refl
-keep_again null (more u us) e = ap (keep null) e
-keep_again (int n) us e = ap (more (int n)) e
-keep_again (blob b) us e = ap (more (blob b)) e
-keep_again (arr vs) us e = ap (more (arr vs)) e
-keep_again (obj vs) us e = ap (more (obj vs)) e
-
-trimmed_again : (vs : Plains) → without_last_nulls (without_last_nulls vs) ≡ without_last_nulls vs
-trimmed_again none = refl
-trimmed_again (more v vs) = keep_again v (without_last_nulls vs) (trimmed_again vs)
-
-keep_normal : (v : Plain) (us : Plains) → IsNormal v → AreNormal us → AreNormal (keep v us)
-unfolding IsNormal AreNormal
-keep_normal null none a b = tt
-keep_normal null (more u us) a b = (a, b)
-keep_normal (int n) us a b = (a, b)
-keep_normal (blob c) us a b = (a, b)
-keep_normal (arr vs) us a b = (a, b)
-keep_normal (obj vs) us a b = (a, b)
-
-trimmed_normal : (vs : Plains) → AreNormal vs → AreNormal (without_last_nulls vs)
-unfolding IsNormal AreNormal
-trimmed_normal none a = tt
-trimmed_normal (more v vs) a = keep_normal v (without_last_nulls vs) a.0 (trimmed_normal vs a.1)
-
-not_none : (v : Plain) (vs : Plains) → more v vs ≢ none
-not_none v vs e = (cc)
-
-obj_of_normal : (us : Plains) → without_last_nulls us ≡ us → AreNormal us → IsNormal (obj_of us)
-unfolding IsNormal AreNormal
-obj_of_normal none e a = tt
-obj_of_normal (more u us) e a = (not_none u us, e, a)
-
-pub obj_normal : (vs : Plains) → AreNormal vs → IsNormal (obj_value vs)
-obj_normal vs a = obj_of_normal (without_last_nulls vs) (trimmed_again vs) (trimmed_normal vs a)
-
-pub arr_normal : (vs : Plains) → AreNormal vs → IsNormal (arr_value vs)
-unfolding IsNormal AreNormal
-arr_normal none a = tt
-arr_normal (more v vs) a = (not_none v vs, a)
-
-not_empty : (b : ℕ) (bs : List ℕ) → b ∷ bs ≢ []
-not_empty b bs e = (cc)
-
-pub blob_normal : (b : List ℕ) → IsNormal (blob_value b)
-unfolding IsNormal
-blob_normal [] = tt
-blob_normal (b ∷ bs) = not_empty b bs
+use Rattle.adb_view.proofs.FoundShapes.{arr_value_shape, blob_value_hash, blob_value_text, obj_value_shape, shape_null, shapes_none}
+use Rattle.adb_view.proofs.Normal.{arr_normal, blob_value_normal, obj_normal}
+use Rattle.adb_copy.proofs.Shapes.{shape_at}
 
 pub int_normal : (n : ℕ) → n < 2 ^ 64 → IsNormal (int_value n)
 unfolding IsNormal
@@ -91,7 +41,7 @@ mutual
   all_normal_ints none h = tt
   all_normal_ints (more v vs) h = (normal_ints v h.0, all_normal_ints vs h.1)
 
-placed_ints : (i : ℕ) (v : Plain) (vs : Plains) → HasInts v → HaveInts vs → HaveInts (with_at i v vs)
+pub placed_ints : (i : ℕ) (v : Plain) (vs : Plains) → HasInts v → HaveInts vs → HaveInts (with_at i v vs)
 unfolding HasInts HaveInts
 placed_ints zero v none a h = (a, tt)
 placed_ints zero v (more u us) a h = (a, h.1)
@@ -132,7 +82,7 @@ mutual
   pub zeros_normal : (v : Plain) → HasInts v → IsNormal (without_zeros v)
   zeros_normal null h = tt
   zeros_normal (int n) h = int_normal n h
-  zeros_normal (blob b) h = blob_normal b
+  zeros_normal (blob b) h = blob_value_normal b
   zeros_normal (arr vs) h = arr_normal (all_without_zeros vs) (all_zeros_normal vs h)
   zeros_normal (obj vs) h = obj_normal (all_without_zeros vs) (all_zeros_normal vs h)
 
@@ -152,16 +102,6 @@ unfolding HasShape
 int_shape zero = tt
 int_shape (suc n) = tt
 
-pub text_shape : (b : List ℕ) → HasShape text (blob_value b)
-unfolding HasShape
-text_shape [] = tt
-text_shape (b ∷ bs) = tt
-
-hash_shape : (b : List ℕ) → HasShape hash (blob_value b)
-unfolding HasShape
-hash_shape [] = tt
-hash_shape (b ∷ bs) = tt
-
 mutual
   unfolding without_zeros all_without_zeros HasShape HaveShapes
 
@@ -173,12 +113,12 @@ mutual
   zeros_shape number (obj vs) h = absurd h
   zeros_shape text null h = tt
   zeros_shape text (int n) h = absurd h
-  zeros_shape text (blob b) h = text_shape b
+  zeros_shape text (blob b) h = blob_value_text b
   zeros_shape text (arr vs) h = absurd h
   zeros_shape text (obj vs) h = absurd h
   zeros_shape hash null h = tt
   zeros_shape hash (int n) h = absurd h
-  zeros_shape hash (blob b) h = hash_shape b
+  zeros_shape hash (blob b) h = blob_value_hash b
   zeros_shape hash (arr vs) h = absurd h
   zeros_shape hash (obj vs) h = absurd h
   zeros_shape (array s) null h = tt
@@ -192,11 +132,11 @@ mutual
   zeros_shape (object schema fs) (arr vs) h = absurd h
   zeros_shape (object schema fs) (obj vs) h = obj_value_shape schema fs (all_without_zeros vs) (all_zeros_shape fs vs h)
 
-  each_zeros_shape : (s : Shape) (vs : Plains) → Each (HasShape s) vs → Each (HasShape s) (all_without_zeros vs)
+  pub each_zeros_shape : (s : Shape) (vs : Plains) → Each (HasShape s) vs → Each (HasShape s) (all_without_zeros vs)
   each_zeros_shape s none h = tt
   each_zeros_shape s (more v vs) h = (zeros_shape s v h.0, each_zeros_shape s vs h.1)
 
-  all_zeros_shape : (fs : Fields) (vs : Plains) → HaveShapes fs vs → HaveShapes fs (all_without_zeros vs)
+  pub all_zeros_shape : (fs : Fields) (vs : Plains) → HaveShapes fs vs → HaveShapes fs (all_without_zeros vs)
   all_zeros_shape no_fields none h = tt
   all_zeros_shape no_fields (more v vs) h = absurd h
   all_zeros_shape (field name s fs) none h = tt
@@ -223,28 +163,34 @@ unfolding HasShape
 placed_shape schema fs i j u v vs p q a b h =
     zeros_shape (object schema fs) (obj (with_at i u (with_at j v vs))) (placed_shapes fs i u (with_at j v vs) p a (placed_shapes fs j v vs q b h))
 
--- ---- with the same numbers
+-- ---- with the same numbers and texts
 
-int_same : (n : ℕ) → int_in (int_value n) ≡ n
-int_same zero = refl
-int_same (suc n) = refl
-
-int_arr : (vs : Plains) → int_in (arr_value vs) ≡ 0
-int_arr none = refl
-int_arr (more v vs) = refl
-
-int_obj : (vs : Plains) → int_in (obj_of vs) ≡ 0
-int_obj none = refl
-int_obj (more v vs) = refl
-
-int_blob : (b : List ℕ) → int_in (blob_value b) ≡ 0
-int_blob [] = refl
-int_blob (b ∷ bs) = refl
+pub text_zeros : (v : Plain) → text_in (without_zeros v) ≡ text_in v
+unfolding without_zeros
+text_zeros null = refl
+text_zeros (int zero) = refl
+text_zeros (int (suc n)) = refl
+text_zeros (blob []) = refl
+text_zeros (blob (x ∷ xs)) = refl
+text_zeros (arr none) = refl
+text_zeros (arr (more v vs)) = refl
+text_zeros (obj vs) = go (without_last_nulls (all_without_zeros vs))
+  where
+    go : (us : Plains) → text_in (obj_of us) ≡ []
+    go none = refl
+    go (more u us) = refl
 
 pub int_zeros : (v : Plain) → int_in (without_zeros v) ≡ int_in v
 unfolding without_zeros
 int_zeros null = refl
-int_zeros (int n) = int_same n
-int_zeros (blob b) = int_blob b
-int_zeros (arr vs) = int_arr (all_without_zeros vs)
-int_zeros (obj vs) = int_obj (without_last_nulls (all_without_zeros vs))
+int_zeros (int zero) = refl
+int_zeros (int (suc n)) = refl
+int_zeros (blob []) = refl
+int_zeros (blob (x ∷ xs)) = refl
+int_zeros (arr none) = refl
+int_zeros (arr (more v vs)) = refl
+int_zeros (obj vs) = go (without_last_nulls (all_without_zeros vs))
+  where
+    go : (us : Plains) → int_in (obj_of us) ≡ 0
+    go none = refl
+    go (more u us) = refl
