@@ -36,11 +36,11 @@ pub(crate) fn next_file<'a, T: Tree>(
     ensures walk { IfOk result (λ found. FindsFile place.old.walk found place.new.walk) }
     ensures room { IfOk result (λ found. IfSome found (λ next.
         (next.file.at + file_bytes_left next.file.file ≤ place.new.at)
-        × (place.new.at ≤ place.new.len))) }
+        × (place.new.at ≤ place.new.len) × (next.block ≤ place.new.len))) }
     ensures tree { ReadsFile name.now place.old.len DiskFault (T.history tree.old)
         (T.history tree.new) (T.counts tree.old) (T.counts tree.new) result }
 {
-    'blocks: while place.at <= place.len {
+    'blocks: loop {
         let block = place.at;
         match next_block(tree, name, place)? {
             BlockStep::End => return Ok(None),
@@ -48,5 +48,4 @@ pub(crate) fn next_file<'a, T: Tree>(
             BlockStep::Opened(file) => return Ok(Some(FoundFile { block, file })),
         }
     }
-    unreachable!()
 }

@@ -25,6 +25,7 @@ pub struct PieceReader<'a> {
     pub(crate) refused: Option<Cause>,
     ghost within: { place.at ≤ place.len },
     ghost behind: { open_end opened ≤ place.at },
+    ghost begun: { block ≤ place.len },
 }
 
 impl<'a> PieceReader<'a> {
@@ -52,14 +53,26 @@ impl<'a> PieceReader<'a> {
             (pieces_by_blocks (expected_contents (value_of_contents contents.entry.now))
             (reading_of (behind_front front.now pkg))) }
     {
+        let place = BlockPlace {
+            len: front.file_len(),
+            walk: Walk::new(contents.view().paths()),
+            last: BlockKind::Adb,
+            at: front.end(),
+        };
+        PieceReader::in_front_of(name, place)
+    }
+
+    /// A reader in front of the block at a place.
+    pub(crate) fn in_front_of(name: &'a Name, place: BlockPlace<'a>) -> PieceReader<'a>
+        requires { place.at ≤ place.len }
+        ensures name { name_in_tree result ≡ name.entry.now }
+        ensures place { result.place ≡ place.entry }
+        ensures opened { result.opened ≡ None }
+        ensures refused { result.refused ≡ None }
+    {
         PieceReader {
             name,
-            place: BlockPlace {
-                len: front.file_len(),
-                walk: Walk::new(contents.view().paths()),
-                last: BlockKind::Adb,
-                at: front.end(),
-            },
+            place,
             opened: None,
             block: 0,
             refused: None,
