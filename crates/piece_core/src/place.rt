@@ -58,6 +58,7 @@ impl<'a> BlockPlace<'a> {
         ensures len { self.new.len ≡ self.old.len }
         ensures behind { IfSome framing (λ frame. OnOk result (self.new.at
             ≡ self.old.at + whole_size frame (self.old.len - self.old.at))) }
+        ensures within { self.new.at ≤ self.new.len }
         ensures left { IfSome framing (λ frame. IfOk result (HasAllLeft frame)) }
         ensures kind { IfSome framing (λ frame. IfOk result (IsOfContents frame)) }
         ensures walk { IfOk result (λ step. WalksOn self.old.walk step self.new.walk) }
@@ -75,6 +76,7 @@ impl<'a> BlockPlace<'a> {
         ensures step { (file : List ℕ) → step_at self.old file ≡ ended
             → IsStepped None self.old file result self.new }
         ensures len { self.new.len ≡ self.old.len }
+        ensures at { self.new.at ≡ self.old.at }
         ensures walk { IfOk result (λ step. WalksOn self.old.walk step self.new.walk) }
         ensures ended { IfOk result (λ step. step ≡ Ended) }
     {
@@ -95,6 +97,7 @@ impl<'a> BlockPlace<'a> {
         ensures len { self.new.len ≡ self.old.len }
         ensures behind { OnOk result (self.new.at
             ≡ self.old.at + whole_size frame (self.old.len - self.old.at)) }
+        ensures within { self.new.at ≤ self.new.len }
         ensures left { IfOk result (HasAllLeft frame) }
         ensures kind { IfOk result (IsOfContents frame) }
         ensures walk { IfOk result (λ step. WalksOn self.old.walk step self.new.walk) }
@@ -120,6 +123,7 @@ impl<'a> BlockPlace<'a> {
         ensures len { self.new.len ≡ self.old.len }
         ensures behind { OnOk result (self.new.at
             ≡ self.old.at + whole_size frame (self.old.len - self.old.at)) }
+        ensures within { self.new.at ≤ self.new.len }
         ensures left { IfOk result (HasAllLeft frame) }
         ensures kind { IfOk result (IsOfContents frame) }
         ensures walk { IfOk result (λ step. WalksOn self.old.walk step self.new.walk) }

@@ -1,10 +1,12 @@
 -- Where the passes over the pieces of a package stand: the first one over all files, and then one
 -- over a single file, as often as is asked for.
-use Rattle.std.specs.Prelude.{◌≡◌, ◌≤◌, ℕ, ◌+◌, ◌==◌, ◌&&◌, Bool, true, false, if◌then◌else◌, List, [], ◌∷◌, length, vec_capacity, vec_len, Option, Some, None}
-use Rattle.base_core.specs.declared.cause.Cause.{Cause}
-use Rattle.pkg_core.specs.Contents.{Expected}
-use Rattle.pkg_core.specs.Opened.{expected_of, left_in}
-use Rattle.piece_core.specs.Pieces.{PiecesRead, no_piece, part_of, piece, refusal}
+use Rattle.std.specs.Prelude.{◌≡◌, ◌≤◌, ℕ, ◌+◌, ◌==◌, ◌&&◌, Bool, true, false, if◌then◌else◌, List, [], ◌∷◌, length, drop, vec_capacity, vec_len, Option, Some, None}
+use Rattle.adb_block.specs.Reading.{reading_of}
+use Rattle.adb_block.specs.declared.block.BlockKind.TheVariants.{Adb}
+use Rattle.pkg_core.specs.Contents.{Expected, expected_contents}
+use Rattle.pkg_core.specs.Opened.{expected_of}
+use Rattle.pkg_pieces.specs.Values.{value_of_contents}
+use Rattle.piece_core.specs.Pieces.{PiecesRead, no_piece, part_of, piece, pieces_by_blocks, refusal}
 use Rattle.piece_core.specs.Places.{pieces_at}
 use Rattle.piece_core.specs.declared.part.Part.{Part}
 use Rattle.piece_core.specs.declared.place.BlockPlace.{BlockPlace}
@@ -14,6 +16,8 @@ use Rattle.piece_reader.specs.declared.open.OpenFile.{OpenFile}
 use Rattle.piece_reader.specs.declared.package.PackagePieces.{PackagePieces}
 use Rattle.piece_reader.specs.declared.package.Pass.{Pass}
 use Rattle.piece_reader.specs.declared.package.Pass.TheVariants.{First, OneFile, Over}
+use Rattle.piece_reader.specs.declared.reader.Due.{Due}
+use Rattle.piece_reader.specs.declared.reader.Due.TheVariants.{Files, Nothing, Refused}
 
 -- ---- the pieces of one file
 
@@ -74,9 +78,17 @@ len_of_package pieces = package_len pieces.reader
 abbrev pub next_offset_of : PackagePieces → ℕ
 next_offset_of pieces = offset_of pieces.reader
 
--- all pieces of the package
+-- the files of the package that have contents, and all their pieces
+abbrev pub all_files : PackagePieces → List Expected
+all_files pieces = expected_contents (value_of_contents pieces.contents.now)
+
 abbrev pub all_pieces : PackagePieces → List ℕ → PiecesRead
-all_pieces pieces pkg = pieces_at pieces.start pkg
+all_pieces pieces pkg = pieces_by_blocks (all_files pieces) (reading_of (record {
+  schema = 0;
+  last = Some Adb;
+  at = pieces.start;
+  left = drop pieces.start pkg;
+}))
 
 -- the first pass came to its end
 abbrev pub IsBehindFirst : Pass → Type 0
@@ -99,23 +111,24 @@ IsBegunFrom (Some o) due block pkg now from =
 -- in the first pass: the files that were handed out, and the room for the offsets of the others
 pub record IsInFirstPass (p : PackagePieces) (pkg : List ℕ) (now : PiecesRead) : Type 0 where
   pub from : PiecesRead
-  pub files : AreFilesAt pkg p.blocks.items (left_in p.start.walk) (all_pieces p pkg)
+  pub files : AreFilesAt pkg p.blocks.items (all_files p) (all_pieces p pkg)
       (due_files p.reader) from
   pub begun : IsBegunFrom p.reader.opened (due_files p.reader) p.reader.block pkg now from
   pub room : vec_len p.blocks + length (due_files p.reader) ≤ vec_capacity p.blocks
 
-abbrev pub UnlessRefused : Option Cause → Type 0 → Type 0
-UnlessRefused None P = P
-UnlessRefused (Some c) P = Unit {0}
+abbrev pub InFirstPass : Due → PackagePieces → List ℕ → PiecesRead → Type 0
+InFirstPass Files p pkg now = IsInFirstPass p pkg now
+InFirstPass Nothing p pkg now = ⊥
+InFirstPass (Refused c) p pkg now = Unit {0}
 
 -- all files were handed out
 abbrev pub HasHandedOut : PackagePieces → List ℕ → Type 0
 HasHandedOut p pkg =
-    AreFilesAt pkg p.blocks.items (left_in p.start.walk) (all_pieces p pkg) [] no_piece
+    AreFilesAt pkg p.blocks.items (all_files p) (all_pieces p pkg) [] no_piece
 
 abbrev pub AreInPass : Pass → PackagePieces → List ℕ → PiecesRead → Type 0
 AreInPass First p pkg now =
-    IsReading p.reader pkg now × UnlessRefused p.reader.refused (IsInFirstPass p pkg now)
+    IsReading p.reader pkg now × InFirstPass p.reader.due p pkg now
 AreInPass OneFile p pkg now = (all : PiecesRead) × IsReading p.reader pkg all
     × (now ≡ pieces_of_first all) × HasHandedOut p pkg
 AreInPass Over p pkg now = (now ≡ no_piece) × HasHandedOut p pkg
@@ -125,6 +138,13 @@ abbrev pub IsPackageReading : PackagePieces → List ℕ → PiecesRead → Type
 IsPackageReading p pkg now = AreInPass p.pass p pkg now
 
 -- ---- inside
+
+-- so many files stand in front of the one with these positions, and its block stands there; or it
+-- has no contents
+abbrev pub IsBlockOf : ℕ → ℕ → List Expected → PiecesRead → List ℕ → Option (ℕ × ℕ) → Type 0
+IsBlockOf path file es all pkg None = pieces_of_file path file all ≡ no_piece
+IsBlockOf path file es all pkg (Some (k, block)) = (block ≤ length pkg)
+    × (pieces_of_file path file all ≡ pieces_of_first (pieces_from_block (drop k es) block pkg))
 
 -- the block of the file with these positions stands there; or it has no contents
 abbrev pub IsPlaceOf : ℕ → ℕ → PiecesRead → List ℕ → Option BlockPlace → Type 0

@@ -14,6 +14,8 @@ use Rattle.piece_reader.specs.declared.fault.PieceFault.{PieceFault}
 use Rattle.piece_reader.specs.declared.fault.PieceFault.TheVariants.{Bad, Disk}
 use Rattle.piece_reader.specs.declared.files.FoundFile.{FoundFile}
 use Rattle.piece_reader.specs.declared.open.OpenFile.{OpenFile}
+use Rattle.piece_reader.specs.declared.reader.Due.{Due}
+use Rattle.piece_reader.specs.declared.reader.Due.TheVariants.{Files, Nothing, Refused}
 use Rattle.piece_reader.specs.declared.reader.PieceReader.{PieceReader}
 
 -- ---- what a reader shows
@@ -39,8 +41,17 @@ abbrev pub due_in : BlockPlace → Option OpenFile → List Expected
 due_in place None = left_in place.walk
 due_in place (Some o) = expected_of o.file.wanted ∷ left_in place.walk
 
+abbrev pub due_by : Due → BlockPlace → Option OpenFile → List Expected
+due_by Files place opened = due_in place opened
+due_by Nothing place opened = []
+due_by (Refused c) place opened = []
+
 abbrev pub due_files : PieceReader → List Expected
-due_files reader = due_in reader.place reader.opened
+due_files reader = due_by reader.due reader.place reader.opened
+
+-- no test failed, and the last block was not passed
+abbrev pub IsGoingOn : PieceReader → Type 0
+IsGoingOn reader = reader.due ≡ Files
 
 -- ---- what is still to come, of a package of these bytes
 
@@ -49,14 +60,14 @@ ArePiecesFrom place None pkg pieces = pieces ≡ pieces_at place pkg
 ArePiecesFrom place (Some o) pkg pieces =
     (so_far : List ℕ) × IsOpenFile o so_far pkg (pieces_at place pkg) pieces
 
--- after a failed test that test alone
-abbrev pub AreLeft : Option Cause → BlockPlace → Option OpenFile → List ℕ → PiecesRead → Type 0
-AreLeft None place opened pkg pieces = ArePiecesFrom place opened pkg pieces
-AreLeft (Some c) place opened pkg pieces = pieces ≡ refusal c
+abbrev pub AreLeft : Due → BlockPlace → Option OpenFile → List ℕ → PiecesRead → Type 0
+AreLeft Files place opened pkg pieces = ArePiecesFrom place opened pkg pieces
+AreLeft Nothing place opened pkg pieces = pieces ≡ no_piece
+AreLeft (Refused c) place opened pkg pieces = pieces ≡ refusal c
 
 -- these pieces are still to come
 abbrev pub IsReading : PieceReader → List ℕ → PiecesRead → Type 0
-IsReading reader pkg pieces = AreLeft reader.refused reader.place reader.opened pkg pieces
+IsReading reader pkg pieces = AreLeft reader.due reader.place reader.opened pkg pieces
 
 -- ---- what is answered
 
@@ -97,8 +108,8 @@ AreFromBlock (Some o) due block pkg pieces from = pieces_from_block due block pk
 abbrev pub KeepsBlock : PieceReader → List ℕ → PiecesRead → Option Part → PieceReader → Type 0
 KeepsBlock old pkg before None new = Unit {0}
 KeepsBlock old pkg before (Some part) new = (from : PiecesRead)
-    → AreFromBlock old.opened (due_files old) old.block pkg before from
-    → pieces_from_block (due_files old) new.block pkg ≡ from
+    → AreFromBlock old.opened (due_in old.place old.opened) old.block pkg before from
+    → pieces_from_block (due_in old.place old.opened) new.block pkg ≡ from
 
 -- ---- inside
 
@@ -122,12 +133,12 @@ IsFileFound before pkg (Err Disk) after = Unit {0}
 -- the same of a file that is open already or is the next one
 abbrev pub IsFileOpened : PieceReader → List ℕ → PiecesRead
     → Result (Option OpenFile) PieceFault → PieceReader → Type 0
-IsFileOpened old pkg before (Ok None) new =
-    (before ≡ no_piece) × (pieces_at new.place pkg ≡ no_piece)
+IsFileOpened old pkg before (Ok None) new = before ≡ no_piece
 IsFileOpened old pkg before (Ok (Some o)) new =
     ((so_far : List ℕ) × IsOpenFile o so_far pkg (pieces_at new.place pkg) before)
-    × ((from : PiecesRead) → AreFromBlock old.opened (due_files old) old.block pkg before from
-    → pieces_from_block (due_files old) new.block pkg ≡ from)
+    × ((from : PiecesRead)
+    → AreFromBlock old.opened (due_in old.place old.opened) old.block pkg before from
+    → pieces_from_block (due_in old.place old.opened) new.block pkg ≡ from)
 IsFileOpened old pkg before (Err (Bad c)) new = before ≡ refusal c
 IsFileOpened old pkg before (Err Disk) new = Unit {0}
 
@@ -136,8 +147,7 @@ abbrev pub IsPieceRead : PieceReader → List ℕ → PiecesRead → List ℕ
     → Result (Option Part) PieceFault → Type 0
 IsPieceRead new pkg before bytes (Ok (Some part)) = (after : PiecesRead)
     × (before ≡ piece part bytes after) × ArePiecesFrom new.place new.opened pkg after
-IsPieceRead new pkg before bytes (Ok None) =
-    (before ≡ no_piece) × ArePiecesFrom new.place new.opened pkg no_piece
+IsPieceRead new pkg before bytes (Ok None) = before ≡ no_piece
 IsPieceRead new pkg before bytes (Err (Bad c)) = before ≡ refusal c
 IsPieceRead new pkg before bytes (Err Disk) = Unit {0}
 

@@ -57,6 +57,7 @@ pub fn next_block<'a, T: Tree>(
         × ((file : List ℕ) → length file ≡ place.old.len → HasAt file place.old.at seen
         → IsNextBlock place.old file result place.new) }
     ensures len { place.new.len ≡ place.old.len }
+    ensures within { place.new.at ≤ place.new.len }
     ensures walk { IfOk result (λ step. GoesOnWith place.old.walk step place.new.walk) }
     ensures further { IfOk result (λ step. GoesFurther place.old step place.new) }
     ensures tree { ReadsFile name.now place.old.len DiskFault (T.history tree.old)

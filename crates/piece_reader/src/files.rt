@@ -33,14 +33,15 @@ pub(crate) fn next_file<'a, T: Tree>(
         × ((pkg : List ℕ) → length pkg ≡ place.old.len → HasAt pkg place.old.at seen
         → IsFileFound place.old pkg result place.new) }
     ensures len { place.new.len ≡ place.old.len }
+    ensures within { place.new.at ≤ place.new.len }
     ensures walk { IfOk result (λ found. FindsFile place.old.walk found place.new.walk) }
     ensures room { IfOk result (λ found. IfSome found (λ next.
         (next.file.at + file_bytes_left next.file.file ≤ place.new.at)
-        × (place.new.at ≤ place.new.len) × (next.block ≤ place.new.len))) }
+        × (next.block ≤ place.new.len))) }
     ensures tree { ReadsFile name.now place.old.len DiskFault (T.history tree.old)
         (T.history tree.new) (T.counts tree.old) (T.counts tree.new) result }
 {
-    'blocks: loop {
+    'more: loop {
         let block = place.at;
         match next_block(tree, name, place)? {
             BlockStep::End => return Ok(None),

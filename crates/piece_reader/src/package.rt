@@ -1,6 +1,6 @@
 //! The pieces of a package in passes: of all its files, and then of single ones once more.
 
-ghost use Rattle.std.specs.Prelude.{◌≡◌, ◌≤◌, ◌+◌, ℕ, List, Ok, None, length, IfOk, IfSome};
+ghost use Rattle.std.specs.Prelude.{◌≡◌, ◌≤◌, ◌+◌, ℕ, List, Ok, None, drop, length, IfOk, IfSome};
 ghost use Rattle.adb_block.specs.Reading.{reading_of};
 ghost use Rattle.pkg_core.specs.Contents.{expected_contents};
 ghost use Rattle.pkg_core.specs.Opened.{left_in};
@@ -9,7 +9,7 @@ ghost use Rattle.pkg_pieces.specs.Front.{behind_front, front_end, front_file_len
 ghost use Rattle.pkg_pieces.specs.Seen.{HasAt, IsSeenIn, ReadsFile};
 ghost use Rattle.pkg_pieces.specs.Values.{value_of_contents};
 ghost use Rattle.piece_reader.specs.Readers.{AnswersNext};
-ghost use Rattle.piece_reader.specs.Passes.{HasEnded, HasHandedOut, IsPackageReading, IsPlaceOf, all_pieces, len_of_package, name_of_package, next_offset_of, pieces_of_file};
+ghost use Rattle.piece_reader.specs.Passes.{HasEnded, HasHandedOut, IsBlockOf, IsPackageReading, IsPlaceOf, all_pieces, len_of_package, name_of_package, next_offset_of, pieces_of_file};
 ghost use Rattle.piece_reader.specs.declared.fault.PieceFault.TheVariants.{Disk as DiskFault};
 
 use crate::fault::PieceFault;
@@ -38,8 +38,9 @@ pub(crate) enum Pass {
 /// `Passes` of `specs/`, which pieces of a package are still to come.
 #[derive(Drop)]
 pub struct PackagePieces<'a> {
+    pub(crate) contents: &'a Contents<'a>,
+    pub(crate) start: u64,
     pub(crate) reader: PieceReader<'a>,
-    pub(crate) start: BlockPlace<'a>,
     pub(crate) blocks: Vec<u64>,
     pub(crate) pass: Pass,
 }
@@ -50,7 +51,7 @@ impl<'a> PackagePieces<'a> {
     pub fn new(
         alloc: Global,
         front: &Front,
-        contents: &Contents<'a>,
+        contents: &'a Contents<'a>,
         name: &'a Name,
     ) -> Result<PackagePieces<'a>, AllocError>
         ensures name { IfOk result (λ pieces. name_of_package pieces ≡ name.entry.now) }
@@ -62,13 +63,12 @@ impl<'a> PackagePieces<'a> {
         ensures pieces { IfOk result (λ pieces. (pkg : List ℕ)
             → IsPackageReading pieces pkg (all_pieces pieces pkg)) }
     {
-        let reader = PieceReader::new(front, contents, name);
-        let start = reader.place;
-        let count = count_files(start.walk)?;
+        let count = count_files(contents)?;
         let blocks = Vec::with_capacity(alloc, count)?;
         Ok(PackagePieces {
-            reader,
-            start,
+            contents,
+            start: front.end(),
+            reader: PieceReader::new(front, contents, name),
             blocks,
             pass: Pass::First,
         })
@@ -161,32 +161,55 @@ impl<'a> PackagePieces<'a> {
             → HasHandedOut self.now pkg
             → IsPlaceOf path file (all_pieces self.now pkg) pkg result }
     {
+        let (k, block) = self.block_of(path, file)?;
         let len = self.reader.place.len;
-        let mut walk = self.start.walk;
-        for block in &self.blocks {
-            let here = walk;
+        Some(BlockPlace {
+            len,
+            walk: walk_behind(self.contents, k),
+            last: BlockKind::Contents,
+            at: block.min(len),
+        })
+    }
+
+    /// How many files stand in front of the one with these positions, and the offset of its block;
+    /// None where it has no contents.
+    fn block_of(&self, path: u32, file: u32) -> Option<(usize, u64)>
+        ensures { (pkg : List ℕ) → HasHandedOut self.now pkg
+            → IsBlockOf path file (expected_contents (value_of_contents self.now.contents.now))
+            (all_pieces self.now pkg) pkg result }
+    {
+        let mut walk = Walk::new(self.contents.view().paths());
+        for (k, block) in self.blocks.iter().enumerate() {
             let wanted = walk.next()?;
             if wanted.folder == path && wanted.file == file {
-                return Some(BlockPlace {
-                    len,
-                    walk: here,
-                    last: BlockKind::Contents,
-                    at: len.min(*block),
-                });
+                return Some((k, *block));
             }
         }
         None
     }
 }
 
-/// How many files of a walk are left. No memory holds a number for each of more than 2^64.
-fn count_files(walk: Walk<'_>) -> Result<usize, AllocError>
-    ensures { IfOk result (λ count. count ≡ length (left_in walk.entry)) }
+/// How many files of a package have contents. No memory holds a number for each of 2^64.
+fn count_files(contents: &Contents<'_>) -> Result<usize, AllocError>
+    ensures { IfOk result (λ count.
+        count ≡ length (expected_contents (value_of_contents contents.now))) }
 {
-    let mut walk = walk;
+    let mut walk = Walk::new(contents.view().paths());
     let mut count: usize = 0;
     while walk.next().is_some() {
         count = count.checked_add(1).ok_or(AllocError)?;
     }
     Ok(count)
+}
+
+/// The walk over the files of a package, behind so many of them.
+fn walk_behind<'a>(contents: &Contents<'a>, count: usize) -> Walk<'a>
+    ensures { left_in result
+        ≡ drop count (expected_contents (value_of_contents contents.entry.now)) }
+{
+    let mut walk = Walk::new(contents.view().paths());
+    for _ in 0..count {
+        walk.next();
+    }
+    walk
 }

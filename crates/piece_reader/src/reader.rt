@@ -13,6 +13,17 @@ use piece_core::{BlockPlace, Part};
 use pkg_core::Walk;
 use pkg_pieces::{Contents, Front};
 
+/// What is still to come.
+#[derive(Clone, Copy)]
+pub(crate) enum Due {
+    /// The pieces of the files that are left.
+    Files,
+    /// Nothing: the last block was passed.
+    Nothing,
+    /// A test failed.
+    Refused(Cause),
+}
+
 /// A reader of the contents of a package's files in pieces, block by block in the order of the
 /// package. It takes no memory. Contracts see, by `Readers` of `specs/`, which pieces of a package
 /// are still to come, and the offset from which on it is read.
@@ -22,14 +33,14 @@ pub struct PieceReader<'a> {
     pub(crate) place: BlockPlace<'a>,
     pub(crate) opened: Option<OpenFile<'a>>,
     pub(crate) block: u64,
-    pub(crate) refused: Option<Cause>,
+    pub(crate) due: Due,
     ghost within: { place.at ≤ place.len },
     ghost behind: { open_end opened ≤ place.at },
     ghost begun: { block ≤ place.len },
 }
 
 impl<'a> PieceReader<'a> {
-    ghost use Rattle.std.specs.Prelude.{◌≡◌, ◌+◌, ℕ, List, None, length, IfOk, IfSome, OnOk};
+    ghost use Rattle.std.specs.Prelude.{◌≡◌, ◌+◌, ℕ, List, None, length, IfOk, IfSome, OnSome};
     ghost use Rattle.adb_block.specs.Reading.{reading_of};
     ghost use Rattle.pkg_core.specs.Contents.{expected_contents};
     ghost use Rattle.pkg_core.specs.Opened.{left_in};
@@ -38,7 +49,8 @@ impl<'a> PieceReader<'a> {
     ghost use Rattle.pkg_pieces.specs.Front.{behind_front, front_end, front_file_len};
     ghost use Rattle.pkg_pieces.specs.Seen.{HasAt, IsSeenIn, ReadsFile};
     ghost use Rattle.pkg_pieces.specs.Values.{value_of_contents};
-    ghost use Rattle.piece_reader.specs.Readers.{AnswersNext, ArePiecesFrom, ComesInOrder, IsFileOpened, IsPieceRead, IsReading, KeepsBlock, OpensDue, due_files, name_in_tree, offset_of, package_len};
+    ghost use Rattle.piece_reader.specs.Readers.{AnswersNext, ArePiecesFrom, ComesInOrder, IsFileOpened, IsGoingOn, IsPieceRead, IsReading, KeepsBlock, OpensDue, due_files, due_in, name_in_tree, offset_of, package_len};
+    ghost use Rattle.piece_reader.specs.declared.reader.Due.TheVariants.{Files};
     ghost use Rattle.piece_reader.specs.declared.fault.PieceFault.TheVariants.{Disk as DiskFault};
 
     /// A reader in front of the first piece of the package of this name, whose front and values
@@ -68,14 +80,14 @@ impl<'a> PieceReader<'a> {
         ensures name { name_in_tree result ≡ name.entry.now }
         ensures place { result.place ≡ place.entry }
         ensures opened { result.opened ≡ None }
-        ensures refused { result.refused ≡ None }
+        ensures due { result.due ≡ Files }
     {
         PieceReader {
             name,
             place,
             opened: None,
             block: 0,
-            refused: None,
+            due: Due::Files,
         }
     }
 
@@ -107,27 +119,63 @@ impl<'a> PieceReader<'a> {
             × IfOk result (λ found. KeepsBlock self.old pkg before found self.new)) }
         ensures order { IfOk result (λ found.
             ComesInOrder (due_files self.old) found (due_files self.new)) }
-        ensures good { OnOk result ((self.old.refused ≡ None) × (self.new.refused ≡ None)) }
+        ensures goes_on { IfOk result (λ found. OnSome found
+            (IsGoingOn self.old × IsGoingOn self.new)) }
         ensures name { name_in_tree self.new ≡ name_in_tree self.old }
         ensures len { package_len self.new ≡ package_len self.old }
         ensures tree { ReadsFile (name_in_tree self.old) (package_len self.old) DiskFault
             (T.history tree.old) (T.history tree.new) (T.counts tree.old) (T.counts tree.new)
             result }
     {
-        if let Some(cause) = self.refused {
-            return Err(PieceFault::Bad(cause));
+        match self.due {
+            Due::Files => self.read_due(tree, piece),
+            Due::Nothing => Ok(None),
+            Due::Refused(cause) => Err(PieceFault::Bad(cause)),
         }
+    }
+
+    /// Reads the next piece, where files are left.
+    fn read_due<T: Tree>(
+        &mut self,
+        tree: &mut T,
+        piece: &mut Piece,
+    ) -> Result<Option<Part>, PieceFault>
+        requires { IsGoingOn self.old }
+        ensures piece { (seen : List ℕ)
+            × IsSeenIn (T.history tree.old) (name_in_tree self.old) (package_len self.old)
+            (offset_of self.old) seen
+            × IfOk result (λ found. IfSome found (λ _.
+            offset_of self.old + length seen ≡ offset_of self.new))
+            × ((pkg : List ℕ) → length pkg ≡ package_len self.old
+            → HasAt pkg (offset_of self.old) seen
+            → (before : PiecesRead) → IsReading self.old pkg before
+            → AnswersNext (IsReading self.new pkg) before piece.new result
+            × IfOk result (λ found. KeepsBlock self.old pkg before found self.new)) }
+        ensures order { IfOk result (λ found.
+            ComesInOrder (due_files self.old) found (due_files self.new)) }
+        ensures goes_on { IfOk result (λ found. OnSome found
+            (IsGoingOn self.old × IsGoingOn self.new)) }
+        ensures name { name_in_tree self.new ≡ name_in_tree self.old }
+        ensures len { package_len self.new ≡ package_len self.old }
+        ensures tree { ReadsFile (name_in_tree self.old) (package_len self.old) DiskFault
+            (T.history tree.old) (T.history tree.new) (T.counts tree.old) (T.counts tree.new)
+            result }
+    {
         match self.read_next(tree, piece) {
-            Ok(found) => Ok(found),
+            Ok(Some(part)) => Ok(Some(part)),
+            Ok(None) => {
+                self.due = Due::Nothing;
+                Ok(None)
+            }
             Err(PieceFault::Bad(cause)) => {
-                self.refused = Some(cause);
+                self.due = Due::Refused(cause);
                 Err(PieceFault::Bad(cause))
             }
             Err(PieceFault::Disk) => Err(PieceFault::Disk),
         }
     }
 
-    /// Reads the next piece, where no test failed yet.
+    /// Reads the next piece of the file that is open, or of the next one.
     fn read_next<T: Tree>(
         &mut self,
         tree: &mut T,
@@ -143,9 +191,9 @@ impl<'a> PieceReader<'a> {
             → (before : PiecesRead) → ArePiecesFrom self.old.place self.old.opened pkg before
             → IsPieceRead self.new pkg before piece.new result
             × IfOk result (λ found. KeepsBlock self.old pkg before found self.new)) }
-        ensures order { IfOk result (λ found.
-            ComesInOrder (due_files self.old) found (due_files self.new)) }
-        ensures refused { self.new.refused ≡ self.old.refused }
+        ensures order { IfOk result (λ found. ComesInOrder
+            (due_in self.old.place self.old.opened) found (due_in self.new.place self.new.opened)) }
+        ensures due { self.new.due ≡ self.old.due }
         ensures name { name_in_tree self.new ≡ name_in_tree self.old }
         ensures len { package_len self.new ≡ package_len self.old }
         ensures tree { ReadsFile (name_in_tree self.old) (package_len self.old) DiskFault
@@ -171,11 +219,12 @@ impl<'a> PieceReader<'a> {
             → HasAt pkg (offset_of self.old) seen
             → (before : PiecesRead) → ArePiecesFrom self.old.place self.old.opened pkg before
             → IsFileOpened self.old pkg before result self.new) }
-        ensures due { IfOk result (λ found. OpensDue (due_files self.old) found self.new.place) }
+        ensures opens { IfOk result (λ found.
+            OpensDue (due_in self.old.place self.old.opened) found self.new.place) }
         ensures room { IfOk result (λ found. IfSome found (λ file.
             file.at + file_bytes_left file.file ≤ self.new.place.at)) }
         ensures opened { self.new.opened ≡ None }
-        ensures refused { self.new.refused ≡ self.old.refused }
+        ensures due { self.new.due ≡ self.old.due }
         ensures name { name_in_tree self.new ≡ name_in_tree self.old }
         ensures len { package_len self.new ≡ package_len self.old }
         ensures tree { ReadsFile (name_in_tree self.old) (package_len self.old) DiskFault
@@ -185,11 +234,9 @@ impl<'a> PieceReader<'a> {
         if let Some(file) = self.opened.take() {
             return Ok(Some(file));
         }
-        let mut place = self.place;
-        let Some(found) = next_file(tree, self.name, &mut place)? else {
+        let Some(found) = next_file(tree, self.name, &mut self.place)? else {
             return Ok(None);
         };
-        self.place = place;
         self.block = found.block;
         Ok(Some(found.file))
     }
