@@ -1,7 +1,7 @@
 -- By the file under the name, or some file.
 use Rattle.std.proofs.Common.{rules}
 use Rattle.pkg_pieces.proofs.WholeReads.{disk_read, err_read, ok_read, ok_seen}
-use Rattle.pkg_pieces.proofs.front.read_front.Goals as goal
+use Rattle.pkg_pieces.proofs.read.read_front.Goals as goal
 
 pub returns-in_err-len-clause-front : goal.returns-in_err-len-clause-front
 returns-in_err-len-clause-front g c = disk_read c.args.schema _ _ c.from_residual.result c.from_residual.ensures.1

@@ -5,13 +5,13 @@ use Rattle.adb_block.specs.Framing.{next_step}
 use Rattle.adb_block.specs.Piece.{padding_of}
 use Rattle.adb_view.specs.Head.{head_fault}
 use Rattle.adb_block.specs.Frames.{IsFramedBy}
-use Rattle.pkg_pieces.specs.Seen.{HasAt}
+use Rattle.pkg_pieces.specs.Seen.{HasAt, tree_fault}
 use Rattle.pkg_pieces.specs.declared.front.FrontFault.TheVariants.{Bad, Disk as DiskFault}
 use Rattle.pkg_pieces.proofs.FrontSeen.{bad_not_disk, head_seen, header_is, header_seen, padded, payload_seen, present_bad, present_disk}
 use Rattle.pkg_pieces.proofs.FrontSteps.{first_bad, first_blocks, first_failed, first_head_bad, header_bad, header_eight, schema_bad}
 use Rattle.pkg_pieces.proofs.HeaderFront.{header_front}
-use Rattle.pkg_pieces.proofs.SeenBytes.{has_front, has_rest, reads_bad, reads_err, reads_in_a_row, reads_ok}
-use Rattle.pkg_pieces.proofs.front.read_present.Goals as goal
+use Rattle.pkg_pieces.proofs.SeenBytes.{has_front, has_rest, reads_bad, reads_err, reads_failed, reads_in_a_row, reads_ok}
+use Rattle.pkg_pieces.proofs.read.read_present.Goals as goal
 
 zero_and : {n m : ℕ} → n ≡ m → 0 + n ≡ m
 zero_and {n} {m} e = omega (arith, e)
@@ -38,14 +38,14 @@ pub returns-in_err-head-clause-front : goal.returns-in_err-head-clause-front
 returns-in_err-head-clause-front g c =
     let header = c.in_ok-header.header in
     let n = c.in_ok-header.ensures.len in
-    (header, header_seen _ _ header c.args.len n (c.in_ok-header.ensures.seen c.args.len), λ file long has. present_disk c.args.schema c.from_residual-in_err-head.result (length header) file c.in_err-head.field-0.0 c.from_residual-in_err-head.ensures.1 c.in_err-head.ensures.disk)
+    (header, header_seen _ _ header c.args.len n (c.in_ok-header.ensures.seen c.args.len), λ file long has. present_disk c.args.schema c.from_residual-in_err-head.result (length header) file DiskFault c.from_residual-in_err-head.ensures.1 refl)
 
 pub returns-in_err-head-clause-tree : goal.returns-in_err-head-clause-tree
 returns-in_err-head-clause-tree g c =
     let n = c.in_ok-header.ensures.len in
     let eight = header_eight c.in_ok-header.header c.in_ok-found.found (sym c.schema.ensures ∙ c.in_ok-found.was) in
     let fits : 8 + (c.args.len - 8) ≤ c.args.len = omega (arith, n, eight) in
-    reads_in_a_row _ _ DiskFault DiskFault _ _ _ _ _ _ _ _ c.in_ok-header.ensures.tree (reads_err _ _ DiskFault _ _ _ _ c.in_err-head.field-0.0 _ c.from_residual-in_err-head.ensures.1 (c.in_err-head.ensures.tree c.args.len fits))
+    reads_in_a_row _ _ DiskFault DiskFault _ _ _ _ _ _ _ _ c.in_ok-header.ensures.tree (reads_failed _ _ DiskFault _ _ _ _ c.in_err-head.field-0.0 _ c.from_residual-in_err-head.ensures.1 (c.in_err-head.ensures.tree c.args.len fits))
 
 pub overflow_sub-len-2 : goal.overflow_sub-len-2
 overflow_sub-len-2 g c =
@@ -83,7 +83,7 @@ returns-in_err-framed-clause-tree g c =
     let n = c.in_ok-header.ensures.len in
     let eight = header_eight c.in_ok-header.header c.in_ok-found.found (sym c.schema.ensures ∙ c.in_ok-found.was) in
     let fits : 8 + (c.args.len - 8) ≤ c.args.len = omega (arith, n, eight) in
-    reads_in_a_row _ _ DiskFault DiskFault _ _ _ _ _ _ _ _ c.in_ok-header.ensures.tree (reads_bad _ _ DiskFault _ _ _ _ c.in_ok-head.head (Bad c.in_err-framed.field-0.0) _ c.from_residual-in_err-framed.ensures.1 (bad_not_disk c.in_err-framed.field-0.0) (c.in_ok-head.ensures.tree c.args.len fits))
+    reads_in_a_row _ _ DiskFault DiskFault _ _ _ _ _ _ _ _ c.in_ok-header.ensures.tree (reads_bad _ _ tree_fault DiskFault _ _ _ _ c.in_ok-head.head (Bad c.in_err-framed.field-0.0) _ c.from_residual-in_err-framed.ensures.1 (bad_not_disk c.in_err-framed.field-0.0) (c.in_ok-head.ensures.tree c.args.len fits))
 
 pub returns-in_err-payload-clause-tree : goal.returns-in_err-payload-clause-tree
 returns-in_err-payload-clause-tree g c =
@@ -92,7 +92,7 @@ returns-in_err-payload-clause-tree g c =
     let room = c.in_ok-framed.ensures.within.0 in
     let fits : 8 + (c.args.len - 8) ≤ c.args.len = omega (arith, n, eight) in
     let ends : 8 + c.in_ok-framed.framed.head_len + c.in_ok-framed.framed.payload_len ≤ c.args.len = omega (arith, n, eight, room) in
-    reads_in_a_row _ _ DiskFault DiskFault _ _ _ _ _ _ _ _ c.in_ok-header.ensures.tree (reads_in_a_row _ _ DiskFault DiskFault _ _ _ _ _ _ _ _ (c.in_ok-head.ensures.tree c.args.len fits) (reads_err _ _ DiskFault _ _ _ _ c.in_err-payload.field-0.0 _ c.from_residual-in_err-payload.ensures.1 (c.in_err-payload.ensures.tree c.args.len ends)))
+    reads_in_a_row _ _ DiskFault DiskFault _ _ _ _ _ _ _ _ c.in_ok-header.ensures.tree (reads_in_a_row _ _ tree_fault DiskFault _ _ _ _ _ _ _ _ (c.in_ok-head.ensures.tree c.args.len fits) (reads_err _ _ DiskFault _ _ _ _ c.in_err-payload.field-0.0 _ c.from_residual-in_err-payload.ensures.1 (c.in_err-payload.ensures.tree c.args.len ends)))
 
 pub returns-in_err-new-clause-front : goal.returns-in_err-new-clause-front
 returns-in_err-new-clause-front g c =
@@ -132,7 +132,7 @@ returns-in_err-new-clause-tree g c =
     let room = c.in_ok-framed.ensures.within.0 in
     let fits : 8 + (c.args.len - 8) ≤ c.args.len = omega (arith, n, eight) in
     let ends : 8 + c.in_ok-framed.framed.head_len + c.in_ok-framed.framed.payload_len ≤ c.args.len = omega (arith, n, eight, room) in
-    reads_in_a_row _ _ DiskFault DiskFault _ _ _ _ _ _ _ _ c.in_ok-header.ensures.tree (reads_in_a_row _ _ DiskFault DiskFault _ _ _ _ _ _ _ _ (c.in_ok-head.ensures.tree c.args.len fits) (reads_bad _ _ DiskFault _ _ _ _ c.in_ok-payload.payload (Bad c.in_err-new.field-0.0) _ c.from_residual-in_err-new.ensures.1 (bad_not_disk c.in_err-new.field-0.0) (c.in_ok-payload.ensures.tree c.args.len ends)))
+    reads_in_a_row _ _ DiskFault DiskFault _ _ _ _ _ _ _ _ c.in_ok-header.ensures.tree (reads_in_a_row _ _ tree_fault DiskFault _ _ _ _ _ _ _ _ (c.in_ok-head.ensures.tree c.args.len fits) (reads_bad _ _ DiskFault DiskFault _ _ _ _ c.in_ok-payload.payload (Bad c.in_err-new.field-0.0) _ c.from_residual-in_err-new.ensures.1 (bad_not_disk c.in_err-new.field-0.0) (c.in_ok-payload.ensures.tree c.args.len ends)))
 
 pub returns-clause-front : goal.returns-clause-front
 returns-clause-front g c =
@@ -180,4 +180,4 @@ returns-clause-tree g c =
     let room = c.in_ok-framed.ensures.within.0 in
     let fits : 8 + (c.args.len - 8) ≤ c.args.len = omega (arith, n, eight) in
     let ends : 8 + c.in_ok-framed.framed.head_len + c.in_ok-framed.framed.payload_len ≤ c.args.len = omega (arith, n, eight, room) in
-    reads_in_a_row _ _ DiskFault DiskFault _ _ _ _ _ _ _ _ c.in_ok-header.ensures.tree (reads_in_a_row _ _ DiskFault DiskFault _ _ _ _ _ _ _ _ (c.in_ok-head.ensures.tree c.args.len fits) (reads_ok _ _ DiskFault _ _ _ _ c.in_ok-payload.payload _ (c.in_ok-payload.ensures.tree c.args.len ends)))
+    reads_in_a_row _ _ DiskFault DiskFault _ _ _ _ _ _ _ _ c.in_ok-header.ensures.tree (reads_in_a_row _ _ tree_fault DiskFault _ _ _ _ _ _ _ _ (c.in_ok-head.ensures.tree c.args.len fits) (reads_ok _ _ DiskFault _ _ _ _ c.in_ok-payload.payload _ (c.in_ok-payload.ensures.tree c.args.len ends)))
