@@ -1,5 +1,6 @@
 pub mod Judged
 pub mod Unplanned
+mod Unrecovered
 pub mod Printing
 pub mod Operands
 pub mod Dumping
