@@ -1,5 +1,5 @@
 -- Each map of names that a crash may leave is one from before, but for some names.
-use Rattle.std.proofs.Common.{◌≡◌, ◌||◌, inl, inr, ℕ, Bool, true, false, List, ◌∷◌, [], Option, None, Some, Result, Ok, Err, refl, sym, ap, subst, ◌∙◌}
+use Rattle.std.proofs.Common.{◌≡◌, ◌||◌, inl, inr, ℕ, Bool, true, false, List, ◌∷◌, [], ◌++◌, Option, None, Some, Result, Ok, Err, refl, sym, ap, subst, ◌∙◌}
 use Rattle.std.specs.List.{list_any}
 use Rattle.std.specs.Str.{bytes_eq}
 use Rattle.base_core.specs.Calls.{IfObservable, HasNow, Moves}
@@ -41,7 +41,7 @@ maps_more name these old new told = observable_map old _ _ told (λ v t.
 -- ---- one call
 
 changed_maps : (these : List (List ℕ)) (change : File → File) (v : TreeState) (o : Option ℕ) → KeepsMapsBut these v (change_at change v o)
-changed_maps these change v None = maps_same these v
+changed_maps these change v None map among = maps_same these v map among
 changed_maps these change v (Some n) map among = (map, among, λ q off. refl)
 
 created_maps : (name : List ℕ) (these : List (List ℕ)) (v : TreeState) → KeepsMapsBut (name ∷ these) v (after_create name v)
@@ -49,12 +49,12 @@ created_maps name these v map (inl is) = (v.names, inl refl, λ q off. ap (λ (m
 created_maps name these v map (inr among) = (map, among, λ q off. refl)
 
 removed_maps : (name : List ℕ) (these : List (List ℕ)) (v : TreeState) (o : Option ℕ) → KeepsMapsBut (name ∷ these) v (remove_at name v o)
-removed_maps name these v None = maps_same (name ∷ these) v
+removed_maps name these v None map among = maps_same (name ∷ these) v map among
 removed_maps name these v (Some n) map (inl is) = (v.names, inl refl, λ q off. ap (λ (m : NameMap). m q) is ∙ drop_name-off v.names name q (off_first q name these off))
 removed_maps name these v (Some n) map (inr among) = (map, among, λ q off. refl)
 
 moved_maps : (from to : List ℕ) (v : TreeState) (o : Option ℕ) → KeepsMapsBut (to ∷ from ∷ []) v (move_at from to v o)
-moved_maps from to v None = maps_same (to ∷ from ∷ []) v
+moved_maps from to v None map among = maps_same (to ∷ from ∷ []) v map among
 moved_maps from to v (Some n) map (inl is) = (
   v.names,
   inl refl,
