@@ -90,17 +90,17 @@ fault_found : (files : Files) → IsSome (fault_of_intent (files intent_name)) �
 fault_found files some = by_found (files intent_name) refl some
   where
     by_fault : (file : List ℕ) (fault : Option Cause) → files intent_name ≡ Some file → first_fault IntentTable file ≡ fault → IsSome fault → (cause : Cause) × IsIntentFault files cause
-    by_fault file None at is none = absurd (none_is_some None refl none)
+    by_fault file None at is none = absurd (false≢true none)
     by_fault file (Some cause) at is there = (cause, (file, at, is))
 
     by_found : (found : Option (List ℕ)) → files intent_name ≡ found → IsSome (fault_of_intent found) → (cause : Cause) × IsIntentFault files cause
-    by_found None at none = absurd (none_is_some None refl none)
+    by_found None at none = absurd (false≢true none)
     by_found (Some file) at there = by_fault file (first_fault IntentTable file) at refl there
 
 -- why a command cannot recover
 bad_found : (effect : Effect) (files : Files) → IsSome (recovery_fault effect files) → (cause : Cause) × IsIntentFault files cause
-bad_found Computes files some = absurd (none_is_some None refl some)
-bad_found Reads files some = absurd (none_is_some None refl some)
+bad_found Computes files some = absurd (false≢true some)
+bad_found Reads files some = absurd (false≢true some)
 bad_found Tells files some = fault_found files some
 bad_found Makes files some = fault_found files some
 bad_found Changes files some = fault_found files some
