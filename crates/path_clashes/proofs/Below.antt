@@ -1,10 +1,11 @@
 -- The first name that stays of those that a folder's listing has.
-use Rattle.std.proofs.Common.{◌≡◌, ◌⊎◌, ⊎_elim, ℕ, zero, suc, ◌+◌, ◌<◌, Bool, true, false, cond, List, [], ◌∷◌, length, get_or, Option, Some, None, IsSome, refl, sym, ap, subst, ◌∙◌, arith, true≢false}
-use Rattle.std.specs.Prelude.{not, is_some}
+use Rattle.std.proofs.Common.{◌≡◌, ◌⊎◌, ⊎_elim, ℕ, zero, suc, ◌+◌, ◌<◌, Bool, true, false, cond, List, [], ◌∷◌, length, get_or, drop, Option, Some, None, IsSome, refl, sym, ap, subst, ◌∙◌, arith, true≢false}
+use Rattle.std.specs.Prelude.{not, is_some, slice_get}
 use Rattle.std.specs.List.{Contains, find}
 use Rattle.std.specs.Ordering.{is_lt}
 use Rattle.std.proofs.lemmas.Bool.{and_from, and_parts, cases_order}
-use Rattle.std.proofs.lemmas.List.{get_or_default}
+use Rattle.std.proofs.lemmas.List.{at_drop_more, get_or_default}
+use Rattle.std.proofs.lemmas.Option.{get_or_from_slice_get, slice_get_within}
 use Rattle.base_core.specs.Files.{IsFolderOf}
 use Rattle.base_core.specs.Listed.{IsListOf}
 use Rattle.base_core.specs.Tree.{File, TreeState, bytes_at, files_of}
@@ -47,15 +48,30 @@ find-None p (y ∷ ys) e j d l = by (p y) refl e (find-None p ys) j l
     by false off e rest zero l = off
     by false off e rest (suc j) l = rest e j d (omega arith)
 
+-- ---- one step of a search
+
+rest_at : (p : List ℕ → Bool) (names : List (List ℕ)) (i : ℕ) (x : List ℕ) → slice_get names i ≡ Some x → find p (drop i names) ≡ cond (p x) (Some x) (find p (drop (i + 1) names))
+rest_at p names i x here =
+    at_drop_more (find p) names i x (slice_get_within names i x here)
+    ∙ ap (λ (y : List ℕ). cond (p y) (Some y) (find p (drop (i + 1) names))) (get_or_from_slice_get names i x x here)
+
+pub passes_here : (p : List ℕ → Bool) (names : List (List ℕ)) (i : ℕ) (x : List ℕ) → slice_get names i ≡ Some x → p x ≡ true → find p names ≡ find p (drop i names) → Some x ≡ find p names
+passes_here p names i x here passes so_far =
+    sym (so_far ∙ (rest_at p names i x here ∙ ap (λ b. cond b (Some x) (find p (drop (i + 1) names))) passes))
+
+pub fails_here : (p : List ℕ → Bool) (names : List (List ℕ)) (i : ℕ) (x : List ℕ) → slice_get names i ≡ Some x → p x ≡ false → find p names ≡ find p (drop i names) → find p names ≡ find p (drop (i + 1) names)
+fails_here p names i x here fails so_far =
+    so_far ∙ (rest_at p names i x here ∙ ap (λ b. cond b (Some x) (find p (drop (i + 1) names))) fails)
+
 -- ---- in a listing
 
 there : (files : ℕ → File) (o : Option ℕ) → IsSome o → is_some (bytes_at files o) ≡ true
 there files None some = absurd (cc)
 there files (Some n) some = refl
 
-back : (files : ℕ → File) (o : Option ℕ) → is_some (bytes_at files o) ≡ true → IsSome o
-back files None some = absurd (cc)
-back files (Some n) some = refl
+pub is_present : (files : ℕ → File) (o : Option ℕ) → is_some (bytes_at files o) ≡ true → IsSome o
+is_present files None some = absurd (cc)
+is_present files (Some n) some = refl
 
 module _ (lets_go : List ℕ → Bool) (v : TreeState) (folder : List ℕ) (names : List (List ℕ)) (list : IsListOf folder v names) where
   abbrev stays : List ℕ → Bool
@@ -64,7 +80,7 @@ module _ (lets_go : List ℕ → Bool) (v : TreeState) (folder : List ℕ) (name
   listed : (other : List ℕ) → IsFolderOf folder other → is_standing lets_go (files_of v) other ≡ true → Contains names other × (stays other ≡ true)
   listed other below standing =
       let parts = and_parts (is_some (files_of v other)) (not (lets_go other)) standing in
-      ((list.each other).1 (back v.files (v.names other) parts.0, below), parts.1)
+      ((list.each other).1 (is_present v.files (v.names other) parts.0, below), parts.1)
 
   pub none_listed : find stays names ≡ None → IsNameFound lets_go (files_of v) folder None
   none_listed none other below standing =
@@ -78,7 +94,7 @@ module _ (lets_go : List ℕ → Bool) (v : TreeState) (folder : List ℕ) (name
       f = find-Some stays names name is
 
       entry : IsSome (v.names name) × IsFolderOf folder name
-      entry = (list.each name).0 (f.at, (f.within, f.here))
+      entry = (list.each name).0 (f.at, f.within, f.here)
 
       first : (other : List ℕ) → IsFolderOf folder other → is_standing lets_go (files_of v) other ≡ true → precedes other name ≡ false
       first other below standing = by (listed other below standing)

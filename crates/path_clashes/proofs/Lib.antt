@@ -6,3 +6,4 @@ pub mod Paths
 pub mod NearClash
 pub mod SoFar
 pub mod Observed
+pub mod NoName

@@ -65,3 +65,20 @@ module _ (change : NameChange) (files : Files) where
       above = λ folder above. by_len folder above (λ long clash. absurd (none folder above long clash.path_after));
       below = λ other standing. inr (λ clash. nothing other clash.folder standing);
     }
+
+    -- the same, as the code tells it
+    pub above_told : (folder other : List ℕ) (found : Option (List ℕ)) → found ≡ Some folder → other ≡ name → change.counts_as_written name ≡ true → IsFolderFound change files name len found
+        → IsClashNear change files before name (Some (record { path = folder; other = other }))
+    above_told folder other found is named counts at =
+        subst (λ (l : List ℕ). IsClashNear change files before name (Some (record { path = folder; other = l }))) (sym named) (near_above folder counts (subst (IsFolderFound change files name len) is at))
+
+    pub below_told : (path other : List ℕ) (above found : Option (List ℕ)) → above ≡ None → found ≡ Some other → path ≡ name → change.counts_as_written name ≡ true
+        → IsFolderFound change files name len above → IsNameFound change.lets_go files path found → IsClashNear change files before name (Some (record { path = path; other = other }))
+    below_told path other above found none is named counts over under =
+        subst (λ (l : List ℕ). IsClashNear change files before name (Some (record { path = l; other = other }))) (sym named)
+        (near_below other counts (subst (IsFolderFound change files name len) none over) (subst (IsNameFound change.lets_go files name) is (subst (λ (l : List ℕ). IsNameFound change.lets_go files l found) named under)))
+
+    pub nothing_told : (path : List ℕ) (above found : Option (List ℕ)) → above ≡ None → found ≡ None → path ≡ name
+        → IsFolderFound change files name len above → IsNameFound change.lets_go files path found → IsClashNear change files before name None
+    nothing_told path above found none is named over under =
+        near_nothing (subst (IsFolderFound change files name len) none over) (subst (IsNameFound change.lets_go files name) is (subst (λ (l : List ℕ). IsNameFound change.lets_go files l found) named under))

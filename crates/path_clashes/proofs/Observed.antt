@@ -1,7 +1,8 @@
 -- What follows of the newest state, where the history is observable.
-use Rattle.std.proofs.Common.{◌≡◌, List, [], ◌∷◌, subst}
+use Rattle.std.proofs.Common.{◌≡◌, List, [], ◌∷◌, subst, arith}
+use Rattle.std.specs.List.{All}
 use Rattle.base_core.specs.Calls.{IfObservable}
-use Rattle.base_core.specs.Tree.{TreeState}
+use Rattle.base_core.specs.Tree.{IsWhole, TreeState}
 
 pub observed : (h : List TreeState) (P : TreeState → Type 0) → ((v : TreeState) → P v) → IfObservable h P
 observed [] P each = tt
@@ -15,3 +16,7 @@ observed_by (v ∷ h) P Q step p = step v p
 pub observed_by_two : (old h : List TreeState) (P Q R : TreeState → Type 0) → h ≡ old → ((v : TreeState) → P v → Q v → R v) → IfObservable old P → IfObservable h Q → IfObservable old R
 observed_by_two [] h P Q R same step p q = tt
 observed_by_two (v ∷ old) h P Q R same step p q = step v p (subst (λ (l : List TreeState). IfObservable l Q) same q)
+
+pub observed_whole : (h : List TreeState) → All IsWhole h → IfObservable h IsWhole
+observed_whole [] all = tt
+observed_whole (v ∷ h) all = all 0 v (omega arith)

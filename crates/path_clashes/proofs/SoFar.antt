@@ -40,6 +40,12 @@ not_before_chain : (x y : NamePair) (found : Option NamePair) → precedes_pair 
 not_before_chain x y None h g = absurd g
 not_before_chain x y (Some a) h g = pairs_chain x y a h g
 
+-- ---- the names in their order
+
+-- the name in front of a place; in front of the first there is the empty text
+abbrev pub name_before : List (List ℕ) → ℕ → List ℕ
+name_before names i = get_or ([] ∷ names) i []
+
 module _ (change : NameChange) (files : Files) where
   one_of : (one other : Option NamePair) → IsClashIfSome change files one → IsClashIfSome change files other → IsClashIfSome change files (first_pair one other)
   one_of None other h g = g
@@ -67,11 +73,7 @@ module _ (change : NameChange) (files : Files) where
       (none (clash_above change files folder before above clash.path_after counts))
 
   module _ (names : List (List ℕ)) (are_names : All IsName names) (up : IsSorted bytes_cmp names) (counted : (name : List ℕ) → list_any (bytes_eq name) names ≡ true → change.counts_as_written name ≡ true) where
-    -- the name at a place; before the first there is the empty text
-    abbrev pub name_before : ℕ → List ℕ
-    name_before i = get_or ([] ∷ names) i []
-
-    above_before : (i : ℕ) (name folder : List ℕ) (found : Option NamePair) → i < length names → ((d : List ℕ) → get_or names i d ≡ name) → IsFirstSoFar names i found → IsFolderOf folder (name_before i)
+    above_before : (i : ℕ) (name folder : List ℕ) (found : Option NamePair) → i < length names → ((d : List ℕ) → get_or names i d ≡ name) → IsFirstSoFar names i found → IsFolderOf folder (name_before names i)
         → IsNoEarlierClash change files found (record { path = folder; other = name })
     above_before zero name folder found within here so_far above = absurd (nothing_above folder above)
     above_before (suc i) name folder found within here so_far above =
@@ -83,7 +85,7 @@ module _ (change : NameChange) (files : Files) where
             ap (λ (l : List ℕ). precedes l (get_or names i [])) (sym (here []))
             ∙ (ap (λ n. precedes (get_or names n []) (get_or names i [])) e ∙ up i [] (omega arith) (omega arith))
 
-    below_before : (i : ℕ) (name other : List ℕ) (found : Option NamePair) → i < length names → ((d : List ℕ) → get_or names i d ≡ name) → IsFirstSoFar names i found → name_before i ≡ name → is_standing change.lets_go files other ≡ true
+    below_before : (i : ℕ) (name other : List ℕ) (found : Option NamePair) → i < length names → ((d : List ℕ) → get_or names i d ≡ name) → IsFirstSoFar names i found → name_before names i ≡ name → is_standing change.lets_go files other ≡ true
         → IsNoEarlierClash change files found (record { path = name; other = other })
     below_before zero name other found within here so_far same standing =
         absurd (no_empty_name (subst IsName (here [] ∙ sym same) (are_names 0 [] within)))
@@ -91,7 +93,7 @@ module _ (change : NameChange) (files : Files) where
         subst (λ (l : List ℕ). IsNoEarlierClash change files found (record { path = l; other = other })) same (so_far.below i [] (omega arith) other standing)
 
     pub first_of_more : (i : ℕ) (name : List ℕ) (best found : Option NamePair) → i < length names → ((d : List ℕ) → get_or names i d ≡ name)
-        → IsFirstSoFar names i best → IsClashNear change files (name_before i) name found → IsFirstSoFar names (i + 1) (first_pair best found)
+        → IsFirstSoFar names i best → IsClashNear change files (name_before names i) name found → IsFirstSoFar names (i + 1) (first_pair best found)
     first_of_more i name best found within here so_far near = record { is_one = one_of best found so_far.is_one near.is_one; above = above; below = below }
       where
         above_here : (folder : List ℕ) → IsFolderOf folder name → IsNoEarlierClash change files (first_pair best found) (record { path = folder; other = name })

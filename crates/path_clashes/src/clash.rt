@@ -19,7 +19,6 @@ use crate::near::{first_below, first_folder};
 use adb_fields::FilePath;
 use base_core::{Name, Tree, TreeFault};
 use std::alloc::{AllocError, Global};
-use std::cmp::Ordering;
 
 /// Two names after a change, of which the first is a folder of the second.
 #[derive(Drop)]
@@ -32,11 +31,9 @@ pub struct Clash {
 fn comes_before(one: &Clash, other: &Clash) -> bool
     ensures { result ≡ precedes_pair (clash_seen one.now) (clash_seen other.now) }
 {
-    match one.path.as_bytes().cmp(other.path.as_bytes()) {
-        Ordering::Less => true,
-        Ordering::Equal => one.other.as_bytes().cmp(other.other.as_bytes()).is_lt(),
-        Ordering::Greater => false,
-    }
+    let by_path = one.path.as_bytes().cmp(other.path.as_bytes());
+    let by_other = one.other.as_bytes().cmp(other.other.as_bytes());
+    by_path.then(by_other).is_lt()
 }
 
 /// The first of two clashes, where there are two.

@@ -90,9 +90,8 @@ pub(crate) fn first_folder<T: Tree, G: LetGo>(
 {
     for i in len..name.len() {
         if name[i] == b'/' {
-            let folder = folder_after(alloc, tree, written, let_go, &name[..i])?;
-            if folder.is_some() {
-                return Ok(folder);
+            if let Some(folder) = folder_after(alloc, tree, written, let_go, &name[..i])? {
+                return Ok(Some(folder));
             }
         }
     }
