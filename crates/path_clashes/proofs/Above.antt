@@ -97,7 +97,11 @@ found_at_slash change files name len i within slash there none = record {
 pub none_in_all : (change : NameChange) (files : Files) (name : List ℕ) (len i : ℕ) → length name ≤ i → IsNoneUpto change files name len i → IsFolderFound change files name len None
 none_in_all change files name len i all none other above long after = none other above long (omega (arith, all, (at_folder other name above).0)) after
 
--- what was found at a slash, as `folder_after` says it
-pub found_so : (b : Bool) (folder : List ℕ) (found : Option (List ℕ)) → found ≡ name_if b folder → (P : Option (List ℕ) → Type 0) → (b ≡ true → P (Some folder)) → (b ≡ false → P None) → P found
-found_so true folder found is P there none = subst P (sym is) (there refl)
-found_so false folder found is P there none = subst P (sym is) (none refl)
+-- the same, as the code tells it
+pub found_told : (change : NameChange) (files : Files) (name : List ℕ) (len i : ℕ) (found : Option (List ℕ)) (folder : List ℕ) → i < length name → get_or name i 0 ≡ 47 → found ≡ Some folder
+    → IsNoneUpto change files name len i → found ≡ name_if (is_name_after change files (take i name)) (take i name) → IsFolderFound change files name len (Some folder)
+found_told change files name len i found folder within slash is none told = by (is_name_after change files (take i name)) refl (sym is ∙ told)
+  where
+    by : (b : Bool) → is_name_after change files (take i name) ≡ b → Some folder ≡ name_if b (take i name) → IsFolderFound change files name len (Some folder)
+    by true after e = let same : take i name ≡ folder = cc in subst (λ (l : List ℕ). IsFolderFound change files name len (Some l)) same (found_at_slash change files name len i within slash after none)
+    by false off e = absurd (cc)

@@ -42,7 +42,7 @@ no_empty_name h = true≢false (sym h)
 path_at : (paths : List FilePath) (k : ℕ) (d : FilePath) (e : List ℕ) → k < length paths → get_or (map joined_path paths) k e ≡ joined_path (get_or paths k d)
 path_at paths k d e within = get_or-map joined_path paths k d e within
 
-long : (paths : List FilePath) → length (map joined_path paths) ≡ length paths
+pub long : (paths : List FilePath) → length (map joined_path paths) ≡ length paths
 long paths = length-map paths joined_path
 
 by_paths : (paths : List FilePath) → IsSorted bytes_cmp (map joined_path paths) → IsSortedBy (λ (a b : FilePath). is_lt (bytes_cmp (joined_path a) (joined_path b))) paths
@@ -50,6 +50,13 @@ by_paths paths up k d low high =
     let below : k < length paths = omega arith in
     (λ i. is_lt (bytes_cmp (sym (path_at paths (k + 1) d (joined_path d) high) i) (sym (path_at paths k d (joined_path d) below) i)))
     ∙ up k (joined_path d) low (omega (arith, high, long paths))
+
+pub path_here : (paths : List FilePath) (k : ℕ) (d : FilePath) (name : List ℕ) → k < length paths → name ≡ joined_path (get_or paths k d) → (e : List ℕ) → get_or (map joined_path paths) k e ≡ name
+path_here paths k d name within is e = path_at paths k d e within ∙ sym is
+
+pub path_counts : (paths : List FilePath) (k : ℕ) (d : FilePath) (name : List ℕ) → k < length paths → name ≡ joined_path (get_or paths k d) → is_path_of paths name ≡ true
+path_counts paths k d name within is =
+    subst (λ (l : List ℕ). is_path_of paths l ≡ true) (path_here paths k d name within is []) (is_at (map joined_path paths) k [] (omega (arith, within, long paths)))
 
 -- the order from the other side
 eq_by : (a name : List ℕ) (o : Ordering) → bytes_cmp a name ≡ o → bytes_eq name a ≡ is_eq (ordering_reverse o)

@@ -46,6 +46,9 @@ not_before_chain x y (Some a) h g = pairs_chain x y a h g
 abbrev pub name_before : List (List ℕ) → ℕ → List ℕ
 name_before names i = get_or ([] ∷ names) i []
 
+pub name_next : (names : List (List ℕ)) (i : ℕ) (name : List ℕ) → ((d : List ℕ) → get_or names i d ≡ name) → name ≡ name_before names (i + 1)
+name_next names i name here = let e : suc i ≡ i + 1 = omega arith in sym (here []) ∙ ap (name_before names) e
+
 module _ (change : NameChange) (files : Files) where
   one_of : (one other : Option NamePair) → IsClashIfSome change files one → IsClashIfSome change files other → IsClashIfSome change files (first_pair one other)
   one_of None other h g = g
@@ -119,6 +122,12 @@ module _ (change : NameChange) (files : Files) where
             ⊎_elim (λ is. subst (λ (l : List ℕ). IsNoEarlierClash change files (first_pair best found) (record { path = l; other = other })) (at_here k d is) (below_here other standing))
             (λ apart clash. not_before_first (record { path = get_or names k d; other = other }) best found (so_far.below k d (omega (arith, upto, apart)) other standing clash)) (cases_eq k i)
 
+    -- the same, as the code tells it
+    pub more_told : (i : ℕ) (before name : List ℕ) (best found new : Option NamePair) → i < length names → ((d : List ℕ) → get_or names i d ≡ name) → before ≡ name_before names i → new ≡ first_pair best found
+        → IsFirstSoFar names i best → IsClashNear change files before name found → IsFirstSoFar names (i + 1) new
+    more_told i before name best found new within here last is so_far near =
+        subst (IsFirstSoFar names (i + 1)) (sym is) (first_of_more i name best found within here so_far (subst (λ (l : List ℕ). IsClashNear change files l name found) last near))
+
   -- ---- of all names
 
   module _ (names : List (List ℕ)) (counting : (name : List ℕ) → change.counts_as_written name ≡ list_any (bytes_eq name) names) where
@@ -140,3 +149,6 @@ module _ (change : NameChange) (files : Files) where
       is_one = so_far.is_one;
       first = λ other clash earlier. true≢false (sym earlier ∙ in_all (Some pair) so_far other.path other.other clash);
     }
+
+    pub all_told : (i : ℕ) (found : Option NamePair) → i ≡ length names → IsFirstSoFar names i found → IsClashOf change files found
+    all_told i found is so_far = first_of_all found (subst (λ n. IsFirstSoFar names n found) is so_far)
