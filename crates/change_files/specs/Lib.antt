@@ -1,0 +1,6 @@
+-- what the contract of `apk` says
+pub mod FileChange
+pub mod Fate
+pub mod FilesAfter
+pub mod NamesAfter
+pub mod PlanLists

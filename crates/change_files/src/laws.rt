@@ -1,0 +1,1 @@
+//! What follows from the definitions, for all changes and files.

@@ -1,0 +1,2 @@
+-- what the contract of `apk` says
+pub mod AsListed
