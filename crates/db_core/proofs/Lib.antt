@@ -1,5 +1,6 @@
 pub mod AnyOf
 mod ListedNames
+pub mod ListingPlaces
 mod NamePlaces
 pub mod Ordered
 pub mod PathParts

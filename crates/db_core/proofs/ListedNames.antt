@@ -1,9 +1,9 @@
 -- What a package lists are names.
-use Rattle.std.proofs.Common.{◌≡◌, ℕ, suc, zero, ◌+◌, ◌<◌, ◌≤◌, Bool, true, false, cond, List, [], ◌∷◌, ◌++◌, map, length, get_or, Option, Some, None, Result, Ok, Err, refl, ap, sym, ◌∙◌, subst, append_assoc, arith, true≢false}
-use Rattle.std.specs.Prelude.{◌&&◌, ◌||◌, ◌==◌, not, nat_le, nat_lt, bytes_eq, if◌then◌else◌, is_ok, slice_get, All, IsTrue}
+use Rattle.std.proofs.Common.{◌≡◌, ℕ, suc, zero, ◌+◌, ◌<◌, Bool, true, false, cond, List, [], ◌∷◌, ◌++◌, map, length, get_or, Option, Some, None, Result, Ok, Err, refl, ap, sym, ◌∙◌, subst, arith, true≢false}
+use Rattle.std.specs.Prelude.{◌&&◌, ◌||◌, ◌==◌, not, nat_le, nat_lt, if◌then◌else◌, is_ok, slice_get, All}
 use Rattle.std.specs.Str.{IsUtf8, is_utf8}
 use Rattle.std.specs.List.{flat_map, list_all, list_any, onto_first}
-use Rattle.std.proofs.lemmas.Bool.{and_parts, le-leb, leb-true, lt-ltb, ltb-true}
+use Rattle.std.proofs.lemmas.Bool.{and_parts, lt-ltb}
 use Rattle.std.proofs.lemmas.List.{length-append}
 use Rattle.std.proofs.lemmas.List.Folds.{list_all-append, list_all-map, list_any-append}
 use Rattle.std.proofs.lemmas.Str.{IsUtf8-append, IsUtf8-from_ascii, IsUtf8-from_is_utf8, is_utf8-from_IsUtf8}
@@ -11,10 +11,10 @@ use Rattle.std.proofs.lemmas.Str.Ascii.{IsAscii-cons, IsAscii-nil}
 use Rattle.base_core.specs.Name.{IsName, is_name, is_part, parts_of}
 use Rattle.adb_view.specs.Plain.{Plain, Plains, none, more}
 use Rattle.adb_view.specs.Shaped.{Each}
-use Rattle.adb_tables.specs.Values.{entries_in, entry_in, text_in}
+use Rattle.adb_tables.specs.Values.{entries_in, entry_in}
 use Rattle.adb_tables.specs.declared.tables.Which.{Which}
 use Rattle.adb_fields.specs.Paths.{path_of}
-use Rattle.adb_fields.specs.Repeated.{files_in, folders_in, list_of, name_of, paths_in, paths_under}
+use Rattle.adb_fields.specs.Repeated.{files_in, folders_in, list_of, name_of, paths_under}
 use Rattle.adb_rules.specs.Rules.{is_file_name, is_folder_name, is_one_part}
 use Rattle.adb_rules.specs.SoundValues.{IsFileOf, IsFolder, IsPackage}
 use Rattle.db_core.specs.EntrySeen.{member_by}

@@ -1,5 +1,5 @@
 -- The names of packages in byte order, among which one is found.
-use Rattle.std.specs.Prelude.{ℕ, ◌+◌, Bool, List, [], ◌∷◌, Option, bytes_eq, option_map}
+use Rattle.std.specs.Prelude.{ℕ, ◌+◌, List, [], ◌∷◌, Option, bytes_eq, option_map}
 use Rattle.std.specs.List.{find}
 use Rattle.std.specs.Ordering.{on}
 use Rattle.std.specs.declared.cmp.Ordering.{Ordering}

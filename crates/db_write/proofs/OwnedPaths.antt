@@ -12,7 +12,7 @@ use Rattle.adb_copy.proofs.WithoutZeros.{text_zeros}
 use Rattle.adb_copy.proofs.Zeros.{nth_zeros}
 use Rattle.db_core.specs.Members.{Listing, Member, listings_by, listings_from, listings_in_folder, listings_in_folders, member_listings}
 use Rattle.db_write.specs.NewDatabase.{file_count, folder_after, folders_after, info_after, member_file_count, owned_entries, package_after, packages_after}
-use Rattle.db_write.specs.OwnedListings.{owned_listings, owned_paths}
+use Rattle.db_core.specs.OwnedListings.{owned_listings, owned_paths}
 use Rattle.db_write.proofs.Listed.{in_folder, in_folders}
 
 -- ---- a name without zeros

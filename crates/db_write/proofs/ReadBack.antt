@@ -19,7 +19,7 @@ written_by : (v : Plain) (o : Option PayloadCounts) (bytes : List ℕ) → datab
 written_by v None bytes h = cc (h)
 written_by v (Some c) bytes h = absurd (cc (h))
 
-is_file : (members : List Member) (flags : List Bool) (bytes : List ℕ) → database_of members flags ≡ Ok bytes → file_of IDB_WORD (canonical (database_value members flags)) ≡ bytes
+pub is_file : (members : List Member) (flags : List Bool) (bytes : List ℕ) → database_of members flags ≡ Ok bytes → file_of IDB_WORD (canonical (database_value members flags)) ≡ bytes
 unfolding database_of written_of
 is_file members flags bytes h = written_by (database_value members flags) (overflow_of (database_value members flags)) bytes h
 

@@ -19,8 +19,8 @@ use Rattle.adb_copy.proofs.WithoutZeros.{text_zeros}
 use Rattle.adb_copy.proofs.Zeros.{at_other, nth_zeros}
 use Rattle.db_core.specs.Members.{AreInOrder, Member, member_listings, member_name}
 use Rattle.db_write.specs.NewDatabase.{database_value, file_count, folder_after, folders_after, info_after, member_file_count, owned_entries, package_after, packages_after}
-use Rattle.db_write.specs.OwnedListings.{owned_listings}
-use Rattle.db_write.specs.SoundMembers.{HaveOneOwner}
+use Rattle.db_core.specs.OwnedListings.{owned_listings}
+use Rattle.db_core.specs.OwnedListings.{HaveOneOwner}
 use Rattle.db_write.proofs.OneOwner.{owned_apart}
 use Rattle.db_write.proofs.OwnedPaths.{name_zeros}
 use Rattle.db_write.proofs.ReadBack.{packages_in}
