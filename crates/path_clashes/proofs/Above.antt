@@ -1,8 +1,8 @@
 -- Folders above a name, and a walk over its slashes.
-use Rattle.std.proofs.Common.{◌≡◌, ◌⊎◌, ⊎_elim, ℕ, ◌+◌, ◌<◌, ◌≤◌, Bool, true, false, List, [], ◌∷◌, ◌++◌, length, get_or, take, drop, Option, Some, None, refl, sym, ap, subst, ◌∙◌, arith, true≢false, length-append, take-append-drop}
+use Rattle.std.proofs.Common.{◌≡◌, ⊎_elim, ℕ, ◌+◌, ◌<◌, ◌≤◌, Bool, true, false, List, [], ◌∷◌, ◌++◌, length, get_or, take, drop, Option, Some, refl, sym, ap, subst, ◌∙◌, arith, length-append, take-append-drop}
 use Rattle.std.specs.Prelude.{bytes_eq}
 use Rattle.std.proofs.Math.Seq.{get_or-append_seam, take-append_seam}
-use Rattle.std.proofs.lemmas.Bool.{cases_eq, cases_lt, false_from_ne_true}
+use Rattle.std.proofs.lemmas.Bool.{cases_lt, false_from_ne_true}
 use Rattle.std.proofs.lemmas.List.{drop_more, get_or-take, length-take-le, take-take}
 use Rattle.std.specs.Cmp.Lexicographic.{bytes_decides}
 use Rattle.base_core.specs.Files.{Files, IsFolderOf}
@@ -72,20 +72,6 @@ abbrev pub IsNoneUpto : NameChange → Files → List ℕ → ℕ → ℕ → Ty
 IsNoneUpto change files name len i =
     (other : List ℕ) → IsFolderOf other name → len ≤ length other → length other < i → is_name_after change files other ≡ true → ⊥
 
-pub none_at_first : (change : NameChange) (files : Files) (name : List ℕ) (len : ℕ) → IsNoneUpto change files name len len
-none_at_first change files name len other above long short after = omega arith
-
-pub none_past_other : (change : NameChange) (files : Files) (name : List ℕ) (len i : ℕ) → (get_or name i 0 ≡ 47 → ⊥) → IsNoneUpto change files name len i → IsNoneUpto change files name len (i + 1)
-none_past_other change files name len i off none other above long short after =
-    ⊎_elim (λ here. off (ap (λ n. get_or name n 0) (sym here) ∙ (at_folder other name above).1)) (λ apart. none other above long (omega (arith, short, apart)) after)
-    (cases_eq (length other) i)
-
-pub none_past_slash : (change : NameChange) (files : Files) (name : List ℕ) (len i : ℕ) → is_name_after change files (take i name) ≡ false → IsNoneUpto change files name len i → IsNoneUpto change files name len (i + 1)
-none_past_slash change files name len i off none other above long short after =
-    ⊎_elim (λ here. let is : other ≡ take i name = sym (at_folder other name above).2 ∙ ap (λ n. take n name) here in
-    true≢false (sym after ∙ (ap (is_name_after change files) is ∙ off)))
-    (λ apart. none other above long (omega (arith, short, apart)) after) (cases_eq (length other) i)
-
 pub found_at_slash : (change : NameChange) (files : Files) (name : List ℕ) (len i : ℕ) → i < length name → get_or name i 0 ≡ 47 → is_name_after change files (take i name) ≡ true → IsNoneUpto change files name len i → IsFolderFound change files name len (Some (take i name))
 found_at_slash change files name len i within slash there none = record {
   above = folder_at name i within slash;
@@ -93,9 +79,6 @@ found_at_slash change files name len i within slash there none = record {
   shortest = λ other above long after. let is : length (take i name) ≡ i = length-take-le i name (omega arith) in
       ⊎_elim (λ short. absurd (none other above long short after)) (λ upto. omega (arith, is, upto)) (cases_lt (length other) i);
 }
-
-pub none_in_all : (change : NameChange) (files : Files) (name : List ℕ) (len i : ℕ) → length name ≤ i → IsNoneUpto change files name len i → IsFolderFound change files name len None
-none_in_all change files name len i all none other above long after = none other above long (omega (arith, all, (at_folder other name above).0)) after
 
 -- the same, as the code tells it
 pub found_told : (change : NameChange) (files : Files) (name : List ℕ) (len i : ℕ) (found : Option (List ℕ)) (folder : List ℕ) → i < length name → get_or name i 0 ≡ 47 → found ≡ Some folder

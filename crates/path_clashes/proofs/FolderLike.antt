@@ -1,5 +1,5 @@
 -- The names after a change without a clash: no one is a folder of another.
-use Rattle.std.proofs.Common.{◌≡◌, ◌⊎◌, ⊎_elim, ℕ, Bool, true, false, List, Option, IsSome, sym, ◌∙◌, true≢false}
+use Rattle.std.proofs.Common.{◌≡◌, ⊎_elim, ℕ, true, false, List, Option, IsSome, sym, ◌∙◌, true≢false}
 use Rattle.std.specs.Prelude.{not, ◌&&◌, ◌||◌, is_some}
 use Rattle.std.proofs.lemmas.Bool.{and_parts, cases_Bool, or_cases, or_parts}
 use Rattle.base_core.specs.Files.{Files, IsFolderLike}

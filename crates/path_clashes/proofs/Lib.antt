@@ -7,3 +7,4 @@ pub mod NearClash
 pub mod SoFar
 pub mod Observed
 pub mod NoName
+pub mod OneFirst

@@ -1,10 +1,10 @@
 -- The first clash of one name with those above and below it.
-use Rattle.std.proofs.Common.{◌≡◌, ◌⊎◌, ⊎_elim, inl, inr, ℕ, ◌<◌, ◌≤◌, Bool, true, false, List, length, take, Option, Some, None, refl, sym, ap, subst, ◌∙◌}
+use Rattle.std.proofs.Common.{◌≡◌, ◌⊎◌, ⊎_elim, inl, inr, ℕ, ◌≤◌, true, List, length, take, Option, Some, None, sym, subst}
 use Rattle.std.specs.Prelude.{not, ◌&&◌, is_some}
 use Rattle.std.proofs.lemmas.Bool.{cases_lt, or_left, or_right}
 use Rattle.base_core.specs.Files.{Files, IsFolderOf}
-use Rattle.path_clashes.specs.Clash.{IsClash, NameChange, NamePair, is_name_after}
-use Rattle.path_clashes.specs.NearName.{IsClashNear, IsFolderFound, IsNameFound, IsNoEarlierClash, is_standing}
+use Rattle.path_clashes.specs.Clash.{IsClash, NameChange, is_name_after}
+use Rattle.path_clashes.specs.NearName.{IsClashNear, IsFolderFound, IsNameFound, is_standing}
 use Rattle.path_clashes.proofs.Above.{longer_folder, name_behind, not_same, shared_folder}
 use Rattle.path_clashes.proofs.PairOrder.{other_path, same_other, same_path}
 
@@ -29,14 +29,6 @@ module _ (change : NameChange) (files : Files) where
     path_after = counts_is_after name counts;
     other_after = standing_is_after other standing;
     written = or_left (change.counts_as_written name) (change.counts_as_written other) counts;
-  }
-
-  -- the name before is the same one
-  pub near_same : (before name : List ℕ) → before ≡ name → IsClashNear change files before name None
-  near_same before name same = record {
-    is_one = tt;
-    above = λ folder above. inl (subst (IsFolderOf folder) (sym same) above);
-    below = λ other standing. inl same;
   }
 
   module _ (before name : List ℕ) (len : ℕ) (within : len ≤ length before) (same : take len before ≡ take len name) where

@@ -1,5 +1,5 @@
 -- What is no name is not there after a change.
-use Rattle.std.proofs.Common.{◌≡◌, inl, Bool, true, false, ℕ, List, Option, None, map, refl, sym, ap, ◌∙◌, true≢false}
+use Rattle.std.proofs.Common.{◌≡◌, inl, Bool, false, ℕ, List, None, map, refl, sym, ap, ◌∙◌, true≢false}
 use Rattle.std.specs.Prelude.{not, ◌&&◌, is_some}
 use Rattle.std.specs.List.{All}
 use Rattle.std.proofs.lemmas.Bool.{and_left, false_from_ne_true, or_from}

@@ -4,10 +4,6 @@ use Rattle.std.specs.List.{All}
 use Rattle.base_core.specs.Calls.{IfObservable}
 use Rattle.base_core.specs.Tree.{IsWhole, TreeState}
 
-pub observed : (h : List TreeState) (P : TreeState → Type 0) → ((v : TreeState) → P v) → IfObservable h P
-observed [] P each = tt
-observed (v ∷ h) P each = each v
-
 pub observed_by : (h : List TreeState) (P Q : TreeState → Type 0) → ((v : TreeState) → P v → Q v) → IfObservable h P → IfObservable h Q
 observed_by [] P Q step p = tt
 observed_by (v ∷ h) P Q step p = step v p

@@ -1,16 +1,15 @@
 -- The first clash of the names so far.
-use Rattle.std.proofs.Common.{◌≡◌, ◌⊎◌, ⊎_elim, ℕ, zero, suc, ◌+◌, ◌<◌, ◌≤◌, Bool, true, false, List, [], ◌∷◌, length, get_or, Option, Some, None, refl, sym, ap, subst, ◌∙◌, arith, true≢false}
+use Rattle.std.proofs.Common.{◌≡◌, ⊎_elim, ℕ, zero, suc, ◌+◌, ◌<◌, Bool, true, false, List, [], ◌∷◌, length, get_or, Option, Some, None, refl, sym, ap, subst, ◌∙◌, arith, true≢false}
 use Rattle.std.specs.Prelude.{◌||◌, if◌then◌else◌, bytes_eq}
 use Rattle.std.specs.List.{All, list_any}
 use Rattle.std.specs.List.Sorted.{IsSorted}
 use Rattle.std.proofs.lemmas.Bool.{cases_Bool, cases_eq, or_cases}
-use Rattle.std.proofs.lemmas.List.{get_or_default}
 use Rattle.base_core.specs.Files.{Files, IsFolderOf}
 use Rattle.base_core.specs.Name.{IsName}
 use Rattle.list_order.specs.ByteOrder.{bytes_cmp, precedes}
-use Rattle.path_clashes.specs.Clash.{IsClash, NameChange, NamePair, precedes_pair}
+use Rattle.path_clashes.specs.Clash.{NameChange, NamePair, precedes_pair}
 use Rattle.path_clashes.specs.FirstClash.{IsClashOf}
-use Rattle.path_clashes.specs.NearName.{IsClashIfSome, IsClashNear, IsNoEarlierClash, IsNotBefore, first_pair, is_standing}
+use Rattle.path_clashes.specs.NearName.{IsClashIfSome, IsClashNear, IsNoEarlierClash, IsNotBefore, earlier_pair, is_standing}
 use Rattle.path_clashes.proofs.Above.{nothing_above}
 use Rattle.path_clashes.proofs.NearClash.{clash_above}
 use Rattle.path_clashes.proofs.PairOrder.{pairs_chain, pairs_one_way, same_path}
@@ -18,7 +17,7 @@ use Rattle.path_clashes.proofs.Paths.{is_at, no_empty_name, place_of}
 
 -- ---- the first of two pairs
 
-pub not_before_first : (x : NamePair) (one other : Option NamePair) → IsNotBefore x one → IsNotBefore x (first_pair one other)
+pub not_before_first : (x : NamePair) (one other : Option NamePair) → IsNotBefore x one → IsNotBefore x (earlier_pair one other)
 not_before_first x None other h = absurd h
 not_before_first x (Some a) None h = h
 not_before_first x (Some a) (Some b) h = by (precedes_pair b a) refl
@@ -27,7 +26,7 @@ not_before_first x (Some a) (Some b) h = by (precedes_pair b a) refl
     by true less = pairs_chain x a b h (pairs_one_way b a less)
     by false more = h
 
-pub not_before_second : (x : NamePair) (one other : Option NamePair) → IsNotBefore x other → IsNotBefore x (first_pair one other)
+pub not_before_second : (x : NamePair) (one other : Option NamePair) → IsNotBefore x other → IsNotBefore x (earlier_pair one other)
 not_before_second x None other h = h
 not_before_second x (Some a) None h = absurd h
 not_before_second x (Some a) (Some b) h = by (precedes_pair b a) refl
@@ -50,7 +49,7 @@ pub name_next : (names : List (List ℕ)) (i : ℕ) (name : List ℕ) → ((d : 
 name_next names i name here = let e : suc i ≡ i + 1 = omega arith in sym (here []) ∙ ap (name_before names) e
 
 module _ (change : NameChange) (files : Files) where
-  one_of : (one other : Option NamePair) → IsClashIfSome change files one → IsClashIfSome change files other → IsClashIfSome change files (first_pair one other)
+  one_of : (one other : Option NamePair) → IsClashIfSome change files one → IsClashIfSome change files other → IsClashIfSome change files (earlier_pair one other)
   one_of None other h g = g
   one_of (Some a) None h g = h
   one_of (Some a) (Some b) h g = by (precedes_pair b a)
@@ -96,15 +95,15 @@ module _ (change : NameChange) (files : Files) where
         subst (λ (l : List ℕ). IsNoEarlierClash change files found (record { path = l; other = other })) same (so_far.below i [] (omega arith) other standing)
 
     pub first_of_more : (i : ℕ) (name : List ℕ) (best found : Option NamePair) → i < length names → ((d : List ℕ) → get_or names i d ≡ name)
-        → IsFirstSoFar names i best → IsClashNear change files (name_before names i) name found → IsFirstSoFar names (i + 1) (first_pair best found)
+        → IsFirstSoFar names i best → IsClashNear change files (name_before names i) name found → IsFirstSoFar names (i + 1) (earlier_pair best found)
     first_of_more i name best found within here so_far near = record { is_one = one_of best found so_far.is_one near.is_one; above = above; below = below }
       where
-        above_here : (folder : List ℕ) → IsFolderOf folder name → IsNoEarlierClash change files (first_pair best found) (record { path = folder; other = name })
+        above_here : (folder : List ℕ) → IsFolderOf folder name → IsNoEarlierClash change files (earlier_pair best found) (record { path = folder; other = name })
         above_here folder over clash =
             ⊎_elim (λ before. not_before_first (record { path = folder; other = name }) best found (above_before i name folder best within here so_far before clash))
             (λ none. not_before_second (record { path = folder; other = name }) best found (none clash)) (near.above folder over)
 
-        below_here : (other : List ℕ) → is_standing change.lets_go files other ≡ true → IsNoEarlierClash change files (first_pair best found) (record { path = name; other = other })
+        below_here : (other : List ℕ) → is_standing change.lets_go files other ≡ true → IsNoEarlierClash change files (earlier_pair best found) (record { path = name; other = other })
         below_here other standing clash =
             ⊎_elim (λ same. not_before_first (record { path = name; other = other }) best found (below_before i name other best within here so_far same standing clash))
             (λ none. not_before_second (record { path = name; other = other }) best found (none clash)) (near.below other standing)
@@ -112,18 +111,18 @@ module _ (change : NameChange) (files : Files) where
         at_here : (k : ℕ) (d : List ℕ) → k ≡ i → name ≡ get_or names k d
         at_here k d is = sym (here d) ∙ ap (λ n. get_or names n d) (sym is)
 
-        above : (k : ℕ) (d : List ℕ) → k < i + 1 → (folder : List ℕ) → IsFolderOf folder (get_or names k d) → IsNoEarlierClash change files (first_pair best found) (record { path = folder; other = get_or names k d })
+        above : (k : ℕ) (d : List ℕ) → k < i + 1 → (folder : List ℕ) → IsFolderOf folder (get_or names k d) → IsNoEarlierClash change files (earlier_pair best found) (record { path = folder; other = get_or names k d })
         above k d upto folder over =
-            ⊎_elim (λ is. subst (λ (l : List ℕ). IsNoEarlierClash change files (first_pair best found) (record { path = folder; other = l })) (at_here k d is) (above_here folder (subst (IsFolderOf folder) (sym (at_here k d is)) over)))
+            ⊎_elim (λ is. subst (λ (l : List ℕ). IsNoEarlierClash change files (earlier_pair best found) (record { path = folder; other = l })) (at_here k d is) (above_here folder (subst (IsFolderOf folder) (sym (at_here k d is)) over)))
             (λ apart clash. not_before_first (record { path = folder; other = get_or names k d }) best found (so_far.above k d (omega (arith, upto, apart)) folder over clash)) (cases_eq k i)
 
-        below : (k : ℕ) (d : List ℕ) → k < i + 1 → (other : List ℕ) → is_standing change.lets_go files other ≡ true → IsNoEarlierClash change files (first_pair best found) (record { path = get_or names k d; other = other })
+        below : (k : ℕ) (d : List ℕ) → k < i + 1 → (other : List ℕ) → is_standing change.lets_go files other ≡ true → IsNoEarlierClash change files (earlier_pair best found) (record { path = get_or names k d; other = other })
         below k d upto other standing =
-            ⊎_elim (λ is. subst (λ (l : List ℕ). IsNoEarlierClash change files (first_pair best found) (record { path = l; other = other })) (at_here k d is) (below_here other standing))
+            ⊎_elim (λ is. subst (λ (l : List ℕ). IsNoEarlierClash change files (earlier_pair best found) (record { path = l; other = other })) (at_here k d is) (below_here other standing))
             (λ apart clash. not_before_first (record { path = get_or names k d; other = other }) best found (so_far.below k d (omega (arith, upto, apart)) other standing clash)) (cases_eq k i)
 
     -- the same, as the code tells it
-    pub more_told : (i : ℕ) (before name : List ℕ) (best found new : Option NamePair) → i < length names → ((d : List ℕ) → get_or names i d ≡ name) → before ≡ name_before names i → new ≡ first_pair best found
+    pub more_told : (i : ℕ) (before name : List ℕ) (best found new : Option NamePair) → i < length names → ((d : List ℕ) → get_or names i d ≡ name) → before ≡ name_before names i → new ≡ earlier_pair best found
         → IsFirstSoFar names i best → IsClashNear change files before name found → IsFirstSoFar names (i + 1) new
     more_told i before name best found new within here last is so_far near =
         subst (IsFirstSoFar names (i + 1)) (sym is) (first_of_more i name best found within here so_far (subst (λ (l : List ℕ). IsClashNear change files l name found) last near))

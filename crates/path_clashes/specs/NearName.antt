@@ -46,10 +46,10 @@ IsNameFound lets_go files folder (Some name) = IsFirstBelow lets_go files folder
 -- ---- pairs with the name
 
 -- the first of two pairs, where there are two
-abbrev pub first_pair : Option NamePair → Option NamePair → Option NamePair
-first_pair None other = other
-first_pair (Some one) None = Some one
-first_pair (Some one) (Some other) = if precedes_pair other one then Some other else Some one
+abbrev pub earlier_pair : Option NamePair → Option NamePair → Option NamePair
+earlier_pair None other = other
+earlier_pair (Some one) None = Some one
+earlier_pair (Some one) (Some other) = if precedes_pair other one then Some other else Some one
 
 -- it is a clash, if there is a pair
 abbrev pub IsClashIfSome : NameChange → Files → Option NamePair → Type 0

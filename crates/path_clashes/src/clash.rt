@@ -11,7 +11,7 @@ ghost use Rattle.list_order.specs.ByteOrder.{bytes_cmp};
 ghost use Rattle.path_clashes.specs.Clash.{precedes_pair};
 ghost use Rattle.path_clashes.specs.ClashSeen.{clash_seen};
 ghost use Rattle.path_clashes.specs.FirstClash.{IsClashOf};
-ghost use Rattle.path_clashes.specs.NearName.{IsClashNear, first_pair};
+ghost use Rattle.path_clashes.specs.NearName.{IsClashNear, earlier_pair};
 ghost use Rattle.path_clashes.specs.WrittenPaths.{change_by_paths, is_path_of};
 
 use crate::let_go::LetGo;
@@ -39,7 +39,7 @@ fn comes_before(one: &Clash, other: &Clash) -> bool
 /// The first of two clashes, where there are two.
 fn first_of(one: Option<Clash>, other: Option<Clash>) -> Option<Clash>
     ensures { option_map clash_seen result
-        ≡ first_pair (option_map clash_seen one) (option_map clash_seen other) }
+        ≡ earlier_pair (option_map clash_seen one) (option_map clash_seen other) }
 {
     let Some(one) = one else {
         return other;
@@ -91,8 +91,8 @@ fn common_len(one: &[u8], other: &[u8]) -> usize
     len
 }
 
-/// The first clash of a path that is written with the names above it and below it. The folders that
-/// are also above the name before it were looked at with that one, and so was all where the two are
+/// The first clash of a path that is written, with the names above it and below it. The folders that
+/// are also above the path before it were looked at with that one, and so was all where the two are
 /// the same.
 fn clash_near<T: Tree, G: LetGo>(
     alloc: Global,
@@ -126,10 +126,10 @@ fn clash_near<T: Tree, G: LetGo>(
 }
 
 /// The first clash of a change that writes these paths, or None where there is none. The paths
-/// stand in byte order, and may stand there again. It only reads the tree.
+/// stand in byte order, and one may stand there several times. It only reads the tree.
 ///
-/// The tree is asked for the names below each path, and once for each folder above paths; so what
-/// it takes grows with the paths, and not with the files of the tree.
+/// The tree is asked for the names below each path, and at most once for each folder above them.
+/// So the calls grow with the paths, and not with the files of the tree.
 ///
 /// # Errors
 ///

@@ -28,11 +28,7 @@ fn is_path_of(paths: &[FilePath<'_>], name: &[u8]) -> bool
 }
 
 /// Whether a file stands under a name and does not go.
-fn is_standing<T: Tree, G: LetGo>(
-    tree: &mut T,
-    let_go: &G,
-    name: &Name,
-) -> Result<bool, TreeFault>
+fn is_standing<T: Tree, G: LetGo>(tree: &mut T, let_go: &G, name: &Name) -> Result<bool, TreeFault>
     ensures answer { IfOk result (λ standing. IfObservable (T.history tree.old) (λ v.
         standing ≡ is_standing (G.lets_go let_go.now) (files_of v) name.now)) }
     ensures tree { OnlyReads TreeFault.Disk (T.history tree.old) (T.history tree.new)

@@ -22,7 +22,7 @@ loop-path-preserved g c =
       first =
           observed_by_two _ _ _ _ _ c.loop-path.invariant.tree.same
           (λ v so_far near. more_told (change_by_paths c.args.written.now (g.G.LetGo.lets_go c.args.let_go.now)) (files_of v) names c.requires.names c.requires.sorted (λ name any. any)
-              c.loop-path.path-index c.deref.result.now c.deref-in-loop-path.result.now _ _ _ within here (c.deref.ensures.value ∙ c.loop-path.invariant.before) c.first_of-first.ensures so_far near)
+          c.loop-path.path-index c.deref.result.now c.deref-in-loop-path.result.now _ _ _ within here (c.deref.ensures.value ∙ c.loop-path.invariant.before) c.first_of-first.ensures so_far near)
           c.loop-path.invariant.first c.in_ok-found.ensures.near;
       tree = search rules;
     }

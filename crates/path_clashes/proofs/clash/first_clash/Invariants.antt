@@ -1,4 +1,4 @@
-use Rattle.std.proofs.Common.{◌≡◌, ℕ, List, Ok, None, Option, map}
+use Rattle.std.proofs.Common.{◌≡◌, Ok, None, Option, map}
 use Rattle.std.specs.Option.{option_map}
 use Rattle.adb_fields.specs.JoinedPath.{joined_path}
 use Rattle.base_core.specs.Calls.{IfObservable}

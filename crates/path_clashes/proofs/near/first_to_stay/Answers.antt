@@ -1,4 +1,4 @@
-use Rattle.std.proofs.Common.{◌≡◌, ◌∙◌, Bool, Option, List, ℕ, Some, ap, sym, false}
+use Rattle.std.proofs.Common.{◌≡◌, ◌∙◌, List, ℕ, Some, ap, sym, false}
 use Rattle.std.specs.Prelude.{not}
 use Rattle.path_clashes.proofs.Below.{fails_here, passes_here}
 use Rattle.path_clashes.proofs.near.first_to_stay.Goals as goal
