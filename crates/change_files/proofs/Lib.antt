@@ -1,0 +1,5 @@
+pub mod InOrder
+pub mod Lists
+pub mod Sample
+mod Worked
+mod WorkedConfiguration
