@@ -1,5 +1,5 @@
 -- The elements of a list, of those that pass a test, and the first of them.
-use Rattle.std.proofs.Common.{◌≡◌, ◌⊎◌, inl, inr, ◌∙◌, ℕ, Bool, true, false, cond, List, [], ◌∷◌, map, Option, Some, None, is_some, refl, ap, sym, true≢false}
+use Rattle.std.proofs.Common.{◌≡◌, ◌⊎◌, inl, inr, ◌∙◌, ◌<◌, ℕ, zero, suc, Bool, true, false, cond, List, [], ◌∷◌, length, get_or, map, Contains, Option, Some, None, is_some, refl, ap, sym, subst, true≢false, arith}
 use Rattle.std.specs.Prelude.{◌||◌}
 use Rattle.std.specs.List.{filter, find, list_any}
 use Rattle.std.specs.Str.{bytes_eq}
@@ -53,3 +53,18 @@ pub any_name : (q : List ℕ) (names : List (List ℕ)) → IsIn q names → lis
 any_name q [] here = absurd here
 any_name q (x ∷ xs) (inl is) = or_left (bytes_eq q x) (list_any (bytes_eq q) xs) ((bytes_eq-Decides q x).1 is)
 any_name q (x ∷ xs) (inr more) = or_right (bytes_eq q x) (list_any (bytes_eq q) xs) (any_name q xs more)
+
+-- ---- as std says it
+
+pub contains_from_one : {X : Type 0} (xs : List X) (q : X) → IsOneOf q xs → Contains xs q
+contains_from_one [] q h = absurd h
+contains_from_one (x ∷ xs) q (inl is) = (0, omega arith, sym is)
+contains_from_one (x ∷ xs) q (inr more) = let found = contains_from_one xs q more in (suc found.0, omega (arith, found.1), found.2)
+
+one_at : {X : Type 0} (xs : List X) (k : ℕ) (d : X) → k < length xs → IsOneOf (get_or xs k d) xs
+one_at [] k d below = absurd (omega (arith, below))
+one_at (x ∷ xs) zero d below = inl refl
+one_at (x ∷ xs) (suc k) d below = inr (one_at xs k d (omega (arith, below)))
+
+pub one_from_contains : {X : Type 0} (xs : List X) (q : X) → Contains xs q → IsOneOf q xs
+one_from_contains {X} xs q found = let P : X → Type 0 = λ r. IsOneOf r xs in subst P found.2 (one_at xs found.0 q found.1)
