@@ -6,7 +6,7 @@ ghost use Rattle.adb_schema.specs.Soundness.{first_fault, payload_in, root_value
 ghost use Rattle.adb_schema.specs.Views.{idb_value, package_value};
 ghost use Rattle.adb_tables.specs.Values.{count_of, entries_in, entry_in};
 ghost use Rattle.adb_tables.specs.declared.tables.Which.TheVariants as Tables;
-ghost use Rattle.db_core.specs.NamePlaces.{names_in_order};
+ghost use Rattle.db_core.specs.NamePlaces.{placed_names_in_order};
 ghost use Rattle.db_core.specs.NameSeen.{name_seen};
 ghost use Rattle.db_core.specs.Packages.{is_package_named, lists_names, lists_path, packages_by};
 ghost use Rattle.std.specs.List.{list_all, position_from};
@@ -25,7 +25,7 @@ pub struct Db<'a> {
     pub(crate) idb: Option<IdbView<'a>>,
     pub(crate) names: Vec<NamePlace<'a>>,
     ghost by_name: { map name_seen names.items
-        ≡ names_in_order (packages_by (option_map idb_value idb)) },
+        ≡ placed_names_in_order (packages_by (option_map idb_value idb)) },
     ghost named: { list_all lists_names (packages_by (option_map idb_value idb)) ≡ true },
 }
 
