@@ -1,4 +1,3 @@
-pub mod Opened
 pub mod Handed
 pub mod Texts
 pub mod WorldSteps

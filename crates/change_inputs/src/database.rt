@@ -1,12 +1,10 @@
 //! The database of a root: its file, or the text database that is taken over.
 ghost use Rattle.adb_fields.specs.ListValue.{list_value};
 ghost use Rattle.adb_fields.specs.Repeated.{list_of};
-ghost use Rattle.adb_schema.specs.Soundness.{first_fault, payload_in, root_value};
+ghost use Rattle.adb_schema.specs.Soundness.{first_fault, payload_fault, payload_in, root_value};
 ghost use Rattle.adb_schema.specs.Views.{idb_value};
-ghost use Rattle.adb_tables.specs.Values.{entries_in, is_sound};
-ghost use Rattle.adb_tables.specs.declared.tables.Kind.TheVariants as Kinds;
+ghost use Rattle.adb_tables.specs.Values.{entries_in};
 ghost use Rattle.adb_tables.specs.declared.tables.Which.TheVariants as Tables;
-ghost use Rattle.adb_view.specs.Head.{head_fault, root_of};
 ghost use Rattle.base_core.specs.Read.{bytes_in};
 ghost use Rattle.change_inputs.specs.Answers.{Agrees};
 ghost use Rattle.change_inputs.specs.Candidates.{with_all_installed};
@@ -19,13 +17,11 @@ ghost use Rattle.v2_core.specs.Payload.{IsV2Fault, payload_of_text};
 
 use crate::opening::{payload_in, test_file};
 use crate::refused::Refused;
-use adb_schema::{IdbView, List, PackageView, ReadFault, View, Which};
-use adb_tables::values_of_few_visits_have_no_fault;
-use adb_view::Adb;
-use db_core::Db;
+use adb_schema::{IdbView, List, PackageView, ReadFault, Which};
+use db_core::{Db, open_idb};
 use pool_core::{Pool, PoolFault};
 use report_core::Refusal;
-use std::alloc::Global;
+use std::alloc::{AllocError, Global};
 use v2_core::{V2Fault, read_v2};
 
 /// The bytes of a database's file, which passed all tests.
@@ -33,17 +29,14 @@ use v2_core::{V2Fault, read_v2};
 pub(crate) struct DatabaseContainer {
     pub(crate) file: Vec<u8>,
     ghost passed: { is_none (first_fault Tables.Idb file.items) ≡ true },
-    ghost head: { is_none (head_fault (payload_in file.items)) ≡ true },
-    ghost sound: { is_sound (payload_in file.items) (Kinds.Obj Tables.Idb)
-        (root_of (payload_in file.items)) ≡ true },
+    ghost sound: { is_none (payload_fault Tables.Idb (payload_in file.items)) ≡ true },
 }
 
 /// The payload that a text database says, which passed all tests.
 #[derive(Drop)]
 pub(crate) struct DatabasePayload {
     pub(crate) payload: Vec<u8>,
-    ghost head: { is_none (head_fault payload.items) ≡ true },
-    ghost sound: { is_sound payload.items (Kinds.Obj Tables.Idb) (root_of payload.items) ≡ true },
+    ghost sound: { is_none (payload_fault Tables.Idb payload.items) ≡ true },
 }
 
 /// The database of a root.
@@ -133,13 +126,13 @@ impl DatabaseFile {
     }
 
     /// The packages, which the file lends.
-    pub(crate) fn open(&self) -> Db<'_>
-        ensures { packages_of result ≡ (database_seen self.now).packages }
+    pub(crate) fn open(&self, alloc: Global) -> Result<Db<'_>, AllocError>
+        ensures { IfOk result (λ db. packages_of db ≡ (database_seen self.now).packages) }
     {
         match self {
-            DatabaseFile::Container(own) => Db::open(own.payload()),
-            DatabaseFile::Payload(own) => Db::open(&own.payload),
-            DatabaseFile::New => Db::empty(),
+            DatabaseFile::Container(own) => Db::open(alloc, own.payload()),
+            DatabaseFile::Payload(own) => Db::open(alloc, &own.payload),
+            DatabaseFile::New => Ok(Db::empty(alloc)),
         }
     }
 
@@ -182,7 +175,7 @@ impl DatabaseContainer {
     fn idb(&self) -> IdbView<'_>
         ensures { idb_value result ≡ root_value Tables.Idb (payload_in self.now.file.items) }
     {
-        open_payload(self.payload())
+        open_idb(self.payload())
     }
 }
 
@@ -191,20 +184,8 @@ impl DatabasePayload {
     fn idb(&self) -> IdbView<'_>
         ensures { idb_value result ≡ root_value Tables.Idb self.now.payload.items }
     {
-        open_payload(&self.payload)
+        open_idb(&self.payload)
     }
-}
-
-// The database in a payload whose head and root were tested.
-fn open_payload(payload: &[u8]) -> IdbView<'_>
-    requires head { is_none (head_fault payload.now) ≡ true }
-    requires sound { is_sound payload.now (Kinds.Obj Tables.Idb) (root_of payload.now) ≡ true }
-    ensures { idb_value result ≡ root_value Tables.Idb payload.now }
-{
-    let Ok(adb) = Adb::new(payload) else {
-        unreachable!()
-    };
-    IdbView::of(adb, adb.root())
 }
 
 // Adds each of some packages to a pool.
@@ -231,7 +212,6 @@ fn payload_of_text(alloc: Global, text: &[u8]) -> Result<DatabasePayload, V2Faul
     ensures ok { IfOk result (λ own. payload_of_text text.now ≡ Ok own.payload.items) }
     ensures err { IfErr result (λ fault. IsV2Fault fault (payload_of_text text.now)) }
 {
-    values_of_few_visits_have_no_fault();
     let payload = read_v2(alloc, text)?;
     Ok(DatabasePayload { payload })
 }

@@ -19,7 +19,7 @@ use db_core::Db;
 use dep_core::{Repos, World};
 use pool_core::{Pool, PoolFault, Sealed, Upgrade};
 use report_core::Refusal;
-use std::alloc::Global;
+use std::alloc::{AllocError, Global};
 
 /// What a change reads of a root: its database, world, its repositories and their indexes. All
 /// passed their tests, and the bytes are kept.
@@ -73,10 +73,11 @@ impl Loaded {
     }
 
     /// The packages that are installed.
-    pub fn db(&self) -> Db<'_>
-        ensures { packages_of result ≡ (inputs_seen self.now).root.database.packages }
+    pub fn db(&self, alloc: Global) -> Result<Db<'_>, AllocError>
+        ensures { IfOk result (λ db.
+            packages_of db ≡ (inputs_seen self.now).root.database.packages) }
     {
-        self.root.database.open()
+        self.root.database.open(alloc)
     }
 
     /// Whether a text database says what is installed, which a change takes over.

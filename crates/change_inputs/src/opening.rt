@@ -1,26 +1,19 @@
 //! Containers that are tested once, and opened again later.
 ghost use Rattle.adb_schema.specs.ReadFaults.{IsReadFault};
-ghost use Rattle.adb_schema.specs.Soundness.{first_fault, payload_in};
-ghost use Rattle.adb_tables.specs.Values.{is_sound};
-ghost use Rattle.adb_tables.specs.declared.tables.Kind.TheVariants as Kinds;
+ghost use Rattle.adb_schema.specs.Soundness.{first_fault, payload_fault, payload_in};
 ghost use Rattle.adb_tables.specs.declared.tables.Which.{Which};
-ghost use Rattle.adb_view.specs.Head.{head_fault, root_of};
-ghost use Rattle.std.specs.Prelude.{◌≡◌, None, IfErr, OnOk, is_none, true};
+ghost use Rattle.std.specs.Prelude.{◌≡◌, None, IfErr, OnOk};
 
 use adb_block::Blocks;
 use adb_schema::{ReadFault, Which, read_adb};
-use adb_tables::values_of_few_visits_have_no_fault;
 use std::alloc::Global;
 
 /// Makes all tests of a file as a container with this table at its root.
 pub(crate) fn test_file(alloc: Global, file: &[u8], which: Which) -> Result<(), ReadFault>
     ensures bad { IfErr result (λ fault. IsReadFault fault (first_fault which file.now)) }
     ensures passed { OnOk result (first_fault which file.now ≡ None) }
-    ensures head { OnOk result (is_none (head_fault (payload_in file.now)) ≡ true) }
-    ensures sound { OnOk result (is_sound (payload_in file.now) (Kinds.Obj which)
-        (root_of (payload_in file.now)) ≡ true) }
+    ensures sound { OnOk result (payload_fault which (payload_in file.now) ≡ None) }
 {
-    values_of_few_visits_have_no_fault();
     read_adb(alloc, file, which)?;
     Ok(())
 }
