@@ -66,7 +66,7 @@ installed_more vs i pkg info start now next lt is about made so_far =
 pub installed_passes : (vs : Plains) (i : ℕ) (pkg info : Plain) (start now : List Candidate) (fault : PoolFault) → i < count_of vs → pkg ≡ nth vs (i + 1 - 1) → info ≡ entry_in pkg 0 → IsPoolFault fault (length (with_installed now (candidate_of info None None true))) → IsInstalledTo vs i start now → IsPoolFault fault (length (with_all_installed start (list_of vs)))
 installed_passes vs i pkg info start now fault lt is about h so_far =
     let whole : with_all_installed start (list_of vs) ≡ with_all_installed (with_installed now (candidate_of info None None true)) (drop (i + 1) (list_of vs)) =
-        so_far ∙ (ap (with_all_installed now) (listed vs i pkg lt is) ∙ ap (λ (v : Plain). with_all_installed (with_installed now (candidate_of v None None true)) (drop (i + 1) (list_of vs))) (sym about)) in
+    so_far ∙ (ap (with_all_installed now) (listed vs i pkg lt is) ∙ ap (λ (v : Plain). with_all_installed (with_installed now (candidate_of v None None true)) (drop (i + 1) (list_of vs))) (sym about)) in
     let longer = all_longer (with_installed now (candidate_of info None None true)) (drop (i + 1) (list_of vs)) in
     subst (λ (cs : List Candidate). IsPoolFault fault (length cs)) (sym whole) (passes_with_more fault _ _ longer h)
 

@@ -116,9 +116,7 @@ fn read_index_file<T: Tree>(
 {
     match read_file(alloc, tree, path)? {
         Some(file) => Ok(file),
-        None => Err(Refused::Refusal(Refusal::IndexMissing {
-            repository: number,
-        })),
+        None => Err(Refused::Refusal(Refusal::IndexMissing { repository: number })),
     }
 }
 

@@ -121,11 +121,7 @@ impl Loaded {
     /// # Errors
     ///
     /// `TooMany` where there are more than a pool holds, or `Memory`.
-    pub fn pool<'a>(
-        &'a self,
-        alloc: Global,
-        upgrade: Upgrade<'a>,
-    ) -> Result<Sealed<'a>, Refused>
+    pub fn pool<'a>(&'a self, alloc: Global, upgrade: Upgrade<'a>) -> Result<Sealed<'a>, Refused>
         ensures { Agrees (λ pool. pool) result
             (root_pool (inputs_seen self.entry.now) (names_upgraded_by upgrade.entry)) }
     {
