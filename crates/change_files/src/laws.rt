@@ -32,8 +32,8 @@ pub fn what_is_written_is_owned_by_a_package_that_comes()
 
 /// Where something is written the file has those bytes after the change.
 pub fn what_is_written_takes_its_name()
-    ensures { (change : FileChange) (bytes_of : Listing → List ℕ) (records : Records) (files : Files)
-        (name : List ℕ) (l : Listing) → written_as change files name ≡ Some l
+    ensures { (change : FileChange) (bytes_of : Listing → List ℕ) (records : Records)
+        (files : Files) (name : List ℕ) (l : Listing) → written_as change files name ≡ Some l
         → is_record_name records name ≡ false
         → changed_files change bytes_of records files name ≡ Some (bytes_of l) }
 {}
@@ -75,27 +75,27 @@ pub fn the_file_of_a_package_that_stays_is_not_touched()
         → changed_files change bytes_of records files path ≡ files path }
 {}
 
-/// Configuration that the user changed keeps its bytes, unless it is to be purged. One that was laid
-/// beside another file gives way to what is laid there now.
+/// Configuration that the user changed keeps its bytes, unless it is to be purged. One that was
+/// laid beside another file gives way to what is laid there now.
 pub fn configuration_that_the_user_changed_stays()
-    ensures { (change : FileChange) (bytes_of : Listing → List ℕ) (records : Records) (files : Files)
-        (path bytes : List ℕ) → change.purge ≡ false → IsUsersFile change files path bytes
+    ensures { (change : FileChange) (bytes_of : Listing → List ℕ) (records : Records)
+        (files : Files) (path bytes : List ℕ) → change.purge ≡ false → IsUsersFile change files path bytes
         → is_aside_name change files path ≡ false → is_record_name records path ≡ false
         → changed_files change bytes_of records files path ≡ Some bytes }
 {}
 
 /// What is kept stays as it is.
 pub fn what_is_kept_stays()
-    ensures { (change : FileChange) (bytes_of : Listing → List ℕ) (records : Records) (files : Files)
-        (path : List ℕ) → is_kept change files path ≡ true → is_record_name records path ≡ false
+    ensures { (change : FileChange) (bytes_of : Listing → List ℕ) (records : Records)
+        (files : Files) (path : List ℕ) → is_kept change files path ≡ true → is_record_name records path ≡ false
         → changed_files change bytes_of records files path ≡ files path }
 {}
 
-/// A name that no package listed before and that no package which comes lists stays as it is, unless
-/// a file is laid beside another one under it.
+/// A name that no package listed before and that no package which comes lists stays as it is,
+/// unless a file is laid beside another one under it.
 pub fn a_name_that_nobody_lists_is_not_touched()
-    ensures { (change : FileChange) (bytes_of : Listing → List ℕ) (records : Records) (files : Files)
-        (name : List ℕ) → was_listed change name ≡ false → is_coming_path change name ≡ false
+    ensures { (change : FileChange) (bytes_of : Listing → List ℕ) (records : Records)
+        (files : Files) (name : List ℕ) → was_listed change name ≡ false → is_coming_path change name ≡ false
         → is_aside_name change files name ≡ false → is_record_name records name ≡ false
         → changed_files change bytes_of records files name ≡ files name }
 {}
@@ -104,8 +104,8 @@ pub fn a_name_that_nobody_lists_is_not_touched()
 
 /// Each file after a change stands under one of the names after.
 pub fn the_files_after_a_change_stand_under_its_names()
-    ensures { (change : FileChange) (bytes_of : Listing → List ℕ) (records : Records) (files : Files)
-        (name : List ℕ) → is_some (changed_files change bytes_of records files name) ≡ true
+    ensures { (change : FileChange) (bytes_of : Listing → List ℕ) (records : Records)
+        (files : Files) (name : List ℕ) → is_some (changed_files change bytes_of records files name) ≡ true
         → is_name_after (name_change change files) files name ≡ true }
 {}
 
