@@ -16,6 +16,7 @@ mod open;
 mod package;
 mod piece;
 mod reader;
+mod walks;
 
 pub use block::{BlockStep, next_block};
 pub use fault::PieceFault;
