@@ -1,7 +1,11 @@
 -- The place of a file among those that have contents.
-use Rattle.std.proofs.Common.{◌≡◌, ℕ, zero, suc, ◌+◌, ◌-◌, ◌<◌, ◌==◌, ◌&&◌, Bool, true, false, if◌then◌else◌, List, [], ◌∷◌, Option, Some, None, refl, ap, sym, ◌∙◌, arith}
+use Rattle.std.proofs.Common.{◌≡◌, ℕ, zero, suc, ◌+◌, ◌-◌, ◌<◌, ◌==◌, ◌&&◌, Bool, true, false, if◌then◌else◌, List, [], ◌∷◌, drop, Option, Some, None, refl, ap, sym, ◌∙◌, arith}
 use Rattle.std.specs.Option.{option_map}
+use Rattle.std.proofs.lemmas.Bool.{eqb-true}
+use Rattle.std.proofs.lemmas.List.{drop-drop}
 use Rattle.pkg_core.specs.Contents.{Expected}
+use Rattle.pkg_core.specs.Opened.{TakesFirst}
+use Rattle.pkg_core.specs.declared.walk.Wanted.{Wanted}
 use Rattle.piece_reader.specs.FilePlaces.{has_positions, index_in}
 
 further : (k : ℕ) (found : Option ℕ) → option_map (λ n. k + n) (option_map suc found) ≡ option_map (λ n. k + 1 + n) found
@@ -21,8 +25,33 @@ passed_one path file k count e before after all less first other is =
     ∙ (ap (option_map (λ n. k + n)) (index_more path file e after (count - (k + 1)) other)
     ∙ further k (index_in path file after (count - (k + 1))))))
 
-pub not_both : (a b : Bool) → a ≡ true → b ≡ false → (a && b) ≡ false
-not_both a b is other = rw (is, other) refl
+not_same : (a b : ℕ) → (a ≡ b → ⊥) → (a == b) ≡ false
+not_same a b other = by_test (a == b) refl
+  where
+    by_test : (t : Bool) → (a == b) ≡ t → t ≡ false
+    by_test true is = absurd (other (eqb-true a b is))
+    by_test false is = refl
 
-pub not_first : (a b : Bool) → a ≡ false → (a && b) ≡ false
-not_first a b other = rw other refl
+and_false : (x y : Bool) → y ≡ false → (x && y) ≡ false
+and_false true y other = other
+and_false false y other = refl
+
+false_and : (x y : Bool) → x ≡ false → (x && y) ≡ false
+false_and true y other = absurd (let e : true ≡ false = other in (cc))
+false_and false y other = refl
+
+pub other_file : (path file a b : ℕ) → (b ≡ file → ⊥) → ((a == path) && (b == file)) ≡ false
+other_file path file a b other = and_false (a == path) (b == file) (not_same b file other)
+
+pub other_folder : (path file a b : ℕ) → (a ≡ path → ⊥) → ((a == path) && (b == file)) ≡ false
+other_folder path file a b other = false_and (a == path) (b == file) (not_same a path other)
+
+-- ---- files that are passed
+
+pub skipped_one : (k : ℕ) (all before after : List Expected) (next : Option Wanted) → TakesFirst before next after → before ≡ drop k all → after ≡ drop (k + 1) all
+skipped_one k all before after next takes is =
+    by_next next takes ∙ (ap (drop 1) is ∙ (drop-drop 1 k all ∙ ap (λ (n : ℕ). drop n all) (omega arith)))
+  where
+    by_next : (next : Option Wanted) → TakesFirst before next after → after ≡ drop 1 before
+    by_next None takes = takes.1 ∙ ap (drop 1) (sym takes.0)
+    by_next (Some w) takes = ap (drop 1) (sym takes)

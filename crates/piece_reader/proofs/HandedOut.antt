@@ -19,23 +19,24 @@ all_good pkg [] es from are = ap refusal_in are.1
 all_good pkg (at ∷ ats) [] from are = absurd are
 all_good pkg (at ∷ ats) (e ∷ es) from (after, within, same, (given, last, is), others) = ap refusal_in is ∙ (refusal_with e given (piece (part_of e true) last after) ∙ all_good pkg ats es after others)
 
+good_by : (ends : Bool) (further : PiecesRead) → refusal_in further ≡ None → refusal_in (if ends then no_piece else further) ≡ None
+good_by true further good = refl
+good_by false further good = good
+
 first_good : (pieces : PiecesRead) → refusal_in pieces ≡ None → refusal_in (pieces_of_first pieces) ≡ None
 first_good no_piece good = refl
 first_good (refusal c) good = good
-first_good (piece part bytes further) good = by_last part.last
-  where
-    by_last : (last : Bool) → refusal_in (if last then no_piece else pieces_of_first further) ≡ None
-    by_last true = refl
-    by_last false = first_good further good
+first_good (piece part bytes further) good = good_by part.last (pieces_of_first further) (first_good further good)
+
+either_good : (this : Bool) (a b : PiecesRead) → refusal_in a ≡ None → refusal_in b ≡ None → refusal_in (if this then a else b) ≡ None
+either_good true a b first other = first
+either_good false a b first other = other
 
 file_good : (path file : ℕ) (pieces : PiecesRead) → refusal_in pieces ≡ None → refusal_in (pieces_of_file path file pieces) ≡ None
 file_good path file no_piece good = refl
 file_good path file (refusal c) good = good
-file_good path file (piece part bytes further) good = by_file (is_of_file path file part)
-  where
-    by_file : (same : Bool) → refusal_in (if same then pieces_of_first (piece part bytes further) else pieces_of_file path file further) ≡ None
-    by_file true = first_good (piece part bytes further) good
-    by_file false = file_good path file further good
+file_good path file (piece part bytes further) good =
+    either_good (is_of_file path file part) (pieces_of_first (piece part bytes further)) (pieces_of_file path file further) (first_good (piece part bytes further) good) (file_good path file further good)
 
 pub good_in : (path file : ℕ) (pkg ats : List ℕ) (es : List Expected) (from : PiecesRead) → AreFilesAt pkg ats es from [] no_piece → refusal_in (pieces_of_file path file from) ≡ None
 good_in path file pkg ats es from are = file_good path file from (all_good pkg ats es from are)
@@ -47,8 +48,8 @@ one_file_more pkg [] at es from left e others rest after first within same hande
     subst (λ (xs : List Expected). AreFilesAt pkg (at ∷ []) xs from others after) (sym (are.0 ∙ first))
     (after, within, ap (λ (xs : List Expected). pieces_from_block xs at pkg) (sym first) ∙ (same ∙ sym are.1), subst (λ (p : PiecesRead). IsHandedOut e p after) (sym are.1) handed, (refl, refl))
 one_file_more pkg (b ∷ ats) at [] from left e others rest after first within same handed are = are
-one_file_more pkg (b ∷ ats) at (x ∷ es) from left e others rest after first within same handed (then, room, block, whole, further) =
-    (then, room, block, whole, one_file_more pkg ats at es then left e others rest after first within same handed further)
+one_file_more pkg (b ∷ ats) at (x ∷ es) from left e others rest after first within same handed (behind, room, block, whole, further) =
+    (behind, room, block, whole, one_file_more pkg ats at es behind left e others rest after first within same handed further)
 
 -- ---- a piece more of a file
 
@@ -76,14 +77,15 @@ suc_none : (found : Option ℕ) → option_map suc found ≡ None → found ≡ 
 suc_none None is = refl
 suc_none (Some n) is = (cc)
 
+none_by : (path file : ℕ) (e : Expected) (given : List (List ℕ)) (last : List ℕ) (from after : PiecesRead) (found : Option ℕ) (this : Bool) → has_positions path file e ≡ this → from ≡ with_pieces e given (piece (part_of e true) last after) → (if this then Some 0 else option_map suc found) ≡ None → (found ≡ None → pieces_of_file path file after ≡ no_piece) → pieces_of_file path file from ≡ no_piece
+none_by path file e given last from after found true same is none others = absurd (cc)
+none_by path file e given last from after found false other is none others = ap (pieces_of_file path file) is ∙ (skip_file path file e given last after other ∙ others (suc_none found none))
+
 pub none_found : (path file : ℕ) (pkg ats : List ℕ) (es : List Expected) (from : PiecesRead) → AreFilesAt pkg ats es from [] no_piece → index_in path file es (length ats) ≡ None → pieces_of_file path file from ≡ no_piece
 none_found path file pkg [] es from are none = ap (pieces_of_file path file) are.1
 none_found path file pkg (at ∷ ats) [] from are none = absurd are
-none_found path file pkg (at ∷ ats) (e ∷ es) from (after, within, same, (given, last, is), others) none = by_file (has_positions path file e) refl none
-  where
-    by_file : (b : Bool) → has_positions path file e ≡ b → (if b then Some 0 else option_map suc (index_in path file es (length ats))) ≡ None → pieces_of_file path file from ≡ no_piece
-    by_file true e none = (cc)
-    by_file false other none = ap (pieces_of_file path file) is ∙ (skip_file path file e given last after other ∙ none_found path file pkg ats es after others (suc_none _ none))
+none_found path file pkg (at ∷ ats) (e ∷ es) from (after, within, same, (given, last, is), others) none =
+    none_by path file e given last from after (index_in path file es (length ats)) (has_positions path file e) refl is none (λ further. none_found path file pkg ats es after others further)
 
 -- the block at a place in the list
 abbrev pub IsAtPlace : ℕ → ℕ → List ℕ → List ℕ → List Expected → PiecesRead → ℕ → Type 0
@@ -94,18 +96,20 @@ suc_some : (found : Option ℕ) (k : ℕ) → option_map suc found ≡ Some k �
 suc_some None k is = (cc)
 suc_some (Some n) k is = let same : suc n ≡ k = (cc) in (n, refl, sym same)
 
+found_by : (path file : ℕ) (pkg ats : List ℕ) (at : ℕ) (e : Expected) (es : List Expected) (given : List (List ℕ)) (last : List ℕ) (from after : PiecesRead) (found : Option ℕ) (k : ℕ) (this : Bool) → has_positions path file e ≡ this → at ≤ length pkg → pieces_from_block (e ∷ es) at pkg ≡ from → from ≡ with_pieces e given (piece (part_of e true) last after) → (if this then Some 0 else option_map suc found) ≡ Some k → ((n : ℕ) → found ≡ Some n → IsAtPlace path file pkg ats es after n)
+    → IsAtPlace path file pkg (at ∷ ats) (e ∷ es) from k
+found_by path file pkg ats at e es given last from after found k true this within same is some others =
+    let first : 0 ≡ k = (cc) in
+    subst (λ (n : ℕ). IsAtPlace path file pkg (at ∷ ats) (e ∷ es) from n) first
+    (within, ap (pieces_of_file path file) is ∙ (this_file path file e given last after this ∙ ap pieces_of_first (sym is ∙ sym same)))
+found_by path file pkg ats at e es given last from after found k false other within same is some others =
+    let (n, there, next) = suc_some found k some in
+    let rest = others n there in
+    subst (λ (m : ℕ). IsAtPlace path file pkg (at ∷ ats) (e ∷ es) from m) (sym next)
+    (rest.0, ap (pieces_of_file path file) is ∙ (skip_file path file e given last after other ∙ rest.1))
+
 pub one_found : (path file : ℕ) (pkg ats : List ℕ) (es : List Expected) (from : PiecesRead) (k : ℕ) → AreFilesAt pkg ats es from [] no_piece → index_in path file es (length ats) ≡ Some k → IsAtPlace path file pkg ats es from k
 one_found path file pkg [] es from k are some = absurd (cc)
 one_found path file pkg (at ∷ ats) [] from k are some = absurd are
-one_found path file pkg (at ∷ ats) (e ∷ es) from k (after, within, same, (given, last, is), others) some = by_file (has_positions path file e) refl some
-  where
-    by_file : (b : Bool) → has_positions path file e ≡ b → (if b then Some 0 else option_map suc (index_in path file es (length ats))) ≡ Some k → IsAtPlace path file pkg (at ∷ ats) (e ∷ es) from k
-    by_file true this found =
-        let first : 0 ≡ k = (cc) in
-        subst (λ (n : ℕ). IsAtPlace path file pkg (at ∷ ats) (e ∷ es) from n) first
-        (within, ap (pieces_of_file path file) is ∙ (this_file path file e given last after this ∙ ap pieces_of_first (sym is ∙ sym same)))
-    by_file false other found =
-        let (n, there, next) = suc_some (index_in path file es (length ats)) k found in
-        let rest = one_found path file pkg ats es after n others there in
-        subst (λ (m : ℕ). IsAtPlace path file pkg (at ∷ ats) (e ∷ es) from m) (sym next)
-        (rest.0, ap (pieces_of_file path file) is ∙ (skip_file path file e given last after other ∙ rest.1))
+one_found path file pkg (at ∷ ats) (e ∷ es) from k (after, within, same, (given, last, is), others) some =
+    found_by path file pkg ats at e es given last from after (index_in path file es (length ats)) k (has_positions path file e) refl within same is some (λ n there. one_found path file pkg ats es after n others there)

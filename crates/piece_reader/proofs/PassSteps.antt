@@ -1,6 +1,7 @@
 -- One call for the next piece.
 use Rattle.std.proofs.Common.{◌≡◌, ℕ, ◌+◌, ◌<◌, ◌≤◌, Bool, true, false, is_none, is_ok, if◌then◌else◌, List, [], ◌∷◌, ◌++◌, length, Option, Some, None, Result, Ok, Err, refl, ap, sym, subst, ◌∙◌, arith}
-use Rattle.std.specs.Prelude.{IsErrAnd, vec_capacity, vec_len}
+use Rattle.std.specs.Prelude.{IsOk, Vec, vec_capacity, vec_len}
+use Rattle.std.specs.declared.alloc.Global.{Global}
 use Rattle.base_core.specs.declared.cause.Cause.{Cause}
 use Rattle.pkg_core.specs.Contents.{Expected}
 use Rattle.pkg_core.specs.Opened.{expected_of}
@@ -9,8 +10,8 @@ use Rattle.piece_core.specs.declared.part.Part.{Part}
 use Rattle.piece_core.specs.declared.place.BlockPlace.{BlockPlace}
 use Rattle.piece_reader.specs.Blocks.{pieces_from_block}
 use Rattle.piece_reader.specs.Opened.{open_end}
-use Rattle.piece_reader.specs.Passes.{AreFilesAt, AreInPass, HasHandedOut, InFirstPass, IsBegun, IsBegunFrom, IsInFirstPass, IsPackageReading, all_files, all_pieces, pieces_of_first}
-use Rattle.piece_reader.specs.Readers.{AnswersNext, AreFromBlock, AreLeft, GoesOnBehind, HasRefused, IsOfFirstDue, IsReading, due_by, due_files, due_in, offset_in, offset_of, package_len}
+use Rattle.piece_reader.specs.Passes.{AreFilesAt, AreInPass, HasHandedOut, InFirstPass, IsBegun, IsBegunFrom, IsBehindFirst, IsInFirstPass, IsPackageReading, all_files, all_pieces, pieces_of_first}
+use Rattle.piece_reader.specs.Readers.{AnswersNext, AreFromBlock, AreLeft, GoesOnBehind, HasRefused, IsOfFirstDue, IsReading, KeepsBlock, StandsBetween, due_by, due_files, due_in, offset_in, offset_of, package_len}
 use Rattle.piece_reader.specs.declared.fault.PieceFault.{PieceFault}
 use Rattle.piece_reader.specs.declared.fault.PieceFault.TheVariants.{Bad, Disk}
 use Rattle.piece_reader.specs.declared.open.OpenFile.{OpenFile}
@@ -35,56 +36,6 @@ over_again p pkg before is reading =
     let here = subst (λ (pass : Pass). AreInPass pass p pkg before) is reading in
     (here.0, subst (λ (pass : Pass). AreInPass pass p pkg no_piece) (sym is) (refl, here.1))
 
--- ---- a fault
-
-refused_first : (due : Due) (p : PackagePieces) (pkg : List ℕ) (pieces : PiecesRead) (c : Cause) → due ≡ Refused c → InFirstPass due p pkg pieces
-refused_first Files p pkg pieces c is = absurd (cc)
-refused_first Nothing p pkg pieces c is = absurd (cc)
-refused_first (Refused d) p pkg pieces c is = tt
-
-pub err_first : (p q : PackagePieces) (pkg bytes : List ℕ) (before : PiecesRead) (fault : PieceFault) (r : Result (Option Part) PieceFault) → p.pass ≡ First → q.pass ≡ First → HasRefused fault q.reader → IsErrAnd r (λ other. other ≡ fault) → IsPackageReading p pkg before → (IsReading p.reader pkg before → AnswersNext (IsReading q.reader pkg) before bytes (Err fault)) → AnswersNext (IsPackageReading q pkg) before bytes r
-err_first p q pkg bytes before fault (Ok found) is then refused same reading next = absurd same
-err_first p q pkg bytes before Disk (Err (Bad c)) is then refused same reading next = absurd (let e : Bad c ≡ Disk = same in (cc))
-err_first p q pkg bytes before (Bad d) (Err (Bad c)) is then refused same reading next =
-    let e : Bad c ≡ Bad d = same in
-    let cause : d ≡ c = (cc) in
-    let here = subst (λ (pass : Pass). AreInPass pass p pkg before) is reading in
-    subst (λ (x : Cause). (before ≡ refusal x) × IsPackageReading q pkg (refusal x)) cause
-    (let answer = next here.0 in
-    (answer.0, subst (λ (pass : Pass). AreInPass pass q pkg (refusal d)) (sym then) (answer.1, refused_first q.reader.due q pkg (refusal d) d refused)))
-err_first p q pkg bytes before fault (Err Disk) is then refused same reading next = tt
-
-pub err_again : (p q : PackagePieces) (pkg bytes : List ℕ) (before : PiecesRead) (fault : PieceFault) (r : Result (Option Part) PieceFault) → p.pass ≡ OneFile → q.pass ≡ OneFile → (HasHandedOut p pkg → HasHandedOut q pkg) → IsErrAnd r (λ other. other ≡ fault) → IsPackageReading p pkg before → ((all : PiecesRead) → IsReading p.reader pkg all → AnswersNext (IsReading q.reader pkg) all bytes (Err fault)) → AnswersNext (IsPackageReading q pkg) before bytes r
-err_again p q pkg bytes before fault (Ok found) is then handed same reading next = absurd same
-err_again p q pkg bytes before Disk (Err (Bad c)) is then handed same reading next = absurd (let e : Bad c ≡ Disk = same in (cc))
-err_again p q pkg bytes before (Bad d) (Err (Bad c)) is then handed same reading next =
-    let e : Bad c ≡ Bad d = same in
-    let cause : d ≡ c = (cc) in
-    let (all, reads, first, out) = subst (λ (pass : Pass). AreInPass pass p pkg before) is reading in
-    let answer = next all reads in
-    subst (λ (x : Cause). (before ≡ refusal x) × IsPackageReading q pkg (refusal x)) cause
-    (first ∙ ap pieces_of_first answer.0, subst (λ (pass : Pass). AreInPass pass q pkg (refusal d)) (sym then) (refusal d, answer.1, refl, handed out))
-err_again p q pkg bytes before fault (Err Disk) is then handed same reading next = tt
-
--- ---- the end of the first pass
-
-none_open : (opened : Option OpenFile) (place : BlockPlace) (block : ℕ) (pkg : List ℕ) (now from : PiecesRead) → due_in place opened ≡ [] → IsBegunFrom opened (due_in place opened) block pkg now from → now ≡ from
-none_open None place block pkg now from none begun = begun
-none_open (Some o) place block pkg now from none begun = absurd (cc)
-
-ended_by : (due : Due) (p : PackagePieces) (pkg : List ℕ) (before : PiecesRead) → AreLeft due p.reader.place p.reader.opened pkg before → InFirstPass due p pkg before → due_by due p.reader.place p.reader.opened ≡ [] → before ≡ no_piece → HasHandedOut p pkg
-ended_by Files p pkg before left first none is =
-    let now = none_open p.reader.opened p.reader.place p.reader.block pkg before first.from none first.begun in
-    subst (λ (pieces : PiecesRead). AreFilesAt pkg p.blocks.items (all_files p) (all_pieces p pkg) [] pieces) (sym now ∙ is)
-    (subst (λ (es : List Expected). AreFilesAt pkg p.blocks.items (all_files p) (all_pieces p pkg) es first.from) none first.files)
-ended_by Nothing p pkg before left first none is = absurd first
-ended_by (Refused c) p pkg before left first none is = absurd (let e : refusal c ≡ no_piece = sym left ∙ is in (cc))
-
-pub end_first : (p : PackagePieces) (pkg : List ℕ) (before : PiecesRead) → p.pass ≡ First → IsPackageReading p pkg before → due_files p.reader ≡ [] → before ≡ no_piece → HasHandedOut p pkg
-end_first p pkg before is reading none over =
-    let here = subst (λ (pass : Pass). AreInPass pass p pkg before) is reading in
-    ended_by p.reader.due p pkg before here.0 here.1 none over
-
 -- ---- a piece of the first pass
 
 begun_block : (opened : Option OpenFile) (es : List Expected) (block : ℕ) (pkg : List ℕ) (now from : PiecesRead) → IsBegunFrom opened es block pkg now from → AreFromBlock opened es block pkg now from
@@ -108,23 +59,118 @@ open_no_more None es block pkg now none = refl
 open_no_more (Some o) es block pkg now none = absurd (cc)
 
 -- what a call for a piece of the first pass made of the reader
-pub record IsReadFirst (p q : PackagePieces) (pkg : List ℕ) (before : PiecesRead) (part : Part) (bytes : List ℕ) (after : PiecesRead) : Type 0 where
-  pub long : length pkg ≡ q.reader.place.len
+record IsReadFirst (p : PackagePieces) (r : PieceReader) (pkg : List ℕ) (before : PiecesRead) (part : Part) (bytes : List ℕ) (after : PiecesRead) : Type 0 where
   pub first : before ≡ piece part bytes after
-  pub order : IsOfFirstDue (due_in p.reader.place p.reader.opened) part (due_in q.reader.place q.reader.opened)
-  pub open_file : is_none q.reader.opened ≡ part.last
-  pub block : (from : PiecesRead) → AreFromBlock p.reader.opened (due_in p.reader.place p.reader.opened) p.reader.block pkg before from → pieces_from_block (due_in p.reader.place p.reader.opened) q.reader.block pkg ≡ from
+  pub order : IsOfFirstDue (due_in p.reader.place p.reader.opened) part (due_in r.place r.opened)
+  pub open_file : is_none r.opened ≡ part.last
+  pub block : (from : PiecesRead) → AreFromBlock p.reader.opened (due_in p.reader.place p.reader.opened) p.reader.block pkg before from → pieces_from_block (due_in p.reader.place p.reader.opened) r.block pkg ≡ from
 
-pub first_more : (p q : PackagePieces) (pkg : List ℕ) (before : PiecesRead) (part : Part) (bytes : List ℕ) (after : PiecesRead) → IsReadFirst p q pkg before part bytes after → part.last ≡ false → q.blocks ≡ p.blocks → all_files q ≡ all_files p → all_pieces q pkg ≡ all_pieces p pkg → IsInFirstPass p pkg before → IsInFirstPass q pkg after
-first_more p q pkg before part bytes after read not_last blocks files all first =
+first_more : (p : PackagePieces) (r : PieceReader) (pkg : List ℕ) (before : PiecesRead) (part : Part) (bytes : List ℕ) (after : PiecesRead) → IsReadFirst p r pkg before part bytes after → part.last ≡ false → IsInFirstPass p pkg before → IsInFirstPass (record p { reader = r }) pkg after
+first_more p r pkg before part bytes after read not_last first =
     let order = read.order in
-    let left : due_in q.reader.place q.reader.opened ≡ due_in p.reader.place p.reader.opened = order.left ∙ (ap (λ (b : Bool). if b then order.others else (order.first ∷ order.others)) not_last ∙ sym order.due) in
+    let left : due_in r.place r.opened ≡ due_in p.reader.place p.reader.opened = order.left ∙ (ap (λ (b : Bool). if b then order.others else (order.first ∷ order.others)) not_last ∙ sym order.due) in
     let of_file : part ≡ part_of order.first false = order.of_first ∙ ap (part_of order.first) not_last in
     let begun = one_piece_more order.first first.from before bytes after (begun_file p.reader.opened p.reader.place p.reader.block pkg before first.from order.first order.others order.due first.begun) (read.first ∙ ap (λ (x : Part). piece x bytes after) of_file) in
-    let block = read.block first.from (begun_block p.reader.opened _ p.reader.block pkg before first.from first.begun) in
+    let block = read.block first.from (begun_block p.reader.opened (due_in p.reader.place p.reader.opened) p.reader.block pkg before first.from first.begun) in
     record {
       from = first.from;
-      files = ?;
-      begun = open_still q.reader.opened q.reader.place q.reader.block pkg after first.from order.first order.others (read.open_file ∙ not_last) (left ∙ order.due) (ap (λ (es : List Expected). pieces_from_block es q.reader.block pkg) left ∙ block) begun;
-      room = ?;
+      files = subst (λ (es : List Expected). AreFilesAt pkg p.blocks.items (all_files p) (all_pieces p pkg) es first.from) (sym left) first.files;
+      begun = open_still r.opened r.place r.block pkg after first.from order.first order.others (read.open_file ∙ not_last) (left ∙ order.due) (ap (λ (es : List Expected). pieces_from_block es r.block pkg) left ∙ block) begun;
+      room = subst (λ (es : List Expected). vec_len p.blocks + length es ≤ vec_capacity p.blocks) (sym left) first.room;
     }
+
+-- the number of a block was kept
+pub record IsKept (before after : Vec ℕ Global) (block : ℕ) : Type 0 where
+  pub items : after.items ≡ before.items ++ block ∷ []
+  pub len : vec_len after ≡ vec_len before + 1
+  pub capacity : vec_capacity before ≤ vec_capacity after
+
+first_last : (p : PackagePieces) (r : PieceReader) (blocks : Vec ℕ Global) (pkg : List ℕ) (before : PiecesRead) (part : Part) (bytes : List ℕ) (after : PiecesRead) → length pkg ≡ r.place.len → IsReadFirst p r pkg before part bytes after → part.last ≡ true → (vec_len p.blocks < vec_capacity p.blocks → IsKept p.blocks blocks r.block) → IsInFirstPass p pkg before → IsInFirstPass (record p { reader = r; blocks = blocks }) pkg after
+first_last p r blocks pkg before part bytes after long read is_last keep first =
+    let order = read.order in
+    let es : List Expected = due_in p.reader.place p.reader.opened in
+    let left : due_in r.place r.opened ≡ order.others = order.left ∙ ap (λ (b : Bool). if b then order.others else (order.first ∷ order.others)) is_last in
+    let of_file : part ≡ part_of order.first true = order.of_first ∙ ap (part_of order.first) is_last in
+    let handed = last_piece_too order.first first.from before bytes after (begun_file p.reader.opened p.reader.place p.reader.block pkg before first.from order.first order.others order.due first.begun) (read.first ∙ ap (λ (x : Part). piece x bytes after) of_file) in
+    let block = read.block first.from (begun_block p.reader.opened es p.reader.block pkg before first.from first.begun) in
+    let count : length es ≡ length order.others + 1 = ap length order.due ∙ length_more order.first order.others in
+    let kept = keep (omega (arith, first.room, count)) in
+    let within : r.block ≤ length pkg = omega (arith, r.begun, long) in
+    let files = one_file_more pkg p.blocks.items r.block (all_files p) (all_pieces p pkg) es order.first order.others first.from after order.due within block handed first.files in
+    let fewer : length (due_in r.place r.opened) ≡ length order.others = ap length left in
+    record {
+      from = after;
+      files = subst (λ (xs : List Expected). AreFilesAt pkg blocks.items (all_files p) (all_pieces p pkg) xs after) (sym left) (subst (λ (ats : List ℕ). AreFilesAt pkg ats (all_files p) (all_pieces p pkg) order.others after) (sym kept.items) files);
+      begun = open_no_more r.opened (due_in r.place r.opened) r.block pkg after (read.open_file ∙ is_last);
+      room = omega (arith, first.room, count, kept.len, kept.capacity, fewer);
+    }
+  where
+    length_more : (e : Expected) (others : List Expected) → length (e ∷ others) ≡ length others + 1
+    length_more e others = omega arith
+
+-- what is said of the reader, where it goes on
+read_of : (p : PackagePieces) (r : PieceReader) (pkg : List ℕ) (before : PiecesRead) (part : Part) (bytes : List ℕ) (after : PiecesRead) → GoesOnBehind part p.reader r → IsOfFirstDue (due_files p.reader) part (due_files r) → before ≡ piece part bytes after → KeepsBlock p.reader pkg before (Some part) r → IsReadFirst p r pkg before part bytes after
+read_of p r pkg before part bytes after goes order first keeps =
+    let old : due_files p.reader ≡ due_in p.reader.place p.reader.opened = ap (λ (d : Due). due_by d p.reader.place p.reader.opened) goes.before in
+    let new : due_files r ≡ due_in r.place r.opened = ap (λ (d : Due). due_by d r.place r.opened) goes.after in
+    record {
+      first = first;
+      order = subst (λ (es : List Expected). IsOfFirstDue es part (due_in r.place r.opened)) old (subst (λ (es : List Expected). IsOfFirstDue (due_files p.reader) part es) new order);
+      open_file = goes.open_file;
+      block = keeps;
+    }
+
+in_first : (p : PackagePieces) (pkg : List ℕ) (before : PiecesRead) → p.pass ≡ First → p.reader.due ≡ Files → IsPackageReading p pkg before → IsReading p.reader pkg before × IsInFirstPass p pkg before
+in_first p pkg before is due reading =
+    let here = subst (λ (pass : Pass). AreInPass pass p pkg before) is reading in
+    (here.0, subst (λ (d : Due). InFirstPass d p pkg before) due here.1)
+
+to_first : (q : PackagePieces) (pkg : List ℕ) (after : PiecesRead) → q.pass ≡ First → q.reader.due ≡ Files → IsReading q.reader pkg after → IsInFirstPass q pkg after → IsPackageReading q pkg after
+to_first q pkg after is due reading first =
+    subst (λ (pass : Pass). AreInPass pass q pkg after) (sym is) (reading, subst (λ (d : Due). InFirstPass d q pkg after) (sym due) first)
+
+-- what a call of the reader says of the next piece
+abbrev pub SaysNext : PieceReader → PieceReader → List ℕ → List ℕ → Part → Type 0
+SaysNext old new pkg bytes part = (before : PiecesRead) → IsReading old pkg before
+    → AnswersNext (IsReading new pkg) before bytes (Ok (Some part)) × KeepsBlock old pkg before (Some part) new
+
+pub goes_on_first : (p : PackagePieces) (r : PieceReader) (pkg bytes : List ℕ) (before : PiecesRead) (part : Part) → p.pass ≡ First → part.last ≡ false → GoesOnBehind part p.reader r → IsOfFirstDue (due_files p.reader) part (due_files r) → SaysNext p.reader r pkg bytes part → IsPackageReading p pkg before → AnswersNext (IsPackageReading (record p { reader = r }) pkg) before bytes (Ok (Some part))
+goes_on_first p r pkg bytes before part is not_last goes order says reading =
+    let (reads, first) = in_first p pkg before is goes.before reading in
+    let ((after, same, then), keeps) = says before reads in
+    (after, same, to_first (record p { reader = r }) pkg after is goes.after then (first_more p r pkg before part bytes after (read_of p r pkg before part bytes after goes order same keeps) not_last first))
+
+pub ends_file_first : (p : PackagePieces) (r : PieceReader) (blocks : Vec ℕ Global) (pkg bytes : List ℕ) (before : PiecesRead) (part : Part) → p.pass ≡ First → part.last ≡ true → length pkg ≡ r.place.len → (vec_len p.blocks < vec_capacity p.blocks → IsKept p.blocks blocks r.block) → GoesOnBehind part p.reader r → IsOfFirstDue (due_files p.reader) part (due_files r) → SaysNext p.reader r pkg bytes part → IsPackageReading p pkg before → AnswersNext (IsPackageReading (record p { reader = r; blocks = blocks }) pkg) before bytes (Ok (Some part))
+ends_file_first p r blocks pkg bytes before part is is_last long keep goes order says reading =
+    let (reads, first) = in_first p pkg before is goes.before reading in
+    let ((after, same, then), keeps) = says before reads in
+    (after, same, to_first (record p { reader = r; blocks = blocks }) pkg after is goes.after then (first_last p r blocks pkg before part bytes after long (read_of p r pkg before part bytes after goes order same keeps) is_last keep first))
+
+pub kept_by : {A E : Type 0} (before after : Vec ℕ Global) (block : ℕ) (r : Result A E) → IsOk r → after.items ≡ (if is_ok r then before.items ++ block ∷ [] else before.items) → vec_len after ≡ (if is_ok r then vec_len before + 1 else vec_len before) → vec_capacity before ≤ vec_capacity after → IsKept before after block
+kept_by before after block r good items len capacity =
+    record {
+      items = items ∙ ap (λ (b : Bool). if b then before.items ++ block ∷ [] else before.items) good;
+      len = len ∙ ap (λ (b : Bool). if b then vec_len before + 1 else vec_len before) good;
+      capacity = capacity;
+    }
+
+-- ---- going to a file
+
+pub handed_out : (pass : Pass) (p : PackagePieces) (pkg : List ℕ) (before : PiecesRead) → IsBehindFirst pass → AreInPass pass p pkg before → HasHandedOut p pkg
+handed_out First p pkg before over are = absurd over
+handed_out OneFile p pkg before over (all, reads, first, out) = out
+handed_out Over p pkg before over are = are.1
+
+-- ---- the start
+
+pub starts : (p : PackagePieces) (pkg : List ℕ) → StandsBetween p.reader → due_files p.reader ≡ all_files p → p.blocks.items ≡ [] → vec_len p.blocks + length (all_files p) ≤ vec_capacity p.blocks → IsReading p.reader pkg (all_pieces p pkg) → AreInPass First p pkg (all_pieces p pkg)
+starts p pkg between files empty room reading =
+    let all : PiecesRead = all_pieces p pkg in
+    let due : due_in p.reader.place p.reader.opened ≡ all_files p = sym (ap (λ (d : Due). due_by d p.reader.place p.reader.opened) between.0) ∙ files in
+    let first : IsInFirstPass p pkg all = record {
+      from = all;
+      files = subst (λ (ats : List ℕ). AreFilesAt pkg ats (all_files p) all (due_in p.reader.place p.reader.opened) all) (sym empty) (sym due, refl);
+      begun = open_no_more p.reader.opened (due_in p.reader.place p.reader.opened) p.reader.block pkg all (ap is_none between.1);
+      room = subst (λ (es : List Expected). vec_len p.blocks + length es ≤ vec_capacity p.blocks) (sym due) room;
+    } in
+    (reading, subst (λ (d : Due). InFirstPass d p pkg all) (sym between.0) first)
