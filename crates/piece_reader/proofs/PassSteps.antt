@@ -137,14 +137,14 @@ SaysNext old new pkg bytes part = (before : PiecesRead) → IsReading old pkg be
 pub goes_on_first : (p : PackagePieces) (r : PieceReader) (pkg bytes : List ℕ) (before : PiecesRead) (part : Part) → p.pass ≡ First → part.last ≡ false → GoesOnBehind part p.reader r → IsOfFirstDue (due_files p.reader) part (due_files r) → SaysNext p.reader r pkg bytes part → IsPackageReading p pkg before → AnswersNext (IsPackageReading (record p { reader = r }) pkg) before bytes (Ok (Some part))
 goes_on_first p r pkg bytes before part is not_last goes order says reading =
     let (reads, first) = in_first p pkg before is goes.before reading in
-    let ((after, same, then), keeps) = says before reads in
-    (after, same, to_first (record p { reader = r }) pkg after is goes.after then (first_more p r pkg before part bytes after (read_of p r pkg before part bytes after goes order same keeps) not_last first))
+    let ((after, same, left), keeps) = says before reads in
+    (after, same, to_first (record p { reader = r }) pkg after is goes.after left (first_more p r pkg before part bytes after (read_of p r pkg before part bytes after goes order same keeps) not_last first))
 
 pub ends_file_first : (p : PackagePieces) (r : PieceReader) (blocks : Vec ℕ Global) (pkg bytes : List ℕ) (before : PiecesRead) (part : Part) → p.pass ≡ First → part.last ≡ true → length pkg ≡ r.place.len → (vec_len p.blocks < vec_capacity p.blocks → IsKept p.blocks blocks r.block) → GoesOnBehind part p.reader r → IsOfFirstDue (due_files p.reader) part (due_files r) → SaysNext p.reader r pkg bytes part → IsPackageReading p pkg before → AnswersNext (IsPackageReading (record p { reader = r; blocks = blocks }) pkg) before bytes (Ok (Some part))
 ends_file_first p r blocks pkg bytes before part is is_last long keep goes order says reading =
     let (reads, first) = in_first p pkg before is goes.before reading in
-    let ((after, same, then), keeps) = says before reads in
-    (after, same, to_first (record p { reader = r; blocks = blocks }) pkg after is goes.after then (first_last p r blocks pkg before part bytes after long (read_of p r pkg before part bytes after goes order same keeps) is_last keep first))
+    let ((after, same, left), keeps) = says before reads in
+    (after, same, to_first (record p { reader = r; blocks = blocks }) pkg after is goes.after left (first_last p r blocks pkg before part bytes after long (read_of p r pkg before part bytes after goes order same keeps) is_last keep first))
 
 pub kept_by : {A E : Type 0} (before after : Vec ℕ Global) (block : ℕ) (r : Result A E) → IsOk r → after.items ≡ (if is_ok r then before.items ++ block ∷ [] else before.items) → vec_len after ≡ (if is_ok r then vec_len before + 1 else vec_len before) → vec_capacity before ≤ vec_capacity after → IsKept before after block
 kept_by before after block r good items len capacity =

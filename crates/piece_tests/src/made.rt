@@ -1,6 +1,6 @@
 //! Packages of several files.
 
-ghost use Rattle.std.specs.Prelude.{◌<◌, ◌^◌};
+ghost use Rattle.std.specs.Prelude.{◌<◌, ◌^◌, length};
 
 use adb_schema::PACKAGE_WORD;
 use sha1::Sha1;
@@ -41,19 +41,31 @@ pub(crate) fn package_of(alloc: Global, sizes: &[u32], flaw: Flaw) -> Result<Vec
     let payload = payload_of(alloc, sizes)?;
     add_block(&mut file, 0, &payload)?;
     for i in 0..sizes.len() {
-        let is_last = i + 1 == sizes.len();
-        let contents = match flaw {
-            Flaw::Repeated if is_last => contents_of(alloc, 0, sizes[0])?,
-            _ => contents_of(alloc, i, sizes[i])?,
-        };
-        let contents = if is_last {
-            flawed(alloc, &contents, flaw)?
-        } else {
-            contents
-        };
-        add_block(&mut file, 2, &contents)?;
+        if sizes[i] > 0 {
+            let flaw = if i + 1 == sizes.len() { flaw } else { Flaw::None };
+            let contents = contents_with(alloc, sizes, i, flaw)?;
+            add_block(&mut file, 2, &contents)?;
+        }
     }
     Ok(file)
+}
+
+/// The payload of the contents of the file at a place, counted from 0, with a flaw.
+fn contents_with(
+    alloc: Global,
+    sizes: &[u32],
+    i: usize,
+    flaw: Flaw,
+) -> Result<Vec<u8>, AllocError>
+    requires { i < length sizes.now }
+{
+    match flaw {
+        Flaw::Repeated => contents_of(alloc, 0, sizes[0]),
+        _ => {
+            let contents = contents_of(alloc, i, sizes[i])?;
+            flawed(alloc, &contents, flaw)
+        }
+    }
 }
 
 /// The payload of the contents of the file that so many stand in front of.
