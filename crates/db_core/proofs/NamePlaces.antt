@@ -17,20 +17,20 @@ use Rattle.list_order.proofs.Sorting.{Each, Rises, ranks, rises_sorted, sorted_u
 use Rattle.adb_view.specs.Plain.{Plain, Plains, none, more}
 use Rattle.adb_tables.specs.Values.{count_of, nth}
 use Rattle.adb_fields.specs.Repeated.{list_of, package_name}
-use Rattle.db_core.specs.NamePlaces.{PlacedName, name_cmp, names_in_order, place_named, placed_names_from}
+use Rattle.db_core.specs.NamePlaces.{PlacedName, placed_name_cmp, placed_names_in_order, place_named, placed_names_from}
 use Rattle.db_core.specs.NameSeen.{name_seen}
 use Rattle.db_core.specs.Packages.{is_package_named}
 use Rattle.db_core.specs.declared.name_places.NamePlace.{NamePlace}
 
-pub names_total : IsTotalOrder name_cmp
-unfolding name_cmp
+pub names_total : IsTotalOrder placed_name_cmp
+unfolding placed_name_cmp
 names_total = on_total (λ n. n.name) nat_list_cmp_total
 
 abbrev pub is_named : List ℕ → PlacedName → Bool
 is_named q n = bytes_eq n.name q
 
 abbrev pub is_below : PlacedName → PlacedName → Bool
-is_below x y = is_lt (name_cmp x y)
+is_below x y = is_lt (placed_name_cmp x y)
 
 -- ---- order among texts
 
@@ -72,19 +72,19 @@ cond_swap : (a b : Bool) (x y : PlacedName) (r : Option PlacedName) → (a ≡ t
 cond_swap true b x y r f = ap (λ t. cond t (Some y) (Some x)) (f refl)
 cond_swap false b x y r f = refl
 
-found_put : (q : List ℕ) (x : PlacedName) (ys : List PlacedName) → find (is_named q) (with_element name_cmp x ys) ≡ cond (is_named q x) (Some x) (find (is_named q) ys)
-unfolding name_cmp
+found_put : (q : List ℕ) (x : PlacedName) (ys : List PlacedName) → find (is_named q) (with_element placed_name_cmp x ys) ≡ cond (is_named q x) (Some x) (find (is_named q) ys)
+unfolding placed_name_cmp
 found_put q x [] = refl
-found_put q x (y ∷ ys) = go (is_gt (name_cmp x y)) refl (found_put q x ys)
+found_put q x (y ∷ ys) = go (is_gt (placed_name_cmp x y)) refl (found_put q x ys)
   where
-    go : (t : Bool) → is_gt (name_cmp x y) ≡ t → find (is_named q) (with_element name_cmp x ys) ≡ cond (is_named q x) (Some x) (find (is_named q) ys)
-        → find (is_named q) (if t then y ∷ with_element name_cmp x ys else x ∷ y ∷ ys) ≡ cond (is_named q x) (Some x) (cond (is_named q y) (Some y) (find (is_named q) ys))
+    go : (t : Bool) → is_gt (placed_name_cmp x y) ≡ t → find (is_named q) (with_element placed_name_cmp x ys) ≡ cond (is_named q x) (Some x) (find (is_named q) ys)
+        → find (is_named q) (if t then y ∷ with_element placed_name_cmp x ys else x ∷ y ∷ ys) ≡ cond (is_named q x) (Some x) (cond (is_named q y) (Some y) (find (is_named q) ys))
     go true g r = ap (λ o. cond (is_named q y) (Some y) o) r ∙ cond_swap (is_named q x) (is_named q y) x y (find (is_named q) ys) (behind_other x.name y.name q g)
     go false g r = refl
 
-found_sorted : (q : List ℕ) (xs : List PlacedName) → find (is_named q) (sorted_by name_cmp xs) ≡ find (is_named q) xs
+found_sorted : (q : List ℕ) (xs : List PlacedName) → find (is_named q) (sorted_by placed_name_cmp xs) ≡ find (is_named q) xs
 found_sorted q [] = refl
-found_sorted q (x ∷ xs) = found_put q x (sorted_by name_cmp xs) ∙ ap (λ o. cond (is_named q x) (Some x) o) (found_sorted q xs)
+found_sorted q (x ∷ xs) = found_put q x (sorted_by placed_name_cmp xs) ∙ ap (λ o. cond (is_named q x) (Some x) o) (found_sorted q xs)
 
 found_place : (q : List ℕ) (n : ℕ) (pkgs : List Plain) → place_named q (placed_names_from n pkgs) ≡ position_from (is_package_named q) n pkgs
 found_place q n [] = refl
@@ -96,13 +96,13 @@ found_place q n (pkg ∷ pkgs) = go (is_package_named q pkg) (found_place q (n +
     go false r = r
 
 -- the place that is found is that of the first package with the name
-pub place_in_order : (q : List ℕ) (pkgs : List Plain) → place_named q (names_in_order pkgs) ≡ position_from (is_package_named q) 0 pkgs
+pub place_in_order : (q : List ℕ) (pkgs : List Plain) → place_named q (placed_names_in_order pkgs) ≡ position_from (is_package_named q) 0 pkgs
 place_in_order q pkgs = ap (option_map (λ m. m.place)) (found_sorted q (placed_names_from 0 pkgs)) ∙ found_place q 0 pkgs
 
 -- ---- where a name stands
 
 none_named : (q : List ℕ) (x : PlacedName) (ys : List PlacedName) → is_lt (bytes_cmp q x.name) ≡ true → Each (λ y. is_below y x ≡ false) ys → find (is_named q) ys ≡ None
-unfolding name_cmp
+unfolding placed_name_cmp
 none_named q x [] h up = refl
 none_named q x (y ∷ ys) h up = ap (λ t. cond t (Some y) (find (is_named q) ys)) (go (is_named q y) refl) ∙ none_named q x ys h up.1
   where
@@ -115,7 +115,7 @@ abbrev at_place : List ℕ → Option PlacedName → Option PlacedName
 at_place q None = None
 at_place q (Some n) = cond (is_named q n) (Some n) None
 
-parted : (q : List ℕ) (xs : List PlacedName) (i : ℕ) → Rises is_below (ranks name_cmp names_total) xs
+parted : (q : List ℕ) (xs : List PlacedName) (i : ℕ) → Rises is_below (ranks placed_name_cmp names_total) xs
     → ((k : ℕ) (d : PlacedName) → k < i → precedes (get_or xs k d).name q ≡ true)
     → ((k : ℕ) (d : PlacedName) → i ≤ k → k < length xs → precedes (get_or xs k d).name q ≡ false)
     → find (is_named q) xs ≡ at_place q (slice_get xs i)
@@ -136,14 +136,14 @@ seen_within P [] k d l h = absurd (omega arith)
 seen_within P (n ∷ ns) zero d l h = h n
 seen_within P (n ∷ ns) (suc k) d l h = seen_within P ns k d (omega arith) h
 
-pub names_parted : (ns : List NamePlace) (q : List ℕ) → IsSorted name_cmp (map name_seen ns) → IsPartitionedBy (λ n. precedes n.name.now q) ns
-unfolding name_cmp
+pub names_parted : (ns : List NamePlace) (q : List ℕ) → IsSorted placed_name_cmp (map name_seen ns) → IsPartitionedBy (λ n. precedes n.name.now q) ns
+unfolding placed_name_cmp
 names_parted ns q up i j d le l h = go (precedes (get_or ns i d).name.now q) refl
   where
     far : is_lt (bytes_cmp (get_or ns j d).name.now (get_or ns i d).name.now) ≡ false
     far =
         let long : j < length (map name_seen ns) = omega (arith, l, length-map ns name_seen) in
-        let seen = sorted_far is_below (ranks name_cmp names_total) (map name_seen ns) up i j (name_seen d) le long in
+        let seen = sorted_far is_below (ranks placed_name_cmp names_total) (map name_seen ns) up i j (name_seen d) le long in
         sym (λ t. is_below (get_or-map name_seen ns j d (name_seen d) l t) (get_or-map name_seen ns i d (name_seen d) (omega (arith, le, l)) t)) ∙ seen
 
     go : (t : Bool) → precedes (get_or ns i d).name.now q ≡ t → t ≡ true
@@ -157,12 +157,12 @@ point_seen ns q i l (low, high) = (
   λ k d f g. let h : k < length ns = omega (arith, g, length-map ns name_seen) in seen_within (λ n. precedes n.name q ≡ false) ns k d h (λ e. high k e f h),
 )
 
-module _ (ns : List NamePlace) (q : List ℕ) (i : ℕ) (up : IsSorted name_cmp (map name_seen ns))
+module _ (ns : List NamePlace) (q : List ℕ) (i : ℕ) (up : IsSorted placed_name_cmp (map name_seen ns))
     (point : IsPartitionPoint (λ n. precedes n.name q ≡ true) (λ n. precedes n.name q ≡ false) (map name_seen ns) i) where
   found_at : place_named q (map name_seen ns) ≡ option_map (λ n. n.place) (at_place q (slice_get (map name_seen ns) i))
   found_at =
       ap (option_map (λ n. n.place))
-      (parted q (map name_seen ns) i (rises_sorted is_below (ranks name_cmp names_total) (map name_seen ns) up) (λ k d l. point.0 k d (omega arith) l) point.1)
+      (parted q (map name_seen ns) i (rises_sorted is_below (ranks placed_name_cmp names_total) (map name_seen ns) up) (λ k d l. point.0 k d (omega arith) l) point.1)
 
   past : (xs : List NamePlace) (k : ℕ) → length xs ≤ k → slice_get (map name_seen xs) k ≡ None
   past [] k l = refl
@@ -243,8 +243,8 @@ names_added ns vs i h inv = sym (none_behind (map name_seen ns)) ∙ (ap (λ r. 
 
 -- ---- in a database
 
-pub names_sorted : (pkgs : List Plain) (names : List PlacedName) → names ≡ names_in_order pkgs → IsSorted name_cmp names
-names_sorted pkgs names e = subst (IsSorted name_cmp) (sym e) (sorted_up name_cmp names_total (placed_names_from 0 pkgs))
+pub names_sorted : (pkgs : List Plain) (names : List PlacedName) → names ≡ placed_names_in_order pkgs → IsSorted placed_name_cmp names
+names_sorted pkgs names e = subst (IsSorted placed_name_cmp) (sym e) (sorted_up placed_name_cmp names_total (placed_names_from 0 pkgs))
 
 pub within : (p : Plain → Bool) (n : ℕ) (pkgs : List Plain) → IfSome (position_from p n pkgs) (λ i. i < n + length pkgs)
 within p n [] = tt

@@ -1,5 +1,5 @@
 -- The names of packages in byte order, among which one is found.
-use Rattle.std.specs.Prelude.{ℕ, ◌+◌, Bool, List, [], ◌∷◌, Option, bytes_eq, option_map}
+use Rattle.std.specs.Prelude.{ℕ, ◌+◌, List, [], ◌∷◌, Option, bytes_eq, option_map}
 use Rattle.std.specs.List.{find}
 use Rattle.std.specs.Ordering.{on}
 use Rattle.std.specs.declared.cmp.Ordering.{Ordering}
@@ -20,12 +20,12 @@ placed_names_from place (pkg ∷ packages) =
     record { name = package_name pkg; place = place } ∷ placed_names_from (place + 1) packages
 
 -- by name
-unfoldable pub name_cmp : PlacedName → PlacedName → Ordering
-name_cmp = on (λ n. n.name) bytes_cmp
+unfoldable pub placed_name_cmp : PlacedName → PlacedName → Ordering
+placed_name_cmp = on (λ n. n.name) bytes_cmp
 
 -- those of packages, in byte order
-abbrev pub names_in_order : List Plain → List PlacedName
-names_in_order packages = sorted_by name_cmp (placed_names_from 0 packages)
+abbrev pub placed_names_in_order : List Plain → List PlacedName
+placed_names_in_order packages = sorted_by placed_name_cmp (placed_names_from 0 packages)
 
 -- the place beside the first name that is this one
 abbrev pub place_named : List ℕ → List PlacedName → Option ℕ

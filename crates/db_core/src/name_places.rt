@@ -3,7 +3,7 @@ ghost use Rattle.adb_fields.specs.ListValue.{list_value};
 ghost use Rattle.adb_fields.specs.Repeated.{list_of, package_name};
 ghost use Rattle.adb_schema.specs.Views.{package_value};
 ghost use Rattle.adb_tables.specs.Values.{count_of, entries_in, entry_in};
-ghost use Rattle.db_core.specs.NamePlaces.{name_cmp, names_in_order, place_named, placed_names_from};
+ghost use Rattle.db_core.specs.NamePlaces.{placed_name_cmp, placed_names_in_order, place_named, placed_names_from};
 ghost use Rattle.db_core.specs.NameSeen.{name_seen};
 ghost use Rattle.list_order.specs.ByteOrder.{precedes};
 ghost use Rattle.list_order.specs.Sorted.{sorted_by};
@@ -26,7 +26,7 @@ pub(crate) fn sorted_names<'a>(
     packages: &List<'a, PackageView<'a>>,
 ) -> Result<Vec<NamePlace<'a>>, AllocError>
     ensures { IfOk result (λ names. map name_seen names.items
-        ≡ names_in_order (list_of (entries_in (list_value packages.now)))) }
+        ≡ placed_names_in_order (list_of (entries_in (list_value packages.now)))) }
 {
     let mut names = names_of(alloc, packages)?;
     sort_names(&mut names)?;
@@ -64,7 +64,7 @@ fn name_at<'a>(packages: &List<'a, PackageView<'a>>, i: usize) -> &'a [u8]
 /// Puts names into byte order. Equal ones stay in theirs.
 fn sort_names(names: &mut Vec<NamePlace<'_>>) -> Result<(), AllocError>
     ensures { IfOk result (λ _. map name_seen names.new.items
-        ≡ sorted_by name_cmp (map name_seen names.old.items)) }
+        ≡ sorted_by placed_name_cmp (map name_seen names.old.items)) }
 {
     names.sort_by(|one, other| one.name.cmp(&other.name))?;
     Ok(())
@@ -72,7 +72,7 @@ fn sort_names(names: &mut Vec<NamePlace<'_>>) -> Result<(), AllocError>
 
 /// How many names come before this one, where they are in order.
 fn count_before(names: &[NamePlace<'_>], name: &[u8]) -> usize
-    requires { IsSorted name_cmp (map name_seen names.now) }
+    requires { IsSorted placed_name_cmp (map name_seen names.now) }
     ensures within { result ≤ length names.now }
     ensures point { IsPartitionPoint (λ n. precedes n.name name.now ≡ true)
         (λ n. precedes n.name name.now ≡ false) (map name_seen names.now) result }
@@ -82,7 +82,7 @@ fn count_before(names: &[NamePlace<'_>], name: &[u8]) -> usize
 
 /// The place of the first of the packages with this name, where the names are in order.
 pub(crate) fn place_of(names: &[NamePlace<'_>], name: &[u8]) -> Option<usize>
-    requires { IsSorted name_cmp (map name_seen names.now) }
+    requires { IsSorted placed_name_cmp (map name_seen names.now) }
     ensures { result ≡ place_named name.now (map name_seen names.now) }
 {
     let at = count_before(names, name);

@@ -1,5 +1,5 @@
 -- The files of a package that stays are added.
-use Rattle.std.proofs.Common.{◌≡◌, ℕ, List, map, Option, Some, None, ◌∙◌, ap, sym, subst}
+use Rattle.std.proofs.Common.{◌≡◌, ℕ, List, map, Option, Some, None, ◌∙◌, ap, sym}
 use Rattle.std.specs.Prelude.{option_map, slice_get, IfOk, Result, Ok, Err}
 use Rattle.std.proofs.lemmas.Option.{slice_get-map}
 use Rattle.adb_view.specs.Plain.{Plain}

@@ -23,10 +23,7 @@ use std::marker::PhantomData;
 /// # Errors
 ///
 /// Want of memory.
-pub fn claims_in_database<'a>(
-    alloc: Global,
-    db: &Db<'a>,
-) -> Result<Vec<Claim<'a>>, AllocError>
+pub fn claims_in_database<'a>(alloc: Global, db: &Db<'a>) -> Result<Vec<Claim<'a>>, AllocError>
     ensures { IfOk result (λ claims. map claim_seen claims.items
         ≡ sorted_by claim_cmp (claims_in (map staying_member (packages_of db.now)))) }
 {

@@ -1,3 +1,8 @@
 pub mod BlockSeen
 pub mod PieceRead
 pub mod BlockStepped
+pub mod FilesFound
+pub mod Readings
+pub mod FilesInOrder
+pub mod HandedOut
+pub mod PassSteps

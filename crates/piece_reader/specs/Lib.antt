@@ -2,3 +2,6 @@
 -- what only inner contracts and proofs use
 pub mod Blocks
 pub mod Opened
+pub mod Readers
+pub mod FilePlaces
+pub mod Passes

@@ -2,9 +2,9 @@
 
 ghost use Rattle.std.specs.Prelude.{◌≡◌, ◌≤◌, ◌<◌, ◌+◌, ◌^◌, ℕ, List, length, IfOk, IfSome};
 ghost use Rattle.piece_core.specs.Pieces.{PiecesRead};
-ghost use Rattle.piece_core.specs.Taking.{file_bytes_left};
+ghost use Rattle.piece_core.specs.Taking.{file_bytes_left, next_len};
 ghost use Rattle.pkg_pieces.specs.Seen.{HasAt, IsSeen, ReadsFile};
-ghost use Rattle.piece_reader.specs.Opened.{IsNextPiece, IsOpenFile, NotDisk};
+ghost use Rattle.piece_reader.specs.Opened.{IsNextPiece, IsOpenFile, IsPieceOf, NotDisk};
 ghost use Rattle.piece_reader.specs.declared.fault.PieceFault.TheVariants.{Disk as DiskFault};
 
 use crate::fault::PieceFault;
@@ -15,7 +15,7 @@ use piece_core::{FilePieces, Part};
 /// A file of a package whose pieces are being read, and the offset of its next byte in the package.
 /// Contracts see, by `Opened` of `specs/`, which bytes of the package are still to come.
 #[derive(Drop)]
-pub struct OpenFile<'a> {
+pub(crate) struct OpenFile<'a> {
     pub(crate) file: FilePieces<'a>,
     pub(crate) at: u64,
 }
@@ -29,7 +29,7 @@ impl<'a> OpenFile<'a> {
     ///
     /// `Bad` with `HashDiffers`, behind the last piece, where all bytes together do not have the
     /// file's digest, or `Disk` where the tree failed.
-    pub fn next_piece<T: Tree>(
+    pub(crate) fn next_piece<T: Tree>(
         self,
         tree: &mut T,
         name: &Name,
@@ -44,6 +44,8 @@ impl<'a> OpenFile<'a> {
             → self.entry.at + file_bytes_left self.entry.file ≤ length file
             → IsOpenFile self.entry so_far file further before
             → IsNextPiece so_far file piece.new further before result }
+        ensures len { NotDisk result → length piece.new ≡ next_len self.entry.file }
+        ensures part { IfOk result (IsPieceOf self.entry (length piece.new)) }
         ensures room { IfOk result (λ read. IfSome read.1 (λ further.
             further.at + file_bytes_left further.file ≡ self.entry.at + file_bytes_left self.entry.file)) }
         ensures tree { (file_len : ℕ) → self.entry.at + file_bytes_left self.entry.file ≤ file_len
