@@ -2,8 +2,9 @@
 //! tested in this order, and the packages to choose from.
 //!
 //! `Loaded::read` reads and tests them, and a `Loaded` keeps them: `db` lends the database, `pool`
-//! makes the candidates of the indexes and of the database. `Installed::read` reads the database alone. The contracts cite `Inputs` and
-//! `Candidates` of `specs/`, which say them by what is found under each name.
+//! makes the candidates of the indexes and of the database. `Installed::read` reads the database
+//! alone. The contracts cite `Inputs` and `Candidates` of `specs/`, which say them by what is found
+//! under each name.
 #![tactic(auto)]
 
 mod database;
