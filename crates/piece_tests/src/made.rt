@@ -42,7 +42,11 @@ pub(crate) fn package_of(alloc: Global, sizes: &[u32], flaw: Flaw) -> Result<Vec
     add_block(&mut file, 0, &payload)?;
     for i in 0..sizes.len() {
         if sizes[i] > 0 {
-            let flaw = if i + 1 == sizes.len() { flaw } else { Flaw::None };
+            let flaw = if i + 1 == sizes.len() {
+                flaw
+            } else {
+                Flaw::None
+            };
             let contents = contents_with(alloc, sizes, i, flaw)?;
             add_block(&mut file, 2, &contents)?;
         }
@@ -51,12 +55,7 @@ pub(crate) fn package_of(alloc: Global, sizes: &[u32], flaw: Flaw) -> Result<Vec
 }
 
 /// The payload of the contents of the file at a place, counted from 0, with a flaw.
-fn contents_with(
-    alloc: Global,
-    sizes: &[u32],
-    i: usize,
-    flaw: Flaw,
-) -> Result<Vec<u8>, AllocError>
+fn contents_with(alloc: Global, sizes: &[u32], i: usize, flaw: Flaw) -> Result<Vec<u8>, AllocError>
     requires { i < length sizes.now }
 {
     match flaw {

@@ -18,7 +18,11 @@ use tree_memory::MemoryTree;
 const MOST: usize = 100;
 
 /// Adds the pieces of a package: `read SIZES`, by the sizes of its files, and how the tree was read.
-pub(crate) fn add_read(alloc: Global, words: &Words, answer: &mut Vec<u8>) -> Result<(), AllocError> {
+pub(crate) fn add_read(
+    alloc: Global,
+    words: &Words,
+    answer: &mut Vec<u8>,
+) -> Result<(), AllocError> {
     let file = package_with(alloc, words, 1, Flaw::None)?;
     add_package(alloc, &file, 0, true, answer)
 }
@@ -57,7 +61,11 @@ pub(crate) fn add_shortened(
 
 /// The pieces of a package, and then of each file once more, from one that is not there to the
 /// first: `back SIZES`.
-pub(crate) fn add_back(alloc: Global, words: &Words, answer: &mut Vec<u8>) -> Result<(), AllocError> {
+pub(crate) fn add_back(
+    alloc: Global,
+    words: &Words,
+    answer: &mut Vec<u8>,
+) -> Result<(), AllocError> {
     let file = package_with(alloc, words, 1, Flaw::None)?;
     let sizes = sizes_from(alloc, words, 1)?;
     add_package(alloc, &file, low_word(sizes.len()) + 1, false, answer)
@@ -65,7 +73,11 @@ pub(crate) fn add_back(alloc: Global, words: &Words, answer: &mut Vec<u8>) -> Re
 
 /// What a package comes to that is cut at each length, from one offset on, and each length at which
 /// that is another than at the length before: `ends FROM SIZES`.
-pub(crate) fn add_ends(alloc: Global, words: &Words, answer: &mut Vec<u8>) -> Result<(), AllocError> {
+pub(crate) fn add_ends(
+    alloc: Global,
+    words: &Words,
+    answer: &mut Vec<u8>,
+) -> Result<(), AllocError> {
     let first = small_number(word_at(words, 1)) as usize;
     let file = package_with(alloc, words, 2, Flaw::None)?;
     let mut last = Vec::new(alloc);
@@ -131,9 +143,13 @@ fn add_package(
     let calls = tree.calls();
     add_passes(alloc, &mut tree, &name, &front, back, answer)?;
     if counts {
-        add_word(answer, b"calls")?;
-        add_number(alloc, answer, u128::from(tree.calls().saturating_sub(calls)))?;
-        add_word(answer, b"longest")?;
+        add_word(answer, b"calls ")?;
+        add_number(
+            alloc,
+            answer,
+            u128::from(tree.calls().saturating_sub(calls)),
+        )?;
+        add_word(answer, b"longest ")?;
         add_number(alloc, answer, u128::from(tree.longest_read()))?;
     }
     Ok(())
