@@ -1,4 +1,8 @@
 pub mod AnyOf
+mod ListedNames
+pub mod ListingPlaces
+mod NamePlaces
+pub mod Opened
 pub mod Ordered
 pub mod PathParts
 pub mod Places

@@ -12,7 +12,7 @@ use sha2::{Digest, Sha256, Sha512};
 /// A hasher of the function that a digest's length tells: SHA-1, SHA-256 or SHA-512 (FIPS 180-4).
 /// A digest of another length is not looked at.
 #[derive(Drop)]
-pub(crate) enum Hasher {
+pub enum Hasher {
     Sha1(Sha1),
     Sha256(Sha256),
     Sha512(Sha512),
@@ -22,7 +22,7 @@ pub(crate) enum Hasher {
 impl Hasher {
     /// A hasher that is to be compared with this digest, before the first byte.
     #[tactic(auto, unfolding(pkg_core::specs::Contents::hash_fault))]
-    pub(crate) fn new(hash: &[u8]) -> Hasher
+    pub fn new(hash: &[u8]) -> Hasher
         ensures { HoldsFor result hash.now [] }
     {
         match hash.len() {
@@ -34,7 +34,7 @@ impl Hasher {
     }
 
     /// Takes further bytes.
-    pub(crate) fn update(&mut self, bytes: &[u8])
+    pub fn update(&mut self, bytes: &[u8])
         ensures { (hash so_far : List ℕ) → HoldsFor self.old hash so_far
             → HoldsFor self.new hash (so_far ++ bytes.now) }
     {
@@ -48,7 +48,7 @@ impl Hasher {
 
     /// Why the bytes so far do not have the digest, if they do not.
     #[tactic(auto, unfolding(pkg_core::specs::Contents::hash_fault))]
-    pub(crate) fn fault(self, hash: &[u8]) -> Option<Cause>
+    pub fn fault(self, hash: &[u8]) -> Option<Cause>
         ensures { (so_far : List ℕ) → HoldsFor self hash.now so_far
             → result ≡ hash_fault hash.now so_far }
     {

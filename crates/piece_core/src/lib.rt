@@ -16,6 +16,7 @@ mod part;
 mod place;
 
 pub use file::{FilePieces, open_file};
+pub use hasher::Hasher;
 pub use laws::the_pieces_of_each_file_joined_are_its_contents;
 pub use part::{PIECE_LEN, Part};
 pub use place::{BlockPlace, Step};

@@ -1,0 +1,47 @@
+-- The packages before a change and after it, and the files that each of them lists.
+use Rattle.std.specs.Prelude.{ℕ, ◌==◌, Bool, List, map, Option, Some, None, option_map, option_and_then, is_some, bytes_eq, if◌then◌else◌}
+use Rattle.std.specs.List.{find, list_any}
+use Rattle.adb_view.specs.Plain.{Plain}
+use Rattle.db_core.specs.Members.{Listing, Member, claims_of, is_coming, member_listings, staying_member}
+use Rattle.file_owners.specs.Owners.{owner_of_path}
+
+-- the packages of the database before, those after, and whether configuration that the user changed
+-- goes with its package
+pub record FileChange : Type 0 where
+  pub old : List Plain
+  pub members : List Member
+  pub purge : Bool
+
+-- ---- before
+
+-- the files that the packages before list
+unfoldable pub old_listings : FileChange → List Listing
+old_listings change = member_listings (map staying_member change.old)
+
+-- what the packages before say of a path; no two of them list it
+unfoldable pub old_entry : FileChange → List ℕ → Option Plain
+old_entry change path =
+    option_map (λ l. l.entry) (find (λ l. bytes_eq l.path path) (old_listings change))
+
+abbrev pub was_listed : FileChange → List ℕ → Bool
+was_listed change path = is_some (old_entry change path)
+
+-- ---- after
+
+-- a package after lists the path
+unfoldable pub is_claimed : FileChange → List ℕ → Bool
+is_claimed change path = list_any (λ l. bytes_eq l.path path) (member_listings change.members)
+
+-- the file by which the member that owns a path lists it
+unfoldable pub owner_listing : FileChange → List ℕ → Option Listing
+owner_listing change path =
+    option_and_then (λ place. find (λ l. l.place == place) (claims_of change.members path))
+    (owner_of_path change.members path)
+
+abbrev pub if_it_comes : Option Listing → Option Listing
+if_it_comes None = None
+if_it_comes (Some l) = if is_coming l.member then Some l else None
+
+-- the same, where that member comes
+abbrev pub coming_owner : FileChange → List ℕ → Option Listing
+coming_owner change path = if_it_comes (owner_listing change path)

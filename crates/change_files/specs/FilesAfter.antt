@@ -1,0 +1,132 @@
+-- The files after a change, name by name.
+use Rattle.std.specs.Prelude.{ℕ, ◌==◌, ◌-◌, Bool, true, false, not, ◌&&◌, if◌then◌else◌, List, [], ◌∷◌, length, take, codes, Option, Some, None, is_some, option_and_then, bytes_eq, nat_eq}
+use Rattle.std.specs.List.{ends_with, find}
+use Rattle.adb_view.specs.Plain.{Plain}
+use Rattle.base_core.specs.Files.{Files}
+use Rattle.db_core.specs.Members.{Listing}
+use Rattle.pkg_core.specs.Contents as Packages
+use Rattle.file_guard.specs.AsListed.{has_target, is_as_listed, link_bytes}
+use Rattle.change_files.specs.Fate.{Fate, fate_of, gives_way, goes_aside, goes_in, is_guarded}
+use Rattle.change_files.specs.FileChange.{FileChange, coming_owner, is_claimed, old_entry, was_listed}
+
+-- ---- what is written
+
+abbrev pub if_in : Listing → Fate → Option Listing
+if_in l goes_in = Some l
+if_in l gives_way = None
+if_in l goes_aside = None
+
+abbrev pub if_aside : Listing → Fate → Option Listing
+if_aside l goes_in = None
+if_aside l gives_way = None
+if_aside l goes_aside = Some l
+
+-- the file that takes this path
+abbrev pub written_in : FileChange → Files → List ℕ → Option Listing
+written_in change files path =
+    option_and_then (λ l. if_in l (fate_of change files l)) (coming_owner change path)
+
+-- the file that is laid beside the one under this path
+abbrev pub laid_beside : FileChange → Files → List ℕ → Option Listing
+laid_beside change files path =
+    option_and_then (λ l. if_aside l (fate_of change files l)) (coming_owner change path)
+
+-- the path beside which a file of this name would lie
+abbrev pub path_beside : List ℕ → Option (List ℕ)
+path_beside name =
+    if ends_with nat_eq name (codes ".apk-new") then Some (take (length name - 8) name) else None
+
+abbrev pub or_beside : Option Listing → Option Listing → Option Listing
+or_beside None beside = beside
+or_beside (Some l) beside = Some l
+
+-- the file whose contents this name gets
+unfoldable pub written_as : FileChange → Files → List ℕ → Option Listing
+written_as change files name =
+    or_beside (written_in change files name)
+    (option_and_then (laid_beside change files) (path_beside name))
+
+abbrev pub is_written : FileChange → Files → List ℕ → Bool
+is_written change files name = is_some (written_as change files name)
+
+-- ---- what is removed
+
+-- the user changed the file under a path, which was listed so
+abbrev pub is_changed : Plain → Option (List ℕ) → Bool
+is_changed entry None = false
+is_changed entry (Some bytes) = not (is_as_listed entry bytes)
+
+abbrev pub may_stay : FileChange → List ℕ → Option (List ℕ) → Option Plain → Bool
+may_stay change path bytes None = true
+may_stay change path bytes (Some entry) =
+    is_guarded path && (not change.purge && is_changed entry bytes)
+
+-- it was listed before, and now no package lists it and nothing is written there
+abbrev pub is_left_over : FileChange → Files → List ℕ → Bool
+is_left_over change files path =
+    was_listed change path && (not (is_claimed change path) && not (is_written change files path))
+
+-- the user's file stays though its package is gone
+unfoldable pub is_kept : FileChange → Files → List ℕ → Bool
+is_kept change files path =
+    is_left_over change files path && may_stay change path (files path) (old_entry change path)
+
+-- also where no file stands there
+unfoldable pub is_removed : FileChange → Files → List ℕ → Bool
+is_removed change files path =
+    is_left_over change files path && not (may_stay change path (files path) (old_entry change path))
+
+-- ---- the contents of a file that comes
+
+abbrev pub is_of_file : ℕ → ℕ → Packages.Contents → Bool
+is_of_file folder file contents = (contents.folder == folder) && (contents.file == file)
+
+-- a file without contents is empty
+abbrev pub bytes_or_none : Option Packages.Contents → List ℕ
+bytes_or_none None = []
+bytes_or_none (Some contents) = contents.bytes
+
+-- where each member that comes has these contents
+unfoldable pub listing_bytes : (ℕ → List Packages.Contents) → Listing → List ℕ
+listing_bytes contents l =
+    if has_target l.entry then link_bytes l.entry
+    else bytes_or_none (find (is_of_file l.folder l.file) (contents l.place))
+
+-- ---- all names
+
+abbrev pub database_name : List ℕ
+database_name = codes "lib/apk/db/installed.adb"
+
+abbrev pub text_database_name : List ℕ
+text_database_name = codes "lib/apk/db/installed"
+
+abbrev pub world_name : List ℕ
+world_name = codes "etc/apk/world"
+
+-- a world that is absent and has nothing to say stays absent
+abbrev pub world_bytes_after : List ℕ → Option (List ℕ) → Option (List ℕ)
+world_bytes_after [] None = None
+world_bytes_after [] (Some old) = Some []
+world_bytes_after (b ∷ bytes) old = Some (b ∷ bytes)
+
+abbrev pub bytes_after : (Listing → List ℕ) → Option Listing → Bool → Option (List ℕ) → Option (List ℕ)
+bytes_after bytes_of (Some l) is_gone old = Some (bytes_of l)
+bytes_after bytes_of None true old = None
+bytes_after bytes_of None false old = old
+
+-- what a change leads to beside the files of packages: the bytes of the new database and of the new
+-- world, and whether a text database was taken over
+pub record Records : Type 0 where
+  pub database : List ℕ
+  pub world : List ℕ
+  pub takes_text_over : Bool
+
+-- The new database and world; no text database that was taken over; the files that come; no file
+-- that is removed; and all others as before.
+unfoldable pub changed_files : FileChange → (Listing → List ℕ) → Records → Files → Files
+changed_files change bytes_of records files name =
+    if bytes_eq name database_name then Some records.database
+    else if bytes_eq name world_name then world_bytes_after records.world (files name)
+    else if records.takes_text_over && bytes_eq name text_database_name then None
+    else bytes_after bytes_of (written_as change files name) (is_removed change files name)
+    (files name)

@@ -1,0 +1,29 @@
+-- Which names there are after a change, of which none may be a folder of another.
+use Rattle.std.specs.Prelude.{ℕ, Bool, not, ◌&&◌, ◌||◌, List, ◌∷◌, map, is_some, option_and_then, bytes_eq}
+use Rattle.std.specs.List.{filter, list_any}
+use Rattle.base_core.specs.Files.{Files}
+use Rattle.path_clashes.specs.Clash.{NameChange}
+use Rattle.db_core.specs.Members.{Member, is_coming, member_listings}
+use Rattle.change_files.specs.FileChange.{FileChange, is_claimed, was_listed}
+use Rattle.change_files.specs.FilesAfter.{database_name, is_kept, laid_beside, path_beside, world_name}
+
+-- the paths that packages which come list
+abbrev pub coming_paths : List Member → List (List ℕ)
+coming_paths members =
+    map (λ l. l.path) (filter (λ l. is_coming l.member) (member_listings members))
+
+-- a package that comes lists the name, or a file is laid beside another under it; the database and
+-- the world always
+unfoldable pub is_written_name : FileChange → Files → List ℕ → Bool
+is_written_name change files name =
+    list_any (bytes_eq name) (database_name ∷ world_name ∷ coming_paths change.members)
+    || is_some (option_and_then (laid_beside change files) (path_beside name))
+
+-- a package listed the name before, none does now, and the user's file is not kept
+unfoldable pub is_let_go : FileChange → Files → List ℕ → Bool
+is_let_go change files name =
+    was_listed change name && not (is_claimed change name || is_kept change files name)
+
+abbrev pub name_change : FileChange → Files → NameChange
+name_change change files =
+    record { counts_as_written = is_written_name change files; lets_go = is_let_go change files }

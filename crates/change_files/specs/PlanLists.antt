@@ -1,0 +1,66 @@
+-- What a change removes, writes and keeps, as lists in byte order.
+use Rattle.std.specs.Prelude.{ℕ, cond, List, [], ◌∷◌, ◌++◌, map, Option, option_map, is_some, bytes_eq}
+use Rattle.std.specs.List.{filter, filter_map}
+use Rattle.base_core.specs.Files.{Files}
+use Rattle.list_order.specs.ByteOrder.{bytes_cmp, smallest}
+use Rattle.list_order.specs.Sorted.{sorted_by}
+use Rattle.adb_rules.specs.Reserved.{is_reserved}
+use Rattle.db_core.specs.Members.{Listing, Member}
+use Rattle.change_files.specs.NamesAfter.{coming_paths}
+use Rattle.change_files.specs.Fate.{aside_name}
+use Rattle.change_files.specs.FileChange.{FileChange, old_listings}
+use Rattle.change_files.specs.FilesAfter.{is_kept, is_removed, laid_beside, written_as}
+
+-- ---- names in byte order, each once
+
+abbrev pub unless_next : List ℕ → List (List ℕ) → List (List ℕ)
+unless_next name [] = name ∷ []
+unless_next name (x ∷ xs) = cond (bytes_eq name x) (x ∷ xs) (name ∷ x ∷ xs)
+
+-- without a name in front of the same one
+abbrev pub without_repeats : List (List ℕ) → List (List ℕ)
+without_repeats [] = []
+without_repeats (x ∷ xs) = unless_next x (without_repeats xs)
+
+unfoldable pub names_in_order : List (List ℕ) → List (List ℕ)
+names_in_order names = without_repeats (sorted_by bytes_cmp names)
+
+abbrev pub old_paths : FileChange → List (List ℕ)
+old_paths change = map (λ l. l.path) (old_listings change)
+
+-- ---- the lists
+
+-- a name, and the file whose contents it gets: the place of its member counts from 0, those of the
+-- folder and of the file in it from 1
+pub record FileWrite : Type 0 where
+  pub name : List ℕ
+  pub member : ℕ
+  pub folder : ℕ
+  pub file : ℕ
+
+abbrev pub write_to : List ℕ → Listing → FileWrite
+write_to name l = record { name = name; member = l.place; folder = l.folder; file = l.file }
+
+-- each name at which something is written
+unfoldable pub writes_of : FileChange → Files → List FileWrite
+writes_of change files =
+    filter_map (λ name. option_map (write_to name) (written_as change files name))
+    (names_in_order (coming_paths change.members ++ map aside_name (coming_paths change.members)))
+
+unfoldable pub removals_of : FileChange → Files → List (List ℕ)
+removals_of change files = filter (is_removed change files) (names_in_order (old_paths change))
+
+unfoldable pub kept_of : FileChange → Files → List (List ℕ)
+kept_of change files = filter (is_kept change files) (names_in_order (old_paths change))
+
+-- the paths beside which a file is laid
+unfoldable pub aside_of : FileChange → Files → List (List ℕ)
+aside_of change files =
+    filter (λ path. is_some (laid_beside change files path))
+    (names_in_order (coming_paths change.members))
+
+-- ---- what no package may list
+
+-- the first reserved path that a package which comes lists
+unfoldable pub first_reserved : List Member → Option (List ℕ)
+first_reserved members = smallest (filter is_reserved (coming_paths members))

@@ -1,0 +1,42 @@
+-- Whether bytes are what a package's entry of a file says of them.
+use Rattle.std.specs.Prelude.{ℕ, ◌==◌, Bool, not, ◌&&◌, if◌then◌else◌, List, ◌++◌, length, drop, codes, bytes_eq, is_none}
+use Rattle.adb_view.specs.Plain.{Plain}
+use Rattle.adb_tables.specs.Values.{entry_in, int_in, text_in}
+use Rattle.pkg_core.specs.Contents.{hash_fault}
+
+abbrev pub file_size : Plain → ℕ
+file_size entry = int_in (entry_in entry 2)
+
+abbrev pub file_hash : Plain → List ℕ
+file_hash entry = text_in (entry_in entry 4)
+
+abbrev pub file_target : Plain → List ℕ
+file_target entry = text_in (entry_in entry 5)
+
+abbrev pub has_target : Plain → Bool
+has_target entry = not (length (file_target entry) == 0)
+
+-- what stands for a link to a target: a mark, and the link's text, which follows two bytes
+abbrev pub link_to : List ℕ → List ℕ
+link_to target = codes "!<symlink>" ++ drop 2 target
+
+abbrev pub link_bytes : Plain → List ℕ
+link_bytes entry = link_to (file_target entry)
+
+-- By a size, a hash and a target: a link's bytes; bytes with the hash; or, where there is none, no
+-- bytes at a size of 0.
+unfoldable pub is_as_listed_by : ℕ → List ℕ → List ℕ → List ℕ → Bool
+is_as_listed_by size hash target bytes =
+    if not (length target == 0) then bytes_eq bytes (link_to target)
+    else if length hash == 0 then (size == 0) && (length bytes == 0)
+    else is_none (hash_fault hash bytes)
+
+abbrev pub is_as_listed : Plain → List ℕ → Bool
+is_as_listed entry bytes =
+    is_as_listed_by (file_size entry) (file_hash entry) (file_target entry) bytes
+
+-- two entries say the same of the bytes: their sizes, hashes and targets are equal
+unfoldable pub do_entries_agree : Plain → Plain → Bool
+do_entries_agree a b =
+    (file_size a == file_size b)
+    && (bytes_eq (file_hash a) (file_hash b) && bytes_eq (file_target a) (file_target b))

@@ -1,0 +1,39 @@
+-- Names after a change of which one is a folder of another.
+use Rattle.std.specs.Prelude.{◌≡◌, ℕ, Bool, true, not, ◌&&◌, ◌||◌, List, bytes_eq, is_some}
+use Rattle.base_core.specs.Files.{Files, IsFolderOf}
+use Rattle.list_order.specs.ByteOrder.{precedes}
+
+-- what a change does with names: which count as written, and under which a file goes
+pub record NameChange : Type 0 where
+  pub counts_as_written : List ℕ → Bool
+  pub lets_go : List ℕ → Bool
+
+-- a file stands under the name and does not go, or the name counts as written
+abbrev pub is_name_after : NameChange → Files → List ℕ → Bool
+is_name_after change files name =
+    (is_some (files name) && not (change.lets_go name)) || change.counts_as_written name
+
+pub record NamePair : Type 0 where
+  pub path : List ℕ
+  pub other : List ℕ
+
+-- the first is a folder of the second, both are there after the change, and at least one of them
+-- counts as written
+pub record IsClash (change : NameChange) (files : Files) (pair : NamePair) : Type 0 where
+  pub folder : IsFolderOf pair.path pair.other
+  pub path_after : is_name_after change files pair.path ≡ true
+  pub other_after : is_name_after change files pair.other ≡ true
+  pub written : (change.counts_as_written pair.path || change.counts_as_written pair.other) ≡ true
+
+-- by path, then by other
+abbrev pub precedes_pair : NamePair → NamePair → Bool
+precedes_pair a b =
+    precedes a.path b.path || (bytes_eq a.path b.path && precedes a.other b.other)
+
+-- no clash comes before this one
+pub record IsFirstClash (change : NameChange) (files : Files) (pair : NamePair) : Type 0 where
+  pub is_one : IsClash change files pair
+  pub first : (other : NamePair) → IsClash change files other → precedes_pair other pair ≡ true → ⊥
+
+abbrev pub HasNoClash : NameChange → Files → Type 0
+HasNoClash change files = (pair : NamePair) → IsClash change files pair → ⊥
