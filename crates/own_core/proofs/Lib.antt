@@ -7,3 +7,7 @@ pub mod TreeLoops
 pub mod NamesOnce
 pub mod Meaning
 pub mod WritesMeaning
+pub mod PartsMeaning
+pub mod NameChanges
+pub mod PlanParts
+pub mod Refusals

@@ -293,7 +293,7 @@ claim_listed members named c n zero (l ∷ ls) p q g =
     subst (IsClaimOf members) is (record { member = l.member; at = p.0.at; place = p.0.place; name = q.0 })
 claim_listed members named c n (suc i) (l ∷ ls) p q g = claim_listed members named c (n + 1) i ls p.1 q.1 g
 
-each_all : {X : Type 0} (P : X → Type 0) (xs : List X) → All P xs → Each P xs
+pub each_all : {X : Type 0} (P : X → Type 0) (xs : List X) → All P xs → Each P xs
 each_all P [] h = tt
 each_all P (x ∷ xs) h = (h 0 x (omega arith), each_all P xs (λ k d l. h (suc k) d (omega arith)))
 

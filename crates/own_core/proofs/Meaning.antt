@@ -212,7 +212,7 @@ module _ (change : FileChange) (files : Files) (before : List PathClaim) (up : N
   going stays = filter (λ c. is_flag stays (does_stay change files c)) left_over
 
   -- by the test of a path that is listed
-  going_is : (stays : Bool) (q : List ℕ) → is_some (find (is_of_path q) (going stays))
+  pub going_is : (stays : Bool) (q : List ℕ) → is_some (find (is_of_path q) (going stays))
       ≡ (is_left_over change files q && is_flag stays (may_stay change q (files q) (old_entry change q)))
   going_is stays q =
       ap is_some (found_kept (λ c. is_flag stays (does_stay change files c)) left_over (kept_rises (λ c. is_left change asides c.path) before up) q)

@@ -3,6 +3,7 @@ use Rattle.std.specs.Prelude.{◌≡◌, ℕ, ◌-◌, ◌<◌, ◌≤◌, Bool,
 use Rattle.base_core.specs.Name.{IsName}
 use Rattle.adb_view.specs.Plain.{Plain, null}
 use Rattle.adb_tables.specs.Values.{count_of, entries_in, entry_in}
+use Rattle.adb_rules.specs.Reserved.{is_reserved}
 use Rattle.db_core.specs.Members.{Member, is_coming, staying_member}
 use Rattle.db_core.specs.Seen.{packages_of}
 use Rattle.db_core.specs.declared.db.Db.{Db}
@@ -54,6 +55,10 @@ comes_if_any (Some m) = is_coming m
 
 abbrev pub comes_at : List Member → ℕ → Bool
 comes_at members place = comes_if_any (slice_get members place)
+
+-- a member that comes lists a reserved path
+abbrev pub is_reserved_coming : List Member → PathClaim → Bool
+is_reserved_coming members c = is_reserved c.path && comes_at members c.member
 
 -- the claim is that of the path's owner, and this member comes
 unfoldable pub is_of_coming_owner : List Member → PathClaim → Bool

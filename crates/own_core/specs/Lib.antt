@@ -4,3 +4,6 @@ pub mod Fates
 pub mod Going
 pub mod WritesSeen
 pub mod FaultsSeen
+pub mod Parts
+pub mod ListsSeen
+pub mod Planned

@@ -9,7 +9,9 @@ mod fate;
 mod fault;
 mod guarded;
 mod parts;
+mod planning;
 mod writes;
 
 pub use fault::PlanFault;
+pub use planning::{FilePlan, plan};
 pub use writes::{Write, Writes};

@@ -1,0 +1,180 @@
+-- The change of names that the program asks of is the change's.
+use Rattle.std.proofs.Common.{◌≡◌, ◌⊎◌, inl, inr, ℕ, suc, zero, ◌+◌, ◌<◌, Bool, true, false, cond, List, [], ◌∷◌, ◌++◌, length, map, Option, Some, None, refl, ap, sym, ◌∙◌, subst, arith, true≢false}
+use Rattle.std.specs.Prelude.{◌&&◌, ◌||◌, not, slice_get, option_map, option_and_then, is_some, bytes_eq, if◌then◌else◌}
+use Rattle.std.specs.Cmp.Lexicographic.{bytes_decides}
+use Rattle.std.specs.List.{filter, find, list_any}
+use Rattle.std.specs.Ordering.{is_gt}
+use Rattle.std.specs.declared.cmp.Ordering.{Ordering}
+use Rattle.base_core.specs.Files.{Files}
+use Rattle.base_core.specs.Tree.{TreeState, files_of}
+use Rattle.base_core.proofs.Rising as Names
+use Rattle.adb_view.specs.Plain.{Plain}
+use Rattle.list_order.specs.ByteOrder.{bytes_cmp}
+use Rattle.list_order.specs.Sorted.{sorted_by, with_element}
+use Rattle.list_order.proofs.Sorting.{Each}
+use Rattle.db_core.specs.Members.{Listing, Member, is_coming, member_listings}
+use Rattle.db_core.specs.Seen.{members_of}
+use Rattle.path_claims.specs.Claims.{PathClaim, claim_cmp, is_of_path}
+use Rattle.claim_lists.specs.Once.{HasFirsts}
+use Rattle.claim_lists.proofs.Firsts.{paths}
+use Rattle.file_owners.specs.Owners.{claim_by, claims_from, claims_in}
+use Rattle.path_clashes.specs.Clash.{NameChange}
+use Rattle.change_files.specs.Fate.{aside_name}
+use Rattle.change_files.specs.FileChange.{FileChange, is_claimed, old_entry, was_listed}
+use Rattle.change_files.specs.FilesAfter.{database_name, is_kept, is_left_over, laid_beside, may_stay, path_beside, world_name}
+use Rattle.change_files.specs.NamesAfter.{coming_paths, is_let_go, is_written_name, name_change}
+use Rattle.own_core.specs.ClaimEntries.{claim_entry, comes_at, comes_if_any, is_of_coming_owner, old_members}
+use Rattle.own_core.specs.Fates.{is_flag}
+use Rattle.own_core.specs.Going.{is_beside}
+use Rattle.own_core.specs.Parts.{AreParts, asides_of, kept_of_parts}
+use Rattle.own_core.specs.Sides.{HasClaims, change_of, claims_after, claims_before}
+use Rattle.own_core.specs.declared.change.Change.{Change}
+use Rattle.own_core.specs.declared.planning.Parts.{Parts}
+use Rattle.own_core.proofs.ChangeClaims.{claimed_after}
+use Rattle.own_core.proofs.Endings.{ending, found_front, front_of}
+use Rattle.own_core.proofs.Listings.{IsPlaced, each_placed}
+use Rattle.own_core.proofs.Meaning.{entries_are, going, going_is}
+use Rattle.own_core.proofs.PartsMeaning.{before_each, before_up, beside_parts, kept_parts}
+
+-- ---- whether some element passes
+
+pub any_both : {X : Type 0} (p : X → Bool) (xs ys : List X) → list_any p (xs ++ ys) ≡ (list_any p xs || list_any p ys)
+any_both p [] ys = refl
+any_both p (x ∷ xs) ys = go (p x) (any_both p xs ys)
+  where
+    go : (b : Bool) → list_any p (xs ++ ys) ≡ (list_any p xs || list_any p ys) → (b || list_any p (xs ++ ys)) ≡ ((b || list_any p xs) || list_any p ys)
+    go true h = refl
+    go false h = h
+
+or_swap : (a b c : Bool) → (a || (b || c)) ≡ (b || (a || c))
+or_swap true true c = refl
+or_swap true false c = refl
+or_swap false b c = refl
+
+any_with : {X : Type 0} (cmp : X → X → Ordering) (p : X → Bool) (x : X) (ys : List X) → list_any p (with_element cmp x ys) ≡ (p x || list_any p ys)
+any_with cmp p x [] = refl
+any_with cmp p x (y ∷ ys) = go (is_gt (cmp x y)) (any_with cmp p x ys)
+  where
+    go : (b : Bool) → list_any p (with_element cmp x ys) ≡ (p x || list_any p ys) → list_any p (if b then y ∷ with_element cmp x ys else x ∷ y ∷ ys) ≡ (p x || (p y || list_any p ys))
+    go true h = ap (λ r. p y || r) h ∙ or_swap (p y) (p x) (list_any p ys)
+    go false h = refl
+
+pub any_sorted : {X : Type 0} (cmp : X → X → Ordering) (p : X → Bool) (xs : List X) → list_any p (sorted_by cmp xs) ≡ list_any p xs
+any_sorted cmp p [] = refl
+any_sorted cmp p (x ∷ xs) = any_with cmp p x (sorted_by cmp xs) ∙ ap (λ r. p x || r) (any_sorted cmp p xs)
+
+any_of_kept : {X : Type 0} (g : X → List ℕ) (t : List ℕ → Bool) (p : X → Bool) (xs : List X) → list_any t (map g (filter p xs)) ≡ list_any (λ x. p x && t (g x)) xs
+any_of_kept g t p [] = refl
+any_of_kept g t p (x ∷ xs) = go (p x) (any_of_kept g t p xs)
+  where
+    go : (b : Bool) → list_any t (map g (filter p xs)) ≡ list_any (λ x. p x && t (g x)) xs → list_any t (map g (cond b (x ∷ filter p xs) (filter p xs))) ≡ ((b && t (g x)) || list_any (λ x. p x && t (g x)) xs)
+    go true h = ap (λ r. t (g x) || r) h
+    go false h = h
+
+any_listing : (members : List Member) (t : List ℕ → Bool) (n : ℕ) (ls : List Listing) → Each (IsPlaced members) ls
+    → list_any (λ c. comes_at members c.member && t c.path) (claims_from n ls) ≡ list_any (λ l. is_coming l.member && t l.path) ls
+any_listing members t n [] h = refl
+any_listing members t n (l ∷ ls) h = (λ j. (ap comes_if_any h.0.at j && t l.path) || any_listing members t (n + 1) ls h.1 j)
+
+-- the paths that packages which come list
+pub any_coming : (members : List Member) (t : List ℕ → Bool) (cs : List PathClaim) → cs ≡ sorted_by claim_cmp (claims_in members)
+    → list_any t (map (λ c. c.path) (filter (λ c. comes_at members c.member) cs)) ≡ list_any t (coming_paths members)
+unfolding claims_in
+any_coming members t cs e =
+    any_of_kept (λ c. c.path) t (λ c. comes_at members c.member) cs
+    ∙ (ap (list_any (λ c. comes_at members c.member && t c.path)) e
+    ∙ (any_sorted claim_cmp (λ c. comes_at members c.member && t c.path) (claims_from 0 (member_listings members))
+    ∙ (any_listing members t 0 (member_listings members) (each_placed members)
+    ∙ sym (any_of_kept (λ l. l.path) t (λ l. is_coming l.member) (member_listings members)))))
+
+-- ---- names beside
+
+turned : (a b : List ℕ) → bytes_eq a b ≡ bytes_eq b a
+turned a b = go (bytes_eq a b) (bytes_eq b a) refl refl
+  where
+    go : (s t : Bool) → bytes_eq a b ≡ s → bytes_eq b a ≡ t → s ≡ t
+    go true true e f = refl
+    go true false e f = absurd (true≢false (sym ((bytes_decides b a).1 (sym ((bytes_decides a b).0 e))) ∙ f))
+    go false true e f = absurd (true≢false (sym ((bytes_decides a b).1 (sym ((bytes_decides b a).0 f))) ∙ e))
+    go false false e f = refl
+
+same_aside : (p q : List ℕ) → bytes_eq (p ++ ending) (aside_name q) ≡ bytes_eq p q
+same_aside p q = go (bytes_eq (p ++ ending) (aside_name q)) (bytes_eq p q) refl refl
+  where
+    one : p ++ ending ≡ q ++ ending → p ≡ q
+    one e = let same : Some p ≡ Some q = sym (front_of p) ∙ (ap path_beside e ∙ front_of q) in cc
+
+    go : (s t : Bool) → bytes_eq (p ++ ending) (aside_name q) ≡ s → bytes_eq p q ≡ t → s ≡ t
+    go true true e f = refl
+    go true false e f = absurd (true≢false (sym ((bytes_decides p q).1 (one ((bytes_decides (p ++ ending) (aside_name q)).0 e))) ∙ f))
+    go false true e f = absurd (true≢false (sym ((bytes_decides (p ++ ending) (aside_name q)).1 (ap (λ (r : List ℕ). r ++ ending) ((bytes_decides p q).0 f))) ∙ e))
+    go false false e f = refl
+
+any_aside : (p : List ℕ) (cs : List PathClaim) → list_any (bytes_eq (p ++ ending)) (map (λ c. aside_name c.path) cs) ≡ is_some (find (is_of_path p) cs)
+any_aside p [] = refl
+any_aside p (c ∷ cs) = go (bytes_eq c.path p) (same_aside p c.path ∙ turned p c.path) (any_aside p cs)
+  where
+    go : (b : Bool) → bytes_eq (p ++ ending) (aside_name c.path) ≡ b → list_any (bytes_eq (p ++ ending)) (map (λ c. aside_name c.path) cs) ≡ is_some (find (is_of_path p) cs)
+        → (bytes_eq (p ++ ending) (aside_name c.path) || list_any (bytes_eq (p ++ ending)) (map (λ c. aside_name c.path) cs)) ≡ is_some (cond b (Some c) (find (is_of_path p) cs))
+    go true e h = ap (λ t. t || list_any (bytes_eq (p ++ ending)) (map (λ c. aside_name c.path) cs)) e
+    go false e h = ap (λ t. t || list_any (bytes_eq (p ++ ending)) (map (λ c. aside_name c.path) cs)) e ∙ h
+
+none_aside : (name : List ℕ) → path_beside name ≡ None → (cs : List PathClaim) → list_any (bytes_eq name) (map (λ c. aside_name c.path) cs) ≡ false
+none_aside name h [] = refl
+none_aside name h (c ∷ cs) = go (bytes_eq name (aside_name c.path)) refl (none_aside name h cs)
+  where
+    go : (b : Bool) → bytes_eq name (aside_name c.path) ≡ b → list_any (bytes_eq name) (map (λ c. aside_name c.path) cs) ≡ false → (b || list_any (bytes_eq name) (map (λ c. aside_name c.path) cs)) ≡ false
+    go true e rest = absurd (let off : None ≡ Some c.path = sym h ∙ (ap path_beside ((bytes_decides name (aside_name c.path)).0 e) ∙ front_of c.path) in cc)
+    go false e rest = rest
+
+pub any_beside : (name : List ℕ) (cs : List PathClaim) → list_any (bytes_eq name) (map (λ c. aside_name c.path) cs) ≡ is_beside cs name
+any_beside name cs = go (path_beside name) refl
+  where
+    go : (o : Option (List ℕ)) → path_beside name ≡ o → list_any (bytes_eq name) (map (λ c. aside_name c.path) cs) ≡ is_some (option_and_then (λ path. find (is_of_path path) cs) o)
+    go None e = none_aside name e cs
+    go (Some p) e = ap (λ n. list_any (bytes_eq n) (map (λ c. aside_name c.path) cs)) (found_front name p e) ∙ any_aside p cs
+
+-- ---- the change of names
+
+mapped_some : (f : PathClaim → Plain) (o : Option PathClaim) → is_some (option_map f o) ≡ is_some o
+mapped_some f None = refl
+mapped_some f (Some c) = refl
+
+abbrev pub all_written : Change → List (List ℕ) → List (List ℕ)
+all_written change besides =
+    (database_name ∷ world_name ∷ []) ++ map (λ c. c.path) (filter (λ c. comes_at (members_of change.members.now) c.member) (claims_after change)) ++ besides
+
+module _ (change : Change) (claims : HasClaims change) (coming : List PathClaim) (firsts : HasFirsts (filter (is_of_coming_owner (members_of change.members.now)) (claims_after change)) coming)
+    (parts : Parts) (v : TreeState) (earlier : List TreeState) (are : AreParts change (v ∷ earlier) coming parts) where
+  written_is : (name : List ℕ) → list_any (bytes_eq name) (sorted_by bytes_cmp (all_written change (map (λ c. aside_name c.path) (asides_of parts)))) ≡ is_written_name (change_of change) (files_of v) name
+  unfolding is_written_name
+  written_is name =
+      any_sorted bytes_cmp (bytes_eq name) (all_written change (map (λ c. aside_name c.path) (asides_of parts)))
+      ∙ (any_both (bytes_eq name) ((database_name ∷ world_name ∷ []) ++ map (λ c. c.path) (filter (λ c. comes_at (members_of change.members.now) c.member) (claims_after change))) (map (λ c. aside_name c.path) (asides_of parts))
+      ∙ (λ j. front j || back j))
+    where
+      front : list_any (bytes_eq name) ((database_name ∷ world_name ∷ []) ++ map (λ c. c.path) (filter (λ c. comes_at (members_of change.members.now) c.member) (claims_after change)))
+          ≡ list_any (bytes_eq name) (database_name ∷ world_name ∷ coming_paths (members_of change.members.now))
+      front = ap (λ r. bytes_eq name database_name || (bytes_eq name world_name || r)) (any_coming (members_of change.members.now) (bytes_eq name) (claims_after change) claims.after)
+
+      back : list_any (bytes_eq name) (map (λ c. aside_name c.path) (asides_of parts)) ≡ is_some (option_and_then (laid_beside (change_of change) (files_of v)) (path_beside name))
+      back = any_beside name (asides_of parts) ∙ beside_parts change claims coming firsts parts v earlier are name
+
+  goes_is : (name : List ℕ) → (is_some (find (is_of_path name) (claims_before change))
+      && not (is_some (find (is_of_path name) (claims_after change)) || is_some (find (is_of_path name) (kept_of_parts parts)))) ≡ is_let_go (change_of change) (files_of v) name
+  unfolding is_let_go is_kept
+  goes_is name =
+      (λ j. listed j && not (claimed_after change claims name j || kept j))
+    where
+      listed : is_some (find (is_of_path name) (claims_before change)) ≡ was_listed (change_of change) name
+      listed = sym (mapped_some (claim_entry (old_members (change_of change))) (find (is_of_path name) (claims_before change)))
+          ∙ ap is_some (entries_are (change_of change) (files_of v) (claims_before change) (before_up change claims coming firsts parts v earlier are) (before_each change claims coming firsts parts v earlier are) (asides_of parts) (beside_parts change claims coming firsts parts v earlier are) name)
+
+      kept : is_some (find (is_of_path name) (kept_of_parts parts)) ≡ (is_left_over (change_of change) (files_of v) name && may_stay (change_of change) name (files_of v name) (old_entry (change_of change) name))
+      kept = ap (λ cs. is_some (find (is_of_path name) cs)) (kept_parts change claims coming firsts parts v earlier are)
+          ∙ going_is (change_of change) (files_of v) (claims_before change) (before_up change claims coming firsts parts v earlier are) (before_each change claims coming firsts parts v earlier are) (asides_of parts) (beside_parts change claims coming firsts parts v earlier are) true name
+
+  pub same_names : (counts lets : List ℕ → Bool) → ((name : List ℕ) → counts name ≡ list_any (bytes_eq name) (sorted_by bytes_cmp (all_written change (map (λ c. aside_name c.path) (asides_of parts)))))
+      → ((name : List ℕ) → lets name ≡ (is_some (find (is_of_path name) (claims_before change)) && not (is_some (find (is_of_path name) (claims_after change)) || is_some (find (is_of_path name) (kept_of_parts parts)))))
+      → record { counts_as_written = counts; lets_go = lets } ≡ name_change (change_of change) (files_of v)
+  same_names counts lets c l = (λ j. record { counts_as_written = λ name. (c name ∙ written_is name) j; lets_go = λ name. (l name ∙ goes_is name) j })

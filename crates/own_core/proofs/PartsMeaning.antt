@@ -1,0 +1,223 @@
+-- The parts of a change and their lists, over the files of the tree, and what is known of them over any tree.
+use Rattle.std.proofs.Common.{◌≡◌, ◌⊎◌, inl, inr, ℕ, suc, zero, ◌+◌, ◌<◌, ◌≤◌, Bool, true, false, cond, List, [], ◌∷◌, ◌++◌, length, map, Option, Some, None, refl, ap, sym, ◌∙◌, subst, arith, true≢false, length-append}
+use Rattle.std.specs.Prelude.{◌&&◌, not, slice_get, option_and_then, is_some, nat_le}
+use Rattle.std.specs.List.{filter, find}
+use Rattle.std.specs.List.Sorted.{IsSorted}
+use Rattle.std.proofs.lemmas.Bool.{and_parts, leb-true}
+use Rattle.base_core.specs.Calls.{IfObservable}
+use Rattle.base_core.specs.Files.{Files}
+use Rattle.base_core.specs.Listed.{IsRising}
+use Rattle.base_core.specs.Tree.{TreeState, files_of}
+use Rattle.base_core.proofs.Rising as Names
+use Rattle.list_order.specs.Sorted.{sorted_by}
+use Rattle.list_order.proofs.Sorting.{Each}
+use Rattle.db_core.specs.Seen.{members_of}
+use Rattle.path_claims.specs.Claims.{PathClaim, claim_cmp, is_of_path}
+use Rattle.path_claims.proofs.Places.{no_some, value_or}
+use Rattle.claim_lists.specs.Named.{HaveNames}
+use Rattle.claim_lists.specs.Once.{HasFirsts}
+use Rattle.claim_lists.proofs.Firsts.{paths}
+use Rattle.file_owners.specs.Owners.{claims_in}
+use Rattle.change_files.specs.Fate as Fates
+use Rattle.change_files.specs.Fate.{aside_name, gives_way, goes_aside, goes_in}
+use Rattle.change_files.specs.FileChange.{FileChange, is_claimed}
+use Rattle.change_files.specs.FilesAfter.{laid_beside, path_beside}
+use Rattle.change_files.specs.NamesAfter.{name_change}
+use Rattle.change_files.specs.PlanLists.{aside_of, kept_of, removals_of, writes_of}
+use Rattle.path_clashes.specs.Clash.{HasNoClash}
+use Rattle.own_core.specs.ClaimEntries.{AreClaimsOf, IsClaimOf, is_of_coming_owner, members_before, old_members}
+use Rattle.own_core.specs.Fates.{HaveRoom, claim_fate, is_fate, is_flag, is_free_beside, marked_claims}
+use Rattle.own_core.specs.Going.{does_stay, is_beside, is_left}
+use Rattle.own_core.specs.ListsSeen.{AreListsOf}
+use Rattle.own_core.specs.Parts.{AreParts, asides_of, ins_of, kept_of_parts, left_in, removed_of}
+use Rattle.own_core.specs.Planned.{IsPlanOf}
+use Rattle.own_core.specs.Sides.{HasClaims, change_of, claims_after, claims_before}
+use Rattle.own_core.specs.WritesSeen.{HasNameBeside, HaveNamesBeside, aside_write, claim_write, write_cmp}
+use Rattle.own_core.specs.declared.change.Change.{Change}
+use Rattle.own_core.specs.declared.planning.FilePlan.{FilePlan}
+use Rattle.own_core.specs.declared.planning.Parts.{Parts}
+use Rattle.own_core.proofs.ChangeClaims.{rising_sorted}
+use Rattle.own_core.proofs.Endings.{ending}
+use Rattle.own_core.proofs.Kept.{marked_by}
+use Rattle.own_core.proofs.Meaning.{aside_are, beside_is, going, kept_are, removals_are, with_fate}
+use Rattle.own_core.proofs.WritesMeaning.{each_finds_itself, writes_are}
+
+-- ---- some of a list
+
+pub found_from : {X : Type 0} (p : X → Bool) (xs : List X) (x : X) → find p xs ≡ Some x → (k : ℕ) × (slice_get xs k ≡ Some x)
+found_from p [] x e = absurd (no_some x e)
+found_from p (y ∷ ys) x e = go (p y) (λ f. found_from p ys x f) e
+  where
+    go : (b : Bool) → (find p ys ≡ Some x → (k : ℕ) × (slice_get ys k ≡ Some x)) → cond b (Some y) (find p ys) ≡ Some x → (k : ℕ) × (slice_get (y ∷ ys) k ≡ Some x)
+    go true rest f = (zero, f)
+    go false rest f = let r = rest f in (suc r.0, r.1)
+
+pub filter_from : {X : Type 0} (p : X → Bool) (xs : List X) (i : ℕ) (x : X) → slice_get (filter p xs) i ≡ Some x → (k : ℕ) × (slice_get xs k ≡ Some x)
+filter_from p [] i x e = absurd (no_some x e)
+filter_from p (y ∷ ys) i x e = go (p y) i (λ j f. filter_from p ys j x f) e
+  where
+    go : (b : Bool) (i : ℕ) → ((j : ℕ) → slice_get (filter p ys) j ≡ Some x → (k : ℕ) × (slice_get ys k ≡ Some x)) → slice_get (cond b (y ∷ filter p ys) (filter p ys)) i ≡ Some x → (k : ℕ) × (slice_get (y ∷ ys) k ≡ Some x)
+    go true zero rest f = (zero, f)
+    go true (suc i) rest f = let r = rest i f in (suc r.0, r.1)
+    go false i rest f = let r = rest i f in (suc r.0, r.1)
+
+pub marked_from : {Y : Type 0} (test : Y → Bool) (cs : List PathClaim) (ms : List Y) (i : ℕ) (c : PathClaim) → slice_get (marked_claims test cs ms) i ≡ Some c → (k : ℕ) × (slice_get cs k ≡ Some c)
+marked_from test [] ms i c e = absurd (no_some c e)
+marked_from test (d ∷ cs) [] i c e = absurd (no_some c e)
+marked_from test (d ∷ cs) (m ∷ ms) i c e = go (test m) i (λ j f. marked_from test cs ms j c f) e
+  where
+    go : (b : Bool) (i : ℕ) → ((j : ℕ) → slice_get (marked_claims test cs ms) j ≡ Some c → (k : ℕ) × (slice_get cs k ≡ Some c)) → slice_get (cond b (d ∷ marked_claims test cs ms) (marked_claims test cs ms)) i ≡ Some c
+        → (k : ℕ) × (slice_get (d ∷ cs) k ≡ Some c)
+    go true zero rest f = (zero, f)
+    go true (suc i) rest f = let r = rest i f in (suc r.0, r.1)
+    go false i rest f = let r = rest i f in (suc r.0, r.1)
+
+in_marked : {Y : Type 0} (test : Y → Bool) (cs : List PathClaim) (ms : List Y) (q : List ℕ) → Names.IsIn q (paths (marked_claims test cs ms)) → Names.IsIn q (paths cs)
+in_marked test [] ms q here = here
+in_marked test (d ∷ cs) [] q here = absurd here
+in_marked test (d ∷ cs) (m ∷ ms) q here = go (test m) (in_marked test cs ms q) here
+  where
+    go : (b : Bool) → (Names.IsIn q (paths (marked_claims test cs ms)) → Names.IsIn q (paths cs)) → Names.IsIn q (paths (cond b (d ∷ marked_claims test cs ms) (marked_claims test cs ms))) → Names.IsIn q (paths (d ∷ cs))
+    go true rest (inl is) = inl is
+    go true rest (inr old) = inr (rest old)
+    go false rest old = inr (rest old)
+
+pub marked_rises : {Y : Type 0} (test : Y → Bool) (cs : List PathClaim) (ms : List Y) → Names.Rises (paths cs) → Names.Rises (paths (marked_claims test cs ms))
+marked_rises test [] ms r = tt
+marked_rises test (d ∷ cs) [] r = tt
+marked_rises test (d ∷ cs) (m ∷ ms) r = go (test m) (marked_rises test cs ms r.1)
+  where
+    go : (b : Bool) → Names.Rises (paths (marked_claims test cs ms)) → Names.Rises (paths (cond b (d ∷ marked_claims test cs ms) (marked_claims test cs ms)))
+    go true rest = (λ q here. r.0 q (in_marked test cs ms q here), rest)
+    go false rest = rest
+
+in_filtered : (t : PathClaim → Bool) (cs : List PathClaim) (q : List ℕ) → Names.IsIn q (paths (filter t cs)) → Names.IsIn q (paths cs)
+in_filtered t [] q here = here
+in_filtered t (c ∷ cs) q here = go (t c) (in_filtered t cs q) here
+  where
+    go : (b : Bool) → (Names.IsIn q (paths (filter t cs)) → Names.IsIn q (paths cs)) → Names.IsIn q (paths (cond b (c ∷ filter t cs) (filter t cs))) → Names.IsIn q (paths (c ∷ cs))
+    go true rest (inl is) = inl is
+    go true rest (inr old) = inr (rest old)
+    go false rest old = inr (rest old)
+
+filtered_rises : (t : PathClaim → Bool) (cs : List PathClaim) → Names.Rises (paths cs) → Names.Rises (paths (filter t cs))
+filtered_rises t [] r = tt
+filtered_rises t (c ∷ cs) r = go (t c) (filtered_rises t cs r.1)
+  where
+    go : (b : Bool) → Names.Rises (paths (filter t cs)) → Names.Rises (paths (cond b (c ∷ filter t cs) (filter t cs)))
+    go true rest = (λ q here. r.0 q (in_filtered t cs q here), rest)
+    go false rest = rest
+
+-- ---- claims that come, over any tree
+
+pub each_at : (P : PathClaim → Type 0) (cs : List PathClaim) → Each P cs → (i : ℕ) (c : PathClaim) → slice_get cs i ≡ Some c → P c
+each_at P [] h i c g = absurd (no_some c g)
+each_at P (d ∷ cs) h zero c g = subst P (ap (value_or d) g) h.0
+each_at P (d ∷ cs) h (suc i) c g = each_at P cs h.1 i c g
+
+pub coming_claims_of : (change : Change) → HasClaims change → (coming : List PathClaim) → HasFirsts (filter (is_of_coming_owner (members_of change.members.now)) (claims_after change)) coming
+    → AreClaimsOf (members_of change.members.now) coming
+coming_claims_of change h coming firsts i c g =
+    let here = each_at (λ d. find (is_of_path d.path) coming ≡ Some d) coming (each_finds_itself coming (Names.rises_from_pairs (paths coming) firsts.rising)) i c g in
+    let one = found_from (is_of_path c.path) (filter (is_of_coming_owner (members_of change.members.now)) (claims_after change)) c (sym (firsts.each c.path) ∙ here) in
+    let two = filter_from (is_of_coming_owner (members_of change.members.now)) (claims_after change) one.0 c one.1 in
+    h.new_files two.0 c two.1
+
+-- ---- names of the parts
+
+names_marked : {Y : Type 0} (test : Y → Bool) (cs xs : List PathClaim) (ms : List Y) → HaveNames cs → xs ≡ marked_claims test cs ms → HaveNames xs
+names_marked test cs xs ms h e i c g = let f = marked_from test cs ms i c (ap (λ ys. slice_get ys i) (sym e) ∙ g) in h f.0 c f.1
+
+pub ins_named : (change : Change) (history : List TreeState) (coming : List PathClaim) (parts : Parts) → AreClaimsOf (members_of change.members.now) coming → AreParts change history coming parts → HaveNames (ins_of parts)
+ins_named change history coming parts h p = names_marked (is_fate goes_in) coming (ins_of parts) p.fates (λ i c g. (h i c g).name) p.ins
+
+left_named : (change : Change) → HasClaims change → (asides : List PathClaim) → HaveNames (left_in change asides)
+left_named change h asides i c g =
+    let f = filter_from (λ d. is_left (change_of change) asides d.path) (claims_before change) i c g in (h.old_files f.0 c f.1).name
+
+pub removed_named : (change : Change) (history : List TreeState) (coming : List PathClaim) (parts : Parts) → HasClaims change → AreParts change history coming parts → HaveNames (removed_of parts)
+removed_named change history coming parts h p = names_marked (is_flag false) (left_in change (asides_of parts)) (removed_of parts) p.stays (left_named change h (asides_of parts)) p.removed
+
+pub kept_named : (change : Change) (history : List TreeState) (coming : List PathClaim) (parts : Parts) → HasClaims change → AreParts change history coming parts → HaveNames (kept_of_parts parts)
+kept_named change history coming parts h p = names_marked (is_flag true) (left_in change (asides_of parts)) (kept_of_parts parts) p.stays (left_named change h (asides_of parts)) p.kept
+
+room_of : (change : FileChange) (cs : List PathClaim) (fs : List Fates.Fate) → HaveRoom change cs fs → (i : ℕ) (c : PathClaim) → slice_get (marked_claims (is_fate goes_aside) cs fs) i ≡ Some c → is_free_beside change c.path ≡ true
+room_of change [] fs h i c g = absurd (no_some c g)
+room_of change (d ∷ cs) [] h i c g = absurd h
+room_of change (d ∷ cs) (f ∷ fs) h i c g = go (is_fate goes_aside f) refl i (λ j k. room_of change cs fs h.1 j c k) g
+  where
+    is_it : (f : Fates.Fate) → is_fate goes_aside f ≡ true → f ≡ goes_aside
+    is_it goes_in e = absurd (true≢false (sym e))
+    is_it gives_way e = absurd (true≢false (sym e))
+    is_it goes_aside e = refl
+
+    go : (b : Bool) → is_fate goes_aside f ≡ b → (i : ℕ) → ((j : ℕ) → slice_get (marked_claims (is_fate goes_aside) cs fs) j ≡ Some c → is_free_beside change c.path ≡ true)
+        → slice_get (cond b (d ∷ marked_claims (is_fate goes_aside) cs fs) (marked_claims (is_fate goes_aside) cs fs)) i ≡ Some c → is_free_beside change c.path ≡ true
+    go true e zero rest k = ap (λ x. is_free_beside change x.path) (sym (ap (value_or d) k)) ∙ h.0 (is_it f e)
+    go true e (suc i) rest k = rest i k
+    go false e i rest k = rest i k
+
+pub asides_named : (change : Change) (history : List TreeState) (coming : List PathClaim) (parts : Parts) → AreClaimsOf (members_of change.members.now) coming → AreParts change history coming parts → HaveNamesBeside (asides_of parts)
+asides_named change history coming parts h p i c g =
+    let k = ap (λ ys. slice_get ys i) (sym p.asides) ∙ g in
+    let f = marked_from (is_fate goes_aside) coming p.fates i c k in
+    let room = and_parts (nat_le (length (aside_name c.path)) 1024) (not (is_claimed (change_of change) (aside_name c.path))) (room_of (change_of change) coming p.fates p.room i c k) in
+    let long : length (c.path ++ ending) ≡ length c.path + 8 = length-append c.path ending in
+    let short : length (aside_name c.path) ≤ 1024 = leb-true (length (aside_name c.path)) 1024 room.0 in
+    record { name = (h f.0 c f.1).name; short = omega (arith, long, short) }
+
+pub kept_sorted : (change : Change) (history : List TreeState) (coming : List PathClaim) (parts : Parts) → HasClaims change → AreParts change history coming parts → IsSorted claim_cmp (kept_of_parts parts)
+kept_sorted change history coming parts h p =
+    rising_sorted (kept_of_parts parts)
+    (Names.pairs_from_rises (paths (kept_of_parts parts))
+    (subst (λ cs. Names.Rises (paths cs)) (sym p.kept)
+    (marked_rises (is_flag true) (left_in change (asides_of parts)) p.stays
+    (filtered_rises (λ c. is_left (change_of change) (asides_of parts) c.path) (claims_before change) (Names.rises_from_pairs (paths (claims_before change)) h.before.rising)))))
+
+-- ---- over the files of the tree
+
+module _ (change : Change) (claims : HasClaims change) (coming : List PathClaim) (firsts : HasFirsts (filter (is_of_coming_owner (members_of change.members.now)) (claims_after change)) coming)
+    (parts : Parts) (v : TreeState) (earlier : List TreeState) (are : AreParts change (v ∷ earlier) coming parts) where
+  pub up : Names.Rises (paths coming)
+  up = Names.rises_from_pairs (paths coming) firsts.rising
+
+  pub each : (q : List ℕ) → find (is_of_path q) coming ≡ find (is_of_path q) (filter (is_of_coming_owner (members_of change.members.now)) (sorted_by claim_cmp (claims_in (members_of change.members.now))))
+  each q = firsts.each q ∙ ap (λ cs. find (is_of_path q) (filter (is_of_coming_owner (members_of change.members.now)) cs)) claims.after
+
+  by_fate : (f : Fates.Fate) (xs : List PathClaim) → xs ≡ marked_claims (is_fate f) coming are.fates → xs ≡ with_fate (change_of change) (files_of v) coming up each f
+  by_fate f xs e = e ∙ (ap (marked_claims (is_fate f) coming) are.told.0 ∙ marked_by (is_fate f) (claim_fate (change_of change) (files_of v)) coming)
+
+  pub asides_are : asides_of parts ≡ with_fate (change_of change) (files_of v) coming up each goes_aside
+  asides_are = by_fate goes_aside (asides_of parts) are.asides
+
+  pub ins_are : ins_of parts ≡ with_fate (change_of change) (files_of v) coming up each goes_in
+  ins_are = by_fate goes_in (ins_of parts) are.ins
+
+  pub beside_parts : (q : List ℕ) → is_beside (asides_of parts) q ≡ is_some (option_and_then (laid_beside (change_of change) (files_of v)) (path_beside q))
+  beside_parts q = ap (λ cs. is_beside cs q) asides_are ∙ beside_is (change_of change) (files_of v) coming up each q
+
+  pub before_up : Names.Rises (paths (claims_before change))
+  before_up = Names.rises_from_pairs (paths (claims_before change)) claims.before.rising
+
+  pub before_each : (q : List ℕ) → find (is_of_path q) (claims_before change) ≡ find (is_of_path q) (sorted_by claim_cmp (claims_in (old_members (change_of change))))
+  before_each q = claims.before.each q
+
+  by_flag : (b : Bool) (xs : List PathClaim) → xs ≡ marked_claims (is_flag b) (left_in change (asides_of parts)) are.stays
+      → xs ≡ going (change_of change) (files_of v) (claims_before change) before_up before_each (asides_of parts) beside_parts b
+  by_flag b xs e =
+      e ∙ (ap (marked_claims (is_flag b) (left_in change (asides_of parts))) are.told.1 ∙ marked_by (is_flag b) (does_stay (change_of change) (files_of v)) (left_in change (asides_of parts)))
+
+  pub kept_parts : kept_of_parts parts ≡ going (change_of change) (files_of v) (claims_before change) before_up before_each (asides_of parts) beside_parts true
+  kept_parts = by_flag true (kept_of_parts parts) are.kept
+
+  pub removed_parts : removed_of parts ≡ going (change_of change) (files_of v) (claims_before change) before_up before_each (asides_of parts) beside_parts false
+  removed_parts = by_flag false (removed_of parts) are.removed
+
+  pub planned : (owned : List Bool) (plan : FilePlan) → AreListsOf parts owned plan → HasNoClash (name_change (change_of change) (files_of v)) (files_of v) → IsPlanOf (change_of change) (files_of v) plan
+  planned owned plan lists none = record {
+    removals = lists.removals ∙ (ap paths removed_parts ∙ removals_are (change_of change) (files_of v) (claims_before change) before_up before_each (asides_of parts) beside_parts);
+    writes = lists.writes ∙ ((λ j. sorted_by write_cmp (map claim_write (ins_are j) ++ map aside_write (asides_are j))) ∙ writes_are (change_of change) (files_of v) coming up each);
+    aside = lists.aside ∙ (ap paths asides_are ∙ aside_are (change_of change) (files_of v) coming up each);
+    kept = lists.kept ∙ (ap paths kept_parts ∙ kept_are (change_of change) (files_of v) (claims_before change) before_up before_each (asides_of parts) beside_parts);
+    no_clash = none;
+  }

@@ -1,0 +1,143 @@
+-- What the parts of a change ask for, and what they give.
+use Rattle.std.proofs.Common.{◌≡◌, ◌⊎◌, ℕ, suc, zero, ◌+◌, ◌<◌, ◌≤◌, Bool, true, false, cond, List, [], ◌∷◌, ◌++◌, length, map, All, Option, Some, None, Result, Ok, Err, refl, ap, sym, ◌∙◌, subst, arith}
+use Rattle.std.specs.Prelude.{◌&&◌, ◌||◌, not, slice_get, option_map, is_some, bytes_eq, if◌then◌else◌, IfOk}
+use Rattle.std.specs.List.{filter, find, list_any}
+use Rattle.std.specs.List.Sorted.{IsSorted}
+use Rattle.std.specs.Ordering.{is_gt}
+use Rattle.base_core.specs.Calls.{IfObservable}
+use Rattle.base_core.specs.Name.{IsName}
+use Rattle.base_core.specs.Tree.{TreeState, files_of}
+use Rattle.base_core.specs.declared.tree.TreeFault.{TreeFault}
+use Rattle.base_core.proofs.Rising as Names
+use Rattle.root_names.proofs.RootNamesAreNames.{database_named, world_named}
+use Rattle.list_order.specs.ByteOrder.{bytes_cmp}
+use Rattle.list_order.specs.Sorted.{sorted_by, with_element}
+use Rattle.list_order.proofs.Sorting.{Each, sorted_up}
+use Rattle.db_core.specs.Members.{Member, member_listings}
+use Rattle.db_core.specs.Seen.{members_of}
+use Rattle.path_claims.specs.Claims.{PathClaim, claim_cmp, is_of_path}
+use Rattle.path_claims.specs.Seen.{claim_seen}
+use Rattle.path_claims.specs.declared.claim.Claim.{Claim}
+use Rattle.path_claims.proofs.ClaimOrder.{paths_total}
+use Rattle.path_claims.proofs.Places.{map_len, no_some, value_or}
+use Rattle.path_clashes.specs.Clash.{NameChange}
+use Rattle.path_clashes.specs.ClashSeen.{clash_seen}
+use Rattle.path_clashes.specs.FirstClash.{IsClashOf}
+use Rattle.path_clashes.specs.declared.clash.Clash.{Clash}
+use Rattle.claim_lists.specs.Once.{HasFirsts}
+use Rattle.claim_lists.proofs.Firsts.{paths}
+use Rattle.file_owners.specs.Owners.{claims_in}
+use Rattle.change_files.specs.Fate as Fates
+use Rattle.change_files.specs.Fate.{aside_name}
+use Rattle.change_files.specs.FileChange.{FileChange}
+use Rattle.change_files.specs.FilesAfter.{database_name, world_name}
+use Rattle.change_files.specs.NamesAfter.{name_change}
+use Rattle.own_core.specs.ClaimEntries.{AreClaimsOf, IsClaimOf, comes_at, is_of_coming_owner, members_before}
+use Rattle.own_core.specs.Fates.{HaveRoom, fate_seen, marked_claims}
+use Rattle.own_core.specs.Parts.{AreParts, asides_of, kept_of_parts}
+use Rattle.own_core.specs.Sides.{HasClaims, change_of, claims_after, claims_before}
+use Rattle.own_core.specs.WritesSeen.{HaveNamesBeside}
+use Rattle.own_core.specs.declared.change.Change.{Change}
+use Rattle.own_core.specs.declared.fate.Fate.{Fate}
+use Rattle.own_core.specs.declared.planning.Parts.{Parts}
+use Rattle.own_core.proofs.ChangeClaims.{rising_sorted}
+use Rattle.own_core.proofs.Endings.{aside_is_name}
+use Rattle.own_core.proofs.Listings.{are_claims, each_both}
+use Rattle.own_core.proofs.NameChanges.{all_written, same_names}
+use Rattle.own_core.proofs.PartsMeaning.{each_at, filter_from, found_from, marked_rises}
+use Rattle.own_core.proofs.TreeLoops.{room_len}
+use Rattle.own_core.proofs.WritesMeaning.{each_finds_itself}
+
+-- ---- parts
+
+pub fates_len : (change : FileChange) (xs : List Claim) (fs : List Fate) → HaveRoom change (map claim_seen xs) (map fate_seen fs) → length fs ≡ length xs
+fates_len change xs fs h = sym (map_len fate_seen fs) ∙ (room_len change (map claim_seen xs) (map fate_seen fs) h ∙ map_len claim_seen xs)
+
+pub marked_sorted : {Y : Type 0} (test : Y → Bool) (cs xs : List PathClaim) (ms : List Y) → Names.Rises (paths cs) → xs ≡ marked_claims test cs ms → IsSorted claim_cmp xs
+marked_sorted test cs xs ms r e =
+    rising_sorted xs (Names.pairs_from_rises (paths xs) (subst (λ ys. Names.Rises (paths ys)) (sym e) (marked_rises test cs ms r)))
+
+pub files_kept : (members : List Member) (p : PathClaim → Bool) (cs xs : List PathClaim) → AreClaimsOf members cs → xs ≡ filter p cs → AreClaimsOf members xs
+files_kept members p cs xs h e i c g = let f = filter_from p cs i c (ap (λ ys. slice_get ys i) (sym e) ∙ g) in h f.0 c f.1
+
+pub told_both : (A B C : TreeState → Type 0) (h h1 : List TreeState) → h1 ≡ h → IfObservable h A → IfObservable h1 B → ((v : TreeState) → B v → C v) → IfObservable h (λ v. A v × C v)
+told_both A B C h h1 same a b f = go h a (subst (λ (k : List TreeState). IfObservable k B) same b)
+  where
+    go : (h : List TreeState) → IfObservable h A → IfObservable h B → IfObservable h (λ v. A v × C v)
+    go [] a b = tt
+    go (v ∷ earlier) a b = (a, f v b)
+
+-- ---- names that are written
+
+pub sorted_list : (xs ys : List (List ℕ)) → xs ≡ sorted_by bytes_cmp ys → IsSorted bytes_cmp xs
+sorted_list xs ys e = subst (IsSorted bytes_cmp) (sym e) (sorted_up bytes_cmp paths_total ys)
+
+name_with : (x : List ℕ) (ys : List (List ℕ)) → IsName x → Each IsName ys → Each IsName (with_element bytes_cmp x ys)
+name_with x [] n h = (n, tt)
+name_with x (y ∷ ys) n h = go (is_gt (bytes_cmp x y)) (name_with x ys n h.1)
+  where
+    go : (b : Bool) → Each IsName (with_element bytes_cmp x ys) → Each IsName (if b then y ∷ with_element bytes_cmp x ys else x ∷ y ∷ ys)
+    go true rest = (h.0, rest)
+    go false rest = (n, h)
+
+names_sorted : (xs : List (List ℕ)) → Each IsName xs → Each IsName (sorted_by bytes_cmp xs)
+names_sorted [] h = tt
+names_sorted (x ∷ xs) h = name_with x (sorted_by bytes_cmp xs) h.0 (names_sorted xs h.1)
+
+all_each : (P : List ℕ → Type 0) (xs : List (List ℕ)) → Each P xs → All P xs
+all_each P [] h k d l = absurd (omega arith)
+all_each P (x ∷ xs) h zero d l = h.0
+all_each P (x ∷ xs) h (suc k) d l = all_each P xs h.1 k d (omega arith)
+
+each_from_at : (P : PathClaim → Type 0) (cs : List PathClaim) → ((i : ℕ) (c : PathClaim) → slice_get cs i ≡ Some c → P c) → Each P cs
+each_from_at P [] h = tt
+each_from_at P (c ∷ cs) h = (h zero c refl, each_from_at P cs (λ i d g. h (suc i) d g))
+
+each_mapped : (P : PathClaim → Type 0) (Q : List ℕ → Type 0) (f : PathClaim → List ℕ) → ((c : PathClaim) → P c → Q (f c)) → (cs : List PathClaim) → Each P cs → Each Q (map f cs)
+each_mapped P Q f g [] h = tt
+each_mapped P Q f g (c ∷ cs) h = (g c h.0, each_mapped P Q f g cs h.1)
+
+pub written_named : (change : Change) → HasClaims change → (asides : List PathClaim) → HaveNamesBeside asides → (xs : List (List ℕ)) → xs ≡ sorted_by bytes_cmp (all_written change (map (λ c. aside_name c.path) asides)) → All IsName xs
+written_named change claims asides beside xs e =
+    subst (All IsName) (sym e) (all_each IsName (sorted_by bytes_cmp (all_written change (map (λ c. aside_name c.path) asides)))
+    (names_sorted (all_written change (map (λ c. aside_name c.path) asides))
+    (each_both IsName ((database_name ∷ world_name ∷ []) ++ map (λ c. c.path) (filter (λ c. comes_at (members_of change.members.now) c.member) (claims_after change))) (map (λ c. aside_name c.path) asides)
+    (each_both IsName (database_name ∷ world_name ∷ []) (map (λ c. c.path) (filter (λ c. comes_at (members_of change.members.now) c.member) (claims_after change)))
+    (database_named, (world_named, tt))
+    (each_mapped (λ c. IsName c.path) IsName (λ c. c.path) (λ c n. n) (filter (λ c. comes_at (members_of change.members.now) c.member) (claims_after change))
+    (each_from_at (λ c. IsName c.path) (filter (λ c. comes_at (members_of change.members.now) c.member) (claims_after change))
+    (λ i c g. (files_kept (members_of change.members.now) (λ c. comes_at (members_of change.members.now) c.member) (claims_after change) (filter (λ c. comes_at (members_of change.members.now) c.member) (claims_after change)) claims.new_files refl i c g).name))))
+    (each_mapped (λ c. IsName (aside_name c.path)) IsName (λ c. aside_name c.path) (λ c n. n) asides
+    (each_from_at (λ c. IsName (aside_name c.path)) asides (λ i c g. aside_is_name c.path (beside i c g).name (beside i c g).short))))))
+
+-- ---- the clash that is told
+
+pub clash_is : (change : Change) → HasClaims change → (coming : List PathClaim) → HasFirsts (filter (is_of_coming_owner (members_of change.members.now)) (claims_after change)) coming
+    → (parts : Parts) (h : List TreeState) → AreParts change h coming parts → (counts lets : List ℕ → Bool)
+    → ((name : List ℕ) → counts name ≡ list_any (bytes_eq name) (sorted_by bytes_cmp (all_written change (map (λ c. aside_name c.path) (asides_of parts)))))
+    → ((name : List ℕ) → lets name ≡ (is_some (find (is_of_path name) (claims_before change)) && not (is_some (find (is_of_path name) (claims_after change)) || is_some (find (is_of_path name) (kept_of_parts parts)))))
+    → (r : Result (Option Clash) TreeFault)
+    → IfOk r (λ found. IfObservable h (λ v. IsClashOf (record { counts_as_written = counts; lets_go = lets }) (files_of v) (option_map clash_seen found)))
+    → IfOk r (λ found. IfObservable h (λ v. IsClashOf (name_change (change_of change) (files_of v)) (files_of v) (option_map clash_seen found)))
+clash_is change claims coming firsts parts h are counts lets c l (Err fault) told = tt
+clash_is change claims coming firsts parts [] are counts lets c l (Ok found) told = tt
+clash_is change claims coming firsts parts (v ∷ earlier) are counts lets c l (Ok found) told =
+    subst (λ (n : NameChange). IsClashOf n (files_of v) (option_map clash_seen found)) (same_names change claims coming firsts parts v earlier are counts lets c l) told
+
+-- ---- the claims of a change
+
+pub files_first : (members : List Member) (all firsts : List PathClaim) → AreClaimsOf members all → HasFirsts all firsts → AreClaimsOf members firsts
+files_first members all firsts h f i c g =
+    let here = each_at (λ d. find (is_of_path d.path) firsts ≡ Some d) firsts (each_finds_itself firsts (Names.rises_from_pairs (paths firsts) f.rising)) i c g in
+    let k = found_from (is_of_path c.path) all c (sym (f.each c.path) ∙ here) in
+    h k.0 c k.1
+
+pub has_claims : (change : Change) → All (λ l. IsName l.path) (member_listings (members_before change.db.now)) → All (λ l. IsName l.path) (member_listings (members_of change.members.now))
+    → (listed : List PathClaim) → listed ≡ sorted_by claim_cmp (claims_in (members_before change.db.now)) → HasFirsts listed (claims_before change) → claims_after change ≡ sorted_by claim_cmp (claims_in (members_of change.members.now))
+    → HasClaims change
+has_claims change old new listed e firsts after = record {
+  before = subst (λ (cs : List PathClaim). HasFirsts cs (claims_before change)) e firsts;
+  after = after;
+  old_files = files_first (members_before change.db.now) listed (claims_before change) (are_claims (members_before change.db.now) listed old e) firsts;
+  new_files = are_claims (members_of change.members.now) (claims_after change) new after;
+}

@@ -1,0 +1,15 @@
+-- The lists of a plan, by the parts of a change.
+use Rattle.std.specs.Prelude.{◌≡◌, Bool, List, ◌++◌, map}
+use Rattle.list_order.specs.Sorted.{sorted_by}
+use Rattle.own_core.specs.Parts.{asides_of, ins_of, kept_of_parts, removed_of}
+use Rattle.own_core.specs.WritesSeen.{aside_write, claim_write, write_cmp, writes_in}
+use Rattle.own_core.specs.declared.planning.FilePlan.{FilePlan}
+use Rattle.own_core.specs.declared.planning.Parts.{Parts}
+
+pub record AreListsOf (parts : Parts) (flags : List Bool) (plan : FilePlan) : Type 0 where
+  pub removals : plan.removals ≡ map (λ c. c.path) (removed_of parts)
+  pub writes : writes_in plan.writes
+      ≡ sorted_by write_cmp (map claim_write (ins_of parts) ++ map aside_write (asides_of parts))
+  pub owned : plan.owned ≡ flags
+  pub aside : plan.aside ≡ map (λ c. c.path) (asides_of parts)
+  pub kept : plan.kept ≡ map (λ c. c.path) (kept_of_parts parts)

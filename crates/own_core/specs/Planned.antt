@@ -1,0 +1,78 @@
+-- What a plan of a change says, and why there is none.
+use Rattle.std.specs.Prelude.{◌≡◌, ℕ, Bool, false, List, ◌++◌, map, Option, Some, None, All, option_map, slice_get}
+use Rattle.base_core.specs.Files.{Files}
+use Rattle.base_core.specs.Listed.{IsRising}
+use Rattle.db_core.specs.Members.{Member, member_name}
+use Rattle.db_core.specs.Seen.{members_of, packages_of}
+use Rattle.db_core.specs.declared.db.Db.{Db}
+use Rattle.db_core.specs.declared.members.Members.{Members}
+use Rattle.path_claims.specs.Claims.{ContestedPath}
+use Rattle.path_clashes.specs.Clash.{HasNoClash, IsFirstClash}
+use Rattle.file_owners.specs.Owners.{contested_of, owned_of}
+use Rattle.change_files.specs.FileChange.{FileChange}
+use Rattle.change_files.specs.NamesAfter.{name_change}
+use Rattle.change_files.specs.PlanLists.{aside_of, first_reserved, kept_of, removals_of, writes_of}
+use Rattle.own_core.specs.WritesSeen.{writes_in}
+use Rattle.own_core.specs.declared.fault.PlanFault.{PlanFault}
+use Rattle.own_core.specs.declared.fault.PlanFault.TheVariants.{Disk, Memory, Owned, PathClash, Reserved}
+use Rattle.own_core.specs.declared.planning.FilePlan.{FilePlan}
+
+abbrev pub change_by : Db → Members → Bool → FileChange
+change_by old after purge =
+    record { old = packages_of old; members = members_of after; purge = purge }
+
+-- ---- a plan
+
+-- over these files the lists are the change's, and no name is a folder of another
+pub record IsPlanOf (change : FileChange) (files : Files) (plan : FilePlan) : Type 0 where
+  pub removals : plan.removals ≡ removals_of change files
+  pub writes : writes_in plan.writes ≡ writes_of change files
+  pub aside : plan.aside ≡ aside_of change files
+  pub kept : plan.kept ≡ kept_of change files
+  pub no_clash : HasNoClash (name_change change files) files
+
+-- Over any tree: each file has its owner, no package that comes lists a reserved path, and no path
+-- is contested.
+pub record IsPlanFor (members : List Member) (plan : FilePlan) : Type 0 where
+  pub owned : plan.owned ≡ owned_of members
+  pub allowed : first_reserved members ≡ None
+  pub owners : contested_of members ≡ None
+
+-- ---- why there is none
+
+abbrev pub name_at : List Member → ℕ → Option (List ℕ)
+name_at members place = option_map member_name (slice_get members place)
+
+-- the first path that no package owns, and the names of two that list it
+pub record IsContest (members : List Member) (path first second : List ℕ) : Type 0 where
+  pub contest : ContestedPath
+  pub is : contested_of members ≡ Some contest
+  pub at : path ≡ contest.path
+  pub lister : name_at members contest.rivals.first ≡ Some first
+  pub other : name_at members contest.rivals.second ≡ Some second
+
+abbrev pub IsOwnedBy : List Member → PlanFault → Type 0
+IsOwnedBy members (Reserved path) = ⊥
+IsOwnedBy members (PathClash path other) = ⊥
+IsOwnedBy members (Owned path first second) = IsContest members path first second
+IsOwnedBy members Disk = ⊥
+IsOwnedBy members Memory = ⊥
+
+-- over these files a clash of names is the first one, and comes before a contested path
+abbrev pub IsRefusalOf : FileChange → Files → PlanFault → Type 0
+IsRefusalOf change files (Reserved path) = Unit {0}
+IsRefusalOf change files (PathClash path other) =
+    IsFirstClash (name_change change files) files (record { path = path; other = other })
+IsRefusalOf change files (Owned path first second) = HasNoClash (name_change change files) files
+IsRefusalOf change files Disk = Unit {0}
+IsRefusalOf change files Memory = Unit {0}
+
+-- over any tree: a reserved path comes before all but want of memory, and a contested path has its
+-- names
+abbrev pub IsRefusalFor : List Member → PlanFault → Type 0
+IsRefusalFor members (Reserved path) = first_reserved members ≡ Some path
+IsRefusalFor members (PathClash path other) = first_reserved members ≡ None
+IsRefusalFor members (Owned path first second) =
+    (first_reserved members ≡ None) × IsContest members path first second
+IsRefusalFor members Disk = first_reserved members ≡ None
+IsRefusalFor members Memory = Unit {0}

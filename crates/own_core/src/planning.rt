@@ -1,0 +1,304 @@
+//! The plan of files of a change.
+
+ghost use Rattle.std.specs.Prelude.{◌≡◌, ◌<◌, All, IfErr, IfOk, None, Some, length, map, option_map, slice_get};
+ghost use Rattle.std.specs.List.{filter};
+ghost use Rattle.std.specs.List.Sorted.{IsSorted};
+ghost use Rattle.base_core.specs.Calls.{IfObservable};
+ghost use Rattle.base_core.specs.Listed.{IsRising};
+ghost use Rattle.base_core.specs.Name.{IsName};
+ghost use Rattle.base_core.specs.Read.{OnlyReads};
+ghost use Rattle.base_core.specs.Tree.{files_of};
+ghost use Rattle.change_files.specs.NamesAfter.{name_change};
+ghost use Rattle.change_files.specs.PlanLists.{first_reserved};
+ghost use Rattle.claim_lists.specs.Named.{HaveNames};
+ghost use Rattle.claim_lists.specs.Once.{HasFirsts};
+ghost use Rattle.db_core.specs.Members.{member_listings};
+ghost use Rattle.db_core.specs.Seen.{members_of};
+ghost use Rattle.file_owners.specs.Owners.{claims_in, contested_of};
+ghost use Rattle.list_order.specs.Sorted.{sorted_by};
+ghost use Rattle.path_claims.specs.Claims.{claim_cmp};
+ghost use Rattle.path_claims.specs.ContestedSeen.{contested_seen};
+ghost use Rattle.path_claims.specs.Seen.{claim_seen};
+ghost use Rattle.path_clashes.specs.ClashSeen.{clash_seen};
+ghost use Rattle.path_clashes.specs.FirstClash.{IsClashOf};
+ghost use Rattle.own_core.specs.ClaimEntries.{AreClaimsOf, IsClaimOf, is_of_coming_owner, is_reserved_coming};
+ghost use Rattle.own_core.specs.ListsSeen.{AreListsOf};
+ghost use Rattle.own_core.specs.Parts.{AreParts, asides_of, ins_of, kept_of_parts, removed_of};
+ghost use Rattle.own_core.specs.Planned.{IsOwnedBy, IsPlanFor, IsPlanOf, IsRefusalFor, IsRefusalOf, change_by, name_at};
+ghost use Rattle.own_core.specs.Sides.{HasClaims, change_of, claims_after};
+ghost use Rattle.own_core.specs.WritesSeen.{HaveNamesBeside};
+
+use crate::change::Change;
+use crate::clashes::{LetGoPaths, names_beside, written_paths};
+use crate::coming::{coming_claims, comes};
+use crate::fate::{Fate, fates_of};
+use crate::fault::PlanFault;
+use crate::parts::{claims_where, claims_with, left_claims, stays_of};
+use crate::writes::{Writes, writes_of};
+use adb_schema::is_reserved_file;
+use base_core::{Name, Names, Text, Tree, TreeFault};
+use claim_lists::{name_of_path, names_of_claims, one_of_each_path};
+use db_core::{Db, Members, Owned};
+use file_owners::{Contested, claims_in_database, owners_of_files};
+use path_claims::Claim;
+use path_clashes::{Clash, first_clash};
+use std::alloc::{AllocError, Global};
+
+/// What a change removes, writes and keeps.
+#[derive(Drop)]
+pub struct FilePlan {
+    pub(crate) removals: Names,
+    pub(crate) writes: Writes,
+    pub(crate) owned: Owned,
+    pub(crate) aside: Names,
+    pub(crate) kept: Names,
+}
+
+impl FilePlan {
+    /// The names that are removed, also where no file stands.
+    pub fn removals(&self) -> &Names
+        ensures { result.now ≡ self.now.removals }
+    {
+        &self.removals
+    }
+
+    /// What is written, without the database and the world.
+    pub fn writes(&self) -> &Writes
+        ensures { result.now ≡ self.now.writes }
+    {
+        &self.writes
+    }
+
+    /// For each file that packages list after the change whether its package owns it.
+    pub fn owned(&self) -> &Owned
+        ensures { result.now ≡ self.now.owned }
+    {
+        &self.owned
+    }
+
+    /// The paths beside which a file is laid.
+    pub fn aside(&self) -> &Names
+        ensures { result.now ≡ self.now.aside }
+    {
+        &self.aside
+    }
+
+    /// The paths at which the user's file stays though its package is gone.
+    pub fn kept(&self) -> &Names
+        ensures { result.now ≡ self.now.kept }
+    {
+        &self.kept
+    }
+}
+
+/// The files of a change by what becomes of them, in the order of paths.
+#[derive(Drop)]
+struct Parts<'o, 'n> {
+    ins: Vec<Claim<'n>>,
+    asides: Vec<Claim<'n>>,
+    removed: Vec<Claim<'o>>,
+    kept: Vec<Claim<'o>>,
+}
+
+/// The files that come and those that go.
+fn parts_of<'o, 'n, T: Tree>(
+    alloc: Global,
+    tree: &mut T,
+    change: &Change<'_, 'o, 'n>,
+    coming: &[Claim<'n>],
+) -> Result<Parts<'o, 'n>, TreeFault>
+    requires claims { HasClaims change.now }
+    requires files { AreClaimsOf (members_of change.now.members.now) (map claim_seen coming.now) }
+    requires rising { IsRising (map (λ c. c.path) (map claim_seen coming.now)) }
+    ensures parts { IfOk result
+        (AreParts change.now (T.history tree.old) (map claim_seen coming.now)) }
+    ensures tree { OnlyReads TreeFault.Disk (T.history tree.old) (T.history tree.new)
+        (T.counts tree.old) (T.counts tree.new) result }
+{
+    let fates = fates_of(alloc, tree, change, coming)?;
+    let ins = claims_with(alloc, coming, &fates, Fate::GoesIn)?;
+    let asides = claims_with(alloc, coming, &fates, Fate::GoesAside)?;
+    let left = left_claims(alloc, change, &asides)?;
+    let stays = stays_of(alloc, tree, change, &left)?;
+    let removed = claims_where(alloc, &left, &stays, false)?;
+    let kept = claims_where(alloc, &left, &stays, true)?;
+    Ok(Parts {
+        ins,
+        asides,
+        removed,
+        kept,
+    })
+}
+
+/// The first two names after the change of which one is a folder of the other.
+fn clash_of<T: Tree>(
+    alloc: Global,
+    tree: &mut T,
+    change: &Change<'_, '_, '_>,
+    parts: &Parts<'_, '_>,
+    coming: &[Claim<'_>],
+) -> Result<Option<Clash>, TreeFault>
+    requires claims { HasClaims change.now }
+    requires files { AreClaimsOf (members_of change.now.members.now) (map claim_seen coming.now) }
+    requires firsts { HasFirsts
+        (filter (is_of_coming_owner (members_of change.now.members.now)) (claims_after change.now))
+        (map claim_seen coming.now) }
+    requires parts { AreParts change.now (T.history tree.old) (map claim_seen coming.now)
+        parts.now }
+    ensures clash { IfOk result (λ found. IfObservable (T.history tree.old) (λ v. IsClashOf
+        (name_change (change_of change.now) (files_of v)) (files_of v)
+        (option_map clash_seen found))) }
+    ensures tree { OnlyReads TreeFault.Disk (T.history tree.old) (T.history tree.new)
+        (T.counts tree.old) (T.counts tree.new) result }
+{
+    let besides = names_beside(alloc, &parts.asides)?;
+    let written = written_paths(alloc, change.members, change.after, &besides)?;
+    let let_go = LetGoPaths {
+        before: change.before,
+        after: change.after,
+        kept: &parts.kept,
+    };
+    first_clash(alloc, tree, &written, &let_go)
+}
+
+/// Whether a member that comes lists a reserved path by a claim.
+fn is_reserved_coming(members: &Members<'_>, claim: &Claim<'_>) -> bool
+    requires { IsClaimOf (members_of members.now) (claim_seen claim.now) }
+    ensures { result ≡ is_reserved_coming (members_of members.now) (claim_seen claim.now) }
+{
+    is_reserved_file(claim.path.folder, claim.path.name) && comes(members, claim)
+}
+
+/// The first reserved path that a package which comes lists.
+fn first_reserved(
+    alloc: Global,
+    members: &Members<'_>,
+    claims: &[Claim<'_>],
+) -> Result<Option<Name>, AllocError>
+    requires files { AreClaimsOf (members_of members.now) (map claim_seen claims.now) }
+    requires sorted { map claim_seen claims.now
+        ≡ sorted_by claim_cmp (claims_in (members_of members.now)) }
+    ensures { IfOk result (λ found. found ≡ first_reserved (members_of members.now)) }
+{
+    for claim in claims {
+        if is_reserved_coming(members, claim) {
+            let name = name_of_path(alloc, &claim.path)?;
+            return Ok(Some(name));
+        }
+    }
+    Ok(None)
+}
+
+/// The name of the member at a place.
+fn name_at(alloc: Global, members: &Members<'_>, place: u32) -> Result<Text, AllocError>
+    requires { place < length (members_of members.now) }
+    ensures { IfOk result (λ name. name_at (members_of members.now) place ≡ Some name) }
+{
+    let view = members.view(place as usize);
+    Text::of(alloc, view.info().name())
+}
+
+/// The refusal where no package owns a path.
+fn contest(
+    alloc: Global,
+    members: &Members<'_>,
+    contested: &Contested<'_>,
+) -> Result<PlanFault, AllocError>
+    requires contested { contested_of (members_of members.now)
+        ≡ Some (contested_seen contested.now) }
+    requires named { All (λ l. IsName l.path) (member_listings (members_of members.now)) }
+    ensures { IfOk result (IsOwnedBy (members_of members.now)) }
+{
+    let path = name_of_path(alloc, &contested.path)?;
+    let first = name_at(alloc, members, contested.rivals.first)?;
+    let second = name_at(alloc, members, contested.rivals.second)?;
+    Ok(PlanFault::Owned {
+        path,
+        first,
+        second,
+    })
+}
+
+/// The lists of a change against which nothing stands.
+fn lists_of(
+    alloc: Global,
+    parts: &Parts<'_, '_>,
+    owned: Vec<bool>,
+) -> Result<FilePlan, AllocError>
+    requires removed { HaveNames (removed_of parts.now) }
+    requires kept { HaveNames (kept_of_parts parts.now) }
+    requires ins { HaveNames (ins_of parts.now) }
+    requires asides { HaveNamesBeside (asides_of parts.now) }
+    ensures { IfOk result (AreListsOf parts.now owned.items) }
+{
+    let removals = names_of_claims(alloc, &parts.removed)?;
+    let kept = names_of_claims(alloc, &parts.kept)?;
+    let aside = names_of_claims(alloc, &parts.asides)?;
+    let writes = writes_of(alloc, &parts.ins, &parts.asides)?;
+    Ok(FilePlan {
+        removals,
+        writes,
+        owned: Owned::of(owned),
+        aside,
+        kept,
+    })
+}
+
+/// Plans the files of a change of packages: which names are removed, which get the contents of which
+/// files, and which configuration stays as the user made it. With `purge` configuration that the
+/// user changed goes with its package. The call only reads the tree: the files of configuration of
+/// packages that come or go, and near the names that are written.
+///
+/// # Errors
+///
+/// `Reserved` before any look at the tree; then `PathClash`; then `Owned`. `Disk` where the tree
+/// failed, `Memory` where there was no memory.
+pub fn plan<T: Tree>(
+    alloc: Global,
+    old: &Db<'_>,
+    after: &Members<'_>,
+    tree: &mut T,
+    purge: bool,
+) -> Result<FilePlan, PlanFault>
+    // Over a tree that tells its files.
+    ensures plan { IfOk result (λ plan. IfObservable (T.history tree.old) (λ v.
+        IsPlanOf (change_by old.now after.now purge) (files_of v) plan)) }
+    ensures refusal { IfErr result (λ fault. IfObservable (T.history tree.old) (λ v.
+        IsRefusalOf (change_by old.now after.now purge) (files_of v) fault)) }
+
+    // Over any tree.
+    ensures lists { IfOk result (IsPlanFor (members_of after.now)) }
+    ensures cause { IfErr result (IsRefusalFor (members_of after.now)) }
+    ensures tree { OnlyReads PlanFault.Disk (T.history tree.old) (T.history tree.new)
+        (T.counts tree.old) (T.counts tree.new) result }
+{
+    old.listed_paths_are_names();
+    after.listed_paths_are_names();
+    let found = owners_of_files(alloc, after)?;
+    let reserved = first_reserved(alloc, after, &found.claims)?;
+    if let Some(path) = reserved {
+        return Err(PlanFault::Reserved { path });
+    }
+    let listed = claims_in_database(alloc, old)?;
+    let before = one_of_each_path(alloc, &listed)?;
+    let change = Change {
+        db: old,
+        members: after,
+        before: &before,
+        after: &found.claims,
+        purge,
+    };
+    let coming = coming_claims(alloc, after, &found.claims, &found.owners)?;
+    let parts = parts_of(alloc, tree, &change, &coming)?;
+    let clash = clash_of(alloc, tree, &change, &parts, &coming)?;
+    if let Some(clash) = clash {
+        let Clash { path, other } = clash;
+        return Err(PlanFault::PathClash { path, other });
+    }
+    if let Some(contested) = &found.contested {
+        let fault = contest(alloc, after, contested)?;
+        return Err(fault);
+    }
+    let plan = lists_of(alloc, &parts, found.owned)?;
+    Ok(plan)
+}
