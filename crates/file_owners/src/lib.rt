@@ -8,6 +8,7 @@
 mod database;
 mod gather;
 mod laws;
+mod named;
 mod owner;
 mod replaces;
 
