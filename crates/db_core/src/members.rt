@@ -178,8 +178,7 @@ impl<'a> Members<'a> {
             (λ e. precedes (member_name (member_by e)) name.now ≡ false)
             self.now.entries.items result }
     {
-        self.entries
-            .partition_point(|entry| is_before(entry, name))
+        self.entries.partition_point(|entry| is_before(entry, name))
     }
 
     /// How many packages there are.

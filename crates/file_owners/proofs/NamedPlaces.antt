@@ -1,6 +1,6 @@
 -- A package names the members whose places were gathered.
 use Rattle.std.proofs.Common.{◌≡◌, ◌⊎◌, inl, inr, ℕ, suc, zero, ◌+◌, ◌<◌, ◌≤◌, Bool, true, false, cond, List, [], ◌∷◌, ◌++◌, map, length, drop, get_or, Option, Some, None, Result, Ok, Err, refl, ap, sym, ◌∙◌, subst, arith, true≢false}
-use Rattle.std.specs.Prelude.{◌==◌, ◌&&◌, ◌||◌, not, bytes_eq, if◌then◌else◌, is_ok, nat_lt, slice_get, MatchResult}
+use Rattle.std.specs.Prelude.{◌%◌, ◌==◌, ◌&&◌, ◌||◌, not, bytes_eq, if◌then◌else◌, is_ok, nat_lt, slice_get, MatchResult}
 use Rattle.std.specs.Cmp.Lexicographic.{bytes_decides}
 use Rattle.std.specs.List.{list_any}
 use Rattle.std.specs.List.Sorted.{IsBinarySearchResult, IsPermutation, IsSorted}
@@ -52,7 +52,9 @@ not_met (Some d) name version h = go (not d.conflict) (bytes_eq d.name name) _ (
 
 value_named : (name version : List ℕ) (matching : ℕ) (d : Dependency) → dependency_of_value name version matching ≡ Some d → d.name ≡ name
 unfolding dependency_of_value
-value_named name version matching d e = go (is_dep_name name && (is_version_or_empty version && is_matching matching)) _ (named_on (any_version (not (nat_lt matching 16)) name) version (bits_of _)) e
+value_named name version matching d e =
+    let made : Dependency = on_version (any_version (not (nat_lt matching 16)) name) version (bits_of (matching % 16)) in
+    go (is_dep_name name && (is_version_or_empty version && is_matching matching)) made (named_on (any_version (not (nat_lt matching 16)) name) version (bits_of (matching % 16))) e
   where
     go : (t : Bool) (made : Dependency) → made.name ≡ name → (if t then Some made else None) ≡ Some d → d.name ≡ name
     go true made n s = sym (ap (λ o. (value_or d o).name) s) ∙ n
@@ -243,10 +245,10 @@ module _ (members : List Member) (named : List (List ℕ)) (all : ArePlacesOfEac
 
   pub not_named : (places : List ℕ) (t : Bool) → slice_get named x ≡ Some places → t ≡ list_any (λ p. p == y) places → t ≡ false → false ≡ member_beats members x y
   unfolding takes_over
-  not_named places t g is no =
+  not_named places t g is absent =
       let m = some_member members x l in
       let n = some_member members y k in
-      let e : names_package m.0.pkg n.0.pkg ≡ false = sym (names_at x y m.0 n.0 places m.1 n.1 g) ∙ (sym is ∙ no) in
+      let e : names_package m.0.pkg n.0.pkg ≡ false = sym (names_at x y m.0 n.0 places m.1 n.1 g) ∙ (sym is ∙ absent) in
       sym (sym (beats_is m.0 n.0 m.1 n.1) ∙ ap (λ b. b && (not (names_package n.0.pkg m.0.pkg) || is_preferred_to m.0.pkg n.0.pkg)) e)
 
   pub not_back : (places others : List ℕ) (t u : Bool) → slice_get named x ≡ Some places → slice_get named y ≡ Some others → t ≡ list_any (λ p. p == y) places → t ≡ true

@@ -40,12 +40,12 @@ pub(crate) fn places_of_each(
 fn places_named(
     alloc: Global,
     members: &Members<'_>,
-    package: &PackageView<'_>,
+    pkg: &PackageView<'_>,
 ) -> Result<Vec<u32>, AllocError>
     ensures { IfOk result (λ places.
-        ArePlacesNamed (members_of members.now) (package_value package.now) places.items) }
+        ArePlacesNamed (members_of members.now) (package_value pkg.now) places.items) }
 {
-    let info = package.info();
+    let info = pkg.info();
     let mut places = places_in(alloc, members, &info.replaces())?;
     places.sort()?;
     Ok(places)
@@ -87,13 +87,16 @@ fn place_named(members: &Members<'_>, entry: &DepView<'_>) -> Option<u32>
     ensures { (y : ℕ) (m : Member) → slice_get (members_of members.now) y ≡ Some m
         → is_place y result ≡ is_named_by (dependency_value entry.now) m.pkg }
 {
-    let Some(place) = members.find(entry.name()) else {
-        return None;
-    };
-    if !is_named_by(entry, members.view(place)) {
-        return None;
+    match members.find(entry.name()) {
+        Some(place) => {
+            if is_named_by(entry, members.view(place)) {
+                Some(place_of(members, place))
+            } else {
+                None
+            }
+        }
+        None => None,
     }
-    Some(place_of(members, place))
 }
 
 /// Whether a place is among places in rising order.

@@ -30,8 +30,10 @@ impl<'m, 'a> Contest for Claimants<'m, 'a> {
     ghost beats = { λ claimants. member_beats (members_of claimants.members.now) };
 
     fn beats(&self, one: u32, other: u32) -> bool {
-        let count = self.members.len();
-        if one as usize >= count || other as usize >= count {
+        if one as usize >= self.members.len() {
+            return false;
+        }
+        if other as usize >= self.members.len() {
             return false;
         }
         member_beats(self.members, &self.named, one, other)

@@ -21,10 +21,10 @@ fn is_replaced(dep: &DepView<'_>, name: &[u8], version: &Version<'_>) -> bool
 
 /// Whether an entry of what a package replaces names another package: it is positive, and met by
 /// that one's own name and version.
-pub(crate) fn is_named_by(entry: &DepView<'_>, package: &PackageView<'_>) -> bool
-    ensures { result ≡ is_named_by (dependency_value entry.now) (package_value package.now) }
+pub(crate) fn is_named_by(entry: &DepView<'_>, pkg: &PackageView<'_>) -> bool
+    ensures { result ≡ is_named_by (dependency_value entry.now) (package_value pkg.now) }
 {
-    let info = package.info();
+    let info = pkg.info();
     match Version::read(info.version()) {
         Some(version) => is_replaced(entry, info.name(), &version),
         None => false,
