@@ -79,7 +79,8 @@ pub fn the_file_of_a_package_that_stays_is_not_touched()
 /// laid beside another file gives way to what is laid there now.
 pub fn configuration_that_the_user_changed_stays()
     ensures { (change : FileChange) (bytes_of : Listing → List ℕ) (records : Records)
-        (files : Files) (path bytes : List ℕ) → change.purge ≡ false → IsUsersFile change files path bytes
+        (files : Files) (path bytes : List ℕ) → change.purge ≡ false
+        → IsUsersFile change files path bytes
         → is_aside_name change files path ≡ false → is_record_name records path ≡ false
         → changed_files change bytes_of records files path ≡ Some bytes }
 {}
@@ -87,7 +88,8 @@ pub fn configuration_that_the_user_changed_stays()
 /// What is kept stays as it is.
 pub fn what_is_kept_stays()
     ensures { (change : FileChange) (bytes_of : Listing → List ℕ) (records : Records)
-        (files : Files) (path : List ℕ) → is_kept change files path ≡ true → is_record_name records path ≡ false
+        (files : Files) (path : List ℕ) → is_kept change files path ≡ true
+        → is_record_name records path ≡ false
         → changed_files change bytes_of records files path ≡ files path }
 {}
 
@@ -95,7 +97,8 @@ pub fn what_is_kept_stays()
 /// unless a file is laid beside another one under it.
 pub fn a_name_that_nobody_lists_is_not_touched()
     ensures { (change : FileChange) (bytes_of : Listing → List ℕ) (records : Records)
-        (files : Files) (name : List ℕ) → was_listed change name ≡ false → is_coming_path change name ≡ false
+        (files : Files) (name : List ℕ) → was_listed change name ≡ false
+        → is_coming_path change name ≡ false
         → is_aside_name change files name ≡ false → is_record_name records name ≡ false
         → changed_files change bytes_of records files name ≡ files name }
 {}
@@ -105,7 +108,8 @@ pub fn a_name_that_nobody_lists_is_not_touched()
 /// Each file after a change stands under one of the names after.
 pub fn the_files_after_a_change_stand_under_its_names()
     ensures { (change : FileChange) (bytes_of : Listing → List ℕ) (records : Records)
-        (files : Files) (name : List ℕ) → is_some (changed_files change bytes_of records files name) ≡ true
+        (files : Files) (name : List ℕ)
+        → is_some (changed_files change bytes_of records files name) ≡ true
         → is_name_after (name_change change files) files name ≡ true }
 {}
 
