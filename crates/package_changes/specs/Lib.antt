@@ -1,0 +1,3 @@
+-- what the contract of `apk` says
+pub mod Changes
+pub mod Report
