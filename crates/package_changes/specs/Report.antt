@@ -1,5 +1,5 @@
 -- The report of a change that is only simulated (apk(8)).
-use Rattle.std.specs.Prelude.{ℕ, Bool, not, ◌&&◌, if◌then◌else◌, List, [], ◌∷◌, ◌++◌, length, map, bytes_eq, sum_by}
+use Rattle.std.specs.Prelude.{ℕ, Bool, not, ◌&&◌, List, ◌++◌, length, map, bytes_eq, sum_by}
 use Rattle.std.specs.List.{filter, flat_map, list_any}
 use Rattle.adb_tables.specs.Values.{entry_in, int_in}
 use Rattle.change_files.specs.PlanLists.{names_in_order}
