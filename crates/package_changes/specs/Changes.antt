@@ -9,7 +9,8 @@ use Rattle.adb_fields.specs.Repeated.{package_name}
 use Rattle.db_core.specs.Packages.{is_package_named}
 use Rattle.file_owners.specs.Replaces.{version_text}
 use Rattle.change_files.specs.PlanLists.{names_in_order}
-use Rattle.pool_core.specs.Candidates.{Candidate, is_same_id}
+use Rattle.pool_core.specs.Candidates.{Candidate, is_same_id, version_of_text}
+use Rattle.std.specs.Option.{option_cmp}
 use Rattle.version_core.specs.Order.{version_cmp}
 use Rattle.report_core.specs.Reports.{Change, Downgrade, Install, Purge, Reinstall, Replace, Upgrade}
 
@@ -28,11 +29,14 @@ selected_version c = text_in (entry_in c.info 1)
 abbrev pub is_selected_named : List ℕ → Candidate → Bool
 is_selected_named name c = bytes_eq c.name name
 
--- the candidate is the installed package: of no repository, or with its version's text and its id
+-- the candidate is an installed package with this version and this id: of no repository, or with
+-- the same text and the same id
+abbrev pub is_same_texts : List ℕ → List ℕ → Candidate → Bool
+is_same_texts version id c =
+    not (is_some c.repository) || (bytes_eq version (selected_version c) && is_same_id id c.id)
+
 abbrev pub is_same_selected : Plain → Candidate → Bool
-is_same_selected pkg c =
-    not (is_some c.repository)
-    || (bytes_eq (version_text pkg) (selected_version c) && is_same_id (package_id pkg) c.id)
+is_same_selected pkg c = is_same_texts (version_text pkg) (package_id pkg) c
 
 -- from one version to another, by their order
 abbrev pub version_change : List ℕ → List ℕ → List ℕ → Ordering → Change
@@ -40,10 +44,15 @@ version_change name old new Less = Upgrade name old new
 version_change name old new Equal = Replace name old new
 version_change name old new Greater = Downgrade name old new
 
+-- The order of two versions; a text that is none comes first, and no tested container has one.
+abbrev pub version_text_cmp : List ℕ → List ℕ → Ordering
+version_text_cmp old new = option_cmp version_cmp (version_of_text old) (version_of_text new)
+
+-- none for a package that stays as it is
 abbrev pub unless_same : List ℕ → Plain → Candidate → Bool → Bool → Option Change
 unless_same name pkg c is_same is_again =
     if not is_same then Some (version_change name (version_text pkg) (selected_version c)
-    (version_cmp (version_text pkg) (selected_version c)))
+    (version_text_cmp (version_text pkg) (selected_version c)))
     else if is_again then Some (Reinstall name (selected_version c)) else None
 
 abbrev pub change_between : Bool → List ℕ → Option Plain → Option Candidate → Option Change
@@ -59,8 +68,11 @@ change_of_name r name =
     change_between (list_any (bytes_eq name) r.again) name
     (find (is_package_named name) r.before) (find (is_selected_named name) r.selected)
 
+-- the names of the packages before and of the selected ones, in byte order, each once
+abbrev pub names_on_both_sides : Replacement → List (List ℕ)
+names_on_both_sides r =
+    names_in_order (map package_name r.before ++ map (λ (c : Candidate). c.name) r.selected)
+
 -- the changes, in byte order of names
 unfoldable pub changes_of : Replacement → List Change
-changes_of r =
-    filter_map (change_of_name r)
-    (names_in_order (map package_name r.before ++ map (λ (c : Candidate). c.name) r.selected))
+changes_of r = filter_map (change_of_name r) (names_on_both_sides r)
