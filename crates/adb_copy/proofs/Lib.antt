@@ -3,3 +3,4 @@ pub mod Fields
 pub mod Lists
 pub mod Shapes
 pub mod Zeros
+pub mod WithoutZeros

@@ -2,7 +2,8 @@
 use Rattle.std.proofs.Common.{◌≡◌, ℕ, suc, zero, List, [], ◌∷◌, refl, ap, sym, ◌∙◌}
 use Rattle.adb_view.specs.Plain.{Plain, null, int, blob, arr, obj, Plains, none, more, blob_value, arr_value, obj_of, obj_value, keep, without_last_nulls}
 use Rattle.adb_view.specs.Shaped.{IsNumber, IsBlob, IsArrayOf, IsObjectOf}
-use Rattle.adb_tables.specs.Values.{nth, entries_in, entry_in, int_in, text_in}
+use Rattle.adb_tables.specs.Values.{nth, entries_in, int_in, text_in}
+use Rattle.adb_tables.proofs.ValueEntries.{nth_trimmed}
 use Rattle.adb_copy.specs.Zeros.{int_value, without_zeros, all_without_zeros, with_at}
 
 -- ---- by shape
@@ -47,20 +48,6 @@ nth_zeros none i = refl
 nth_zeros (more v vs) zero = refl
 nth_zeros (more v vs) (suc i) = nth_zeros vs i
 
-nth_keep : (v : Plain) (vs : Plains) (i : ℕ) → nth (keep v vs) i ≡ nth (more v vs) i
-nth_keep null none zero = refl
-nth_keep null none (suc i) = refl
-nth_keep null (more u us) i = refl
-nth_keep (int n) vs i = refl
-nth_keep (blob b) vs i = refl
-nth_keep (arr us) vs i = refl
-nth_keep (obj us) vs i = refl
-
-pub nth_trimmed : (vs : Plains) (i : ℕ) → nth (without_last_nulls vs) i ≡ nth vs i
-nth_trimmed none i = refl
-nth_trimmed (more v vs) zero = nth_keep v (without_last_nulls vs) zero
-nth_trimmed (more v vs) (suc i) = nth_keep v (without_last_nulls vs) (suc i) ∙ nth_trimmed vs i
-
 null_trimmed : (vs : Plains) → ((i : ℕ) → nth vs i ≡ null) → without_last_nulls vs ≡ none
 null_trimmed none h = refl
 null_trimmed (more v vs) h = (λ j. keep (h zero j) (null_trimmed vs (λ i. h (suc i)) j))
@@ -70,13 +57,6 @@ pub trimmed_same : (us vs : Plains) → ((i : ℕ) → nth us i ≡ nth vs i) �
 trimmed_same none vs h = sym (null_trimmed vs (λ i. sym (h i)))
 trimmed_same (more u us) none h = null_trimmed (more u us) h
 trimmed_same (more u us) (more v vs) h = (λ j. keep (h zero j) (trimmed_same us vs (λ i. h (suc i)) j))
-
-pub nth_obj : (vs : Plains) (i : ℕ) → entry_in (obj_value vs) i ≡ nth vs i
-nth_obj vs i = go (without_last_nulls vs) ∙ nth_trimmed vs i
-  where
-    go : (us : Plains) → entry_in (obj_of us) i ≡ nth us i
-    go none = refl
-    go (more u us) = refl
 
 -- ---- an entry in the place of another
 

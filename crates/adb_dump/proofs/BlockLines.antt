@@ -3,12 +3,13 @@ use Rattle.std.proofs.Common.{◌≡◌, ℕ, Bool, true, false, cond, eqb, List
 use Rattle.std.specs.Prelude.{◌&&◌, is_some, codes}
 use Rattle.std.specs.Fmt.{decimal}
 use Rattle.hex.specs.Hex.{encode_lower}
-use Rattle.adb_view.specs.Plain.{Plain, null, int, blob, arr, obj, Plains, none, more, Shape, number, text, hash, array, object, Fields, no_fields, field, keep, without_last_nulls, blob_value, arr_value, obj_of, obj_value, unless_null, from_answer, then_more, each_plain, plain_of, plains_of}
+use Rattle.adb_view.specs.Plain.{Plain, null, int, blob, arr, obj, Plains, none, more, Shape, number, text, hash, array, object, Fields, no_fields, field, keep, without_last_nulls, blob_value, arr_value, obj_value, unless_null, from_answer, then_more, each_plain, plain_of, plains_of}
 use Rattle.adb_view.specs.Readers.{run_of, ARRAY, OBJECT}
 use Rattle.base_core.specs.declared.cause.Cause.{Cause}
 use Rattle.adb_fields.specs.Fields.{values_at}
 use Rattle.adb_tables.specs.Schema.{table, shape_of, shapes_of}
 use Rattle.adb_tables.specs.Values.{entries_in, int_in, is_sound, text_in, value_at}
+use Rattle.adb_tables.proofs.ValueEntries.{entries_arr, entries_obj}
 use Rattle.adb_tables.specs.declared.tables.Which.{Which}
 use Rattle.adb_tables.specs.declared.tables.Kind.{Kind}
 use Rattle.adb_tables.specs.declared.tables.Kind.TheVariants.{Int, Text, Hash, Obj, TextArr, ObjArr}
@@ -40,17 +41,13 @@ pub hash_lines : (p : List ℕ) (w : ℕ) (b : List ℕ) → b ≡ text_in (valu
 unfolding shape_of
 hash_lines p w b e some = hash_line_of (value_at p Hash w) b (hash_plain p w ∙ ap blob_value (sym e)) some
 
-entries_in-arr_value : (vs : Plains) → entries_in (arr_value vs) ≡ vs
-entries_in-arr_value none = refl
-entries_in-arr_value (more v vs) = refl
-
 pub texts_lines : (p : List ℕ) (w : ℕ) (ws : List ℕ) → arr_value (values_at p Text ws) ≡ value_at p TextArr w → block_lines (shape_of TextArr) (value_at p TextArr w) ≡ array_lines (block_lines (shape_of Text)) (values_at p Text ws)
 unfolding block_lines shape_of
-texts_lines p w ws e = ap (λ (v : Plain). array_lines (block_lines text) (entries_in v)) (sym e) ∙ ap (array_lines (block_lines text)) (entries_in-arr_value (values_at p Text ws))
+texts_lines p w ws e = ap (λ (v : Plain). array_lines (block_lines text) (entries_in v)) (sym e) ∙ ap (array_lines (block_lines text)) (entries_arr (values_at p Text ws))
 
 pub objects_lines : (p : List ℕ) (which : Which) (w : ℕ) (ws : List ℕ) → arr_value (values_at p (Obj which) ws) ≡ value_at p (ObjArr which) w → block_lines (shape_of (ObjArr which)) (value_at p (ObjArr which) w) ≡ array_lines (block_lines (shape_of (Obj which))) (values_at p (Obj which) ws)
 unfolding block_lines shape_of
-objects_lines p which w ws e = ap (λ (v : Plain). array_lines (block_lines (shape_of (Obj which))) (entries_in v)) (sym e) ∙ ap (array_lines (block_lines (shape_of (Obj which)))) (entries_in-arr_value (values_at p (Obj which) ws))
+objects_lines p which w ws e = ap (λ (v : Plain). array_lines (block_lines (shape_of (Obj which))) (entries_in v)) (sym e) ∙ ap (array_lines (block_lines (shape_of (Obj which)))) (entries_arr (values_at p (Obj which) ws))
 
 -- the Nulls that stand last have no lines
 
@@ -74,12 +71,8 @@ trimmed_lines no_fields vs = refl
 trimmed_lines (field name s fs) none = refl
 trimmed_lines (field name s fs) (more v vs) = kept_lines name s fs v (without_last_nulls vs) ∙ ap (λ (ls : List Line). unless_absent v (named_lines s name v) ++ ls) (trimmed_lines fs vs)
 
-entries_in-obj_of : (vs : Plains) → entries_in (obj_of vs) ≡ vs
-entries_in-obj_of none = refl
-entries_in-obj_of (more v vs) = refl
-
 object_value_lines : (fs : Fields) (vs : Plains) → fields_lines fs (entries_in (obj_value vs)) ≡ fields_lines fs vs
-object_value_lines fs vs = ap (fields_lines fs) (entries_in-obj_of (without_last_nulls vs)) ∙ trimmed_lines fs vs
+object_value_lines fs vs = ap (fields_lines fs) (entries_obj (without_last_nulls vs)) ∙ trimmed_lines fs vs
 
 pub object_block : (n : ℕ) (fs : Fields) (v : Plain) → block_lines (object n fs) v ≡ fields_lines fs (entries_in v)
 unfolding block_lines

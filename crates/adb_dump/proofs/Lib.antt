@@ -7,7 +7,6 @@ pub mod BlockLines
 pub mod Turns
 pub mod WholeText
 pub mod Placed
-pub mod Depth
 pub mod Booleans
 pub mod LineBack
 pub mod ValueBack

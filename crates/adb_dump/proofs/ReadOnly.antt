@@ -6,6 +6,7 @@ use Rattle.std.proofs.lemmas.Bool.{eqb-true, ltb-true}
 use Rattle.std.proofs.lemmas.List.{length-append}
 use Rattle.adb_view.specs.Plain.{Plain, null, int, blob, arr, obj, Plains, none, more, keep, without_last_nulls, Shape, number, text, hash, array, object, Fields, no_fields, field, IsNormal, AreNormal}
 use Rattle.adb_view.specs.Shaped.{Each, HasShape, HaveShapes}
+use Rattle.adb_view.proofs.FoundShapes.{shape_null}
 use Rattle.adb_dump.specs.Dump.{Line, begins_with_byte, int_line, text_line, hash_line, indent, with_dash, or_null, array_lines, named_line, named_block, unless_absent, block_lines, named_lines, fields_lines}
 use Rattle.adb_dump.specs.ReadBack.{Read, after_lines, bind, strip_prefix, stop_or_add, split_block, quoted_read, unhex, blob_read, int_read, text_read, hash_read, if_form, only_line, entry_read, after_dash, entries_read, arr_read, obj_read, field_on_line, field_below, if_named, block_read, named_read, fields_read}
 use Rattle.adb_dump.proofs.Booleans.{chosen, bytes_eq-true}
@@ -145,14 +146,6 @@ unless_absent-is (obj a) ls ne = refl
 abbrev EntryFits : Shape → Plain → Type 0
 EntryFits s v = IsNormal v × HasShape s v
 
-pub null_has : (s : Shape) → HasShape s null
-unfolding HasShape
-null_has number = tt
-null_has text = tt
-null_has hash = tt
-null_has (array s) = tt
-null_has (object which fs) = tt
-
 entry_only : (s : Shape) → BlockOnly s → EntryOnly (block_lines s) (block_read s) (EntryFits s)
 unfolding IsNormal
 entry_only s h l ls v e =
@@ -162,7 +155,7 @@ entry_only s h l ls v e =
           let nothing : v ≡ null = cc in
           let word = bytes_eq-true l (codes "null") x.0 in
           let lines : codes "null" ∷ [] ≡ l ∷ ls = cc in
-          subst (λ (u : Plain). (or_null u (block_lines s u) ≡ l ∷ ls) × EntryFits s u) (sym nothing) (lines, (tt, null_has s))
+          subst (λ (u : Plain). (or_null u (block_lines s u) ≡ l ∷ ls) × EntryFits s u) (sym nothing) (lines, (tt, shape_null s))
       | inr x ↦ let r = h (l ∷ ls) v x.1 in (or_null-is v (block_lines s v) r.1.0 ∙ r.0, (r.1.1, r.1.2))
     ]
 
@@ -275,7 +268,7 @@ one_field s fs name h k l ls vs None i e =
     let (us, some, is) = behind_ok 0 (more null) (fields_read fs (l ∷ ls)) vs e in
     let r = k (l ∷ ls) us some in
     let ne : us ≢ none = λ f. some_line fs l ls (subst (λ (x : Plains). fields_lines fs x ≡ l ∷ ls) f r.lines) in
-    subst (FieldsOnly (field name s fs) (l ∷ ls)) is (record { lines = r.lines; trim = ap (keep null) r.trim ∙ keep_null us ne; normal = (tt, r.normal); shapes = (null_has s, r.shapes) })
+    subst (FieldsOnly (field name s fs) (l ∷ ls)) is (record { lines = r.lines; trim = ap (keep null) r.trim ∙ keep_null us ne; normal = (tt, r.normal); shapes = (shape_null s, r.shapes) })
   where
     keep_null : (us : Plains) → us ≢ none → keep null us ≡ more null us
     keep_null none ne = absurd (ne refl)

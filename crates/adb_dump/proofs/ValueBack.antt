@@ -4,8 +4,9 @@ use Rattle.std.specs.Prelude.{not, ◌||◌, codes, decimal, bytes_eq}
 use Rattle.std.specs.List.{list_all}
 use Rattle.std.proofs.lemmas.Bool.{eqb-true}
 use Rattle.std.proofs.lemmas.List.{length-append}
-use Rattle.adb_view.specs.Plain.{Plain, null, int, blob, arr, obj, Plains, none, more, keep, without_last_nulls, Shape, number, text, hash, array, object, Fields, no_fields, field, IsNormal, AreNormal}
+use Rattle.adb_view.specs.Plain.{Plain, null, int, blob, arr, obj, Plains, none, more, without_last_nulls, Shape, number, text, hash, array, object, Fields, no_fields, field, IsNormal, AreNormal}
 use Rattle.adb_view.specs.Shaped.{Each, HasShape, HaveShapes}
+use Rattle.adb_view.proofs.Normal.{trimmed-more}
 use Rattle.adb_dump.specs.Dump.{Line, int_line, text_line, hash_line, text_form, indent, with_dash, or_null, array_lines, block_lines, named_lines, fields_lines}
 use Rattle.adb_dump.specs.ReadBack.{Read, after_lines, bind, strip_prefix, split_block, entry_read, entries_read, arr_read, obj_read, field_below, block_read, named_read, fields_read}
 use Rattle.adb_dump.specs.Values.{IsOfBytes, AreOfBytes}
@@ -34,18 +35,6 @@ unfoldable mutual
   pub are_named : Fields → Bool
   are_named no_fields = true
   are_named (field name s fs) = is_name name && (is_new name fs && (is_named s && are_named fs))
-
--- a list that stays as it is without the Nulls that stand last: its rest does, and its last value is not Null
-trimmed-more : (v : Plain) (vs : Plains) → without_last_nulls (more v vs) ≡ more v vs → (without_last_nulls vs ≡ vs) × ((vs ≡ none) → v ≢ null)
-trimmed-more v vs e = go v (without_last_nulls vs) refl e
-  where
-    go : (v : Plain) (us : Plains) → without_last_nulls vs ≡ us → keep v us ≡ more v vs → (without_last_nulls vs ≡ vs) × ((vs ≡ none) → v ≢ null)
-    go null none i e = absurd cc
-    go null (more u us) i e = let same : more u us ≡ vs = cc in (i ∙ same, λ n. absurd (let no : more u us ≡ none = same ∙ n in cc))
-    go (int k) us i e = let same : us ≡ vs = cc in (i ∙ same, λ n x. absurd cc)
-    go (blob b) us i e = let same : us ≡ vs = cc in (i ∙ same, λ n x. absurd cc)
-    go (arr u) us i e = let same : us ≡ vs = cc in (i ∙ same, λ n x. absurd cc)
-    go (obj u) us i e = let same : us ≡ vs = cc in (i ∙ same, λ n x. absurd cc)
 
 -- ---- prefixes
 

@@ -16,7 +16,8 @@ use Rattle.adb_dump.proofs.BlockLines.{no_lines, object_block}
 use Rattle.adb_dump.proofs.Booleans.{both}
 use Rattle.adb_dump.proofs.ValueBack.{no_end, is_named, block_back}
 use Rattle.adb_dump.proofs.TextLines.{block_end, lines_of-text}
-use Rattle.adb_dump.proofs.ReadOnly.{block_only, null_has}
+use Rattle.adb_view.proofs.FoundShapes.{shape_null}
+use Rattle.adb_dump.proofs.ReadOnly.{block_only}
 
 table_named : (which : Which) → is_named (shape_of (Obj which)) ≡ true
 unfolding is_named shape_of
@@ -48,7 +49,7 @@ read_back which (obj vs) is b = some_back which (obj vs) (λ e. cc) is b
 
 null_value : (which : Which) → IsValueOf which null
 unfolding IsNormal
-null_value which = (tt, null_has (shape_of (Obj which)))
+null_value which = (tt, shape_null (shape_of (Obj which)))
 
 pub only_values : (which : Which) (ls : List Line) (v : Plain) → value_read which ls ≡ Ok v → (value_lines which v ≡ ls) × IsValueOf which v
 only_values which [] v e =

@@ -5,26 +5,11 @@ use Rattle.std.specs.Int.{Width, w8, w16, w32, byte_len}
 use Rattle.std.specs.List.{AllByRecursion}
 use Rattle.std.proofs.lemmas.List.Elements.{All-head, All-tail, All-take, All-drop}
 use Rattle.adb_view.specs.Bytes.{number_at, range_at}
-use Rattle.adb_view.specs.Plain.{Plain, null, int, blob, arr, obj, Plains, none, more, Shape, number, text, hash, array, object, Fields, no_fields, field, blob_value, arr_value, obj_of, keep, without_last_nulls, obj_value, unless_null, from_answer, then_more, each_plain, plain_of, plains_of}
+use Rattle.adb_view.specs.Plain.{Plain, null, int, blob, arr, obj, Plains, none, more, Shape, number, text, hash, array, object, Fields, no_fields, field, blob_value, arr_value, obj_of, keep, without_last_nulls, obj_value, from_answer, then_more, each_plain, plain_of, plains_of}
 use Rattle.adb_view.specs.Readers.{counted_at, inside, int_of, blob_of, run_of, kind_of, low_of, ARRAY, OBJECT}
+use Rattle.adb_view.proofs.FoundShapes.{unless_null-all, mapped, run_found}
 use Rattle.base_core.specs.declared.cause.Cause.{Cause}
 use Rattle.adb_dump.specs.Values.{IsOfBytes, AreOfBytes}
-
--- whatever a value is, if each way to read it gives such
-unless_null-all : (P : Plain → Type 0) (w : ℕ) (v : Option Plain) → P null → IfSome v P → IfSome (unless_null w v) P
-unless_null-all P w v h k = go (eqb w 0)
-  where
-    go : (b : Bool) → IfSome (cond b (Some null) v) P
-    go true = h
-    go false = k
-
-mapped : (P : Plain → Type 0) (Q : Plains → Type 0) (f : Plains → Plain) → ((vs : Plains) → Q vs → P (f vs)) → (o : Option Plains) → IfSome o Q → IfSome (option_map f o) P
-mapped P Q f h None k = tt
-mapped P Q f h (Some vs) k = h vs k
-
-run_found : (P : Plain → Type 0) (g : List ℕ → Option Plain) → ((ws : List ℕ) → IfSome (g ws) P) → (r : Result (List ℕ) Cause) → IfSome (from_answer g r) P
-run_found P g h (Ok ws) = h ws
-run_found P g h (Err c) = tt
 
 -- ---- bytes
 

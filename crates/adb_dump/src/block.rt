@@ -63,7 +63,7 @@ fn write_schema(out: &mut Vec<u8>, which: Which) -> Result<(), AllocError>
 
 /// Writes the lines of a word that does not mean Null.
 #[cycle(block)]
-#[tactic(auto, using(crate::proofs::Depth::table_rank, crate::proofs::BlockLines::int_lines, crate::proofs::BlockLines::text_lines, crate::proofs::BlockLines::hash_lines, crate::proofs::BlockLines::texts_lines, crate::proofs::BlockLines::objects_lines, crate::proofs::BlockLines::object_lines))]
+#[tactic(auto, using(adb_tables::proofs::WalkSteps::table_rank, crate::proofs::BlockLines::int_lines, crate::proofs::BlockLines::text_lines, crate::proofs::BlockLines::hash_lines, crate::proofs::BlockLines::texts_lines, crate::proofs::BlockLines::objects_lines, crate::proofs::BlockLines::object_lines))]
 fn write_block(
     out: &mut Vec<u8>,
     adb: Adb<'_>,
@@ -151,7 +151,7 @@ fn write_entry(
 
 /// Writes the fields of an object that do not mean Null.
 #[cycle(block)]
-#[tactic(auto, using(crate::proofs::Depth::field_rank, crate::proofs::Left::field_here, crate::proofs::Left::fields_later, crate::proofs::Turns::field_turn, crate::proofs::Turns::null_turn, crate::proofs::Turns::words_end, crate::proofs::Turns::fields_end))]
+#[tactic(auto, using(adb_tables::proofs::WalkSteps::field_rank, crate::proofs::Left::field_here, crate::proofs::Left::fields_later, crate::proofs::Turns::field_turn, crate::proofs::Turns::null_turn, crate::proofs::Turns::words_end, crate::proofs::Turns::fields_end))]
 pub(crate) fn write_fields(
     out: &mut Vec<u8>,
     adb: Adb<'_>,

@@ -32,7 +32,7 @@ pub(crate) fn object_words<'a>(adb: Adb<'a>, which: Which, word: Val) -> Arr<'a>
 
 /// Whether a word means Null: NULL itself, or something without a byte, an entry or a value.
 #[cycle(null)]
-#[tactic(auto, using(crate::proofs::Depth::table_rank, crate::proofs::Nulls::text_null, crate::proofs::Nulls::hash_null, crate::proofs::Nulls::arr_null, crate::proofs::Nulls::obj_null))]
+#[tactic(auto, using(adb_tables::proofs::WalkSteps::table_rank, crate::proofs::Nulls::text_null, crate::proofs::Nulls::hash_null, crate::proofs::Nulls::arr_null, crate::proofs::Nulls::obj_null))]
 pub(crate) fn is_null(adb: Adb<'_>, kind: Kind, word: Val) -> bool
     requires { is_sound (payload_of adb) kind word ≡ true }
     ensures { result ≡ is_null (value_at (payload_of adb.entry) kind word) }
@@ -49,7 +49,7 @@ pub(crate) fn is_null(adb: Adb<'_>, kind: Kind, word: Val) -> bool
 
 /// Whether each of an object's words that has a field means Null.
 #[cycle(null)]
-#[tactic(auto, using(crate::proofs::Depth::field_rank, crate::proofs::Left::field_here, crate::proofs::Left::fields_later, crate::proofs::Left::null_next, crate::proofs::Left::null_stop, crate::proofs::Left::null_done, crate::proofs::Left::null_over))]
+#[tactic(auto, using(adb_tables::proofs::WalkSteps::field_rank, crate::proofs::Left::field_here, crate::proofs::Left::fields_later, crate::proofs::Left::null_next, crate::proofs::Left::null_stop, crate::proofs::Left::null_done, crate::proofs::Left::null_over))]
 fn are_null(adb: Adb<'_>, fields: &[Field], words: Arr<'_>) -> bool
     requires { fields_sound (payload_of adb) fields.now (array_entries words) ≡ true }
     ensures { result

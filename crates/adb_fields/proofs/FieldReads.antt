@@ -3,11 +3,12 @@ use Rattle.std.proofs.Common.{◌≡◌, ℕ, zero, suc, ◌≤◌, ◌<◌, Boo
 use Rattle.std.specs.Prelude.{is_some, slice_get}
 use Rattle.std.proofs.lemmas.Bool.{eqb-true}
 use Rattle.std.proofs.lemmas.List.{get_or_past}
-use Rattle.adb_view.specs.Plain.{Plain, null, int, blob, arr, obj, Plains, none, more, keep, without_last_nulls, Shape, number, text, hash, array, object, blob_value, obj_of, obj_value, arr_value, unless_null, from_answer, then_more, each_plain, plain_of, plains_of}
+use Rattle.adb_view.specs.Plain.{Plain, null, int, Plains, none, more, without_last_nulls, Shape, number, text, hash, array, object, blob_value, obj_of, obj_value, arr_value, unless_null, from_answer, then_more, each_plain, plain_of, plains_of}
 use Rattle.adb_view.specs.Readers.{int_of, blob_of, run_of, ARRAY, OBJECT}
 use Rattle.adb_tables.specs.Schema.{table, shape_of, shapes_of, schema_number}
 use Rattle.adb_fields.specs.Fields.{IsFieldOf, are_all_sound, values_at, array_at}
 use Rattle.adb_tables.specs.Values.{is_sound, value_at, kind_at, nth, count_of, entries_in, entry_in, int_in, text_in}
+use Rattle.adb_tables.proofs.ValueEntries.{entries_arr, nth_trimmed, text_blob}
 use Rattle.adb_tables.specs.Shapes.{object_shape, objects_shape, texts_shape, int_shape, text_shape, hash_shape}
 use Rattle.base_core.specs.declared.cause.Cause.{Cause}
 use Rattle.adb_tables.specs.declared.tables.Which.{Which}
@@ -61,10 +62,6 @@ number_value p w v e =
           rw same ok
     ]
 
-text_in-blob_value : (b : List ℕ) → text_in (blob_value b) ≡ b
-text_in-blob_value [] = refl
-text_in-blob_value (x ∷ xs) = refl
-
 blob_shape_value : (p : List ℕ) (w : ℕ) (v : Plain) → unless_null w (from_answer (λ b. Some (blob_value b)) (blob_of p w)) ≡ Some v → blob_of p w ≡ Ok (text_in v)
 blob_shape_value p w v e =
     elim (null_or_not w) [
@@ -76,7 +73,7 @@ blob_shape_value p w v e =
           let g : unless_null w (from_answer (λ b. Some (blob_value b)) (blob_of p w)) ≡ from_answer (λ b. Some (blob_value b)) (blob_of p w) = rw t refl in
           let (b, ok, is) = found_is (λ b. Some (blob_value b)) (blob_of p w) v (sym g ∙ e) in
           let same : v ≡ blob_value b = cc in
-          rw (same, text_in-blob_value b) ok
+          rw (same, text_blob b) ok
     ]
 
 value_is : (p : List ℕ) (k : Kind) (w : ℕ) → is_sound p k w ≡ true → plain_of p (shape_of k) w ≡ Some (value_at p k w)
@@ -96,24 +93,6 @@ unfolding plain_of
 hash_read_of p w h = blob_shape_value p w _ (ap (λ s. plain_of p s w) (sym hash_shape) ∙ value_is p Hash w h)
 
 -- ---- fields
-
-nth-trimmed : (vs : Plains) (i : ℕ) → nth (without_last_nulls vs) i ≡ nth vs i
-nth-trimmed none i = refl
-nth-trimmed (more v vs) i = kept v (without_last_nulls vs) i (λ j. nth-trimmed vs j)
-  where
-    kept : (v : Plain) (us : Plains) (i : ℕ) → ((j : ℕ) → nth us j ≡ nth vs j) → nth (keep v us) i ≡ nth (more v vs) i
-    kept null none zero h = refl
-    kept null none (suc i) h = h i
-    kept null (more u us) zero h = refl
-    kept null (more u us) (suc i) h = h i
-    kept (int n) us zero h = refl
-    kept (int n) us (suc i) h = h i
-    kept (blob b) us zero h = refl
-    kept (blob b) us (suc i) h = h i
-    kept (arr a) us zero h = refl
-    kept (arr a) us (suc i) h = h i
-    kept (obj a) us zero h = refl
-    kept (obj a) us (suc i) h = h i
 
 entry_in-obj_of : (vs : Plains) (i : ℕ) → entry_in (obj_of vs) i ≡ nth vs i
 entry_in-obj_of none i = refl
@@ -170,7 +149,7 @@ object_value p which w v e at =
               run = ok;
               fields = λ i d lt.
                   let one = fields_value p (table which) ws vs i d some lt in
-                  let two : nth vs i ≡ entry_in (value_at p (Obj which) w) i = sym (ap (λ u. entry_in u i) (at ∙ sym made) ∙ entry_in-obj_of (without_last_nulls vs) i ∙ nth-trimmed vs i) in
+                  let two : nth vs i ≡ entry_in (value_at p (Obj which) w) i = sym (ap (λ u. entry_in u i) (at ∙ sym made) ∙ entry_in-obj_of (without_last_nulls vs) i ∙ nth_trimmed vs i) in
                   one ∙ ap Some two;
             },
           )
@@ -300,10 +279,6 @@ values_are : (p : List ℕ) (k : Kind) (ws : List ℕ) → are_all_sound p k ws 
 unfolding are_all_sound values_at
 values_are p k ws h = let (vs, e) = some_is (each_plain (plain_of p (shape_of k)) ws) h in rw e refl
 
-entries_in-arr_value : (vs : Plains) → entries_in (arr_value vs) ≡ vs
-entries_in-arr_value none = refl
-entries_in-arr_value (more v vs) = refl
-
 -- each word of a sound array is sound, and has the value of the entry
 pub entry_sound : (p : List ℕ) (k : Kind) (ws : List ℕ) (i : ℕ) → are_all_sound p k ws ≡ true → i < length ws → is_sound p k (get_or ws i 0) ≡ true
 unfolding is_sound
@@ -312,10 +287,10 @@ entry_sound p k ws i h lt = rw (each_found (plain_of p (shape_of k)) ws (values_
 pub entry_value : (p : List ℕ) (k : Kind) (ws : List ℕ) (i : ℕ) → are_all_sound p k ws ≡ true → i < length ws → value_at p k (get_or ws i 0) ≡ entry_in (array_at p k ws) i
 unfolding value_at
 entry_value p k ws i h lt =
-    rw (each_found (plain_of p (shape_of k)) ws (values_at p k ws) i (values_are p k ws h) lt) (ap (λ vs. nth vs i) (sym (entries_in-arr_value (values_at p k ws))))
+    rw (each_found (plain_of p (shape_of k)) ws (values_at p k ws) i (values_are p k ws h) lt) (ap (λ vs. nth vs i) (sym (entries_arr (values_at p k ws))))
 
 pub entry_count : (p : List ℕ) (k : Kind) (ws : List ℕ) → are_all_sound p k ws ≡ true → length ws ≡ count_of (entries_in (array_at p k ws))
-entry_count p k ws h = each_count (plain_of p (shape_of k)) ws (values_at p k ws) (values_are p k ws h) ∙ ap count_of (sym (entries_in-arr_value (values_at p k ws)))
+entry_count p k ws h = each_count (plain_of p (shape_of k)) ws (values_at p k ws) (values_are p k ws h) ∙ ap count_of (sym (entries_arr (values_at p k ws)))
 
 -- a text's value is its bytes
 text_is : (p : List ℕ) (w : ℕ) (v : Plain) → unless_null w (from_answer (λ b. Some (blob_value b)) (blob_of p w)) ≡ Some v → blob_value (text_in v) ≡ v
@@ -329,7 +304,7 @@ text_is p w v e =
           let g : unless_null w (from_answer (λ b. Some (blob_value b)) (blob_of p w)) ≡ from_answer (λ b. Some (blob_value b)) (blob_of p w) = rw t refl in
           let (b, ok, is) = found_is (λ b. Some (blob_value b)) (blob_of p w) v (sym g ∙ e) in
           let same : v ≡ blob_value b = cc in
-          rw (same, text_in-blob_value b) refl
+          rw (same, text_blob b) refl
     ]
 
 pub text_shown : (p : List ℕ) (w : ℕ) (b : List ℕ) → is_sound p Text w ≡ true → b ≡ text_in (value_at p Text w) → blob_value b ≡ value_at p Text w

@@ -97,10 +97,12 @@ field_number which place = 100 * schema_number which + place
 abbrev pub repeated_at : ℕ → Option Pair → Option Cause
 repeated_at number pair = option_map (λ p. Repeated number p.first p.second) pair
 
+-- what stands twice inside one package: a folder, or else a file of a folder
 abbrev pub inside_fault : List Plain → Option Cause
 inside_fault packages = or_else (repeated_at (field_number Dir 1) (folder_twice packages))
     (repeated_at (field_number File 1) (file_twice packages))
 
+-- what stands in two packages: the name of a package, or else a path
 abbrev pub between_fault : List Plain → Option Cause
 between_fault packages = or_else (repeated_at (field_number Idb 1) (package_twice packages))
     (repeated_at (field_number File 1) (path_in_two packages))

@@ -4,12 +4,14 @@ use Rattle.std.specs.Prelude.{is_some, slice_get, if◌then◌else◌}
 use Rattle.std.proofs.lemmas.List.{drop_more, drop_all}
 use Rattle.base_core.specs.declared.cause.Cause.{Cause}
 use Rattle.base_core.specs.declared.cause.Cause.TheVariants.{BadText}
-use Rattle.adb_view.specs.Plain.{Plain, Plains, none, more, arr_value, then_more, each_plain, plain_of}
+use Rattle.adb_view.specs.Plain.{Plain, Plains, none, more, then_more, each_plain, plain_of}
 use Rattle.adb_tables.specs.Schema.{schema_number, table, shape_of, shapes_of}
 use Rattle.adb_fields.specs.Fields.{IsFieldOf, are_all_sound, values_at, array_at}
 use Rattle.adb_tables.specs.Values.{is_sound, value_at, entries_in, nth, int_in, text_in}
 use Rattle.adb_tables.specs.Walk.{or_else}
 use Rattle.adb_tables.specs.Rank.{rank, rank_of_all}
+use Rattle.adb_tables.proofs.ValueEntries.{entries_arr}
+use Rattle.adb_tables.proofs.WalkSteps.{field_rank}
 use Rattle.adb_rules.specs.Texts.{Surroundings, Leaf, number_leaf, text_leaf, keeps_rule, number_of_leaf, each_leaf, leaves, field_leaves, inside_of, first_bad}
 use Rattle.adb_tables.specs.Shapes.{object_shape, objects_shape, texts_shape, int_shape, text_shape, hash_shape}
 use Rattle.adb_tables.specs.declared.tables.Which.{Which}
@@ -62,10 +64,6 @@ behind_bad : (xs ys : List Leaf) (c : Cause) → first_bad xs ≡ Some c → fir
 behind_bad xs ys c e = first_bad-append xs ys ∙ ap (λ o. or_else o (first_bad ys)) e
 
 -- ---- the entries of an array
-
-entries_in-arr_value : (vs : Plains) → entries_in (arr_value vs) ≡ vs
-entries_in-arr_value none = refl
-entries_in-arr_value (more v vs) = refl
 
 some_is : {A : Type 0} (o : Option A) → is_some o ≡ true → (x : A) × (o ≡ Some x)
 some_is (Some x) e = (x, refl)
@@ -226,11 +224,6 @@ pub field_sound_of : (p : List ℕ) (which : Which) (w i word : ℕ) (d : Field)
 field_sound_of p which w i word d fs e lt is =
     subst (λ (gs : List Field). i < length gs → is_sound p (get_or gs i d).kind word ≡ true) (sym e) (λ lt. field_sound p which w i word d lt is) lt
 
-field_rank : (fs : List Field) (i : ℕ) (d : Field) → i < length fs → rank (get_or fs i d).kind ≤ rank_of_all fs
-field_rank [] i d lt = absurd (omega arith)
-field_rank (f ∷ fs) zero d lt = omega arith
-field_rank (f ∷ fs) (suc i) d lt = omega (arith, field_rank fs i d (omega arith))
-
 pub field_below : (which : Which) (i : ℕ) (d : Field) (fs : List Field) → fs ≡ table which → i < length fs → rank (get_or fs i d).kind ≤ rank_of_all (table which)
 field_below which i d fs e lt =
     subst (λ (gs : List Field). i < length gs → rank (get_or gs i d).kind ≤ rank_of_all (table which)) (sym e) (λ lt. field_rank (table which) i d lt) lt
@@ -271,12 +264,12 @@ hash_done p k field_number a w bs o is read e =
 pub texts_done : (p : List ℕ) (k : Kind) (field_number : ℕ) (a : Surroundings) (w : ℕ) (ws : List ℕ) (o : Option Cause) → k ≡ TextArr → array_at p Text ws ≡ value_at p TextArr w → o ≡ first_bad (each_leaf (leaves (shape_of Text) field_number a) (values_at p Text ws))
     → o ≡ first_bad (leaves (shape_of k) field_number a (value_at p k w))
 texts_done p k field_number a w ws o is read e =
-    e ∙ ap (λ vs. first_bad (each_leaf (leaves (shape_of Text) field_number a) vs)) (sym (entries_in-arr_value (values_at p Text ws)) ∙ ap entries_in read) ∙ ap first_bad (sym (texts_leaves field_number a (value_at p TextArr w))) ∙ at_kind p k TextArr field_number a w is
+    e ∙ ap (λ vs. first_bad (each_leaf (leaves (shape_of Text) field_number a) vs)) (sym (entries_arr (values_at p Text ws)) ∙ ap entries_in read) ∙ ap first_bad (sym (texts_leaves field_number a (value_at p TextArr w))) ∙ at_kind p k TextArr field_number a w is
 
 pub objects_done : (p : List ℕ) (k : Kind) (which : Which) (field_number : ℕ) (a : Surroundings) (w : ℕ) (ws : List ℕ) (o : Option Cause) → k ≡ ObjArr which → array_at p (Obj which) ws ≡ value_at p (ObjArr which) w
     → o ≡ first_bad (each_leaf (leaves (shape_of (Obj which)) field_number a) (values_at p (Obj which) ws)) → o ≡ first_bad (leaves (shape_of k) field_number a (value_at p k w))
 objects_done p k which field_number a w ws o is read e =
-    e ∙ ap (λ vs. first_bad (each_leaf (leaves (shape_of (Obj which)) field_number a) vs)) (sym (entries_in-arr_value (values_at p (Obj which) ws)) ∙ ap entries_in read) ∙ ap first_bad (sym (objects_leaves which field_number a (value_at p (ObjArr which) w))) ∙ at_kind p k (ObjArr which) field_number a w is
+    e ∙ ap (λ vs. first_bad (each_leaf (leaves (shape_of (Obj which)) field_number a) vs)) (sym (entries_arr (values_at p (Obj which) ws)) ∙ ap entries_in read) ∙ ap first_bad (sym (objects_leaves which field_number a (value_at p (ObjArr which) w))) ∙ at_kind p k (ObjArr which) field_number a w is
 
 pub object_done : (p : List ℕ) (k : Kind) (which : Which) (field_number : ℕ) (a inside : Surroundings) (w : ℕ) (o : Option Cause) → k ≡ Obj which → inside ≡ inside_of (schema_number which) a (value_at p (Obj which) w)
     → o ≡ first_bad (field_leaves (shapes_of (table which)) (100 * schema_number which + 1) inside (entries_in (value_at p (Obj which) w))) → o ≡ first_bad (leaves (shape_of k) field_number a (value_at p k w))

@@ -30,6 +30,7 @@ pub(crate) fn is_digest_length(len: usize) -> bool
     len == 20 || len == 32 || len == 64
 }
 
+/// Whether so many bytes are none or a digest.
 pub(crate) fn is_digest_length_or_none(len: usize) -> bool
     ensures { result ≡ is_digest_length_or_none len }
 {
@@ -54,6 +55,7 @@ pub(crate) fn is_version(text: &[u8]) -> bool
     }
 }
 
+/// Whether the bytes are none or a version.
 pub(crate) fn is_version_or_empty(text: &[u8]) -> bool
     ensures { result ≡ is_version_or_empty text.now }
 {

@@ -17,7 +17,7 @@ use Rattle.adb_write.specs.File.{adb_piece, file_of}
 use Rattle.pkg_core.specs.Contents.{Expected, Contents, contents_in, expected_contents, files_by_blocks, unless_fault, with_next}
 use Rattle.pkg_core.specs.GoodContents.{AreContentsOf}
 use Rattle.pkg_core.specs.Whole.{files_behind, files_by_header, files_in_file, package_with_contents}
-use Rattle.adb_sound.specs.Container.{contents_payload, contents_piece, container_of, packed}
+use Rattle.adb_sound.specs.Container.{contents_payload, contents_piece, container_of, package_by}
 use Rattle.adb_sound.specs.Root.{IsRootOf}
 use Rattle.adb_sound.proofs.ContentsBlocks.{IsFirstOf, block_good, contents_stand, first_of, none_of_blocks}
 use Rattle.adb_sound.proofs.LaidSizes.{AreShort, laid_short}
@@ -76,7 +76,7 @@ contents_back (e ∷ es) (c ∷ cs) r p small all =
     subst (λ (q : Reading). contents_in (files_by_blocks (e ∷ es) q) ≡ c ∷ cs) (sym first.is)
     (ap (λ (o : Option Cause). contents_in (unless_fault o (with_next (contents_payload c) (λ left. files_by_blocks left first.later) (e ∷ es)))) good ∙ (λ k. same k ∷ rest k))
 
-pub package_back : Lower → (v : Plain) (contents : List Contents) → IsRootOf Package v → AreContentsOf (expected_contents v) contents → length (container_of PACKAGE_WORD v contents) < 2 ^ 64 → package_with_contents (container_of PACKAGE_WORD v contents) ≡ packed v contents
+pub package_back : Lower → (v : Plain) (contents : List Contents) → IsRootOf Package v → AreContentsOf (expected_contents v) contents → length (container_of PACKAGE_WORD v contents) < 2 ^ 64 → package_with_contents (container_of PACKAGE_WORD v contents) ≡ package_by v contents
 unfolding files_in_file
 package_back laws v contents g all short =
     let few = g.few in

@@ -23,5 +23,5 @@ container_of schema v contents =
     container schema (adb_piece (canonical v) ∷ map contents_piece contents)
 
 -- a package's value, and the contents of its files
-abbrev pub packed : Plain → List Contents → Packed
-packed v contents = record { value = v; contents = contents }
+abbrev pub package_by : Plain → List Contents → Packed
+package_by v contents = record { value = v; contents = contents }

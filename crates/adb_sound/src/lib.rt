@@ -10,7 +10,7 @@ ghost use Rattle.adb_schema.specs.Soundness.{payload_in, root_value, schema_word
 ghost use Rattle.adb_schema.specs.declared.read.TheConstants.{PACKAGE_WORD};
 ghost use Rattle.adb_tables.specs.declared.tables.Which.{Which};
 ghost use Rattle.adb_tables.specs.declared.tables.Which.TheVariants as Tables;
-ghost use Rattle.adb_sound.specs.Container.{contents_piece, container_of, packed};
+ghost use Rattle.adb_sound.specs.Container.{contents_piece, container_of, package_by};
 ghost use Rattle.adb_sound.specs.Contents.{contents_size};
 ghost use Rattle.adb_sound.specs.Root.{IsRootOf};
 ghost use Rattle.adb_view.specs.Plain.{Plain};
@@ -72,7 +72,7 @@ pub fn what_a_container_is_made_of_is_read_back()
     ensures contents { (v : Plain) (contents : List Contents)
         → IsRootOf Tables.Package v → AreContentsOf (expected_contents v) contents
         → length (container_of PACKAGE_WORD v contents) < 2 ^ 64
-        → package_with_contents (container_of PACKAGE_WORD v contents) ≡ packed v contents }
+        → package_with_contents (container_of PACKAGE_WORD v contents) ≡ package_by v contents }
 {
     what_is_written_is_spelled();
     what_is_spelled_is_read();

@@ -1,3 +1,4 @@
 pub mod ShapeWalk
 pub mod WalkSteps
+pub mod ValueEntries
 pub mod Worked

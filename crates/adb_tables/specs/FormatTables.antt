@@ -28,8 +28,8 @@ format_table PkgInfo = (
 format_table File = (
   4,
   (codes "name", Text) ∷ (codes "acl", Obj Acl) ∷ (codes "size", Int) ∷
-      (codes "mtime", Int) ∷ (codes "hashes", Hash) ∷ (codes "target", Text) ∷ (codes "unused", Int) ∷
-      [],
+      (codes "mtime", Int) ∷ (codes "hashes", Hash) ∷ (codes "target", Text) ∷
+      (codes "unused", Int) ∷ [],
 )
 format_table Dir = (
   5,
@@ -38,8 +38,8 @@ format_table Dir = (
 )
 format_table Scripts = (
   6,
-  (codes "trigger", Text) ∷ (codes "pre-install", Text) ∷
-      (codes "post-install", Text) ∷ (codes "pre-deinstall", Text) ∷ (codes "post-deinstall", Text) ∷
+  (codes "trigger", Text) ∷ (codes "pre-install", Text) ∷ (codes "post-install", Text) ∷
+      (codes "pre-deinstall", Text) ∷ (codes "post-deinstall", Text) ∷
       (codes "pre-upgrade", Text) ∷ (codes "post-upgrade", Text) ∷ [],
 )
 format_table Package = (

@@ -9,6 +9,7 @@ use Rattle.adb_tables.specs.declared.tables.FieldName.{FieldName}
 use Rattle.adb_tables.specs.declared.tables.Field.{Field}
 use Rattle.adb_tables.specs.declared.tables.TheConstants.{DEP, ACL, PKGINFO, FILE, DIR, SCRIPTS, PACKAGE, INDEX, IDB, INTENT}
 
+-- the fields of an object of one kind, in the order of their numbers
 abbrev pub table : Which → List Field
 table Dep = DEP.fields
 table Acl = ACL.fields
@@ -21,6 +22,7 @@ table Index = INDEX.fields
 table Idb = IDB.fields
 table Intent = INTENT.fields
 
+-- the number of its table; that of a field is 100 times it plus the field's own
 abbrev pub schema_number : Which → ℕ
 schema_number Dep = DEP.number
 schema_number Acl = ACL.number

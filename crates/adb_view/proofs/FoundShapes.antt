@@ -7,57 +7,63 @@ use Rattle.adb_view.specs.Shaped.{Each, HasShape, HaveShapes}
 use Rattle.base_core.specs.declared.cause.Cause.{Cause}
 
 -- whatever a value is, if each way to read it gives such
-unless_null-all : (P : Plain → Type 0) (w : ℕ) (v : Option Plain) → P null → IfSome v P → IfSome (unless_null w v) P
+pub unless_null-all : (P : Plain → Type 0) (w : ℕ) (v : Option Plain) → P null → IfSome v P → IfSome (unless_null w v) P
 unless_null-all P w v h k = go (eqb w 0)
   where
     go : (b : Bool) → IfSome (cond b (Some null) v) P
     go true = h
     go false = k
 
-mapped : (P : Plain → Type 0) (Q : Plains → Type 0) (f : Plains → Plain) → ((vs : Plains) → Q vs → P (f vs)) → (o : Option Plains) → IfSome o Q → IfSome (option_map f o) P
+pub mapped : (P : Plain → Type 0) (Q : Plains → Type 0) (f : Plains → Plain) → ((vs : Plains) → Q vs → P (f vs)) → (o : Option Plains) → IfSome o Q → IfSome (option_map f o) P
 mapped P Q f h None k = tt
 mapped P Q f h (Some vs) k = h vs k
 
-run_found : (P : Plain → Type 0) (g : List ℕ → Option Plain) → ((ws : List ℕ) → IfSome (g ws) P) → (r : Result (List ℕ) Cause) → IfSome (from_answer g r) P
+pub run_found : (P : Plain → Type 0) (g : List ℕ → Option Plain) → ((ws : List ℕ) → IfSome (g ws) P) → (r : Result (List ℕ) Cause) → IfSome (from_answer g r) P
 run_found P g h (Ok ws) = h ws
 run_found P g h (Err c) = tt
 
 -- ---- shapes
 
-null_shape : (s : Shape) → HasShape s null
+pub shape_null : (s : Shape) → HasShape s null
 unfolding HasShape
-null_shape number = tt
-null_shape text = tt
-null_shape hash = tt
-null_shape (array s) = tt
-null_shape (object n fs) = tt
+shape_null number = tt
+shape_null text = tt
+shape_null hash = tt
+shape_null (array s) = tt
+shape_null (object n fs) = tt
 
 int_shape : (r : Result ℕ Cause) → IfSome (from_answer (λ n. Some (int n)) r) (HasShape number)
 unfolding HasShape
 int_shape (Ok n) = tt
 int_shape (Err c) = tt
 
-text_shape : (r : Result (List ℕ) Cause) → IfSome (from_answer (λ b. Some (blob_value b)) r) (HasShape text)
+pub blob_value_text : (b : List ℕ) → HasShape text (blob_value b)
 unfolding HasShape
-text_shape (Ok []) = tt
-text_shape (Ok (c ∷ cs)) = tt
+blob_value_text [] = tt
+blob_value_text (c ∷ cs) = tt
+
+pub blob_value_hash : (b : List ℕ) → HasShape hash (blob_value b)
+unfolding HasShape
+blob_value_hash [] = tt
+blob_value_hash (c ∷ cs) = tt
+
+text_shape : (r : Result (List ℕ) Cause) → IfSome (from_answer (λ b. Some (blob_value b)) r) (HasShape text)
+text_shape (Ok b) = blob_value_text b
 text_shape (Err c) = tt
 
 hash_shape : (r : Result (List ℕ) Cause) → IfSome (from_answer (λ b. Some (blob_value b)) r) (HasShape hash)
-unfolding HasShape
-hash_shape (Ok []) = tt
-hash_shape (Ok (c ∷ cs)) = tt
+hash_shape (Ok b) = blob_value_hash b
 hash_shape (Err c) = tt
 
-arr_shape : (s : Shape) (vs : Plains) → Each (HasShape s) vs → HasShape (array s) (arr_value vs)
+pub arr_value_shape : (s : Shape) (vs : Plains) → Each (HasShape s) vs → HasShape (array s) (arr_value vs)
 unfolding HasShape
-arr_shape s none h = tt
-arr_shape s (more v vs) h = h
+arr_value_shape s none h = tt
+arr_value_shape s (more v vs) h = h
 
-none_shape : (fs : Fields) → HaveShapes fs none
+pub shapes_none : (fs : Fields) → HaveShapes fs none
 unfolding HasShape
-none_shape no_fields = tt
-none_shape (field name s fs) = tt
+shapes_none no_fields = tt
+shapes_none (field name s fs) = tt
 
 keep_shape : (name : List ℕ) (s : Shape) (fs : Fields) (v : Plain) (vs : Plains) → HasShape s v → HaveShapes fs vs → HaveShapes (field name s fs) (keep v vs)
 unfolding HasShape
@@ -68,29 +74,29 @@ keep_shape name s fs (blob b) vs h hs = (h, hs)
 keep_shape name s fs (arr us) vs h hs = (h, hs)
 keep_shape name s fs (obj us) vs h hs = (h, hs)
 
-trimmed_shape : (fs : Fields) (vs : Plains) → HaveShapes fs vs → HaveShapes fs (without_last_nulls vs)
+pub trimmed_shapes : (fs : Fields) (vs : Plains) → HaveShapes fs vs → HaveShapes fs (without_last_nulls vs)
 unfolding HasShape
-trimmed_shape no_fields none h = h
-trimmed_shape no_fields (more v vs) h = absurd h
-trimmed_shape (field name s fs) none h = tt
-trimmed_shape (field name s fs) (more v vs) h = keep_shape name s fs v (without_last_nulls vs) h.0 (trimmed_shape fs vs h.1)
+trimmed_shapes no_fields none h = h
+trimmed_shapes no_fields (more v vs) h = absurd h
+trimmed_shapes (field name s fs) none h = tt
+trimmed_shapes (field name s fs) (more v vs) h = keep_shape name s fs v (without_last_nulls vs) h.0 (trimmed_shapes fs vs h.1)
 
 obj_of_shape : (n : ℕ) (fs : Fields) (vs : Plains) → HaveShapes fs vs → HasShape (object n fs) (obj_of vs)
 unfolding HasShape
 obj_of_shape n fs none h = tt
 obj_of_shape n fs (more v vs) h = h
 
-obj_shape : (n : ℕ) (fs : Fields) (vs : Plains) → HaveShapes fs vs → HasShape (object n fs) (obj_value vs)
-obj_shape n fs vs h = obj_of_shape n fs (without_last_nulls vs) (trimmed_shape fs vs h)
+pub obj_value_shape : (n : ℕ) (fs : Fields) (vs : Plains) → HaveShapes fs vs → HasShape (object n fs) (obj_value vs)
+obj_value_shape n fs vs h = obj_of_shape n fs (without_last_nulls vs) (trimmed_shapes fs vs h)
 
-each_more : (P : Plain → Type 0) (v : Option Plain) (vs : Option Plains) → IfSome v P → IfSome vs (Each P) → IfSome (then_more v vs) (Each P)
-each_more P (Some v) (Some vs) h hs = (h, hs)
-each_more P (Some v) None h hs = tt
-each_more P None vs h hs = tt
+both_found : (P : Plain → Type 0) (v : Option Plain) (vs : Option Plains) → IfSome v P → IfSome vs (Each P) → IfSome (then_more v vs) (Each P)
+both_found P (Some v) (Some vs) h hs = (h, hs)
+both_found P (Some v) None h hs = tt
+both_found P None vs h hs = tt
 
-each_shape : (P : Plain → Type 0) (f : ℕ → Option Plain) → ((w : ℕ) → IfSome (f w) P) → (ws : List ℕ) → IfSome (each_plain f ws) (Each P)
-each_shape P f h [] = tt
-each_shape P f h (w ∷ ws) = each_more P (f w) (each_plain f ws) (h w) (each_shape P f h ws)
+pub each_found : (P : Plain → Type 0) (f : ℕ → Option Plain) → ((w : ℕ) → IfSome (f w) P) → (ws : List ℕ) → IfSome (each_plain f ws) (Each P)
+each_found P f h [] = tt
+each_found P f h (w ∷ ws) = both_found P (f w) (each_plain f ws) (h w) (each_found P f h ws)
 
 fields_more : (name : List ℕ) (s : Shape) (fs : Fields) (v : Option Plain) (vs : Option Plains) → IfSome v (HasShape s) → IfSome vs (HaveShapes fs) → IfSome (then_more v vs) (HaveShapes (field name s fs))
 unfolding HasShape
@@ -102,15 +108,15 @@ mutual
   unfolding plain_of
 
   pub plain_shape : (p : List ℕ) (s : Shape) (w : ℕ) → IfSome (plain_of p s w) (HasShape s)
-  plain_shape p number w = unless_null-all (HasShape number) w _ (null_shape number) (int_shape (int_of p w))
-  plain_shape p text w = unless_null-all (HasShape text) w _ (null_shape text) (text_shape (blob_of p w))
-  plain_shape p hash w = unless_null-all (HasShape hash) w _ (null_shape hash) (hash_shape (blob_of p w))
+  plain_shape p number w = unless_null-all (HasShape number) w _ (shape_null number) (int_shape (int_of p w))
+  plain_shape p text w = unless_null-all (HasShape text) w _ (shape_null text) (text_shape (blob_of p w))
+  plain_shape p hash w = unless_null-all (HasShape hash) w _ (shape_null hash) (hash_shape (blob_of p w))
   plain_shape p (array s) w =
-      unless_null-all (HasShape (array s)) w _ (null_shape (array s)) (run_found (HasShape (array s)) (λ ws. option_map arr_value (each_plain (plain_of p s) ws)) (λ ws. mapped (HasShape (array s)) (Each (HasShape s)) arr_value (arr_shape s) (each_plain (plain_of p s) ws) (each_shape (HasShape s) (plain_of p s) (plain_shape p s) ws)) (run_of ARRAY p w))
+      unless_null-all (HasShape (array s)) w _ (shape_null (array s)) (run_found (HasShape (array s)) (λ ws. option_map arr_value (each_plain (plain_of p s) ws)) (λ ws. mapped (HasShape (array s)) (Each (HasShape s)) arr_value (arr_value_shape s) (each_plain (plain_of p s) ws) (each_found (HasShape s) (plain_of p s) (plain_shape p s) ws)) (run_of ARRAY p w))
   plain_shape p (object n fs) w =
-      unless_null-all (HasShape (object n fs)) w _ (null_shape (object n fs)) (run_found (HasShape (object n fs)) (λ ws. option_map obj_value (plains_of p fs ws)) (λ ws. mapped (HasShape (object n fs)) (HaveShapes fs) obj_value (obj_shape n fs) (plains_of p fs ws) (plains_shape p fs ws)) (run_of OBJECT p w))
+      unless_null-all (HasShape (object n fs)) w _ (shape_null (object n fs)) (run_found (HasShape (object n fs)) (λ ws. option_map obj_value (plains_of p fs ws)) (λ ws. mapped (HasShape (object n fs)) (HaveShapes fs) obj_value (obj_value_shape n fs) (plains_of p fs ws) (plains_shape p fs ws)) (run_of OBJECT p w))
 
   pub plains_shape : (p : List ℕ) (fs : Fields) (ws : List ℕ) → IfSome (plains_of p fs ws) (HaveShapes fs)
-  plains_shape p no_fields ws = none_shape no_fields
-  plains_shape p (field name s fs) [] = none_shape (field name s fs)
+  plains_shape p no_fields ws = shapes_none no_fields
+  plains_shape p (field name s fs) [] = shapes_none (field name s fs)
   plains_shape p (field name s fs) (w ∷ ws) = fields_more name s fs (plain_of p s w) (plains_of p fs ws) (plain_shape p s w) (plains_shape p fs ws)

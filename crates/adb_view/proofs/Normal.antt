@@ -1,11 +1,12 @@
 -- Each plain value that is found in bytes is normal.
-use Rattle.std.proofs.Common.{◌≡◌, ℕ, zero, suc, ◌+◌, ◌<◌, ◌^◌, Bool, true, false, cond, eqb, leb, List, [], ◌∷◌, length, get_or, take, drop, Option, Some, None, option_map, Result, Ok, Err, refl, ap, subst, arith, lit<, ◌⊎◌, inl, inr}
+use Rattle.std.proofs.Common.{◌≡◌, ◌≢◌, ℕ, zero, suc, ◌+◌, ◌<◌, ◌^◌, Bool, true, false, cond, eqb, leb, List, [], ◌∷◌, length, get_or, take, drop, Option, Some, None, option_map, Result, Ok, Err, refl, ◌∙◌, ap, subst, arith, lit<, ◌⊎◌, inl, inr}
 use Rattle.std.specs.Prelude.{All, IfSome, if◌then◌else◌}
 use Rattle.std.proofs.lemmas.List.Elements.{All-head, All-tail, All-take, All-drop}
 use Rattle.std.specs.Int.{Width, w32, w64, byte_len, from_le_bytes}
 use Rattle.adb_view.specs.Bytes.{number_at}
-use Rattle.adb_view.specs.Plain.{Plain, null, int, blob, arr, obj, Plains, none, more, Shape, number, text, hash, array, object, Fields, no_fields, field, blob_value, arr_value, obj_of, keep, without_last_nulls, obj_value, unless_null, from_answer, then_more, each_plain, plain_of, plains_of, IsNormal, AreNormal}
+use Rattle.adb_view.specs.Plain.{Plain, null, int, blob, arr, obj, Plains, none, more, Shape, number, text, hash, array, object, Fields, no_fields, field, blob_value, arr_value, obj_of, keep, without_last_nulls, obj_value, from_answer, then_more, each_plain, plain_of, plains_of, IsNormal, AreNormal}
 use Rattle.adb_view.specs.Readers.{kind_of, low_of, inside, int_of, blob_of, run_of, ARRAY, OBJECT}
+use Rattle.adb_view.proofs.FoundShapes.{unless_null-all, mapped, run_found}
 use Rattle.base_core.specs.declared.cause.Cause.{Cause}
 
 -- ---- bytes, and the numbers that they spell
@@ -77,7 +78,7 @@ keep_normal (blob b) vs h hs = (h, hs)
 keep_normal (arr us) vs h hs = (h, hs)
 keep_normal (obj us) vs h hs = (h, hs)
 
-trimmed_normal : (vs : Plains) → AreNormal vs → AreNormal (without_last_nulls vs)
+pub trimmed_normal : (vs : Plains) → AreNormal vs → AreNormal (without_last_nulls vs)
 unfolding IsNormal
 trimmed_normal none hs = tt
 trimmed_normal (more v vs) hs = keep_normal v (without_last_nulls vs) hs.0 (trimmed_normal vs hs.1)
@@ -90,9 +91,21 @@ keep_trimmed (blob b) vs e = ap (more (blob b)) e
 keep_trimmed (arr us) vs e = ap (more (arr us)) e
 keep_trimmed (obj us) vs e = ap (more (obj us)) e
 
-trimmed-trimmed : (vs : Plains) → without_last_nulls (without_last_nulls vs) ≡ without_last_nulls vs
+pub trimmed-trimmed : (vs : Plains) → without_last_nulls (without_last_nulls vs) ≡ without_last_nulls vs
 trimmed-trimmed none = refl
 trimmed-trimmed (more v vs) = keep_trimmed v (without_last_nulls vs) (trimmed-trimmed vs)
+
+-- a list that stays as it is without the Nulls that stand last: its rest does, and its last value is not Null
+pub trimmed-more : (v : Plain) (vs : Plains) → without_last_nulls (more v vs) ≡ more v vs → (without_last_nulls vs ≡ vs) × ((vs ≡ none) → v ≢ null)
+trimmed-more v vs e = go v (without_last_nulls vs) refl e
+  where
+    go : (v : Plain) (us : Plains) → without_last_nulls vs ≡ us → keep v us ≡ more v vs → (without_last_nulls vs ≡ vs) × ((vs ≡ none) → v ≢ null)
+    go null none i e = absurd cc
+    go null (more u us) i e = let same : more u us ≡ vs = cc in (i ∙ same, λ n. absurd (let no : more u us ≡ none = same ∙ n in cc))
+    go (int k) us i e = let same : us ≡ vs = cc in (i ∙ same, λ n x. absurd cc)
+    go (blob b) us i e = let same : us ≡ vs = cc in (i ∙ same, λ n x. absurd cc)
+    go (arr u) us i e = let same : us ≡ vs = cc in (i ∙ same, λ n x. absurd cc)
+    go (obj u) us i e = let same : us ≡ vs = cc in (i ∙ same, λ n x. absurd cc)
 
 -- ---- what each reader's answer becomes
 
@@ -101,7 +114,7 @@ unfolding IsNormal
 int_normal (Ok n) h = h n refl
 int_normal (Err c) h = tt
 
-blob_value_normal : (b : List ℕ) → IsNormal (blob_value b)
+pub blob_value_normal : (b : List ℕ) → IsNormal (blob_value b)
 unfolding IsNormal
 blob_value_normal [] = tt
 blob_value_normal (c ∷ cs) = λ e. absurd cc
@@ -110,7 +123,7 @@ blob_normal : (r : Result (List ℕ) Cause) → IfSome (from_answer (λ b. Some 
 blob_normal (Ok b) = blob_value_normal b
 blob_normal (Err c) = tt
 
-arr_normal : (vs : Plains) → AreNormal vs → IsNormal (arr_value vs)
+pub arr_normal : (vs : Plains) → AreNormal vs → IsNormal (arr_value vs)
 unfolding IsNormal
 arr_normal none hs = tt
 arr_normal (more v vs) hs = (λ e. absurd cc, hs)
@@ -120,24 +133,8 @@ unfolding IsNormal
 obj_of_normal none e hs = tt
 obj_of_normal (more v vs) e hs = (λ x. absurd cc, e, hs)
 
-obj_normal : (vs : Plains) → AreNormal vs → IsNormal (obj_value vs)
+pub obj_normal : (vs : Plains) → AreNormal vs → IsNormal (obj_value vs)
 obj_normal vs hs = obj_of_normal (without_last_nulls vs) (trimmed-trimmed vs) (trimmed_normal vs hs)
-
-entries_normal : (f : Plains → Plain) (g : List ℕ → Option Plains) → ((vs : Plains) → AreNormal vs → IsNormal (f vs)) → ((ws : List ℕ) → IfSome (g ws) AreNormal) → (r : Result (List ℕ) Cause) → IfSome (from_answer (λ ws. option_map f (g ws)) r) IsNormal
-entries_normal f g hf hg (Err c) = tt
-entries_normal f g hf hg (Ok ws) = mapped (g ws) (hg ws)
-  where
-    mapped : (o : Option Plains) → IfSome o AreNormal → IfSome (option_map f o) IsNormal
-    mapped None h = tt
-    mapped (Some vs) h = hf vs h
-
-unless_null_normal : (w : ℕ) (v : Option Plain) → IfSome v IsNormal → IfSome (unless_null w v) IsNormal
-unfolding IsNormal
-unless_null_normal w v h = by_test (eqb w 0)
-  where
-    by_test : (b : Bool) → IfSome (cond b (Some null) v) IsNormal
-    by_test true = tt
-    by_test false = h
 
 more_normal : (v : Option Plain) (vs : Option Plains) → IfSome v IsNormal → IfSome vs AreNormal → IfSome (then_more v vs) AreNormal
 unfolding IsNormal
@@ -154,11 +151,11 @@ mutual
   unfolding plain_of IsNormal
 
   pub plain_of_normal : (p : List ℕ) → AreBytes p → (s : Shape) (w : ℕ) → IfSome (plain_of p s w) IsNormal
-  plain_of_normal p h number w = unless_null_normal w _ (int_normal (int_of p w) (λ n. int_of-fits p w n h))
-  plain_of_normal p h text w = unless_null_normal w _ (blob_normal (blob_of p w))
-  plain_of_normal p h hash w = unless_null_normal w _ (blob_normal (blob_of p w))
-  plain_of_normal p h (array s) w = unless_null_normal w _ (entries_normal arr_value (each_plain (plain_of p s)) arr_normal (each_normal (plain_of p s) (plain_of_normal p h s)) (run_of ARRAY p w))
-  plain_of_normal p h (object schema fs) w = unless_null_normal w _ (entries_normal obj_value (plains_of p fs) obj_normal (plains_of_normal p h fs) (run_of OBJECT p w))
+  plain_of_normal p h number w = unless_null-all IsNormal w _ tt (int_normal (int_of p w) (λ n. int_of-fits p w n h))
+  plain_of_normal p h text w = unless_null-all IsNormal w _ tt (blob_normal (blob_of p w))
+  plain_of_normal p h hash w = unless_null-all IsNormal w _ tt (blob_normal (blob_of p w))
+  plain_of_normal p h (array s) w = unless_null-all IsNormal w _ tt (run_found IsNormal (λ ws. option_map arr_value (each_plain (plain_of p s) ws)) (λ ws. mapped IsNormal AreNormal arr_value arr_normal (each_plain (plain_of p s) ws) (each_normal (plain_of p s) (plain_of_normal p h s) ws)) (run_of ARRAY p w))
+  plain_of_normal p h (object schema fs) w = unless_null-all IsNormal w _ tt (run_found IsNormal (λ ws. option_map obj_value (plains_of p fs ws)) (λ ws. mapped IsNormal AreNormal obj_value obj_normal (plains_of p fs ws) (plains_of_normal p h fs ws)) (run_of OBJECT p w))
 
   pub plains_of_normal : (p : List ℕ) → AreBytes p → (fs : Fields) (ws : List ℕ) → IfSome (plains_of p fs ws) AreNormal
   plains_of_normal p h no_fields ws = tt

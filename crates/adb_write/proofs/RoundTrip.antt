@@ -6,11 +6,12 @@ use Rattle.std.specs.Int.{Width, w8, w16, w32, w64, byte_len, from_le_bytes, to_
 use Rattle.std.proofs.lemmas.Bool.{cases_lt, leb-true, le-leb, lt-ltb, le-ltb}
 use Rattle.std.proofs.lemmas.List.{append-nil, take_at, drop_at, length-append, length-drop, length-replicate, take-append-le, drop-append-le}
 use Rattle.adb_view.specs.Bytes.{range_at, number_at, words}
-use Rattle.adb_view.specs.Plain.{IsNormal, AreNormal, Plain, null, int, blob, arr, obj, Plains, none, more, without_last_nulls, keep, blob_value, arr_value, obj_of, obj_value, Shape, number, text, hash, array, object, Fields, no_fields, field, unless_null, from_answer, each_plain, plain_of, plains_of, value_of}
+use Rattle.adb_view.specs.Plain.{IsNormal, AreNormal, Plain, null, int, blob, arr, obj, Plains, none, more, without_last_nulls, blob_value, arr_value, obj_of, obj_value, Shape, number, text, hash, array, object, Fields, no_fields, field, unless_null, from_answer, each_plain, plain_of, plains_of, value_of}
 use Rattle.adb_view.specs.Head.{root_of}
 use Rattle.adb_view.specs.Readers.{kind_of, low_of, inside, counted_at, counted_words, run_at, int_of, blob_of, run_of, ARRAY, OBJECT}
 use Rattle.adb_write.specs.Canonical.{gap, Item, WrittenItem, Cell, in_place, apart, int_cell, blob_cell, run_cell, run_bytes, keep_word, trimmed_words, Layout, empty_layout, end_offset, is_equal_item, word_of_item, put_new, put_unless, put_item, put_cell, put_run, write, write_all, payload_with_root, canonical, MOST_BYTES}
 use Rattle.adb_view.specs.Shaped.{Each, HasShape, HaveShapes}
+use Rattle.adb_view.proofs.Normal.{trimmed-more}
 use Rattle.adb_write.specs.StandsFor.{Holds, HoldAll, IsWordOf}
 use Rattle.adb_write.proofs.Found.{find-passes, equal_kind, equal_bytes, equal_within, equal_stands}
 use Rattle.adb_write.proofs.Placed.{Stands, Stands-append, wide8, wide16, wide32, wide64, number_stands, counted_stands, run_stands, words_len, place, placed_stands, word_kind, word_low}
@@ -431,18 +432,6 @@ not_null_word p (int n) w ne h = h.0
 not_null_word p (blob b) w ne h = h.0
 not_null_word p (arr vs) w ne h = h.0
 not_null_word p (obj vs) w ne h = h.0
-
--- a list that stays as it is without the Nulls that stand last: its rest does, and its last value is not Null
-pub trimmed-more : (v : Plain) (vs : Plains) → without_last_nulls (more v vs) ≡ more v vs → (without_last_nulls vs ≡ vs) × ((vs ≡ none) → v ≢ null)
-trimmed-more v vs e = go v (without_last_nulls vs) refl e
-  where
-    go : (v : Plain) (us : Plains) → without_last_nulls vs ≡ us → keep v us ≡ more v vs → (without_last_nulls vs ≡ vs) × ((vs ≡ none) → v ≢ null)
-    go null none i e = absurd cc
-    go null (more u us) i e = let same : more u us ≡ vs = cc in (i ∙ same, λ n. absurd (let no : more u us ≡ none = same ∙ n in cc))
-    go (int k) us i e = let same : us ≡ vs = cc in (i ∙ same, λ n x. absurd cc)
-    go (blob b) us i e = let same : us ≡ vs = cc in (i ∙ same, λ n x. absurd cc)
-    go (arr u) us i e = let same : us ≡ vs = cc in (i ∙ same, λ n x. absurd cc)
-    go (obj u) us i e = let same : us ≡ vs = cc in (i ∙ same, λ n x. absurd cc)
 
 keep_word-is : (w : ℕ) (ws : List ℕ) → (ws ≡ [] → w ≢ 0) → keep_word w ws ≡ w ∷ ws
 keep_word-is w (v ∷ vs) h = refl

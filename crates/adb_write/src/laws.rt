@@ -103,7 +103,8 @@ pub fn a_value_overflows_exactly_past_a_limit()
 {}
 
 /// A normal value is written where its payload has at most 2^28 - 1 bytes, the offsets that a word
-/// can say (apk-v3(5)), and it has at most 2^22 values, as many as a reader takes; and nowhere else.
+/// can say (apk-v3(5)), and it has at most 2^22 values, as many as a reader takes; and nowhere
+/// else.
 pub fn a_value_is_written_up_to_both_limits()
     ensures written { (v : Plain) → IsNormal v → size_of v < 2 ^ 28 → value_count v ≤ 2 ^ 22
         → written_of v ≡ Ok (canonical v) }

@@ -1,26 +1,28 @@
 -- A run behind a recovery.
-use Rattle.std.proofs.Common.{◌≡◌, inl, inr, ℕ, Bool, true, false, List, [], ◌∷◌, ◌++◌, append_assoc, Option, None, IsSome, Err, sym, ap, subst, ◌∙◌, arith}
+use Rattle.std.proofs.Common.{◌≡◌, inl, inr, ⊎_elim, ℕ, Bool, true, false, List, [], ◌∷◌, ◌++◌, append_assoc, Option, None, Some, IsSome, Err, refl, sym, ap, subst, ◌∙◌, arith}
 use Rattle.std.specs.Prelude.{is_some, All, IsErrOf, OnOk}
 use Rattle.std.proofs.lemmas.Bool.{false≢true}
-use Rattle.std.proofs.lemmas.List.Elements.{All-append, All-head, All-nil, All-tail, All-weaker}
+use Rattle.std.proofs.lemmas.List.{append_cancel_right}
+use Rattle.std.proofs.lemmas.List.Elements.{All-append, All-cons, All-head, All-nil, All-tail, All-weaker}
 use Rattle.base_core.specs.Calls.{HasNow}
 use Rattle.base_core.specs.Crash.{IsOrderly, Since}
-use Rattle.base_core.specs.Files.{Files}
+use Rattle.base_core.specs.Files.{Files, NameMap}
 use Rattle.base_core.specs.Restart.{EachMoment}
-use Rattle.base_core.specs.Tree.{TreeState, files_of}
+use Rattle.base_core.specs.Tree.{IsMapOf, TreeState, files_of}
 use Rattle.base_core.specs.declared.cause.Cause.{Cause}
 use Rattle.base_core.specs.declared.tree.TreeFault.{TreeFault}
 use Rattle.base_core.specs.declared.tree.TreeFault.TheVariants.{Memory as NoMemory}
+use Rattle.journal_core.specs.Kept.{IsLessWaiting, KeepsMapsBut, ShownNamesLast}
 use Rattle.journal_core.specs.Quiet.{IsQuiet, IsStill}
 use Rattle.journal_core.specs.Recovery.{IsOldOrNew, IsSettled, RestsOn, intent_name, intent_of, state_of}
-use Rattle.journal_core.specs.Replacing.{IsReplacing}
+use Rattle.journal_core.specs.Replacing.{IsReplacing, scratch_of}
 use Rattle.journal_core.specs.Staged.{IsEmptyStage, IsOnTheWay, unstaged_files}
-use Rattle.outcome.specs.Effect.{Effect, does_recover}
+use Rattle.outcome.specs.Effect.{Effect, Makes, does_recover}
 use Rattle.outcome.specs.Outcome.{Outcome}
 use Rattle.outcome.specs.Work.{recovery_fault, work_files}
-use Rattle.apk_front.specs.Moments.{AreOnTheWay, AreSafe, CanRecover, HasNothingToRecover, IsReadApart, IsReadOnItsWay, Settles, SettlesUnrecovered}
-use Rattle.apk_front.specs.Runs.{IsRun, IsWholeRun, IsWithoutCommit}
-use Rattle.apk_front.proofs.Runs.{History, Judged, Leaves, err_ok, ok_always, on_ok, settled_before}
+use Rattle.apk_front.specs.Moments.{AreOnTheWay, AreReadOnTheWay, AreSafe, CanRecover, HasNothingToRecover, IsAtRest, IsBehindRecovery, IsReadAtWork, IsRecovering, Settles, SettlesUnrecovered, UnreadNamesLast, ignored_but, output_names}
+use Rattle.apk_front.specs.Runs.{AreReadApart, IsReadApart, IsRun, IsWholeRun, IsWithoutCommit}
+use Rattle.apk_front.proofs.Runs.{History, Judged, Leaves, err_ok, off_scratch, ok_always, on_ok, settled_before}
 
 -- ---- laws
 
@@ -123,85 +125,136 @@ unwritten A B output judged u mid now from run memory (inr (o, one, commits)) = 
 none_since : (P : TreeState → Type 0) (old now : History) → now ≡ old → Since P old now
 none_since P old now same = record { added = []; is = same; each = All-nil P }
 
-settles_alone : (effect : Effect) (ignored : Ignored) (v : TreeState) (o : Outcome) → does_recover effect ≡ false → Settles effect ignored v o → SettlesUnrecovered ignored v o
-settles_alone effect ignored v o none (inl settles) = settles
-settles_alone effect ignored v o none (inr (recovers, some)) = absurd (false≢true (sym none ∙ recovers))
-
-no_fault_to_recover : (effect : Effect) (files : Files) (P : Type 0) → recovery_fault effect files ≡ None → IsSome (recovery_fault effect files) → P
-no_fault_to_recover effect files P none some = absurd (false≢true (sym (ap (λ (o : Option Cause). is_some o) none) ∙ some))
-
-pub whole_alone : (IsOne : Outcome → Type 0) (effect : Effect) (output : Option (List ℕ)) (judged : Judged) (v : TreeState) (old now : History) → does_recover effect ≡ false → recovery_fault effect (files_of v) ≡ None → work_files effect (files_of v) ≡ files_of v
-    → IsRun IsOne output judged v old now → StaysWithout old now judged → IsWholeRun IsOne effect output judged v old now
-whole_alone IsOne effect output judged v old now alone good work run memory = record {
-  moments = run.moments;
-  orderly = run.orderly;
-  settled = λ ignored o orderly hides one lasts. run.settled ignored o orderly hides one (settles_alone effect ignored v o alone lasts);
-  left = λ without ignored orderly. none_since (IsStill ignored v) old now (unwritten IsOne IsOne output judged v old now (λ o one. one) run memory without);
-  idle = λ without nothing. unwritten IsOne IsOne output judged v old now (λ o one. one) run memory without;
-  bad = λ some. no_fault_to_recover effect (files_of v) (OnOk judged (now ≡ old)) good some;
-  reads = λ o one nothing. run.reads o one;
-  states = λ o one.
-      since_weaker (IsReadApart output o.files (files_of v)) (IsReadOnItsWay effect output o.files v) old now
-      (λ w apart. inr (subst (λ (f : Files). IsReadApart output o.files f w) (sym work) apart)) (run.reads o one);
-  leaves = run.leaves;
-}
-
 -- ---- a run that recovers
 
--- a recovery of the files as read leaves what one of the old files does
 abbrev pub RecoversAs : TreeState → TreeState → Type 0
 RecoversAs v w = unstaged_files (files_of w) ≡ unstaged_files (files_of v)
 
--- what a recovery says that ended well
-pub record IsRecovered (v : TreeState) (old mid : History) : Type 0 where
+-- as soon as no intent is read, a crash undoes no change of a name that does not wait
+abbrev pub LastsUnread : TreeState → Type 0
+LastsUnread w = w.names intent_name ≡ None → ShownNamesLast w
+
+-- what a recovery says, whatever it answers
+pub record IsRecovery (v : TreeState) (old mid : History) : Type 0 where
   pub calm : IsCalm v old mid
   pub reads : Since (RecoversAs v) old mid
+  pub waiting : Since (IsLessWaiting v) old mid
+  pub last : IsSome (v.names intent_name) → Since LastsUnread old mid
+  pub idle : v.names intent_name ≡ None → IsEmptyStage v.names → mid ≡ old
+
+-- and where it ended well
+pub record IsRecovered (v : TreeState) (old mid : History) : Type 0 where
+  pub recovery : IsRecovery v old mid
   pub files : HasNow mid (λ w. (files_of w ≡ unstaged_files (files_of v)) × (w.names intent_name ≡ None))
   pub settled : (ignored : Ignored) → IsOrderly (RestsOn ignored) v → IsSome (intent_of (files_of v)) → HasNow mid (IsSettled ignored (files_of v))
-  pub idle : v.names intent_name ≡ None → IsEmptyStage v.names → mid ≡ old
 
 nothing_done : (effect : Effect) (v : TreeState) (P : Type 0) → does_recover effect ≡ true → (v.names intent_name ≡ None → IsEmptyStage v.names → P) → HasNothingToRecover effect v → P
 nothing_done effect v P recovers idle (inl not_so) = absurd (false≢true (sym not_so ∙ recovers))
 nothing_done effect v P recovers idle (inr (absent, empty)) = idle absent empty
 
+-- ---- what is read
+
+all_both : (P Q : TreeState → Type 0) (added : History) → All P added → All Q added → All (λ w. P w × Q w) added
+all_both P Q [] p q = All-nil (λ w. P w × Q w)
+all_both P Q (w ∷ added) p q = All-cons (λ w. P w × Q w) w added (All-head P w added p, All-head Q w added q) (all_both P Q added (All-tail P w added p) (All-tail Q w added q))
+
+since_and : (P Q : TreeState → Type 0) (old now : History) → Since P old now → Since Q old now → Since (λ w. P w × Q w) old now
+since_and P Q old now p q =
+    let same : q.added ≡ p.added = append_cancel_right q.added p.added old (sym q.is ∙ p.is) in
+    record { added = p.added; is = p.is; each = all_both P Q p.added p.each (subst (λ (h : History). All Q h) same q.each) }
+
+recovering : (v : TreeState) (old mid : History) → IsRecovery v old mid → Since (IsRecovering v) old mid
+recovering v old mid recovery =
+    since_weaker (λ w. RecoversAs v w × IsLessWaiting v w) (IsRecovering v) old mid (λ w both. record { reads = both.0; waiting = both.1 })
+    (since_and (RecoversAs v) (IsLessWaiting v) old mid recovery.reads recovery.waiting)
+
+at_work : (effect : Effect) (output : Option (List ℕ)) (new old : Files) (w : TreeState) → effect ≡ Makes → IsReadApart output new old w → IsReadAtWork effect output new old w
+at_work effect None new old w makes same = inl (λ q off. ap (λ (f : Files). f q) same)
+at_work effect (Some name) new old w makes (inl others) = inl (λ q off. others q (off_scratch effect name q makes off))
+at_work effect (Some name) new old w makes (inr is) = inr (inr is)
+
+reads_behind : (A B : Outcome → Type 0) (effect : Effect) (output : Option (List ℕ)) (v u : TreeState) (old mid now : History) → does_recover effect ≡ true → effect ≡ Makes → files_of u ≡ work_files effect (files_of v) → ((o : Outcome) → A o → B o)
+    → Since (IsRecovering v) old mid → AreReadApart A output u mid now → AreReadOnTheWay B effect output v old now
+reads_behind A B effect output v u old mid now recovers makes work into first (inl same) =
+    inl (since_both (IsRecovering v) (λ w. files_of w ≡ files_of u) (IsBehindRecovery effect (λ w. files_of w ≡ work_files effect (files_of v)) v) old mid now (λ w r. inl (recovers, r)) (λ w is. inr (is ∙ work)) first same)
+reads_behind A B effect output v u old mid now recovers makes work into first (inr (o, one, commits, apart)) =
+    inr (
+      o,
+      into o one,
+      commits,
+      since_both (IsRecovering v) (IsReadApart output o.files (files_of u)) (IsBehindRecovery effect (IsReadAtWork effect output o.files (work_files effect (files_of v))) v) old mid now (λ w r. inl (recovers, r))
+          (λ w is. inr (at_work effect output o.files (work_files effect (files_of v)) w makes (subst (λ (f : Files). IsReadApart output o.files f w) work is))) first apart,
+    )
+
+-- ---- the names
+
+names_kept : (output : Option (List ℕ)) (u w : TreeState) → ShownNamesLast u → KeepsMapsBut (output_names output) u w → UnreadNamesLast output w
+names_kept output u w last keeps none map among q off no_intent unstaged =
+    let (was, is_was, same) = keeps map among in
+    let (own, is_own, own_same) = keeps w.names (inl refl) in
+    same q off ∙ last was is_was q no_intent unstaged ∙ sym (own_same q off ∙ last own is_own q no_intent unstaged)
+
+unread_last : (output : Option (List ℕ)) (w : TreeState) → LastsUnread w → UnreadNamesLast output w
+unread_last output w last none map among q off no_intent unstaged = last none map among q no_intent unstaged
+
+none_some : (o : Option ℕ) → o ≡ None → IsSome o → ⊥
+none_some o none some = false≢true (sym (ap (λ (p : Option ℕ). is_some p) none) ∙ some)
+
+newest_last : (v u : TreeState) (rest more added : History) → IsSome (v.names intent_name) → u ∷ more ≡ added ++ v ∷ rest → All LastsUnread added → u.names intent_name ≡ None → ShownNamesLast u
+newest_last v u rest more [] some is each none = absurd (none_some (v.names intent_name) (sym (ap (λ (h : History). (first_or v h).names intent_name) is) ∙ none) some)
+newest_last v u rest more (m ∷ added) some is each none =
+    let same : u ≡ m = ap (first_or v) is in
+    subst ShownNamesLast (sym same) (All-head LastsUnread m added each (subst (λ (w : TreeState). w.names intent_name ≡ None) same none))
+
+last_behind : (output : Option (List ℕ)) (v u : TreeState) (rest more now : History) → IsRecovery v (v ∷ rest) (u ∷ more) → u.names intent_name ≡ None → Since (KeepsMapsBut (output_names output) u) (u ∷ more) now
+    → IsSome (v.names intent_name) → Since (UnreadNamesLast output) (v ∷ rest) now
+last_behind output v u rest more now recovery none others some =
+    let first = recovery.last some in
+    let here = newest_last v u rest more first.added some first.is first.each none in
+    since_both LastsUnread (KeepsMapsBut (output_names output) u) (UnreadNamesLast output) (v ∷ rest) (u ∷ more) now (unread_last output) (λ w keeps. names_kept output u w here keeps) first others
+
+-- ---- the recovery ended well
+
+no_fault_to_recover : (effect : Effect) (files : Files) (P : Type 0) → recovery_fault effect files ≡ None → IsSome (recovery_fault effect files) → P
+no_fault_to_recover effect files P none some = absurd (false≢true (sym (ap (λ (o : Option Cause). is_some o) none) ∙ some))
+
 pub whole_behind : AreLaws → (A B : Outcome → Type 0) (effect : Effect) (output : Option (List ℕ)) (judged : Judged) (v u : TreeState) (rest more now : History)
-    → does_recover effect ≡ true → recovery_fault effect (files_of v) ≡ None → files_of u ≡ work_files effect (files_of v) → ((o : Outcome) → A o → B o) → ((o : Outcome) → B o → A o)
+    → does_recover effect ≡ true → effect ≡ Makes → recovery_fault effect (files_of v) ≡ None → files_of u ≡ work_files effect (files_of v) → u.names intent_name ≡ None → ((o : Outcome) → A o → B o) → ((o : Outcome) → B o → A o)
     → IsRecovered v (v ∷ rest) (u ∷ more) → IsRun A output judged u (u ∷ more) now → StaysWithout (u ∷ more) now judged → IsWholeRun B effect output judged v (v ∷ rest) now
-whole_behind laws A B effect output judged v u rest more now recovers good work into from recovered run memory =
-    let still : (ignored : Ignored) → IsOrderly (RestsOn ignored) v → IsStill ignored v u = λ ignored orderly. newest laws ignored v u rest more orderly (recovered.calm ignored orderly) in
-    let same : HasNothingToRecover effect v → u ∷ more ≡ v ∷ rest = λ nothing. nothing_done effect v (u ∷ more ≡ v ∷ rest) recovers recovered.idle nothing in
+whole_behind laws A B effect output judged v u rest more now recovers makes good work none into from recovered run memory =
+    let calm = recovered.recovery.calm in
+    let still : (ignored : Ignored) → IsOrderly (RestsOn ignored) v → IsStill ignored v u = λ ignored orderly. newest laws ignored v u rest more orderly (calm ignored orderly) in
+    let same : HasNothingToRecover effect v → u ∷ more ≡ v ∷ rest = λ nothing. nothing_done effect v (u ∷ more ≡ v ∷ rest) recovers recovered.recovery.idle nothing in
     record {
       moments = λ ignored orderly hides.
-          safe_behind laws A B (is_some output) ignored v u (v ∷ rest) (u ∷ more) now into (still ignored orderly) (recovered.calm ignored orderly) (run.moments ignored (still ignored orderly).orderly hides);
+          safe_behind laws A B (is_some output) ignored v u (v ∷ rest) (u ∷ more) now into (still ignored orderly) (calm ignored orderly) (run.moments ignored (still ignored orderly).orderly hides);
       orderly = λ ignored orderly hides. run.orderly ignored (still ignored orderly).orderly hides;
       settled = λ ignored o orderly hides one lasts.
           run.settled ignored o (still ignored orderly).orderly hides (from o one)
           (settles_behind laws effect ignored v u o (still ignored orderly) (recovered.settled ignored orderly) lasts);
+      at_rest = λ ignored o orderly hides one commits. run.at_rest ignored o (still ignored orderly).orderly hides (from o one) commits;
       left = λ without ignored orderly.
-          subst (λ (h : History). Since (IsStill ignored v) (v ∷ rest) h) (sym (unwritten A B output judged u (u ∷ more) now from run memory without)) (recovered.calm ignored orderly);
+          subst (λ (h : History). Since (IsStill ignored v) (v ∷ rest) h) (sym (unwritten A B output judged u (u ∷ more) now from run memory without)) (calm ignored orderly);
       idle = λ without nothing. unwritten A B output judged u (u ∷ more) now from run memory without ∙ same nothing;
-      bad = λ some. no_fault_to_recover effect (files_of v) (OnOk judged (now ≡ v ∷ rest)) good some;
-      reads = λ o one nothing.
-          subst (λ (h : History). Since (IsReadApart output o.files (files_of v)) h now) (same nothing)
-          (subst (λ (f : Files). Since (IsReadApart output o.files f) (u ∷ more) now) (ap (λ (h : History). files_of (first_or v h)) (same nothing)) (run.reads o (from o one)));
-      states = λ o one.
-          since_both (RecoversAs v) (IsReadApart output o.files (files_of u)) (IsReadOnItsWay effect output o.files v) (v ∷ rest) (u ∷ more) now (λ w same. inl same)
-          (λ w apart. inr (subst (λ (f : Files). IsReadApart output o.files f w) work apart)) recovered.reads (run.reads o (from o one));
+      bad = λ some. no_fault_to_recover effect (files_of v) (now ≡ v ∷ rest) good some;
+      reads = reads_behind A B effect output v u (v ∷ rest) (u ∷ more) now recovers makes work into (recovering v (v ∷ rest) (u ∷ more) recovered.recovery) run.reads;
+      last = last_behind output v u rest more now recovered.recovery none run.others;
       leaves = λ o one. run.leaves o (from o one);
     }
 
 -- the recovery failed
 pub whole_failed : AreLaws → (IsOne : Outcome → Type 0) (effect : Effect) (output : Option (List ℕ)) (judged : Judged) (e : TreeFault) (v : TreeState) (rest now : History) → does_recover effect ≡ true → judged ≡ Err e
-    → IsCalm v (v ∷ rest) now → Since (RecoversAs v) (v ∷ rest) now → (v.names intent_name ≡ None → IsEmptyStage v.names → now ≡ v ∷ rest) → IsWholeRun IsOne effect output judged v (v ∷ rest) now
-whole_failed laws IsOne effect output judged e v rest now recovers failed calm reads idle = record {
-  moments = λ ignored orderly hides. inl (calm ignored orderly);
-  orderly = λ ignored orderly hides. newest_orderly laws ignored v rest now orderly (calm ignored orderly);
+    → IsRecovery v (v ∷ rest) now → (IsSome (recovery_fault effect (files_of v)) → now ≡ v ∷ rest) → IsWholeRun IsOne effect output judged v (v ∷ rest) now
+whole_failed laws IsOne effect output judged e v rest now recovers failed recovery bad = record {
+  moments = λ ignored orderly hides. inl (recovery.calm ignored orderly);
+  orderly = λ ignored orderly hides. newest_orderly laws ignored v rest now orderly (recovery.calm ignored orderly);
   settled = λ ignored o orderly hides one lasts. err_ok (HasNow now (IsSettled ignored o.files)) judged e failed;
-  left = λ without ignored orderly. calm ignored orderly;
-  idle = λ without nothing. nothing_done effect v (now ≡ v ∷ rest) recovers idle nothing;
-  bad = λ some. err_ok (now ≡ v ∷ rest) judged e failed;
-  reads = λ o one nothing. none_since (IsReadApart output o.files (files_of v)) (v ∷ rest) now (nothing_done effect v (now ≡ v ∷ rest) recovers idle nothing);
-  states = λ o one. since_weaker (RecoversAs v) (IsReadOnItsWay effect output o.files v) (v ∷ rest) now (λ w same. inl same) reads;
+  at_rest = λ ignored o orderly hides one commits. err_ok (HasNow now (IsAtRest (ignored_but output ignored) o.files)) judged e failed;
+  left = λ without ignored orderly. recovery.calm ignored orderly;
+  idle = λ without nothing. nothing_done effect v (now ≡ v ∷ rest) recovers recovery.idle nothing;
+  bad = bad;
+  reads = inl (since_weaker (IsRecovering v) (IsBehindRecovery effect (λ w. files_of w ≡ work_files effect (files_of v)) v) (v ∷ rest) now (λ w r. inl (recovers, r)) (recovering v (v ∷ rest) now recovery));
+  last = λ some. since_weaker LastsUnread (UnreadNamesLast output) (v ∷ rest) now (unread_last output) (recovery.last some);
   leaves = λ o one. err_ok (HasNow now (λ w. files_of w ≡ o.files)) judged e failed;
 }
 
@@ -223,10 +276,11 @@ whole_idle IsOne effect output judged v rest now same all = record {
       on_ok judged
       (λ left. subst (λ (h : History). HasNow h (IsSettled ignored o.files)) (sym same) (subst (λ (f : Files). IsSettled ignored f v) (sym left.0.0) (settled_left effect ignored v o left lasts)))
       (all o one);
+  at_rest = λ ignored o orderly hides one commits. on_ok judged (λ left. absurd (false≢true (sym left.0.1 ∙ commits))) (all o one);
   left = λ without ignored orderly. none_since (IsStill ignored v) (v ∷ rest) now same;
   idle = λ without nothing. same;
-  bad = λ some. ok_always (now ≡ v ∷ rest) judged same;
-  reads = λ o one nothing. none_since (IsReadApart output o.files (files_of v)) (v ∷ rest) now same;
-  states = λ o one. none_since (IsReadOnItsWay effect output o.files v) (v ∷ rest) now same;
+  bad = λ some. same;
+  reads = inl (none_since (IsBehindRecovery effect (λ w. files_of w ≡ work_files effect (files_of v)) v) (v ∷ rest) now same);
+  last = λ some. none_since (UnreadNamesLast output) (v ∷ rest) now same;
   leaves = λ o one. on_ok judged (λ left. subst (λ (h : History). HasNow h (λ w. files_of w ≡ o.files)) (sym same) (sym left.0.0)) (all o one);
 }

@@ -12,21 +12,22 @@ use Rattle.base_core.specs.declared.cause.Cause.{Cause}
 use Rattle.command_core.specs.Command.{CommandLine}
 use Rattle.command_core.specs.declared.command.Applet.{Applet}
 use Rattle.command_core.specs.declared.command.Applet.TheVariants.{Mkndx, Mkpkg}
+use Rattle.journal_core.specs.Kept.{IsLessWaiting}
 use Rattle.journal_core.specs.Recovery.{IsSettled, RestsOn, intent_at, intent_name, intent_of, intent_unless, read_intent}
 use Rattle.journal_core.specs.Staged.{HasRoomToReplay, IsEmptyStage, IsIntentFault, unstaged_files}
 use Rattle.journal_core.specs.declared.recovering.RecoverFault.{RecoverFault}
 use Rattle.journal_core.specs.declared.recovering.RecoverFault.TheVariants.{IntentBad as BadIntent}
 use Rattle.outcome.specs.Commands.{IsFoundOutcomeOf, IsFoundOver, IsOutcomeOf, IsOutcomeOver, IsOutcomeUnless}
-use Rattle.outcome.specs.Effect.{Effect, Makes, does_only_read, does_recover, effect_of}
+use Rattle.outcome.specs.Effect.{Effect, Computes, Reads, Tells, Makes, Changes, does_only_read, does_recover, effect_of}
 use Rattle.outcome.specs.Outcome.{Outcome, just_refusal}
 use Rattle.outcome.specs.Work.{fault_of_intent, recovery_fault, work_files}
 use Rattle.report_core.specs.declared.refusal.Refusal.TheVariants.{IntentBad}
-use Rattle.apk_front.specs.Moments.{HasRoomFor, LeavesRoomFor}
+use Rattle.apk_front.specs.Moments.{HasRoomFor, HasRoomToWrite, LeavesRoomFor}
 use Rattle.apk_front.specs.Runs.{IsRun, IsWholeRun}
 use Rattle.apk_front.specs.Verdicts.{ReportsOne, as_outcome}
 use Rattle.apk_front.specs.declared.answer.Verdict.{Verdict}
 use Rattle.apk_front.proofs.Carried.{Ones, RoomFor, Wholes, only_reads_unless}
-use Rattle.apk_front.proofs.AfterRecovery.{AreLaws, IsCalm, LeavesAll, RecoversAs, StaysWithout, whole_behind, whole_failed, whole_idle}
+use Rattle.apk_front.proofs.AfterRecovery.{AreLaws, IsCalm, IsRecovery, LastsUnread, LeavesAll, RecoversAs, StaysWithout, whole_behind, whole_failed, whole_idle}
 use Rattle.apk_front.proofs.Runs.{History, Judged, Leaves, none_is_some}
 
 -- ---- a command that recovers
@@ -36,17 +37,29 @@ recovers applet (inl is) = ap (λ (a : Applet). does_recover (effect_of a)) is
 recovers applet (inr is) = ap (λ (a : Applet). does_recover (effect_of a)) is
 
 reads_not : (effect : Effect) → does_only_read effect ≡ true → does_recover effect ≡ false
+reads_not Computes reads = refl
+reads_not Reads reads = refl
+reads_not Tells reads = cc
 reads_not Makes reads = cc
-reads_not other reads = refl
+reads_not Changes reads = cc
 
 -- no other applet recovers
 pub no_other : (applet own : Applet) → applet ≡ own → does_recover (effect_of own) ≡ true → (applet ≡ Mkpkg → ⊥) → (applet ≡ Mkndx → ⊥) → ⊥
 no_other applet own same recovering p i =
     false≢true (sym (reads_not (effect_of applet) (only_reads_unless applet p i)) ∙ ap (λ (a : Applet). does_recover (effect_of a)) same ∙ recovering)
 
+-- a command that recovers makes a file
+recovers_makes : (applet : Applet) → does_recover (effect_of applet) ≡ true → effect_of applet ≡ Makes
+recovers_makes Mkpkg recovering = refl
+recovers_makes Mkndx recovering = refl
+recovers_makes other recovering = cc
+
 work_is : (effect : Effect) (files : Files) → does_recover effect ≡ true → work_files effect files ≡ unstaged_files files
+work_is Computes files recovering = cc
+work_is Reads files recovering = cc
+work_is Tells files recovering = refl
 work_is Makes files recovering = refl
-work_is other files recovering = cc
+work_is Changes files recovering = refl
 
 no_bad : (files : Files) → ((cause : Cause) → IsIntentFault files cause → ⊥) → fault_of_intent (files intent_name) ≡ None
 no_bad files good = by_found (files intent_name) refl
@@ -60,12 +73,37 @@ no_bad files good = by_found (files intent_name) refl
     by_found (Some file) at = by_fault file (first_fault IntentTable file) at refl
 
 good_is : (effect : Effect) (files : Files) → does_recover effect ≡ true → ((cause : Cause) → IsIntentFault files cause → ⊥) → recovery_fault effect files ≡ None
+good_is Computes files recovering good = cc
+good_is Reads files recovering good = cc
+good_is Tells files recovering good = no_bad files good
 good_is Makes files recovering good = no_bad files good
-good_is other files recovering good = cc
+good_is Changes files recovering good = no_bad files good
 
 bad_is : (effect : Effect) (files : Files) (cause : Cause) → does_recover effect ≡ true → IsIntentFault files cause → recovery_fault effect files ≡ Some cause
+bad_is Computes files cause recovering bad = cc
+bad_is Reads files cause recovering bad = cc
+bad_is Tells files cause recovering (file, at, is) = ap fault_of_intent at ∙ is
 bad_is Makes files cause recovering (file, at, is) = ap fault_of_intent at ∙ is
-bad_is other files cause recovering bad = cc
+bad_is Changes files cause recovering (file, at, is) = ap fault_of_intent at ∙ is
+
+fault_found : (files : Files) → IsSome (fault_of_intent (files intent_name)) → (cause : Cause) × IsIntentFault files cause
+fault_found files some = by_found (files intent_name) refl some
+  where
+    by_fault : (file : List ℕ) (fault : Option Cause) → files intent_name ≡ Some file → first_fault IntentTable file ≡ fault → IsSome fault → (cause : Cause) × IsIntentFault files cause
+    by_fault file None at is none = absurd (false≢true none)
+    by_fault file (Some cause) at is there = (cause, (file, at, is))
+
+    by_found : (found : Option (List ℕ)) → files intent_name ≡ found → IsSome (fault_of_intent found) → (cause : Cause) × IsIntentFault files cause
+    by_found None at none = absurd (false≢true none)
+    by_found (Some file) at there = by_fault file (first_fault IntentTable file) at refl there
+
+-- why a command cannot recover
+bad_found : (effect : Effect) (files : Files) → IsSome (recovery_fault effect files) → (cause : Cause) × IsIntentFault files cause
+bad_found Computes files some = absurd (false≢true some)
+bad_found Reads files some = absurd (false≢true some)
+bad_found Tells files some = fault_found files some
+bad_found Makes files some = fault_found files some
+bad_found Changes files some = fault_found files some
 
 -- ---- the recovery ended well
 
@@ -103,15 +141,18 @@ abbrev pub Idle : History → History → TreeState → Type 0
 Idle old mid v = v.names intent_name ≡ None → IsEmptyStage v.names → mid ≡ old
 
 pub behind_run : AreLaws → (command : CommandLine) (output : Option (List ℕ)) (judged : Judged) (old mid now : History) → does_recover (effect_of command.applet) ≡ true
-    → IfObservable old (λ v. IsCalm v old mid) → IfObservable old (λ v. Since (RecoversAs v) old mid) → IfObservable old IsGood → IfObservable old (λ v. HasNow mid (LeavesUnstaged v)) → IfObservable old (Settled mid) → IfObservable old (Idle old mid)
+    → IfObservable old (λ v. IsRecovery v old mid) → IfObservable old IsGood → IfObservable old (λ v. HasNow mid (LeavesUnstaged v)) → IfObservable old (Settled mid)
     → IfObservable mid (λ u. IsRun (Ones command u) output judged u mid now) → StaysWithout mid now judged
     → IfObservable old (λ v. IsWholeRun (Wholes command v) (effect_of command.applet) output judged v old now)
-behind_run laws command output judged [] mid now recovering calm reads good left settled idle run memory = tt
-behind_run laws command output judged (v ∷ rest) [] now recovering calm reads good left settled idle run memory = absurd left
-behind_run laws command output judged (v ∷ rest) (u ∷ more) now recovering calm reads good left settled idle run memory =
-    whole_behind laws (Ones command u) (Wholes command v) (effect_of command.applet) output judged v u rest more now recovering (good_is (effect_of command.applet) (files_of v) recovering good)
-    (left.0 ∙ sym (work_is (effect_of command.applet) (files_of v) recovering)) (λ o one. into command v u o recovering good left one) (λ o one. from command v u o recovering good left one)
-    (record { calm = calm; reads = reads; files = left; settled = settled; idle = idle }) run memory
+behind_run laws command output judged [] mid now recovering recovery good left settled run memory = tt
+behind_run laws command output judged (v ∷ rest) [] now recovering recovery good left settled run memory = absurd left
+behind_run laws command output judged (v ∷ rest) (u ∷ more) now recovering recovery good left settled run memory =
+    whole_behind laws (Ones command u) (Wholes command v) (effect_of command.applet) output judged v u rest more now recovering (recovers_makes command.applet recovering)
+    (good_is (effect_of command.applet) (files_of v) recovering good) (left.0 ∙ sym (work_is (effect_of command.applet) (files_of v) recovering)) left.1
+    (λ o one. into command v u o recovering good left one) (λ o one. from command v u o recovering good left one) (record { recovery = recovery; files = left; settled = settled }) run memory
+
+room_is : (effect : Effect) (output : Option (List ℕ)) (files : Files) → effect ≡ Makes → HasRoomToWrite effect output files → HasRoomFor output files
+room_is effect output files makes room = subst (λ (e : Effect). HasRoomToWrite e output files) makes room
 
 pub behind_proper : (command : CommandLine) (output : Option (List ℕ)) (old mid : History) (first second last : ℕ) → does_recover (effect_of command.applet) ≡ true → IfObservable old IsGood → IfObservable old (λ v. HasNow mid (LeavesUnstaged v))
     → IfObservable old (λ v. HasRoomToReplay (files_of v) → second ≡ first) → IfObservable mid (λ u. RoomFor (Ones command u) output (files_of u) → last ≡ second)
@@ -119,7 +160,10 @@ pub behind_proper : (command : CommandLine) (output : Option (List ℕ)) (old mi
 behind_proper command output [] mid first second last recovering good left before after = tt
 behind_proper command output (v ∷ rest) [] first second last recovering good left before after = absurd left
 behind_proper command output (v ∷ rest) (u ∷ more) first second last recovering good left before after = λ room.
-    after (λ o one none. subst (HasRoomFor output) (sym (left.0 ∙ sym (work_is (effect_of command.applet) (files_of v) recovering))) (room.1 o (into command v u o recovering good left one) none))
+    after
+    (λ o one commits.
+    subst (HasRoomFor output) (sym (left.0 ∙ sym (work_is (effect_of command.applet) (files_of v) recovering)))
+    (room_is (effect_of command.applet) output (work_files (effect_of command.applet) (files_of v)) (recovers_makes command.applet recovering) (room.1 o (into command v u o recovering good left one) commits)))
     ∙ before (room.0 recovering)
 
 -- ---- it did not
@@ -160,13 +204,20 @@ bad_leaves command v cause o recovering bad one =
     (subst (Leaves (files_of v)) (sym is) (refl, refl), λ can. none_is_some (intent_of (files_of v)) (bad_unread (files_of v) cause bad) can.1)
 
 pub refused_run : AreLaws → (command : CommandLine) (fault : RecoverFault) (output : Option (List ℕ)) (judged : Judged) (old mid : History) → does_recover (effect_of command.applet) ≡ true
-    → IfObservable old (λ v. IsCalm v old mid) → IfObservable old (λ v. Since (RecoversAs v) old mid) → IfObservable old (Idle old mid) → SaysBad fault old mid → IfOk judged (IsRefused fault)
+    → IfObservable old (λ v. IsRecovery v old mid) → SaysBad fault old mid → IfObservable old (λ v. (cause : Cause) → IsIntentFault (files_of v) cause → mid ≡ old) → IfOk judged (IsRefused fault)
     → IfObservable old (λ v. IsWholeRun (Wholes command v) (effect_of command.applet) output judged v old mid)
-refused_run laws command fault output judged [] mid recovering calm reads idle bad refused = tt
-refused_run laws command fault output (Ok verdict) (v ∷ rest) mid recovering calm reads idle bad (cause, is, same) =
+refused_run laws command fault output judged [] mid recovering recovery bad idle refused = tt
+refused_run laws command fault output (Ok verdict) (v ∷ rest) mid recovering recovery bad idle (cause, is, same) =
     whole_idle (Wholes command v) (effect_of command.applet) output (Ok verdict) v rest mid (bad cause is).0 (λ o one. bad_leaves command v cause o recovering (bad cause is).1 one)
-refused_run laws command fault output (Err e) (v ∷ rest) mid recovering calm reads idle bad refused =
-    whole_failed laws (Wholes command v) (effect_of command.applet) output (Err e) e v rest mid recovering refl calm reads idle
+refused_run laws command fault output (Err e) (v ∷ rest) mid recovering recovery bad idle refused =
+    whole_failed laws (Wholes command v) (effect_of command.applet) output (Err e) e v rest mid recovering refl recovery
+    (λ some. let (cause, is) = bad_found (effect_of command.applet) (files_of v) some in idle cause is)
+
+-- what a recovery says of each moment
+pub is_recovery : (old mid : History) → IfObservable old (λ v. IsCalm v old mid) → IfObservable old (λ v. Since (RecoversAs v) old mid) → IfObservable old (λ v. Since (IsLessWaiting v) old mid)
+    → IfObservable old (λ v. IsSome (v.names intent_name) → Since LastsUnread old mid) → IfObservable old (Idle old mid) → IfObservable old (λ v. IsRecovery v old mid)
+is_recovery [] mid calm reads waiting last idle = tt
+is_recovery (v ∷ rest) mid calm reads waiting last idle = record { calm = calm; reads = reads; waiting = waiting; last = last; idle = idle }
 
 pub refused_proper : (Room : TreeState → Type 0) (old : History) (P : Type 0) → ((v : TreeState) → Room v → HasRoomToReplay (files_of v)) → IfObservable old (λ v. HasRoomToReplay (files_of v) → P) → IfObservable old (λ v. Room v → P)
 refused_proper Room [] P f proper = tt

@@ -1,5 +1,6 @@
 -- A command is run, and its outcome carried out.
 use Rattle.std.proofs.Common.{◌≡◌, inl, inr, ℕ, Bool, true, false, List, [], ◌∷◌, Option, Some, None, IsSome, Result, Ok, Err, refl, sym, ap, subst, ◌∙◌}
+use Rattle.std.proofs.lemmas.Bool.{false≢true}
 use Rattle.std.specs.Prelude.{if◌then◌else◌, is_some, IfOk, IsErrOf, IsTrue, OnOk}
 use Rattle.base_core.specs.Calls.{HasNow, IfObservable}
 use Rattle.base_core.specs.Crash.{IsOrderly, Since}
@@ -12,7 +13,7 @@ use Rattle.base_core.specs.declared.cause.Cause.{Cause}
 use Rattle.base_core.specs.declared.tree.TreeFault.{TreeFault}
 use Rattle.base_core.specs.declared.tree.TreeFault.TheVariants.{Disk, Memory as NoMemory}
 use Rattle.journal_core.specs.Quiet.{IsStill}
-use Rattle.journal_core.specs.Recovery.{IsSettled, RestsOn}
+use Rattle.journal_core.specs.Recovery.{IsSettled, RestsOn, intent_name}
 use Rattle.make_info.specs.Output.{output_name}
 use Rattle.make_package.specs.Sources.{AreNamesFor, values_with}
 use Rattle.command_core.specs.declared.values.TheConstants.{FILES}
@@ -38,16 +39,16 @@ use Rattle.command_core.specs.declared.command.Applet.{Applet}
 use Rattle.command_core.specs.declared.command.Applet.TheVariants.{Adbdump, Mkndx, Mkpkg, Verify, Version}
 use Rattle.command_core.specs.declared.operands.Operand.{Operand}
 use Rattle.apk_front.specs.Answers.{answer_by}
-use Rattle.apk_front.specs.Moments.{AnswersOutcome, AreSafe, CommitsNothing, HasNothingToRecover, HasRoomFor, HidesScratchOf, IsReadApart, IsReadOnItsWay, IsLeftUndone, LeavesLasting, LeavesRoom, LeavesRoomFor, LeavesSettled, Settles}
+use Rattle.apk_front.specs.Moments.{AnswersOutcome, AreReadOnTheWay, AreSafe, CommitsNothing, HasNothingToRecover, HasRoomFor, HidesScratchOf, IsAtRest, IsLeftUndone, LeavesAtRest, LeavesLasting, LeavesRoom, LeavesRoomFor, LeavesSettled, Settles, StagesNothing, UnreadNamesLast, ignored_but}
 use Rattle.apk_front.specs.Runs.{IsRun, IsWholeRun, IsWithoutCommit}
 use Rattle.apk_front.specs.Containers.{IsIndexOutcome, IsPackageOutcome}
 use Rattle.apk_front.specs.Verdicts.{IsPrinted, IsShown, Reports, ReportsOne, as_outcome}
 use Rattle.apk_front.specs.declared.answer.Answer.{Answer}
 use Rattle.apk_front.specs.declared.answer.Answer.TheVariants.{Ok as Done, Refused, TreeFault as TreeFailed, OutFault, Memory}
 use Rattle.apk_front.specs.declared.answer.Verdict.{Verdict}
-use Rattle.apk_front.proofs.Judged.{Runs, fault_without, found_at, no_listing, no_listing_by_some, of_over, over_of, reads_without, work_without}
-use Rattle.apk_front.proofs.AfterRecovery.{LeavesAll, whole_alone, whole_idle}
-use Rattle.apk_front.proofs.Runs.{History, Judged, Leaves, ok_always, run_among, run_idle}
+use Rattle.apk_front.proofs.Judged.{Runs, found_at, no_listing, no_listing_by_some, of_over, over_of, reads_without}
+use Rattle.apk_front.proofs.AfterRecovery.{LeavesAll, whole_idle}
+use Rattle.apk_front.proofs.Runs.{History, Judged, Leaves, ok_always, run_among}
 
 -- ---- an applet that only reads
 
@@ -102,12 +103,11 @@ pub look_run : (command : CommandLine) (old now : History) (judged : Judged) →
 look_run command [] now judged reads same = tt
 look_run command (v ∷ rest) now judged reads same =
     let none = reads_without (effect_of command.applet) reads in
-    let out = output_if (effect_of command.applet) command in
-    whole_alone (Wholes command v) (effect_of command.applet) out judged v (v ∷ rest) now none (fault_without (effect_of command.applet) (files_of v) none) (work_without (effect_of command.applet) (files_of v) none)
-    (run_among (Ones command v) (Wholes command v) out judged v (v ∷ rest) now (λ o one. of_over command (files_of v) o none one) (λ o one. over_of command (files_of v) o none one)
-    (run_idle (Ones command v) out judged v rest now same
-    (λ o one. ok_always (Leaves (files_of v) o) judged (subst (Leaves (files_of v)) (sym one.2) (look_leaves command.applet command one.0 (files_of v) reads)))))
-    (λ memory. same)
+    whole_idle (Wholes command v) (effect_of command.applet) (output_if (effect_of command.applet) command) judged v rest now same
+    (λ o one.
+    let is = over_of command (files_of v) o none one in
+    ok_always (LeavesAll (effect_of command.applet) v o) judged
+    (subst (Leaves (files_of v)) (sym is.2) (look_leaves command.applet command is.0 (files_of v) reads), λ can. false≢true (sym none ∙ can.0)))
 
 -- ---- an applet that makes
 
@@ -171,11 +171,11 @@ index_run command judged old now same run =
 
 -- room for each of some outcomes
 abbrev pub RoomFor : (Outcome → Type 0) → Option (List ℕ) → Files → Type 0
-RoomFor IsOne out files = (o : Outcome) → IsOne o → o.refusal ≡ None → HasRoomFor out files
+RoomFor IsOne out files = (o : Outcome) → IsOne o → o.commits ≡ true → HasRoomFor out files
 
 rooms_among : (A B : TreeState → Outcome → Type 0) (out : Option (List ℕ)) (old : History) (P : Type 0) → ((v : TreeState) (o : Outcome) → A v o → B v o) → IfObservable old (λ v. RoomFor (A v) out (files_of v) → P) → IfObservable old (λ v. RoomFor (B v) out (files_of v) → P)
 rooms_among A B out [] P f proper = tt
-rooms_among A B out (v ∷ rest) P f proper = λ room. proper (λ o one none. room o (f v o one) none)
+rooms_among A B out (v ∷ rest) P f proper = λ room. proper (λ o one commits. room o (f v o one) commits)
 
 pub package_proper : (command : CommandLine) (old : History) (P : Type 0) → Mkpkg ≡ command.applet → IfObservable old (λ v. RoomFor (IsPackageOutcome command (files_of v)) (output_name command) (files_of v) → P)
     → IfObservable old (λ v. RoomFor (Ones command v) (output_if (effect_of command.applet) command) (files_of v) → P)
@@ -225,14 +225,14 @@ failed_run words e (v ∷ rest) = whole_idle (IsOutcome words (files_of v)) (eff
 -- ---- the answer
 
 pub reads_by : (words : List (List ℕ)) (judged : Judged) (old now : History) → Runs words judged old now
-    → IfObservable old (λ v. (o : Outcome) → IsOutcome words (files_of v) o → HasNothingToRecover (effect_by (command_of words)) v → Since (IsReadApart (output words) o.files (files_of v)) old now)
+    → IfObservable old (λ v. AreReadOnTheWay (IsOutcome words (files_of v)) (effect_by (command_of words)) (output words) v old now)
 reads_by words judged [] now run = tt
 reads_by words judged (v ∷ rest) now run = run.reads
 
-pub states_by : (words : List (List ℕ)) (judged : Judged) (old now : History) → Runs words judged old now
-    → IfObservable old (λ v. (o : Outcome) → IsOutcome words (files_of v) o → Since (IsReadOnItsWay (effect_by (command_of words)) (output words) o.files v) old now)
-states_by words judged [] now run = tt
-states_by words judged (v ∷ rest) now run = run.states
+pub last_by : (words : List (List ℕ)) (judged : Judged) (old now : History) → Runs words judged old now
+    → IfObservable old (λ v. IsSome (v.names intent_name) → Since (UnreadNamesLast (output words)) old now)
+last_by words judged [] now run = tt
+last_by words judged (v ∷ rest) now run = run.last
 
 pub crash_by : (words : List (List ℕ)) (judged : Judged) (old now : History) → Runs words judged old now
     → IfObservable old (λ v. (ignored : List ℕ → Bool) → IsOrderly (RestsOn ignored) v → HidesScratchOf (output words) ignored → AreSafe (IsOutcome words (files_of v)) (is_some (output words)) ignored v old now)
@@ -307,25 +307,42 @@ FindsOne words judged old = IfOk judged (λ verdict. IfObservable old (λ v. Rep
 found_first : (words : List (List ℕ)) (judged : Judged) (v : TreeState) (rest : History) → FindsOne words judged (v ∷ rest) → IfOk judged (ReportsOne (IsOutcome words (files_of v)))
 found_first words judged v rest found = found_at v rest judged (λ verdict w. ReportsOne (IsOutcome words (files_of w)) verdict) found
 
+staged_none : RefusesAll → (words : List (List ℕ)) (v : TreeState) (judged : Judged) (answer : Answer) (out err : SinkChange) → IsShown judged answer out err → IfOk judged (ReportsOne (IsOutcome words (files_of v)))
+    → StagesNothing (effect_by (command_of words)) (IsOutcome words (files_of v)) answer → IsWithoutCommit (IsOutcome words (files_of v)) judged
+staged_none law words v judged Done out err is_shown found one = without law words v judged Done out err is_shown found (inr one)
+staged_none law words v judged (Refused r) out err is_shown found one = without law words v judged (Refused r) out err is_shown found (inl tt)
+staged_none law words v judged TreeFailed out err is_shown found one = without law words v judged TreeFailed out err is_shown found (inr one)
+staged_none law words v judged OutFault out err is_shown found one = without law words v judged OutFault out err is_shown found (inr one)
+staged_none law words v judged Memory out err is_shown found one = without law words v judged Memory out err is_shown found (inl tt)
+
 pub idle_by : RefusesAll → (words : List (List ℕ)) (judged : Judged) (answer : Answer) (out err : SinkChange) (old now : History) → IsShown judged answer out err → FindsOne words judged old → Runs words judged old now
-    → IfObservable old (λ v. CommitsNothing (IsOutcome words (files_of v)) answer → HasNothingToRecover (effect_by (command_of words)) v → now ≡ old)
+    → IfObservable old (λ v. StagesNothing (effect_by (command_of words)) (IsOutcome words (files_of v)) answer → HasNothingToRecover (effect_by (command_of words)) v → now ≡ old)
 idle_by law words judged answer out err [] now is_shown found run = tt
-idle_by law words judged answer out err (v ∷ rest) now is_shown found run = λ nothing. run.idle (without law words v judged answer out err is_shown (found_first words judged v rest found) nothing)
+idle_by law words judged answer out err (v ∷ rest) now is_shown found run = λ nothing. run.idle (staged_none law words v judged answer out err is_shown (found_first words judged v rest found) nothing)
 
 pub left_by : RefusesAll → (words : List (List ℕ)) (judged : Judged) (answer : Answer) (out err : SinkChange) (old now : History) → IsShown judged answer out err → FindsOne words judged old → Runs words judged old now
     → IfObservable old (λ v. CommitsNothing (IsOutcome words (files_of v)) answer → (ignored : List ℕ → Bool) → IsOrderly (RestsOn ignored) v → Since (IsStill ignored v) old now)
 left_by law words judged answer out err [] now is_shown found run = tt
 left_by law words judged answer out err (v ∷ rest) now is_shown found run = λ nothing. run.left (without law words v judged answer out err is_shown (found_first words judged v rest found) nothing)
 
-answered_ok : (judged : Judged) (answer : Answer) (out err : SinkChange) (P : Type 0) → IsShown judged answer out err → AnswersOutcome answer → OnOk judged P → P
-answered_ok (Ok verdict) answer out err P is_shown answers p = p
-answered_ok (Err Disk) answer out err P is_shown answers p = absurd (subst AnswersOutcome is_shown.0 answers)
-answered_ok (Err NoMemory) answer out err P is_shown answers p = absurd (subst AnswersOutcome is_shown.0 answers)
+pub bad_by : (words : List (List ℕ)) (judged : Judged) (old now : History) → Runs words judged old now
+    → IfObservable old (λ v. IsSome (recovery_fault (effect_by (command_of words)) (files_of v)) → now ≡ old)
+bad_by words judged [] now run = tt
+bad_by words judged (v ∷ rest) now run = run.bad
 
-pub bad_by : (words : List (List ℕ)) (judged : Judged) (answer : Answer) (out err : SinkChange) (old now : History) → IsShown judged answer out err → Runs words judged old now
-    → IfObservable old (λ v. IsSome (recovery_fault (effect_by (command_of words)) (files_of v)) → AnswersOutcome answer → now ≡ old)
-bad_by words judged answer out err [] now is_shown run = tt
-bad_by words judged answer out err (v ∷ rest) now is_shown run = λ some answers. answered_ok judged answer out err (now ≡ v ∷ rest) is_shown answers (run.bad some)
+-- ---- the output counts again
+
+rest_of : (IsOne : Outcome → Type 0) (output : Option (List ℕ)) (ignored : List ℕ → Bool) (now : History) (judged : Judged) (answer : Answer) (out err : SinkChange) → IfOk judged (ReportsOne IsOne) → IsShown judged answer out err → AnswersOutcome answer
+    → ((o : Outcome) → IsOne o → o.commits ≡ true → OnOk judged (HasNow now (IsAtRest (ignored_but output ignored) o.files))) → LeavesAtRest IsOne output ignored now
+rest_of IsOne output ignored now (Ok verdict) answer out err (o, one, reports) is_shown answers rests = (o, one, λ commits. rests o one commits)
+rest_of IsOne output ignored now (Err Disk) answer out err found is_shown answers rests = absurd (subst AnswersOutcome is_shown.0 answers)
+rest_of IsOne output ignored now (Err NoMemory) answer out err found is_shown answers rests = absurd (subst AnswersOutcome is_shown.0 answers)
+
+pub rest_by : (words : List (List ℕ)) (judged : Judged) (answer : Answer) (out err : SinkChange) (old now : History) → IsShown judged answer out err → FindsOne words judged old → Runs words judged old now
+    → IfObservable old (λ v. (ignored : List ℕ → Bool) → IsOrderly (RestsOn ignored) v → HidesScratchOf (output words) ignored → AnswersOutcome answer → LeavesAtRest (IsOutcome words (files_of v)) (output words) ignored now)
+rest_by words judged answer out err [] now is_shown found run = tt
+rest_by words judged answer out err (v ∷ rest) now is_shown found run = λ ignored orderly hides answers.
+    rest_of (IsOutcome words (files_of v)) (output words) ignored now judged answer out err (found_first words judged v rest found) is_shown answers (λ o one commits. run.at_rest ignored o orderly hides one commits)
 
 pub usage_reported : (words : List (List ℕ)) (old : History) (verdict : Verdict) → ((v : TreeState) → IsOutcome words (files_of v) (as_outcome (files_of v) verdict)) → IfObservable old (λ v. ReportsOne (IsOutcome words (files_of v)) verdict)
 usage_reported words [] verdict is = tt

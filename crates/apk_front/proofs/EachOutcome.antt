@@ -1,6 +1,6 @@
 -- What is said of one outcome of a command line is so of each.
-use Rattle.std.proofs.Common.{◌≡◌, inl, inr, ℕ, Bool, true, false, List, [], ◌∷◌, None, refl, ap, subst, ◌∙◌}
-use Rattle.std.specs.Prelude.{is_some, not, All, IsTrue}
+use Rattle.std.proofs.Common.{◌≡◌, inl, inr, ℕ, Bool, true, false, List, [], ◌∷◌, None, subst}
+use Rattle.std.specs.Prelude.{is_some, All}
 use Rattle.std.proofs.lemmas.List.Elements.{All-nil, All-cons, All-weaker}
 use Rattle.base_core.specs.Calls.{HasNow}
 use Rattle.base_core.specs.Crash.{Since}
@@ -12,7 +12,7 @@ use Rattle.journal_core.specs.Recovery.{IsOldOrNew, IsSettled}
 use Rattle.journal_core.specs.Replacing.{IsReplacing}
 use Rattle.journal_core.specs.Staged.{IsOnTheWay}
 use Rattle.outcome.specs.Commands.{IsOutcome}
-use Rattle.outcome.specs.Effect.{Effect, effect_by, output, reads_only}
+use Rattle.outcome.specs.Effect.{Effect, effect_by, output}
 use Rattle.outcome.specs.Outcome.{Outcome}
 use Rattle.words_core.specs.Grammar.{command_of}
 use Rattle.apk_front.specs.Moments.{AreOnTheWay, AreSafe, IsCarriedOut, LeavesLasting, Settles}
@@ -24,9 +24,6 @@ IsUnique = (words : List (List ℕ)) (files : Files) (a b : Outcome) → IsOutco
 
 abbrev pub QuietIsOld : Type 0
 QuietIsOld = (ignored : List ℕ → Bool) (a b : TreeState) (new : Files) → IsQuiet ignored a b → IsOldOrNew ignored a new b
-
-abbrev pub MakerCommits : Type 0
-MakerCommits = (words : List (List ℕ)) (files : Files) (o : Outcome) → reads_only (command_of words) ≡ false → IsOutcome words files o → o.commits ≡ not (is_some o.refusal)
 
 -- ---- moments
 
@@ -54,25 +51,17 @@ safe_for_each unique law words ignored v outcome old now (inr (o, its, commits, 
 
 -- ---- what lasts
 
-settles : MakerCommits → (effect : Effect) (words : List (List ℕ)) (ignored : List ℕ → Bool) (v : TreeState) (o : Outcome) → IsOutcome words (files_of v) o → o.refusal ≡ None → (IsTrue (reads_only (command_of words)) → IsSettled ignored (files_of v) v) → Settles effect ignored v o
-settles law effect words ignored v o one none before =
-    elim (reads_only (command_of words)) as (λ b. (IsTrue b → IsSettled ignored (files_of v) v) → (b ≡ false → o.commits ≡ not (is_some o.refusal)) → Settles effect ignored v o) [
-      | true ↦ λ s m. inl (inr (s refl))
-      | false ↦ λ s m. inl (inl (m refl ∙ ap (λ r. not (is_some r)) none))
-    ] before (λ makes. law words (files_of v) o makes one)
+lasts_for : (effect : Effect) (ignored : List ℕ → Bool) (v : TreeState) (o outcome : Outcome) (now : List TreeState) → o ≡ outcome → Settles effect ignored v outcome → (Settles effect ignored v o → HasNow now (IsSettled ignored o.files))
+    → HasNow now (IsSettled ignored outcome.files)
+lasts_for effect ignored v o outcome now same settles last = subst (λ (x : Outcome). (Settles effect ignored v x → HasNow now (IsSettled ignored x.files))) same last settles
 
-lasts_for : MakerCommits → (effect : Effect) (words : List (List ℕ)) (ignored : List ℕ → Bool) (v : TreeState) (o outcome : Outcome) (now : List TreeState) → o ≡ outcome → IsOutcome words (files_of v) outcome → outcome.refusal ≡ None
-    → (IsTrue (reads_only (command_of words)) → IsSettled ignored (files_of v) v) → (Settles effect ignored v o → HasNow now (IsSettled ignored o.files)) → HasNow now (IsSettled ignored outcome.files)
-lasts_for law effect words ignored v o outcome now same one none before last =
-    subst (λ (x : Outcome). (Settles effect ignored v x → HasNow now (IsSettled ignored x.files))) same last (settles law effect words ignored v outcome one none before)
-
-pub lasting_for_each : IsUnique → MakerCommits → (words : List (List ℕ)) (ignored : List ℕ → Bool) (v : TreeState) (outcome : Outcome) (now : List TreeState) (answer : Answer)
+pub lasting_for_each : IsUnique → (words : List (List ℕ)) (ignored : List ℕ → Bool) (v : TreeState) (outcome : Outcome) (now : List TreeState) (answer : Answer)
     → LeavesLasting (IsOutcome words (files_of v)) (effect_by (command_of words)) ignored v now answer → IsCarriedOut answer → IsOutcome words (files_of v) outcome → outcome.refusal ≡ None
-    → (IsTrue (reads_only (command_of words)) → IsSettled ignored (files_of v) v) → HasNow now (IsSettled ignored outcome.files)
-lasting_for_each unique law words ignored v outcome now Ok (o, its, its_none, last) carried one none before =
-    lasts_for law (effect_by (command_of words)) words ignored v o outcome now (unique words (files_of v) o outcome its one) one none before last
-lasting_for_each unique law words ignored v outcome now OutFault (o, its, last) carried one none before =
-    lasts_for law (effect_by (command_of words)) words ignored v o outcome now (unique words (files_of v) o outcome its one) one none before last
-lasting_for_each unique law words ignored v outcome now (Refused r) lasting carried one none before = absurd carried
-lasting_for_each unique law words ignored v outcome now TreeFault lasting carried one none before = absurd carried
-lasting_for_each unique law words ignored v outcome now Memory lasting carried one none before = absurd carried
+    → Settles (effect_by (command_of words)) ignored v outcome → HasNow now (IsSettled ignored outcome.files)
+lasting_for_each unique words ignored v outcome now Ok (o, its, its_none, last) carried one none settles =
+    lasts_for (effect_by (command_of words)) ignored v o outcome now (unique words (files_of v) o outcome its one) settles last
+lasting_for_each unique words ignored v outcome now OutFault (o, its, last) carried one none settles =
+    lasts_for (effect_by (command_of words)) ignored v o outcome now (unique words (files_of v) o outcome its one) settles last
+lasting_for_each unique words ignored v outcome now (Refused r) lasting carried one none settles = absurd carried
+lasting_for_each unique words ignored v outcome now TreeFault lasting carried one none settles = absurd carried
+lasting_for_each unique words ignored v outcome now Memory lasting carried one none settles = absurd carried

@@ -20,7 +20,7 @@ use Rattle.command_core.specs.declared.operands.Operand.{Operand}
 use Rattle.outcome.specs.Outcome.{Outcome, just_refusal}
 use Rattle.outcome.specs.Version.{version}
 use Rattle.outcome.specs.Commands.{IsFoundOutcome, IsFoundOutcomeOf, MayBeListedFor, IsOutcome, IsOutcomeOf, IsOutcomeOver, IsOutcomeUnless, IsListingFor, reads_in, applet_outcome, command_outcome}
-use Rattle.outcome.specs.Effect.{Effect, Makes, does_only_read, does_recover, does_rest_on_words, effect_by, effect_of, output, rests_on_words}
+use Rattle.outcome.specs.Effect.{Effect, Computes, Reads as OnlyReads, Tells, Makes, Changes, does_only_read, does_recover, does_rest_on_words, effect_by, effect_of, output, rests_on_words}
 use Rattle.outcome.specs.Work.{recovery_fault, work_files}
 use Rattle.base_core.specs.declared.cause.Cause.{Cause}
 use Rattle.apk_front.specs.Answers.{IsAnswerTo, IsAnswerOf, LeavesFiles, LeavesAny, HasCauses, IsFaultless, IsComplete, IsStated, DidNotFail, FailedAt, answer_by}
@@ -45,22 +45,34 @@ no_listing_by_some Mkpkg command reads = cc
 no_listing_by_some other command reads = refl
 
 words_read : (effect : Effect) → does_rest_on_words effect ≡ true → does_only_read effect ≡ true
+words_read Computes rests = refl
+words_read OnlyReads rests = refl
+words_read Tells rests = cc
 words_read Makes rests = cc
-words_read other rests = refl
+words_read Changes rests = cc
 
 -- ---- a command that does not recover
 
 pub reads_without : (effect : Effect) → does_only_read effect ≡ true → does_recover effect ≡ false
+reads_without Computes reads = refl
+reads_without OnlyReads reads = refl
+reads_without Tells reads = cc
 reads_without Makes reads = cc
-reads_without other reads = refl
+reads_without Changes reads = cc
 
 pub fault_without : (effect : Effect) (files : Files) → does_recover effect ≡ false → recovery_fault effect files ≡ None
+fault_without Computes files none = refl
+fault_without OnlyReads files none = refl
+fault_without Tells files none = cc
 fault_without Makes files none = cc
-fault_without other files none = refl
+fault_without Changes files none = cc
 
 pub work_without : (effect : Effect) (files : Files) → does_recover effect ≡ false → work_files effect files ≡ files
+work_without Computes files none = refl
+work_without OnlyReads files none = refl
+work_without Tells files none = cc
 work_without Makes files none = cc
-work_without other files none = refl
+work_without Changes files none = cc
 
 pub of_over : (command : CommandLine) (files : Files) (o : Outcome) → does_recover (effect_of command.applet) ≡ false → IsOutcomeOver command files o → IsOutcomeOf (Ok command) files o
 of_over command files o none over =

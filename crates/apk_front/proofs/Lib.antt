@@ -1,5 +1,6 @@
 pub mod Judged
 pub mod Unplanned
+pub mod Unrecovered
 pub mod Printing
 pub mod Operands
 pub mod Dumping

@@ -1,23 +1,27 @@
 -- What a run leaves of a tree, by what was done.
-use Rattle.std.proofs.Common.{◌≡◌, inl, inr, ℕ, Bool, true, false, List, [], ◌∷◌, Option, Some, None, IsSome, Result, Ok, Err, refl, sym, ap, subst, ◌∙◌}
+use Rattle.std.proofs.Common.{◌≡◌, ◌≢◌, ◌||◌, inl, inr, ℕ, Bool, true, false, List, [], ◌∷◌, Option, Some, None, IsSome, Result, Ok, Err, refl, sym, ap, subst, ◌∙◌}
 use Rattle.std.specs.Prelude.{if◌then◌else◌, is_some, OnOk}
+use Rattle.std.specs.Str.{bytes_eq}
 use Rattle.std.proofs.lemmas.List.Elements.{All-nil}
 use Rattle.std.proofs.lemmas.Bool.{false≢true}
+use Rattle.std.proofs.lemmas.Slice.Eq.{bytes_eq-Decides}
 use Rattle.base_core.specs.Calls.{HasNow, IfObservable}
-use Rattle.base_core.specs.Crash.{IsOrderly, Since}
-use Rattle.base_core.specs.Files.{Files}
-use Rattle.base_core.specs.Tree.{TreeState, files_of}
+use Rattle.base_core.specs.Crash.{IsImageBy, IsOrderly, Since}
+use Rattle.base_core.specs.Files.{Files, NameMap, drop_name}
+use Rattle.base_core.specs.Tree.{File, IsAmong, IsMapOf, TreeState, bytes_at, files_by, files_of}
 use Rattle.base_core.specs.declared.tree.TreeFault.{TreeFault}
 use Rattle.adb_rules.specs.Reserved.{is_reserved}
+use Rattle.journal_core.specs.Kept.{IsSyncedAt, KeepsMapsBut}
 use Rattle.journal_core.specs.Quiet.{IsStill}
-use Rattle.journal_core.specs.Recovery.{IsSettled, RestsOn, intent_name}
-use Rattle.journal_core.specs.Replacing.{HasRoom, HidesScratch, IsReplacing, replaced_files}
+use Rattle.journal_core.specs.Recovery.{IsSettled, RestsOn, intent_name, is_staged, state_of}
+use Rattle.journal_core.specs.Replacing.{HasRoom, HidesScratch, IsReplacing, replaced_files, scratch_of}
 use Rattle.journal_core.specs.Reading.{IsReadAs}
+use Rattle.outcome.specs.Effect.{Effect, Makes}
 use Rattle.outcome.specs.Make.{make_outcome}
 use Rattle.outcome.specs.Outcome.{Outcome, commit_report, just_refusal, just_report}
 use Rattle.report_core.specs.declared.refusal.Refusal.TheVariants.{Reserved}
-use Rattle.apk_front.specs.Moments.{AreSafe, HasRoomFor, HidesScratchOf, IsReadApart, SettlesUnrecovered}
-use Rattle.apk_front.specs.Runs.{IsRun}
+use Rattle.apk_front.specs.Moments.{AreSafe, HasRoomFor, HidesScratchOf, IsAtRest, SettlesUnrecovered, ignored_but, is_draft_name, output_names}
+use Rattle.apk_front.specs.Runs.{AreReadApart, IsReadApart, IsRun}
 use Rattle.apk_front.specs.Verdicts.{Reports, as_outcome}
 use Rattle.apk_front.specs.declared.answer.Verdict.{Verdict}
 
@@ -62,7 +66,9 @@ run_idle IsOne output judged v rest now same idle = record {
   orderly = λ ignored orderly hides. subst (λ (h : History). HasNow h (IsOrderly (RestsOn ignored))) (sym same) orderly;
   settled = λ ignored o orderly hides one lasts.
       on_ok judged (λ is. subst (λ (h : History). HasNow h (IsSettled ignored o.files)) (sym same) (subst (λ (f : Files). IsSettled ignored f v) (sym is.0) (settled_before ignored v o is.1 lasts))) (idle o one);
-  reads = λ o one. record { added = []; is = same; each = All-nil (IsReadApart output o.files (files_of v)) };
+  at_rest = λ ignored o orderly hides one commits. on_ok judged (λ is. absurd (false≢true (sym is.1 ∙ commits))) (idle o one);
+  reads = inl (record { added = []; is = same; each = All-nil (λ w. files_of w ≡ files_of v) });
+  others = record { added = []; is = same; each = All-nil (KeepsMapsBut (output_names output) v) };
   leaves = λ o one. on_ok judged (λ is. subst (λ (h : History). HasNow h (λ w. files_of w ≡ o.files)) (sym same) (sym is.0)) (idle o one);
   idle = λ o one no. same;
 }
@@ -113,6 +119,58 @@ free_reports output report file name verdict is free same_outcome files =
     let same = free_is output report file name files is free in
     subst (λ (o : Outcome). Reports verdict o) (sym same) (ap (λ (o : Outcome). record o { commits = true }) (same_outcome (replaced_files name file files)))
 
+-- ---- its name and the scratch name count again
+
+-- what a crash leaves by one map has the state of the files of that map
+abbrev pub ImageHasState : Type 0
+ImageHasState = (ignored : List ℕ → Bool) (v : TreeState) → IsOrderly (RestsOn ignored) v → (map : NameMap) → IsMapOf v map → (image : Files) → IsImageBy v map image → state_of ignored image ≡ state_of ignored (files_by v map)
+
+only_map : (w : TreeState) (map : NameMap) → w.older ≡ [] → IsMapOf w map → map ≡ w.names
+only_map w map one (inl is) = is
+only_map w map one (inr among) = absurd (subst (λ (l : List NameMap). IsAmong map l) one among)
+
+scratch_gone : (name file : List ℕ) (files : Files) (q : List ℕ) → bytes_eq q name ≡ false → bytes_eq q (scratch_of name) ≡ true → replaced_files name file files q ≡ None
+scratch_gone name file files q other scratch = ap (λ b. if b then Some file else drop_name files (scratch_of name) q) other ∙ ap (λ b. if b then None else files q) scratch
+
+none_read : (files : ℕ → File) (o : Option ℕ) (n : ℕ) → o ≡ Some n → bytes_at files o ≡ None → ⊥
+none_read files None n is none = cc
+none_read files (Some k) n is none = cc
+
+module _ (ignored : List ℕ → Bool) (name file : List ℕ) (files : Files) (w : TreeState) (orderly : IsOrderly (RestsOn ignored) w) (synced : IsSyncedAt name w) (reads : files_of w ≡ replaced_files name file files) where
+  rests_too : (q : List ℕ) (F : Files) → bytes_eq q name ≡ false → bytes_eq q (scratch_of name) ≡ false → RestsOn (ignored_but (Some name) ignored) F q → RestsOn ignored F q
+  rests_too q F other another (inl intent) = inl intent
+  rests_too q F other another (inr (inl shown)) =
+      inr (inl (sym (ap (λ b. is_staged q || (if b || bytes_eq q (scratch_of name) then false else ignored q)) other ∙ ap (λ b. is_staged q || (if b then false else ignored q)) another) ∙ shown))
+  rests_too q F other another (inr (inr place)) = inr (inr place)
+
+  synced_map : (map : NameMap) → IsMapOf w map → (q : List ℕ) (n : ℕ) (a b : Bool) → bytes_eq q name ≡ a → bytes_eq q (scratch_of name) ≡ b → RestsOn (ignored_but (Some name) ignored) (files_by w map) q → map q ≡ Some n → (w.files n).synced ≡ true
+  synced_map map among q n true b is_name is_scratch rests at = synced.file n (ap w.names (sym ((bytes_eq-Decides q name).0 is_name)) ∙ sym (ap (λ (m : NameMap). m q) (only_map w map synced.one_map among)) ∙ at)
+  synced_map map among q n false true is_name is_scratch rests at =
+      absurd (none_read w.files (w.names q) n (sym (ap (λ (m : NameMap). m q) (only_map w map synced.one_map among)) ∙ at) (ap (λ (f : Files). f q) reads ∙ scratch_gone name file files q is_name is_scratch))
+  synced_map map among q n false false is_name is_scratch rests at = orderly.each map among q n (rests_too q (files_by w map) is_name is_scratch rests) at
+
+  counts_again : IsOrderly (RestsOn (ignored_but (Some name) ignored)) w
+  counts_again = record { each = λ map among q n rests at. synced_map map among q n (bytes_eq q name) (bytes_eq q (scratch_of name)) refl refl rests at }
+
+  rest_at : ImageHasState → IsAtRest (ignored_but (Some name) ignored) (replaced_files name file files) w
+  rest_at law = record {
+    orderly = counts_again;
+    settled = λ image (map, among, by).
+        law (ignored_but (Some name) ignored) w counts_again map among image by
+        ∙ ap (λ (m : NameMap). state_of (ignored_but (Some name) ignored) (files_by w m)) (only_map w map synced.one_map among) ∙ ap (state_of (ignored_but (Some name) ignored)) reads;
+  }
+
+rest_now : ImageHasState → (ignored : List ℕ → Bool) (name file : List ℕ) (files : Files) (judged : Judged) (now : History) → HasNow now (IsOrderly (RestsOn ignored)) → OnOk judged (HasNow now (IsSyncedAt name)) → OnOk judged (HasNow now (λ w. files_of w ≡ replaced_files name file files))
+    → OnOk judged (HasNow now (IsAtRest (ignored_but (Some name) ignored) (replaced_files name file files)))
+rest_now law ignored name file files (Err e) now orderly synced reads = tt
+rest_now law ignored name file files (Ok verdict) [] orderly synced reads = absurd orderly
+rest_now law ignored name file files (Ok verdict) (w ∷ now) orderly synced reads = rest_at ignored name file files w orderly synced reads law
+
+-- a name that is no draft name is not the scratch name
+pub off_scratch : (effect : Effect) (name q : List ℕ) → effect ≡ Makes → is_draft_name effect (Some name) q ≡ false → q ≢ scratch_of name
+off_scratch effect name q makes off is =
+    false≢true (sym (subst (λ (e : Effect). is_draft_name e (Some name) q ≡ false) makes off) ∙ (bytes_eq-Decides q (scratch_of name)).1 is)
+
 -- what `replace` says of the tree
 pub record IsReplaced (name file : List ℕ) (judged : Judged) (v : TreeState) (old now : History) : Type 0 where
   pub moments : (ignored : List ℕ → Bool) → IsOrderly (RestsOn ignored) v → HidesScratch ignored name → Since (IsReplacing ignored (replaced_files name file (files_of v)) v) old now
@@ -120,10 +178,12 @@ pub record IsReplaced (name file : List ℕ) (judged : Judged) (v : TreeState) (
   pub settled : (ignored : List ℕ → Bool) → IsOrderly (RestsOn ignored) v → HidesScratch ignored name → OnOk judged (HasNow now (IsSettled ignored (replaced_files name file (files_of v))))
   pub reads : Since (IsReadAs name file (files_of v)) old now
   pub leaves : OnOk judged (HasNow now (λ w. files_of w ≡ replaced_files name file (files_of v)))
+  pub synced : OnOk judged (HasNow now (IsSyncedAt name))
+  pub others : Since (KeepsMapsBut (name ∷ scratch_of name ∷ []) v) old now
 
-free_run : (output : Option (List ℕ)) (report file name : List ℕ) (judged : Judged) (v : TreeState) (old now : History) → output ≡ Some name → is_reserved name ≡ false
+free_run : ImageHasState → (output : Option (List ℕ)) (report file name : List ℕ) (judged : Judged) (v : TreeState) (old now : History) → output ≡ Some name → is_reserved name ≡ false
     → IsReplaced name file judged v old now → IsRun (IsMade output report file v) output judged v old now
-free_run output report file name judged v old now is free done =
+free_run law output report file name judged v old now is free done =
     let same = free_is output report file name (files_of v) is free in
     let hidden : (ignored : List ℕ → Bool) → HidesScratchOf output ignored → HidesScratch ignored name = λ ignored hides. subst (λ (out : Option (List ℕ)). HidesScratchOf out ignored) is hides in
     let left : (o : Outcome) → IsMade output report file v o → replaced_files name file (files_of v) ≡ o.files = λ o one. sym (ap (λ (x : Outcome). x.files) (one ∙ same)) in
@@ -132,9 +192,13 @@ free_run output report file name judged v old now is free done =
           (inr (commit_report (replaced_files name file (files_of v)) report, sym same, refl, done.moments ignored orderly (hidden ignored hides)));
       orderly = λ ignored orderly hides. done.orderly ignored orderly (hidden ignored hides);
       settled = λ ignored o orderly hides one lasts. subst (λ (f : Files). OnOk judged (HasNow now (IsSettled ignored f))) (left o one) (done.settled ignored orderly (hidden ignored hides));
-      reads = λ o one.
-          subst (λ (out : Option (List ℕ)). Since (IsReadApart out o.files (files_of v)) old now) (sym is)
-          (subst (λ (f : Files). Since (IsReadApart (Some name) f (files_of v)) old now) (left o one) done.reads);
+      at_rest = λ ignored o orderly hides one commits.
+          subst (λ (f : Files). OnOk judged (HasNow now (IsAtRest (ignored_but output ignored) f))) (left o one)
+          (subst (λ (out : Option (List ℕ)). OnOk judged (HasNow now (IsAtRest (ignored_but out ignored) (replaced_files name file (files_of v))))) (sym is)
+          (rest_now law ignored name file (files_of v) judged now (done.orderly ignored orderly (hidden ignored hides)) done.synced done.leaves));
+      reads = subst (λ (out : Option (List ℕ)). AreReadApart (IsMade output report file v) out v old now) (sym is)
+          (inr (commit_report (replaced_files name file (files_of v)) report, sym same, refl, done.reads));
+      others = subst (λ (out : Option (List ℕ)). Since (KeepsMapsBut (output_names out) v) old now) (sym is) done.others;
       leaves = λ o one. subst (λ (f : Files). OnOk judged (HasNow now (λ w. files_of w ≡ f))) (left o one) done.leaves;
       idle = λ o one no. absurd (false≢true (sym no ∙ ap (λ (x : Outcome). x.commits) (one ∙ same)));
     }
@@ -148,33 +212,44 @@ IsReadOnTheWay name file old now = IfObservable old (λ v. Since (IsReadAs name 
 abbrev StaysOrderly : List ℕ → History → History → Type 0
 StaysOrderly name old now = IfObservable old (λ v. (ignored : List ℕ → Bool) → IsOrderly (RestsOn ignored) v → HidesScratch ignored name → HasNow now (IsOrderly (RestsOn ignored)))
 
-pub written_run : (output : Option (List ℕ)) (report file name : List ℕ) (verdict : Verdict) (old now : History) → output ≡ Some name → is_reserved name ≡ false
+abbrev StaysElsewhere : List ℕ → History → History → Type 0
+StaysElsewhere name old now = IfObservable old (λ v. Since (KeepsMapsBut (name ∷ scratch_of name ∷ []) v) old now)
+
+pub written_run : ImageHasState → (output : Option (List ℕ)) (report file name : List ℕ) (verdict : Verdict) (old now : History) → output ≡ Some name → is_reserved name ≡ false
     → Moves name file old now → StaysOrderly name old now → IsReadOnTheWay name file old now
     → IfObservable old (λ v. (ignored : List ℕ → Bool) → IsOrderly (RestsOn ignored) v → HidesScratch ignored name → HasNow now (IsSettled ignored (replaced_files name file (files_of v))))
-    → IfObservable old (λ v. HasNow now (λ w. files_of w ≡ replaced_files name file (files_of v)))
+    → IfObservable old (λ v. HasNow now (λ w. files_of w ≡ replaced_files name file (files_of v))) → IfObservable old (λ v. HasNow now (IsSyncedAt name)) → StaysElsewhere name old now
     → IfObservable old (λ v. IsRun (IsMade output report file v) output (Ok verdict) v old now)
-written_run output report file name verdict [] now is free moves orderly reads settled leaves = tt
-written_run output report file name verdict (v ∷ rest) now is free moves orderly reads settled leaves =
-    free_run output report file name (Ok verdict) v (v ∷ rest) now is free (record { moments = moves; orderly = orderly; settled = settled; reads = reads; leaves = leaves })
+written_run law output report file name verdict [] now is free moves orderly reads settled leaves synced others = tt
+written_run law output report file name verdict (v ∷ rest) now is free moves orderly reads settled leaves synced others =
+    free_run law output report file name (Ok verdict) v (v ∷ rest) now is free (record { moments = moves; orderly = orderly; settled = settled; reads = reads; leaves = leaves; synced = synced; others = others })
 
-pub cut_run : (output : Option (List ℕ)) (report file name : List ℕ) (judged : Judged) (e : TreeFault) (old now : History) → judged ≡ Err e → output ≡ Some name → is_reserved name ≡ false
-    → Moves name file old now → StaysOrderly name old now → IsReadOnTheWay name file old now
+pub cut_run : ImageHasState → (output : Option (List ℕ)) (report file name : List ℕ) (judged : Judged) (e : TreeFault) (old now : History) → judged ≡ Err e → output ≡ Some name → is_reserved name ≡ false
+    → Moves name file old now → StaysOrderly name old now → IsReadOnTheWay name file old now → StaysElsewhere name old now
     → IfObservable old (λ v. IsRun (IsMade output report file v) output judged v old now)
-cut_run output report file name judged e [] now failed is free moves orderly reads = tt
-cut_run output report file name judged e (v ∷ rest) now failed is free moves orderly reads =
-    free_run output report file name judged v (v ∷ rest) now is free
-    (record { moments = moves; orderly = orderly; settled = λ ignored orders hides. err_ok _ judged e failed; reads = reads; leaves = err_ok _ judged e failed })
+cut_run law output report file name judged e [] now failed is free moves orderly reads others = tt
+cut_run law output report file name judged e (v ∷ rest) now failed is free moves orderly reads others =
+    free_run law output report file name judged v (v ∷ rest) now is free
+    (record {
+      moments = moves;
+      orderly = orderly;
+      settled = λ ignored orders hides. err_ok _ judged e failed;
+      reads = reads;
+      leaves = err_ok _ judged e failed;
+      synced = err_ok _ judged e failed;
+      others = others;
+    })
 
 -- ---- room
 
 abbrev pub HasRoomIf : Option (List ℕ) → List ℕ → List ℕ → TreeState → Type 0
-HasRoomIf output report file v = (make_outcome (files_of v) output report (Ok file)).refusal ≡ None → HasRoomFor output (files_of v)
+HasRoomIf output report file v = (make_outcome (files_of v) output report (Ok file)).commits ≡ true → HasRoomFor output (files_of v)
 
 pub room_proper : (output : Option (List ℕ)) (report file name : List ℕ) (old : History) (P : Type 0) → output ≡ Some name → is_reserved name ≡ false
     → IfObservable old (λ v. HasRoom name (files_of v) → P) → IfObservable old (λ v. HasRoomIf output report file v → P)
 room_proper output report file name [] P is free proper = tt
 room_proper output report file name (v ∷ rest) P is free proper = λ room.
-    proper (subst (λ (out : Option (List ℕ)). HasRoomFor out (files_of v)) is (room (ap (λ (x : Outcome). x.refusal) (free_is output report file name (files_of v) is free))))
+    proper (subst (λ (out : Option (List ℕ)). HasRoomFor out (files_of v)) is (room (ap (λ (x : Outcome). x.commits) (free_is output report file name (files_of v) is free))))
 
 pub any_proper : (Room : TreeState → Type 0) (old : History) (P : Type 0) → P → IfObservable old (λ v. Room v → P)
 any_proper Room [] P p = tt
@@ -198,12 +273,18 @@ safe_among : (A B : Outcome → Type 0) (makes : Bool) (ignored : List ℕ → B
 safe_among A B makes ignored v old now f (inl still) = inl still
 safe_among A B makes ignored v old now f (inr (o, one, commits, moments)) = inr (o, f o one, commits, moments)
 
+reads_among : (A B : Outcome → Type 0) (output : Option (List ℕ)) (v : TreeState) (old now : History) → ((o : Outcome) → A o → B o) → AreReadApart A output v old now → AreReadApart B output v old now
+reads_among A B output v old now f (inl same) = inl same
+reads_among A B output v old now f (inr (o, one, commits, apart)) = inr (o, f o one, commits, apart)
+
 pub run_among : (A B : Outcome → Type 0) (output : Option (List ℕ)) (judged : Judged) (v : TreeState) (old now : History) → ((o : Outcome) → A o → B o) → ((o : Outcome) → B o → A o) → IsRun A output judged v old now → IsRun B output judged v old now
 run_among A B output judged v old now into from run = record {
   moments = λ ignored orderly hides. safe_among A B (is_some output) ignored v old now into (run.moments ignored orderly hides);
   orderly = run.orderly;
   settled = λ ignored o orderly hides one lasts. run.settled ignored o orderly hides (from o one) lasts;
-  reads = λ o one. run.reads o (from o one);
+  at_rest = λ ignored o orderly hides one commits. run.at_rest ignored o orderly hides (from o one) commits;
+  reads = reads_among A B output v old now into run.reads;
+  others = run.others;
   leaves = λ o one. run.leaves o (from o one);
   idle = λ o one no. run.idle o (from o one) no;
 }

@@ -1,51 +1,96 @@
 -- What a run of the top call does to the tree, moment by moment.
-use Rattle.std.specs.Prelude.{◌≡◌, ◌≢◌, ◌⊎◌, ℕ, Bool, true, false, List, Option, Some, None, IsSome}
+use Rattle.std.specs.Prelude.{◌≡◌, ◌≢◌, ◌⊎◌, ◌||◌, ℕ, Bool, true, false, if◌then◌else◌, List, [], ◌∷◌, Option, Some, None, IsSome}
+use Rattle.std.specs.Str.{bytes_eq}
 use Rattle.base_core.specs.Calls.{HasNow}
-use Rattle.base_core.specs.Crash.{Since}
+use Rattle.base_core.specs.Crash.{IsOrderly, Since}
 use Rattle.base_core.specs.Files.{Files}
 use Rattle.base_core.specs.Restart.{SinceBy}
 use Rattle.base_core.specs.Tree.{TreeState, files_of}
+use Rattle.journal_core.specs.Kept.{IsLessWaiting, ShownNamesLastBut}
 use Rattle.journal_core.specs.Quiet.{IsStill}
-use Rattle.journal_core.specs.Recovery.{IsSettled, intent_name, intent_of}
+use Rattle.journal_core.specs.Recovery.{IsSettled, RestsOn, intent_name, intent_of, is_staged}
 use Rattle.journal_core.specs.Replacing.{HasRoom, HidesScratch, IsReplacing, scratch_of}
-use Rattle.journal_core.specs.Staged.{HasRoomToReplay, IsEmptyStage, IsOnTheWay, unstaged_files}
+use Rattle.journal_core.specs.Staged.{HasRoomToReplay, HasRoomToStage, IsEmptyStage, IsOnTheWay, unstaged_files}
 use Rattle.outcome.specs.Commands.{IsOutcome}
-use Rattle.outcome.specs.Effect.{Effect, does_recover, effect_by, output}
+use Rattle.outcome.specs.Effect.{Effect, Computes, Reads, Tells, Makes, Changes, does_recover, effect_by, output}
 use Rattle.outcome.specs.Outcome.{Outcome}
 use Rattle.outcome.specs.Work.{work_files}
 use Rattle.words_core.specs.Grammar.{command_of}
 use Rattle.apk_front.specs.declared.answer.Answer.{Answer}
-use Rattle.apk_front.specs.declared.answer.Answer.TheVariants.{Ok, Refused, OutFault, Memory}
+use Rattle.apk_front.specs.declared.answer.Answer.TheVariants.{Ok, Refused, TreeFault, OutFault, Memory}
 
 -- ---- the output
+
+-- the names that a run of a command with an output may write: its own and its scratch name
+abbrev pub output_names : Option (List ℕ) → List (List ℕ)
+output_names None = []
+output_names (Some name) = name ∷ scratch_of name ∷ []
 
 -- the ignored names contain the scratch name of an output, and not the name of the intent
 abbrev pub HidesScratchOf : Option (List ℕ) → (List ℕ → Bool) → Type 0
 HidesScratchOf None ignored = Unit {0}
 HidesScratchOf (Some name) ignored = HidesScratch ignored name
 
+-- the ignored names without an output and its scratch name
+abbrev pub ignored_but : Option (List ℕ) → (List ℕ → Bool) → List ℕ → Bool
+ignored_but None ignored q = ignored q
+ignored_but (Some name) ignored q =
+    if bytes_eq q name || bytes_eq q (scratch_of name) then false else ignored q
+
+-- ---- room
+
 -- the files stay folder-like with an output and its scratch name
 abbrev pub HasRoomFor : Option (List ℕ) → Files → Type 0
 HasRoomFor None files = Unit {0}
 HasRoomFor (Some name) files = HasRoom name files
 
--- Files leave room for a run with these outcomes: those of a recovery have room, and so has the
--- output among the recovered files, unless the outcome is a refusal.
+-- the files leave room for what a command writes into them
+abbrev pub HasRoomToWrite : Effect → Option (List ℕ) → Files → Type 0
+HasRoomToWrite Computes output files = Unit {0}
+HasRoomToWrite Reads output files = Unit {0}
+HasRoomToWrite Tells output files = Unit {0}
+HasRoomToWrite Makes output files = HasRoomFor output files
+HasRoomToWrite Changes output files = HasRoomToStage files
+
+-- Files leave room for a run with these outcomes: those of a recovery have room, and the recovered
+-- files leave room for what the command writes, where its outcome commits.
 abbrev pub LeavesRoomFor : Effect → Option (List ℕ) → (Outcome → Type 0) → Files → Type 0
 LeavesRoomFor effect output IsOne files =
     (does_recover effect ≡ true → HasRoomToReplay files)
-    × ((outcome : Outcome) → IsOne outcome → outcome.refusal ≡ None
-    → HasRoomFor output (work_files effect files))
+    × ((outcome : Outcome) → IsOne outcome → outcome.commits ≡ true
+    → HasRoomToWrite effect output (work_files effect files))
 
 abbrev pub LeavesRoom : List (List ℕ) → Files → Type 0
 LeavesRoom words files =
     LeavesRoomFor (effect_by (command_of words)) (output words) (IsOutcome words files) files
 
--- the files as read are the old ones, apart from the scratch name of an output; or the new ones
-abbrev pub IsReadApart : Option (List ℕ) → Files → Files → TreeState → Type 0
-IsReadApart None new old w = files_of w ≡ old
-IsReadApart (Some name) new old w =
-    ((q : List ℕ) → q ≢ scratch_of name → files_of w q ≡ old q) ⊎ (files_of w ≡ new)
+-- ---- what is read while the command works
+
+-- the names under which a command makes what it then moves to its name: the scratch name of an
+-- output, or all below the stage
+abbrev pub is_draft_name : Effect → Option (List ℕ) → List ℕ → Bool
+is_draft_name Makes (Some name) q = bytes_eq q (scratch_of name)
+is_draft_name Makes None q = false
+is_draft_name Changes output q = is_staged q
+is_draft_name Computes output q = false
+is_draft_name Reads output q = false
+is_draft_name Tells output q = false
+
+-- the files as read are these, apart from the draft names
+abbrev pub IsDrafting : Effect → Option (List ℕ) → Files → TreeState → Type 0
+IsDrafting effect output files w =
+    (q : List ℕ) → is_draft_name effect output q ≡ false → files_of w q ≡ files q
+
+-- a change has published its intent, and a recovery leaves these files
+abbrev pub IsPublished : Effect → Files → TreeState → Type 0
+IsPublished effect files w =
+    (effect ≡ Changes) × IsSome (w.names intent_name) × (unstaged_files (files_of w) ≡ files)
+
+-- the files as read are the old ones, apart from the draft names; or on the way to the new ones by a
+-- published change; or the new ones
+abbrev pub IsReadAtWork : Effect → Option (List ℕ) → Files → Files → TreeState → Type 0
+IsReadAtWork effect output new old w =
+    IsDrafting effect output old w ⊎ (IsPublished effect new w ⊎ (files_of w ≡ new))
 
 -- ---- recovery
 
@@ -58,13 +103,34 @@ HasNothingToRecover effect v =
 abbrev pub CanRecover : Effect → TreeState → Type 0
 CanRecover effect v = (does_recover effect ≡ true) × IsSome (intent_of (files_of v))
 
--- The files as read stand for what the old ones do, but for what waits, as while they are
--- recovered; or they are the recovered ones, apart from the scratch name of an output; or the new
--- ones.
-abbrev pub IsReadOnItsWay : Effect → Option (List ℕ) → Files → TreeState → TreeState → Type 0
-IsReadOnItsWay effect output new v w =
-    (unstaged_files (files_of w) ≡ unstaged_files (files_of v))
-    ⊎ IsReadApart output new (work_files effect (files_of v)) w
+-- the files as read stand for what the old ones do, apart from what waits; and the intent and all
+-- that waits is as it was or is gone
+pub record IsRecovering (v w : TreeState) : Type 0 where
+  pub reads : unstaged_files (files_of w) ≡ unstaged_files (files_of v)
+  pub waiting : IsLessWaiting v w
+
+-- the tree is being recovered, if the command does that; or this holds
+abbrev pub IsBehindRecovery : Effect → (TreeState → Type 0) → TreeState → TreeState → Type 0
+IsBehindRecovery effect IsNext v w = ((does_recover effect ≡ true) × IsRecovering v w) ⊎ IsNext w
+
+-- Behind a recovery, the files as read are those that it leaves; or the run has an outcome that
+-- commits, and works on them.
+abbrev pub AreReadOnTheWay :
+    (Outcome → Type 0) → Effect → Option (List ℕ) → TreeState → List TreeState → List TreeState
+    → Type 0
+AreReadOnTheWay IsOne effect output v old now =
+    Since (IsBehindRecovery effect (λ w. files_of w ≡ work_files effect (files_of v)) v) old now
+    ⊎ ((outcome : Outcome)
+    × IsOne outcome
+    × (outcome.commits ≡ true)
+    × Since (IsBehindRecovery effect
+    (IsReadAtWork effect output outcome.files (work_files effect (files_of v))) v) old now)
+
+-- where no intent is read, a crash undoes no change of a name: but those of the output, and of what
+-- waits
+abbrev pub UnreadNamesLast : Option (List ℕ) → TreeState → Type 0
+UnreadNamesLast output w =
+    w.names intent_name ≡ None → ShownNamesLastBut (output_names output) w
 
 -- ---- what a crash leaves
 
@@ -96,6 +162,11 @@ SettlesUnrecovered ignored v outcome =
 abbrev pub Settles : Effect → (List ℕ → Bool) → TreeState → Outcome → Type 0
 Settles effect ignored v outcome = SettlesUnrecovered ignored v outcome ⊎ CanRecover effect v
 
+-- the tree is orderly, and each crash leaves these files
+pub record IsAtRest (ignored : List ℕ → Bool) (files : Files) (w : TreeState) : Type 0 where
+  pub orderly : IsOrderly (RestsOn ignored) w
+  pub settled : IsSettled ignored files w
+
 -- ---- the answer
 
 -- the command was carried out, though its report may not have been printed
@@ -117,10 +188,21 @@ AnswersOutcome (Refused refusal) = Unit {0}
 AnswersOutcome OutFault = Unit {0}
 AnswersOutcome other = ⊥
 
+-- an outcome commits nothing
+abbrev pub HasIdleOutcome : (Outcome → Type 0) → Type 0
+HasIdleOutcome IsOne = (outcome : Outcome) × IsOne outcome × (outcome.commits ≡ false)
+
 -- it was left undone, or the outcome commits nothing, whatever was answered in its place
 abbrev pub CommitsNothing : (Outcome → Type 0) → Answer → Type 0
-CommitsNothing IsOne answer =
-    IsLeftUndone answer ⊎ ((outcome : Outcome) × IsOne outcome × (outcome.commits ≡ false))
+CommitsNothing IsOne answer = IsLeftUndone answer ⊎ HasIdleOutcome IsOne
+
+-- besides, nothing was staged: a change that finds no memory may have staged files
+abbrev pub StagesNothing : Effect → (Outcome → Type 0) → Answer → Type 0
+StagesNothing effect IsOne Memory = (effect ≢ Changes) ⊎ HasIdleOutcome IsOne
+StagesNothing effect IsOne Ok = HasIdleOutcome IsOne
+StagesNothing effect IsOne (Refused refusal) = Unit {0}
+StagesNothing effect IsOne TreeFault = HasIdleOutcome IsOne
+StagesNothing effect IsOne OutFault = HasIdleOutcome IsOne
 
 -- where something makes them last, each crash leaves the outcome's files
 abbrev pub LeavesSettled :
@@ -145,3 +227,12 @@ LeavesLasting IsOne effect ignored v now (Refused refusal) =
 LeavesLasting IsOne effect ignored v now OutFault =
     (outcome : Outcome) × IsOne outcome × LeavesSettled effect ignored v now outcome
 LeavesLasting IsOne effect ignored v now other = Unit {0}
+
+-- one of these outcomes is at rest if it commits: its output counts again, and so does the scratch
+-- name, also where they were ignored
+abbrev pub LeavesAtRest :
+    (Outcome → Type 0) → Option (List ℕ) → (List ℕ → Bool) → List TreeState → Type 0
+LeavesAtRest IsOne output ignored now =
+    (outcome : Outcome)
+    × IsOne outcome
+    × (outcome.commits ≡ true → HasNow now (IsAtRest (ignored_but output ignored) outcome.files))

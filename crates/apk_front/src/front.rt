@@ -1,7 +1,7 @@
 //! The top call. Its contract is what this repository proves of a run of `apk`.
 ghost use Rattle.std.specs.Prelude.{◌≡◌, ℕ, Bool, List, IsSome, IsTrue, is_some};
 ghost use Rattle.apk_front.specs.Answers.{name_an_applet, IsAnswerOf, IsAnswerTo, LeavesFiles, LeavesAny, HasCauses, IsFaultless, IsComplete, IsUnplanned, IsOutcomeUnlessMemory};
-ghost use Rattle.apk_front.specs.Moments.{AnswersOutcome, AreSafe, CommitsNothing, HasNothingToRecover, HidesScratchOf, IsReadApart, IsReadOnItsWay, LeavesLasting, LeavesRoom};
+ghost use Rattle.apk_front.specs.Moments.{AnswersOutcome, AreReadOnTheWay, AreSafe, CommitsNothing, HasNothingToRecover, HidesScratchOf, LeavesAtRest, LeavesLasting, LeavesRoom, StagesNothing, UnreadNamesLast};
 ghost use Rattle.base_core.specs.Calls.{HasNow, IfObservable};
 ghost use Rattle.base_core.specs.Crash.{IsOrderly, Since};
 ghost use Rattle.base_core.specs.Faults.{GoesOn, HasCause};
@@ -9,10 +9,9 @@ ghost use Rattle.base_core.specs.Files.{no_names};
 ghost use Rattle.base_core.specs.Sink.{sink_change, KeepsCount};
 ghost use Rattle.base_core.specs.Tree.{files_of};
 ghost use Rattle.journal_core.specs.Quiet.{IsStill};
-ghost use Rattle.journal_core.specs.Recovery.{RestsOn};
+ghost use Rattle.journal_core.specs.Recovery.{RestsOn, intent_name};
 ghost use Rattle.outcome.specs.Commands.{IsFoundOutcome, IsOutcome};
 ghost use Rattle.outcome.specs.Effect.{effect_by, output, reads_only, rests_on_words};
-ghost use Rattle.outcome.specs.Outcome.{Outcome};
 ghost use Rattle.outcome.specs.Work.{recovery_fault};
 ghost use Rattle.words_core.specs.Grammar.{command_of};
 
@@ -88,8 +87,8 @@ pub fn apk<T: Tree, O: Sink, E: Sink>(
     ensures memory { result ≡ Answer.Memory → IsTrue (name_an_applet words.now) }
 
     // No call is a misuse of the tree, where its files leave room for what an intent has still to
-    // do, and for the output: then OUTPUT and OUTPUT.apk-tmp are no folder of another of the
-    // recovered files, and none is a folder of them.
+    // do, and the recovered ones for what the outcome writes: OUTPUT and OUTPUT.apk-tmp are no
+    // folder of another file then, and none is a folder of them.
     ensures proper { IfObservable (T.history tree.old) (λ v. LeavesRoom words.now (files_of v)
         → (T.counts tree.new).misuses ≡ (T.counts tree.old).misuses) }
 
@@ -112,33 +111,31 @@ pub fn apk<T: Tree, O: Sink, E: Sink>(
     ensures same { IsTrue (reads_only (command_of words.now))
         → T.history tree.new ≡ T.history tree.old }
 
-    // Where there is nothing to recover, nothing is written by a run that is refused, or for which
-    // there is no memory, or whose outcome commits nothing, whatever is answered in its place.
+    // Where there is nothing to recover, nothing is written by a run that is refused, or whose
+    // outcome commits nothing, whatever is answered in its place; nor, unless the command changes
+    // several files, by one for which there is no memory.
     ensures idle { IfObservable (T.history tree.old) (λ v.
-        CommitsNothing (IsOutcome words.now (files_of v)) result
+        StagesNothing (effect_by (command_of words.now)) (IsOutcome words.now (files_of v)) result
         → HasNothingToRecover (effect_by (command_of words.now)) v
         → T.history tree.new ≡ T.history tree.old) }
 
-    // A bad intent is refused, and nothing is written.
+    // Where the intent is bad nothing is written, whatever is answered.
     ensures bad_intent { IfObservable (T.history tree.old) (λ v.
         IsSome (recovery_fault (effect_by (command_of words.now)) (files_of v))
-        → AnswersOutcome result → T.history tree.new ≡ T.history tree.old) }
+        → T.history tree.new ≡ T.history tree.old) }
 
-    // At each moment the files as read are the old ones, but for OUTPUT.apk-tmp, or the outcome's,
-    // where there is nothing to recover: no other file is touched, also where the tree fails.
-    ensures reads { IfObservable (T.history tree.old) (λ v. (outcome : Outcome)
-        → IsOutcome words.now (files_of v) outcome
-        → HasNothingToRecover (effect_by (command_of words.now)) v
-        → Since (IsReadApart (output words.now) outcome.files (files_of v))
-        (T.history tree.old) (T.history tree.new)) }
+    // At each moment the files as read stand for what the old ones do, and what waits only goes,
+    // if the command recovers; or behind that they are the files on which it works, but for the
+    // names under which it makes new files if its outcome commits; or they are the outcome's. So no
+    // other file is touched, also where the tree fails.
+    ensures reads { IfObservable (T.history tree.old) (λ v.
+        AreReadOnTheWay (IsOutcome words.now (files_of v)) (effect_by (command_of words.now))
+        (output words.now) v (T.history tree.old) (T.history tree.new)) }
 
-    // Where there is something to recover too, each moment is one of these: the files as read stand
-    // for what the old ones do, but for what waits; or they are the recovered files, but for
-    // OUTPUT.apk-tmp; or the outcome's.
-    ensures states { IfObservable (T.history tree.old) (λ v. (outcome : Outcome)
-        → IsOutcome words.now (files_of v) outcome
-        → Since (IsReadOnItsWay (effect_by (command_of words.now)) (output words.now)
-        outcome.files v) (T.history tree.old) (T.history tree.new)) }
+    // Where there was an intent, and as soon as none is read, a crash undoes no change of a name:
+    // what it said is done for good. But for OUTPUT and OUTPUT.apk-tmp, and what waits.
+    ensures last { IfObservable (T.history tree.old) (λ v. IsSome (v.names intent_name)
+        → Since (UnreadNamesLast (output words.now)) (T.history tree.old) (T.history tree.new)) }
 
     // ---- what a crash leaves, of a tree that was orderly
 
@@ -168,6 +165,14 @@ pub fn apk<T: Tree, O: Sink, E: Sink>(
         → IsOrderly (RestsOn ignored) v → HidesScratchOf (output words.now) ignored
         → LeavesLasting (IsOutcome words.now (files_of v)) (effect_by (command_of words.now))
         ignored v (T.history tree.new) result) }
+
+    // Once an outcome that commits is answered, or a sink's fault in its place, OUTPUT and
+    // OUTPUT.apk-tmp count again: the tree is orderly, and each crash leaves the outcome's files,
+    // under these names too, also where they were ignored.
+    ensures at_rest { IfObservable (T.history tree.old) (λ v. (ignored : List ℕ → Bool)
+        → IsOrderly (RestsOn ignored) v → HidesScratchOf (output words.now) ignored
+        → AnswersOutcome result → LeavesAtRest (IsOutcome words.now (files_of v))
+        (output words.now) ignored (T.history tree.new)) }
 {
     a_refusal_commits_nothing();
     let judged = judge(alloc, words, tree);

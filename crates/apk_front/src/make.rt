@@ -26,7 +26,7 @@ use base_core::{
     Text, Tree, TreeFault, counts_of_calls_in_a_row_join, files_have_one_list_of_names,
 };
 use command_core::Command;
-use journal_core::replace;
+use journal_core::{an_image_has_the_state_of_its_map, replace};
 use make_core::{
     MakeFault, a_package_with_information_has_an_output, an_index_has_an_output,
     an_output_is_short, output_name,
@@ -62,7 +62,7 @@ pub(crate) fn mkpkg<T: Tree>(
         → IsNoFault (T.counts tree.old) (T.counts tree.new) }
     ensures proper { IfObservable (T.history tree.old) (λ v.
         ((outcome : Outcome) → IsPackageOutcome command.now (files_of v) outcome
-        → outcome.refusal ≡ None → HasRoomFor (output_name command.now) (files_of v))
+        → outcome.commits ≡ true → HasRoomFor (output_name command.now) (files_of v))
         → (T.counts tree.new).misuses ≡ (T.counts tree.old).misuses) }
 {
     counts_of_calls_in_a_row_join();
@@ -100,7 +100,7 @@ pub(crate) fn mkndx<T: Tree>(
         → IsNoFault (T.counts tree.old) (T.counts tree.new) }
     ensures proper { IfObservable (T.history tree.old) (λ v.
         ((outcome : Outcome) → IsIndexOutcome command.now (files_of v) outcome
-        → outcome.refusal ≡ None → HasRoomFor (output_name command.now) (files_of v))
+        → outcome.commits ≡ true → HasRoomFor (output_name command.now) (files_of v))
         → (T.counts tree.new).misuses ≡ (T.counts tree.old).misuses) }
 {
     counts_of_calls_in_a_row_join();
@@ -173,8 +173,8 @@ fn finish<T: Tree>(
     ensures lost { IsErrOf result TreeFault.Memory → container ≢ Err MakeFault.Disk }
     ensures proper { IfObservable (T.history tree.old) (λ v.
         IfOk container (λ file.
-        (make_outcome (files_of v) (output_name command.now) report (Ok file.items)).refusal
-        ≡ None → HasRoomFor (output_name command.now) (files_of v))
+        (make_outcome (files_of v) (output_name command.now) report (Ok file.items)).commits
+        ≡ true → HasRoomFor (output_name command.now) (files_of v))
         → (T.counts tree.new).misuses ≡ (T.counts tree.old).misuses) }
 {
     match container {
@@ -209,11 +209,12 @@ fn write<T: Tree>(
     ensures memory { IsErrOf result TreeFault.Memory
         → IsNoFault (T.counts tree.old) (T.counts tree.new) }
     ensures proper { IfObservable (T.history tree.old) (λ v.
-        ((make_outcome (files_of v) (output_name command.now) report (Ok file.now)).refusal ≡ None
+        ((make_outcome (files_of v) (output_name command.now) report (Ok file.now)).commits ≡ true
         → HasRoomFor (output_name command.now) (files_of v))
         → (T.counts tree.new).misuses ≡ (T.counts tree.old).misuses) }
 {
     an_output_is_short();
+    an_image_has_the_state_of_its_map();
     // A command of which a container was made has an output.
     let Some(output) = output_name(alloc, command)? else {
         unreachable!()

@@ -81,7 +81,7 @@ fn make_one<T: Tree>(alloc: Global, command: &Command, tree: &mut T) -> Result<V
         → IsNoFault (T.counts tree.old) (T.counts tree.new) }
     ensures proper { IfObservable (T.history tree.old) (λ v.
         ((outcome : Outcome) → IsOutcomeOver command.now (files_of v) outcome
-        → outcome.refusal ≡ None
+        → outcome.commits ≡ true
         → HasRoomFor (output_if (effect_of command.now.applet) command.now) (files_of v))
         → (T.counts tree.new).misuses ≡ (T.counts tree.old).misuses) }
 {

@@ -1,0 +1,8 @@
+pub mod InOrder
+pub mod Lists
+pub mod Owned
+pub mod PlanNames
+pub mod Sample
+pub mod Untouched
+mod Worked
+mod WorkedConfiguration

@@ -4,3 +4,5 @@ pub mod Fate
 pub mod FilesAfter
 pub mod NamesAfter
 pub mod PlanLists
+-- what only inner contracts and proofs use
+pub mod Touched

@@ -1,1 +1,124 @@
 //! What follows from the definitions, for all changes and files.
+
+ghost use Rattle.std.specs.Prelude.{◌≡◌, ◌⊎◌, ◌↔◌, ℕ, Bool, true, false, List, None, Some, map, is_some, Contains};
+ghost use Rattle.base_core.specs.Files.{Files};
+ghost use Rattle.base_core.specs.Listed.{IsRising};
+ghost use Rattle.db_core.specs.Members.{Listing, is_coming, member_listings};
+ghost use Rattle.file_owners.specs.Owners.{owner_of_path};
+ghost use Rattle.change_files.specs.Fate.{aside_name};
+ghost use Rattle.change_files.specs.FileChange.{FileChange, coming_owner, is_claimed, owner_listing, was_listed};
+ghost use Rattle.change_files.specs.FilesAfter.{Records, changed_files, is_kept, is_removed, is_written, laid_beside, written_as};
+ghost use Rattle.change_files.specs.PlanLists.{FileWrite, aside_of, kept_of, removals_of, writes_of};
+ghost use Rattle.change_files.specs.Touched.{IsUsersFile, IsWriteOf, is_aside_name, is_coming_path, is_record_name};
+
+// ---- what is written
+
+/// A package that comes and owns a path lists it, and so it is with all that is written: it goes in
+/// under that path, or lies beside it.
+pub fn what_is_written_is_owned_by_a_package_that_comes()
+    ensures owner { (change : FileChange) (path : List ℕ) (l : Listing)
+        → coming_owner change path ≡ Some l
+        → (l.path ≡ path) × (is_coming l.member ≡ true)
+        × Contains (member_listings change.members) l
+        × (owner_of_path change.members path ≡ Some l.place) }
+    ensures written { (change : FileChange) (files : Files) (name : List ℕ) (l : Listing)
+        → written_as change files name ≡ Some l
+        → (coming_owner change l.path ≡ Some l)
+        × ((name ≡ l.path) ⊎ (name ≡ aside_name l.path)) }
+{}
+
+/// Where something is written the file has those bytes after the change.
+pub fn what_is_written_takes_its_name()
+    ensures { (change : FileChange) (bytes_of : Listing → List ℕ) (records : Records) (files : Files)
+        (name : List ℕ) (l : Listing) → written_as change files name ≡ Some l
+        → is_record_name records name ≡ false
+        → changed_files change bytes_of records files name ≡ Some (bytes_of l) }
+{}
+
+// ---- what is removed
+
+/// What is removed was listed before, and no package lists it after the change; then it is absent.
+pub fn what_is_removed_was_listed_before()
+    ensures listed { (change : FileChange) (files : Files) (path : List ℕ)
+        → is_removed change files path ≡ true
+        → (was_listed change path ≡ true) × (is_claimed change path ≡ false) }
+    ensures gone { (change : FileChange) (bytes_of : Listing → List ℕ) (records : Records)
+        (files : Files) (path : List ℕ) → is_removed change files path ≡ true
+        → is_record_name records path ≡ false
+        → changed_files change bytes_of records files path ≡ None }
+{}
+
+// ---- what is not touched
+
+/// A path whose owner stays is not touched.
+pub fn the_file_of_a_package_that_stays_is_not_touched()
+    ensures plan { (change : FileChange) (files : Files) (path : List ℕ) (l : Listing)
+        → owner_listing change path ≡ Some l → is_coming l.member ≡ false
+        → (written_as change files path ≡ None) × (is_removed change files path ≡ false) }
+    ensures file { (change : FileChange) (bytes_of : Listing → List ℕ) (records : Records)
+        (files : Files) (path : List ℕ) (l : Listing)
+        → owner_listing change path ≡ Some l → is_coming l.member ≡ false
+        → is_record_name records path ≡ false
+        → changed_files change bytes_of records files path ≡ files path }
+{}
+
+/// Configuration that the user changed keeps its bytes, unless it is to be purged. One that was laid
+/// beside another file gives way to what is laid there now.
+pub fn configuration_that_the_user_changed_stays()
+    ensures { (change : FileChange) (bytes_of : Listing → List ℕ) (records : Records) (files : Files)
+        (path bytes : List ℕ) → change.purge ≡ false → IsUsersFile change files path bytes
+        → is_aside_name change files path ≡ false → is_record_name records path ≡ false
+        → changed_files change bytes_of records files path ≡ Some bytes }
+{}
+
+/// What is kept stays as it is.
+pub fn what_is_kept_stays()
+    ensures { (change : FileChange) (bytes_of : Listing → List ℕ) (records : Records) (files : Files)
+        (path : List ℕ) → is_kept change files path ≡ true → is_record_name records path ≡ false
+        → changed_files change bytes_of records files path ≡ files path }
+{}
+
+/// A name that no package listed before and that no package which comes lists stays as it is, unless
+/// a file is laid beside another one under it.
+pub fn a_name_that_nobody_lists_is_not_touched()
+    ensures { (change : FileChange) (bytes_of : Listing → List ℕ) (records : Records) (files : Files)
+        (name : List ℕ) → was_listed change name ≡ false → is_coming_path change name ≡ false
+        → is_aside_name change files name ≡ false → is_record_name records name ≡ false
+        → changed_files change bytes_of records files name ≡ files name }
+{}
+
+// ---- the lists
+
+/// The lists of a plan hold just the names that are written, removed, kept and laid aside.
+pub fn the_lists_of_a_plan_hold_just_its_names()
+    ensures writes { (change : FileChange) (files : Files) (write : FileWrite)
+        → Contains (writes_of change files) write ↔ IsWriteOf change files write }
+    ensures written { (change : FileChange) (files : Files) (name : List ℕ)
+        → Contains (map (λ write. write.name) (writes_of change files)) name
+        ↔ (is_written change files name ≡ true) }
+    ensures removed { (change : FileChange) (files : Files) (path : List ℕ)
+        → Contains (removals_of change files) path ↔ (is_removed change files path ≡ true) }
+    ensures kept { (change : FileChange) (files : Files) (path : List ℕ)
+        → Contains (kept_of change files) path ↔ (is_kept change files path ≡ true) }
+    ensures aside { (change : FileChange) (files : Files) (path : List ℕ)
+        → Contains (aside_of change files) path
+        ↔ (is_some (laid_beside change files path) ≡ true) }
+{}
+
+/// Each list of a plan is in byte order, and no name stands in it twice.
+pub fn the_lists_of_a_plan_rise()
+    ensures writes { (change : FileChange) (files : Files)
+        → IsRising (map (λ write. write.name) (writes_of change files)) }
+    ensures removals { (change : FileChange) (files : Files) → IsRising (removals_of change files) }
+    ensures kept { (change : FileChange) (files : Files) → IsRising (kept_of change files) }
+    ensures aside { (change : FileChange) (files : Files) → IsRising (aside_of change files) }
+{}
+
+/// No name is both written and removed, and none that is kept is one of them.
+pub fn a_name_has_one_place_in_a_plan()
+    ensures removed { (change : FileChange) (files : Files) (name : List ℕ)
+        → is_written change files name ≡ true → is_removed change files name ≡ false }
+    ensures kept { (change : FileChange) (files : Files) (name : List ℕ)
+        → is_kept change files name ≡ true
+        → (is_written change files name ≡ false) × (is_removed change files name ≡ false) }
+{}

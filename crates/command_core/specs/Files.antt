@@ -2,7 +2,7 @@
 use Rattle.std.specs.Prelude.{ℕ, nat_le, Bool, ◌&&◌, List, length, take, drop, codes, if◌then◌else◌}
 use Rattle.std.specs.Str.{bytes_eq}
 use Rattle.base_core.specs.Name.{is_name}
-use Rattle.dep_core.specs.Repositories.{without_slash}
+use Rattle.dep_core.specs.LeadingSlash.{without_slash}
 
 -- a text without one leading `./`
 abbrev pub without_dot : List ℕ → List ℕ

@@ -3,13 +3,13 @@ ghost use Rattle.std.specs.Prelude.{◌≡◌, ◌==◌, IfOk, drop};
 ghost use Rattle.std.specs.Char.{is_ascii_digit};
 ghost use Rattle.std.specs.List.{list_all, list_any, position};
 ghost use Rattle.std.specs.Str.{bytes_eq};
-ghost use Rattle.dep_core.specs.Repositories.{without_slash};
 ghost use Rattle.command_core.specs.Files.{is_file, is_output, is_path, without_dot};
 ghost use Rattle.command_core.specs.Named.{file_name};
 ghost use Rattle.command_core.specs.Operands.{has_zero_in_front, is_decimal, is_demo_number};
 ghost use Rattle.command_core.specs.Values.{colon, is_script, script_file, script_type, script_types};
 
 use base_core::{Name, is_name};
+use dep_core::without_slash;
 use std::alloc::{AllocError, Global};
 use std::str;
 
@@ -70,16 +70,6 @@ pub(crate) fn is_path(text: &[u8]) -> bool
     ensures { result ≡ is_path text.now }
 {
     is_name(without_slash(text))
-}
-
-// A text without one leading `/`.
-fn without_slash(text: &[u8]) -> &[u8]
-    ensures { result.now ≡ without_slash text.now }
-{
-    match text.split_first() {
-        Some((b'/', rest)) => rest,
-        _ => text,
-    }
 }
 
 /// Whether a text is TYPE:FILE, with the type of a package's script.

@@ -26,7 +26,7 @@ pub fn changed_database<'a>(
 ) -> Result<Option<Vec<u8>>, AllocError> {
     match Db::read(alloc, file) {
         Ok(db) => change_of(alloc, &db, coming, words),
-        Err(ReadFault::Bad(_)) => change_of(alloc, &Db::empty(), coming, words),
+        Err(ReadFault::Bad(_)) => change_of(alloc, &Db::empty(alloc), coming, words),
         Err(ReadFault::Memory) => Err(AllocError),
     }
 }

@@ -1,4 +1,7 @@
 pub mod AnyOf
+mod ListedNames
+pub mod ListingPlaces
+mod NamePlaces
 pub mod Ordered
 pub mod PathParts
 pub mod Places

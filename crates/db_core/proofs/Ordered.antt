@@ -1,8 +1,9 @@
 -- One member more, behind the others.
-use Rattle.std.proofs.Common.{◌≡◌, ◌⊎◌, inl, inr, ℕ, suc, zero, true, List, [], ◌∷◌, ◌++◌, map, length, Option, Result, Ok, Err, refl, ap, sym, ◌∙◌, subst, arith, true≢false, Ordering, Less, Equal, Greater}
+use Rattle.std.proofs.Common.{◌≡◌, ◌⊎◌, inl, inr, ℕ, suc, zero, ◌<◌, ◌≤◌, true, List, [], ◌∷◌, ◌++◌, map, length, length-append, Option, Result, Ok, Err, refl, ap, sym, ◌∙◌, subst, arith, true≢false, Ordering, Less, Equal, Greater}
 use Rattle.std.specs.Prelude.{get_or, if◌then◌else◌, is_ok}
 use Rattle.std.specs.Ordering.{is_lt}
 use Rattle.std.proofs.lemmas.Cmp.{nat_list_cmp_total}
+use Rattle.std.proofs.lemmas.List.{length-map}
 use Rattle.base_core.specs.Listed.{IsRising}
 use Rattle.base_core.proofs.Rising.{IsIn, Rises, pairs_from_rises, rises_from_pairs}
 use Rattle.list_order.specs.ByteOrder.{bytes_cmp, precedes}
@@ -85,6 +86,11 @@ kept_more (Ok x) es new e is h behind =
     let ordered : AreInOrder (map member_by es ++ member_by e ∷ []) = in_order_more (map member_by es) (member_by e) (members_in_order es h) behind in
     subst IsRising (sym (ap kept_names is ∙ names_are (es ++ e ∷ []))) (subst AreInOrder (sym (members_more es e)) ordered)
 kept_more (Err x) es new e is h behind = subst IsRising (sym (ap kept_names is)) h
+
+pub few_more : {A B : Type 0} (r : Result A B) (es new : List Kept) (e : Kept) (most : ℕ) → new ≡ (if is_ok r then es ++ e ∷ [] else es) → length es ≤ most
+    → length (map member_by es) < most → length new ≤ most
+few_more (Ok x) es new e most is h few = omega (arith, ap length is, length-append es (e ∷ []), length-map es member_by, few)
+few_more (Err x) es new e most is h few = omega (arith, ap length is, h)
 
 -- the last one decides
 pub last_decides : (name : List ℕ) (es : List Kept) (e : Kept) (k : ℕ) → suc k ≡ length (map member_by es) → e ≡ get_or es k e → precedes (member_name (member_by e)) name ≡ comes_behind name (map member_by es)

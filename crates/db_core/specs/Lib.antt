@@ -1,6 +1,10 @@
 -- what the contract of `apk` says
 pub mod Members
+pub mod OwnedListings
 pub mod Packages
 -- what only inner contracts and proofs use
 pub mod EntrySeen
+pub mod ListedAt
+pub mod NamePlaces
+pub mod NameSeen
 pub mod Seen

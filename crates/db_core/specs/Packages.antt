@@ -1,6 +1,7 @@
 -- The packages of a database, and who of them lists a file.
 use Rattle.std.specs.Prelude.{ℕ, Bool, List, [], Option, Some, None, bytes_eq}
-use Rattle.std.specs.List.{list_any}
+use Rattle.std.specs.List.{list_all, list_any}
+use Rattle.base_core.specs.Name.{is_name}
 use Rattle.adb_view.specs.Plain.{Plain}
 use Rattle.adb_fields.specs.Repeated.{entries_at, package_name, paths_in}
 
@@ -10,6 +11,10 @@ is_package_named name pkg = bytes_eq (package_name pkg) name
 -- a package lists a file with this path
 abbrev pub lists_path : List ℕ → Plain → Bool
 lists_path path pkg = list_any (bytes_eq path) (paths_in pkg)
+
+-- each path that a package lists is a name
+abbrev pub lists_names : Plain → Bool
+lists_names pkg = list_all is_name (paths_in pkg)
 
 -- the packages of the value of a database, or of none
 abbrev pub packages_by : Option Plain → List Plain

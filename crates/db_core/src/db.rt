@@ -3,35 +3,48 @@ ghost use Rattle.adb_fields.specs.ListValue.{list_value};
 ghost use Rattle.adb_fields.specs.Repeated.{entries_at, list_of};
 ghost use Rattle.adb_schema.specs.ReadFaults.{IsReadFault};
 ghost use Rattle.adb_schema.specs.Soundness.{first_fault, payload_in, root_value};
-ghost use Rattle.adb_schema.specs.Views.{package_value};
+ghost use Rattle.adb_schema.specs.Views.{idb_value, package_value};
 ghost use Rattle.adb_tables.specs.Values.{count_of, entries_in, entry_in};
 ghost use Rattle.adb_tables.specs.declared.tables.Which.TheVariants as Tables;
-ghost use Rattle.db_core.specs.Packages.{is_package_named, lists_path};
-ghost use Rattle.std.specs.List.{position_from};
-ghost use Rattle.std.specs.Prelude.{◌≡◌, ◌<◌, ◌^◌, ◌==◌, [], Some, None, IfSome, length, slice_get, IfOk, IfErr};
+ghost use Rattle.db_core.specs.NamePlaces.{placed_names_in_order};
+ghost use Rattle.db_core.specs.NameSeen.{name_seen};
+ghost use Rattle.db_core.specs.Packages.{is_package_named, lists_names, lists_path, packages_by};
+ghost use Rattle.std.specs.List.{list_all, position_from};
+ghost use Rattle.std.specs.Prelude.{◌≡◌, ◌<◌, ◌^◌, ◌==◌, true, [], All, Some, None, IfSome, length, map, option_map, slice_get, IfOk, IfErr};
 
 use crate::listed_paths::is_path_listed;
+use crate::name_places::{NamePlace, place_of, sorted_names};
 use adb_schema::{IdbView, List, PackageView, ReadFault, Which, read_adb};
 use base_core::Name;
 use std::alloc::{AllocError, Global};
 
-/// The packages of an installed database, in its order. All is lent from the file's bytes.
-#[derive(Clone, Copy)]
+/// The packages of an installed database, in its order. All is lent from the file's bytes; the
+/// places of the packages are kept besides in byte order of names, in which a name is looked for.
+#[derive(Drop)]
 pub struct Db<'a> {
     pub(crate) idb: Option<IdbView<'a>>,
+    pub(crate) names: Vec<NamePlace<'a>>,
+    ghost by_name: { map name_seen names.items
+        ≡ placed_names_in_order (packages_by (option_map idb_value idb)) },
+    ghost named: { list_all lists_names (packages_by (option_map idb_value idb)) ≡ true },
 }
 
 impl<'a> Db<'a> {
+    ghost use Rattle.base_core.specs.Name.{IsName};
+    ghost use Rattle.db_core.specs.Members.{member_listings, staying_member};
     ghost use Rattle.db_core.specs.Seen.{packages_of};
 
     /// A database without packages.
-    pub fn empty() -> Db<'a>
+    pub fn empty(alloc: Global) -> Db<'a>
         ensures { packages_of result ≡ [] }
     {
-        Db { idb: None }
+        Db {
+            idb: None,
+            names: Vec::new(alloc),
+        }
     }
 
-    /// Reads a database, and makes all tests of its file.
+    /// Reads a database, and makes all tests of its file. It takes a few words for each package.
     ///
     /// # Errors
     ///
@@ -44,8 +57,12 @@ impl<'a> Db<'a> {
             ≡ entries_at 0 (root_value Tables.Idb (payload_in bytes.entry.now))) }
     {
         let checked = read_adb(alloc, bytes, Which::Idb)?;
+        checked.values_keep_their_rules();
+        let idb = checked.idb();
+        let names = sorted_names(alloc, &idb.packages())?;
         Ok(Db {
-            idb: Some(checked.idb()),
+            idb: Some(idb),
+            names,
         })
     }
 
@@ -79,16 +96,13 @@ impl<'a> Db<'a> {
     }
 
     /// The place of the package with this name, counted from 0; of several the first. None comes
-    /// exactly where no package has the name.
+    /// exactly where no package has the name. The names are halved at each step.
     pub fn find(&self, name: &[u8]) -> Option<usize>
         ensures found { result
             ≡ position_from (is_package_named name.now) 0 (packages_of self.now) }
         ensures within { IfSome result (λ i. i < length (packages_of self.now)) }
     {
-        match &self.idb {
-            Some(idb) => find_named(&idb.packages(), name),
-            None => None,
-        }
+        place_of(&self.names, name)
     }
 
     /// The place of the package that lists this path, counted from 0; of several the first. None
@@ -102,6 +116,12 @@ impl<'a> Db<'a> {
             None => None,
         }
     }
+
+    /// Each path that a package of the database lists is a name.
+    pub fn listed_paths_are_names(&self)
+        ensures { All (λ l. IsName l.path)
+            (member_listings (map staying_member (packages_of self.now))) }
+    {}
 }
 
 /// The package at a place, counted from 0.
@@ -113,29 +133,6 @@ fn package_at<'a>(packages: &List<'a, PackageView<'a>>, i: usize) -> PackageView
         unreachable!();
     }
     packages.get(i + 1)
-}
-
-/// Whether the package at a place, counted from 0, has this name.
-fn is_named<'a>(packages: &List<'a, PackageView<'a>>, i: usize, name: &[u8]) -> bool
-    requires { i < count_of (entries_in (list_value packages.now)) }
-    ensures { result ≡ is_package_named name.now (entry_in (list_value packages.now) i) }
-{
-    let package = package_at(packages, i);
-    package.info().name() == name
-}
-
-/// The place of the first package with this name, counted from 0.
-fn find_named<'a>(packages: &List<'a, PackageView<'a>>, name: &[u8]) -> Option<usize>
-    ensures found { result ≡ position_from (is_package_named name.now) 0
-        (list_of (entries_in (list_value packages.now))) }
-    ensures within { IfSome result (λ i. i < count_of (entries_in (list_value packages.now))) }
-{
-    for i in 0..packages.len() {
-        if is_named(packages, i, name) {
-            return Some(i);
-        }
-    }
-    None
 }
 
 /// Whether the package at a place, counted from 0, lists this path.

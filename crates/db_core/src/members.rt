@@ -5,13 +5,18 @@ ghost use Rattle.adb_view.specs.Plain.{Plain};
 ghost use Rattle.base_core.specs.Listed.{IsRising};
 ghost use Rattle.db_core.specs.EntrySeen.{member_by};
 ghost use Rattle.db_core.specs.Members.{Member, comes_behind, coming_member, member_name, staying_member};
+ghost use Rattle.db_core.specs.Packages.{lists_names};
+ghost use Rattle.db_core.specs.declared.members.TheConstants.{MOST_MEMBERS};
 ghost use Rattle.pkg_core.specs.Opened.{opened_payload, opened_value};
+ghost use Rattle.pkg_pieces.specs.Values.{payload_of_contents, value_of_contents};
 ghost use Rattle.sha2.specs.Sha256.{sha256};
-ghost use Rattle.std.specs.Prelude.{◌≡◌, ◌<◌, ◌++◌, ◌∷◌, [], true, ◌==◌, Some, None, length, map, slice_get, IfOk, OnOk, OnErr};
+ghost use Rattle.std.specs.List.{list_all};
+ghost use Rattle.std.specs.Prelude.{All, ◌≡◌, ◌<◌, ◌≤◌, ◌++◌, ◌∷◌, [], true, ◌==◌, Some, None, length, map, slice_get, IfOk, OnOk, OnErr};
 
 use crate::db::Db;
 use adb_schema::PackageView;
 use pkg_core::Package;
+use pkg_pieces::Contents;
 use std::alloc::{AllocError, Global};
 use std::marker::Model;
 
@@ -46,10 +51,13 @@ impl<'a> Model for Entry<'a> {
 pub struct Members<'a> {
     pub(crate) entries: Vec<Entry<'a>>,
     ghost in_order: { IsRising (map (λ e. member_name (member_by e)) entries.items) },
+    ghost few: { length entries.items ≤ MOST_MEMBERS },
+    ghost named: { list_all (λ e. lists_names (member_by e).pkg) entries.items ≡ true },
 }
 
 impl<'a> Members<'a> {
-    ghost use Rattle.db_core.specs.Members.{AreInOrder};
+    ghost use Rattle.base_core.specs.Name.{IsName};
+    ghost use Rattle.db_core.specs.Members.{AreInOrder, member_listings};
     ghost use Rattle.db_core.specs.Seen.{members_of, packages_of};
 
     /// No packages.
@@ -94,8 +102,31 @@ impl<'a> Members<'a> {
             ++ coming_member (opened_value pkg.now) (sha256 (opened_payload pkg.now)) ∷ []) }
         ensures err { OnErr result (members_of self.new ≡ members_of self.old) }
     {
+        pkg.values_keep_their_rules();
         let view = pkg.view();
         let id = pkg.id();
+        self.entries.push(Entry { view, id: Some(id) })?;
+        Ok(())
+    }
+
+    /// Adds a package that comes and whose files are read in pieces, with its id. A refused call
+    /// changes nothing.
+    ///
+    /// # Errors
+    ///
+    /// Want of memory.
+    pub fn comes_in_pieces(&mut self, contents: &Contents<'a>) -> Result<(), AllocError>
+        requires behind { comes_behind (package_name (value_of_contents contents.now))
+            (members_of self.old) ≡ true }
+        requires few { length (members_of self.old) < MOST_MEMBERS }
+        ensures ok { OnOk result (members_of self.new ≡ members_of self.old
+            ++ coming_member (value_of_contents contents.now)
+            (sha256 (payload_of_contents contents.now)) ∷ []) }
+        ensures err { OnErr result (members_of self.new ≡ members_of self.old) }
+    {
+        contents.values_keep_their_rules();
+        let view = contents.view();
+        let id = contents.id();
         self.entries.push(Entry { view, id: Some(id) })?;
         Ok(())
     }
@@ -114,7 +145,8 @@ impl<'a> Members<'a> {
 
     /// How many packages there are.
     pub fn len(&self) -> usize
-        ensures { result ≡ length (members_of self.now) }
+        ensures value { result ≡ length (members_of self.now) }
+        ensures few { result ≤ MOST_MEMBERS }
     {
         self.entries.len()
     }
@@ -146,5 +178,10 @@ impl<'a> Members<'a> {
     /// Members stand in byte order of their names, each name once.
     pub fn members_are_in_order(&self)
         ensures { AreInOrder (members_of self.now) }
+    {}
+
+    /// Each path that a member lists is a name.
+    pub fn listed_paths_are_names(&self)
+        ensures { All (λ l. IsName l.path) (member_listings (members_of self.now)) }
     {}
 }

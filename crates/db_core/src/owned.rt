@@ -29,6 +29,13 @@ impl Owned {
         }
     }
 
+    /// As these flags say, one for each file.
+    pub fn of(flags: Vec<bool>) -> Owned
+        ensures { result ≡ flags.items }
+    {
+        Owned { flags }
+    }
+
     /// Adds a file behind the others. A refused call changes nothing.
     ///
     /// # Errors

@@ -1,4 +1,5 @@
 pub mod Container
+pub mod KeptParts
 pub mod Listed
 pub mod Marking
 pub mod OneOwner
@@ -11,4 +12,3 @@ pub mod RootRules
 pub mod Segments
 pub mod SoundPackages
 pub mod Unchanged
-pub mod WithoutZeros

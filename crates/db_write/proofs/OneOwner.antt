@@ -7,8 +7,8 @@ use Rattle.adb_fields.specs.Once.{AreApart, IsInOneOf}
 use Rattle.adb_fields.specs.Repeated.{files_in, folders_in, list_of, name_of, paths_in}
 use Rattle.db_core.specs.Members.{Listing, Member, listings_by, listings_from, listings_in_folder, listings_in_folders, member_listings}
 use Rattle.db_write.specs.NewDatabase.{member_file_count, packages_after}
-use Rattle.db_write.specs.OwnedListings.{owned_listings}
-use Rattle.db_write.specs.SoundMembers.{HaveOneOwner}
+use Rattle.db_core.specs.OwnedListings.{owned_listings}
+use Rattle.db_core.specs.OwnedListings.{HaveOneOwner}
 use Rattle.db_write.proofs.Listed.{in_folders}
 use Rattle.db_write.proofs.OwnedPaths.{members_owned, owned_joined, package_owned}
 

@@ -2,37 +2,20 @@
 use Rattle.std.proofs.Common.{◌≡◌, ℕ, suc, zero, ◌+◌, Bool, true, false, List, [], ◌∷◌, ◌++◌, map, drop, length, refl, ap, sym, ◌∙◌}
 use Rattle.std.proofs.lemmas.List.{map-append}
 use Rattle.std.specs.List.{flat_map}
-use Rattle.adb_view.specs.Plain.{Plain, null, int, blob, arr, obj, Plains, none, more, arr_value, blob_value, obj_of, without_last_nulls}
+use Rattle.adb_view.specs.Plain.{Plain, null, int, blob, arr, obj, Plains, none, more, arr_value, blob_value}
 use Rattle.adb_tables.specs.Values.{entries_in, entry_in, int_in, nth, text_in}
 use Rattle.adb_fields.specs.Paths.{path_of}
 use Rattle.adb_fields.specs.Repeated.{files_in, folders_in, list_of, name_of, paths_in, paths_under}
 use Rattle.adb_copy.specs.Zeros.{all_without_zeros, int_value, without_zeros}
-use Rattle.adb_copy.proofs.Zeros.{nth_obj, nth_zeros}
+use Rattle.adb_tables.proofs.ValueEntries.{entries_arr, nth_obj, text_blob}
+use Rattle.adb_copy.proofs.WithoutZeros.{text_zeros}
+use Rattle.adb_copy.proofs.Zeros.{nth_zeros}
 use Rattle.db_core.specs.Members.{Listing, Member, listings_by, listings_from, listings_in_folder, listings_in_folders, member_listings}
 use Rattle.db_write.specs.NewDatabase.{file_count, folder_after, folders_after, info_after, member_file_count, owned_entries, package_after, packages_after}
-use Rattle.db_write.specs.OwnedListings.{owned_listings, owned_paths}
+use Rattle.db_core.specs.OwnedListings.{owned_listings, owned_paths}
 use Rattle.db_write.proofs.Listed.{in_folder, in_folders}
 
 -- ---- a name without zeros
-
-pub text_zeros : (v : Plain) → text_in (without_zeros v) ≡ text_in v
-unfolding without_zeros
-text_zeros null = refl
-text_zeros (int zero) = refl
-text_zeros (int (suc n)) = refl
-text_zeros (blob []) = refl
-text_zeros (blob (x ∷ xs)) = refl
-text_zeros (arr none) = refl
-text_zeros (arr (more v vs)) = refl
-text_zeros (obj vs) = go (without_last_nulls (all_without_zeros vs))
-  where
-    go : (us : Plains) → text_in (obj_of us) ≡ []
-    go none = refl
-    go (more u us) = refl
-
-pub entries_arr : (vs : Plains) → entries_in (arr_value vs) ≡ vs
-entries_arr none = refl
-entries_arr (more v vs) = refl
 
 pub entry_zeros : (v : Plain) (i : ℕ) → entry_in (without_zeros v) i ≡ without_zeros (entry_in v i)
 unfolding without_zeros
@@ -46,10 +29,6 @@ entry_zeros (obj vs) i = nth_obj (all_without_zeros vs) i ∙ nth_zeros vs i
 
 pub name_zeros : (v : Plain) → name_of (without_zeros v) ≡ name_of v
 name_zeros v = ap text_in (entry_zeros v 0) ∙ text_zeros (entry_in v 0)
-
-pub text_blob : (b : List ℕ) → text_in (blob_value b) ≡ b
-text_blob [] = refl
-text_blob (x ∷ xs) = refl
 
 -- ---- listings and their flags
 

@@ -11,16 +11,15 @@ use Rattle.adb_write.specs.Canonical.{PayloadCounts, canonical, or_overflow, ove
 use Rattle.adb_write.specs.File.{file_of}
 use Rattle.adb_sound.specs.Root.{IsRootOf}
 use Rattle.pkg_core.specs.Whole.{container_fault}
-use Rattle.adb_copy.proofs.Zeros.{nth_obj}
+use Rattle.adb_tables.proofs.ValueEntries.{entries_arr, nth_obj}
 use Rattle.db_core.specs.Members.{Member}
 use Rattle.db_write.specs.NewDatabase.{database_container, database_of, database_value, packages_after}
-use Rattle.db_write.proofs.OwnedPaths.{entries_arr}
 
 written_by : (v : Plain) (o : Option PayloadCounts) (bytes : List ℕ) → database_container (or_overflow (canonical v) o) ≡ Ok bytes → file_of IDB_WORD (canonical v) ≡ bytes
 written_by v None bytes h = cc (h)
 written_by v (Some c) bytes h = absurd (cc (h))
 
-is_file : (members : List Member) (flags : List Bool) (bytes : List ℕ) → database_of members flags ≡ Ok bytes → file_of IDB_WORD (canonical (database_value members flags)) ≡ bytes
+pub is_file : (members : List Member) (flags : List Bool) (bytes : List ℕ) → database_of members flags ≡ Ok bytes → file_of IDB_WORD (canonical (database_value members flags)) ≡ bytes
 unfolding database_of written_of
 is_file members flags bytes h = written_by (database_value members flags) (overflow_of (database_value members flags)) bytes h
 

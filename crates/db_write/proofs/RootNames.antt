@@ -14,13 +14,15 @@ use Rattle.adb_fields.specs.FirstPair.{IsIn}
 use Rattle.adb_fields.specs.Once.{AllDistinct, AreDistinctNames, NamesStandOnce, StandOnceBetween, StandOnceInside}
 use Rattle.adb_fields.specs.Repeated.{files_in, folders_in, list_of, name_of, package_name}
 use Rattle.adb_copy.specs.Zeros.{info_with, with_at, without_zeros}
-use Rattle.adb_copy.proofs.Zeros.{at_other, nth_obj, nth_zeros}
+use Rattle.adb_tables.proofs.ValueEntries.{entries_arr, nth_obj, text_blob}
+use Rattle.adb_copy.proofs.WithoutZeros.{text_zeros}
+use Rattle.adb_copy.proofs.Zeros.{at_other, nth_zeros}
 use Rattle.db_core.specs.Members.{AreInOrder, Member, member_listings, member_name}
 use Rattle.db_write.specs.NewDatabase.{database_value, file_count, folder_after, folders_after, info_after, member_file_count, owned_entries, package_after, packages_after}
-use Rattle.db_write.specs.OwnedListings.{owned_listings}
-use Rattle.db_write.specs.SoundMembers.{HaveOneOwner}
+use Rattle.db_core.specs.OwnedListings.{owned_listings}
+use Rattle.db_core.specs.OwnedListings.{HaveOneOwner}
 use Rattle.db_write.proofs.OneOwner.{owned_apart}
-use Rattle.db_write.proofs.OwnedPaths.{entries_arr, name_zeros, text_blob, text_zeros}
+use Rattle.db_write.proofs.OwnedPaths.{name_zeros}
 use Rattle.db_write.proofs.ReadBack.{packages_in}
 use Rattle.db_write.proofs.RootParts.{EachIn, fields_of_folder, fields_of_package}
 use Rattle.db_write.proofs.SoundPackages.{MayEnter}

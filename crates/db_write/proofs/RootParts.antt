@@ -10,13 +10,15 @@ use Rattle.adb_tables.specs.declared.tables.Which.TheVariants as Tables
 use Rattle.adb_fields.specs.Repeated.{files_in, folders_in, list_of, name_of}
 use Rattle.adb_copy.specs.Zeros.{info_with, int_value, without_zeros}
 use Rattle.adb_copy.proofs.Fields.{INFO}
-use Rattle.adb_copy.proofs.Shapes.{arr_value_shape, entries_shape, nth_shape, obj_value_shape}
+use Rattle.adb_view.proofs.FoundShapes.{arr_value_shape, blob_value_text, obj_value_shape}
+use Rattle.adb_view.proofs.Normal.{arr_normal, blob_value_normal, obj_normal}
+use Rattle.adb_copy.proofs.Shapes.{entries_shape, nth_shape}
+use Rattle.adb_copy.proofs.WithoutZeros.{HasInts, HaveInts, each_ints, entries_ints, int_normal, int_shape, nth_ints, placed_normal, placed_shape, read_small, zeros_normal, zeros_shape}
 use Rattle.db_core.specs.Members.{Member}
 use Rattle.db_write.specs.NewDatabase.{database_value, each_by_flags, file_count, folder_after, folders_after, info_after, member_file_count, owned_entries, package_after, packages_after}
 use Rattle.db_write.specs.SoundMembers.{AreOfSoundContainers}
 use Rattle.db_write.proofs.SoundPackages.{MayEnter, member_enters}
 use Rattle.db_write.proofs.Unchanged.{array_entries}
-use Rattle.db_write.proofs.WithoutZeros.{HasInts, HaveInts, arr_normal, blob_normal, each_ints, entries_ints, int_normal, int_shape, nth_ints, obj_normal, placed_normal, placed_shape, read_small, text_shape, zeros_normal, zeros_shape}
 
 -- ---- lists
 
@@ -73,7 +75,7 @@ folder_normal d flags h =
     let vs : Plains = entries_in (entry_in d 2) in
     let fields : HaveInts (entries_in d) = entries_ints d h in
     let files = all_normal (owned_entries (list_of vs) flags) (each_owned HasInts IsNormal zeros_normal vs flags (each_ints vs (entries_ints (entry_in d 2) (nth_ints (entries_in d) 2 fields)))) in
-    obj_normal (fields_of_folder d flags) (blob_normal (name_of d), (zeros_normal (entry_in d 1) (nth_ints (entries_in d) 1 fields), (arr_normal _ files, tt)))
+    obj_normal (fields_of_folder d flags) (blob_value_normal (name_of d), (zeros_normal (entry_in d 1) (nth_ints (entries_in d) 1 fields), (arr_normal _ files, tt)))
 
 package_normal : (m : Member) (flags : List Bool) → HasInts m.pkg → IsNormal (package_after m flags)
 unfolding AreNormal
@@ -120,7 +122,7 @@ folder_shape d flags h =
     let files : IsArrayOf (HasShape (shape_of (Obj Tables.File))) (entry_in d 2) = nth_shape (shapes_of (table Tables.Dir)) (entries_in d) 2 fields in
     let owned = each_owned (HasShape (shape_of (Obj Tables.File))) (HasShape (shape_of (Obj Tables.File))) (zeros_shape (shape_of (Obj Tables.File))) (entries_in (entry_in d 2)) flags
     (array_entries (HasShape (shape_of (Obj Tables.File))) (entry_in d 2) files) in
-    obj_value_shape 5 (shapes_of (table Tables.Dir)) (fields_of_folder d flags) (text_shape (name_of d), (zeros_shape (shape_of (Obj Tables.Acl)) (entry_in d 1) acl, (arr_value_shape (shape_of (Obj Tables.File)) _ owned, tt)))
+    obj_value_shape 5 (shapes_of (table Tables.Dir)) (fields_of_folder d flags) (blob_value_text (name_of d), (zeros_shape (shape_of (Obj Tables.Acl)) (entry_in d 1) acl, (arr_value_shape (shape_of (Obj Tables.File)) _ owned, tt)))
 
 package_shape : (m : Member) (flags : List Bool) → HasShape (shape_of (Obj Tables.Package)) m.pkg → HasShape (shape_of (Obj Tables.Package)) (package_after m flags)
 unfolding shape_of HasShape HaveShapes

@@ -18,15 +18,16 @@ use Rattle.adb_rules.specs.Rules.{is_digest_length_or_none, is_file_name, is_fol
 use Rattle.adb_rules.specs.SoundValues.{IsFileOf, IsFolder, IsInformation, IsPackage, IsSoundDependency, KeepsRules}
 use Rattle.adb_copy.specs.Zeros.{all_without_zeros, info_with, with_at, without_zeros}
 use Rattle.adb_copy.proofs.Shapes.{entries_shape, nth_shape}
-use Rattle.adb_copy.proofs.Zeros.{at_other, at_same, nth_obj, nth_zeros, zeros_array}
+use Rattle.adb_tables.proofs.ValueEntries.{entries_arr, nth_obj}
+use Rattle.adb_copy.proofs.WithoutZeros.{int_zeros, text_zeros}
+use Rattle.adb_copy.proofs.Zeros.{at_other, at_same, nth_zeros, zeros_array}
 use Rattle.db_core.specs.Members.{Member}
 use Rattle.db_write.specs.NewDatabase.{database_value, file_count, folder_after, folders_after, info_after, member_file_count, owned_entries, package_after, packages_after}
-use Rattle.db_write.specs.OwnedListings.{owned_paths}
+use Rattle.db_core.specs.OwnedListings.{owned_paths}
 use Rattle.db_write.specs.SoundMembers.{AreOfSoundContainers, IsOfSoundContainer, NoneReserved}
-use Rattle.db_write.proofs.OwnedPaths.{all_owned_listed, entries_arr, entry_zeros, name_zeros, text_zeros}
+use Rattle.db_write.proofs.OwnedPaths.{all_owned_listed, entry_zeros, name_zeros}
 use Rattle.db_write.proofs.RootNames.{folder_files, folder_name, info_entry, package_folders, package_info}
 use Rattle.db_write.proofs.SoundPackages.{IsFileUnder, IsFolderAnywhere, MayEnter, digest_or_none, member_enters}
-use Rattle.db_write.proofs.WithoutZeros.{int_zeros}
 
 -- ---- an information
 

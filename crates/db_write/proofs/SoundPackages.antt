@@ -20,7 +20,7 @@ use Rattle.adb_schema.specs.Soundness.{payload_in, root_value}
 use Rattle.adb_copy.proofs.Shapes.{entries_shape, nth_shape}
 use Rattle.db_write.specs.SoundMembers.{IsOfSoundContainer, IsOfSoundDatabase, IsOfSoundPackage}
 use Rattle.db_write.proofs.Unchanged.{array_entries}
-use Rattle.db_write.proofs.WithoutZeros.{HasInts, each_ints, entries_ints, normal_ints, nth_ints}
+use Rattle.adb_copy.proofs.WithoutZeros.{HasInts, each_ints, entries_ints, normal_ints, nth_ints}
 
 -- a file of a folder with this name, in whichever container it stands
 pub record IsFileUnder (folder : List ℕ) (v : Plain) : Type 0 where

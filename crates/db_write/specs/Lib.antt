@@ -1,7 +1,7 @@
 -- what the contract of `apk` says
 pub mod NewDatabase
 -- what only inner contracts and proofs use
-pub mod OwnedListings
+pub mod Information
 pub mod SoundMembers
 pub mod Unchanged
 pub mod Written

@@ -8,6 +8,7 @@ use Rattle.adb_fields.specs.FirstPair.{IsIn}
 use Rattle.adb_fields.specs.Repeated.{entries_at}
 use Rattle.adb_schema.specs.SoundContainers.{IsSoundValue}
 use Rattle.db_core.specs.Members.{Listing, Member}
+use Rattle.db_core.specs.OwnedListings.{HaveOneOwner}
 
 -- a package of the value of a sound database
 pub record IsOfSoundDatabase (pkg : Plain) : Type 0 where
@@ -34,11 +35,6 @@ AreOfSoundContainers (m ∷ members) = IsOfSoundContainer m.pkg m.id × AreOfSou
 abbrev pub NoneReserved : List (List ℕ) → Type 0
 NoneReserved [] = Unit {0}
 NoneReserved (path ∷ paths) = (is_reserved path ≡ false) × NoneReserved paths
-
--- no path is that of files of two members
-abbrev pub HaveOneOwner : List Listing → Type 0
-HaveOneOwner listings =
-    (l k : Listing) → IsIn l listings → IsIn k listings → l.path ≡ k.path → l.place ≡ k.place
 
 -- each path has one owner, and none is reserved
 pub record MayBeListed (listings : List Listing) : Type 0 where

@@ -2,27 +2,29 @@
 //! was to be changed.
 ghost use Rattle.adb_copy.specs.Zeros.{without_zeros};
 ghost use Rattle.adb_fields.specs.FirstPair.{IsIn};
-ghost use Rattle.adb_fields.specs.Repeated.{entries_at, list_of, paths_in};
+ghost use Rattle.adb_fields.specs.Repeated.{entries_at, folders_in, list_of, name_of, paths_in};
 ghost use Rattle.adb_rules.specs.Rules.{is_digest_length};
 ghost use Rattle.adb_schema.specs.SoundContainers.{IsSound};
 ghost use Rattle.adb_schema.specs.Soundness.{payload_in, root_value};
 ghost use Rattle.adb_schema.specs.declared.read.TheConstants.{IDB_WORD};
 ghost use Rattle.adb_sound.specs.Root.{IsRootOf};
 ghost use Rattle.adb_tables.specs.Schema.{shape_of};
+ghost use Rattle.adb_tables.specs.Values.{entry_in};
 ghost use Rattle.adb_tables.specs.declared.tables.Kind.TheVariants as Kinds;
 ghost use Rattle.adb_tables.specs.declared.tables.Which.TheVariants as Tables;
 ghost use Rattle.adb_view.specs.Plain.{Plain};
 ghost use Rattle.adb_view.specs.Shaped.{HasShape};
 ghost use Rattle.adb_write.specs.Canonical.{written_of};
 ghost use Rattle.adb_write.specs.File.{file_of};
-ghost use Rattle.db_core.specs.Members.{AreInOrder, Member, member_listings};
-ghost use Rattle.db_write.specs.NewDatabase.{database_of, database_value, packages_after};
-ghost use Rattle.db_write.specs.OwnedListings.{owned_listings, owned_paths};
+ghost use Rattle.db_core.specs.Members.{AreInOrder, Member, coming_member, member_listings, staying_member};
+ghost use Rattle.db_write.specs.Information.{FILE_SIZE, HASHES, file_size_of, hashes_of};
+ghost use Rattle.db_write.specs.NewDatabase.{database_of, database_value, package_after, packages_after};
+ghost use Rattle.db_core.specs.OwnedListings.{owned_listings, owned_paths};
 ghost use Rattle.db_write.specs.SoundMembers.{AreOfSoundContainers, IsOfSoundContainer, MayBeListed};
 ghost use Rattle.db_write.specs.Unchanged.{all_owned, staying_members};
 ghost use Rattle.pkg_core.specs.Whole.{container_fault};
 ghost use Rattle.std.specs.List.{flat_map};
-ghost use Rattle.std.specs.Prelude.{◌≡◌, ◌<◌, ℕ, All, Bool, List, None, Ok, Some, length, true};
+ghost use Rattle.std.specs.Prelude.{◌≡◌, ◌≢◌, ◌<◌, ℕ, All, Bool, List, None, Ok, Some, length, map, true};
 
 use adb_fields::no_name_is_repeated_where_each_stands_once;
 use adb_rules::no_text_is_bad_where_each_keeps_its_rule;
@@ -96,3 +98,41 @@ pub fn a_database_without_changes_stays_the_same()
         (all_owned (staying_members (entries_at 0 v)))
         ≡ Ok (file_of IDB_WORD payload) }
 {}
+
+/// The information of a package in a new database has the id of one that comes as its hash, and of
+/// one that stays its own. The size of its file is as it was, and so is each other field, in which
+/// an integer 0 is Null.
+pub fn a_package_keeps_its_information()
+    ensures comes { (pkg : Plain) (id : List ℕ) (flags : List Bool)
+        → hashes_of (package_after (coming_member pkg id) flags) ≡ id }
+    ensures stays { (pkg : Plain) (flags : List Bool)
+        → hashes_of (package_after (staying_member pkg) flags) ≡ hashes_of pkg }
+    ensures size { (m : Member) (flags : List Bool)
+        → file_size_of (package_after m flags) ≡ file_size_of m.pkg }
+    ensures others { (m : Member) (flags : List Bool) (i : ℕ) → i ≢ HASHES → i ≢ FILE_SIZE
+        → entry_in (entry_in (package_after m flags) 0) i
+        ≡ without_zeros (entry_in (entry_in m.pkg 0) i) }
+{}
+
+/// The folders of a package stay in a new database, also where no file of them is owned, each with
+/// its name and its access list.
+pub fn a_package_keeps_its_folders()
+    ensures names { (m : Member) (flags : List Bool)
+        → map name_of (folders_in (package_after m flags)) ≡ map name_of (folders_in m.pkg) }
+    ensures acls { (m : Member) (flags : List Bool)
+        → map (λ folder. entry_in folder 1) (folders_in (package_after m flags))
+        ≡ map (λ folder. without_zeros (entry_in folder 1)) (folders_in m.pkg) }
+{}
+
+/// A database that was written, and whose value may stand at the root of a container, is written
+/// again alike: read back, with nothing changed, it is the same bytes.
+pub fn a_written_database_is_written_again_alike()
+    ensures { (members : List Member) (flags : List Bool) (bytes : List ℕ)
+        → IsRootOf Tables.Idb (database_value members flags) → database_of members flags ≡ Ok bytes
+        → database_of
+        (staying_members (entries_at 0 (root_value Tables.Idb (payload_in bytes))))
+        (all_owned (staying_members (entries_at 0 (root_value Tables.Idb (payload_in bytes)))))
+        ≡ Ok bytes }
+{
+    what_a_container_is_made_of_is_read_back();
+}

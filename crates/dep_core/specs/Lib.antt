@@ -2,6 +2,7 @@
 pub mod Dependency
 pub mod Reading
 pub mod Value
+pub mod LeadingSlash
 -- what only inner contracts and proofs use
 pub mod DependencyText
 pub mod Spelling

@@ -4,6 +4,7 @@ use Rattle.std.specs.Option.{option_map}
 use Rattle.std.specs.List.{suffix_len, take_while}
 use Rattle.base_core.specs.Name.{is_name}
 use Rattle.dep_core.specs.Dependency.{is_tag_byte, is_tag}
+use Rattle.dep_core.specs.LeadingSlash.{without_slash}
 use Rattle.dep_core.specs.Reading.{rest_behind}
 use Rattle.dep_core.specs.World.{is_blank, lines_of}
 
@@ -29,10 +30,6 @@ is_comment (b ∷ rest) = b == 35
 abbrev pub begins_with_blank : List ℕ → Bool
 begins_with_blank [] = false
 begins_with_blank (b ∷ rest) = is_blank b
-
-abbrev pub without_slash : List ℕ → List ℕ
-without_slash [] = []
-without_slash (b ∷ rest) = if b == 47 then rest else b ∷ rest
 
 -- one leading slash is dropped, and the rest must be a name
 abbrev pub at_path : Option (List ℕ) → List ℕ → Option Repository

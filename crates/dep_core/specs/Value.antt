@@ -11,7 +11,8 @@ pub record DepValue : Type 0 where
   pub version : List ℕ
   pub matching : Option ℕ
 
--- 16 stands for a conflict, and 7 for any version; no number stands for the operator `=` or for none
+-- 16 stands for a conflict, and 7 for any version; no number stands for the operator `=` or for
+-- none
 abbrev pub matching_of : Option (List ℕ) → ℕ → Bool → Option ℕ
 matching_of None bits true = Some 23
 matching_of None bits false = None

@@ -186,6 +186,7 @@ fn has_tag_bytes(tag: &[u8]) -> bool
     tag.iter().all(|byte| is_tag_byte(*byte))
 }
 
+/// Whether a byte may stand in the name of a dependency.
 pub fn is_name_byte(byte: u8) -> bool
     ensures { result ≡ is_name_byte byte }
 {
@@ -196,6 +197,7 @@ pub fn is_name_byte(byte: u8) -> bool
     }
 }
 
+/// Whether a byte may stand in a tag.
 pub fn is_tag_byte(byte: u8) -> bool
     ensures { result ≡ is_tag_byte byte }
 {

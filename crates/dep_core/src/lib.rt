@@ -5,9 +5,9 @@
 //! Bytes come in; `Dep`, `World` and `Repos` go out, and texts of them. A `Dep` borrows and takes
 //! no memory. The contracts cite `specs/`: `Dependency` (the parts and their bytes),
 //! `DependencyText` (the grammar and the text), `Reading`, `Value` and `ValueReading`, `Meets`
-//! (what a `Dep` stands for, and what meets it), `World` and `Repositories`. `Spelling`, `Entries`
-//! and `RepositoryText` say the same apart from how a text is read, and the functions of `laws`
-//! join the two.
+//! (what a `Dep` stands for, and what meets it), `World` and `Repositories`, and `LeadingSlash` (one
+//! slash before a path). `Spelling`, `Entries` and `RepositoryText` say the same apart from how a
+//! text is read, and the functions of `laws` join the two.
 #![tactic(auto)]
 
 mod dep;
@@ -22,6 +22,6 @@ pub use laws::{
     spelled_texts_are_read, texts_are_read_back, values_are_read_back,
     words_of_different_names_are_a_world, worlds_are_read_back, worlds_hold_their_words,
 };
-pub use repos::{Repos, ReposFault};
+pub use repos::{Repos, ReposFault, without_slash};
 pub use text::{dep_of, dep_text, read_dep};
 pub use world::{World, WorldFault};

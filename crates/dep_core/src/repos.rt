@@ -2,8 +2,9 @@
 
 ghost use Rattle.std.specs.Prelude.{◌≡◌, ◌<◌, ◌==◌, ◌++◌, length, slice_get, Some, None, if◌then◌else◌, IfOk, IfErr, option_copied};
 ghost use Rattle.std.specs.Option.{option_map};
-ghost use Rattle.dep_core.specs.Repositories.{at_path, begins_with_blank, is_comment, repositories_of, repositories_on, repository_of, tagged_repository, without_outer_blanks, without_trailing_blanks, without_slash};
+ghost use Rattle.dep_core.specs.Repositories.{at_path, begins_with_blank, is_comment, repositories_of, repositories_on, repository_of, tagged_repository, without_outer_blanks, without_trailing_blanks};
 ghost use Rattle.dep_core.specs.Faults.{IsReposFault};
+ghost use Rattle.dep_core.specs.LeadingSlash.{without_slash};
 
 use crate::dep::is_tag;
 use crate::text::{blank_len, is_blank, tag_len};
@@ -200,7 +201,8 @@ fn at_path(alloc: Global, tag: Option<&[u8]>, path: &[u8]) -> Result<Option<Repo
     Ok(Some(Repo { tag, path }))
 }
 
-fn without_slash(path: &[u8]) -> &[u8]
+/// A text without one leading `/`, which may stand before a path below the root.
+pub fn without_slash(path: &[u8]) -> &[u8]
     ensures { result.now ≡ without_slash path.now }
 {
     match path.split_first() {

@@ -16,17 +16,24 @@ file_target entry = text_in (entry_in entry 5)
 abbrev pub is_link : Plain → Bool
 is_link entry = not (length (file_target entry) == 0)
 
--- what stands for a link: a mark, and the link's text, which follows two bytes of its target
-abbrev pub link_bytes : Plain → List ℕ
-link_bytes entry = codes "!<symlink>" ++ drop 2 (file_target entry)
+-- what stands for a link to a target: a mark, and the link's text, which follows two bytes
+abbrev pub link_to : List ℕ → List ℕ
+link_to target = codes "!<symlink>" ++ drop 2 target
 
--- a link's bytes; bytes with the entry's hash; or, where it has none, no bytes at a size of 0
-unfoldable pub is_as_listed : Plain → List ℕ → Bool
+abbrev pub link_bytes : Plain → List ℕ
+link_bytes entry = link_to (file_target entry)
+
+-- By a size, a hash and a target: a link's bytes; bytes with the hash; or, where there is none, no
+-- bytes at a size of 0.
+unfoldable pub is_as_listed_by : ℕ → List ℕ → List ℕ → List ℕ → Bool
+is_as_listed_by size hash target bytes =
+    if not (length target == 0) then bytes_eq bytes (link_to target)
+    else if length hash == 0 then (size == 0) && (length bytes == 0)
+    else is_none (hash_fault hash bytes)
+
+abbrev pub is_as_listed : Plain → List ℕ → Bool
 is_as_listed entry bytes =
-    if is_link entry then bytes_eq bytes (link_bytes entry)
-    else if length (file_hash entry) == 0
-    then (file_size entry == 0) && (length bytes == 0)
-    else is_none (hash_fault (file_hash entry) bytes)
+    is_as_listed_by (file_size entry) (file_hash entry) (file_target entry) bytes
 
 -- two entries say the same of the bytes: their sizes, hashes and targets are equal
 unfoldable pub do_entries_agree : Plain → Plain → Bool

@@ -1,2 +1,15 @@
 //! Whether a file of a tree has the bytes that a package's entry tells.
+//!
+//! `ListedFile` is what an entry of a file (apk-package(5)) says of its bytes. `compare_file` reads
+//! the file under a name once, piece by piece, and compares it with the entry of the package that
+//! comes and with that of the package before. No memory is taken. The contracts cite `AsListed`
+//! (which bytes are as an entry lists them), `Listed` (the same of a `ListedFile`) and `Watching`
+//! (what is known of a file that is not read whole yet) of `specs/`.
 #![tactic(auto)]
+
+mod compare;
+mod listed;
+mod watch;
+
+pub use compare::{Comparison, compare_file};
+pub use listed::{ListedFile, listed_file};

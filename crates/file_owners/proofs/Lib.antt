@@ -1,3 +1,5 @@
 pub mod OneWay
+mod OneOwner
 pub mod Gathering
 pub mod Claiming
+mod Staying

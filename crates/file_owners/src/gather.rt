@@ -1,6 +1,6 @@
 //! The files that members list, as claims.
 
-ghost use Rattle.std.specs.Prelude.{◌≡◌, ◌<◌, ◌+◌, ◌^◌, [], ◌∷◌, Some, IfOk, length, map, slice_get};
+ghost use Rattle.std.specs.Prelude.{◌≡◌, ◌<◌, ◌+◌, [], ◌∷◌, Some, IfOk, length, map, slice_get};
 ghost use Rattle.adb_fields.specs.Paths.{path_of};
 ghost use Rattle.adb_fields.specs.ListValue.{list_value};
 ghost use Rattle.adb_fields.specs.Repeated.{files_in, list_of, name_of};
@@ -93,7 +93,7 @@ fn add_folder<'a>(
 }
 
 /// Adds the files of folders.
-fn add_folders<'a>(
+pub(crate) fn add_folders<'a>(
     claims: &mut Vec<Claim<'a>>,
     member: u32,
     folders: &List<'a, DirInfo<'a>>,
@@ -114,14 +114,24 @@ fn add_member<'a>(
     members: &Members<'a>,
     i: usize,
 ) -> Result<(), AllocError>
-    requires at { i < length (members_of members.now) }
-    requires few { length (members_of members.now) < 2 ^ 32 }
+    requires { i < length (members_of members.now) }
     ensures { IfOk result (λ _. (m : Member) → slice_get (members_of members.now) i ≡ Some m
         → map claim_seen claims.new.items
         ≡ with_listings (map claim_seen claims.old.items) (listings_by i m)) }
 {
     let view = members.view(i);
-    add_folders(claims, i as u32, &view.paths())
+    add_folders(claims, place_of(members, i), &view.paths())
+}
+
+/// A place among members, as claims have it.
+fn place_of(members: &Members<'_>, i: usize) -> u32
+    requires { i < length (members_of members.now) }
+    ensures { result ≡ i }
+{
+    if i >= members.len() {
+        unreachable!();
+    }
+    i as u32
 }
 
 /// All files that members list.
@@ -129,7 +139,6 @@ pub(crate) fn claims_in<'a>(
     alloc: Global,
     members: &Members<'a>,
 ) -> Result<Vec<Claim<'a>>, AllocError>
-    requires { length (members_of members.now) < 2 ^ 32 }
     ensures { IfOk result (λ claims. map claim_seen claims.items
         ≡ with_listings [] (member_listings (members_of members.now))) }
 {

@@ -1,15 +1,17 @@
 //! Who owns the files that packages list after a change (apk-package(5), "replaces").
 //!
 //! `owners_of_files` takes the packages after a change, those that stay and those that come. It
-//! tells for each file that one of them lists whether that package owns it. The contracts cite
-//! `Replaces` (which package takes over the files of another) and `Owners` of `specs/`.
+//! tells for each file that one of them lists whether that package owns it. `claims_in_database`
+//! gathers the files that the packages of a database list. The contracts cite `Replaces` (which package takes over the files of another) and `Owners` of `specs/`.
 #![tactic(auto)]
 
+mod database;
 mod gather;
 mod laws;
 mod owner;
 mod replaces;
 
-pub use laws::no_two_packages_take_over_from_each_other;
+pub use database::claims_in_database;
+pub use laws::{no_path_is_owned_by_two_members, no_two_packages_take_over_from_each_other};
 pub use owner::owners_of_files;
 pub use path_claims::{Claim, Contested, Owners, Rivals};

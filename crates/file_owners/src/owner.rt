@@ -1,6 +1,6 @@
 //! The owners of the files that members list.
 
-ghost use Rattle.std.specs.Prelude.{◌≡◌, ◌<◌, ◌^◌, Some, IfOk, length, map, option_map, slice_get};
+ghost use Rattle.std.specs.Prelude.{◌≡◌, ◌<◌, Some, IfOk, length, map, option_map, slice_get};
 ghost use Rattle.db_core.specs.Members.{Member};
 ghost use Rattle.db_core.specs.Seen.{members_of};
 ghost use Rattle.list_order.specs.Sorted.{sorted_by};
@@ -51,7 +51,6 @@ fn member_beats(members: &Members<'_>, one: usize, other: usize) -> bool
 ///
 /// Want of memory.
 pub fn owners_of_files<'a>(alloc: Global, members: &Members<'a>) -> Result<Owners<'a>, AllocError>
-    requires { length (members_of members.now) < 2 ^ 32 }
     ensures claims { IfOk result (λ found. map claim_seen found.claims.items
         ≡ sorted_by claim_cmp (claims_in (members_of members.now))) }
     ensures owners { IfOk result (λ found. found.owners.items

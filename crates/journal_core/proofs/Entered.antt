@@ -1,16 +1,16 @@
 -- What each call keeps while an intent comes to stand under its name.
-use Rattle.std.proofs.Common.{◌≡◌, ◌≢◌, ◌⊎◌, ◌||◌, inl, inr, ⊎_elim, ℕ, ◌+◌, Bool, true, false, cond, List, [], ◌∷◌, Option, None, Some, Result, Ok, Err, OnOk, refl, sym, ap, subst, ◌∙◌, arith}
+use Rattle.std.proofs.Common.{◌≡◌, ◌≢◌, ◌⊎◌, ◌||◌, inl, inr, ⊎_elim, ℕ, ◌≤◌, ◌+◌, Bool, true, false, cond, List, [], ◌∷◌, Option, None, Some, Result, Ok, Err, OnOk, refl, sym, ap, subst, ◌∙◌, arith}
 use Rattle.std.specs.List.{list_any}
 use Rattle.std.specs.Str.{bytes_eq}
 use Rattle.base_core.specs.Files.{Files, NameMap, put_name, drop_name, move_name}
 use Rattle.base_core.specs.Tree.{TreeState, File, IsMapOf, bytes_at, files_by, files_of, with_names, after_rename, move_at, after_sync_names, same_state, Anywhere, CanRename}
 use Rattle.base_core.specs.Calls.{HasNow, Moves}
 use Rattle.base_core.specs.Crash.{IsImage, IsOrderly, Since}
-use Rattle.journal_core.specs.Entering.{IsEntered, IsEntering, IsReady, Leads}
+use Rattle.journal_core.specs.Entering.{IsEntered, IsEntering, IsReady}
 use Rattle.journal_core.specs.Acting.{acting_stage}
 use Rattle.journal_core.specs.Recovery.{Intent, IsPlaceOf, RestsOn, after_actions, intent_name, intent_at, intent_of, is_staged, read_intent, recovered_files, recovered_files_by, stage_name, state_of, after_moves, without_names}
 use Rattle.journal_core.specs.Quiet.{IsStill}
-use Rattle.journal_core.specs.Staged.{IsActing}
+use Rattle.journal_core.specs.Staged.{IsActing, Publishes}
 use Rattle.journal_core.proofs.Agree.{agree-without, agree-unstaged}
 use Rattle.journal_intent.proofs.AtName.{name_cases, off_name, put_name-at, put_name-off, drop_name-at, drop_name-off}
 use Rattle.journal_core.proofs.Acts.{files-moved, state_same, still_on, sync_acting, sync_still}
@@ -97,8 +97,8 @@ module _ (intent : Intent) (base : Files) (made : ℕ) (v : TreeState) (ready : 
     done = record { removed = λ i name below is. absurd (omega (arith, below)); moved = λ k from until. absurd (omega (arith, from, until)) };
   }
 
-  leads_at : Leads made (with_names v entered_map)
-  leads_at = (ready.number, put_name-at (drop_name v.names (stage_name 0)) intent_name ready.number intent_name refl, ready.later)
+  entered_at : (n : ℕ) × (entered_map intent_name ≡ Some n) × (made ≤ n)
+  entered_at = (ready.number, put_name-at (drop_name v.names (stage_name 0)) intent_name ready.number intent_name refl, ready.later)
 
   module _ (ignored : List ℕ → Bool) (orderly : IsOrderly (RestsOn ignored) v) where
     state_new : state_of ignored (files_by v entered_map) ≡ state_of ignored (after_actions intent base)
@@ -176,23 +176,24 @@ module _ (laws : CrashLaws) (ignored : List ℕ → Bool) (intent : Intent) (bas
     orderly : IsOrderly (RestsOn ignored) w
     moment : P w
     state : state_of ignored (files_of w) ≡ state_of ignored G
-    leads : Leads made w
+    publishes : Publishes ignored G made w
 
   behind_at : (v : TreeState) (b : Before v) → Behind (with_names v (entered_map intent base made v b.ready))
   behind_at v b =
       let orderly = orderly_at intent base made v b.ready ignored b.still.orderly in
       let new_state = state_new intent base made v b.ready ignored b.still.orderly in
-      let leads = leads_at intent base made v b.ready in
+      let (n, at, later) = entered_at intent base made v b.ready in
+      let publishes : Publishes ignored G made (with_names v (entered_map intent base made v b.ready)) = (n, at, later, new_state) in
       record {
         orderly = orderly;
         moment = record {
           orderly = orderly;
           old_or_new = old_or_new_by_maps laws ignored start G (with_names v (entered_map intent base made v b.ready)) orderly (states new_state);
-          unpublished = λ unled. absurd (unled leads);
+          unpublished = λ unled. absurd (unled publishes);
           made = b.still.made;
         };
         state = new_state;
-        leads = leads;
+        publishes = publishes;
       }
     where
       states : state_of ignored (files_by v (entered_map intent base made v b.ready)) ≡ state_of ignored G → (x : NameMap) → IsMapOf (with_names v (entered_map intent base made v b.ready)) x
@@ -219,15 +220,15 @@ module _ (laws : CrashLaws) (ignored : List ℕ → Bool) (intent : Intent) (bas
         moment = record {
           orderly = orderly;
           old_or_new = λ image (m, among, by). b.moment.old_or_new image (m, only_map w m among, by);
-          unpublished = λ unled. absurd (unled b.leads);
+          unpublished = λ unled. absurd (unled b.publishes);
           made = b.moment.made;
         };
         state = b.state;
-        leads = b.leads;
+        publishes = b.publishes;
       }
 
   entered : (w : TreeState) → Behind w → IsEntered ignored G made (after_sync_names w)
-  entered w b = record { settled = settled_by_maps laws ignored G (after_sync_names w) (behind_synced w b).orderly only; leads = b.leads }
+  entered w b = record { settled = settled_by_maps laws ignored G (after_sync_names w) (behind_synced w b).orderly only; publishes = b.publishes }
     where
       only : (m : NameMap) → IsMapOf (after_sync_names w) m → state_of ignored (files_by w m) ≡ state_of ignored G
       only m (inl is) = ap (λ (y : NameMap). state_of ignored (files_by w y)) is ∙ b.state

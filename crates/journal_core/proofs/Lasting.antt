@@ -32,10 +32,10 @@ or_right : (a b : Bool) → (a || b) ≡ false → b ≡ false
 or_right true b e = cc
 or_right false b e = e
 
-off_first : (q a : List ℕ) (rest : List (List ℕ)) → IsNoneOf q (a ∷ rest) → q ≢ a
+pub off_first : (q a : List ℕ) (rest : List (List ℕ)) → IsNoneOf q (a ∷ rest) → q ≢ a
 off_first q a rest none = off_name q a (or_left (bytes_eq q a) (list_any (bytes_eq q) rest) none)
 
-off_rest : (q a : List ℕ) (rest : List (List ℕ)) → IsNoneOf q (a ∷ rest) → IsNoneOf q rest
+pub off_rest : (q a : List ℕ) (rest : List (List ℕ)) → IsNoneOf q (a ∷ rest) → IsNoneOf q rest
 off_rest q a rest none = or_right (bytes_eq q a) (list_any (bytes_eq q) rest) none
 
 -- ---- one step

@@ -8,7 +8,7 @@ use Rattle.base_core.specs.Files.{NameMap, drop_name}
 use Rattle.base_core.specs.Listed.{AreNamesBelow}
 use Rattle.base_core.specs.Tree.{TreeState, after_remove, after_rename, after_sync_names, bytes_at, files_of, move_at, remove_at, same_state, Anywhere}
 use Rattle.journal_core.specs.Acting.{MovesIfThere}
-use Rattle.journal_core.specs.Kept.{IsLessWaiting, KeepsIntent, NamesLastBut, ShownNamesLast}
+use Rattle.journal_core.specs.Kept.{IsLessWaiting, IsWaitingName, KeepsIntent, NamesLastBut, ShownNamesLast}
 use Rattle.journal_core.specs.Recovering.{AllStaged, IsReplayed}
 use Rattle.journal_core.specs.Recovery.{Intent, intent_name, is_staged, stage_folder, stage_name}
 use Rattle.journal_core.proofs.Acts.{free_at}
@@ -23,7 +23,7 @@ use Rattle.journal_core.proofs.Replayed.{IsProper, proper_of}
 use Rattle.journal_core.proofs.Steps.{remove_others}
 use Rattle.journal_intent.proofs.AtName.{name_cases, off_name, other_name, put_name-off, drop_name-off}
 use Rattle.journal_intent.proofs.StageNames.{stage_name_no_intent}
-use Rattle.journal_intent.specs.FreeNames.{HasFreeNames, IsFreeName, IsTakenName}
+use Rattle.journal_intent.specs.FreeNames.{HasFreeNames, IsFreeName}
 
 -- ---- a relation of the start and each moment since
 
@@ -45,10 +45,10 @@ told_called R old new r moves keeps fails = on_observable old _ (λ v rest is. o
 -- ---- what waits
 
 pub less_same : (v : TreeState) → IsLessWaiting v v
-less_same v q taken = inr refl
+less_same v q waits = inr refl
 
 pub less_on : (a b c : TreeState) → IsLessWaiting a b → IsLessWaiting b c → IsLessWaiting a c
-less_on a b c first then q taken = ⊎_elim (λ none. inl none) (λ is. ⊎_elim (λ none. inl (is ∙ none)) (λ was. inr (is ∙ was)) (first q taken)) (then q taken)
+less_on a b c first then q waits = ⊎_elim (λ none. inl none) (λ is. ⊎_elim (λ none. inl (is ∙ none)) (λ was. inr (is ∙ was)) (first q waits)) (then q waits)
 
 pub keeps_same : (v : TreeState) → KeepsIntent v v
 keeps_same v = record { intent = refl; waiting = less_same v }
@@ -57,7 +57,7 @@ pub keeps_on : (a b c : TreeState) → KeepsIntent a b → KeepsIntent b c → K
 keeps_on a b c first then = record { intent = then.intent ∙ first.intent; waiting = less_on a b c first.waiting then.waiting }
 
 less_removed_at : (name : List ℕ) (v : TreeState) (o : Option ℕ) → v.names name ≡ o → IsLessWaiting v (remove_at name v o)
-less_removed_at name v o is q taken = ⊎_elim
+less_removed_at name v o is q waits = ⊎_elim
     (λ at. inl (ap (files_of (remove_at name v o)) at ∙ ap (bytes_at (remove_at name v o).files) (removed_absent name v o is)))
     (λ off. inr (remove_others name v o q (off_name q name off)))
     (name_cases q name)
@@ -65,8 +65,11 @@ less_removed_at name v o is q taken = ⊎_elim
 pub less_removed : (name : List ℕ) (v : TreeState) → IsLessWaiting v (after_remove name v)
 less_removed name v = less_removed_at name v (v.names name) refl
 
-taken_off : (name : List ℕ) → IsFreeName name → (q : List ℕ) → IsTakenName q → q ≢ name
-taken_off name free q taken e = ⊎_elim (λ is. free.no_intent (sym e ∙ is)) (λ place. free.no_place place.0 (sym e ∙ place.1)) taken
+true_false : true ≡ false → ⊥
+true_false e = cc
+
+waiting_off : (name : List ℕ) → IsFreeName name → (q : List ℕ) → IsWaitingName q → q ≢ name
+waiting_off name free q waits e = ⊎_elim (λ is. free.no_intent (sym e ∙ is)) (λ staged. true_false (sym staged ∙ ap is_staged e ∙ free.unstaged)) waits
 
 names_removed : (name : List ℕ) (v : TreeState) (o : Option ℕ) (q : List ℕ) → q ≢ name → (remove_at name v o).names q ≡ v.names q
 names_removed name v None q off = refl
@@ -78,19 +81,19 @@ names_moved from to v (Some n) q nf nt = put_name-off (drop_name v.names from) t
 
 keeps_removed_free : (name : List ℕ) → IsFreeName name → (v : TreeState) → KeepsIntent v (after_remove name v)
 keeps_removed_free name free v = record {
-  intent = names_removed name v (v.names name) intent_name (taken_off name free intent_name (inl refl));
+  intent = names_removed name v (v.names name) intent_name (waiting_off name free intent_name (inl refl));
   waiting = less_removed name v;
 }
 
 less_moved_at : (k : ℕ) (from to : List ℕ) → from ≡ stage_name k → IsFreeName to → (v : TreeState) (o : Option ℕ) → v.names from ≡ o → IsLessWaiting v (move_at from to v o)
-less_moved_at k from to from_is free v o is q taken = ⊎_elim
-    (λ at. inl (ap (files_of (move_at from to v o)) at ∙ ap (bytes_at (move_at from to v o).files) (moved_absent from to v o is (taken_off to free from (inr (k, from_is))))))
-    (λ off. inr (moved_others from to v o q (off_name q from off) (taken_off to free q taken)))
+less_moved_at k from to from_is free v o is q waits = ⊎_elim
+    (λ at. inl (ap (files_of (move_at from to v o)) at ∙ ap (bytes_at (move_at from to v o).files) (moved_absent from to v o is (waiting_off to free from (inr (ap is_staged from_is))))))
+    (λ off. inr (moved_others from to v o q (off_name q from off) (waiting_off to free q waits)))
     (name_cases q from)
 
 keeps_moved_free : (k : ℕ) (from to : List ℕ) → from ≡ stage_name k → IsFreeName to → (v : TreeState) → KeepsIntent v (after_rename from to v)
 keeps_moved_free k from to from_is free v = record {
-  intent = names_moved from to v (v.names from) intent_name (λ e. stage_name_no_intent k (sym (e ∙ from_is))) (taken_off to free intent_name (inl refl));
+  intent = names_moved from to v (v.names from) intent_name (λ e. stage_name_no_intent k (sym (e ∙ from_is))) (waiting_off to free intent_name (inl refl));
   waiting = less_moved_at k from to from_is free v (v.names from) refl;
 }
 
@@ -118,7 +121,7 @@ module _ (intent : Intent) (free : HasFreeNames intent) (few : length intent.rem
 -- ---- the end of a stage
 
 pub sync_waiting : {T E : Type 0} (old new : History) (r : Result T E) → Moves Anywhere after_sync_names same_state old new r → IfObservable old (λ v. Since (IsLessWaiting v) old new)
-sync_waiting old new r moves = told_called IsLessWaiting old new r moves (λ v q taken. inr refl) less_same
+sync_waiting old new r moves = told_called IsLessWaiting old new r moves (λ v q waits. inr refl) less_same
 
 pub remove_waiting : {T E : Type 0} (name : List ℕ) (old new : History) (r : Result T E) → Moves Anywhere (after_remove name) (after_remove name) old new r → IfObservable old (λ v. Since (IsLessWaiting v) old new)
 remove_waiting name old new r moves = told_called IsLessWaiting old new r moves (less_removed name) (less_removed name)
@@ -177,9 +180,6 @@ pub lasts_none : (old new : History) → new ≡ old → Lasts old new
 lasts_none old new same = on_observable old _ (λ v rest is some. no_more LastsUnread old old new (none_since LastsUnread old) same)
 
 -- what waits is taken away behind it
-true_false : true ≡ false → ⊥
-true_false e = cc
-
 shown_removed_at : (name : List ℕ) → is_staged name ≡ true → (v : TreeState) (o : Option ℕ) → ShownNamesLast v → ShownNamesLast (remove_at name v o)
 shown_removed_at name waits v None last map among q off unstaged = last map among q off unstaged
 shown_removed_at name waits v (Some n) last map (inl is) q off unstaged = ap (λ (m : NameMap). m q) is

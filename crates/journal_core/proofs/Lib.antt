@@ -22,6 +22,7 @@ pub mod Joined
 pub mod Keeping
 pub mod Lasting
 pub mod Leaving
+pub mod Maps
 pub mod More
 pub mod OnTheWay
 pub mod OneCall

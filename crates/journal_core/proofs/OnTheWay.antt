@@ -5,10 +5,10 @@ use Rattle.std.proofs.lemmas.List.Elements.{All-head, All-tail}
 use Rattle.base_core.specs.Files.{Files}
 use Rattle.base_core.specs.Tree.{TreeState, files_of}
 use Rattle.base_core.specs.Crash.{Since}
-use Rattle.base_core.specs.Restart.{EachMoment, HasLed, SinceBy}
+use Rattle.base_core.specs.Restart.{EachMoment, SinceBy}
 use Rattle.journal_core.specs.Quiet.{IsStill}
 use Rattle.journal_core.specs.Recovery.{IsSettled, intent_name}
-use Rattle.journal_core.specs.Staged.{IsOnTheWay, IsStaged, PublishedBy, new_stage}
+use Rattle.journal_core.specs.Staged.{HasPublished, IsOnTheWay, IsStaged, PublishedBy, new_stage}
 use Rattle.journal_core.proofs.Compose.{quiet_then, settled_quiet}
 use Rattle.journal_core.proofs.Images.{quiet_on}
 
@@ -16,27 +16,27 @@ pub nothing_staged : (removals writes : List (List ℕ)) (v : TreeState) → fil
 nothing_staged removals writes v none = record { count = refl; absent = none; reads = refl; synced = λ k n from until at. absurd (omega (arith, from, until)); alone = tt }
 
 -- a file that was made later, at one of these moments
-led_among : (a b : ℕ) (moments first : List TreeState) → a ≤ b → HasLed intent_name b moments → HasLed intent_name a (moments ++ first)
-led_among a b [] first less led = absurd led
-led_among a b (v ∷ moments) first less (inl (n, there, made)) = inl (n, there, omega (arith, less, made))
-led_among a b (v ∷ moments) first less (inr led) = inr (led_among a b moments first less led)
+published_among : (ignored : List ℕ → Bool) (files : Files) (a b : ℕ) (moments first : List TreeState) → a ≤ b → HasPublished ignored files b moments → HasPublished ignored files a (moments ++ first)
+published_among ignored files a b [] first less published = absurd published
+published_among ignored files a b (v ∷ moments) first less (inl (n, there, made, same)) = inl (n, there, omega (arith, less, made), same)
+published_among ignored files a b (v ∷ moments) first less (inr published) = inr (published_among ignored files a b moments first less published)
 
 pub way_before : (ignored : List ℕ → Bool) (files : Files) (start v w : TreeState) (earlier first : List TreeState) → IsStill ignored start v → IsOnTheWay ignored files v earlier w → IsOnTheWay ignored files start (earlier ++ first) w
 way_before ignored files start v w earlier first still way = record {
   orderly = way.orderly;
   old_or_new = quiet_then ignored start v w files still.quiet way.old_or_new;
-  unpublished = λ unled. quiet_on ignored start v w still.quiet (way.unpublished (λ led. unled (led_among start.made v.made (w ∷ earlier) first still.made led)));
+  unpublished = λ unled. quiet_on ignored start v w still.quiet (way.unpublished (λ published. unled (published_among ignored files start.made v.made (w ∷ earlier) first still.made published)));
   made = (let a = still.made in let b = way.made in omega (arith, a, b));
 }
 
 -- ---- behind a publishing
 
-led_more : (made : ℕ) (more first : List TreeState) → HasLed intent_name made first → HasLed intent_name made (more ++ first)
-led_more made [] first led = led
-led_more made (w ∷ more) first led = inr (led_more made more first led)
+published_more : (ignored : List ℕ → Bool) (files : Files) (made : ℕ) (more first : List TreeState) → HasPublished ignored files made first → HasPublished ignored files made (more ++ first)
+published_more ignored files made [] first published = published
+published_more ignored files made (w ∷ more) first published = inr (published_more ignored files made more first published)
 
 module _ (ignored : List ℕ → Bool) (files : Files) (start v : TreeState) (settled : IsSettled ignored files v) (later : start.made ≤ v.made) where
-  behind : (earlier : List TreeState) (w : TreeState) → HasLed intent_name start.made earlier → IsStill ignored v w → IsOnTheWay ignored files start earlier w
+  behind : (earlier : List TreeState) (w : TreeState) → HasPublished ignored files start.made earlier → IsStill ignored v w → IsOnTheWay ignored files start earlier w
   behind earlier w led still = record {
     orderly = still.orderly;
     old_or_new = λ image is. inr (settled_quiet ignored files v w settled still.quiet image is);
@@ -44,11 +44,11 @@ module _ (ignored : List ℕ → Bool) (files : Files) (start v : TreeState) (se
     made = (let more = still.made in omega (arith, later, more));
   }
 
-  each_behind : (added first : List TreeState) → HasLed intent_name start.made first → All (IsStill ignored v) added → EachMoment (IsOnTheWay ignored files start) first → EachMoment (IsOnTheWay ignored files start) (added ++ first)
+  each_behind : (added first : List TreeState) → HasPublished ignored files start.made first → All (IsStill ignored v) added → EachMoment (IsOnTheWay ignored files start) first → EachMoment (IsOnTheWay ignored files start) (added ++ first)
   each_behind [] first led all so_far = so_far
-  each_behind (w ∷ added) first led all so_far = (behind (added ++ first) w (led_more start.made added first led) (All-head (IsStill ignored v) w added all), each_behind added first led (All-tail (IsStill ignored v) w added all) so_far)
+  each_behind (w ∷ added) first led all so_far = (behind (added ++ first) w (published_more ignored files start.made added first led) (All-head (IsStill ignored v) w added all), each_behind added first led (All-tail (IsStill ignored v) w added all) so_far)
 
-  pub way_behind : (old mid new : List TreeState) → PublishedBy start.made (IsOnTheWay ignored files start) old mid → Since (IsStill ignored v) mid new → SinceBy (IsOnTheWay ignored files start) old new
+  pub way_behind : (old mid new : List TreeState) → PublishedBy ignored files start old mid → Since (IsStill ignored v) mid new → SinceBy (IsOnTheWay ignored files start) old new
   way_behind old mid new published still = record {
     added = still.added ++ published.added;
     is = still.is ∙ ap (λ (l : List TreeState). still.added ++ l) published.is ∙ sym (append_assoc still.added published.added old);

@@ -7,14 +7,14 @@ use Rattle.base_core.specs.Files.{Files, put_name, drop_name}
 use Rattle.base_core.specs.Tree.{TreeState, File, bytes_at, files_of, CanCreate, CanRename}
 use Rattle.base_core.specs.Calls.{IfObservable, HasNow}
 use Rattle.base_core.specs.Crash.{IsOrderly, Since}
-use Rattle.base_core.specs.Restart.{EachMoment, HasLed, SinceBy}
-use Rattle.journal_core.specs.Entering.{IsEntered, IsEntering, IsReady, IsWritten, Leads}
+use Rattle.base_core.specs.Restart.{EachMoment, SinceBy}
+use Rattle.journal_core.specs.Entering.{IsEntered, IsEntering, IsReady, IsWritten}
 use Rattle.journal_core.specs.Filling.{synced_file}
 use Rattle.journal_core.specs.Acting.{acting_stage}
 use Rattle.journal_core.specs.Recovery.{Intent, IsSettled, RestsOn, after_actions, intent_name, read_intent, stage_name}
 use Rattle.journal_core.specs.Quiet.{IsStill}
 use Rattle.journal_intent.specs.FreeNames.{HasFreeNames}
-use Rattle.journal_core.specs.Staged.{Staging, HasRoomToStage, IsActing, MayBePresent, IsOnTheWay, IsStaged, PublishedBy}
+use Rattle.journal_core.specs.Staged.{Staging, HasPublished, HasRoomToStage, IsActing, MayBePresent, IsOnTheWay, IsStaged, PublishedBy, Publishes}
 use Rattle.journal_core.proofs.Again.{acting_as}
 use Rattle.journal_intent.proofs.AtName.{name_cases, off_name, put_name-off, drop_name-off}
 use Rattle.journal_core.proofs.Beside.{can_make, held_like, read_held}
@@ -42,7 +42,7 @@ entering_on_the_way : (ignored : List ℕ → Bool) (G : Files) (v u w : TreeSta
 entering_on_the_way ignored G v u w still entering earlier = record {
   orderly = entering.orderly;
   old_or_new = quiet_then ignored v u w G still.quiet entering.old_or_new;
-  unpublished = λ unled. quiet_on ignored v u w still.quiet (entering.unpublished (λ leads. unled (inl leads)));
+  unpublished = λ unled. quiet_on ignored v u w still.quiet (entering.unpublished (λ publishes. unled (inl publishes)));
   made = (let a = still.made in let b = entering.made in omega (arith, a, b));
 }
 
@@ -142,17 +142,17 @@ module _ (stage : Staging) (contents : List (List ℕ)) (base : Files) (v : Tree
           by (Ok x) now = now_map new (IsEntered ignored G v.made) (IsSettled ignored G) now (λ w e. e.settled)
           by (Err e) now = tt
 
-      unled : Leads v.made v → ⊥
-      unled (n, at, from) = let none = absent_read v.files (v.names intent_name) none_read in absurd (cc (none, at))
+      unled : Publishes ignored G v.made v → ⊥
+      unled (n, at, from, same) = let none = absent_read v.files (v.names intent_name) none_read in absurd (cc (none, at))
 
-      led : (added : History) → HasNow (added ++ v ∷ rest) (IsEntered ignored G v.made) → HasLed intent_name v.made added
-      led [] now = absurd (unled now.leads)
-      led (w ∷ added) now = inl now.leads
+      led : (added : History) → HasNow (added ++ v ∷ rest) (IsEntered ignored G v.made) → HasPublished ignored G v.made added
+      led [] now = absurd (unled now.publishes)
+      led (w ∷ added) now = inl now.publishes
 
-      pub enter_published : {T E : Type 0} (r : Result T E) → Written → Enters → Entered r → OnOk r (PublishedBy v.made (IsOnTheWay ignored G v) old new)
+      pub enter_published : {T E : Type 0} (r : Result T E) → Written → Enters → Entered r → OnOk r (PublishedBy ignored G v old new)
       enter_published {T = T} {E = E} r written enters entered = by r (entered_now r written entered)
         where
-          by : (s : Result T E) → OnOk s (HasNow new (IsEntered ignored G v.made)) → OnOk s (PublishedBy v.made (IsOnTheWay ignored G v) old new)
+          by : (s : Result T E) → OnOk s (HasNow new (IsEntered ignored G v.made)) → OnOk s (PublishedBy ignored G v old new)
           by (Ok x) now =
               let since = enter_moments written enters in
               let here : HasNow (since.added ++ v ∷ rest) (IsEntered ignored G v.made) = subst (λ (l : History). HasNow l (IsEntered ignored G v.made)) (since.is ∙ ap (λ (l : History). since.added ++ l) is) now in

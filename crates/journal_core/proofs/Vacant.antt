@@ -3,20 +3,20 @@ use Rattle.std.proofs.Common.{◌≡◌, ◌≢◌, ◌⊎◌, inl, inr, ⊎_eli
 use Rattle.std.specs.Str.{bytes_eq}
 use Rattle.std.proofs.lemmas.List.{length-append}
 use Rattle.base_core.specs.Files.{Files, IsFolderOf, no_names, put_name}
-use Rattle.base_core.specs.Restart.{HasLed}
-use Rattle.base_core.specs.Tree.{TreeState}
-use Rattle.journal_core.specs.Recovery.{intent_name, stage_name}
+use Rattle.base_core.specs.Tree.{TreeState, files_of}
+use Rattle.journal_core.specs.Recovery.{intent_name, stage_name, state_of}
 use Rattle.journal_core.specs.Replacing.{HasRoom, scratch_of}
-use Rattle.journal_core.specs.Staged.{HasRoomBeside, HasRoomToStage, MayBePresent}
+use Rattle.journal_core.specs.Staged.{HasPublished, HasRoomBeside, HasRoomToStage, MayBePresent}
 use Rattle.journal_intent.proofs.AtName.{name_cases, off_name, put_name-off}
 use Rattle.journal_intent.specs.FreeNames.{IsTakenName}
 
-pub now_led : (made n : ℕ) (v : TreeState) (earlier : List TreeState) → v.names intent_name ≡ Some n → made ≤ n → HasLed intent_name made (v ∷ earlier)
-now_led made n v earlier there late = inl (n, there, late)
+pub now_published : (ignored : List ℕ → Bool) (files : Files) (made n : ℕ) (v : TreeState) (earlier : List TreeState) → v.names intent_name ≡ Some n → made ≤ n → state_of ignored (files_of v) ≡ state_of ignored files
+    → HasPublished ignored files made (v ∷ earlier)
+now_published ignored files made n v earlier there late same = inl (n, there, late, same)
 
-pub none_led : (made : ℕ) (v : TreeState) → v.names intent_name ≡ None → HasLed intent_name made (v ∷ []) → ⊥
-none_led made v none (inl led) = let there = led.1 in cc (none, there)
-none_led made v none (inr led) = led
+pub none_published : (ignored : List ℕ → Bool) (files : Files) (made : ℕ) (v : TreeState) → v.names intent_name ≡ None → HasPublished ignored files made (v ∷ []) → ⊥
+none_published ignored files made v none (inl published) = let there = published.1 in cc (none, there)
+none_published ignored files made v none (inr published) = published
 
 taken : (q : List ℕ) → MayBePresent no_names q → IsTakenName q
 taken q (inl some) = absurd (cc (some))

@@ -7,6 +7,7 @@ use Rattle.journal_core.specs.Filling.{synced_file}
 use Rattle.journal_core.specs.Recovery.{Intent, IsOldOrNew, IsSettled, RestsOn, intent_name, read_intent, stage_name}
 use Rattle.journal_intent.specs.FreeNames.{HasFreeNames}
 use Rattle.journal_core.specs.Quiet.{IsQuiet}
+use Rattle.journal_core.specs.Staged.{Publishes}
 
 -- a new file stands under the name, where none stood, and nothing else changed
 pub record IsWritten (place : List ℕ) (file : File) (start v : TreeState) : Type 0 where
@@ -35,20 +36,16 @@ pub record IsReady (intent : Intent) (base : Files) (made : ℕ) (v : TreeState)
   pub few : length intent.writes < 2 ^ 63
   pub free : HasFreeNames intent
 
--- the intent that is read is a file that was made as this number or later
-abbrev pub Leads : ℕ → TreeState → Type 0
-Leads made v = (n : ℕ) × (v.names intent_name ≡ Some n) × (made ≤ n)
-
 -- a moment at which it moves to its name
 pub record IsEntering (ignored : List ℕ → Bool) (files : Files) (number : ℕ)
     (start v : TreeState) : Type 0 where
   pub orderly : IsOrderly (RestsOn ignored) v
   pub old_or_new : IsOldOrNew ignored start files v
-  pub unpublished : (Leads number v → ⊥) → IsQuiet ignored start v
+  pub unpublished : (Publishes ignored files number v → ⊥) → IsQuiet ignored start v
   pub made : start.made ≤ v.made
 
 -- one at which no crash undoes this
 pub record IsEntered (ignored : List ℕ → Bool) (files : Files) (made : ℕ)
     (v : TreeState) : Type 0 where
   pub settled : IsSettled ignored files v
-  pub leads : Leads made v
+  pub publishes : Publishes ignored files made v

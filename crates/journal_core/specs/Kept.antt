@@ -1,9 +1,9 @@
 -- What a call of a stage keeps: the files under other names, and the names that no crash undoes.
-use Rattle.std.specs.Prelude.{◌≡◌, ◌≢◌, ◌⊎◌, ℕ, ◌+◌, false, List, length, None, Some, slice_get}
+use Rattle.std.specs.Prelude.{◌≡◌, ◌≢◌, ◌⊎◌, ℕ, ◌+◌, true, false, List, [], length, None, Some, slice_get}
 use Rattle.base_core.specs.Files.{Files, NameMap}
 use Rattle.base_core.specs.Tree.{TreeState, IsMapOf, files_of}
 use Rattle.journal_core.specs.Recovery.{Intent, intent_name, is_staged, recovered_files, stage_name}
-use Rattle.journal_intent.specs.FreeNames.{IsNoneOf, IsTakenName}
+use Rattle.journal_intent.specs.FreeNames.{IsNoneOf}
 
 -- ---- the files as read
 
@@ -23,9 +23,13 @@ IsOfAction intent acted q =
 abbrev pub RecoversTo : Files → TreeState → Type 0
 RecoversTo files v = recovered_files (files_of v) ≡ files
 
--- the intent, and each file that waits, is as it was or is gone
+-- the intent's name, or one below the stage
+abbrev pub IsWaitingName : List ℕ → Type 0
+IsWaitingName name = (name ≡ intent_name) ⊎ (is_staged name ≡ true)
+
+-- the intent, and each file below the stage, is as it was or is gone
 abbrev pub IsLessWaiting : TreeState → TreeState → Type 0
-IsLessWaiting start v = (q : List ℕ) → IsTakenName q
+IsLessWaiting start v = (q : List ℕ) → IsWaitingName q
     → (files_of v q ≡ None) ⊎ (files_of v q ≡ files_of start q)
 
 -- the intent stays, and each file that waits stays or goes
@@ -45,6 +49,23 @@ abbrev pub ShownNamesLast : TreeState → Type 0
 ShownNamesLast v = (map : NameMap) → IsMapOf v map → (q : List ℕ) → q ≢ intent_name
     → is_staged q ≡ false → map q ≡ v.names q
 
+-- and each of these but some
+abbrev pub ShownNamesLastBut : List (List ℕ) → TreeState → Type 0
+ShownNamesLastBut these v = (map : NameMap) → IsMapOf v map → (q : List ℕ) → IsNoneOf q these
+    → q ≢ intent_name → is_staged q ≡ false → map q ≡ v.names q
+
 -- no crash brings the name back
 abbrev pub IsInNoMap : List ℕ → TreeState → Type 0
 IsInNoMap name v = (map : NameMap) → IsMapOf v map → map name ≡ None
+
+-- each map is one from before, but for these names: so a crash leaves each other name where it
+-- might have left it before
+abbrev pub KeepsMapsBut : List (List ℕ) → TreeState → TreeState → Type 0
+KeepsMapsBut these start v = (map : NameMap) → IsMapOf v map
+    → (was : NameMap) × IsMapOf start was × ((q : List ℕ) → IsNoneOf q these → map q ≡ was q)
+
+-- there is one map of names, so no crash undoes a change of them; and the file under this name is
+-- synced
+pub record IsSyncedAt (name : List ℕ) (v : TreeState) : Type 0 where
+  pub one_map : v.older ≡ []
+  pub file : (n : ℕ) → v.names name ≡ Some n → (v.files n).synced ≡ true

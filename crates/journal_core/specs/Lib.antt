@@ -3,7 +3,6 @@ pub mod Recovery
 pub mod Replacing
 pub mod Quiet
 pub mod Staged
--- what the contracts of a stage and of a recovery say besides; that of `apk` does not reach it yet
 pub mod Kept
 -- what only inner contracts and proofs use
 pub mod Reading

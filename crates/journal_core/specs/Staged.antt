@@ -4,11 +4,11 @@ use Rattle.std.specs.Prelude.{◌≡◌, ◌⊎◌, ◌≤◌, ◌<◌, ℕ, ◌
 use Rattle.base_core.specs.Files.{Files, NameMap, IsFolderOf, put_name}
 use Rattle.base_core.specs.Tree.{TreeState, IsMapOf, files_by, files_of}
 use Rattle.base_core.specs.Crash.{IsOrderly}
-use Rattle.base_core.specs.Restart.{EachMoment, HasLed}
+use Rattle.base_core.specs.Restart.{EachMoment}
 use Rattle.base_core.specs.declared.cause.Cause.{Cause}
 use Rattle.adb_schema.specs.Soundness.{first_fault}
 use Rattle.adb_tables.specs.declared.tables.Which.TheVariants.{Intent as IntentTable}
-use Rattle.journal_core.specs.Recovery.{Intent, IsOldOrNew, IsPlaceOf, RestsOn, intent_name, intent_of, is_staged, recovered_files, stage_name}
+use Rattle.journal_core.specs.Recovery.{Intent, IsOldOrNew, IsPlaceOf, RestsOn, intent_name, intent_of, is_staged, recovered_files, stage_name, state_of}
 use Rattle.journal_core.specs.Quiet.{IsQuiet}
 
 -- a stage as its calls see it: what it is to do, how many of its writes have their files, whether
@@ -104,22 +104,38 @@ IsEmptyStage files = (q : List ℕ) → is_staged q ≡ true → files q ≡ Non
 
 -- ---- moments
 
+-- an intent that was made as file number `made` or later is read, and what is read stands for these
+-- files
+abbrev pub Publishes : (List ℕ → Bool) → Files → ℕ → TreeState → Type 0
+Publishes ignored files made v =
+    (n : ℕ)
+    × (v.names intent_name ≡ Some n)
+    × (made ≤ n)
+    × (state_of ignored (files_of v) ≡ state_of ignored files)
+
+-- so it was at one of the moments
+abbrev pub HasPublished : (List ℕ → Bool) → Files → ℕ → List TreeState → Type 0
+HasPublished ignored files made [] = ⊥
+HasPublished ignored files made (v ∷ earlier) =
+    Publishes ignored files made v ⊎ HasPublished ignored files made earlier
+
 -- a moment of a run that leads to these files: a crash leaves a state from before or theirs, and
--- one from before as long as no file that was made since was read as the intent
+-- one from before as long as no intent was read that was made since and stands for them
 pub record IsOnTheWay (ignored : List ℕ → Bool) (files : Files) (start : TreeState)
     (earlier : List TreeState) (v : TreeState) : Type 0 where
   pub orderly : IsOrderly (RestsOn ignored) v
   pub old_or_new : IsOldOrNew ignored start files v
-  pub unpublished : (HasLed intent_name start.made (v ∷ earlier) → ⊥) → IsQuiet ignored start v
+  pub unpublished : (HasPublished ignored files start.made (v ∷ earlier) → ⊥)
+      → IsQuiet ignored start v
   pub made : start.made ≤ v.made
 
--- and by one of the moments one was
-pub record PublishedBy (made : ℕ) (P : List TreeState → TreeState → Type 0)
+-- each moment since is one, and by one of them such an intent was read
+pub record PublishedBy (ignored : List ℕ → Bool) (files : Files) (start : TreeState)
     (old new : List TreeState) : Type 0 where
   pub added : List TreeState
   pub is : new ≡ added ++ old
-  pub each : EachMoment P added
-  pub published : HasLed intent_name made added
+  pub each : EachMoment (IsOnTheWay ignored files start) added
+  pub published : HasPublished ignored files start.made added
 
 -- ---- room
 

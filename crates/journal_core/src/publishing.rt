@@ -29,8 +29,8 @@ pub(crate) fn publish_intent<T: Tree>(tree: &mut T, intent: &PreparedIntent) -> 
     ensures published { IfObservable (T.history tree.old) (λ v. (ignored : List ℕ → Bool)
         (contents : List (List ℕ)) (base : Files) → IsOrderly (RestsOn ignored) v
         → IsStaged (full_stage intent.now) contents None base v → OnOk result
-        (PublishedBy v.made (IsOnTheWay ignored (after_actions intent.now (files_of v)) v)
-        (T.history tree.old) (T.history tree.new))) }
+        (PublishedBy ignored (after_actions intent.now (files_of v)) v (T.history tree.old)
+        (T.history tree.new))) }
     ensures settled { IfObservable (T.history tree.old) (λ v. (ignored : List ℕ → Bool)
         (contents : List (List ℕ)) (base : Files) → IsOrderly (RestsOn ignored) v
         → IsStaged (full_stage intent.now) contents None base v

@@ -244,7 +244,7 @@ impl Stage {
         requires all { self.old.staged ≡ length self.old.intent.writes }
 
         // At each moment a crash leaves a state from before or that of the actions done, and one
-        // from before as long as no file that was made since was read as the intent.
+        // from before as long as no intent was read that was made since and stands for them.
         ensures moments { IfObservable (T.history tree.old) (λ v. (ignored : List ℕ → Bool)
             (contents : List (List ℕ)) (base : Files) → IsOrderly (RestsOn ignored) v
             → IsStaged self.old contents None base v
@@ -252,8 +252,8 @@ impl Stage {
             (T.history tree.old) (T.history tree.new)) }
         ensures published { IfObservable (T.history tree.old) (λ v. (ignored : List ℕ → Bool)
             (contents : List (List ℕ)) (base : Files) → IsOrderly (RestsOn ignored) v
-            → IsStaged self.old contents None base v → OnOk result (PublishedBy v.made
-            (IsOnTheWay ignored (after_actions self.old.intent (files_of v)) v)
+            → IsStaged self.old contents None base v → OnOk result (PublishedBy ignored
+            (after_actions self.old.intent (files_of v)) v
             (T.history tree.old) (T.history tree.new))) }
 
         // Once it has answered Ok, each crash leaves the state of the actions done.

@@ -10,7 +10,7 @@ use Rattle.adb_fields.specs.FirstPair.{IsIn}
 use Rattle.adb_fields.specs.Once.{AreDistinctNames}
 use Rattle.adb_fields.specs.Repeated.{entries_at, list_of}
 use Rattle.adb_rules.specs.Rules.{is_change_name}
-use Rattle.adb_rules.specs.Reserved.{is_intent_or_stage_name}
+use Rattle.adb_rules.specs.Reserved.{is_at_or_below, is_intent_or_stage_name}
 use Rattle.adb_rules.specs.SoundValues.{IsChangeName}
 use Rattle.adb_schema.specs.SoundContainers.{IsSound, IsSoundValue}
 use Rattle.adb_schema.specs.Soundness.{first_fault, payload_in, root_value}
@@ -20,7 +20,7 @@ use Rattle.adb_tables.specs.declared.tables.Which.TheVariants as Tables
 use Rattle.adb_view.specs.Plain.{Plain, Plains, none, more}
 use Rattle.adb_view.specs.Shaped.{Each}
 use Rattle.journal_intent.specs.FreeNames.{AllNamed, AreFreeNames, AreOnce, HasFreeNames, IsFreeName, IsNoneOf, IsOneOf}
-use Rattle.journal_intent.specs.Intent.{AreChangeNames, Intent, intent_in, intent_unless, read_intent, stage_name}
+use Rattle.journal_intent.specs.Intent.{AreChangeNames, Intent, intent_in, intent_name, intent_unless, is_staged, read_intent, stage_folder, stage_name}
 use Rattle.journal_intent.specs.IntentValue.{intent_of_lists}
 use Rattle.journal_intent.proofs.AtName.{name_cases, other_name}
 use Rattle.journal_intent.proofs.ReadIntent.{spelled}
@@ -36,6 +36,15 @@ not_true false h = refl
 place_is_stage : (k : ℕ) → is_intent_or_stage_name (stage_name k) ≡ true
 place_is_stage k = refl
 
+or_false : (a b c : Bool) → (a || ((b || c) || false)) ≡ false → c ≡ false
+or_false true b c h = absurd (true_false h)
+or_false false true c h = absurd (true_false h)
+or_false false false true h = absurd (true_false h)
+or_false false false false h = refl
+
+not_staged : (name : List ℕ) → is_intent_or_stage_name name ≡ false → is_staged name ≡ false
+not_staged name h = or_false (is_at_or_below intent_name name) (bytes_eq name stage_folder) (is_staged name) h
+
 -- ---- a name that a change may have is free
 
 free_of : (name : List ℕ) → is_change_name name ≡ true → IsFreeName name
@@ -44,6 +53,7 @@ free_of name change =
     let open_name = not_true (is_intent_or_stage_name name) parts.1 in
     record {
       no_intent = λ is. true_false (sym (ap is_intent_or_stage_name is) ∙ open_name);
+      unstaged = not_staged name open_name;
       no_place = λ k is. true_false (sym (place_is_stage k) ∙ sym (ap is_intent_or_stage_name is) ∙ open_name);
     }
 

@@ -5,7 +5,7 @@ use Rattle.std.specs.List.{list_any}
 use Rattle.base_core.specs.Name.{IsName}
 use Rattle.adb_tables.specs.Values.{text_in}
 use Rattle.adb_view.specs.Plain.{Plains, none, more}
-use Rattle.journal_intent.specs.Intent.{Intent, intent_name, stage_name}
+use Rattle.journal_intent.specs.Intent.{Intent, intent_name, is_staged, stage_name}
 
 abbrev pub IsOneOf : List ℕ → List (List ℕ) → Type 0
 IsOneOf name names = list_any (bytes_eq name) names ≡ true
@@ -13,9 +13,10 @@ IsOneOf name names = list_any (bytes_eq name) names ≡ true
 abbrev pub IsNoneOf : List ℕ → List (List ℕ) → Type 0
 IsNoneOf name names = list_any (bytes_eq name) names ≡ false
 
--- neither the intent's own name nor that of a waiting file
+-- neither the intent's own name nor one below the stage, so not that of a waiting file either
 pub record IsFreeName (name : List ℕ) : Type 0 where
   pub no_intent : name ≢ intent_name
+  pub unstaged : is_staged name ≡ false
   pub no_place : (k : ℕ) → name ≢ stage_name k
 
 -- the intent's own name, or that of a waiting file

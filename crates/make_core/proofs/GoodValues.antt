@@ -1,134 +1,14 @@
 -- Values that are normal, have their shape and keep the rules of their places, part by part.
-use Rattle.std.proofs.Common.{◌≡◌, ◌≢◌, ℕ, zero, suc, ◌+◌, ◌*◌, ◌^◌, ◌<◌, Bool, true, false, if◌then◌else◌, List, [], ◌∷◌, ◌++◌, Option, Some, None, refl, ap, ◌∙◌}
+use Rattle.std.proofs.Common.{◌≡◌, ℕ, ◌+◌, ◌*◌, ◌^◌, ◌<◌, Bool, true, false, if◌then◌else◌, List, [], ◌∷◌, ◌++◌, Option, Some, None, refl, ap, ◌∙◌}
 use Rattle.base_core.specs.declared.cause.Cause.{Cause}
 use Rattle.base_core.specs.declared.cause.Cause.TheVariants.{BadText}
-use Rattle.adb_view.specs.Plain.{Plain, null, int, blob, arr, obj, Plains, none, more, Shape, number, text, hash, array, object, Fields, no_fields, field, blob_value, arr_value, obj_of, obj_value, keep, without_last_nulls, IsNormal, AreNormal}
+use Rattle.adb_view.specs.Plain.{Plain, null, int, blob, arr, obj, Plains, none, more, Shape, number, text, hash, array, object, Fields, no_fields, field, blob_value, arr_value, obj_value, keep, without_last_nulls, IsNormal, AreNormal}
 use Rattle.adb_view.specs.Shaped.{Each, HasShape, HaveShapes}
 use Rattle.adb_rules.specs.Texts.{Surroundings, Leaf, number_leaf, text_leaf, keeps_rule, number_of_leaf, leaves, field_leaves, each_leaf, inside_of, first_bad, number_rule, text_rule}
-use Rattle.adb_tables.specs.Values.{nth, entries_in, entry_in, text_in}
-
--- ---- without the Nulls that stand last
-
-nth-keep : (v : Plain) (vs : Plains) (i : ℕ) → nth (keep v vs) i ≡ nth (more v vs) i
-nth-keep null none zero = refl
-nth-keep null none (suc i) = refl
-nth-keep null (more u us) i = refl
-nth-keep (int n) vs i = refl
-nth-keep (blob b) vs i = refl
-nth-keep (arr us) vs i = refl
-nth-keep (obj us) vs i = refl
-
-nth-more : (v : Plain) (us vs : Plains) → ((i : ℕ) → nth us i ≡ nth vs i) → (i : ℕ) → nth (more v us) i ≡ nth (more v vs) i
-nth-more v us vs h zero = refl
-nth-more v us vs h (suc i) = h i
-
-pub nth-trimmed : (vs : Plains) (i : ℕ) → nth (without_last_nulls vs) i ≡ nth vs i
-nth-trimmed none i = refl
-nth-trimmed (more v vs) i = nth-keep v (without_last_nulls vs) i ∙ nth-more v (without_last_nulls vs) vs (nth-trimmed vs) i
-
-entries-obj_of : (us : Plains) → entries_in (obj_of us) ≡ us
-entries-obj_of none = refl
-entries-obj_of (more u us) = refl
-
-pub entries-arr_value : (vs : Plains) → entries_in (arr_value vs) ≡ vs
-entries-arr_value none = refl
-entries-arr_value (more v vs) = refl
-
-pub entry-obj_value : (vs : Plains) (i : ℕ) → entry_in (obj_value vs) i ≡ nth vs i
-entry-obj_value vs i = ap (λ (us : Plains). nth us i) (entries-obj_of (without_last_nulls vs)) ∙ nth-trimmed vs i
-
--- ---- they are normal
-
-keep-again : (v : Plain) (us : Plains) → without_last_nulls us ≡ us → without_last_nulls (keep v us) ≡ keep v us
-keep-again null none e = refl
-keep-again null (more u us) e = ap (keep null) e
-keep-again (int n) us e = ap (more (int n)) e
-keep-again (blob b) us e = ap (more (blob b)) e
-keep-again (arr vs) us e = ap (more (arr vs)) e
-keep-again (obj vs) us e = ap (more (obj vs)) e
-
-trimmed-again : (vs : Plains) → without_last_nulls (without_last_nulls vs) ≡ without_last_nulls vs
-trimmed-again none = refl
-trimmed-again (more v vs) = keep-again v (without_last_nulls vs) (trimmed-again vs)
-
-keep-normal : (v : Plain) (us : Plains) → IsNormal v → AreNormal us → AreNormal (keep v us)
-unfolding IsNormal AreNormal
-keep-normal null none a b = tt
-keep-normal null (more u us) a b = (a, b)
-keep-normal (int n) us a b = (a, b)
-keep-normal (blob c) us a b = (a, b)
-keep-normal (arr vs) us a b = (a, b)
-keep-normal (obj vs) us a b = (a, b)
-
-trimmed-normal : (vs : Plains) → AreNormal vs → AreNormal (without_last_nulls vs)
-unfolding IsNormal AreNormal
-trimmed-normal none a = tt
-trimmed-normal (more v vs) a = keep-normal v (without_last_nulls vs) a.0 (trimmed-normal vs a.1)
-
-not_none : (v : Plain) (vs : Plains) → more v vs ≢ none
-not_none v vs e = (cc)
-
-obj_of-normal : (us : Plains) → without_last_nulls us ≡ us → AreNormal us → IsNormal (obj_of us)
-unfolding IsNormal AreNormal
-obj_of-normal none e a = tt
-obj_of-normal (more u us) e a = (not_none u us, e, a)
-
-pub obj_value-normal : (vs : Plains) → AreNormal vs → IsNormal (obj_value vs)
-obj_value-normal vs a = obj_of-normal (without_last_nulls vs) (trimmed-again vs) (trimmed-normal vs a)
-
-pub arr_value-normal : (vs : Plains) → AreNormal vs → IsNormal (arr_value vs)
-unfolding IsNormal AreNormal
-arr_value-normal none a = tt
-arr_value-normal (more v vs) a = (not_none v vs, a)
-
-not_empty : (b : ℕ) (bs : List ℕ) → b ∷ bs ≢ []
-not_empty b bs e = (cc)
-
-pub blob_value-normal : (b : List ℕ) → IsNormal (blob_value b)
-unfolding IsNormal
-blob_value-normal [] = tt
-blob_value-normal (b ∷ bs) = not_empty b bs
-
--- ---- they have their shape
-
-keep-shaped : (name : List ℕ) (s : Shape) (fs : Fields) (v : Plain) (us : Plains) → HasShape s v → HaveShapes fs us → HaveShapes (field name s fs) (keep v us)
-unfolding HasShape HaveShapes
-keep-shaped name s fs null none a b = tt
-keep-shaped name s fs null (more u us) a b = (a, b)
-keep-shaped name s fs (int n) us a b = (a, b)
-keep-shaped name s fs (blob c) us a b = (a, b)
-keep-shaped name s fs (arr vs) us a b = (a, b)
-keep-shaped name s fs (obj vs) us a b = (a, b)
-
-trimmed-shaped : (fs : Fields) (vs : Plains) → HaveShapes fs vs → HaveShapes fs (without_last_nulls vs)
-unfolding HasShape HaveShapes
-trimmed-shaped no_fields none a = tt
-trimmed-shaped no_fields (more v vs) a = absurd a
-trimmed-shaped (field name s fs) none a = tt
-trimmed-shaped (field name s fs) (more v vs) a = keep-shaped name s fs v (without_last_nulls vs) a.0 (trimmed-shaped fs vs a.1)
-
-obj_of-shaped : (schema : ℕ) (fs : Fields) (us : Plains) → HaveShapes fs us → HasShape (object schema fs) (obj_of us)
-unfolding HasShape
-obj_of-shaped schema fs none a = tt
-obj_of-shaped schema fs (more u us) a = a
-
-pub obj_value-shaped : (schema : ℕ) (fs : Fields) (vs : Plains) → HaveShapes fs vs → HasShape (object schema fs) (obj_value vs)
-obj_value-shaped schema fs vs a = obj_of-shaped schema fs (without_last_nulls vs) (trimmed-shaped fs vs a)
-
-pub arr_value-shaped : (s : Shape) (vs : Plains) → Each (HasShape s) vs → HasShape (array s) (arr_value vs)
-unfolding HasShape
-arr_value-shaped s none a = tt
-arr_value-shaped s (more v vs) a = a
-
-pub blob_value-text : (b : List ℕ) → HasShape text (blob_value b)
-unfolding HasShape
-blob_value-text [] = tt
-blob_value-text (b ∷ bs) = tt
-
-pub blob_value-hash : (b : List ℕ) → HasShape hash (blob_value b)
-unfolding HasShape
-blob_value-hash [] = tt
-blob_value-hash (b ∷ bs) = tt
+use Rattle.adb_tables.specs.Values.{text_in}
+use Rattle.adb_view.proofs.FoundShapes.{arr_value_shape, blob_value_hash, blob_value_text, obj_value_shape}
+use Rattle.adb_view.proofs.Normal.{arr_normal, blob_value_normal, obj_normal}
+use Rattle.adb_tables.proofs.ValueEntries.{entries_arr, entries_obj, text_blob}
 
 -- ---- their leaves
 
@@ -154,7 +34,7 @@ pub obj_value-leaves : (schema : ℕ) (fs : Fields) (place : ℕ) (around : Surr
 unfolding leaves
 obj_value-leaves schema fs place around vs =
     let inside : Surroundings = inside_of schema around (obj_value vs) in
-    ap (field_leaves fs (100 * schema + 1) inside) (entries-obj_of (without_last_nulls vs)) ∙ trimmed-leaves fs (100 * schema + 1) inside vs
+    ap (field_leaves fs (100 * schema + 1) inside) (entries_obj (without_last_nulls vs)) ∙ trimmed-leaves fs (100 * schema + 1) inside vs
 
 -- ---- good walks, part by part
 
@@ -228,8 +108,8 @@ all_kept (field name s fs) place around (more v vs) g = good_append (leaves s pl
 pub obj_good : (schema : ℕ) (fs : Fields) (place : ℕ) (around inside : Surroundings) (vs : Plains) → inside_of schema around (obj_value vs) ≡ inside
     → AreGood fs (100 * schema + 1) inside vs → IsGood (object schema fs) place around (obj_value vs)
 obj_good schema fs place around inside vs e g = record {
-  normal = obj_value-normal vs (all_normal fs (100 * schema + 1) inside vs g);
-  shaped = obj_value-shaped schema fs vs (all_shaped fs (100 * schema + 1) inside vs g);
+  normal = obj_normal vs (all_normal fs (100 * schema + 1) inside vs g);
+  shaped = obj_value_shape schema fs vs (all_shaped fs (100 * schema + 1) inside vs g);
   kept = ap first_bad (obj_value-leaves schema fs place around vs) ∙ (ap (λ (a : Surroundings). first_bad (field_leaves fs (100 * schema + 1) a vs)) e ∙ all_kept fs (100 * schema + 1) inside vs g);
 }
 
@@ -249,29 +129,25 @@ each_kept s place around (more v vs) g = good_append (leaves s place around v) (
 pub arr_good : (s : Shape) (place : ℕ) (around : Surroundings) (vs : Plains) → Each (IsGood s place around) vs → IsGood (array s) place around (arr_value vs)
 unfolding leaves
 arr_good s place around vs g = record {
-  normal = arr_value-normal vs (each_normal s place around vs g);
-  shaped = arr_value-shaped s vs (each_shaped s place around vs g);
-  kept = ap (λ (us : Plains). first_bad (each_leaf (leaves s place around) us)) (entries-arr_value vs) ∙ each_kept s place around vs g;
+  normal = arr_normal vs (each_normal s place around vs g);
+  shaped = arr_value_shape s vs (each_shaped s place around vs g);
+  kept = ap (λ (us : Plains). first_bad (each_leaf (leaves s place around) us)) (entries_arr vs) ∙ each_kept s place around vs g;
 }
-
-pub text-blob_value : (b : List ℕ) → text_in (blob_value b) ≡ b
-text-blob_value [] = refl
-text-blob_value (b ∷ bs) = refl
 
 pub text_good : (place : ℕ) (around : Surroundings) (b : List ℕ) → text_rule place around b ≡ true → IsGood text place around (blob_value b)
 unfolding leaves
 text_good place around b e = record {
-  normal = blob_value-normal b;
-  shaped = blob_value-text b;
-  kept = good_leaf (text_leaf place around (text_in (blob_value b))) (ap (text_rule place around) (text-blob_value b) ∙ e);
+  normal = blob_value_normal b;
+  shaped = blob_value_text b;
+  kept = good_leaf (text_leaf place around (text_in (blob_value b))) (ap (text_rule place around) (text_blob b) ∙ e);
 }
 
 pub hash_good : (place : ℕ) (around : Surroundings) (b : List ℕ) → text_rule place around b ≡ true → IsGood hash place around (blob_value b)
 unfolding leaves
 hash_good place around b e = record {
-  normal = blob_value-normal b;
-  shaped = blob_value-hash b;
-  kept = good_leaf (text_leaf place around (text_in (blob_value b))) (ap (text_rule place around) (text-blob_value b) ∙ e);
+  normal = blob_value_normal b;
+  shaped = blob_value_hash b;
+  kept = good_leaf (text_leaf place around (text_in (blob_value b))) (ap (text_rule place around) (text_blob b) ∙ e);
 }
 
 pub number_good : (place : ℕ) (around : Surroundings) (n : ℕ) → n < 2 ^ 64 → number_rule place n ≡ true → IsGood number place around (int n)

@@ -16,9 +16,11 @@ use Rattle.make_index.specs.Entries.{entry_of_package}
 use Rattle.adb_copy.specs.Zeros.{info_with, with_at}
 use Rattle.make_core.proofs.Blind.{AreBlind, AreBlindBut, IsBlind, turned_but}
 use Rattle.make_core.proofs.OpenedPackage.{IsOpened, Values, opened}
-use Rattle.make_core.proofs.ValueParts.{entries_shaped, part_kept, part_shaped, placed_kept, placed_later, placed_shaped, placed_there}
+use Rattle.make_core.proofs.ValueParts.{part_kept, part_shaped, placed_kept, placed_later, placed_shaped, placed_there}
 use Rattle.make_core.proofs.GoodValues.{IsGood, good_leaf}
-use Rattle.make_core.proofs.Zeros.{HasInts, HaveInts, entries_ints, normal_ints, nth_ints, placed_ints, zeros_leaves, zeros_normal, zeros_shaped}
+use Rattle.adb_copy.proofs.Shapes.{entries_shape}
+use Rattle.adb_copy.proofs.WithoutZeros.{HasInts, HaveInts, entries_ints, normal_ints, nth_ints, placed_ints, zeros_normal, zeros_shape}
+use Rattle.make_core.proofs.Zeros.{zeros_leaves}
 
 abbrev infos : Fields
 infos = shapes_of (table PkgInfo)
@@ -41,8 +43,8 @@ blind_info =
 info_shaped : (v : Plain) → IsOpened v → HaveShapes infos (entries_in (entry_in v 0))
 unfolding shape_of
 info_shaped v o =
-    let shapes = entries_shaped 7 (shapes_of (table Package)) v o.shaped in
-    entries_shaped 3 infos (entry_in v 0) (part_shaped (shapes_of (table Package)) 0 (shape_of (Obj PkgInfo)) (entries_in v) refl shapes)
+    let shapes = entries_shape 7 (shapes_of (table Package)) v o.shaped in
+    entries_shape 3 infos (entry_in v 0) (part_shaped (shapes_of (table Package)) 0 (shape_of (Obj PkgInfo)) (entries_in v) refl shapes)
 
 abbrev around_info : Plain → Surroundings
 around_info v = inside_of 3 (inside_of 7 (at_root Package) v) (entry_in v 0)
@@ -125,7 +127,7 @@ entry_by v id len place around o long small root =
     let kept = both_kept (around_info v) (inside_of 3 around (obj us)) vs id len long refl root (info_kept v o) in
     record {
       normal = zeros_normal (obj us) ints;
-      shaped = zeros_shaped (object 3 infos) (obj us) shaped;
+      shaped = zeros_shape (object 3 infos) (obj us) shaped;
       kept = ap first_bad (zeros_leaves (object 3 infos) place around (obj us) shaped) ∙ kept;
     }
 

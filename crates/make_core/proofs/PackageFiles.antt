@@ -17,10 +17,11 @@ use Rattle.adb_tables.specs.declared.tables.Which.TheVariants.{Acl, File, Dir, S
 use Rattle.adb_tables.specs.declared.tables.Kind.TheVariants.{Obj}
 use Rattle.command_core.specs.Values.{script_types}
 use Rattle.make_package.specs.Package.{Source, SourceFolder, Script, access_value, kind_of_file, value_of_kind, value_of_file, value_of_folder, hash_of_kind, is_link_file, link_text, value_of_package, script_in, value_of_scripts, size_of_kind, target_of_kind}
-use Rattle.make_info.specs.Values.{number_value, plains_of, size_value}
+use Rattle.make_info.specs.Values.{number_value, plains_of_list, size_value}
 use Rattle.make_package.specs.declared.file.FileKind.{FileKind}
 use Rattle.make_package.specs.declared.file.FileKind.TheVariants.{Link, Regular}
-use Rattle.make_core.proofs.GoodValues.{IsGood, arr_good, entries-arr_value, entry-obj_value, hash_good, null_array, null_number, number_good, obj_good, text_good, text-blob_value}
+use Rattle.adb_tables.proofs.ValueEntries.{entries_arr, nth_obj, text_blob}
+use Rattle.make_core.proofs.GoodValues.{IsGood, arr_good, hash_good, null_array, null_number, number_good, obj_good, text_good}
 use Rattle.make_core.proofs.Zeros.{inside_same}
 
 -- ---- what bytes are
@@ -110,16 +111,16 @@ file_fields name kind =
     (more (blob_value (hash_of_kind kind)) (more (blob_value (target_of_kind kind)) none)))))
 
 pub name_stands : (name : List ℕ) (kind : FileKind) → text_in (entry_in (value_of_kind name kind) 0) ≡ name
-name_stands name kind = ap text_in (entry-obj_value (file_fields name kind) 0) ∙ text-blob_value name
+name_stands name kind = ap text_in (nth_obj (file_fields name kind) 0) ∙ text_blob name
 
 pub size_stands : (name : List ℕ) (kind : FileKind) → int_in (entry_in (value_of_kind name kind) 2) ≡ size_of_kind kind
-size_stands name kind = ap int_in (entry-obj_value (file_fields name kind) 2) ∙ int-size_value (size_of_kind kind)
+size_stands name kind = ap int_in (nth_obj (file_fields name kind) 2) ∙ int-size_value (size_of_kind kind)
 
 pub hash_stands : (name : List ℕ) (kind : FileKind) → text_in (entry_in (value_of_kind name kind) 4) ≡ hash_of_kind kind
-hash_stands name kind = ap text_in (entry-obj_value (file_fields name kind) 4) ∙ text-blob_value (hash_of_kind kind)
+hash_stands name kind = ap text_in (nth_obj (file_fields name kind) 4) ∙ text_blob (hash_of_kind kind)
 
 pub target_stands : (name : List ℕ) (kind : FileKind) → text_in (entry_in (value_of_kind name kind) 5) ≡ target_of_kind kind
-target_stands name kind = ap text_in (entry-obj_value (file_fields name kind) 5) ∙ text-blob_value (target_of_kind kind)
+target_stands name kind = ap text_in (nth_obj (file_fields name kind) 5) ∙ text_blob (target_of_kind kind)
 
 file_inside : (folder name : List ℕ) (kind : FileKind) → inside_of 4 (in_folder folder) (value_of_kind name kind) ≡ around_file folder kind
 file_inside folder name kind =
@@ -178,7 +179,7 @@ abbrev pub AreGoodFiles : List ℕ → List Source → Type 0
 AreGoodFiles folder [] = Unit {0}
 AreGoodFiles folder (file ∷ files) = (is_file_name folder file.name ≡ true) × (size_of_kind (kind_of_file file.bytes) < 2 ^ 64) × AreGoodFiles folder files
 
-files_good : (folder : List ℕ) (files : List Source) → AreGoodFiles folder files → Each (IsGood (shape_of (Obj File)) 503 (in_folder folder)) (plains_of (map value_of_file files))
+files_good : (folder : List ℕ) (files : List Source) → AreGoodFiles folder files → Each (IsGood (shape_of (Obj File)) 503 (in_folder folder)) (plains_of_list (map value_of_file files))
 files_good folder [] good = tt
 files_good folder (file ∷ files) good = (file_good folder file.name (kind_of_file file.bytes) good.0 (good_kind file.bytes good.1), files_good folder files good.2)
 
@@ -186,10 +187,10 @@ abbrev pub around_folder : Surroundings
 around_folder = record { root = Package; folder = []; has_contents = false }
 
 abbrev folder_fields : SourceFolder → Plains
-folder_fields folder = more (blob_value folder.name) (more (access_value 493) (more (arr_value (plains_of (map value_of_file folder.files))) none))
+folder_fields folder = more (blob_value folder.name) (more (access_value 493) (more (arr_value (plains_of_list (map value_of_file folder.files))) none))
 
 pub folder_name_stands : (folder : SourceFolder) → text_in (entry_in (value_of_folder folder) 0) ≡ folder.name
-folder_name_stands folder = ap text_in (entry-obj_value (folder_fields folder) 0) ∙ text-blob_value folder.name
+folder_name_stands folder = ap text_in (nth_obj (folder_fields folder) 0) ∙ text_blob folder.name
 
 folder_inside : (folder : SourceFolder) → inside_of 5 around_folder (value_of_folder folder) ≡ in_folder folder.name
 folder_inside folder =
@@ -203,7 +204,7 @@ folder_good folder named files =
       text_good 501 inside folder.name named,
       (
         acl_good 493 502 inside (lit< tt),
-        (arr_good (shape_of (Obj File)) 503 inside (plains_of (map value_of_file folder.files)) (files_good folder.name folder.files files), tt),
+        (arr_good (shape_of (Obj File)) 503 inside (plains_of_list (map value_of_file folder.files)) (files_good folder.name folder.files files), tt),
       ),
     )
 
@@ -211,7 +212,7 @@ abbrev pub AreGoodFolders : List SourceFolder → Type 0
 AreGoodFolders [] = Unit {0}
 AreGoodFolders (folder ∷ folders) = (is_folder_name folder.name ≡ true) × AreGoodFiles folder.name folder.files × AreGoodFolders folders
 
-folders_good : (folders : List SourceFolder) → AreGoodFolders folders → Each (IsGood (shape_of (Obj Dir)) 702 around_folder) (plains_of (map value_of_folder folders))
+folders_good : (folders : List SourceFolder) → AreGoodFolders folders → Each (IsGood (shape_of (Obj Dir)) 702 around_folder) (plains_of_list (map value_of_folder folders))
 folders_good [] good = tt
 folders_good (folder ∷ folders) good = (folder_good folder good.0 good.1, folders_good folders good.2)
 
@@ -220,7 +221,7 @@ folders_good (folder ∷ folders) good = (folder_good folder good.0 good.1, fold
 scripts_good : (scripts : List Script) → IsGood (shape_of (Obj Scripts)) 703 around_folder (value_of_scripts scripts)
 unfolding shape_of text_rule
 scripts_good scripts =
-    let vs : Plains = plains_of (map (λ field. blob_value (script_in scripts field)) script_types) in
+    let vs : Plains = plains_of_list (map (λ field. blob_value (script_in scripts field)) script_types) in
     let inside : Surroundings = inside_of 6 around_folder (obj_value vs) in
     let of : List ℕ → List ℕ = script_in scripts in
     obj_good 6 (shapes_of (table Scripts)) 703 around_folder inside vs refl (
@@ -243,15 +244,15 @@ scripts_good scripts =
       ),
     )
 
-triggers_good : (triggers : List (List ℕ)) → Each (IsGood text 704 around_folder) (plains_of (map blob_value triggers))
+triggers_good : (triggers : List (List ℕ)) → Each (IsGood text 704 around_folder) (plains_of_list (map blob_value triggers))
 unfolding text_rule
 triggers_good [] = tt
 triggers_good (t ∷ ts) = (text_good 704 around_folder t refl, triggers_good ts)
 
 abbrev package_fields : Plain → List SourceFolder → List Script → List (List ℕ) → Option ℕ → Plains
 package_fields info folders scripts triggers priority =
-    more info (more (arr_value (plains_of (map value_of_folder folders))) (more (value_of_scripts scripts)
-    (more (arr_value (plains_of (map blob_value triggers))) (more (number_value priority) none))))
+    more info (more (arr_value (plains_of_list (map value_of_folder folders))) (more (value_of_scripts scripts)
+    (more (arr_value (plains_of_list (map blob_value triggers))) (more (number_value priority) none))))
 
 pub package_value_good : (info : Plain) (folders : List SourceFolder) (scripts : List Script) (triggers : List (List ℕ)) (priority : Option ℕ)
     → IsGood (shape_of (Obj PkgInfo)) 701 around_folder info → AreGoodFolders folders → IsGood number 705 around_folder (number_value priority)
@@ -261,11 +262,11 @@ package_value_good info folders scripts triggers priority about named number_goo
     obj_good 7 (shapes_of (table Package)) 0 (at_root Package) around_folder (package_fields info folders scripts triggers priority) refl (
       about,
       (
-        arr_good (shape_of (Obj Dir)) 702 around_folder (plains_of (map value_of_folder folders)) (folders_good folders named),
+        arr_good (shape_of (Obj Dir)) 702 around_folder (plains_of_list (map value_of_folder folders)) (folders_good folders named),
         (
           scripts_good scripts,
           (
-            arr_good text 704 around_folder (plains_of (map blob_value triggers)) (triggers_good triggers),
+            arr_good text 704 around_folder (plains_of_list (map blob_value triggers)) (triggers_good triggers),
             (number_good, tt),
           ),
         ),
@@ -274,17 +275,17 @@ package_value_good info folders scripts triggers priority about named number_goo
 
 -- ---- the folders and files of its value
 
-pub list-plains : (vs : List Plain) → list_of (plains_of vs) ≡ vs
+pub list-plains : (vs : List Plain) → list_of (plains_of_list vs) ≡ vs
 list-plains [] = refl
 list-plains (v ∷ vs) = ap (λ (us : List Plain). v ∷ us) (list-plains vs)
 
 pub folders_stand : (info : Plain) (folders : List SourceFolder) (scripts : List Script) (triggers : List (List ℕ)) (priority : Option ℕ)
     → folders_in (value_of_package info folders scripts triggers priority) ≡ map value_of_folder folders
 folders_stand info folders scripts triggers priority =
-    ap (λ (v : Plain). list_of (entries_in v)) (entry-obj_value (package_fields info folders scripts triggers priority) 1)
-    ∙ (ap list_of (entries-arr_value (plains_of (map value_of_folder folders))) ∙ list-plains (map value_of_folder folders))
+    ap (λ (v : Plain). list_of (entries_in v)) (nth_obj (package_fields info folders scripts triggers priority) 1)
+    ∙ (ap list_of (entries_arr (plains_of_list (map value_of_folder folders))) ∙ list-plains (map value_of_folder folders))
 
 pub files_stand : (folder : SourceFolder) → files_in (value_of_folder folder) ≡ map value_of_file folder.files
 files_stand folder =
-    ap (λ (v : Plain). list_of (entries_in v)) (entry-obj_value (folder_fields folder) 2)
-    ∙ (ap list_of (entries-arr_value (plains_of (map value_of_file folder.files))) ∙ list-plains (map value_of_file folder.files))
+    ap (λ (v : Plain). list_of (entries_in v)) (nth_obj (folder_fields folder) 2)
+    ∙ (ap list_of (entries_arr (plains_of_list (map value_of_file folder.files))) ∙ list-plains (map value_of_file folder.files))

@@ -20,7 +20,7 @@ use Rattle.pkg_core.specs.Whole.{container_fault, package_fault}
 use Rattle.command_core.specs.Files.{without_dot}
 use Rattle.command_core.specs.declared.operands.Operand.{Operand}
 use Rattle.make_index.specs.Index.{and_entries, found_entries, found_entry, index_by, index_container, index_of, index_of_found, value_of_index, entry_unless, description_in, made_index}
-use Rattle.make_info.specs.Values.{plains_of}
+use Rattle.make_info.specs.Values.{plains_of_list}
 use Rattle.command_core.specs.Command.{CommandLine}
 use Rattle.make_index.specs.Entries.{entry_of_package}
 use Rattle.make_index.specs.EntryOrder.{entry_cmp}
@@ -37,16 +37,16 @@ use Rattle.make_core.proofs.GoodValues.{IsGood, arr_good, obj_good, text_good}
 
 -- ---- in order
 
-each_by : (P : Plain → Type 0) (b : Bool) (xs ys : List Plain) → Each P (plains_of xs) → Each P (plains_of ys) → Each P (plains_of (if b then xs else ys))
+each_by : (P : Plain → Type 0) (b : Bool) (xs ys : List Plain) → Each P (plains_of_list xs) → Each P (plains_of_list ys) → Each P (plains_of_list (if b then xs else ys))
 each_by P true xs ys x y = x
 each_by P false xs ys x y = y
 
-each_placed : (P : Plain → Type 0) (cmp : Plain → Plain → Ordering) (x : Plain) (xs : List Plain) → P x → Each P (plains_of xs) → Each P (plains_of (with_element cmp x xs))
+each_placed : (P : Plain → Type 0) (cmp : Plain → Plain → Ordering) (x : Plain) (xs : List Plain) → P x → Each P (plains_of_list xs) → Each P (plains_of_list (with_element cmp x xs))
 each_placed P cmp x [] a h = (a, tt)
 each_placed P cmp x (y ∷ ys) a h =
     each_by P (is_gt (cmp x y)) (y ∷ with_element cmp x ys) (x ∷ y ∷ ys) (h.0, each_placed P cmp x ys a h.1) (a, (h.0, h.1))
 
-each_in_order : (P : Plain → Type 0) (cmp : Plain → Plain → Ordering) (xs : List Plain) → Each P (plains_of xs) → Each P (plains_of (sorted_by cmp xs))
+each_in_order : (P : Plain → Type 0) (cmp : Plain → Plain → Ordering) (xs : List Plain) → Each P (plains_of_list xs) → Each P (plains_of_list (sorted_by cmp xs))
 each_in_order P cmp [] h = tt
 each_in_order P cmp (x ∷ xs) h = each_placed P cmp x (sorted_by cmp xs) h.0 (each_in_order P cmp xs h.1)
 
@@ -70,18 +70,18 @@ found_good laws place n name around read v (Some file) files root is e =
     tested_good laws place around file v (package_fault file) good.each good.few root refl e
 
 entries_by : (around : Surroundings) (r : Result Plain MakeFault) (rs : Result (List Plain) MakeFault) (entries : List Plain) → and_entries r rs ≡ Ok entries
-    → ((v : Plain) → r ≡ Ok v → IsEntry around v) → ((vs : List Plain) → rs ≡ Ok vs → Each (IsEntry around) (plains_of vs)) → Each (IsEntry around) (plains_of entries)
+    → ((v : Plain) → r ≡ Ok v → IsEntry around v) → ((vs : List Plain) → rs ≡ Ok vs → Each (IsEntry around) (plains_of_list vs)) → Each (IsEntry around) (plains_of_list entries)
 entries_by around (Err f) rs entries e a b = absurd (cc (e))
 entries_by around (Ok v) (Err f) entries e a b = absurd (cc (e))
 entries_by around (Ok v) (Ok vs) entries e a b =
     let same : v ∷ vs ≡ entries = cc (e) in
-    subst (λ us. Each (IsEntry around) (plains_of us)) same (a v refl, b vs refl)
+    subst (λ us. Each (IsEntry around) (plains_of_list us)) same (a v refl, b vs refl)
 
 entries_good : Values → (around : Surroundings) (read : ℕ → List ℕ → Option (List ℕ)) (n : ℕ) (operands : List Operand) (entries : List Plain) → AreFiles read n operands → around.root ≡ Index
-    → found_entries read n operands ≡ Ok entries → Each (IsEntry around) (plains_of entries)
+    → found_entries read n operands ≡ Ok entries → Each (IsEntry around) (plains_of_list entries)
 entries_good laws around read n [] entries files root e =
     let same : [] ≡ entries = cc (e) in
-    subst (λ us. Each (IsEntry around) (plains_of us)) same tt
+    subst (λ us. Each (IsEntry around) (plains_of_list us)) same tt
 entries_good laws around read n (o ∷ operands) entries files root e =
     entries_by around _ _ entries e (λ v is. found_good laws o.place n (without_dot o.text) around read v (read n (without_dot o.text)) files.0 root refl is)
     (λ vs is. entries_good laws around read (n + 1) operands vs files.1 root is)
@@ -89,18 +89,18 @@ entries_good laws around read n (o ∷ operands) entries files root e =
 -- ---- the index
 
 abbrev index_fields : List ℕ → List Plain → Plains
-index_fields description entries = more (blob_value description) (more (arr_value (plains_of entries)) none)
+index_fields description entries = more (blob_value description) (more (arr_value (plains_of_list entries)) none)
 
 abbrev around_entries : List ℕ → List Plain → Surroundings
 around_entries description entries = inside_of 8 (at_root Index) (obj_value (index_fields description entries))
 
-index_good : (description : List ℕ) (entries : List Plain) → ((around : Surroundings) → around.root ≡ Index → Each (IsEntry around) (plains_of entries))
+index_good : (description : List ℕ) (entries : List Plain) → ((around : Surroundings) → around.root ≡ Index → Each (IsEntry around) (plains_of_list entries))
     → IsGood (shape_of (Obj Index)) 0 (at_root Index) (value_of_index description entries)
 unfolding shape_of value_of_index text_rule
 index_good description entries each =
     let around : Surroundings = around_entries description entries in
     obj_good 8 (shapes_of (table Index)) 0 (at_root Index) around (index_fields description entries) refl
-    (text_good 801 around description refl, (arr_good (shape_of (Obj PkgInfo)) 802 around (plains_of entries) (each around refl), (text_good 803 around [] refl, tt)))
+    (text_good 801 around description refl, (arr_good (shape_of (Obj PkgInfo)) 802 around (plains_of_list entries) (each around refl), (text_good 803 around [] refl, tt)))
 
 none_repeated : (v : Plain) → repeated_fault Index v ≡ None
 unfolding repeated_fault
@@ -122,7 +122,7 @@ module _ (P : Plain → List ℕ → Type 0) where
       let good = holds v (root_good exact Index v payload g (none_repeated v) is) in
       subst (P v) same (subst (λ (p : List ℕ). P v (file_of INDEX_WORD p)) is.is good)
 
-  found_holds : Holds → Exact → (description : List ℕ) (r : Result (List Plain) MakeFault) (bytes : List ℕ) → ((entries : List Plain) (around : Surroundings) → r ≡ Ok entries → around.root ≡ Index → Each (IsEntry around) (plains_of entries))
+  found_holds : Holds → Exact → (description : List ℕ) (r : Result (List Plain) MakeFault) (bytes : List ℕ) → ((entries : List Plain) (around : Surroundings) → r ≡ Ok entries → around.root ≡ Index → Each (IsEntry around) (plains_of_list entries))
       → index_of_found description r ≡ Ok bytes → (v : Plain) × (index_value_of description r ≡ Ok v) × P v bytes
   unfolding index_of
   found_holds holds exact description (Err f) bytes each e = absurd (cc (e))

@@ -16,7 +16,7 @@ use Rattle.command_core.specs.Files.{without_dot}
 use Rattle.command_core.specs.declared.values.OptionValue.{OptionValue}
 use Rattle.make_info.specs.Information.{InfoItem, information_value, information, replaces_priority}
 use Rattle.adb_sound.specs.Contents.{contents_size}
-use Rattle.adb_sound.specs.Container.{container_of, packed}
+use Rattle.adb_sound.specs.Container.{container_of, package_by}
 use Rattle.make_package.specs.Making.{container_unless, made_package, or_info_bad, package_container, package_of_parts}
 use Rattle.make_package.specs.Package.{Script, SourceFolder, contents_of_folders, installed_size, value_of_package}
 use Rattle.make_package.specs.Sources.{AreNamesFor, on_success, folders_below, values_with, scripts_from, texts_of}
@@ -138,7 +138,7 @@ made_sound holds sizes exact needs tells command names read bytes below e short 
 
 -- its parts are read back, and so are those of one that is made
 abbrev pub IsReadBack : Plain → List Contents → List ℕ → Type 0
-IsReadBack v contents bytes = package_with_contents bytes ≡ packed v contents
+IsReadBack v contents bytes = package_with_contents bytes ≡ package_by v contents
 
 pub made_back : Holds IsReadBack → Sizes → Exact → Needs → Tells → (command : CommandLine) (names : List (List ℕ)) (read : Reads) (bytes : List ℕ) → AreNamesFor (values_with FILES command.values) names
     → made_package command names read ≡ Ok bytes → length bytes < 2 ^ 64 → packed_package command names read ≡ Ok (package_with_contents bytes)

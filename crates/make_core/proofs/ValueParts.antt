@@ -1,9 +1,10 @@
 -- The parts of a value that has its shape and keeps its rules.
 use Rattle.std.proofs.Common.{◌≡◌, ℕ, zero, suc, ◌+◌, ◌<◌, Option, Some, None, refl, sym, subst, arith, add-zero}
-use Rattle.adb_view.specs.Plain.{Plain, null, int, blob, arr, obj, Plains, none, more, Shape, number, text, hash, array, object, Fields, no_fields, field}
+use Rattle.adb_view.specs.Plain.{Plain, null, Plains, none, more, Shape, Fields, no_fields, field}
 use Rattle.adb_view.specs.Shaped.{HasShape, HaveShapes}
 use Rattle.adb_rules.specs.Texts.{Surroundings, leaves, field_leaves, first_bad}
-use Rattle.adb_tables.specs.Values.{nth, entries_in}
+use Rattle.adb_tables.specs.Values.{nth}
+use Rattle.adb_view.proofs.FoundShapes.{shape_null, shapes_none}
 use Rattle.adb_copy.specs.Zeros.{with_at}
 use Rattle.make_core.proofs.GoodValues.{good_append, good_back, good_front}
 
@@ -12,18 +13,10 @@ shape_at no_fields i = None
 shape_at (field name s fs) zero = Some s
 shape_at (field name s fs) (suc i) = shape_at fs i
 
-null_shaped : (s : Shape) → HasShape s null
-unfolding HasShape
-null_shaped number = tt
-null_shaped text = tt
-null_shaped hash = tt
-null_shaped (array s) = tt
-null_shaped (object schema fs) = tt
-
 pub part_shaped : (fs : Fields) (i : ℕ) (s : Shape) (vs : Plains) → shape_at fs i ≡ Some s → HaveShapes fs vs → HasShape s (nth vs i)
 unfolding HaveShapes
 part_shaped no_fields i s vs e h = absurd cc
-part_shaped (field name t fs) i s none e h = null_shaped s
+part_shaped (field name t fs) i s none e h = shape_null s
 part_shaped (field name t fs) zero s (more v vs) e h = let same : t ≡ s = cc in subst (λ (u : Shape). HasShape u v) same h.0
 part_shaped (field name t fs) (suc i) s (more v vs) e h = part_shaped fs i s vs e h.1
 
@@ -43,32 +36,14 @@ part_kept (field name t fs) (suc i) s place around (more v vs) e h =
     let n : place + 1 + i ≡ place + suc i = omega arith in
     subst (λ m. first_bad (leaves s m around (nth vs i)) ≡ None) n (part_kept fs i s (place + 1) around vs e (good_back (leaves t place around v) (field_leaves fs (place + 1) around vs) h))
 
--- an object's values have the shapes of its fields
-pub entries_shaped : (schema : ℕ) (fs : Fields) (v : Plain) → HasShape (object schema fs) v → HaveShapes fs (entries_in v)
-unfolding HasShape HaveShapes
-entries_shaped schema no_fields null h = tt
-entries_shaped schema (field name s fs) null h = tt
-entries_shaped schema fs (int n) h = absurd h
-entries_shaped schema fs (blob b) h = absurd h
-entries_shaped schema fs (arr vs) h = absurd h
-entries_shaped schema fs (obj vs) h = h
-
 -- ---- another value at a place
 
 pub placed_shaped : (fs : Fields) (i : ℕ) (s : Shape) (v : Plain) (vs : Plains) → shape_at fs i ≡ Some s → HasShape s v → HaveShapes fs vs → HaveShapes fs (with_at i v vs)
 unfolding HaveShapes
 placed_shaped no_fields i s v vs e a h = absurd cc
-placed_shaped (field name t fs) zero s v none e a h = let same : s ≡ t = cc in (subst (λ (u : Shape). HasShape u v) same a, none_shaped fs)
-  where
-    none_shaped : (gs : Fields) → HaveShapes gs none
-    none_shaped no_fields = tt
-    none_shaped (field n r gs) = tt
+placed_shaped (field name t fs) zero s v none e a h = let same : s ≡ t = cc in (subst (λ (u : Shape). HasShape u v) same a, shapes_none fs)
 placed_shaped (field name t fs) zero s v (more u us) e a h = let same : s ≡ t = cc in (subst (λ (u : Shape). HasShape u v) same a, h.1)
-placed_shaped (field name t fs) (suc i) s v none e a h = (null_shaped t, placed_shaped fs i s v none e a (none_shaped fs))
-  where
-    none_shaped : (gs : Fields) → HaveShapes gs none
-    none_shaped no_fields = tt
-    none_shaped (field n r gs) = tt
+placed_shaped (field name t fs) (suc i) s v none e a h = (shape_null t, placed_shaped fs i s v none e a (shapes_none fs))
 placed_shaped (field name t fs) (suc i) s v (more u us) e a h = (h.0, placed_shaped fs i s v us e a h.1)
 
 pub placed_kept : (fs : Fields) (i : ℕ) (s : Shape) (place : ℕ) (around : Surroundings) (v : Plain) (vs : Plains) → shape_at fs i ≡ Some s

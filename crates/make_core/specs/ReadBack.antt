@@ -2,7 +2,7 @@
 -- command and the reads give, and of a package the contents of its files.
 use Rattle.command_core.specs.declared.values.TheConstants.{FILES, SCRIPT, TRIGGER}
 use Rattle.std.specs.Prelude.{ℕ, List, length, Result, Ok, Err}
-use Rattle.adb_sound.specs.Container.{packed}
+use Rattle.adb_sound.specs.Container.{package_by}
 use Rattle.adb_view.specs.Plain.{Plain}
 use Rattle.command_core.specs.Command.{CommandLine}
 use Rattle.make_index.specs.EntryOrder.{entry_cmp}
@@ -19,7 +19,7 @@ use Rattle.pkg_core.specs.Whole.{Packed}
 abbrev pub packed_of_parts :
     CommandLine → List Script → List InfoItem → List SourceFolder → Result Packed MakeFault
 packed_of_parts command scripts about folders =
-    Ok (packed
+    Ok (package_by
     (value_of_package (information_value about (installed_size folders)) folders scripts
     (texts_of (values_with TRIGGER command.values)) (replaces_priority about))
     (contents_of_folders 1 folders))

@@ -2,8 +2,8 @@
 //! bytes of a container go out, and they are sound.
 //!
 //! What a package and an index are is said below: `make_info` (the information of a package, the
-//! output's name), `make_package` and `make_index`. `laws` says that what is made is sound and is read
-//! back.
+//! output's name), `make_package` and `make_index`. `laws` says that what is made is sound and is
+//! read back.
 #![tactic(auto)]
 
 mod commands;

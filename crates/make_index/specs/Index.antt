@@ -13,7 +13,7 @@ use Rattle.command_core.specs.Files.{without_dot}
 use Rattle.command_core.specs.declared.operands.Operand.{Operand}
 use Rattle.command_core.specs.declared.values.OptionValue.{OptionValue}
 use Rattle.make_info.specs.Reads.{Reads}
-use Rattle.make_info.specs.Values.{plains_of}
+use Rattle.make_info.specs.Values.{plains_of_list}
 use Rattle.make_info.specs.declared.fault.MakeFault.{MakeFault}
 use Rattle.make_info.specs.declared.fault.MakeFault.TheVariants.{FileMissing, FileBad, TooLarge}
 use Rattle.make_index.specs.Entries.{entry_of_package}
@@ -26,7 +26,7 @@ use Rattle.list_order.specs.Sorted.{sorted_by}
 -- files
 unfoldable pub value_of_index : List ℕ → List Plain → Plain
 value_of_index description entries =
-    obj_value (more (blob_value description) (more (arr_value (plains_of entries)) none))
+    obj_value (more (blob_value description) (more (arr_value (plains_of_list entries)) none))
 
 -- ---- the packages, operand by operand
 

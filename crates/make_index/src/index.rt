@@ -21,7 +21,7 @@ ghost use Rattle.make_index.specs.Kept.{IsMade, IsMadeBy};
 ghost use Rattle.make_index.specs.Views.{entries_view, entry_view};
 ghost use Rattle.make_info.specs.Faults.{IsOverflow};
 ghost use Rattle.make_info.specs.Reads.{Reads};
-ghost use Rattle.make_info.specs.Values.{plains_of};
+ghost use Rattle.make_info.specs.Values.{plains_of_list};
 ghost use Rattle.std.specs.List.Sorted.{IsPermutation, IsSorted, IsStable};
 ghost use Rattle.std.specs.Prelude.{◌≡◌, ◌≤◌, Ok, IfOk, IfErr, length, map, ◌<◌, ◌^◌, ℕ, List, All, true, None, ◌++◌, ◌∷◌, [], Option, IfSome, IsTrue};
 ghost use Rattle.version_core.specs.Order.{is_version};
@@ -195,7 +195,7 @@ fn write_index(
 /// Writes an array of entries.
 fn write_entries(alloc: Global, writer: &mut Writer, entries: &[Entry]) -> Result<Val, AllocError>
     ensures { IfOk result (λ word. WritesValue writer.old
-        (arr_value (plains_of (map entry_view entries.now))) word writer.new) }
+        (arr_value (plains_of_list (map entry_view entries.now))) word writer.new) }
 {
     values_are_written_depth_first();
     let mut words = Vec::with_capacity(alloc, entries.len())?;

@@ -2,9 +2,9 @@
 use Rattle.std.specs.Prelude.{ℕ, ◌==◌, if◌then◌else◌, List, [], ◌∷◌, Option, Some, None}
 use Rattle.adb_view.specs.Plain.{Plain, null, int, Plains, none, more}
 
-abbrev pub plains_of : List Plain → Plains
-plains_of [] = none
-plains_of (v ∷ vs) = more v (plains_of vs)
+abbrev pub plains_of_list : List Plain → Plains
+plains_of_list [] = none
+plains_of_list (v ∷ vs) = more v (plains_of_list vs)
 
 -- a size; one of 0 is Null
 abbrev pub size_value : ℕ → Plain

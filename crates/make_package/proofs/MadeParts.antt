@@ -168,7 +168,7 @@ first_is values first v h e = let P : Option (Bor OptionValue) → Type 0 = λ o
 pub first_none : (values : List OptionValue) (first : Option (Bor OptionValue)) → IsFirstValue first values → first ≡ None → values ≡ []
 first_none values first h e = let P : Option (Bor OptionValue) → Type 0 = λ o. IsFirstValue o values in subst P e h
 
--- ---- folders that are packed have the sizes and the values of their sources
+-- ---- folders that are package_by have the sizes and the values of their sources
 
 abbrev pub file_size : File → ℕ
 file_size file = size_of_kind file.kind

@@ -9,24 +9,24 @@ use Rattle.make_package.specs.Sources.{values_with, texts_of}
 use Rattle.std.proofs.lemmas.List.{take_more, map-append}
 use Rattle.adb_write.specs.DepthFirst.{WritesValues, push}
 use Rattle.adb_write.specs.Writing.{Writing}
-use Rattle.make_info.specs.Values.{plains_of}
+use Rattle.make_info.specs.Values.{plains_of_list}
 
-plains_push : (vs : List Plain) (v : Plain) → plains_of (vs ++ v ∷ []) ≡ push (plains_of vs) v
+plains_push : (vs : List Plain) (v : Plain) → plains_of_list (vs ++ v ∷ []) ≡ push (plains_of_list vs) v
 plains_push [] v = refl
 plains_push (u ∷ us) v = ap (more u) (plains_push us v)
 
 module _ {X : Type 0} (f : X → Plain) where
   -- one more than the first of a list
-  pub plains_more : (xs : List X) (i : ℕ) (x d : X) → i < length xs → x ≡ get_or xs i d → plains_of (map f (take (i + 1) xs)) ≡ push (plains_of (map f (take i xs))) (f x)
+  pub plains_more : (xs : List X) (i : ℕ) (x d : X) → i < length xs → x ≡ get_or xs i d → plains_of_list (map f (take (i + 1) xs)) ≡ push (plains_of_list (map f (take i xs))) (f x)
   plains_more xs i x d lt e =
-      ap (λ l. plains_of (map f l)) (take_more xs i d lt ∙ ap (λ y. take i xs ++ y ∷ []) (sym e))
-      ∙ ap plains_of (map-append f (take i xs) (x ∷ [])) ∙ plains_push (map f (take i xs)) (f x)
+      ap (λ l. plains_of_list (map f l)) (take_more xs i d lt ∙ ap (λ y. take i xs ++ y ∷ []) (sym e))
+      ∙ ap plains_of_list (map-append f (take i xs) (x ∷ [])) ∙ plains_push (map f (take i xs)) (f x)
 
   pub written_more : (xs : List X) (i : ℕ) (x d : X) (words later : List ℕ) (a b : Writing) → i < length xs → x ≡ get_or xs i d
-      → later ≡ words → WritesValues a (push (plains_of (map f (take i xs))) (f x)) words b → WritesValues a (plains_of (map f (take (i + 1) xs))) later b
+      → later ≡ words → WritesValues a (push (plains_of_list (map f (take i xs))) (f x)) words b → WritesValues a (plains_of_list (map f (take (i + 1) xs))) later b
   written_more xs i x d words later a b lt e same h =
       let P : Plains → Type 0 = λ vs. WritesValues a vs words b in
-      let Q : List ℕ → Type 0 = λ ws. WritesValues a (plains_of (map f (take (i + 1) xs))) ws b in
+      let Q : List ℕ → Type 0 = λ ws. WritesValues a (plains_of_list (map f (take (i + 1) xs))) ws b in
       subst Q (sym same) (subst P (sym (plains_more xs i x d lt e)) h)
 
 -- ---- the values of an option
@@ -54,12 +54,12 @@ pub given_other : (letter : ℕ) (values : List OptionValue) (i : ℕ) (v : Opti
 given_other letter values i v here ne = given_next letter values i v false here (ne_eqb v.letter letter ne) ∙ append-nil (values_with letter (take i values))
 
 abbrev pub blobs : List OptionValue → Plains
-blobs values = plains_of (map blob_value (texts_of values))
+blobs values = plains_of_list (map blob_value (texts_of values))
 
 blobs_push : (values : List OptionValue) (v : OptionValue) → blobs (values ++ v ∷ []) ≡ push (blobs values) (blob_value v.text)
 blobs_push values v =
-    ap (λ (l : List (List ℕ)). plains_of (map blob_value l)) (map-append (λ (w : OptionValue). w.text) values (v ∷ []))
-    ∙ ap plains_of (map-append blob_value (texts_of values) (v.text ∷ [])) ∙ plains_push (map blob_value (texts_of values)) (blob_value v.text)
+    ap (λ (l : List (List ℕ)). plains_of_list (map blob_value l)) (map-append (λ (w : OptionValue). w.text) values (v ∷ []))
+    ∙ ap plains_of_list (map-append blob_value (texts_of values) (v.text ∷ [])) ∙ plains_push (map blob_value (texts_of values)) (blob_value v.text)
 
 pub blob_more : (letter : ℕ) (values : List OptionValue) (i : ℕ) (v : OptionValue) (words later : List ℕ) (a b b' : Writing) → slice_get values i ≡ Some v → v.letter ≡ letter → b' ≡ b
     → later ≡ words → WritesValues a (push (blobs (values_with letter (take i values))) (blob_value v.text)) words b → WritesValues a (blobs (values_with letter (take (i + 1) values))) later b'

@@ -5,7 +5,7 @@ use Rattle.sha2.specs.Sha256.{sha256}
 use Rattle.adb_view.specs.Plain.{Plain, Plains, null, int, none, more, blob_value, arr_value, obj_value}
 use Rattle.pkg_core.specs.Contents.{Contents}
 use Rattle.command_core.specs.Values.{script_types}
-use Rattle.make_info.specs.Values.{number_value, plains_of, size_value}
+use Rattle.make_info.specs.Values.{number_value, plains_of_list, size_value}
 use Rattle.make_package.specs.declared.file.FileKind.{FileKind}
 use Rattle.make_package.specs.declared.file.FileKind.TheVariants.{Link, Regular}
 
@@ -86,7 +86,7 @@ value_of_file file = value_of_kind file.name (kind_of_file file.bytes)
 abbrev pub folder_fields : List ℕ → List Plain → Plains
 folder_fields name files =
     more (blob_value name) (more (access_value FOLDER_MODE)
-    (more (arr_value (plains_of files)) none))
+    (more (arr_value (plains_of_list files)) none))
 
 abbrev pub folder_with : List ℕ → List Plain → Plain
 folder_with name files = obj_value (folder_fields name files)
@@ -111,7 +111,7 @@ script_in (script ∷ scripts) field =
     if bytes_eq script.field field then script.bytes else script_in scripts field
 
 abbrev pub script_fields : List Script → Plains
-script_fields scripts = plains_of (map (λ field. blob_value (script_in scripts field)) script_types)
+script_fields scripts = plains_of_list (map (λ field. blob_value (script_in scripts field)) script_types)
 
 abbrev pub value_of_scripts : List Script → Plain
 value_of_scripts scripts = obj_value (script_fields scripts)
@@ -121,8 +121,8 @@ value_of_scripts scripts = obj_value (script_fields scripts)
 -- info, paths, scripts, triggers and the priority in replacing, which may be lacking
 abbrev pub package_fields : Plain → List Plain → List Script → List (List ℕ) → Option ℕ → Plains
 package_fields info paths scripts triggers priority =
-    more info (more (arr_value (plains_of paths)) (more (value_of_scripts scripts)
-    (more (arr_value (plains_of (map blob_value triggers))) (more (number_value priority) none))))
+    more info (more (arr_value (plains_of_list paths)) (more (value_of_scripts scripts)
+    (more (arr_value (plains_of_list (map blob_value triggers))) (more (number_value priority) none))))
 
 abbrev pub package_with : Plain → List Plain → List Script → List (List ℕ) → Option ℕ → Plain
 package_with info paths scripts triggers priority =

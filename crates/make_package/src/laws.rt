@@ -6,7 +6,7 @@ ghost use Rattle.command_core.specs.Values.{script_types};
 ghost use Rattle.make_info.specs.declared.field.Field.TheVariants.{ReplacesPriority};
 ghost use Rattle.make_info.specs.Fields.{field_word};
 ghost use Rattle.make_info.specs.Named.{value_by_name};
-ghost use Rattle.make_info.specs.Values.{number_value, plains_of, size_value};
+ghost use Rattle.make_info.specs.Values.{number_value, plains_of_list, size_value};
 ghost use Rattle.make_package.specs.Folders.{folder_names, folders_of, folders_over};
 ghost use Rattle.make_package.specs.Package.{FILE_MODE, FOLDER_MODE, Script, access_value, file_fields, folder_fields, is_link_file, kind_of_file, link_text, package_fields, script_fields, script_in};
 ghost use Rattle.make_package.specs.declared.file.FileKind.{FileKind};
@@ -76,5 +76,5 @@ pub fn the_fields_of_a_file_are_those_of_its_bytes()
         × (value_by_name (codes "acl") (table Dir) (folder_fields name files)
         ≡ Some (access_value FOLDER_MODE))
         × (value_by_name (codes "files") (table Dir) (folder_fields name files)
-        ≡ Some (arr_value (plains_of files))) }
+        ≡ Some (arr_value (plains_of_list files))) }
 {}

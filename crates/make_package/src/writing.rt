@@ -4,7 +4,7 @@ ghost use Rattle.command_core.specs.declared.values.TheConstants.{TRIGGER};
 ghost use Rattle.adb_view.specs.Plain.{arr_value, Plain, blob_value};
 ghost use Rattle.adb_write.specs.DepthFirst.{WritesValue, WritesValues};
 ghost use Rattle.adb_write.specs.Writing.{Writing};
-ghost use Rattle.make_info.specs.Values.{plains_of, size_value, number_value};
+ghost use Rattle.make_info.specs.Values.{plains_of_list, size_value, number_value};
 ghost use Rattle.make_package.specs.Package.{access_value, script_in, value_of_scripts, package_with};
 ghost use Rattle.make_package.specs.Packed.{packed_file, packed_folder};
 ghost use Rattle.make_package.specs.Scripts.{scripts_view};
@@ -30,7 +30,7 @@ fn write_paths(
     folders: &[Folder<'_>],
 ) -> Result<Val, AllocError>
     ensures { IfOk result (λ word. WritesValue writer.old
-        (arr_value (plains_of (map packed_folder folders.now))) word writer.new) }
+        (arr_value (plains_of_list (map packed_folder folders.now))) word writer.new) }
 {
     values_are_written_depth_first();
     let mut words = Vec::with_capacity(alloc, folders.len())?;
@@ -58,7 +58,7 @@ fn write_folder(alloc: Global, writer: &mut Writer, folder: &Folder<'_>) -> Resu
 /// Writes the files of a folder.
 fn write_files(alloc: Global, writer: &mut Writer, files: &[File<'_>]) -> Result<Val, AllocError>
     ensures { IfOk result (λ word. WritesValue writer.old
-        (arr_value (plains_of (map packed_file files.now))) word writer.new) }
+        (arr_value (plains_of_list (map packed_file files.now))) word writer.new) }
 {
     values_are_written_depth_first();
     let mut words = Vec::with_capacity(alloc, files.len())?;
@@ -193,7 +193,7 @@ pub(crate) fn write_package(
 /// Writes the triggers: the values of the option for them, in the order given.
 fn write_triggers(alloc: Global, writer: &mut Writer, values: &Values) -> Result<Val, AllocError>
     ensures { IfOk result (λ word. WritesValue writer.old
-        (arr_value (plains_of (map blob_value
+        (arr_value (plains_of_list (map blob_value
         (texts_of (values_with TRIGGER values.now))))) word writer.new) }
 {
     values_are_written_depth_first();

@@ -1,5 +1,5 @@
 -- A command that makes a file commits where it is not refused.
-use Rattle.std.proofs.Common.{◌≡◌, ℕ, Bool, true, false, List, [], length, Option, Some, None, IsSome, Result, Ok, Err, refl, sym, ap, subst, ◌∙◌}
+use Rattle.std.proofs.Common.{◌≡◌, ◌⊎◌, inl, inr, ⊎_elim, ℕ, Bool, true, false, List, [], length, Option, Some, None, IsSome, Result, Ok, Err, refl, sym, ap, subst, ◌∙◌}
 use Rattle.std.specs.Prelude.{if◌then◌else◌, is_some, not, IsTrue}
 use Rattle.adb_rules.specs.Reserved.{is_reserved}
 use Rattle.base_core.specs.Files.{Files}
@@ -16,7 +16,7 @@ use Rattle.report_core.specs.declared.refusal.Refusal.TheVariants.{Reserved, Res
 use Rattle.words_core.specs.Grammar.{command_of}
 use Rattle.outcome.proofs.MadeSound.{IsRefusalOrMade, index_fine, package_fine}
 use Rattle.outcome.specs.Commands.{IsOutcome, IsOutcomeOf, IsOutcomeUnless, applet_outcome, reads_in}
-use Rattle.outcome.specs.Effect.{does_only_read, effect_of, reads_only}
+use Rattle.outcome.specs.Effect.{Makes, does_only_read, effect_by, effect_of, reads_only}
 use Rattle.outcome.specs.Make.{files_with, index_line, make_outcome, unless_reserved}
 use Rattle.outcome.specs.Outcome.{Outcome, commit_report, just_refusal}
 use Rattle.outcome.specs.Work.{recovery_fault, work_files}
@@ -42,20 +42,20 @@ made_commits files output report (Err (TooLarge bytes values)) fine = unless_out
 made_commits files output report (Err Disk) fine = absurd fine
 made_commits files output report (Err Memory) fine = absurd fine
 
-applet_commits : (applet : Applet) (command : CommandLine) (names : List (List ℕ)) (files : Files) → does_only_read (effect_of applet) ≡ false → CommitsUnlessRefused (applet_outcome applet command names (reads_in files) files)
+applet_commits : (applet : Applet) (command : CommandLine) (names : List (List ℕ)) (files : Files) → effect_of applet ≡ Makes → CommitsUnlessRefused (applet_outcome applet command names (reads_in files) files)
 applet_commits Mkpkg command names files makes = made_commits files (output_name command) [] (made_package command names (reads_in files)) (package_fine command names (reads_in files))
 applet_commits Mkndx command names files makes = made_commits files (output_name command) (index_line (length command.operands)) (made_index command (reads_in files)) (index_fine command (reads_in files))
 applet_commits other command names files makes = cc
 
-commits_unless : (fault : Option Cause) (command : CommandLine) (files : Files) (o : Outcome) → does_only_read (effect_of command.applet) ≡ false → IsOutcomeUnless fault command files o → CommitsUnlessRefused o
+commits_unless : (fault : Option Cause) (command : CommandLine) (files : Files) (o : Outcome) → effect_of command.applet ≡ Makes → IsOutcomeUnless fault command files o → CommitsUnlessRefused o
 commits_unless (Some cause) command files o makes is = subst CommitsUnlessRefused (sym is) refl
 commits_unless None command files o makes (names, listed, is) = subst CommitsUnlessRefused (sym is) (applet_commits command.applet command names (work_files (effect_of command.applet) files) makes)
 
-commits_by : (read : Result CommandLine ℕ) (files : Files) (o : Outcome) → reads_only read ≡ false → IsOutcomeOf read files o → CommitsUnlessRefused o
+commits_by : (read : Result CommandLine ℕ) (files : Files) (o : Outcome) → effect_by read ≡ Makes → IsOutcomeOf read files o → CommitsUnlessRefused o
 commits_by (Err place) files o makes is = cc
 commits_by (Ok command) files o makes is = commits_unless (recovery_fault (effect_of command.applet) files) command files o makes is
 
-pub maker_commits : (words : List (List ℕ)) (files : Files) (o : Outcome) → reads_only (command_of words) ≡ false → IsOutcome words files o → CommitsUnlessRefused o
+pub maker_commits : (words : List (List ℕ)) (files : Files) (o : Outcome) → effect_by (command_of words) ≡ Makes → IsOutcome words files o → CommitsUnlessRefused o
 maker_commits words files o makes is = commits_by (command_of words) files o makes is
 
 -- ---- a refusal
@@ -63,9 +63,15 @@ maker_commits words files o makes is = commits_by (command_of words) files o mak
 refused_maker : (o : Outcome) → CommitsUnlessRefused o → IsSome o.refusal → o.commits ≡ false
 refused_maker o h some = h ∙ ap not some
 
-pub refusal_commits : (words : List (List ℕ)) (files : Files) (o : Outcome) → (IsTrue (reads_only (command_of words)) → o.commits ≡ false) → (reads_only (command_of words) ≡ false → CommitsUnlessRefused o) → IsSome o.refusal → o.commits ≡ false
-refusal_commits words files o reads makes some =
-    elim (reads_only (command_of words)) as (λ b. (IsTrue b → o.commits ≡ false) → (b ≡ false → CommitsUnlessRefused o) → o.commits ≡ false) [
-      | true ↦ λ r m. r refl
-      | false ↦ λ r m. refused_maker o (m refl) some
-    ] reads makes
+-- an applet only reads, or makes a file
+reads_or_makes : (applet : Applet) → IsTrue (does_only_read (effect_of applet)) ⊎ (effect_of applet ≡ Makes)
+reads_or_makes Mkpkg = inr refl
+reads_or_makes Mkndx = inr refl
+reads_or_makes other = inl refl
+
+reads_or_makes_by : (read : Result CommandLine ℕ) → IsTrue (reads_only read) ⊎ (effect_by read ≡ Makes)
+reads_or_makes_by (Err place) = inl refl
+reads_or_makes_by (Ok command) = reads_or_makes command.applet
+
+pub refusal_commits : (words : List (List ℕ)) (files : Files) (o : Outcome) → (IsTrue (reads_only (command_of words)) → o.commits ≡ false) → (effect_by (command_of words) ≡ Makes → CommitsUnlessRefused o) → IsSome o.refusal → o.commits ≡ false
+refusal_commits words files o reads makes some = ⊎_elim reads (λ is. refused_maker o (makes is) some) (reads_or_makes_by (command_of words))

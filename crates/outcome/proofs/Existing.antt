@@ -19,7 +19,7 @@ use Rattle.command_core.specs.declared.values.OptionValue.{OptionValue}
 use Rattle.make_package.specs.Sources.{values_with}
 use Rattle.outcome.proofs.Recovered.{unstaged_within}
 use Rattle.outcome.specs.Commands.{IsListingFor, IsOutcome, IsOutcomeOf, IsOutcomeOver, IsOutcomeUnless, reads_in, command_outcome}
-use Rattle.outcome.specs.Effect.{Effect, Makes, effect_of}
+use Rattle.outcome.specs.Effect.{Effect, Computes, Reads, Tells, Makes, Changes, effect_of}
 use Rattle.outcome.specs.Make.{IsListing, files_below}
 use Rattle.outcome.specs.Outcome.{Outcome, just_refusal}
 use Rattle.outcome.specs.Work.{recovery_fault, work_files}
@@ -48,8 +48,11 @@ names_exist have Mkpkg command files within h = listing_exists have (values_with
 names_exist have other command files within h = ([], refl)
 
 work_within : (effect : Effect) (files : Files) (within : List (List ℕ)) → IsWithin within files → (names : List (List ℕ)) × IsWithin names (work_files effect files)
+work_within Computes files within h = (within, h)
+work_within Reads files within h = (within, h)
+work_within Tells files within h = unstaged_within files within h
 work_within Makes files within h = unstaged_within files within h
-work_within other files within h = (within, h)
+work_within Changes files within h = unstaged_within files within h
 
 outcome_unless : HaveList → (fault : Option Cause) (command : CommandLine) (files : Files) (within : List (List ℕ)) → IsWithin within files → (o : Outcome) × IsOutcomeUnless fault command files o
 outcome_unless have (Some cause) command files within h = (just_refusal files (IntentBad cause), refl)

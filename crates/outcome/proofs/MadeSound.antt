@@ -42,7 +42,7 @@ use Rattle.command_core.specs.declared.values.OptionValue.{OptionValue}
 use Rattle.journal_core.proofs.Below.{is_below}
 use Rattle.outcome.proofs.Listings.{if_some}
 use Rattle.outcome.specs.Commands.{IsListingFor, IsOutcome, IsOutcomeOf, IsOutcomeUnless, reads_in, applet_outcome}
-use Rattle.outcome.specs.Effect.{Effect, Makes, effect_of, output, output_by, output_if}
+use Rattle.outcome.specs.Effect.{Effect, Computes, Reads as OnlyReads, Tells, Makes, Changes, effect_of, output, output_by, output_if}
 use Rattle.outcome.specs.Make.{IsListing, files_below, index_line, make_outcome, mkndx, mkpkg}
 use Rattle.outcome.specs.Outcome.{Outcome, commit_report, just_refusal}
 use Rattle.outcome.specs.Sound.{IsSoundAt}
@@ -257,8 +257,11 @@ abbrev pub StayNamed : Type 0
 StayNamed = (files : Files) → AreNamedFiles files → AreNamedFiles (unstaged_files files)
 
 work_named : StayNamed → (effect : Effect) (files : Files) → AreNamedFiles files → AreNamedFiles (work_files effect files)
+work_named stay Computes files good = good
+work_named stay OnlyReads files good = good
+work_named stay Tells files good = stay files good
 work_named stay Makes files good = stay files good
-work_named stay other files good = good
+work_named stay Changes files good = stay files good
 
 sound_unless : StayNamed → SoundPackage → SoundIndex → (fault : Option Cause) (command : CommandLine) (files : Files) (o : Outcome) (name : List ℕ) → AreNamedFiles files → IsOutcomeUnless fault command files o → o.refusal ≡ None
     → output_if (effect_of command.applet) command ≡ Some name → IsSoundAt name o.files

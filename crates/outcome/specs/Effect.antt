@@ -11,10 +11,14 @@ pub data Effect : Type 0 where
   Computes : Effect
   -- it reads files, and leaves them as they are
   Reads : Effect
-  -- it reads files, and writes one
+  -- it recovers, reads files, and leaves them as they are then
+  Tells : Effect
+  -- it recovers, reads files, and writes one
   Makes : Effect
+  -- it recovers, reads files, and writes and removes several in one step
+  Changes : Effect
 
--- no word names an applet that is not listed here
+-- no word names an applet that is not listed here, and none yet that tells or changes
 abbrev pub effect_of : Applet → Effect
 effect_of Verify = Reads
 effect_of Adbdump = Reads
@@ -24,21 +28,34 @@ effect_of other = Computes
 
 abbrev pub does_rest_on_words : Effect → Bool
 does_rest_on_words Computes = true
-does_rest_on_words other = false
+does_rest_on_words Reads = false
+does_rest_on_words Tells = false
+does_rest_on_words Makes = false
+does_rest_on_words Changes = false
 
+-- whether it leaves the tree as it is, whatever it finds there
 abbrev pub does_only_read : Effect → Bool
+does_only_read Computes = true
+does_only_read Reads = true
+does_only_read Tells = false
 does_only_read Makes = false
-does_only_read other = true
+does_only_read Changes = false
 
 -- whether it first recovers: it finishes the change that an intent tells of
 abbrev pub does_recover : Effect → Bool
+does_recover Computes = false
+does_recover Reads = false
+does_recover Tells = true
 does_recover Makes = true
-does_recover other = false
+does_recover Changes = true
 
 -- the name under which a command writes a file, if it writes one
 abbrev pub output_if : Effect → CommandLine → Option (List ℕ)
+output_if Computes command = None
+output_if Reads command = None
+output_if Tells command = None
 output_if Makes command = output_name command
-output_if other command = None
+output_if Changes command = None
 
 -- ---- of a command line; a usage error looks at nothing, and changes nothing
 

@@ -6,12 +6,15 @@ use Rattle.base_core.specs.Files.{Files}
 use Rattle.base_core.specs.declared.cause.Cause.{Cause}
 use Rattle.journal_core.specs.Recovery.{intent_name}
 use Rattle.journal_core.specs.Staged.{unstaged_files}
-use Rattle.outcome.specs.Effect.{Effect, Makes}
+use Rattle.outcome.specs.Effect.{Effect, Computes, Reads, Tells, Makes, Changes}
 
 -- those that a recovery leaves, of a command that recovers
 abbrev pub work_files : Effect → Files → Files
+work_files Computes files = files
+work_files Reads files = files
+work_files Tells files = unstaged_files files
 work_files Makes files = unstaged_files files
-work_files other files = files
+work_files Changes files = unstaged_files files
 
 -- why what stands under the intent's name is no intent container; where nothing stands, nothing is
 -- wrong
@@ -21,5 +24,8 @@ fault_of_intent (Some file) = first_fault IntentTable file
 
 -- why a command cannot recover these files, if it has to
 abbrev pub recovery_fault : Effect → Files → Option Cause
+recovery_fault Computes files = None
+recovery_fault Reads files = None
+recovery_fault Tells files = fault_of_intent (files intent_name)
 recovery_fault Makes files = fault_of_intent (files intent_name)
-recovery_fault other files = None
+recovery_fault Changes files = fault_of_intent (files intent_name)

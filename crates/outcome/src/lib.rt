@@ -13,7 +13,7 @@ ghost use Rattle.base_core.specs.Files.{Files, IsWithin};
 ghost use Rattle.base_core.specs.Listed.{IsListOf, IsNamesOf};
 ghost use Rattle.base_core.specs.Tree.{IsWhole, TreeState, files_of};
 ghost use Rattle.outcome.specs.Commands.{IsOutcome};
-ghost use Rattle.outcome.specs.Effect.{output, reads_only, rests_on_words};
+ghost use Rattle.outcome.specs.Effect.{Makes, effect_by, output, reads_only, rests_on_words};
 ghost use Rattle.outcome.specs.Make.{files_below};
 ghost use Rattle.outcome.specs.Outcome.{Outcome, outcome_of};
 ghost use Rattle.outcome.specs.Sound.{IsSoundAt};
@@ -52,7 +52,7 @@ pub fn a_command_that_reads_leaves_the_files()
 /// A command that makes a file commits exactly where it is not refused.
 pub fn a_command_that_makes_commits_unless_refused()
     ensures { (words : List (List ℕ)) (files : Files) (o : Outcome)
-        → reads_only (command_of words) ≡ false → IsOutcome words files o
+        → effect_by (command_of words) ≡ Makes → IsOutcome words files o
         → o.commits ≡ not (is_some o.refusal) }
 {}
 

@@ -87,7 +87,7 @@ module _ {X : Type 0} (lt : X → X → Bool) (o : IsStrictWeakOrder lt) where
   apart_above z y l = and_false (lt z y) (not (lt y z)) l
 
   -- all that stands before the first of a run is below it
-  front_below : (xs : List X) → Rises lt o xs → (i : ℕ) (z : X) → slice_get xs i ≡ Some z
+  pub front_below : (xs : List X) → Rises lt o xs → (i : ℕ) (z : X) → slice_get xs i ≡ Some z
       → ((j : ℕ) (y : X) → suc j ≡ i → slice_get xs j ≡ Some y → ties lt z y ≡ false)
       → Each (λ y. lt y z ≡ true) (take i xs)
   front_below xs up zero z g s = tt

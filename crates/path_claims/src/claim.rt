@@ -22,7 +22,7 @@ pub struct Claim<'a> {
 }
 
 /// Puts claims into the order of their paths. Those of one path stay in theirs.
-pub(crate) fn sort_claims(claims: &mut Vec<Claim<'_>>) -> Result<(), AllocError>
+pub fn sort_claims(claims: &mut Vec<Claim<'_>>) -> Result<(), AllocError>
     ensures { IfOk result (λ _. map claim_seen claims.new.items
         ≡ sorted_by claim_cmp (map claim_seen claims.old.items)) }
 {
@@ -31,7 +31,7 @@ pub(crate) fn sort_claims(claims: &mut Vec<Claim<'_>>) -> Result<(), AllocError>
 }
 
 /// Whether a claim has another path than the one before it.
-pub(crate) fn begins_path(claims: &[Claim<'_>], i: usize) -> bool
+pub fn begins_path(claims: &[Claim<'_>], i: usize) -> bool
     requires { i < length claims.now }
     ensures { result ≡ is_first_of_path (map claim_seen claims.now) i }
 {
@@ -54,7 +54,7 @@ fn run_in_front<'c, 'a>(claims: &'c [Claim<'a>], path: &FilePath<'_>) -> &'c [Cl
 }
 
 /// The claims from one on that have its path.
-pub(crate) fn run_at<'c, 'a>(claims: &'c [Claim<'a>], from: usize) -> &'c [Claim<'a>]
+pub fn run_at<'c, 'a>(claims: &'c [Claim<'a>], from: usize) -> &'c [Claim<'a>]
     requires { from < length claims.now }
     ensures { (c : PathClaim) → slice_get (map claim_seen claims.now) from ≡ Some c
         → map claim_seen result.now

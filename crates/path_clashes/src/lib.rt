@@ -1,2 +1,18 @@
 //! Whether a change of names makes one name a folder of another.
+//!
+//! The change is given by the paths that it writes, and by a `LetGo`, which says under which names
+//! a file goes. `first_clash` looks near the paths alone: at the folders above them, and at the
+//! names below them. The contracts cite `Clash` of `specs/`.
 #![tactic(auto)]
+
+mod clash;
+mod laws;
+mod let_go;
+mod near;
+
+pub use clash::{Clash, first_clash};
+pub use laws::{
+    a_change_has_one_first_clash, changes_that_agree_clash_alike,
+    files_without_a_clash_are_folder_like,
+};
+pub use let_go::LetGo;

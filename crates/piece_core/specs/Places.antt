@@ -1,14 +1,16 @@
 -- Where a reader stands in the blocks of a package, and what a block comes to.
-use Rattle.std.specs.Prelude.{◌≡◌, ◌≤◌, ℕ, ◌+◌, ◌-◌, min, List, [], length, take, drop, Option, Some, None, Result, Ok, Err}
+use Rattle.std.specs.Prelude.{◌≡◌, ◌≤◌, ℕ, ◌+◌, ◌-◌, min, List, [], ◌∷◌, length, take, drop, Option, Some, None, Result, Ok, Err}
 use Rattle.base_core.specs.declared.cause.Cause.{Cause}
 use Rattle.adb_block.specs.Framing.{Step as BlockStep, next_step}
 use Rattle.adb_block.specs.Frames.{framed_piece, raw_size}
 use Rattle.adb_block.specs.Piece.{padding_of}
 use Rattle.adb_block.specs.Reading.{reading_of}
 use Rattle.adb_block.specs.Standing.{Standing}
+use Rattle.adb_block.specs.declared.block.BlockKind.TheVariants as Kinds
 use Rattle.adb_block.specs.declared.block.Frame.{Frame}
 use Rattle.pkg_core.specs.Contents.{contents_bytes}
-use Rattle.pkg_core.specs.Opened.{left_in}
+use Rattle.pkg_core.specs.Opened.{expected_of, left_in}
+use Rattle.pkg_core.specs.declared.walk.Walk.{Walk}
 use Rattle.piece_core.specs.Pieces.{PiecesRead, no_piece, refusal, pieces_by_blocks}
 use Rattle.piece_core.specs.Taking.{HasTaken, file_bytes_left, pieces_in}
 use Rattle.piece_core.specs.declared.place.BlockPlace.{BlockPlace}
@@ -59,6 +61,18 @@ abbrev pub HasAllLeft : Frame → Step → Type 0
 HasAllLeft frame End = Unit {0}
 HasAllLeft frame Passed = Unit {0}
 HasAllLeft frame (Opened f) = 8 + file_bytes_left f ≡ frame.payload_len
+
+-- a file is opened by a block of contents
+abbrev pub IsOfContents : Frame → Step → Type 0
+IsOfContents frame End = Unit {0}
+IsOfContents frame Passed = Unit {0}
+IsOfContents frame (Opened f) = frame.kind ≡ Kinds.Contents
+
+-- the walk goes on behind the file that is opened; at the end no file is due
+abbrev pub WalksOn : Walk → Step → Walk → Type 0
+WalksOn before End after = (left_in before ≡ []) × (left_in after ≡ [])
+WalksOn before Passed after = after ≡ before
+WalksOn before (Opened f) after = left_in before ≡ expected_of f.wanted ∷ left_in after
 
 -- no block is left, a block was passed, or the contents of a file begin and the pieces behind them
 -- come from where the reader stands then; or the first failed test

@@ -1,10 +1,10 @@
 -- Where a file stands whose bytes are handed in piece by piece.
-use Rattle.std.specs.Prelude.{◌≡◌, ℕ, ◌-◌, min, List, [], ◌++◌, length, Option, Some, None, Result, Ok, Err}
+use Rattle.std.specs.Prelude.{◌≡◌, ℕ, ◌-◌, min, true, false, List, [], ◌++◌, length, Option, Some, None, Result, Ok, Err}
 use Rattle.base_core.specs.declared.cause.Cause.{Cause}
 use Rattle.pkg_core.specs.Contents.{contents_bytes, hash_fault}
 use Rattle.pkg_core.specs.Opened.{expected_of}
 use Rattle.piece_core.specs.Hashing.{HoldsFor}
-use Rattle.piece_core.specs.Pieces.{PiecesRead, piece, refusal, pieces_from, whole_pieces}
+use Rattle.piece_core.specs.Pieces.{PiecesRead, piece, refusal, part_of, pieces_from, whole_pieces}
 use Rattle.piece_core.specs.declared.file.FilePieces.{FilePieces}
 use Rattle.piece_core.specs.declared.part.Part.{Part}
 use Rattle.piece_core.specs.declared.part.TheConstants.{PIECE_LEN}
@@ -40,6 +40,12 @@ IsTaken f so_far bytes left further (Ok (part, None)) =
     pieces_in f so_far (bytes ++ left) further ≡ piece part bytes further
 IsTaken f so_far bytes left further (Err c) =
     pieces_in f so_far (bytes ++ left) further ≡ refusal c
+
+-- a piece of this file, and unless it is the last, what is left of the file
+abbrev pub IsPartOf : FilePieces → Part × Option FilePieces → Type 0
+IsPartOf f (part, Some g) =
+    (part ≡ part_of (expected_of f.wanted) false) × (g.wanted ≡ f.wanted)
+IsPartOf f (part, None) = part ≡ part_of (expected_of f.wanted) true
 
 -- the block's contents are those of a file, of which nothing was handed in yet; or the first failed
 -- test

@@ -1,11 +1,11 @@
 //! A file of a package whose contents are handed in piece by piece.
 
-ghost use Rattle.std.specs.Prelude.{◌≡◌, ◌≤◌, ◌+◌, ◌-◌, ℕ, List, ◌++◌, length, take, None, IfOk, IfSome};
+ghost use Rattle.std.specs.Prelude.{◌≡◌, ◌≤◌, ◌+◌, ◌-◌, ℕ, List, ◌∷◌, ◌++◌, length, take, None, IfOk, IfSome};
 ghost use Rattle.adb_schema.specs.Soundness.{file_pair};
 ghost use Rattle.pkg_core.specs.Contents.{Expected, contents_bytes};
 ghost use Rattle.pkg_core.specs.Opened.{expected_of, left_in};
 ghost use Rattle.piece_core.specs.Pieces.{PiecesRead, part_of, pieces_of_payload, position_or_size_fault};
-ghost use Rattle.piece_core.specs.Taking.{HasTaken, IsOpened, IsTaken, file_bytes_left, next_len};
+ghost use Rattle.piece_core.specs.Taking.{HasTaken, IsOpened, IsPartOf, IsTaken, file_bytes_left, next_len};
 
 use crate::hasher::Hasher;
 use crate::part::{PIECE_LEN, Part};
@@ -47,6 +47,7 @@ impl<'a> FilePieces<'a> {
         ensures taken { (so_far left : List ℕ) (further : PiecesRead) → HasTaken self.entry so_far
             → length (so_far ++ (bytes.now ++ left)) ≡ self.entry.wanted.size
             → IsTaken self.entry so_far bytes.now left further result }
+        ensures part { IfOk result (IsPartOf self.entry) }
         ensures left { IfOk result (λ taken. IfSome taken.1 (λ further.
             file_bytes_left further ≡ file_bytes_left self.entry - length bytes.now)) }
     {
@@ -100,6 +101,8 @@ pub fn open_file<'a>(
         → IsOpened (pieces_of_payload payload further (left_in walk.old)) payload
         (further (left_in walk.new)) result }
     ensures left { IfOk result (λ file. 8 + file_bytes_left file ≡ len) }
+    ensures walk { IfOk result (λ file.
+        left_in walk.old ≡ expected_of file.wanted ∷ left_in walk.new) }
 {
     let found = file_pair(positions);
     let Some(wanted) = walk.next() else {

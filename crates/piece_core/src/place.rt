@@ -4,7 +4,7 @@ ghost use Rattle.std.specs.Prelude.{◌≡◌, ◌≤◌, ◌+◌, ◌-◌, ℕ,
 ghost use Rattle.adb_block.specs.Framing.{ended};
 ghost use Rattle.adb_block.specs.Frames.{IsFramed, raw_size};
 ghost use Rattle.adb_block.specs.declared.block.BlockKind.TheVariants as Kinds;
-ghost use Rattle.piece_core.specs.Places.{HasAllLeft, HasPositions, IsStepped, place_behind, step_at, whole_size};
+ghost use Rattle.piece_core.specs.Places.{HasAllLeft, HasPositions, IsOfContents, IsStepped, WalksOn, place_behind, step_at, whole_size};
 ghost use Rattle.piece_core.specs.declared.place.Step.TheVariants.{End as Ended};
 
 use crate::file::{FilePieces, open_file};
@@ -58,7 +58,10 @@ impl<'a> BlockPlace<'a> {
         ensures len { self.new.len ≡ self.old.len }
         ensures behind { IfSome framing (λ frame. OnOk result (self.new.at
             ≡ self.old.at + whole_size frame (self.old.len - self.old.at))) }
+        ensures within { self.new.at ≤ self.new.len }
         ensures left { IfSome framing (λ frame. IfOk result (HasAllLeft frame)) }
+        ensures kind { IfSome framing (λ frame. IfOk result (IsOfContents frame)) }
+        ensures walk { IfOk result (λ step. WalksOn self.old.walk step self.new.walk) }
         ensures ended { framing ≡ None → IfOk result (λ step. step ≡ Ended) }
     {
         match framing {
@@ -73,6 +76,8 @@ impl<'a> BlockPlace<'a> {
         ensures step { (file : List ℕ) → step_at self.old file ≡ ended
             → IsStepped None self.old file result self.new }
         ensures len { self.new.len ≡ self.old.len }
+        ensures at { self.new.at ≡ self.old.at }
+        ensures walk { IfOk result (λ step. WalksOn self.old.walk step self.new.walk) }
         ensures ended { IfOk result (λ step. step ≡ Ended) }
     {
         match self.walk.end() {
@@ -92,7 +97,10 @@ impl<'a> BlockPlace<'a> {
         ensures len { self.new.len ≡ self.old.len }
         ensures behind { OnOk result (self.new.at
             ≡ self.old.at + whole_size frame (self.old.len - self.old.at)) }
+        ensures within { self.new.at ≤ self.new.len }
         ensures left { IfOk result (HasAllLeft frame) }
+        ensures kind { IfOk result (IsOfContents frame) }
+        ensures walk { IfOk result (λ step. WalksOn self.old.walk step self.new.walk) }
     {
         match frame.kind {
             BlockKind::Contents => self.open(frame, positions),
@@ -115,7 +123,10 @@ impl<'a> BlockPlace<'a> {
         ensures len { self.new.len ≡ self.old.len }
         ensures behind { OnOk result (self.new.at
             ≡ self.old.at + whole_size frame (self.old.len - self.old.at)) }
+        ensures within { self.new.at ≤ self.new.len }
         ensures left { IfOk result (HasAllLeft frame) }
+        ensures kind { IfOk result (IsOfContents frame) }
+        ensures walk { IfOk result (λ step. WalksOn self.old.walk step self.new.walk) }
     {
         if frame.payload_len < POSITIONS_LEN {
             return Err(Cause::Truncated { at: self.at });

@@ -1,6 +1,6 @@
 -- What was seen of a block, and what it says of each file that has these bytes.
-use Rattle.std.proofs.Common.{◌≡◌, ℕ, ◌+◌, ◌-◌, ◌<◌, ◌≤◌, List, ◌++◌, length, take, drop, Option, Some, None, Result, Ok, Err, refl, ap, sym, subst, ◌∙◌, arith}
-use Rattle.std.specs.Prelude.{IfSome, IsErrAnd}
+use Rattle.std.proofs.Common.{◌≡◌, ℕ, ◌+◌, ◌-◌, ◌<◌, ◌≤◌, min, nat_le, Bool, true, false, List, [], ◌∷◌, ◌++◌, length, take, drop, Option, Some, None, Result, Ok, Err, refl, ap, sym, subst, ◌∙◌, arith}
+use Rattle.std.specs.Prelude.{IfOk, IfSome, IsErrAnd}
 use Rattle.std.proofs.lemmas.List.{append-nil, drop-drop, length-append, take-take}
 use Rattle.base_core.specs.Calls.{IfObservable}
 use Rattle.base_core.specs.Tree.{TreeState, files_of}
@@ -14,7 +14,7 @@ use Rattle.pkg_pieces.proofs.SeenBytes.{has_rest, seen_by_read, seen_then}
 use Rattle.piece_core.specs.Pieces.{pieces_by_blocks, refusal}
 use Rattle.piece_core.specs.Places.{HasPositions, pieces_at, standing_at_place, step_at}
 use Rattle.piece_core.specs.declared.place.BlockPlace.{BlockPlace}
-use Rattle.piece_core.proofs.BlockRuns.{reading_failed}
+use Rattle.adb_block.proofs.Runs.{reading_failed}
 use Rattle.piece_reader.specs.Blocks.{IsBlockRead, IsInBlock, SeesPositions, head_size}
 use Rattle.piece_reader.specs.declared.block.BlockRead.{BlockRead}
 use Rattle.piece_reader.specs.declared.fault.PieceFault.{PieceFault}
@@ -58,20 +58,40 @@ block_seen h later name head positions seen len at (Some frame) same le holds sh
 -- ---- a file
 
 pub positions_in : (place : BlockPlace) (file head positions seen : List ℕ) (left : ℕ) (framing : Option Frame) → HoldsHead head left → length head ≤ head_len head → IfSome framing (λ frame. frame.head_len ≡ head_len head) → IfSome framing (λ frame. (0 < left) × (raw_size frame ≤ left)) → length positions ≡ 8 → SeesPositions framing positions seen → HasAt file place.at (head ++ seen)
-    → HasPositions framing positions place file × IsInBlock framing (length (head ++ seen))
-positions_in place file head positions seen left None holds short is fits eight sees has = (tt, tt)
-positions_in place file head positions seen left (Some frame) holds short is fits eight sees has =
+    → HasPositions framing positions place file
+positions_in place file head positions seen left None holds short is fits eight sees has = tt
+positions_in place file head positions seen left (Some frame) holds short is fits eight sees has = λ enough.
+    let whole : frame.head_len ≡ length head = head_whole head frame left holds short is fits.1 in
+    let there : HasAt file (place.at + length head) positions = subst (λ (xs : List ℕ). HasAt file (place.at + length head) xs) (sees.1 enough) (has_rest file place.at head seen has) in
+    take-take 8 frame.payload_len (drop frame.head_len (drop place.at file)) enough
+    ∙ (ap (take 8) (drop-drop frame.head_len place.at file ∙ ap (λ (n : ℕ). drop n file) (omega (arith, whole)))
+    ∙ (ap (λ (n : ℕ). take n (drop (place.at + length head) file)) (sym eight) ∙ there))
+
+positions_len : (enough : Bool) (n : ℕ) (positions seen : List ℕ) → nat_le 8 n ≡ enough → length positions ≡ 8 → length seen ≤ n → (8 ≤ n → seen ≡ positions) → length seen ≤ min 8 n
+positions_len true n positions seen e eight few same =
+    let room : 8 ≤ n = grind arith in
+    let long : length seen ≡ 8 = ap length (same room) ∙ eight in
+    omega (arith, room, long)
+positions_len false n positions seen e eight few same =
+    let less : n < 8 = grind arith in
+    omega (arith, less, few)
+
+pub in_block : (head positions seen : List ℕ) (left : ℕ) (framing : Option Frame) → HoldsHead head left → length head ≤ head_len head → IfSome framing (λ frame. frame.head_len ≡ head_len head) → IfSome framing (λ frame. (0 < left) × (raw_size frame ≤ left)) → length positions ≡ 8 → SeesPositions framing positions seen → IsInBlock framing (length (head ++ seen))
+in_block head positions seen left None holds short is fits eight sees = tt
+in_block head positions seen left (Some frame) holds short is fits eight sees =
     let whole = head_whole head frame left holds short is fits.1 in
     let all = length-append head seen in
-    (by_room, omega (arith, whole, all, sees.0))
-  where
-    by_room : 8 ≤ frame.payload_len → take 8 (take frame.payload_len (drop frame.head_len (drop place.at file))) ≡ positions
-    by_room enough =
-        let whole : frame.head_len ≡ length head = head_whole head frame left holds short is fits.1 in
-        let there : HasAt file (place.at + length head) positions = subst (λ (xs : List ℕ). HasAt file (place.at + length head) xs) (sees.1 enough) (has_rest file place.at head seen has) in
-        take-take 8 frame.payload_len (drop frame.head_len (drop place.at file)) enough
-        ∙ (ap (take 8) (drop-drop frame.head_len place.at file ∙ ap (λ (n : ℕ). drop n file) (omega (arith, whole)))
-        ∙ (ap (λ (n : ℕ). take n (drop (place.at + length head) file)) (sym eight) ∙ there))
+    let few = positions_len (nat_le 8 frame.payload_len) frame.payload_len positions seen refl eight sees.0 sees.1 in
+    omega (arith, whole, all, few)
+
+-- nothing was seen
+nothing_in : (found : Option (List ℕ)) (len at : ℕ) → IfSome found (λ file. length file ≡ len → HasAt file at [])
+nothing_in None len at = tt
+nothing_in (Some file) len at = λ same. refl
+
+pub nothing_seen : (h : List TreeState) (name : List ℕ) (len at : ℕ) → at ≤ len → IsSeenIn h name len at []
+nothing_seen [] name len at le = record { seen = tt; within = omega (arith, le) }
+nothing_seen (v ∷ earlier) name len at le = record { seen = nothing_in (files_of v name) len at; within = omega (arith, le) }
 
 -- ---- what is answered
 
@@ -79,10 +99,19 @@ pub block_failed : (place : BlockPlace) (file : List ℕ) (c : Cause) → step_a
 unfolding pieces_by_blocks
 block_failed place file c step = ap (pieces_by_blocks (left_in place.walk)) (reading_failed (standing_at_place place file) c step)
 
-pub read_bad : (place : BlockPlace) (file : List ℕ) (seen : ℕ) (c : Cause) (r : Result BlockRead PieceFault) → IsErrAnd r (λ fault. fault ≡ Bad c) → pieces_at place file ≡ refusal c → IsBlockRead place file seen r
-read_bad place file seen c (Ok read) is bad = absurd is
-read_bad place file seen c (Err (Bad d)) is bad = let e : Bad d ≡ Bad c = is in let same : c ≡ d = (cc) in bad ∙ ap refusal same
-read_bad place file seen c (Err Disk) is bad = tt
+pub not_ok : {A : Type 0} (P : A → Type 0) (r : Result A PieceFault) (fault : PieceFault) → IsErrAnd r (λ other. other ≡ fault) → IfOk r P
+not_ok P (Ok value) fault is = absurd is
+not_ok P (Err other) fault is = tt
+
+pub read_bad : (place : BlockPlace) (file : List ℕ) (c : Cause) (r : Result BlockRead PieceFault) → IsErrAnd r (λ fault. fault ≡ Bad c) → pieces_at place file ≡ refusal c → IsBlockRead place file r
+read_bad place file c (Ok read) is bad = absurd is
+read_bad place file c (Err (Bad d)) is bad = let e : Bad d ≡ Bad c = is in let same : c ≡ d = (cc) in bad ∙ ap refusal same
+read_bad place file c (Err Disk) is bad = tt
+
+pub read_failed : (place : BlockPlace) (file : List ℕ) (r : Result BlockRead PieceFault) → IsErrAnd r (λ fault. fault ≡ Disk) → IsBlockRead place file r
+read_failed place file (Ok read) is = absurd is
+read_failed place file (Err (Bad c)) is = absurd (let e : Bad c ≡ Disk = is in (cc))
+read_failed place file (Err Disk) is = tt
 
 pub bad_not_disk : (c : Cause) → Bad c ≡ Disk → ⊥
 bad_not_disk c e = (cc)

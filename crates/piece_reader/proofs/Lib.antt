@@ -1,3 +1,5 @@
 pub mod BlockSeen
 pub mod PieceRead
 pub mod BlockStepped
+pub mod FilesFound
+pub mod Readings

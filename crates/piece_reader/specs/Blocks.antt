@@ -1,8 +1,13 @@
 -- What was read of a block, and what it comes to.
-use Rattle.std.specs.Prelude.{◌≡◌, ◌≤◌, ◌<◌, ℕ, ◌+◌, List, [], length, drop, Option, Some, None, Result, Ok, Err}
+use Rattle.std.specs.Prelude.{◌≡◌, ◌≤◌, ◌<◌, ℕ, ◌+◌, min, List, [], ◌∷◌, length, drop, Option, Some, None, Result, Ok, Err}
 use Rattle.adb_block.specs.Frames.{IsFramed, raw_size}
+use Rattle.adb_block.specs.Reading.{reading_of}
+use Rattle.adb_block.specs.declared.block.BlockKind.TheVariants as Kinds
 use Rattle.adb_block.specs.declared.block.Frame.{Frame}
-use Rattle.piece_core.specs.Pieces.{no_piece, refusal}
+use Rattle.pkg_core.specs.Contents.{Expected}
+use Rattle.pkg_core.specs.Opened.{expected_of, left_in}
+use Rattle.pkg_core.specs.declared.walk.Walk.{Walk}
+use Rattle.piece_core.specs.Pieces.{PiecesRead, no_piece, pieces_by_blocks, refusal}
 use Rattle.piece_core.specs.Places.{HasPositions, pieces_at, step_at}
 use Rattle.piece_core.specs.declared.place.BlockPlace.{BlockPlace}
 use Rattle.piece_core.specs.Taking.{file_bytes_left}
@@ -24,18 +29,23 @@ SeesPositions None positions seen = seen ≡ []
 SeesPositions (Some frame) positions seen =
     (length seen ≤ frame.payload_len) × (8 ≤ frame.payload_len → seen ≡ positions)
 
--- no more of a block was seen than it has
+-- no more of a block was seen than its header and the positions
 abbrev pub IsInBlock : Option Frame → ℕ → Type 0
 IsInBlock None seen = Unit {0}
-IsInBlock (Some frame) seen = seen ≤ raw_size frame
+IsInBlock (Some frame) seen = seen ≤ frame.head_len + min 8 frame.payload_len
 
 -- what was read of a block is what stands there; or the first failed test
-abbrev pub IsBlockRead : BlockPlace → List ℕ → ℕ → Result BlockRead PieceFault → Type 0
-IsBlockRead place file seen (Ok read) =
+abbrev pub IsBlockRead : BlockPlace → List ℕ → Result BlockRead PieceFault → Type 0
+IsBlockRead place file (Ok read) =
     IsFramed (Ok read.framing) (drop place.at file) (step_at place file)
-    × HasPositions read.framing read.positions place file × IsInBlock read.framing seen
-IsBlockRead place file seen (Err (Bad c)) = pieces_at place file ≡ refusal c
-IsBlockRead place file seen (Err Disk) = Unit {0}
+    × HasPositions read.framing read.positions place file
+IsBlockRead place file (Err (Bad c)) = pieces_at place file ≡ refusal c
+IsBlockRead place file (Err Disk) = Unit {0}
+
+-- the pieces of these files, from a block of contents at an offset on
+abbrev pub pieces_from_block : List Expected → ℕ → List ℕ → PiecesRead
+pieces_from_block es at file = pieces_by_blocks es
+    (reading_of (record { schema = 0; last = Some Kinds.Contents; at = at; left = drop at file }))
 
 -- what was read of a block, in a package that has it: no block is left, a block was passed, or the
 -- contents of a file begin; or the first failed test
@@ -44,6 +54,7 @@ IsNextBlock before file (Ok End) after = pieces_at before file ≡ no_piece
 IsNextBlock before file (Ok Passed) after = pieces_at before file ≡ pieces_at after file
 IsNextBlock before file (Ok (Opened o)) after =
     IsOpenFile o [] file (pieces_at after file) (pieces_at before file)
+    × (pieces_at before file ≡ pieces_from_block (left_in before.walk) before.at file)
 IsNextBlock before file (Err (Bad c)) after = pieces_at before file ≡ refusal c
 IsNextBlock before file (Err Disk) after = Unit {0}
 
@@ -53,3 +64,16 @@ GoesFurther before End after = Unit {0}
 GoesFurther before Passed after = (before.at < after.at) × (after.at ≤ after.len)
 GoesFurther before (Opened o) after =
     (o.at + file_bytes_left o.file ≤ after.at) × (after.at ≤ after.len)
+
+-- what was seen ends, at this offset, in front of what is read next
+abbrev pub EndsBefore : ℕ → BlockStep → BlockPlace → Type 0
+EndsBefore end End after = Unit {0}
+EndsBefore end Passed after = end ≤ after.at
+EndsBefore end (Opened o) after = end ≤ o.at
+
+-- the walk goes on behind the file that is opened; at the end no file is due
+abbrev pub GoesOnWith : Walk → BlockStep → Walk → Type 0
+GoesOnWith before End after = left_in before ≡ []
+GoesOnWith before Passed after = after ≡ before
+GoesOnWith before (Opened o) after =
+    left_in before ≡ expected_of o.file.wanted ∷ left_in after

@@ -2,3 +2,5 @@
 -- what only inner contracts and proofs use
 pub mod Blocks
 pub mod Opened
+pub mod Readers
+pub mod Passes

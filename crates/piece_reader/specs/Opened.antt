@@ -1,6 +1,7 @@
 -- A file of a package whose pieces are read one by one, of the package's bytes.
-use Rattle.std.specs.Prelude.{◌≡◌, ℕ, List, ◌++◌, length, take, drop, Option, Some, None, Result, Ok, Err}
-use Rattle.piece_core.specs.Pieces.{PiecesRead, piece, refusal}
+use Rattle.std.specs.Prelude.{◌≡◌, ℕ, ◌+◌, true, false, List, ◌++◌, length, take, drop, Option, Some, None, Result, Ok, Err}
+use Rattle.pkg_core.specs.Opened.{expected_of}
+use Rattle.piece_core.specs.Pieces.{PiecesRead, part_of, piece, refusal}
 use Rattle.piece_core.specs.Taking.{HasTaken, file_bytes_left, pieces_in}
 use Rattle.piece_core.specs.declared.part.Part.{Part}
 use Rattle.piece_reader.specs.declared.fault.PieceFault.{PieceFault}
@@ -35,3 +36,15 @@ IsNextPiece so_far pkg bytes further before (Ok (part, None)) =
     before ≡ piece part bytes further
 IsNextPiece so_far pkg bytes further before (Err (Bad c)) = before ≡ refusal c
 IsNextPiece so_far pkg bytes further before (Err Disk) = Unit {0}
+
+-- a piece of so many bytes of this file, and unless it is the last, what is left of the file
+abbrev pub IsPieceOf : OpenFile → ℕ → Part × Option OpenFile → Type 0
+IsPieceOf o len (part, Some further) =
+    (part ≡ part_of (expected_of o.file.wanted) false)
+    × (further.file.wanted ≡ o.file.wanted) × (further.at ≡ o.at + len)
+IsPieceOf o len (part, None) = part ≡ part_of (expected_of o.file.wanted) true
+
+-- the offset behind a file that is open, or 0 where none is
+abbrev pub open_end : Option OpenFile → ℕ
+open_end None = 0
+open_end (Some o) = o.at + file_bytes_left o.file

@@ -3,15 +3,15 @@
 ghost use Rattle.std.specs.Prelude.{◌≡◌, ◌≤◌, ◌<◌, ◌+◌, ◌-◌, ◌^◌, ℕ, List, length, IfErr, IfOk, IfSome};
 ghost use Rattle.adb_block.specs.Frames.{raw_size};
 ghost use Rattle.pkg_pieces.specs.Seen.{HasAt, IsSeen, IsSeenIn, ReadsFile};
-ghost use Rattle.piece_reader.specs.Blocks.{GoesFurther, IsBlockRead, IsNextBlock, SeesPositions, head_size};
+ghost use Rattle.piece_reader.specs.Blocks.{EndsBefore, GoesFurther, GoesOnWith, IsBlockRead, IsInBlock, IsNextBlock, SeesPositions, head_size};
 ghost use Rattle.piece_reader.specs.declared.fault.PieceFault.TheVariants.{Disk as DiskFault};
 
 use crate::fault::PieceFault;
-use crate::head::HeadBytes;
 use crate::open::OpenFile;
 use adb_block::{Frame, frame_of};
 use base_core::{Name, Tree};
 use piece_core::{BlockPlace, FilePieces, Step};
+use pkg_pieces::HeadBytes;
 
 /// The bytes in front of a file's own in its contents: the positions of its folder and of itself.
 const POSITIONS_LEN: u64 = 8;
@@ -53,9 +53,12 @@ pub fn next_block<'a, T: Tree>(
     // Of each package that is so long and has the bytes that were seen.
     ensures block { (seen : List ℕ)
         × IsSeenIn (T.history tree.old) name.now place.old.len place.old.at seen
+        × IfOk result (λ step. EndsBefore (place.old.at + length seen) step place.new)
         × ((file : List ℕ) → length file ≡ place.old.len → HasAt file place.old.at seen
         → IsNextBlock place.old file result place.new) }
     ensures len { place.new.len ≡ place.old.len }
+    ensures within { place.new.at ≤ place.new.len }
+    ensures walk { IfOk result (λ step. GoesOnWith place.old.walk step place.new.walk) }
     ensures further { IfOk result (λ step. GoesFurther place.old step place.new) }
     ensures tree { ReadsFile name.now place.old.len DiskFault (T.history tree.old)
         (T.history tree.new) (T.counts tree.old) (T.counts tree.new) result }
@@ -99,8 +102,9 @@ pub(crate) fn read_block<T: Tree>(
         place.now.at + raw_size frame < 2 ^ 64)) }
     ensures block { (seen : List ℕ)
         × IsSeenIn (T.history tree.old) name.now place.now.len place.now.at seen
+        × IfOk result (λ read. IsInBlock read.framing (length seen))
         × ((file : List ℕ) → length file ≡ place.now.len → HasAt file place.now.at seen
-        → IsBlockRead place.now file (length seen) result) }
+        → IsBlockRead place.now file result) }
     ensures tree { ReadsFile name.now place.now.len DiskFault (T.history tree.old)
         (T.history tree.new) (T.counts tree.old) (T.counts tree.new) result }
 {

@@ -1,19 +1,25 @@
 //! The contents of a package's files (apk-package(5)) in pieces, read from a tree of files: no
-//! package is held whole, and no memory is taken.
+//! package is held whole.
 //!
-//! `next_block` goes on behind a block of a package, and opens the file whose contents it holds.
-//! `OpenFile` reads a file piece by piece into a `Piece` of up to 65,536 bytes. The contracts cite
-//! `Blocks` (what a block comes to) and `Opened` (the bytes of a file that are still to come) of
-//! `specs/`.
+//! `PieceReader` hands out the pieces of all files of a package, one after the other, into a
+//! `Piece` of up to 65,536 bytes, and takes no memory. `PackagePieces` keeps besides where each
+//! file's block stands, and goes back to any of them. Below them `next_block` goes on behind a block
+//! of a package, and opens the file whose contents it holds, which `OpenFile` reads piece by piece.
+//! The contracts cite `Readers` and `Passes` (which pieces are still to come), `Blocks` (what a
+//! block comes to) and `Opened` (the bytes of a file that are still to come) of `specs/`.
 #![tactic(auto)]
 
 mod block;
 mod fault;
-mod head;
+mod files;
 mod open;
+mod package;
 mod piece;
+mod reader;
 
 pub use block::{BlockStep, next_block};
 pub use fault::PieceFault;
 pub use open::OpenFile;
+pub use package::PackagePieces;
 pub use piece::Piece;
+pub use reader::PieceReader;

@@ -2,9 +2,9 @@
 
 ghost use Rattle.std.specs.Prelude.{◌≡◌, ◌≤◌, ◌<◌, ◌+◌, ◌^◌, ℕ, List, length, IfOk, IfSome};
 ghost use Rattle.piece_core.specs.Pieces.{PiecesRead};
-ghost use Rattle.piece_core.specs.Taking.{file_bytes_left};
+ghost use Rattle.piece_core.specs.Taking.{file_bytes_left, next_len};
 ghost use Rattle.pkg_pieces.specs.Seen.{HasAt, IsSeen, ReadsFile};
-ghost use Rattle.piece_reader.specs.Opened.{IsNextPiece, IsOpenFile, NotDisk};
+ghost use Rattle.piece_reader.specs.Opened.{IsNextPiece, IsOpenFile, IsPieceOf, NotDisk};
 ghost use Rattle.piece_reader.specs.declared.fault.PieceFault.TheVariants.{Disk as DiskFault};
 
 use crate::fault::PieceFault;
@@ -44,6 +44,8 @@ impl<'a> OpenFile<'a> {
             → self.entry.at + file_bytes_left self.entry.file ≤ length file
             → IsOpenFile self.entry so_far file further before
             → IsNextPiece so_far file piece.new further before result }
+        ensures len { NotDisk result → length piece.new ≡ next_len self.entry.file }
+        ensures part { IfOk result (IsPieceOf self.entry (length piece.new)) }
         ensures room { IfOk result (λ read. IfSome read.1 (λ further.
             further.at + file_bytes_left further.file ≡ self.entry.at + file_bytes_left self.entry.file)) }
         ensures tree { (file_len : ℕ) → self.entry.at + file_bytes_left self.entry.file ≤ file_len

@@ -1,5 +1,5 @@
--- Which test of the blocks behind a package's values fails first: the blocks of contents one by one,
--- then the framing behind them, then the files that are left.
+-- Which test of the blocks behind a package's values fails first: the blocks of contents one by
+-- one, then the framing behind them, then the files that are left.
 use Rattle.std.specs.Prelude.{◌≡◌, ℕ, ◌<◌, ◌≤◌, List, [], ◌∷◌, length, drop, slice_get, Option, Some, None}
 use Rattle.std.specs.Result.{result_err}
 use Rattle.base_core.specs.declared.cause.Cause.{Cause}

@@ -66,6 +66,7 @@ pub struct Package<'a> {
 }
 
 impl<'a> Package<'a> {
+    ghost use Rattle.adb_rules.specs.SoundValues.{KeepsRules};
     ghost use Rattle.adb_schema.specs.Views.{package_value};
     ghost use Rattle.pkg_core.specs.Opened.{opened_files, opened_payload, opened_value, IsNextFile};
     ghost use Rattle.pkg_core.specs.Whole.{package_id};
@@ -97,6 +98,14 @@ impl<'a> Package<'a> {
             rest: Rest { blocks, walk },
             refused: None,
         })
+    }
+
+    /// Each text and number of a package keeps the rule of its field: a folder's name is a path, and
+    /// so is a file's behind it.
+    pub fn values_keep_their_rules(&self)
+        ensures { KeepsRules Tables.Package (opened_value self.now) }
+    {
+        self.checked.values_keep_their_rules();
     }
 
     /// The package's values.

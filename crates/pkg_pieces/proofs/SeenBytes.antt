@@ -210,9 +210,21 @@ reads_err name len e h0 h1 a b fault (Err other) is first = record {
   proper = first.proper;
 }
 
-pub reads_bad : {A B F : Type 0} (name : List ℕ) (len : ℕ) (e : F) (h0 h1 : List TreeState) (a b : Counts) (value : A) (fault : F) (r : Result B F) → IsErrAnd r (λ other. other ≡ fault) → (fault ≡ e → ⊥) → ReadsFile {A = A} {E = F} name len e h0 h1 a b (Ok value) → ReadsFile {A = B} {E = F} name len e h0 h1 a b r
-reads_bad name len e h0 h1 a b value fault (Ok other) is not_disk first = absurd is
-reads_bad name len e h0 h1 a b value fault (Err other) is not_disk first = record {
+-- a fault of the tree that is told in another type
+pub reads_failed : {A B E F : Type 0} (name : List ℕ) (len : ℕ) (e : F) (h0 h1 : List TreeState) (a b : Counts) (fault : E) (r : Result B F) → IsErrAnd r (λ other. other ≡ e) → ReadsFile {A = A} {E = E} name len fault h0 h1 a b (Err fault) → ReadsFile {A = B} {E = F} name len e h0 h1 a b r
+reads_failed name len e h0 h1 a b fault (Ok value) is first = absurd is
+reads_failed name len e h0 h1 a b fault (Err other) is first = record {
+  same = first.same;
+  goes_on = first.goes_on;
+  disk = λ failed. first.disk refl;
+  kept = tt;
+  others = λ not_disk. absurd (not_disk is);
+  proper = first.proper;
+}
+
+pub reads_bad : {A B E F : Type 0} (name : List ℕ) (len : ℕ) (d : E) (e : F) (h0 h1 : List TreeState) (a b : Counts) (value : A) (fault : F) (r : Result B F) → IsErrAnd r (λ other. other ≡ fault) → (fault ≡ e → ⊥) → ReadsFile {A = A} {E = E} name len d h0 h1 a b (Ok value) → ReadsFile {A = B} {E = F} name len e h0 h1 a b r
+reads_bad name len d e h0 h1 a b value fault (Ok other) is not_disk first = absurd is
+reads_bad name len d e h0 h1 a b value fault (Err other) is not_disk first = record {
   same = first.same;
   goes_on = first.goes_on;
   disk = λ failed. absurd (not_disk (sym is ∙ of_err other e failed));

@@ -36,6 +36,14 @@ front_fault schema file = front_fault_by schema file (header_of file)
 abbrev pub front_payload : Front → List ℕ
 front_payload front = front.payload.items
 
+-- how many bytes the file has
+abbrev pub front_file_len : Front → ℕ
+front_file_len front = front.len
+
+-- the offset behind the first block and its padding
+abbrev pub front_end : Front → ℕ
+front_end front = front.at
+
 -- behind the first block of this file
 abbrev pub behind_front : Front → List ℕ → Standing
 behind_front front file = record {

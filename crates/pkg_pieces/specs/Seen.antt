@@ -3,6 +3,7 @@ use Rattle.std.specs.Prelude.{◌≡◌, ◌≤◌, ℕ, ◌+◌, List, length, 
 use Rattle.base_core.specs.Calls.{IfObservable}
 use Rattle.base_core.specs.Faults.{Counts, GoesOn, HasCause, IsNoFault}
 use Rattle.base_core.specs.Tree.{TreeState, files_of}
+use Rattle.base_core.specs.declared.tree.Disk.{Disk}
 
 -- the file has these bytes at an offset
 abbrev pub HasAt : List ℕ → ℕ → List ℕ → Type 0
@@ -25,6 +26,10 @@ pub record IsSoLong (name : List ℕ) (len : ℕ) (v : TreeState) : Type 0 where
   pub file : List ℕ
   pub present : files_of v name ≡ Some file
   pub long : length file ≡ len
+
+-- the one value of a tree's fault
+abbrev pub tree_fault : Disk
+tree_fault = record {}
 
 -- a call that only reads, which is no misuse where the file under the name is so long as it was;
 -- `disk_fault` is its answer where the tree failed

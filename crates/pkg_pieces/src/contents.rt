@@ -24,6 +24,7 @@ pub struct Contents<'a> {
 }
 
 impl<'a> Contents<'a> {
+    ghost use Rattle.adb_rules.specs.SoundValues.{KeepsRules};
     ghost use Rattle.adb_schema.specs.Views.{package_value};
     ghost use Rattle.pkg_core.specs.Refusals.{IsFaultOf};
     ghost use Rattle.pkg_pieces.specs.Front.{front_payload};
@@ -49,6 +50,14 @@ impl<'a> Contents<'a> {
         let payload = front.payload();
         let checked = check_payload(alloc, payload)?;
         Ok(Contents { payload, checked })
+    }
+
+    /// Each text and number of a package keeps the rule of its field: a folder's name is a path, and
+    /// so is a file's behind it.
+    pub fn values_keep_their_rules(&self)
+        ensures { KeepsRules Tables.Package (value_of_contents self.now) }
+    {
+        self.checked.values_keep_their_rules();
     }
 
     /// The package's values.

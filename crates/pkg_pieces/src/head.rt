@@ -1,18 +1,16 @@
 //! The header of a block in a file of a tree.
 
-ghost use Rattle.std.specs.Prelude.{◌≡◌, ◌≤◌, ◌<◌, ◌+◌, ◌^◌, ℕ, [], ◌++◌, length, IfErr, IfOk};
+ghost use Rattle.std.specs.Prelude.{◌≡◌, ◌≤◌, ◌<◌, ◌+◌, ◌^◌, ℕ, [], ◌++◌, length, IfOk};
 ghost use Rattle.adb_block.specs.Frames.{HoldsHead, head_len};
-ghost use Rattle.pkg_pieces.specs.Seen.{IsSeen, ReadsFile};
-ghost use Rattle.pkg_pieces.specs.declared.front.FrontFault.TheVariants.{Disk as DiskFault};
+ghost use Rattle.pkg_pieces.specs.Seen.{IsSeen, ReadsFile, tree_fault};
 
-use crate::front::FrontFault;
 use adb_block::head_len;
-use base_core::{Name, Tree};
+use base_core::{Disk, Name, Tree};
 use std::marker::Model;
 
 /// What was read of a block's header (apk-v3(5)), at most 16 bytes. Contracts see the bytes.
 #[derive(Drop)]
-pub(crate) struct HeadBytes {
+pub struct HeadBytes {
     bytes: [u8; 16],
     len: usize,
 }
@@ -29,7 +27,7 @@ impl Model for HeadBytes {
 
 impl HeadBytes {
     /// The bytes.
-    pub(crate) fn bytes(&self) -> &[u8]
+    pub fn bytes(&self) -> &[u8]
         ensures { result.now ≡ self.now }
     {
         &self.bytes[..self.len]
@@ -37,20 +35,23 @@ impl HeadBytes {
 
     /// Reads the header of the block at an offset, from which on so many bytes are left. No byte
     /// is read that does not belong to it; of one that is not whole at most the first four are.
+    ///
+    /// # Errors
+    ///
+    /// `Disk` where the tree failed.
     #[tactic(auto, using(crate::proofs::Heads::holds_none, crate::proofs::Heads::holds_short, crate::proofs::Heads::holds_cut, crate::proofs::Heads::holds_both, crate::proofs::Heads::short_both, crate::proofs::SeenBytes::seen_both, crate::proofs::SeenBytes::seen_by_read, crate::proofs::SeenBytes::proper_where_long))]
-    pub(crate) fn read<T: Tree>(
+    pub fn read<T: Tree>(
         tree: &mut T,
         name: &Name,
         at: u64,
         left: u64,
-    ) -> Result<HeadBytes, FrontFault>
+    ) -> Result<HeadBytes, Disk>
         requires { at + left < 2 ^ 64 }
         ensures seen { IfOk result (λ head. (file_len : ℕ)
             → IsSeen (T.history tree.old) name.now file_len at head) }
         ensures holds { IfOk result (λ head. HoldsHead head left) }
         ensures short { IfOk result (λ head. length head ≤ head_len head) }
-        ensures disk { IfErr result (λ fault. fault ≡ DiskFault) }
-        ensures tree { (file_len : ℕ) → at + left ≤ file_len → ReadsFile name.now file_len DiskFault
+        ensures tree { (file_len : ℕ) → at + left ≤ file_len → ReadsFile name.now file_len tree_fault
             (T.history tree.old) (T.history tree.new) (T.counts tree.old) (T.counts tree.new)
             result }
     {

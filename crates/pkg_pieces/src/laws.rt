@@ -1,10 +1,15 @@
 //! What follows from the definitions, for every package.
-ghost use Rattle.std.specs.Prelude.{◌≡◌, ℕ, List, Some};
-ghost use Rattle.adb_schema.specs.Soundness.{first_fault, payload_fault};
+ghost use Rattle.std.specs.Prelude.{◌≡◌, ◌≢◌, ℕ, List, Some};
+ghost use Rattle.adb_block.specs.Reading.{reading_of};
+ghost use Rattle.adb_schema.specs.Soundness.{first_fault, payload_fault, payload_in, root_value};
+ghost use Rattle.adb_tables.specs.Walk.{or_else};
 ghost use Rattle.adb_schema.specs.declared.read.TheConstants.{PACKAGE_WORD};
 ghost use Rattle.adb_tables.specs.declared.tables.Which.TheVariants as Tables;
 ghost use Rattle.base_core.specs.declared.cause.Cause.{Cause};
-ghost use Rattle.pkg_pieces.specs.Front.{IsFrontOf, front_fault, front_payload};
+ghost use Rattle.base_core.specs.declared.cause.Cause.TheVariants.{WrongSchema};
+ghost use Rattle.pkg_core.specs.Contents.{contents_fault, expected_contents};
+ghost use Rattle.pkg_core.specs.Whole.{container_fault};
+ghost use Rattle.pkg_pieces.specs.Front.{IsFrontOf, behind_front, front_fault, front_payload};
 ghost use Rattle.pkg_pieces.specs.declared.front.Front.{Front};
 
 /// The tests of a package's front, and then those of its values, are the tests that a package is
@@ -15,4 +20,22 @@ pub fn a_front_and_its_values_are_tested_as_a_whole_package()
         → first_fault Tables.Package file ≡ Some cause }
     ensures values { (file : List ℕ) (front : Front) → IsFrontOf PACKAGE_WORD file front
         → first_fault Tables.Package file ≡ payload_fault Tables.Package (front_payload front) }
+{}
+
+/// The payload that a front holds is that of its file.
+pub fn a_front_holds_the_payload_of_its_file()
+    ensures { (file : List ℕ) (front : Front) → IsFrontOf PACKAGE_WORD file front
+        → payload_in file ≡ front_payload front }
+{}
+
+/// A file that has a package's front is tested by its values and then by the blocks behind them; a
+/// failed test of the front, but for its schema, is the first one of the file.
+pub fn a_package_is_tested_by_its_front_and_then_by_its_contents()
+    ensures front { (file : List ℕ) (cause : Cause) → front_fault PACKAGE_WORD file ≡ Some cause
+        → ((found : ℕ) → cause ≢ WrongSchema found) → container_fault file ≡ Some cause }
+    ensures contents { (file : List ℕ) (front : Front) → IsFrontOf PACKAGE_WORD file front
+        → container_fault file
+        ≡ or_else (payload_fault Tables.Package (front_payload front))
+        (contents_fault (expected_contents (root_value Tables.Package (front_payload front)))
+        (reading_of (behind_front front file))) }
 {}

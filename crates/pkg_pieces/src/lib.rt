@@ -11,7 +11,13 @@ mod contents;
 mod front;
 mod head;
 mod laws;
+mod read;
 
 pub use contents::Contents;
-pub use front::{Front, FrontFault, read_front};
-pub use laws::a_front_and_its_values_are_tested_as_a_whole_package;
+pub use front::{Front, FrontFault};
+pub use head::HeadBytes;
+pub use laws::{
+    a_front_and_its_values_are_tested_as_a_whole_package, a_front_holds_the_payload_of_its_file,
+    a_package_is_tested_by_its_front_and_then_by_its_contents,
+};
+pub use read::read_front;

@@ -13,7 +13,8 @@ use Rattle.solve_core.specs.Queue.{has_conflict_at}
 use Rattle.solve_core.proofs.Theory.{in_append}
 use Rattle.solve_core.proofs.PoolFacts.{bool_cases, filter_in, in_filter, map_in}
 use Rattle.solve_core.proofs.Satisfying.{and_true, any_one, listed_is_occupied_at, occupied_is_listed_at, one_any, or_true, true_or}
-use Rattle.solve_core.proofs.Offered.{in_places, meets_offered, mono_at}
+use Rattle.solve_core.proofs.Offered.{meets_offered, mono_at}
+use Rattle.pool_core.proofs.OptionLists.{in_places}
 use Rattle.solve_core.proofs.Asking.{places_pass}
 use Rattle.solve_core.proofs.Consistency.{passing_is_within}
 

@@ -1,5 +1,5 @@
 -- What meets a dependency offers its name.
-use Rattle.std.proofs.Common.{◌≡◌, inl, inr, ℕ, zero, suc, ◌+◌, ◌<◌, Bool, true, false, List, [], ◌∷◌, ◌++◌, length, get_or, refl, sym, subst, ap, arith}
+use Rattle.std.proofs.Common.{◌≡◌, inl, inr, ℕ, zero, suc, ◌+◌, ◌<◌, Bool, true, false, List, [], ◌∷◌, ◌++◌, length, get_or, sym, subst, ap, arith}
 use Rattle.std.specs.Prelude.{Option, Some, None, slice_get, not, ◌&&◌}
 use Rattle.std.specs.Option.{option_map_or}
 use Rattle.std.specs.List.{list_any}
@@ -10,22 +10,10 @@ use Rattle.pool_core.specs.Candidates.{Candidate, entry, is_met_by_entry, named,
 use Rattle.pool_core.specs.Rank.{SealedPool, meets_at}
 use Rattle.pool_core.specs.Options.{IsMember, places_offering, places_from}
 use Rattle.solve_core.specs.Selection.{is_met}
+use Rattle.pool_core.proofs.OptionLists.{in_places}
 use Rattle.solve_core.proofs.PoolFacts.{bool_cases, any_in}
 use Rattle.solve_core.proofs.Satisfying.{and_true, or_true, true_or, any_one, one_any}
 use Rattle.solve_core.proofs.Theory.{in_append}
-
-pub in_places : (n : ℕ) (test : Candidate → Bool) (cs : List Candidate) (k : ℕ) → option_map_or test (slice_get cs k) false ≡ true → IsMember (n + k) (places_from n test cs)
-in_places n test [] zero h = absurd (cc)
-in_places n test [] (suc k) h = absurd (cc)
-in_places n test (c ∷ cs) zero h =
-    let z : n + 0 ≡ n = omega arith in
-    subst (λ (o : ℕ). IsMember o (places_from n test (c ∷ cs))) (sym z) (rw h (inl refl))
-in_places n test (c ∷ cs) (suc k) h =
-    let z : n + suc k ≡ suc n + k = omega arith in
-    subst (λ (o : ℕ). IsMember o (places_from n test (c ∷ cs))) (sym z) (elim (bool_cases (test c)) [
-      | inl e ↦ rw e (inr (in_places (suc n) test cs k h))
-      | inr e ↦ rw e (in_places (suc n) test cs k h)
-    ])
 
 first_below : (n m : ℕ) (ps : List ℕ) (k d : ℕ) → ((j : ℕ) → j < length ps → get_or ps j d < m) → n < m → k < length (n ∷ ps) → get_or (n ∷ ps) k d < m
 first_below n m ps zero d rest here h = here

@@ -15,7 +15,7 @@ use Rattle.solve_core.proofs.Turns.{PoolFacts}
 use Rattle.solve_core.proofs.PoolFacts.{pool_facts}
 use Rattle.solve_core.proofs.Satisfying.{closed_of_satisfying, satisfying_of_closed}
 use Rattle.solve_core.proofs.FirstFound.{none_satisfies}
-use Rattle.solve_core.proofs.Offered.{in_places}
+use Rattle.pool_core.proofs.OptionLists.{in_places}
 use Rattle.solve_core.proofs.Existence.{first_or_none}
 
 less_of : (o : Ordering) → is_lt o ≡ true → o ≡ Less

@@ -12,11 +12,11 @@ AreCompatible pool chosen =
     AreDistinct chosen × ((c : ℕ) → IsMember c chosen → is_eligible_at pool c ≡ true)
     × ((a b : ℕ) → IsMember a chosen → IsMember b chosen → exclude_each_other pool a b ≡ true → ⊥)
 
--- satisfying, as the search sees it
+-- satisfying, as the search knows it: compatible, and no need is left to be met
 abbrev pub IsSolution : SealedPool → List ℕ → Type 0
 IsSolution pool selection = AreCompatible pool selection × (next_need pool selection ≡ None)
 
--- a reason
+-- no satisfying selection has all of these candidates
 abbrev pub IsReason : SealedPool → List ℕ → Type 0
 IsReason pool reason = (selection : List ℕ) → IsSolution pool selection →
     AreMembers reason selection → ⊥

@@ -33,12 +33,14 @@ impl<'p> Model for RaisedDep<'p> {
 }
 
 impl<'p> RaisedDep<'p> {
+    /// The dependency.
     pub(crate) fn dep(&self) -> &'p Dep<'p>
         ensures { dependency result.now ≡ self.now.0 }
     {
         self.dep
     }
 
+    /// The choice that has it; of an entry of world there is none.
     pub(crate) fn by(&self) -> Option<CandId>
         ensures { result ≡ self.now.1 }
     {

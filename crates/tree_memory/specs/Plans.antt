@@ -44,11 +44,11 @@ plan_after (suc k) plan = plan_after k (one_on plan)
 
 -- ---- as it was made
 
--- whether call k, counted from 1, is behind the next so many
+-- whether call k, counted from 1, comes after the next so many; without a number none does
 abbrev pub is_behind : Option ℕ → ℕ → Bool
 is_behind None k = false
 is_behind (Some n) k = nat_lt n k
 
--- whether call k, counted from 1, is to fail: it is listed, or it is behind the stop
+-- whether call k, counted from 1, is to fail: it is listed, or comes after those before the stop
 abbrev pub is_to_fail : PlanState → ℕ → Bool
 is_to_fail plan k = list_any (λ n. n == k) plan.listed || is_behind plan.stop k

@@ -26,9 +26,9 @@ sink_counts sink = record {
 }
 
 -- how much of so many bytes fits
-abbrev pub fitting : Option ℕ → ℕ → ℕ
-fitting None len = len
-fitting (Some room) len = min len room
+abbrev pub len_that_fits : Option ℕ → ℕ → ℕ
+len_that_fits None len = len
+len_that_fits (Some room) len = min len room
 
 -- how many of so many bytes a write takes: at least one, where there is one
 abbrev pub part : Option ℕ → ℕ → ℕ
@@ -37,7 +37,7 @@ part (Some n) len = min len (max n 1)
 
 -- how many bytes of a piece are taken: all that fit, or the most that a write takes
 abbrev pub share_of : SinkState → List ℕ → ℕ
-share_of sink piece = part sink.most (fitting sink.room (length piece))
+share_of sink piece = part sink.most (len_that_fits sink.room (length piece))
 
 -- so many bytes of the piece are taken
 pub record Takes (old : SinkState) (piece : List ℕ) (n : ℕ) (new : SinkState) : Type 0 where

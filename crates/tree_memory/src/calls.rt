@@ -94,6 +94,7 @@ pub struct Tally {
 }
 
 impl Tally {
+    /// Counts of no calls.
     pub fn new() -> Tally
         ensures { result ≡ no_calls }
     {
@@ -155,6 +156,7 @@ pub struct Calls {
 }
 
 impl Calls {
+    /// No calls yet, none of which is to fail.
     pub fn new(alloc: Global) -> Calls
         ensures plan { result.plan ≡ no_plan }
         ensures tally { result.tally ≡ no_calls }

@@ -2,7 +2,7 @@
 ghost use Rattle.std.specs.Prelude.{◌≡◌, ◌≤◌, List, Option, Some, take, IfOk, OnErr, [], IsOk};
 ghost use Rattle.base_core.specs.Faults.{FailsWithCause, next_count};
 ghost use Rattle.base_core.specs.Sink.{Adds, IsWriteCount};
-ghost use Rattle.tree_memory.specs.Sink.{SinkState, new_sink, sink_counts, fitting, part, Takes, Refuses};
+ghost use Rattle.tree_memory.specs.Sink.{SinkState, new_sink, sink_counts, len_that_fits, part, Takes, Refuses};
 
 use base_core::{Sink, SinkFault};
 use std::alloc::Global;
@@ -101,8 +101,8 @@ impl MemorySink {
 }
 
 // How many of so many bytes fit.
-fn fitting(room: Option<usize>, len: usize) -> usize
-    ensures { result ≡ fitting room len }
+fn len_that_fits(room: Option<usize>, len: usize) -> usize
+    ensures { result ≡ len_that_fits room len }
 {
     match room {
         None => len,
@@ -141,7 +141,7 @@ impl Sink for MemorySink {
         if piece.is_empty() {
             return Ok(0);
         }
-        let n = part(self.most, fitting(self.room, piece.len()));
+        let n = part(self.most, len_that_fits(self.room, piece.len()));
         if n == 0 {
             return Err(self.fault());
         }

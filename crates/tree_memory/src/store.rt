@@ -26,6 +26,7 @@ pub struct Store {
 impl Store {
     ghost use Rattle.tree_memory.specs.Stores.{store_state, store_history};
 
+    /// The record of an empty tree.
     pub fn new(alloc: Global) -> Store
         ensures { store_history result ≡ empty_state ∷ [] }
     {

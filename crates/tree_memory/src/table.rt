@@ -25,6 +25,7 @@ pub struct NameTable {
 }
 
 impl NameTable {
+    /// No names.
     pub fn new(alloc: Global) -> NameTable
         ensures { result.entries.items ≡ [] }
     {

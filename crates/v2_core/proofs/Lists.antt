@@ -5,7 +5,7 @@ use Rattle.std.proofs.lemmas.List.{take_more}
 use Rattle.adb_view.specs.Plain.{Plain, null, Plains, more}
 use Rattle.adb_write.specs.Writing.{Writing}
 use Rattle.adb_write.specs.DepthFirst.{push, WritesValue, WritesValues}
-use Rattle.make_info.specs.Values.{plains_of}
+use Rattle.make_info.specs.Values.{plains_of_list}
 use Rattle.v2_core.specs.Records.{with_last_changed}
 use Rattle.v2_core.specs.Writing.{WritesList}
 
@@ -13,15 +13,15 @@ use Rattle.v2_core.specs.Writing.{WritesList}
 abbrev pub Pushes : Type 0
 Pushes = (v : Plain) (vs : Plains) (x : ℕ) (xs : List ℕ) (a b c : Writing) → WritesValues a vs xs b → WritesValue b v x c → WritesValues a (push vs v) (xs ++ x ∷ []) c
 
-plains_push : (vs : List Plain) (v : Plain) → plains_of (vs ++ v ∷ []) ≡ push (plains_of vs) v
+plains_push : (vs : List Plain) (v : Plain) → plains_of_list (vs ++ v ∷ []) ≡ push (plains_of_list vs) v
 plains_push [] v = refl
 plains_push (u ∷ us) v = ap (more u) (plains_push us v)
 
 pub one_more : Pushes → (v : Plain) (vs us : List Plain) (x : ℕ) (xs ys : List ℕ) (a b c : Writing) → us ≡ vs ++ v ∷ [] → ys ≡ xs ++ x ∷ [] → WritesList a vs xs b → WritesValue b v x c → WritesList a us ys c
 one_more law v vs us x xs ys a b c e words before one =
-    let r : WritesValues a (push (plains_of vs) v) (xs ++ x ∷ []) c = law v (plains_of vs) x xs a b c before one in
-    let values : push (plains_of vs) v ≡ plains_of us = sym (ap plains_of e ∙ plains_push vs v) in
-    subst (λ y. WritesValues a (plains_of us) y c) (sym words) (subst (λ u. WritesValues a u (xs ++ x ∷ []) c) values r)
+    let r : WritesValues a (push (plains_of_list vs) v) (xs ++ x ∷ []) c = law v (plains_of_list vs) x xs a b c before one in
+    let values : push (plains_of_list vs) v ≡ plains_of_list us = sym (ap plains_of_list e ∙ plains_push vs v) in
+    subst (λ y. WritesValues a (plains_of_list us) y c) (sym words) (subst (λ u. WritesValues a u (xs ++ x ∷ []) c) values r)
 
 pub map-push : {A B : Type 0} (f : A → B) (xs : List A) (x : A) → map f (xs ++ x ∷ []) ≡ map f xs ++ f x ∷ []
 map-push f [] x = refl

@@ -4,17 +4,17 @@ use Rattle.std.specs.List.{find, flat_map}
 use Rattle.adb_view.specs.Plain.{Plain, null, int, blob_value, arr_value, obj_value}
 use Rattle.make_info.specs.Fields.{FieldValue}
 use Rattle.make_info.specs.Information.{plain_value}
-use Rattle.make_info.specs.Values.{plains_of}
+use Rattle.make_info.specs.Values.{plains_of_list}
 use Rattle.v2_lines.specs.Accesses.{Access}
 use Rattle.v2_lines.specs.declared.field.InfoField.{InfoField}
 use Rattle.v2_lines.specs.declared.field.InfoField.TheVariants as Fields
 use Rattle.v2_core.specs.Records.{InfoLine, ListedFile, ListedFolder, Record, is_line_of}
 
 abbrev pub array_of : List Plain → Plain
-array_of vs = arr_value (plains_of vs)
+array_of vs = arr_value (plains_of_list vs)
 
 abbrev pub object_of : List Plain → Plain
-object_of vs = obj_value (plains_of vs)
+object_of vs = obj_value (plains_of_list vs)
 
 -- ---- the package's information
 

@@ -4,7 +4,7 @@ use Rattle.adb_view.specs.Plain.{Plain}
 use Rattle.adb_write.specs.DepthFirst.{WritesValue, WritesValues}
 use Rattle.adb_write.specs.Writing.{Writing}
 use Rattle.base_core.specs.declared.cause.Cause.TheVariants.{TextLine}
-use Rattle.make_info.specs.Values.{plains_of}
+use Rattle.make_info.specs.Values.{plains_of_list}
 use Rattle.v2_core.specs.declared.fault.V2Fault.{V2Fault}
 use Rattle.v2_core.specs.declared.fault.V2Fault.TheVariants.{Bad, TooLarge, Memory}
 use Rattle.v2_core.specs.Database.{value_of_records, record_value}
@@ -13,7 +13,7 @@ use Rattle.v2_core.specs.Records.{Record}
 
 -- a list of values was written, one after the other
 abbrev pub WritesList : Writing → List Plain → List ℕ → Writing → Type 0
-WritesList before vs words later = WritesValues before (plains_of vs) words later
+WritesList before vs words later = WritesValues before (plains_of_list vs) words later
 
 abbrev pub WritesPackages : Writing → List Record → List ℕ → Writing → Type 0
 WritesPackages before records words later = WritesList before (map record_value records) words later

@@ -1,12 +1,13 @@
 -- Octal numbers, as std reads them.
-use Rattle.std.proofs.Common.{◌≡◌, ◌^◌, ◌<◌, ◌≤◌, ℕ, zero, suc, Bool, true, false, not, cond, eqb, List, [], ◌∷◌, length, get_or, drop, Some, None, Result, Ok, Err, refl, sym, ◌∙◌, ap, subst, rules, arith, lit<}
-use Rattle.std.specs.Prelude.{nat_le, nat_lt, ◌&&◌, ◌==◌, slice_index}
+use Rattle.std.proofs.Common.{◌≡◌, ◌^◌, ◌<◌, ℕ, zero, suc, true, false, not, cond, eqb, List, [], ◌∷◌, length, get_or, drop, Some, Result, Ok, Err, refl, ◌∙◌, ap, subst, arith, lit<}
+use Rattle.std.specs.Prelude.{nat_lt, ◌==◌}
 use Rattle.std.specs.Result.{result_ok, OkIff}
 use Rattle.std.specs.List.{list_all}
 use Rattle.std.specs.Char.{digit_value}
 use Rattle.std.specs.Str.Parse.{AllDigits, IsNumeral, ParsesUnsigned, digits_value, without_leading_plus}
 use Rattle.std.proofs.lemmas.Bool.{and_parts, lt-ltb, ltb-true}
 use Rattle.std.proofs.lemmas.Bool.Decides.{nat_tests}
+use Rattle.make_info.proofs.Numbers.{fits, fits_not}
 use Rattle.v2_lines.specs.Accesses.{is_octal, is_octal_digit, octal_number}
 
 pub octal_digits : (ds : List ℕ) → is_octal ds ≡ true → list_all is_octal_digit ds ≡ true
@@ -40,17 +41,6 @@ no_plus (d ∷ ds) h =
     let is : is_octal_digit d ≡ true = (and_parts (is_octal_digit d) (list_all is_octal_digit ds) h).0 in
     let other : eqb d 43 ≡ false = grind (arith, nat_tests) in
     ap (λ b. drop (cond b 1 0) (d ∷ ds)) other
-
-fits : (b c : Bool) (v : ℕ) → b ≡ true → c ≡ true → Some v ≡ cond (b && c) (Some v) None
-fits true true v hb hc = refl
-fits true false v hb hc = cc
-fits false c v hb hc = cc
-
-fits_not : (b c : Bool) (v : ℕ) → (c ≡ true → ⊥) → None ≡ cond (b && c) (Some v) None
-fits_not true true v never = absurd (never refl)
-fits_not false true v never = absurd (never refl)
-fits_not true false v _ = refl
-fits_not false false v _ = refl
 
 abbrev Reads : {E : Type 0} → List ℕ → Result ℕ E → Type 0
 Reads ds r = OkIff r (IsNumeral 8 ds × (digits_value 8 ds < 2 ^ 64)) (digits_value 8 ds)

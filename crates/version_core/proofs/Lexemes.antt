@@ -5,7 +5,7 @@ use Rattle.std.specs.Prelude.{is_some}
 use Rattle.std.proofs.lemmas.Bool.Decides.{nat_tests}
 use Rattle.version_core.specs.declared.token.Class.TheVariants.{Stray, Hash, ZeroComponent, Component}
 use Rattle.version_core.specs.declared.lexeme.Lexeme.{Lexeme as LexemeAt}
-use Rattle.version_core.specs.Token.{Lexeme, lexeme, text_token, stray_lexeme, begins_with_zero, is_number, component_lexeme, number_lexeme, hash_lexeme, hex_digits_at}
+use Rattle.version_core.specs.Token.{Lexeme, lexeme, text_token, stray_lexeme, begins_with_zero, is_number, component_lexeme, number_lexeme, hash_lexeme, leading_hex_digits}
 use Rattle.version_core.specs.Reading.{AreDigits, hex_digit_at, is_hash, lexeme_view, plain_view, token_view}
 use Rattle.version_core.proofs.Runs.{all_hex, any_hex}
 
@@ -13,14 +13,14 @@ use Rattle.version_core.proofs.Runs.{all_hex, any_hex}
 pub view_plain : (text : List ℕ) (found : LexemeAt) (whole : Lexeme) → plain_view found ≡ whole → is_hash found.token.class ≡ false → lexeme_view text found ≡ whole
 view_plain text found whole e plain = rw (plain, add-zero found.advance) e
 
-pub view_hash : (text : List ℕ) (found : LexemeAt) → found.token.class ≡ Hash → found.advance ≡ 1 → lexeme_view text found ≡ lexeme (token_view found.token) (1 + length (hex_digits_at (drop 1 text)))
+pub view_hash : (text : List ℕ) (found : LexemeAt) → found.token.class ≡ Hash → found.advance ≡ 1 → lexeme_view text found ≡ lexeme (token_view found.token) (1 + length (leading_hex_digits (drop 1 text)))
 view_hash text found class one = rw (class, one) refl
 
-pub hash_lexeme-stray : (xs : List ℕ) → is_some (hex_digit_at xs 0) ≡ false → stray_lexeme ≡ hash_lexeme (hex_digits_at xs)
+pub hash_lexeme-stray : (xs : List ℕ) → is_some (hex_digit_at xs 0) ≡ false → stray_lexeme ≡ hash_lexeme (leading_hex_digits xs)
 unfolding hash_lexeme
 hash_lexeme-stray xs h = rw (any_hex xs ∙ h) refl
 
-pub hash_lexeme-found : (xs : List ℕ) → is_some (hex_digit_at xs 0) ≡ true → lexeme (text_token Hash (hex_digits_at xs)) (1 + length (hex_digits_at xs)) ≡ hash_lexeme (hex_digits_at xs)
+pub hash_lexeme-found : (xs : List ℕ) → is_some (hex_digit_at xs 0) ≡ true → lexeme (text_token Hash (leading_hex_digits xs)) (1 + length (leading_hex_digits xs)) ≡ hash_lexeme (leading_hex_digits xs)
 unfolding hash_lexeme
 hash_lexeme-found xs h = rw (any_hex xs ∙ h) refl
 
@@ -30,7 +30,7 @@ is_number-some d ds few = grind (arith, nat_tests)
 component_by : (b : Bool) (x y : Lexeme) → b ≡ true → x ≡ cond b x y
 component_by b x y h = rw h refl
 
-pub component_lexeme_zero : (ds : List ℕ) → AreDigits ds → length ds ≤ 18 → begins_with_zero ds ≡ true → lexeme (text_token ZeroComponent (hex_digits_at ds)) (1 + length ds) ≡ component_lexeme ds
+pub component_lexeme_zero : (ds : List ℕ) → AreDigits ds → length ds ≤ 18 → begins_with_zero ds ≡ true → lexeme (text_token ZeroComponent (leading_hex_digits ds)) (1 + length ds) ≡ component_lexeme ds
 unfolding component_lexeme
 component_lexeme_zero [] digits few zero = absurd (false≢true zero)
 component_lexeme_zero (d ∷ ds) digits few zero =
@@ -39,17 +39,17 @@ component_lexeme_zero (d ∷ ds) digits few zero =
     ap (λ text. lexeme (text_token ZeroComponent text) (1 + length (d ∷ ds))) (all_hex (d ∷ ds) digits)
     ∙ component_by (is_number (d ∷ ds) && begins_with_zero (d ∷ ds)) (lexeme (text_token ZeroComponent (d ∷ ds)) (1 + length (d ∷ ds))) (number_lexeme Component 1 (d ∷ ds)) both
 
-pub hash_is_stray : (text digits : List ℕ) (found : LexemeAt) (first : Option ℕ) → digits ≡ drop 1 text → first ≡ hex_digit_at digits 0 → is_some first ≡ false → plain_view found ≡ stray_lexeme → found.token.class ≡ Stray → lexeme_view text found ≡ hash_lexeme (hex_digits_at (drop 1 text))
+pub hash_is_stray : (text digits : List ℕ) (found : LexemeAt) (first : Option ℕ) → digits ≡ drop 1 text → first ≡ hex_digit_at digits 0 → is_some first ≡ false → plain_view found ≡ stray_lexeme → found.token.class ≡ Stray → lexeme_view text found ≡ hash_lexeme (leading_hex_digits (drop 1 text))
 hash_is_stray text digits found first behind at none plain class =
     let same : is_some (hex_digit_at (drop 1 text) 0) ≡ false = rw (← behind) (ap is_some (sym at) ∙ none) in
     let no_hash : is_hash found.token.class ≡ false = rw class refl in
     view_plain text found stray_lexeme plain no_hash ∙ hash_lexeme-stray (drop 1 text) same
 
-pub hash_is_found : (text digits : List ℕ) (found : LexemeAt) (first : Option ℕ) → digits ≡ drop 1 text → first ≡ hex_digit_at digits 0 → is_some first ≡ true → plain_view found ≡ lexeme (text_token Hash (hex_digits_at digits)) 1 → found.token.class ≡ Hash → lexeme_view text found ≡ hash_lexeme (hex_digits_at (drop 1 text))
+pub hash_is_found : (text digits : List ℕ) (found : LexemeAt) (first : Option ℕ) → digits ≡ drop 1 text → first ≡ hex_digit_at digits 0 → is_some first ≡ true → plain_view found ≡ lexeme (text_token Hash (leading_hex_digits digits)) 1 → found.token.class ≡ Hash → lexeme_view text found ≡ hash_lexeme (leading_hex_digits (drop 1 text))
 hash_is_found text digits found first behind at some plain class =
     let same : is_some (hex_digit_at (drop 1 text) 0) ≡ true = rw (← behind) (ap is_some (sym at) ∙ some) in
     let one : found.advance ≡ 1 = ap (λ (l : Lexeme). l.width) plain in
-    let token : token_view found.token ≡ text_token Hash (hex_digits_at (drop 1 text)) = rw (← behind) (ap (λ (l : Lexeme). l.token) plain) in
+    let token : token_view found.token ≡ text_token Hash (leading_hex_digits (drop 1 text)) = rw (← behind) (ap (λ (l : Lexeme). l.token) plain) in
     view_hash text found class one
-    ∙ ap (λ t. lexeme t (1 + length (hex_digits_at (drop 1 text)))) token
+    ∙ ap (λ t. lexeme t (1 + length (leading_hex_digits (drop 1 text)))) token
     ∙ hash_lexeme-found (drop 1 text) same

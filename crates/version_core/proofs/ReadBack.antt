@@ -11,7 +11,7 @@ use Rattle.std.proofs.lemmas.List.Sums.{take_while-cons}
 use Rattle.std.proofs.lemmas.List.Folds.{length-prefix_len}
 use Rattle.version_core.specs.declared.token.Class.{Class}
 use Rattle.version_core.specs.declared.token.Class.TheVariants.{Stray, PreRelease, End, Revision, Hash, SuffixNumber, Suffix, Letter, ZeroComponent, Component}
-use Rattle.version_core.specs.Token.{Token, Lexeme, number_token, text_token, lexeme, stray_lexeme, is_number, is_hex_digit, is_component, is_suffix, is_before_hash, is_before_revision, begins_with_zero, digits_at, hex_digits_at, letters_at, number_lexeme, component_lexeme, suffix_rank, suffix_lexeme, suffix_lexeme_by, hash_lexeme, revision_lexeme, next_lexeme}
+use Rattle.version_core.specs.Token.{Token, Lexeme, number_token, text_token, lexeme, stray_lexeme, is_number, is_hex_digit, is_component, is_suffix, is_before_hash, is_before_revision, begins_with_zero, leading_digits, leading_hex_digits, leading_letters, number_lexeme, component_lexeme, suffix_rank, suffix_lexeme, suffix_lexeme_by, hash_lexeme, revision_lexeme, next_lexeme}
 use Rattle.version_core.specs.Order.{are_in_grammar, is_last, is_stray, is_version, tokens, tokens_behind}
 use Rattle.version_core.specs.Grammar.{Parts, IsSpelled, if_some, is_numeral, is_hash_text, is_suffix_part, SuffixPart, later_text, letter_text, number_text, suffixes_text, hash_text, revision_text, component_token}
 use Rattle.version_core.proofs.Walk.{after, is_number-pos, tokens_behind-step}
@@ -296,8 +296,8 @@ cond_case : (P : Lexeme → Type 0) (b : Bool) (x y : Lexeme) → (b ≡ true �
 cond_case P true x y f g = f refl
 cond_case P false x y f g = g
 
-digits_numeral : (rest : List ℕ) → is_number (digits_at rest) ≡ true → is_numeral (digits_at rest) ≡ true
-digits_numeral rest h = and_true (is_number (digits_at rest)) (list_all is_ascii_digit (digits_at rest)) h (take_while_passes is_ascii_digit rest)
+digits_numeral : (rest : List ℕ) → is_number (leading_digits rest) ≡ true → is_numeral (leading_digits rest) ≡ true
+digits_numeral rest h = and_true (is_number (leading_digits rest)) (list_all is_ascii_digit (leading_digits rest)) h (take_while_passes is_ascii_digit rest)
 
 same_byte : (b c : ℕ) → eqb b c ≡ true → c ≡ b
 same_byte b c h = grind (arith, nat_tests)
@@ -312,9 +312,9 @@ component_no_suffix_by : (starts : Bool) (text : List ℕ) (n : ℕ) → is_suff
 component_no_suffix_by true text n = refl
 component_no_suffix_by false text n = refl
 
-component_case : (n : ℕ) → Shorter n → (last : Class) (b : ℕ) (rest : List ℕ) → length rest ≤ n → (eqb b 46 && is_component last) ≡ true → GoesOn (b ∷ rest) (component_lexeme (digits_at rest)) → IsTail last (b ∷ rest)
+component_case : (n : ℕ) → Shorter n → (last : Class) (b : ℕ) (rest : List ℕ) → length rest ≤ n → (eqb b 46 && is_component last) ≡ true → GoesOn (b ∷ rest) (component_lexeme (leading_digits rest)) → IsTail last (b ∷ rest)
 component_case n shorter last b rest few guard sound =
-    let ds : List ℕ = digits_at rest in
+    let ds : List ℕ = leading_digits rest in
     let behind : List ℕ = drop (length ds) rest in
     let number = component_goes_on (b ∷ rest) ds sound in
     let numeral = digits_numeral rest number in
@@ -344,9 +344,9 @@ suffix_no_component Letter h = refl
 suffix_no_component ZeroComponent h = absurd (false≢true h)
 suffix_no_component Component h = absurd (false≢true h)
 
-suffix_case : (n : ℕ) → Shorter n → (last : Class) (b : ℕ) (rest : List ℕ) → length rest ≤ n → (eqb b 95 && is_before_hash last) ≡ true → GoesOn (b ∷ rest) (suffix_lexeme (letters_at rest)) → IsTail last (b ∷ rest)
+suffix_case : (n : ℕ) → Shorter n → (last : Class) (b : ℕ) (rest : List ℕ) → length rest ≤ n → (eqb b 95 && is_before_hash last) ≡ true → GoesOn (b ∷ rest) (suffix_lexeme (leading_letters rest)) → IsTail last (b ∷ rest)
 suffix_case n shorter last b rest few guard sound =
-    let word : List ℕ = letters_at rest in
+    let word : List ℕ = leading_letters rest in
     let behind : List ℕ = drop (length word) rest in
     let known = suffix_by (b ∷ rest) word (suffix_rank word) sound in
     let class = suffix_class_by word (suffix_rank word) known in
@@ -359,9 +359,9 @@ suffix_case n shorter last b rest few guard sound =
     subst (IsTail last)
     (λ i. same_byte b 95 (first_true (eqb b 95) (is_before_hash last) guard) i ∷ sym (split_run is_ascii_lowercase rest) i) tail
 
-number_case : (n : ℕ) → Shorter n → (last : Class) (b : ℕ) (rest : List ℕ) → length rest ≤ n → (is_ascii_digit b && is_suffix last) ≡ true → GoesOn (b ∷ rest) (number_lexeme SuffixNumber 0 (digits_at (b ∷ rest))) → IsTail last (b ∷ rest)
+number_case : (n : ℕ) → Shorter n → (last : Class) (b : ℕ) (rest : List ℕ) → length rest ≤ n → (is_ascii_digit b && is_suffix last) ≡ true → GoesOn (b ∷ rest) (number_lexeme SuffixNumber 0 (leading_digits (b ∷ rest))) → IsTail last (b ∷ rest)
 number_case n shorter last b rest few guard sound =
-    let ds : List ℕ = digits_at (b ∷ rest) in
+    let ds : List ℕ = leading_digits (b ∷ rest) in
     let behind : List ℕ = drop (length ds) (b ∷ rest) in
     let number = number_goes_on (b ∷ rest) SuffixNumber 0 ds sound in
     let numeral = digits_numeral (b ∷ rest) number in
@@ -374,9 +374,9 @@ number_case n shorter last b rest few guard sound =
     let tail = with_number last ds behind suffix (suffix_no_component last suffix) numeral end in
     subst (IsTail last) (sym (split_run is_ascii_digit (b ∷ rest))) tail
 
-hash_case : (n : ℕ) → Shorter n → (last : Class) (b : ℕ) (rest : List ℕ) → length rest ≤ n → (eqb b 126 && is_before_hash last) ≡ true → GoesOn (b ∷ rest) (hash_lexeme (hex_digits_at rest)) → IsTail last (b ∷ rest)
+hash_case : (n : ℕ) → Shorter n → (last : Class) (b : ℕ) (rest : List ℕ) → length rest ≤ n → (eqb b 126 && is_before_hash last) ≡ true → GoesOn (b ∷ rest) (hash_lexeme (leading_hex_digits rest)) → IsTail last (b ∷ rest)
 hash_case n shorter last b rest few guard sound =
-    let ds : List ℕ = hex_digits_at rest in
+    let ds : List ℕ = leading_hex_digits rest in
     let behind : List ℕ = drop (length ds) rest in
     let hash = and_true (ltb 0 (length ds)) (list_all is_hex_digit ds) (hash_goes_on (b ∷ rest) ds sound) (take_while_passes is_hex_digit rest) in
     let short : length behind ≤ n = omega (arith, length-drop (length ds) rest) in
@@ -391,7 +391,7 @@ revision_by : (n : ℕ) → Shorter n → (last : Class) (b : ℕ) (rest : List 
 unfolding revision_lexeme
 revision_by n shorter last b [] few dash guard sound = absurd (false≢true sound)
 revision_by n shorter last b (c ∷ rest) few dash guard sound =
-    let ds : List ℕ = digits_at rest in
+    let ds : List ℕ = leading_digits rest in
     let behind : List ℕ = drop (length ds) rest in
     let text : List ℕ = b ∷ c ∷ rest in
     let letter = sound_or_stray text (eqb c 114) (number_lexeme Revision 2 ds) sound in
@@ -413,11 +413,11 @@ lexeme_case : (n : ℕ) → Shorter n → (last : Class) (b : ℕ) (rest : List 
 unfolding next_lexeme
 lexeme_case n shorter last b rest few =
     let P : Lexeme → Type 0 = λ found. GoesOn (b ∷ rest) found → IsTail last (b ∷ rest) in
-    cond_case P (eqb b 46 && is_component last) (component_lexeme (digits_at rest)) _ (component_case n shorter last b rest few)
+    cond_case P (eqb b 46 && is_component last) (component_lexeme (leading_digits rest)) _ (component_case n shorter last b rest few)
     (cond_case P (is_ascii_lowercase b && is_component last) (lexeme (number_token Letter b) 1) _ (letter_case n shorter last b rest few)
-    (cond_case P (eqb b 95 && is_before_hash last) (suffix_lexeme (letters_at rest)) _ (suffix_case n shorter last b rest few)
-    (cond_case P (is_ascii_digit b && is_suffix last) (number_lexeme SuffixNumber 0 (digits_at (b ∷ rest))) _ (number_case n shorter last b rest few)
-    (cond_case P (eqb b 126 && is_before_hash last) (hash_lexeme (hex_digits_at rest)) _ (hash_case n shorter last b rest few)
+    (cond_case P (eqb b 95 && is_before_hash last) (suffix_lexeme (leading_letters rest)) _ (suffix_case n shorter last b rest few)
+    (cond_case P (is_ascii_digit b && is_suffix last) (number_lexeme SuffixNumber 0 (leading_digits (b ∷ rest))) _ (number_case n shorter last b rest few)
+    (cond_case P (eqb b 126 && is_before_hash last) (hash_lexeme (leading_hex_digits rest)) _ (hash_case n shorter last b rest few)
     (cond_case P (eqb b 45 && is_before_revision last) (revision_lexeme rest) stray_lexeme (revision_case n shorter last b rest few)
     (λ sound. absurd (false≢true sound)))))))
 
@@ -431,7 +431,7 @@ tails (suc n) last (b ∷ rest) few sound =
 pub spelled : (text : List ℕ) → is_version text ≡ true → IsSpelled text
 unfolding is_version tokens
 spelled text h =
-    let ds : List ℕ = digits_at text in
+    let ds : List ℕ = leading_digits text in
     let behind : List ℕ = drop (length ds) text in
     let here : GoesOn text (number_lexeme Component 0 ds) = ap are_in_grammar (sym (tokens_behind-step None text)) ∙ h in
     let numeral = digits_numeral text (number_goes_on text Component 0 ds here) in

@@ -13,7 +13,7 @@ use Rattle.std.proofs.lemmas.List.Sums.{prefix_len_is, prefix_len_passes, take_w
 use Rattle.std.proofs.lemmas.List.Folds.{length-prefix_len}
 use Rattle.std.proofs.lemmas.List.{take_all, get_or-take}
 use Rattle.version_core.proofs.Orders.{then-decided, then-tied, tied}
-use Rattle.version_core.specs.Token.{is_hex_digit, hex_digits_at, digits_at}
+use Rattle.version_core.specs.Token.{is_hex_digit, leading_hex_digits, leading_digits}
 use Rattle.version_core.specs.Reading.{AreDigits, hex_digit_at}
 use Rattle.std.specs.Char.{is_ascii_digit}
 
@@ -63,13 +63,13 @@ hex_run-cons : (b : Bool) (x : ℕ) (xs : List ℕ) → cond b (x ∷ xs) [] ≡
 hex_run-cons true x xs = refl
 hex_run-cons false x xs = refl
 
-hex_step_suc : (xs : List ℕ) (i : ℕ) → hex_digits_at (drop i xs) ≡ run_by (hex_digit_at xs i) (hex_digits_at (drop (suc i) xs))
+hex_step_suc : (xs : List ℕ) (i : ℕ) → leading_hex_digits (drop i xs) ≡ run_by (hex_digit_at xs i) (leading_hex_digits (drop (suc i) xs))
 hex_step_suc [] zero = refl
 hex_step_suc [] (suc i) = refl
-hex_step_suc (x ∷ xs) zero = take_while-cons is_hex_digit x xs ∙ hex_run-cons (is_hex_digit x) x (hex_digits_at xs)
+hex_step_suc (x ∷ xs) zero = take_while-cons is_hex_digit x xs ∙ hex_run-cons (is_hex_digit x) x (leading_hex_digits xs)
 hex_step_suc (x ∷ xs) (suc i) = hex_step_suc xs i
 
-pub hex_step : (xs : List ℕ) (i : ℕ) → hex_digits_at (drop i xs) ≡ run_by (hex_digit_at xs i) (hex_digits_at (drop (i + 1) xs))
+pub hex_step : (xs : List ℕ) (i : ℕ) → leading_hex_digits (drop i xs) ≡ run_by (hex_digit_at xs i) (leading_hex_digits (drop (i + 1) xs))
 hex_step xs i = rw (add-one i) (hex_step_suc xs i)
 
 -- a place at which a hexadecimal digit stands is within the text
@@ -79,13 +79,13 @@ hex_place (x ∷ xs) zero h = omega arith
 hex_place (x ∷ xs) (suc i) h = omega (arith, hex_place xs i h)
 
 abbrev pub hex_cmp_from : List ℕ → List ℕ → ℕ → Ordering
-hex_cmp_from xs ys i = slice_cmp nat_cmp (hex_digits_at (drop i xs)) (hex_digits_at (drop i ys))
+hex_cmp_from xs ys i = slice_cmp nat_cmp (leading_hex_digits (drop i xs)) (leading_hex_digits (drop i ys))
 
 -- the comparison from a place on, by the bytes there
 hex_cmp_step : (xs ys : List ℕ) (i : ℕ) → hex_cmp_from xs ys i ≡ ordering_then (option_cmp nat_cmp (hex_digit_at xs i) (hex_digit_at ys i)) (cond (is_some (hex_digit_at xs i)) (hex_cmp_from xs ys (i + 1)) Equal)
 hex_cmp_step xs ys i =
     (λ t. slice_cmp nat_cmp (hex_step xs i t) (hex_step ys i t))
-    ∙ run_cmp (hex_digit_at xs i) (hex_digit_at ys i) (hex_digits_at (drop (i + 1) xs)) (hex_digits_at (drop (i + 1) ys))
+    ∙ run_cmp (hex_digit_at xs i) (hex_digit_at ys i) (leading_hex_digits (drop (i + 1) xs)) (leading_hex_digits (drop (i + 1) ys))
 
 -- the comparison by the bytes at a place, a and b, which compare as o
 hex_cmp_by : (xs ys : List ℕ) (i : ℕ) (a b : Option ℕ) (o : Ordering) → a ≡ hex_digit_at xs i → b ≡ hex_digit_at ys i → o ≡ option_cmp nat_cmp a b → hex_cmp_from xs ys i ≡ ordering_then o (cond (is_some a) (hex_cmp_from xs ys (i + 1)) Equal)
@@ -108,14 +108,14 @@ hex_cmp_tied xs ys i a b o ea eb eo h n =
     let go = rw n at step in
     go ∙ then-tied o (hex_cmp_from xs ys (i + 1)) h
 
-pub digits_are_digits : (xs : List ℕ) → AreDigits (digits_at xs)
+pub digits_are_digits : (xs : List ℕ) → AreDigits (leading_digits xs)
 digits_are_digits xs = λ k h. run_passes is_ascii_digit xs k h
 
 is_hex_digit-digit : (b : ℕ) → IsTrue (is_ascii_digit b) → is_hex_digit b ≡ true
 is_hex_digit-digit b h = grind (arith, nat_tests)
 
 -- digits are hexadecimal digits too
-pub all_hex : (ds : List ℕ) → AreDigits ds → hex_digits_at ds ≡ ds
+pub all_hex : (ds : List ℕ) → AreDigits ds → leading_hex_digits ds ≡ ds
 all_hex ds h =
     let whole : prefix_len is_hex_digit ds ≡ length ds =
     prefix_len_is is_hex_digit ds (length ds) 0 (omega arith) (λ k l. is_hex_digit-digit (get_or ds k 0) (h k l)) (λ l. absurd (omega arith)) in
@@ -126,5 +126,5 @@ length-run_by : (a : Option ℕ) (r : List ℕ) → ltb 0 (length (run_by a r)) 
 length-run_by None r = refl
 length-run_by (Some x) r = grind (arith, nat_tests)
 
-pub any_hex : (xs : List ℕ) → ltb 0 (length (hex_digits_at xs)) ≡ is_some (hex_digit_at xs 0)
-any_hex xs = ap (λ ys. ltb 0 (length ys)) (hex_step xs 0) ∙ length-run_by (hex_digit_at xs 0) (hex_digits_at (drop (0 + 1) xs))
+pub any_hex : (xs : List ℕ) → ltb 0 (length (leading_hex_digits xs)) ≡ is_some (hex_digit_at xs 0)
+any_hex xs = ap (λ ys. ltb 0 (length ys)) (hex_step xs 0) ∙ length-run_by (hex_digit_at xs 0) (leading_hex_digits (drop (0 + 1) xs))

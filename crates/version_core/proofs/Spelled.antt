@@ -12,7 +12,7 @@ use Rattle.std.proofs.lemmas.List.Sums.{take_while-cons}
 use Rattle.std.proofs.lemmas.Slice.Eq.{bytes_eq-Decides}
 use Rattle.version_core.specs.declared.token.Class.{Class}
 use Rattle.version_core.specs.declared.token.Class.TheVariants.{Stray, PreRelease, End, Revision, Hash, SuffixNumber, Suffix, Letter, ZeroComponent, Component}
-use Rattle.version_core.specs.Token.{Token, Lexeme, bare_token, number_token, text_token, lexeme, stray_lexeme, is_number, is_hex_digit, is_component, is_suffix, is_before_hash, is_before_revision, begins_with_zero, digits_at, hex_digits_at, letters_at, number_lexeme, component_lexeme, suffix_rank, suffix_lexeme, suffix_lexeme_by, hash_lexeme, revision_lexeme, next_lexeme, lexeme_at}
+use Rattle.version_core.specs.Token.{Token, Lexeme, bare_token, number_token, text_token, lexeme, stray_lexeme, is_number, is_hex_digit, is_component, is_suffix, is_before_hash, is_before_revision, begins_with_zero, leading_digits, leading_hex_digits, leading_letters, number_lexeme, component_lexeme, suffix_rank, suffix_lexeme, suffix_lexeme_by, hash_lexeme, revision_lexeme, next_lexeme, lexeme_at}
 use Rattle.version_core.specs.Order.{are_in_grammar, is_last, is_stray, is_version, tokens, tokens_behind}
 use Rattle.version_core.specs.Grammar.{Parts, are_parts, spelling, tokens_of, if_some, is_numeral, is_hash_text, is_suffix_part, SuffixPart, later_text, letter_text, number_text, suffixes_text, hash_text, revision_text, component_token, later_tokens, letter_tokens, number_tokens, suffix_tokens, hash_tokens, revision_tokens}
 use Rattle.version_core.proofs.Walk.{after, tokens_behind-step}
@@ -129,7 +129,7 @@ read_revision (Some ds) last h ok =
 
 -- ---- hash
 
-next_hash : (last : Class) (rest : List ℕ) → is_before_hash last ≡ true → next_lexeme last (126 ∷ rest) ≡ hash_lexeme (hex_digits_at rest)
+next_hash : (last : Class) (rest : List ℕ) → is_before_hash last ≡ true → next_lexeme last (126 ∷ rest) ≡ hash_lexeme (leading_hex_digits rest)
 unfolding next_lexeme
 next_hash last rest h = rw h refl
 
@@ -161,7 +161,7 @@ read_hash (Some ds) last rest ts h ok other more =
 
 -- ---- suffixes
 
-next_number : (last : Class) (d : ℕ) (rest : List ℕ) → is_suffix last ≡ true → is_ascii_digit d ≡ true → next_lexeme last (d ∷ rest) ≡ number_lexeme SuffixNumber 0 (digits_at (d ∷ rest))
+next_number : (last : Class) (d : ℕ) (rest : List ℕ) → is_suffix last ≡ true → is_ascii_digit d ≡ true → next_lexeme last (d ∷ rest) ≡ number_lexeme SuffixNumber 0 (leading_digits (d ∷ rest))
 unfolding next_lexeme
 next_number last d rest h digit =
     rw (digit_is_no_dot d digit, digit_is_no_letter d digit, digit_is_no_underscore d digit, digit, h) refl
@@ -201,7 +201,7 @@ read_number (Some (d ∷ ds)) last rest ts h ok other more =
     ∙ ap (number_lexeme SuffixNumber 0) (run-append is_ascii_digit (d ∷ ds) rest all other) ∙ number_read SuffixNumber 0 (d ∷ ds) ok) refl
     ∙ ap (λ tokens. number_token SuffixNumber (digits_value 10 (d ∷ ds)) ∷ tokens) (more SuffixNumber refl)
 
-next_suffix : (last : Class) (rest : List ℕ) → is_before_hash last ≡ true → next_lexeme last (95 ∷ rest) ≡ suffix_lexeme (letters_at rest)
+next_suffix : (last : Class) (rest : List ℕ) → is_before_hash last ≡ true → next_lexeme last (95 ∷ rest) ≡ suffix_lexeme (leading_letters rest)
 unfolding next_lexeme
 next_suffix last rest h = rw h refl
 
@@ -289,7 +289,7 @@ read_letter (Some b) last rest ts h ok more =
 
 -- ---- components
 
-next_component : (last : Class) (rest : List ℕ) → is_component last ≡ true → next_lexeme last (46 ∷ rest) ≡ component_lexeme (digits_at rest)
+next_component : (last : Class) (rest : List ℕ) → is_component last ≡ true → next_lexeme last (46 ∷ rest) ≡ component_lexeme (leading_digits rest)
 unfolding next_lexeme
 next_component last rest h = rw h refl
 

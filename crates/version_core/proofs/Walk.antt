@@ -10,7 +10,7 @@ use Rattle.std.proofs.lemmas.List.Folds.{length-prefix_len}
 use Rattle.std.proofs.lemmas.List.Sums.{prefix_len-le-length}
 use Rattle.version_core.specs.declared.token.Class.{Class}
 use Rattle.version_core.specs.declared.token.Class.TheVariants.{Revision, Hash, SuffixNumber, Letter, ZeroComponent, Component}
-use Rattle.version_core.specs.Token.{Token, Lexeme, number_token, text_token, lexeme, stray_lexeme, is_number, is_component, is_suffix, is_before_hash, is_before_revision, begins_with_zero, is_hex_digit, digits_at, hex_digits_at, letters_at, number_lexeme, component_lexeme, suffix_rank, suffix_lexeme, suffix_lexeme_by, hash_lexeme, revision_lexeme, next_lexeme, lexeme_at}
+use Rattle.version_core.specs.Token.{Token, Lexeme, number_token, text_token, lexeme, stray_lexeme, is_number, is_component, is_suffix, is_before_hash, is_before_revision, begins_with_zero, is_hex_digit, leading_digits, leading_hex_digits, leading_letters, number_lexeme, component_lexeme, suffix_rank, suffix_lexeme, suffix_lexeme_by, hash_lexeme, revision_lexeme, next_lexeme, lexeme_at}
 use Rattle.version_core.specs.declared.lexeme.Lexeme.{Lexeme as LexemeAt}
 use Rattle.version_core.specs.Order.{is_last, tokens_behind}
 use Rattle.version_core.specs.Reading.{lexeme_view, token_view, unread_len}
@@ -65,8 +65,8 @@ revision_within : (text rest : List ℕ) → 1 + length rest ≤ length text →
 unfolding revision_lexeme
 revision_within text [] most = stray_within text
 revision_within text (b ∷ rest) most =
-    cond_within text (eqb b 114) (number_lexeme Revision 2 (digits_at rest)) stray_lexeme
-    (λ _. number_within text Revision 2 (digits_at rest) (omega (arith, length-take_while is_ascii_digit rest)))
+    cond_within text (eqb b 114) (number_lexeme Revision 2 (leading_digits rest)) stray_lexeme
+    (λ _. number_within text Revision 2 (leading_digits rest) (omega (arith, length-take_while is_ascii_digit rest)))
     (stray_within text)
 
 next_within : (last : Class) (text : List ℕ) → IsWithin text (next_lexeme last text)
@@ -74,19 +74,19 @@ unfolding next_lexeme
 next_within last [] = record { most = omega arith; some = λ h. absurd (false≢true (sym h)) }
 next_within last (b ∷ rest) =
     let text : List ℕ = b ∷ rest in
-    let digits : 1 + length (digits_at rest) ≤ length text = omega (arith, length-take_while is_ascii_digit rest) in
-    let word : 1 + length (letters_at rest) ≤ length text = omega (arith, length-take_while is_ascii_lowercase rest) in
-    let hex : 1 + length (hex_digits_at rest) ≤ length text = omega (arith, length-take_while is_hex_digit rest) in
-    cond_within text (eqb b 46 && is_component last) (component_lexeme (digits_at rest)) _ (λ _. component_within text (digits_at rest) digits)
+    let digits : 1 + length (leading_digits rest) ≤ length text = omega (arith, length-take_while is_ascii_digit rest) in
+    let word : 1 + length (leading_letters rest) ≤ length text = omega (arith, length-take_while is_ascii_lowercase rest) in
+    let hex : 1 + length (leading_hex_digits rest) ≤ length text = omega (arith, length-take_while is_hex_digit rest) in
+    cond_within text (eqb b 46 && is_component last) (component_lexeme (leading_digits rest)) _ (λ _. component_within text (leading_digits rest) digits)
     (cond_within text (is_ascii_lowercase b && is_component last) (lexeme (number_token Letter b) 1) _ (λ _. lexeme_within text (number_token Letter b) 1 (omega arith) (omega arith))
-    (cond_within text (eqb b 95 && is_before_hash last) (suffix_lexeme (letters_at rest)) _ (λ _. suffix_within_by text (letters_at rest) (suffix_rank (letters_at rest)) word)
-    (cond_within text (is_ascii_digit b && is_suffix last) (number_lexeme SuffixNumber 0 (digits_at text)) _ (λ _. number_within text SuffixNumber 0 (digits_at text) (omega (arith, length-take_while is_ascii_digit text)))
-    (cond_within text (eqb b 126 && is_before_hash last) (hash_lexeme (hex_digits_at rest)) _ (λ _. hash_within text (hex_digits_at rest) hex)
+    (cond_within text (eqb b 95 && is_before_hash last) (suffix_lexeme (leading_letters rest)) _ (λ _. suffix_within_by text (leading_letters rest) (suffix_rank (leading_letters rest)) word)
+    (cond_within text (is_ascii_digit b && is_suffix last) (number_lexeme SuffixNumber 0 (leading_digits text)) _ (λ _. number_within text SuffixNumber 0 (leading_digits text) (omega (arith, length-take_while is_ascii_digit text)))
+    (cond_within text (eqb b 126 && is_before_hash last) (hash_lexeme (leading_hex_digits rest)) _ (λ _. hash_within text (leading_hex_digits rest) hex)
     (cond_within text (eqb b 45 && is_before_revision last) (revision_lexeme rest) stray_lexeme (λ _. revision_within text rest (omega arith))
     (stray_within text))))))
 
 pub lexeme_at_within : (last : Option Class) (text : List ℕ) → IsWithin text (lexeme_at last text)
-lexeme_at_within None text = number_within text Component 0 (digits_at text) (omega (arith, length-take_while is_ascii_digit text))
+lexeme_at_within None text = number_within text Component 0 (leading_digits text) (omega (arith, length-take_while is_ascii_digit text))
 lexeme_at_within (Some last) text = next_within last text
 
 -- the bytes that belong to the token before are passed over

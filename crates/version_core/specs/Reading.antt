@@ -6,13 +6,13 @@ use Rattle.version_core.specs.declared.token.Class.TheVariants.{Hash}
 use Rattle.version_core.specs.declared.token.TokenAt.{TokenAt}
 use Rattle.version_core.specs.declared.token.Tokens.{Tokens}
 use Rattle.version_core.specs.declared.lexeme.Lexeme.{Lexeme as LexemeAt}
-use Rattle.version_core.specs.Token.{Token, Lexeme, lexeme, is_hex_digit, hex_digits_at}
+use Rattle.version_core.specs.Token.{Token, Lexeme, lexeme, is_hex_digit, leading_hex_digits}
 use Rattle.version_core.specs.Order.{tokens_behind}
 
 -- the text of a token ends before the first byte that is no hexadecimal digit
 abbrev pub token_view : TokenAt → Token
 token_view token =
-    record { class = token.class; number = token.number; text = hex_digits_at token.text.now }
+    record { class = token.class; number = token.number; text = leading_hex_digits token.text.now }
 
 abbrev pub is_hash : Class → Bool
 is_hash Hash = true
@@ -21,7 +21,7 @@ is_hash _ = false
 -- how many bytes of the rest still belong to the token before: those of a hash
 abbrev pub unread_len : Option Class → List ℕ → ℕ
 unread_len None rest = 0
-unread_len (Some class) rest = if is_hash class then length (hex_digits_at rest) else 0
+unread_len (Some class) rest = if is_hash class then length (leading_hex_digits rest) else 0
 
 -- the tokens that are left
 abbrev pub tokens_left : Tokens → List Token

@@ -37,14 +37,15 @@ stray_lexeme = lexeme (bare_token Stray) 0
 abbrev pub is_hex_digit : ℕ → Bool
 is_hex_digit b = is_ascii_digit b || (nat_le 97 b && nat_le b 102)
 
-abbrev pub digits_at : List ℕ → List ℕ
-digits_at text = take_while is_ascii_digit text
+-- the digits, and the lowercase letters, that a text begins with
+abbrev pub leading_digits : List ℕ → List ℕ
+leading_digits text = take_while is_ascii_digit text
 
-abbrev pub hex_digits_at : List ℕ → List ℕ
-hex_digits_at text = take_while is_hex_digit text
+abbrev pub leading_hex_digits : List ℕ → List ℕ
+leading_hex_digits text = take_while is_hex_digit text
 
-abbrev pub letters_at : List ℕ → List ℕ
-letters_at text = take_while is_ascii_lowercase text
+abbrev pub leading_letters : List ℕ → List ℕ
+leading_letters text = take_while is_ascii_lowercase text
 
 abbrev pub MOST_DIGITS : ℕ
 MOST_DIGITS = 18
@@ -106,7 +107,7 @@ hash_lexeme digits =
 unfoldable pub revision_lexeme : List ℕ → Lexeme
 revision_lexeme [] = stray_lexeme
 revision_lexeme (b ∷ rest) =
-    if b == 114 then number_lexeme Revision 2 (digits_at rest) else stray_lexeme
+    if b == 114 then number_lexeme Revision 2 (leading_digits rest) else stray_lexeme
 
 -- behind which tokens a component or a letter may stand
 abbrev pub is_component : Class → Bool
@@ -135,16 +136,16 @@ is_before_revision class = is_before_hash class
 unfoldable pub next_lexeme : Class → List ℕ → Lexeme
 next_lexeme last [] = lexeme (bare_token End) 0
 next_lexeme last (b ∷ rest) =
-    if (b == 46) && is_component last then component_lexeme (digits_at rest) else
+    if (b == 46) && is_component last then component_lexeme (leading_digits rest) else
     if is_ascii_lowercase b && is_component last then lexeme (number_token Letter b) 1 else
-    if (b == 95) && is_before_hash last then suffix_lexeme (letters_at rest) else
+    if (b == 95) && is_before_hash last then suffix_lexeme (leading_letters rest) else
     if is_ascii_digit b && is_suffix last
-    then number_lexeme SuffixNumber 0 (digits_at (b ∷ rest)) else
-    if (b == 126) && is_before_hash last then hash_lexeme (hex_digits_at rest) else
+    then number_lexeme SuffixNumber 0 (leading_digits (b ∷ rest)) else
+    if (b == 126) && is_before_hash last then hash_lexeme (leading_hex_digits rest) else
     if (b == 45) && is_before_revision last then revision_lexeme rest else
     stray_lexeme
 
 -- the token that begins a text: at the front the first component, else by the token before it
 abbrev pub lexeme_at : Option Class → List ℕ → Lexeme
-lexeme_at None text = number_lexeme Component 0 (digits_at text)
+lexeme_at None text = number_lexeme Component 0 (leading_digits text)
 lexeme_at (Some last) text = next_lexeme last text

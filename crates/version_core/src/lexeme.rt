@@ -5,7 +5,7 @@ ghost use Rattle.std.specs.Char.{is_ascii_digit, is_ascii_lowercase};
 ghost use Rattle.std.specs.Ordering.{nat_cmp};
 ghost use Rattle.std.specs.Cmp.Lexicographic.{slice_cmp};
 ghost use Rattle.std.specs.Str.Parse.{digits_value};
-ghost use Rattle.version_core.specs.Token.{begins_with_zero, component_lexeme, digits_at, hash_lexeme, hex_digits_at, is_hex_digit, lexeme, lexeme_at, next_lexeme, number_lexeme, number_token, revision_lexeme, stray_lexeme, suffix_class, suffix_lexeme, suffix_rank, letters_at, text_token};
+ghost use Rattle.version_core.specs.Token.{begins_with_zero, component_lexeme, leading_digits, hash_lexeme, leading_hex_digits, is_hex_digit, lexeme, lexeme_at, next_lexeme, number_lexeme, number_token, revision_lexeme, stray_lexeme, suffix_class, suffix_lexeme, suffix_rank, leading_letters, text_token};
 ghost use Rattle.version_core.specs.Reading.{AreDigits, hex_digit_at, is_hash, lexeme_view, plain_view};
 
 use crate::token::{Class, TokenAt};
@@ -35,7 +35,7 @@ fn lexeme_of_number<'a>(class: Class, number: u64, advance: usize) -> Lexeme<'a>
 }
 
 fn lexeme_of_text(class: Class, text: &[u8], advance: usize) -> Lexeme<'_>
-    ensures token { plain_view result ≡ lexeme (text_token class (hex_digits_at text.now)) advance }
+    ensures token { plain_view result ≡ lexeme (text_token class (leading_hex_digits text.now)) advance }
     ensures class { result.token.class ≡ class }
     ensures text { result.token.text.now ≡ text.now }
 {
@@ -59,7 +59,7 @@ pub fn lexeme_at<'a>(last: Option<Class>, text: &'a [u8]) -> Lexeme<'a>
     ensures { lexeme_view text.entry.now result ≡ lexeme_at last text.entry.now }
 {
     match last {
-        None => number(Class::Component, 0, digits_at(text)),
+        None => number(Class::Component, 0, leading_digits(text)),
         Some(last) => next_lexeme(last, text),
     }
 }
@@ -72,10 +72,10 @@ fn next_lexeme<'a>(last: Class, text: &'a [u8]) -> Lexeme<'a>
         return lexeme_of_number(Class::End, 0, 0);
     };
     match *mark {
-        b'.' if last.is_component() => component(digits_at(rest)),
+        b'.' if last.is_component() => component(leading_digits(rest)),
         b'a'..=b'z' if last.is_component() => lexeme_of_number(Class::Letter, u64::from(*mark), 1),
-        b'_' if last.is_before_hash() => suffix(letters_at(rest)),
-        b'0'..=b'9' if last.is_suffix() => number(Class::SuffixNumber, 0, digits_at(text)),
+        b'_' if last.is_before_hash() => suffix(leading_letters(rest)),
+        b'0'..=b'9' if last.is_suffix() => number(Class::SuffixNumber, 0, leading_digits(text)),
         b'~' if last.is_before_hash() => hash(text),
         b'-' if last.is_before_revision() => revision(rest),
         _ => stray_lexeme(),
@@ -160,7 +160,7 @@ fn suffix_class(rank: u64) -> Class
 #[tactic(auto, unfolding(crate::specs::Token::hash_lexeme))]
 fn hash(text: &[u8]) -> Lexeme<'_>
     requires { 0 < length text.now }
-    ensures { lexeme_view text.now result ≡ hash_lexeme (hex_digits_at (drop 1 text.now)) }
+    ensures { lexeme_view text.now result ≡ hash_lexeme (leading_hex_digits (drop 1 text.now)) }
 {
     let digits = behind(text, 1);
     if hex_digit_at(digits, 0).is_none() {
@@ -176,7 +176,7 @@ fn revision(text: &[u8]) -> Lexeme<'_>
     ensures plain { is_hash result.token.class ≡ false }
 {
     match text.split_first() {
-        Some((b'r', rest)) => number(Class::Revision, 2, digits_at(rest)),
+        Some((b'r', rest)) => number(Class::Revision, 2, leading_digits(rest)),
         _ => stray_lexeme(),
     }
 }
@@ -194,9 +194,10 @@ fn value_of(digits: &[u8]) -> u64
     number
 }
 
+/// The decimal digits that a text begins with.
 #[tactic(auto, using(crate::proofs::Runs::run_at))]
-fn digits_at(text: &[u8]) -> &[u8]
-    ensures front { result.now ≡ digits_at text.now }
+fn leading_digits(text: &[u8]) -> &[u8]
+    ensures front { result.now ≡ leading_digits text.now }
     ensures digits { AreDigits result.now }
 {
     match digits_end(text) {
@@ -211,9 +212,10 @@ fn digits_end(text: &[u8]) -> Option<usize>
     text.iter().position(|byte| !byte.is_ascii_digit())
 }
 
+/// The lowercase letters that a text begins with.
 #[tactic(auto, using(crate::proofs::Runs::run_at))]
-fn letters_at(text: &[u8]) -> &[u8]
-    ensures { result.now ≡ letters_at text.now }
+fn leading_letters(text: &[u8]) -> &[u8]
+    ensures { result.now ≡ leading_letters text.now }
 {
     match letters_end(text) {
         Some(len) => &text[..len],
@@ -229,8 +231,8 @@ fn letters_end(text: &[u8]) -> Option<usize>
 
 /// The hexadecimal digits that a text begins with.
 #[tactic(auto, using(crate::proofs::Runs::run_at))]
-pub fn hex_digits_at(text: &[u8]) -> &[u8]
-    ensures { result.now ≡ hex_digits_at text.now }
+pub fn leading_hex_digits(text: &[u8]) -> &[u8]
+    ensures { result.now ≡ leading_hex_digits text.now }
 {
     match hex_digits_end(text) {
         Some(len) => &text[..len],
@@ -253,7 +255,7 @@ fn is_hex_digit(byte: u8) -> bool
 /// The order of the hexadecimal digits that two texts begin with. It reads neither further than to
 /// the first place at which they differ.
 pub fn compare_hex_digits(left: &[u8], right: &[u8]) -> Ordering
-    ensures { result ≡ slice_cmp nat_cmp (hex_digits_at left.now) (hex_digits_at right.now) }
+    ensures { result ≡ slice_cmp nat_cmp (leading_hex_digits left.now) (leading_hex_digits right.now) }
 {
     let mut at = 0;
     loop {

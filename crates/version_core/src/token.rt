@@ -6,7 +6,7 @@ ghost use Rattle.version_core.specs.Order.{class_rank, is_last, token_cmp, token
 ghost use Rattle.version_core.specs.Matching.{fits};
 ghost use Rattle.version_core.specs.Reading.{bytes_left, token_view, tokens_left, unread_len};
 
-use crate::lexeme::{behind, compare_hex_digits, hex_digits_at, lexeme_at};
+use crate::lexeme::{behind, compare_hex_digits, leading_hex_digits, lexeme_at};
 use std::cmp::Ordering;
 
 /// The kinds of tokens, from the least to the greatest. `Stray` is what stands outside the grammar.
@@ -38,18 +38,21 @@ impl Class {
         matches!(self, Class::End | Class::Stray)
     }
 
+    /// Whether it is of a component of the number.
     pub fn is_component(self) -> bool
         ensures { result ≡ is_component self }
     {
         matches!(self, Class::ZeroComponent | Class::Component)
     }
 
+    /// Whether it is of a suffix.
     pub fn is_suffix(self) -> bool
         ensures { result ≡ is_suffix self }
     {
         matches!(self, Class::PreRelease | Class::Suffix)
     }
 
+    /// Whether a suffix or a hash may follow.
     pub fn is_before_hash(self) -> bool
         ensures { result ≡ is_before_hash self }
     {
@@ -59,6 +62,7 @@ impl Class {
         }
     }
 
+    /// Whether a revision may follow.
     pub fn is_before_revision(self) -> bool
         ensures { result ≡ is_before_revision self }
     {
@@ -96,7 +100,7 @@ impl TokenAt<'_> {
         ensures { result ≡ fits (token_view self.now) (token_view found.now) }
     {
         if self.class == Class::ZeroComponent && found.class == Class::ZeroComponent {
-            hex_digits_at(found.text).starts_with(hex_digits_at(self.text))
+            leading_hex_digits(found.text).starts_with(leading_hex_digits(self.text))
         } else {
             found.compare(self).is_eq()
         }
@@ -111,6 +115,7 @@ pub struct Tokens<'a> {
 }
 
 impl<'a> Tokens<'a> {
+    /// The tokens of a text.
     #[tactic(auto, unfolding(crate::specs::Order::tokens))]
     pub fn of(text: &'a [u8]) -> Tokens<'a>
         ensures { tokens_left result ≡ tokens text.entry.now }
@@ -139,7 +144,7 @@ impl<'a> Tokens<'a> {
         ensures { result.now ≡ drop (unread_len self.now.last self.now.rest.now) self.now.rest.now }
     {
         match self.last {
-            Some(Class::Hash) => behind(self.rest, hex_digits_at(self.rest).len()),
+            Some(Class::Hash) => behind(self.rest, leading_hex_digits(self.rest).len()),
             _ => self.rest,
         }
     }

@@ -1,4 +1,4 @@
-use Rattle.apk_front.proofs.Carried.{bad_by, crash_by, idle_by, left_by, orderly_by, reads_by, settled_by, states_by}
+use Rattle.apk_front.proofs.Carried.{bad_by, crash_by, idle_by, last_by, left_by, orderly_by, reads_by, rest_by, settled_by}
 use Rattle.apk_front.proofs.Judged.{answered, completed, answered_by_reads, answered_by_words, caused}
 use Rattle.apk_front.proofs.Unplanned.{ends_unless_memory}
 use Rattle.apk_front.proofs.Named.{memory_named}
@@ -28,10 +28,13 @@ pub returns-clause-left : goal.returns-clause-left
 returns-clause-left g c = left_by c.a_refusal_commits_nothing.ensures c.args.words.now c.judge-judged.result c.show.result _ _ _ _ c.show.ensures.shown c.judge-judged.ensures.found c.judge-judged.ensures.run
 
 pub returns-clause-bad_intent : goal.returns-clause-bad_intent
-returns-clause-bad_intent g c = bad_by c.args.words.now c.judge-judged.result c.show.result _ _ _ _ c.show.ensures.shown c.judge-judged.ensures.run
+returns-clause-bad_intent g c = bad_by c.args.words.now c.judge-judged.result _ _ c.judge-judged.ensures.run
 
-pub returns-clause-states : goal.returns-clause-states
-returns-clause-states g c = states_by c.args.words.now c.judge-judged.result _ _ c.judge-judged.ensures.run
+pub returns-clause-last : goal.returns-clause-last
+returns-clause-last g c = last_by c.args.words.now c.judge-judged.result _ _ c.judge-judged.ensures.run
+
+pub returns-clause-at_rest : goal.returns-clause-at_rest
+returns-clause-at_rest g c = rest_by c.args.words.now c.judge-judged.result c.show.result _ _ _ _ c.show.ensures.shown c.judge-judged.ensures.found c.judge-judged.ensures.run
 
 pub returns-clause-reads : goal.returns-clause-reads
 returns-clause-reads g c = reads_by c.args.words.now c.judge-judged.result _ _ c.judge-judged.ensures.run

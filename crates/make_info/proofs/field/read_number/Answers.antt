@@ -1,7 +1,8 @@
 use Rattle.std.proofs.Common.{◌≡◌, true, sym, ◌∙◌}
 use Rattle.std.proofs.lemmas.Str.{IsUtf8-from_ascii}
 use Rattle.command_core.specs.Operands.{is_decimal}
-use Rattle.make_info.proofs.Numbers.{decimal_digits, digits_ascii, parsed_number}
+use Rattle.command_core.proofs.Numbers.{decimal_digits, digits_ascii}
+use Rattle.make_info.proofs.Numbers.{parsed_number}
 use Rattle.make_info.proofs.field.read_number.Goals as goal
 
 pub returns-in-Ok : goal.returns-in-Ok

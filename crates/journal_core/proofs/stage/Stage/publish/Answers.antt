@@ -26,7 +26,7 @@ returns-clause-proper g c =
 
 pub returns-clause-published : goal.returns-clause-published
 returns-clause-published g c =
-    publish_orderly (λ ignored i v. PublishedBy v.made (IsOnTheWay ignored (after_actions i (files_of v)) v) (g.T.Tree.history c.args.tree.now) (g.T.Tree.history c.publish_intent.new.tree)) c.self.inside.intent c.args.self.now _ (ap (λ (s : Staging). s.intent) c.self.view_is) c.requires.all c.in_ok-publish_intent.ensures.published
+    publish_orderly (λ ignored i v. PublishedBy ignored (after_actions i (files_of v)) v (g.T.Tree.history c.args.tree.now) (g.T.Tree.history c.publish_intent.new.tree)) c.self.inside.intent c.args.self.now _ (ap (λ (s : Staging). s.intent) c.self.view_is) c.requires.all c.in_ok-publish_intent.ensures.published
 
 pub returns-clause-settled : goal.returns-clause-settled
 returns-clause-settled g c =

@@ -1,0 +1,149 @@
+-- The lists of a plan and the names that they hold.
+use Rattle.std.proofs.Common.{◌≡◌, ◌⊎◌, inl, inr, ◌∙◌, ◌<◌, ◌↔◌, ℕ, zero, suc, Bool, true, false, cond, List, [], ◌∷◌, ◌++◌, length, get_or, map, Contains, Option, Some, None, is_some, refl, ap, sym, subst, true≢false, arith}
+use Rattle.std.specs.Prelude.{option_map}
+use Rattle.std.specs.List.{cons_option, filter, filter_map}
+use Rattle.base_core.specs.Files.{Files}
+use Rattle.base_core.specs.Listed.{IsRising}
+use Rattle.base_core.proofs.Rising.{IsIn, Rises, contains_from_in, in_from_contains, pairs_from_rises}
+use Rattle.db_core.specs.Members.{Listing}
+use Rattle.change_files.specs.Fate.{aside_name}
+use Rattle.change_files.specs.FileChange.{FileChange, coming_owner, was_listed}
+use Rattle.change_files.specs.FilesAfter.{is_kept, is_removed, is_written, laid_beside, written_as}
+use Rattle.change_files.specs.NamesAfter.{coming_paths}
+use Rattle.change_files.specs.PlanLists.{FileWrite, aside_of, kept_of, names_in_order, old_paths, removals_of, write_to, writes_of}
+use Rattle.change_files.specs.Touched.{IsWriteOf}
+use Rattle.change_files.proofs.InOrder.{filter_rises, from_filter, from_order, in_filter, in_left, in_map, in_order, in_right, order_rises}
+use Rattle.change_files.proofs.Lists.{IsOneOf, contains_from_one, one_from_contains}
+use Rattle.change_files.proofs.Owned.{aside_found, in_coming_paths, in_old_paths, written_is}
+use Rattle.change_files.proofs.Untouched.{kept_is, removed_is}
+
+-- ---- what is written
+
+abbrev write_by : (List ℕ → Option Listing) → List ℕ → Option FileWrite
+write_by found name = option_map (write_to name) (found name)
+
+names_written : (found : List ℕ → Option Listing) (names : List (List ℕ)) → map (λ w. w.name) (filter_map (write_by found) names) ≡ filter (λ name. is_some (found name)) names
+names_written found [] = refl
+names_written found (x ∷ names) = by_found (found x) (names_written found names)
+  where
+    by_found : (o : Option Listing) → map (λ w. w.name) (filter_map (write_by found) names) ≡ filter (λ name. is_some (found name)) names
+        → map (λ w. w.name) (cons_option (option_map (write_to x) o) (filter_map (write_by found) names)) ≡ cond (is_some o) (x ∷ filter (λ name. is_some (found name)) names) (filter (λ name. is_some (found name)) names)
+    by_found None more = more
+    by_found (Some l) more = ap (λ (rest : List (List ℕ)). x ∷ rest) more
+
+one_written : (found : List ℕ → Option Listing) (names : List (List ℕ)) (w : FileWrite) → IsOneOf w (filter_map (write_by found) names) → (q : List ℕ) × (write_by found q ≡ Some w)
+one_written found [] w here = absurd here
+one_written found (x ∷ names) w here = by_write (write_by found x) refl here (one_written found names w)
+  where
+    by_write : (o : Option FileWrite) → write_by found x ≡ o → IsOneOf w (cons_option o (filter_map (write_by found) names)) → (IsOneOf w (filter_map (write_by found) names) → (q : List ℕ) × (write_by found q ≡ Some w))
+        → (q : List ℕ) × (write_by found q ≡ Some w)
+    by_write None e here f = f here
+    by_write (Some v) e (inl is) f = (x, e ∙ ap (λ (u : FileWrite). Some u) (sym is))
+    by_write (Some v) e (inr more) f = f more
+
+written_one : (found : List ℕ → Option Listing) (names : List (List ℕ)) (q : List ℕ) (w : FileWrite) → IsIn q names → write_by found q ≡ Some w → IsOneOf w (filter_map (write_by found) names)
+written_one found [] q w here e = here
+written_one found (x ∷ names) q w here e = by_write (write_by found x) refl here (λ more. written_one found names q w more e)
+  where
+    by_write : (o : Option FileWrite) → write_by found x ≡ o → IsIn q (x ∷ names) → (IsIn q names → IsOneOf w (filter_map (write_by found) names)) → IsOneOf w (cons_option o (filter_map (write_by found) names))
+    by_write None is (inl same) f = absurd (let none : None ≡ Some w = sym is ∙ (ap (write_by found) (sym same) ∙ e) in cc)
+    by_write None is (inr more) f = f more
+    by_write (Some v) is (inl same) f = inl (let both : Some v ≡ Some w = sym is ∙ (ap (write_by found) (sym same) ∙ e) in cc)
+    by_write (Some v) is (inr more) f = inr (f more)
+
+abbrev written_names : FileChange → List (List ℕ)
+written_names change = names_in_order (coming_paths change.members ++ map aside_name (coming_paths change.members))
+
+among_written : (change : FileChange) (files : Files) (name : List ℕ) (l : Listing) → written_as change files name ≡ Some l → IsIn name (written_names change)
+among_written change files name l e =
+    let written = written_is change files name l e in
+    let path = in_coming_paths change l.path l written.comes in
+    in_order name (coming_paths change.members ++ map aside_name (coming_paths change.members))
+    (elim written.under [
+      | inl own ↦ in_left name (coming_paths change.members) (map aside_name (coming_paths change.members)) (subst (λ (q : List ℕ). IsIn q (coming_paths change.members)) (sym own.0) path)
+      | inr beside ↦ in_right name (coming_paths change.members) (map aside_name (coming_paths change.members))
+          (subst (λ (q : List ℕ). IsIn q (map aside_name (coming_paths change.members))) (sym beside.0) (in_map aside_name l.path (coming_paths change.members) path))
+    ])
+
+some_listing : (o : Option Listing) → is_some o ≡ true → (l : Listing) × (o ≡ Some l)
+some_listing None e = absurd (true≢false (sym e))
+some_listing (Some l) e = (l, refl)
+
+pub writes_names : (change : FileChange) (files : Files) → map (λ w. w.name) (writes_of change files) ≡ filter (is_written change files) (written_names change)
+unfolding writes_of
+writes_names change files = names_written (written_as change files) (written_names change)
+
+pub writes_rise : (change : FileChange) (files : Files) → IsRising (map (λ w. w.name) (writes_of change files))
+writes_rise change files =
+    subst IsRising (sym (writes_names change files))
+    (pairs_from_rises _ (filter_rises (is_written change files) (written_names change) (order_rises (coming_paths change.members ++ map aside_name (coming_paths change.members)))))
+
+pub writes_hold : (change : FileChange) (files : Files) (name : List ℕ) → Contains (map (λ w. w.name) (writes_of change files)) name ↔ (is_written change files name ≡ true)
+writes_hold change files name = (
+  λ here. (from_filter (is_written change files) (written_names change) name
+      (in_from_contains _ name (subst (λ (names : List (List ℕ)). Contains names name) (writes_names change files) here))).1,
+  λ written. (let found = some_listing (written_as change files name) written in
+      subst (λ (names : List (List ℕ)). Contains names name) (sym (writes_names change files))
+      (contains_from_in _ name (in_filter (is_written change files) (written_names change) name (among_written change files name found.0 found.1) written))),
+)
+
+write_is : (change : FileChange) (files : Files) (q : List ℕ) (w : FileWrite) (o : Option Listing) → written_as change files q ≡ o → option_map (write_to q) o ≡ Some w → IsWriteOf change files w
+write_is change files q w None is e = absurd (cc)
+write_is change files q w (Some l) is e =
+    let same : w ≡ write_to q l = (cc) in
+    subst (IsWriteOf change files) (sym same) (record { listing = l; written = is; shown = refl })
+
+pub writes_are : (change : FileChange) (files : Files) (w : FileWrite) → Contains (writes_of change files) w ↔ IsWriteOf change files w
+unfolding writes_of
+writes_are change files w = (
+  λ here. (let found = one_written (written_as change files) (written_names change) w (one_from_contains _ w here) in
+      write_is change files found.0 w (written_as change files found.0) refl found.1),
+  λ is. contains_from_one _ w (written_one (written_as change files) (written_names change) w.name w (among_written change files w.name is.listing is.written)
+      (ap (option_map (write_to w.name)) is.written ∙ ap (λ (v : FileWrite). Some v) (sym is.shown))),
+)
+
+-- ---- what is removed, kept and laid aside
+
+holds_just : (p : List ℕ → Bool) (names : List (List ℕ)) → ((q : List ℕ) → p q ≡ true → IsIn q names) → (q : List ℕ) → Contains (filter p (names_in_order names)) q ↔ (p q ≡ true)
+holds_just p names all q = (
+  λ here. (from_filter p (names_in_order names) q (in_from_contains _ q here)).1,
+  λ passes. contains_from_in _ q (in_filter p (names_in_order names) q (in_order q names (all q passes)) passes),
+)
+
+rises_just : (p : List ℕ → Bool) (names : List (List ℕ)) → IsRising (filter p (names_in_order names))
+rises_just p names = pairs_from_rises _ (filter_rises p (names_in_order names) (order_rises names))
+
+pub removals_hold : (change : FileChange) (files : Files) (path : List ℕ) → Contains (removals_of change files) path ↔ (is_removed change files path ≡ true)
+unfolding removals_of
+removals_hold change files path =
+    holds_just (is_removed change files) (old_paths change) (λ q removed. in_old_paths change q ((removed_is change files q removed).0).listed) path
+
+pub removals_rise : (change : FileChange) (files : Files) → IsRising (removals_of change files)
+unfolding removals_of
+removals_rise change files = rises_just (is_removed change files) (old_paths change)
+
+pub kept_hold : (change : FileChange) (files : Files) (path : List ℕ) → Contains (kept_of change files) path ↔ (is_kept change files path ≡ true)
+unfolding kept_of
+kept_hold change files path = holds_just (is_kept change files) (old_paths change) (λ q kept. in_old_paths change q ((kept_is change files q kept).0).listed) path
+
+pub kept_rise : (change : FileChange) (files : Files) → IsRising (kept_of change files)
+unfolding kept_of
+kept_rise change files = rises_just (is_kept change files) (old_paths change)
+
+pub aside_hold : (change : FileChange) (files : Files) (path : List ℕ) → Contains (aside_of change files) path ↔ (is_some (laid_beside change files path) ≡ true)
+unfolding aside_of
+aside_hold change files path =
+    holds_just (λ path. is_some (laid_beside change files path)) (coming_paths change.members)
+    (λ q laid. (let found = some_listing (laid_beside change files q) laid in in_coming_paths change q found.0 ((aside_found change files q found.0 found.1).0))) path
+
+pub aside_rise : (change : FileChange) (files : Files) → IsRising (aside_of change files)
+unfolding aside_of
+aside_rise change files = rises_just (λ path. is_some (laid_beside change files path)) (coming_paths change.members)
+
+-- ---- no name is in two of the lists
+
+pub written_or_removed : (change : FileChange) (files : Files) (name : List ℕ) → is_written change files name ≡ true → is_removed change files name ≡ true → ⊥
+written_or_removed change files name written removed = true≢false (sym written ∙ ((removed_is change files name removed).0).unwritten)
+
+pub removed_or_kept : (change : FileChange) (files : Files) (name : List ℕ) → is_removed change files name ≡ true → is_kept change files name ≡ true → ⊥
+removed_or_kept change files name removed kept = true≢false (sym ((kept_is change files name kept).1) ∙ (removed_is change files name removed).1)

@@ -1,0 +1,206 @@
+-- Names that a change leaves as they are, and what it makes of others.
+use Rattle.std.proofs.Common.{◌≡◌, ◌∙◌, ℕ, Bool, true, false, List, length, Option, Some, None, is_some, refl, ap, sym, subst, true≢false}
+use Rattle.std.specs.Prelude.{not, ◌&&◌, ◌||◌, if◌then◌else◌, nat_le, option_and_then}
+use Rattle.std.specs.List.{list_any}
+use Rattle.std.specs.Str.{bytes_eq}
+use Rattle.std.proofs.lemmas.Bool.{and_from, and_left, and_parts, and_right, not_from_false, not_from_true, or_from, or_left, or_parts}
+use Rattle.adb_view.specs.Plain.{Plain}
+use Rattle.base_core.specs.Files.{Files}
+use Rattle.db_core.specs.Members.{Listing, is_coming}
+use Rattle.file_guard.specs.AsListed.{is_as_listed}
+use Rattle.change_files.specs.Fate.{Fate, agrees_with_old, aside_name, fate_beside, fate_by, fate_of, gives_way, goes_aside, goes_in, is_as_old, is_guarded}
+use Rattle.change_files.specs.FileChange.{FileChange, coming_owner, is_claimed, old_entry, owner_listing, was_listed}
+use Rattle.change_files.specs.FilesAfter.{Records, bytes_after, changed_files, database_name, if_in, is_changed, is_kept, is_left_over, is_removed, is_written, laid_beside, may_stay, or_beside, path_beside, text_database_name, world_bytes_after, world_name, written_as, written_in}
+use Rattle.change_files.specs.NamesAfter.{coming_paths}
+use Rattle.change_files.specs.Touched.{IsUsersFile, is_as_new, is_aside_name, is_coming_path, is_record_name}
+use Rattle.change_files.proofs.Lists.{any_name}
+use Rattle.change_files.proofs.Owned.{aside_found, beside_is, claimed_by_owner, coming_is, in_coming_paths, nobody_beside, not_written, owner_is, owner_stays}
+
+-- ---- the bytes under a name
+
+pub changed_so : (change : FileChange) (bytes_of : Listing → List ℕ) (records : Records) (files : Files) (name : List ℕ) → is_record_name records name ≡ false
+    → changed_files change bytes_of records files name ≡ bytes_after bytes_of (written_as change files name) (is_removed change files name) (files name)
+unfolding changed_files
+changed_so change bytes_of records files name other =
+    let (database, behind) = or_parts (bytes_eq name database_name) (bytes_eq name world_name || (records.takes_text_over && bytes_eq name text_database_name)) other in
+    let (world, text) = or_parts (bytes_eq name world_name) (records.takes_text_over && bytes_eq name text_database_name) behind in
+    let after : Option (List ℕ) = bytes_after bytes_of (written_as change files name) (is_removed change files name) (files name) in
+    ap (λ (b : Bool). if b then Some records.database else (if bytes_eq name world_name then world_bytes_after records.world (files name) else (if records.takes_text_over && bytes_eq name text_database_name then None else after))) database
+    ∙ (ap (λ (b : Bool). if b then world_bytes_after records.world (files name) else (if records.takes_text_over && bytes_eq name text_database_name then None else after)) world
+    ∙ ap (λ (b : Bool). if b then None else after) text)
+
+untouched : (change : FileChange) (bytes_of : Listing → List ℕ) (records : Records) (files : Files) (name : List ℕ) → written_as change files name ≡ None → is_removed change files name ≡ false → is_record_name records name ≡ false
+    → changed_files change bytes_of records files name ≡ files name
+untouched change bytes_of records files name none stays other =
+    changed_so change bytes_of records files name other
+    ∙ (ap (λ (o : Option Listing). bytes_after bytes_of o (is_removed change files name) (files name)) none
+    ∙ ap (λ (b : Bool). bytes_after bytes_of None b (files name)) stays)
+
+-- ---- what is left over
+
+claimed_not_left : (change : FileChange) (files : Files) (path : List ℕ) → is_claimed change path ≡ true → is_left_over change files path ≡ false
+claimed_not_left change files path claimed =
+    and_right (was_listed change path) (not (is_claimed change path) && not (is_written change files path))
+    (and_left (not (is_claimed change path)) (not (is_written change files path)) (not_from_true (is_claimed change path) claimed))
+
+removed_left : (change : FileChange) (files : Files) (path : List ℕ) → is_left_over change files path ≡ false → is_removed change files path ≡ false
+unfolding is_removed
+removed_left change files path e = and_left (is_left_over change files path) (not (may_stay change path (files path) (old_entry change path))) e
+
+-- it was listed before, no package lists it now, and nothing is written there
+pub record IsLeftOver (change : FileChange) (files : Files) (path : List ℕ) : Type 0 where
+  pub listed : was_listed change path ≡ true
+  pub unclaimed : is_claimed change path ≡ false
+  pub unwritten : is_written change files path ≡ false
+
+not_true : (b : Bool) → not b ≡ true → b ≡ false
+not_true true e = sym e
+not_true false e = refl
+
+pub left_over_is : (change : FileChange) (files : Files) (path : List ℕ) → is_left_over change files path ≡ true → IsLeftOver change files path
+left_over_is change files path e =
+    let (listed, behind) = and_parts (was_listed change path) (not (is_claimed change path) && not (is_written change files path)) e in
+    let (unclaimed, unwritten) = and_parts (not (is_claimed change path)) (not (is_written change files path)) behind in
+    record { listed = listed; unclaimed = not_true (is_claimed change path) unclaimed; unwritten = not_true (is_written change files path) unwritten }
+
+pub removed_is : (change : FileChange) (files : Files) (path : List ℕ) → is_removed change files path ≡ true → IsLeftOver change files path × (may_stay change path (files path) (old_entry change path) ≡ false)
+unfolding is_removed
+removed_is change files path e =
+    let (left, gone) = and_parts (is_left_over change files path) (not (may_stay change path (files path) (old_entry change path))) e in
+    (left_over_is change files path left, not_true (may_stay change path (files path) (old_entry change path)) gone)
+
+pub kept_is : (change : FileChange) (files : Files) (path : List ℕ) → is_kept change files path ≡ true → IsLeftOver change files path × (may_stay change path (files path) (old_entry change path) ≡ true)
+unfolding is_kept
+kept_is change files path e =
+    let (left, stays) = and_parts (is_left_over change files path) (may_stay change path (files path) (old_entry change path)) e in
+    (left_over_is change files path left, stays)
+
+not_some : (o : Option Listing) → is_some o ≡ false → o ≡ None
+not_some None e = refl
+not_some (Some l) e = absurd (true≢false e)
+
+-- ---- the file of a package that comes, and one that goes
+
+pub takes_its_path : (change : FileChange) (bytes_of : Listing → List ℕ) (records : Records) (files : Files) (name : List ℕ) (l : Listing) → written_as change files name ≡ Some l → is_record_name records name ≡ false
+    → changed_files change bytes_of records files name ≡ Some (bytes_of l)
+takes_its_path change bytes_of records files name l written other =
+    changed_so change bytes_of records files name other
+    ∙ ap (λ (o : Option Listing). bytes_after bytes_of o (is_removed change files name) (files name)) written
+
+pub is_gone : (change : FileChange) (bytes_of : Listing → List ℕ) (records : Records) (files : Files) (name : List ℕ) → is_removed change files name ≡ true → is_record_name records name ≡ false
+    → changed_files change bytes_of records files name ≡ None
+is_gone change bytes_of records files name gone other =
+    let (left, never) = removed_is change files name gone in
+    changed_so change bytes_of records files name other
+    ∙ (ap (λ (o : Option Listing). bytes_after bytes_of o (is_removed change files name) (files name)) (not_some (written_as change files name) left.unwritten)
+    ∙ ap (λ (b : Bool). bytes_after bytes_of None b (files name)) gone)
+
+may_stay_unremoved : (change : FileChange) (files : Files) (name : List ℕ) → may_stay change name (files name) (old_entry change name) ≡ true → is_removed change files name ≡ false
+unfolding is_removed
+may_stay_unremoved change files name stays =
+    and_right (is_left_over change files name) (not (may_stay change name (files name) (old_entry change name)))
+    (not_from_true (may_stay change name (files name) (old_entry change name)) stays)
+
+pub is_spared : (change : FileChange) (bytes_of : Listing → List ℕ) (records : Records) (files : Files) (name : List ℕ) → is_kept change files name ≡ true → is_record_name records name ≡ false
+    → changed_files change bytes_of records files name ≡ files name
+is_spared change bytes_of records files name kept other =
+    let (left, stays) = kept_is change files name kept in
+    untouched change bytes_of records files name (not_some (written_as change files name) left.unwritten) (may_stay_unremoved change files name stays) other
+
+-- ---- the file of a package that stays
+
+-- nothing is laid beside another file under a name that a package lists
+claimed_not_beside : (change : FileChange) (files : Files) (name : List ℕ) → is_claimed change name ≡ true → is_aside_name change files name ≡ false
+claimed_not_beside change files name claimed = by_path (path_beside name) refl
+  where
+    by_path : (o : Option (List ℕ)) → path_beside name ≡ o → is_some (option_and_then (laid_beside change files) o) ≡ false
+    by_path None e = refl
+    by_path (Some path) e = by_listing (laid_beside change files path) refl
+      where
+        by_listing : (o : Option Listing) → laid_beside change files path ≡ o → is_some o ≡ false
+        by_listing None laid = refl
+        by_listing (Some l) laid =
+            let free : is_claimed change (aside_name path) ≡ false = nobody_beside change files path l laid in
+            absurd (true≢false (sym claimed ∙ (ap (is_claimed change) (beside_is name path e) ∙ free)))
+
+no_owner_comes : (change : FileChange) (files : Files) (path : List ℕ) → coming_owner change path ≡ None → written_in change files path ≡ None
+no_owner_comes change files path none = ap (option_and_then (λ l. if_in l (fate_of change files l))) none
+
+pub unwritten_where_it_stays : (change : FileChange) (files : Files) (path : List ℕ) (l : Listing) → owner_listing change path ≡ Some l → is_coming l.member ≡ false → written_as change files path ≡ None
+unwritten_where_it_stays change files path l owner stays =
+    let claimed = claimed_by_owner change path l (owner_is change path l owner) in
+    not_written change files path (no_owner_comes change files path (owner_stays change path l owner stays)) (claimed_not_beside change files path claimed)
+
+pub left_where_it_stays : (change : FileChange) (files : Files) (path : List ℕ) (l : Listing) → owner_listing change path ≡ Some l → is_removed change files path ≡ false
+left_where_it_stays change files path l owner =
+    removed_left change files path (claimed_not_left change files path (claimed_by_owner change path l (owner_is change path l owner)))
+
+pub stays_as_it_is : (change : FileChange) (bytes_of : Listing → List ℕ) (records : Records) (files : Files) (path : List ℕ) (l : Listing) → owner_listing change path ≡ Some l → is_coming l.member ≡ false → is_record_name records path ≡ false
+    → changed_files change bytes_of records files path ≡ files path
+stays_as_it_is change bytes_of records files path l owner stays other =
+    untouched change bytes_of records files path (unwritten_where_it_stays change files path l owner stays) (left_where_it_stays change files path l owner) other
+
+-- ---- configuration that the user changed
+
+users_fate : (change : FileChange) (files : Files) (path bytes : List ℕ) (l : Listing) → IsUsersFile change files path bytes → coming_owner change path ≡ Some l → fate_of change files l ≡ fate_beside change path l.entry
+unfolding fate_of
+users_fate change files path bytes l own comes =
+    let (owner, coming) = coming_is change path l comes in
+    let unlike : is_as_listed l.entry bytes ≡ false = ap (λ (o : Option Listing). is_as_new o bytes) (sym comes) ∙ own.unlike_new in
+    let test : (not (is_guarded path) || (is_as_listed l.entry bytes || is_as_old (old_entry change path) bytes)) ≡ false =
+        or_from (not (is_guarded path)) (is_as_listed l.entry bytes || is_as_old (old_entry change path) bytes) (not_from_true (is_guarded path) own.guarded)
+        (or_from (is_as_listed l.entry bytes) (is_as_old (old_entry change path) bytes) unlike own.unlike_old) in
+    ap (λ (q : List ℕ). fate_by change q l.entry (files q)) owner.of_path
+    ∙ (ap (fate_by change path l.entry) own.present
+    ∙ ap (λ (b : Bool). if b then goes_in else fate_beside change path l.entry) test)
+
+never_in : (l : Listing) (b : Bool) → if_in l (if b then goes_aside else gives_way) ≡ None
+never_in l true = refl
+never_in l false = refl
+
+users_file_not_taken : (change : FileChange) (files : Files) (path bytes : List ℕ) → IsUsersFile change files path bytes → written_in change files path ≡ None
+users_file_not_taken change files path bytes own = by_owner (coming_owner change path) refl
+  where
+    by_owner : (o : Option Listing) → coming_owner change path ≡ o → written_in change files path ≡ None
+    by_owner None comes = no_owner_comes change files path comes
+    by_owner (Some l) comes =
+        ap (option_and_then (λ l. if_in l (fate_of change files l))) comes
+        ∙ (ap (if_in l) (users_fate change files path bytes l own comes)
+        ∙ never_in l (not (agrees_with_old (old_entry change path) l.entry) && (nat_le (length (aside_name path)) 1024 && not (is_claimed change (aside_name path)))))
+
+users_file_stays : (change : FileChange) (files : Files) (path bytes : List ℕ) → change.purge ≡ false → IsUsersFile change files path bytes → is_removed change files path ≡ false
+users_file_stays change files path bytes no_purge own =
+    may_stay_unremoved change files path
+    (ap (λ (found : Option (List ℕ)). may_stay change path found (old_entry change path)) own.present ∙ by_entry (old_entry change path) own.unlike_old)
+  where
+    by_entry : (o : Option Plain) → is_as_old o bytes ≡ false → may_stay change path (Some bytes) o ≡ true
+    by_entry None unlike = refl
+    by_entry (Some entry) unlike =
+        and_from (is_guarded path) (not change.purge && is_changed entry (Some bytes)) own.guarded
+        (and_from (not change.purge) (is_changed entry (Some bytes)) (not_from_false change.purge no_purge) (not_from_false (is_as_listed entry bytes) unlike))
+
+pub users_file_is_spared : (change : FileChange) (bytes_of : Listing → List ℕ) (records : Records) (files : Files) (path bytes : List ℕ) → change.purge ≡ false → IsUsersFile change files path bytes → is_aside_name change files path ≡ false → is_record_name records path ≡ false
+    → changed_files change bytes_of records files path ≡ Some bytes
+users_file_is_spared change bytes_of records files path bytes no_purge own beside other =
+    untouched change bytes_of records files path (not_written change files path (users_file_not_taken change files path bytes own) beside) (users_file_stays change files path bytes no_purge own) other
+    ∙ own.present
+
+-- ---- names that nobody lists
+
+no_owner : (change : FileChange) (path : List ℕ) → is_coming_path change path ≡ false → coming_owner change path ≡ None
+no_owner change path never = by_owner (coming_owner change path) refl
+  where
+    by_owner : (o : Option Listing) → coming_owner change path ≡ o → o ≡ None
+    by_owner None e = refl
+    by_owner (Some l) e = absurd (true≢false (sym (any_name path (coming_paths change.members) (in_coming_paths change path l e)) ∙ never))
+
+never_listed : (change : FileChange) (files : Files) (name : List ℕ) → was_listed change name ≡ false → is_removed change files name ≡ false
+never_listed change files name never =
+    removed_left change files name (and_left (was_listed change name) (not (is_claimed change name) && not (is_written change files name)) never)
+
+pub others_stay : (change : FileChange) (bytes_of : Listing → List ℕ) (records : Records) (files : Files) (name : List ℕ) → was_listed change name ≡ false → is_coming_path change name ≡ false → is_aside_name change files name ≡ false → is_record_name records name ≡ false
+    → changed_files change bytes_of records files name ≡ files name
+others_stay change bytes_of records files name never_before never_now beside other =
+    untouched change bytes_of records files name
+    (not_written change files name (no_owner_comes change files name (no_owner change name never_now)) beside)
+    (never_listed change files name never_before) other

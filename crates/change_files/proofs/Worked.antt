@@ -1,0 +1,74 @@
+-- Rows that are worked by hand: two packages with one file, a clash, a reserved name.
+use Rattle.std.proofs.Common.{◌≡◌, ℕ, List, [], ◌∷◌, Option, Some, None, refl, codes, true, false}
+use Rattle.adb_view.specs.Plain.{Plain}
+use Rattle.base_core.specs.Files.{Files, no_names}
+use Rattle.db_core.specs.Members.{Member, claims_of, coming_member, member_listings, staying_member}
+use Rattle.dep_core.specs.ValueReading.{dependency_of_value}
+use Rattle.version_core.specs.Order.{is_version, tokens}
+use Rattle.version_core.specs.Token.{component_lexeme, hash_lexeme, next_lexeme, number_lexeme, revision_lexeme, suffix_rank}
+use Rattle.path_claims.specs.Contest.{winner}
+use Rattle.path_clashes.specs.Clash.{IsClash}
+use Rattle.file_owners.specs.Owners.{member_beats, owner_of_path}
+use Rattle.file_owners.specs.Replaces.{is_preferred_to, names_package, takes_over}
+use Rattle.change_files.specs.Fate.{fate_of}
+use Rattle.change_files.specs.FileChange.{FileChange, is_claimed, old_entry, old_listings, owner_listing}
+use Rattle.change_files.specs.FilesAfter.{changed_files, is_kept, is_removed, written_as}
+use Rattle.change_files.specs.NamesAfter.{is_let_go, is_written_name, name_change}
+use Rattle.change_files.specs.PlanLists.{first_reserved, names_in_order, removals_of, writes_of}
+use Rattle.change_files.proofs.Sample.{folder, info, need, new_bytes, package_with, plain_file, with_file}
+
+-- ---- two packages with one file
+
+abbrev with_x : List Plain → List ℕ → List ℕ → Plain
+with_x replaces name version =
+    package_with (info name version replaces) (folder (codes "usr") (plain_file (codes "x") 1 (codes "01234567890123456789") ∷ []) ∷ [])
+
+abbrev p1 : Plain
+p1 = with_x [] (codes "p") (codes "1")
+
+abbrev q1 : Plain
+q1 = with_x [] (codes "q") (codes "1")
+
+abbrev q2 : Plain
+q2 = with_x (need (codes "p") ∷ []) (codes "q") (codes "2")
+
+abbrev change : List Plain → List Member → FileChange
+change old members = record { old = old; members = members; purge = false }
+
+-- neither replaces the other: nobody owns it
+nobody : writes_of (change [] (coming_member p1 [] ∷ coming_member q1 [] ∷ [])) no_names ≡ []
+unfolding member_listings claims_of member_beats owner_of_path winner takes_over names_package is_preferred_to is_version tokens next_lexeme component_lexeme number_lexeme suffix_rank hash_lexeme revision_lexeme dependency_of_value old_listings old_entry is_claimed owner_listing fate_of written_as names_in_order writes_of
+nobody = refl
+
+-- the second replaces the first
+one_write : writes_of (change [] (coming_member p1 [] ∷ coming_member q2 [] ∷ [])) no_names ≡ record { name = codes "usr/x"; member = 1; folder = 1; file = 1 } ∷ []
+unfolding member_listings claims_of member_beats owner_of_path winner takes_over names_package is_preferred_to is_version tokens next_lexeme component_lexeme number_lexeme suffix_rank hash_lexeme revision_lexeme dependency_of_value old_listings old_entry is_claimed owner_listing fate_of written_as names_in_order writes_of
+one_write = refl
+
+-- the first one stays and keeps its file, which the second does not replace: nothing is written
+stays : writes_of (change (p1 ∷ []) (staying_member p1 ∷ [])) (with_file (codes "usr/x") (codes "1")) ≡ []
+unfolding member_listings claims_of member_beats owner_of_path winner takes_over names_package is_preferred_to is_version tokens next_lexeme component_lexeme number_lexeme suffix_rank hash_lexeme revision_lexeme dependency_of_value old_listings old_entry is_claimed owner_listing fate_of written_as names_in_order writes_of
+stays = refl
+
+-- it goes: its file is removed
+goes : removals_of (change (p1 ∷ []) []) (with_file (codes "usr/x") (codes "1")) ≡ codes "usr/x" ∷ []
+unfolding member_listings claims_of owner_of_path winner old_listings old_entry is_claimed owner_listing fate_of written_as names_in_order is_removed removals_of
+goes = refl
+
+-- ---- a file of the tree where a package has a folder
+
+abbrev r1 : Plain
+r1 = package_with (info (codes "r") (codes "1") []) (folder (codes "usr/x") (plain_file (codes "y") 0 [] ∷ []) ∷ [])
+
+clash : IsClash (name_change (change [] (coming_member r1 [] ∷ [])) (with_file (codes "usr/x") (codes "1"))) (with_file (codes "usr/x") (codes "1")) (record { path = codes "usr/x"; other = codes "usr/x/y" })
+unfolding member_listings old_listings old_entry is_claimed is_kept is_let_go is_written_name
+clash = record { folder = (codes "y", refl); path_after = refl; other_after = refl; written = refl }
+
+-- ---- a reserved name
+
+abbrev r2 : Plain
+r2 = package_with (info (codes "r") (codes "1") []) (folder (codes "usr/x") (plain_file (codes "y") 0 [] ∷ []) ∷ folder (codes "lib/apk/db") (plain_file (codes "z") 0 [] ∷ []) ∷ [])
+
+reserved : first_reserved (coming_member r2 [] ∷ []) ≡ Some (codes "lib/apk/db/z")
+unfolding member_listings first_reserved
+reserved = refl

@@ -1,0 +1,81 @@
+-- Rows that are worked by hand: configuration that the user changed.
+use Rattle.std.proofs.Common.{◌≡◌, ℕ, Bool, List, [], ◌∷◌, Option, Some, None, refl, codes, true, false}
+use Rattle.adb_view.specs.Plain.{Plain}
+use Rattle.base_core.specs.Files.{Files}
+use Rattle.db_core.specs.Members.{claims_of, coming_member, member_listings}
+use Rattle.path_claims.specs.Contest.{winner}
+use Rattle.file_owners.specs.Owners.{owner_of_path}
+use Rattle.file_guard.specs.AsListed.{do_entries_agree, is_as_listed_by}
+use Rattle.change_files.specs.Fate.{fate_of}
+use Rattle.change_files.specs.FileChange.{FileChange, is_claimed, old_entry, old_listings, owner_listing}
+use Rattle.change_files.specs.FilesAfter.{Records, changed_files, is_kept, is_removed, written_as}
+use Rattle.change_files.specs.PlanLists.{aside_of, kept_of, names_in_order, removals_of, writes_of}
+use Rattle.change_files.proofs.Sample.{folder, info, link, new_bytes, package_with, with_file}
+
+abbrev c : List ℕ → Plain
+c version = package_with (info (codes "c") version []) (folder (codes "etc") (link (codes "c.conf") version ∷ []) ∷ [])
+
+abbrev conf : List ℕ
+conf = codes "etc/c.conf"
+
+abbrev changed : Files
+changed = with_file conf (codes "x")
+
+abbrev unchanged : Files
+unchanged = with_file conf (codes "!<symlink>1")
+
+abbrev records : Records
+records = record { database = []; world = []; takes_text_over = false }
+
+-- ---- another version comes
+
+abbrev upgrade : FileChange
+upgrade = record { old = c (codes "1") ∷ []; members = coming_member (c (codes "2")) [] ∷ []; purge = false }
+
+-- the user's file stays, and the new one lies beside it
+aside : aside_of upgrade changed ≡ conf ∷ []
+unfolding member_listings claims_of owner_of_path winner old_listings old_entry is_claimed owner_listing is_as_listed_by do_entries_agree fate_of written_as names_in_order aside_of
+aside = refl
+
+aside_write : writes_of upgrade changed ≡ record { name = codes "etc/c.conf.apk-new"; member = 0; folder = 1; file = 1 } ∷ []
+unfolding member_listings claims_of owner_of_path winner old_listings old_entry is_claimed owner_listing is_as_listed_by do_entries_agree fate_of written_as names_in_order writes_of
+aside_write = refl
+
+own_file : changed_files upgrade new_bytes records changed conf ≡ Some (codes "x")
+unfolding member_listings claims_of owner_of_path winner old_listings old_entry is_claimed owner_listing is_as_listed_by do_entries_agree fate_of written_as is_removed changed_files
+own_file = refl
+
+file_beside : changed_files upgrade new_bytes records changed (codes "etc/c.conf.apk-new") ≡ Some (codes "new")
+unfolding member_listings claims_of owner_of_path winner old_listings old_entry is_claimed owner_listing is_as_listed_by do_entries_agree fate_of written_as is_removed changed_files
+file_beside = refl
+
+-- unchanged: it is replaced
+replaced : writes_of upgrade unchanged ≡ record { name = conf; member = 0; folder = 1; file = 1 } ∷ []
+unfolding member_listings claims_of owner_of_path winner old_listings old_entry is_claimed owner_listing is_as_listed_by do_entries_agree fate_of written_as names_in_order writes_of
+replaced = refl
+
+-- ---- the package goes
+
+abbrev removal : Bool → FileChange
+removal purge = record { old = c (codes "2") ∷ []; members = []; purge = purge }
+
+kept : kept_of (removal false) changed ≡ conf ∷ []
+unfolding member_listings claims_of owner_of_path winner old_listings old_entry is_claimed owner_listing is_as_listed_by fate_of written_as names_in_order is_kept kept_of
+kept = refl
+
+not_removed : removals_of (removal false) changed ≡ []
+unfolding member_listings claims_of owner_of_path winner old_listings old_entry is_claimed owner_listing is_as_listed_by fate_of written_as names_in_order is_removed removals_of
+not_removed = refl
+
+purged : removals_of (removal true) changed ≡ conf ∷ []
+unfolding member_listings claims_of owner_of_path winner old_listings old_entry is_claimed owner_listing is_as_listed_by fate_of written_as names_in_order is_removed removals_of
+purged = refl
+
+-- ---- the same version comes once more: nothing is new
+
+abbrev reinstall : FileChange
+reinstall = record { old = c (codes "2") ∷ []; members = coming_member (c (codes "2")) [] ∷ []; purge = false }
+
+nothing_new : writes_of reinstall changed ≡ []
+unfolding member_listings claims_of owner_of_path winner old_listings old_entry is_claimed owner_listing is_as_listed_by do_entries_agree fate_of written_as names_in_order writes_of
+nothing_new = refl

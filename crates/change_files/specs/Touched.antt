@@ -1,0 +1,43 @@
+-- What laws say of single names.
+use Rattle.std.specs.Prelude.{◌≡◌, ℕ, Bool, true, false, ◌&&◌, ◌||◌, List, Option, Some, None, is_some, option_and_then, bytes_eq}
+use Rattle.std.specs.List.{list_any}
+use Rattle.base_core.specs.Files.{Files}
+use Rattle.db_core.specs.Members.{Listing}
+use Rattle.file_guard.specs.AsListed.{is_as_listed}
+use Rattle.change_files.specs.Fate.{is_as_old, is_guarded}
+use Rattle.change_files.specs.FileChange.{FileChange, coming_owner, old_entry}
+use Rattle.change_files.specs.FilesAfter.{Records, database_name, laid_beside, path_beside, text_database_name, world_name, written_as}
+use Rattle.change_files.specs.NamesAfter.{coming_paths}
+use Rattle.change_files.specs.PlanLists.{FileWrite, write_to}
+
+-- the database, the world, or a text database that was taken over
+abbrev pub is_record_name : Records → List ℕ → Bool
+is_record_name records name =
+    bytes_eq name database_name
+    || (bytes_eq name world_name || (records.takes_text_over && bytes_eq name text_database_name))
+
+-- a file is laid beside another one under this name
+abbrev pub is_aside_name : FileChange → Files → List ℕ → Bool
+is_aside_name change files name = is_some (option_and_then (laid_beside change files) (path_beside name))
+
+-- a package that comes lists the path
+abbrev pub is_coming_path : FileChange → List ℕ → Bool
+is_coming_path change path = list_any (bytes_eq path) (coming_paths change.members)
+
+abbrev pub is_as_new : Option Listing → List ℕ → Bool
+is_as_new None bytes = false
+is_as_new (Some l) bytes = is_as_listed l.entry bytes
+
+-- configuration that the user changed: what stands under a guarded path is neither as a package
+-- that comes lists it nor as one listed it before
+pub record IsUsersFile (change : FileChange) (files : Files) (path bytes : List ℕ) : Type 0 where
+  pub guarded : is_guarded path ≡ true
+  pub present : files path ≡ Some bytes
+  pub unlike_new : is_as_new (coming_owner change path) bytes ≡ false
+  pub unlike_old : is_as_old (old_entry change path) bytes ≡ false
+
+-- what is written under a name, as the plan tells it
+pub record IsWriteOf (change : FileChange) (files : Files) (write : FileWrite) : Type 0 where
+  pub listing : Listing
+  pub written : written_as change files write.name ≡ Some listing
+  pub shown : write ≡ write_to write.name listing

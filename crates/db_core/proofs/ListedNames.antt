@@ -1,0 +1,168 @@
+-- What a package lists are names.
+use Rattle.std.proofs.Common.{◌≡◌, ℕ, suc, zero, ◌+◌, ◌<◌, Bool, true, false, cond, List, [], ◌∷◌, ◌++◌, map, length, get_or, Option, Some, None, Result, Ok, Err, refl, ap, sym, ◌∙◌, subst, arith, true≢false}
+use Rattle.std.specs.Prelude.{◌&&◌, ◌||◌, ◌==◌, not, nat_le, nat_lt, if◌then◌else◌, is_ok, slice_get, All}
+use Rattle.std.specs.Str.{IsUtf8, is_utf8}
+use Rattle.std.specs.List.{flat_map, list_all, list_any, onto_first}
+use Rattle.std.proofs.lemmas.Bool.{and_parts, lt-ltb}
+use Rattle.std.proofs.lemmas.List.{length-append}
+use Rattle.std.proofs.lemmas.List.Folds.{list_all-append, list_all-map, list_any-append}
+use Rattle.std.proofs.lemmas.Str.{IsUtf8-append, IsUtf8-from_ascii, IsUtf8-from_is_utf8, is_utf8-from_IsUtf8}
+use Rattle.std.proofs.lemmas.Str.Ascii.{IsAscii-cons, IsAscii-nil}
+use Rattle.base_core.specs.Name.{IsName, is_name, is_part, parts_of}
+use Rattle.adb_view.specs.Plain.{Plain, Plains, none, more}
+use Rattle.adb_view.specs.Shaped.{Each}
+use Rattle.adb_tables.specs.Values.{entries_in, entry_in}
+use Rattle.adb_tables.specs.declared.tables.Which.{Which}
+use Rattle.adb_fields.specs.Paths.{path_of}
+use Rattle.adb_fields.specs.Repeated.{files_in, folders_in, list_of, name_of, paths_under}
+use Rattle.adb_rules.specs.Rules.{is_file_name, is_folder_name, is_one_part}
+use Rattle.adb_rules.specs.SoundValues.{IsFileOf, IsFolder, IsPackage}
+use Rattle.db_core.specs.EntrySeen.{member_by}
+use Rattle.db_core.specs.Members.{Listing, Member, listings_by, listings_from, listings_in_folder, listings_in_folders, member_listings, staying_member}
+use Rattle.db_core.specs.Packages.{lists_names}
+
+-- ---- a name behind another one and a slash
+
+split_some : (xs : List ℕ) → (first : List ℕ) × (others : List (List ℕ)) × (parts_of xs ≡ first ∷ others)
+split_some [] = ([], [], refl)
+split_some (x ∷ xs) = by_slash (x == 47) (split_some xs)
+  where
+    by_slash : (b : Bool) → (first : List ℕ) × (others : List (List ℕ)) × (parts_of xs ≡ first ∷ others)
+        → (first : List ℕ) × (others : List (List ℕ)) × (cond b ([] ∷ parts_of xs) (onto_first x (parts_of xs)) ≡ first ∷ others)
+    by_slash true s = ([], parts_of xs, refl)
+    by_slash false (q, qs, e) = (x ∷ q, qs, ap (onto_first x) e)
+
+onto_append : (x : ℕ) (q : List ℕ) (qs others : List (List ℕ)) → onto_first x ((q ∷ qs) ++ others) ≡ onto_first x (q ∷ qs) ++ others
+onto_append x q qs others = refl
+
+split_slash : (a b : List ℕ) → parts_of (a ++ 47 ∷ b) ≡ parts_of a ++ parts_of b
+split_slash [] b = refl
+split_slash (x ∷ xs) b = by_slash (x == 47) (split_slash xs b) (split_some xs)
+  where
+    by_slash : (c : Bool) → parts_of (xs ++ 47 ∷ b) ≡ parts_of xs ++ parts_of b → (first : List ℕ) × (others : List (List ℕ)) × (parts_of xs ≡ first ∷ others)
+        → cond c ([] ∷ parts_of (xs ++ 47 ∷ b)) (onto_first x (parts_of (xs ++ 47 ∷ b))) ≡ cond c ([] ∷ parts_of xs) (onto_first x (parts_of xs)) ++ parts_of b
+    by_slash true e s = ap (λ (ps : List (List ℕ)). [] ∷ ps) e
+    by_slash false e (q, qs, is) =
+        ap (onto_first x) (e ∙ ap (λ (ps : List (List ℕ)). ps ++ parts_of b) is)
+        ∙ (onto_append x q qs (parts_of b) ∙ ap (λ (ps : List (List ℕ)). onto_first x ps ++ parts_of b) (sym is))
+
+both_true : (a b : Bool) → a ≡ true → b ≡ true → (a && b) ≡ true
+both_true a b e f = rw (e, f) refl
+
+none_true : (x y z : Bool) → not x ≡ true → y ≡ false → not z ≡ true → not (x || (y || z)) ≡ true
+none_true true y z e s f = e
+none_true false true z e s f = absurd (true≢false s)
+none_true false false z e s f = f
+
+utf8_joined : (a b : List ℕ) → is_utf8 a ≡ true → is_utf8 b ≡ true → is_utf8 (a ++ 47 ∷ b) ≡ true
+utf8_joined a b e f =
+    let slash : IsUtf8 (47 ∷ []) = IsUtf8-from_ascii (47 ∷ []) (IsAscii-cons 47 [] (omega arith) IsAscii-nil) in
+    is_utf8-from_IsUtf8 (a ++ 47 ∷ b) (IsUtf8-append a (47 ∷ b) (IsUtf8-from_is_utf8 a e) (IsUtf8-append (47 ∷ []) b slash (IsUtf8-from_is_utf8 b f)))
+
+joined_name : (a b : List ℕ) → is_name a ≡ true → is_name b ≡ true → nat_le (length (a ++ 47 ∷ b)) 1024 ≡ true → is_name (a ++ 47 ∷ b) ≡ true
+unfolding is_name
+joined_name a b first second short =
+    let a1 = and_parts _ (list_all is_part (parts_of a)) first in
+    let a2 = and_parts _ (is_utf8 a) a1.0 in
+    let a3 = and_parts _ (not (list_any (λ x. x == 0) a)) a2.0 in
+    let b1 = and_parts _ (list_all is_part (parts_of b)) second in
+    let b2 = and_parts _ (is_utf8 b) b1.0 in
+    let b3 = and_parts _ (not (list_any (λ x. x == 0) b)) b2.0 in
+    both_true _ (list_all is_part (parts_of (a ++ 47 ∷ b)))
+    (both_true _ (is_utf8 (a ++ 47 ∷ b))
+    (both_true _ (not (list_any (λ x. x == 0) (a ++ 47 ∷ b)))
+    (both_true (nat_lt 0 (length (a ++ 47 ∷ b))) (nat_le (length (a ++ 47 ∷ b)) 1024) (lt-ltb 0 (length (a ++ 47 ∷ b)) (omega (arith, length-append a (47 ∷ b)))) short)
+    (ap not (list_any-append (λ x. x == 0) a (47 ∷ b)) ∙ none_true (list_any (λ x. x == 0) a) (47 == 0) (list_any (λ x. x == 0) b) a3.1 refl b3.1))
+    (utf8_joined a b a2.1 b2.1))
+    (ap (list_all is_part) (split_slash a b) ∙ (list_all-append is_part (parts_of a) (parts_of b) ∙ both_true (list_all is_part (parts_of a)) (list_all is_part (parts_of b)) a1.1 b1.1))
+
+path_named : (folder name : List ℕ) → is_folder_name folder ≡ true → is_file_name folder name ≡ true → is_name (path_of folder name) ≡ true
+path_named [] name h file = (and_parts (is_name name) (not (list_any (λ b. b == 47) name)) (and_parts (is_one_part name) (nat_le (length (path_of [] name)) 1024) file).0).0
+path_named (b ∷ folder) name h file =
+    let parts = and_parts (is_one_part name) (nat_le (length (path_of (b ∷ folder) name)) 1024) file in
+    joined_name (b ∷ folder) name h (and_parts (is_name name) (not (list_any (λ b. b == 47) name)) parts.0).0 parts.1
+
+-- ---- the paths of a package that keeps the rules
+
+files_named : (root : Which) (folder : List ℕ) → is_folder_name folder ≡ true → (vs : Plains) → Each (IsFileOf root folder) vs
+    → list_all is_name (map (λ file. path_of folder (name_of file)) (list_of vs)) ≡ true
+files_named root folder h none each = refl
+files_named root folder h (more v vs) each =
+    both_true (is_name (path_of folder (name_of v))) _ (path_named folder (name_of v) h each.0.name) (files_named root folder h vs each.1)
+
+folders_named : (root : Which) (vs : Plains) → Each (IsFolder root) vs → list_all is_name (flat_map paths_under (list_of vs)) ≡ true
+folders_named root none each = refl
+folders_named root (more v vs) each =
+    list_all-append is_name (paths_under v) (flat_map paths_under (list_of vs))
+    ∙ both_true (list_all is_name (paths_under v)) (list_all is_name (flat_map paths_under (list_of vs)))
+    (files_named root (name_of v) each.0.name (entries_in (entry_in v 2)) each.0.files)
+    (folders_named root vs each.1)
+
+pub package_lists_names : (root : Which) (v : Plain) → IsPackage root v → lists_names v ≡ true
+package_lists_names root v is = folders_named root (entries_in (entry_in v 1)) is.folders
+
+pub packages_list_names : (root : Which) (vs : Plains) → Each (IsPackage root) vs → list_all lists_names (list_of vs) ≡ true
+packages_list_names root none each = refl
+packages_list_names root (more v vs) each = both_true (lists_names v) (list_all lists_names (list_of vs)) (package_lists_names root v each.0) (packages_list_names root vs each.1)
+
+-- ---- of a database and of members
+
+abbrev is_one : {X : Type 0} → Option X → Bool
+is_one None = false
+is_one (Some x) = true
+
+abbrev value_or : {X : Type 0} → X → Option X → X
+value_or d None = d
+value_or d (Some x) = x
+
+pub named_at : {X : Type 0} (p : X → Bool) (xs : List X) (i : ℕ) (x : X) → slice_get xs i ≡ Some x → list_all p xs ≡ true → p x ≡ true
+named_at p [] i x at all = absurd (true≢false (sym (ap is_one at)))
+named_at p (y ∷ ys) zero x at all = subst (λ z. p z ≡ true) (ap (value_or y) at) (and_parts (p y) (list_all p ys) all).0
+named_at p (y ∷ ys) (suc i) x at all = named_at p ys i x at (and_parts (p y) (list_all p ys) all).1
+
+passes_at : {X : Type 0} (p : X → Bool) (xs : List X) → list_all p xs ≡ true → (k : ℕ) (d : X) → k < length xs → p (get_or xs k d) ≡ true
+passes_at p [] all k d l = absurd (omega arith)
+passes_at p (x ∷ xs) all zero d l = (and_parts (p x) (list_all p xs) all).0
+passes_at p (x ∷ xs) all (suc k) d l = passes_at p xs (and_parts (p x) (list_all p xs) all).1 k d (omega arith)
+
+abbrev pub has_name : Listing → Bool
+has_name l = is_name l.path
+
+named_in_folder : (m : Member) (place folder i : ℕ) (above : List ℕ) (entries : List Plain)
+    → list_all has_name (listings_in_folder m place folder i above entries) ≡ list_all is_name (map (λ file. path_of above (name_of file)) entries)
+named_in_folder m place folder i above [] = refl
+named_in_folder m place folder i above (e ∷ es) = ap (λ b. is_name (path_of above (name_of e)) && b) (named_in_folder m place folder (i + 1) above es)
+
+named_in_folders : (m : Member) (place i : ℕ) (folders : List Plain) → list_all has_name (listings_in_folders m place i folders) ≡ list_all is_name (flat_map paths_under folders)
+named_in_folders m place i [] = refl
+named_in_folders m place i (f ∷ fs) =
+    list_all-append has_name (listings_in_folder m place i 1 (name_of f) (files_in f)) (listings_in_folders m place (i + 1) fs)
+    ∙ ((λ j. named_in_folder m place i 1 (name_of f) (files_in f) j && named_in_folders m place (i + 1) fs j)
+    ∙ sym (list_all-append is_name (paths_under f) (flat_map paths_under fs)))
+
+named_in_members : (place : ℕ) (ms : List Member) → list_all has_name (listings_from place ms) ≡ list_all (λ m. lists_names m.pkg) ms
+named_in_members place [] = refl
+named_in_members place (m ∷ ms) =
+    list_all-append has_name (listings_by place m) (listings_from (place + 1) ms)
+    ∙ (λ j. named_in_folders m place 1 (folders_in m.pkg) j && named_in_members (place + 1) ms j)
+
+pub all_names : (ms : List Member) → list_all (λ m. lists_names m.pkg) ms ≡ true → All (λ l. IsName l.path) (member_listings ms)
+unfolding member_listings
+all_names ms h k d l = passes_at has_name (listings_from 0 ms) (named_in_members 0 ms ∙ h) k d l
+
+pub packages_named : (pkgs : List Plain) → list_all lists_names pkgs ≡ true → All (λ l. IsName l.path) (member_listings (map staying_member pkgs))
+packages_named pkgs h = all_names (map staying_member pkgs) (list_all-map (λ (m : Member). lists_names m.pkg) staying_member pkgs ∙ h)
+
+abbrev pub Kept : Type 0
+Kept = List ℕ × ℕ × Option (List ℕ)
+
+pub members_named : (es : List Kept) → list_all (λ e. lists_names (member_by e).pkg) es ≡ true → All (λ l. IsName l.path) (member_listings (map member_by es))
+members_named es h = all_names (map member_by es) (list_all-map (λ (m : Member). lists_names m.pkg) member_by es ∙ h)
+
+pub named_more : {A B : Type 0} (r : Result A B) (es new : List Kept) (e : Kept) → new ≡ (if is_ok r then es ++ e ∷ [] else es)
+    → list_all (λ e. lists_names (member_by e).pkg) es ≡ true → lists_names (member_by e).pkg ≡ true → list_all (λ e. lists_names (member_by e).pkg) new ≡ true
+named_more (Ok x) es new e is all one =
+    ap (list_all (λ (k : Kept). lists_names (member_by k).pkg)) is
+    ∙ (list_all-append (λ (k : Kept). lists_names (member_by k).pkg) es (e ∷ [])
+    ∙ both_true (list_all (λ (k : Kept). lists_names (member_by k).pkg) es) (lists_names (member_by e).pkg && true) all (both_true (lists_names (member_by e).pkg) true one refl))
+named_more (Err x) es new e is all one = ap (list_all (λ (k : Kept). lists_names (member_by k).pkg)) is ∙ all

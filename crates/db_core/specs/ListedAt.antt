@@ -1,0 +1,16 @@
+-- Where a file that members list stands.
+use Rattle.std.specs.Prelude.{◌≡◌, ◌≤◌, ◌-◌, List, Some, slice_get}
+use Rattle.adb_view.specs.Plain.{Plain}
+use Rattle.adb_fields.specs.Paths.{path_of}
+use Rattle.adb_fields.specs.Repeated.{name_of, folders_in, files_in}
+use Rattle.db_core.specs.Members.{Listing, Member}
+
+-- the member at its place, in its package the folder, and in that the file; the path is that of both
+pub record IsListedAt (members : List Member) (l : Listing) : Type 0 where
+  pub above : Plain
+  pub member : slice_get members l.place ≡ Some l.member
+  pub folder_from : 1 ≤ l.folder
+  pub folder : slice_get (folders_in l.member.pkg) (l.folder - 1) ≡ Some above
+  pub file_from : 1 ≤ l.file
+  pub file : slice_get (files_in above) (l.file - 1) ≡ Some l.entry
+  pub path : l.path ≡ path_of (name_of above) (name_of l.entry)

@@ -1,0 +1,20 @@
+-- The files that members own.
+use Rattle.std.specs.Prelude.{◌≡◌, ℕ, Bool, true, false, List, [], ◌∷◌, map}
+use Rattle.adb_fields.specs.FirstPair.{IsIn}
+use Rattle.db_core.specs.Members.{Listing, Member, member_listings}
+
+-- those whose flag is set, by one flag for each
+abbrev pub owned_listings : List Listing → List Bool → List Listing
+owned_listings [] flags = []
+owned_listings (l ∷ listings) [] = []
+owned_listings (l ∷ listings) (true ∷ flags) = l ∷ owned_listings listings flags
+owned_listings (l ∷ listings) (false ∷ flags) = owned_listings listings flags
+
+-- the paths of the files that members list and own, member by member, folder by folder
+abbrev pub owned_paths : List Member → List Bool → List (List ℕ)
+owned_paths members flags = map (λ l. l.path) (owned_listings (member_listings members) flags)
+
+-- no path is that of files of two members
+abbrev pub HaveOneOwner : List Listing → Type 0
+HaveOneOwner listings =
+    (l k : Listing) → IsIn l listings → IsIn k listings → l.path ≡ k.path → l.place ≡ k.place

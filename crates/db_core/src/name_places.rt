@@ -1,0 +1,96 @@
+//! Names of packages in byte order, each with the place of its package.
+ghost use Rattle.adb_fields.specs.ListValue.{list_value};
+ghost use Rattle.adb_fields.specs.Repeated.{list_of, package_name};
+ghost use Rattle.adb_schema.specs.Views.{package_value};
+ghost use Rattle.adb_tables.specs.Values.{count_of, entries_in, entry_in};
+ghost use Rattle.db_core.specs.NamePlaces.{placed_name_cmp, placed_names_in_order, place_named, placed_names_from};
+ghost use Rattle.db_core.specs.NameSeen.{name_seen};
+ghost use Rattle.list_order.specs.ByteOrder.{precedes};
+ghost use Rattle.list_order.specs.Sorted.{sorted_by};
+ghost use Rattle.std.specs.List.Sorted.{IsPartitionPoint, IsSorted};
+ghost use Rattle.std.specs.Prelude.{◌≡◌, ◌<◌, ◌≤◌, true, false, length, map, IfOk};
+
+use adb_schema::{List, PackageView};
+use std::alloc::{AllocError, Global};
+
+/// The name of a package, and its place in the database, counted from 0.
+#[derive(Clone, Copy)]
+pub(crate) struct NamePlace<'a> {
+    pub(crate) name: &'a [u8],
+    pub(crate) place: usize,
+}
+
+/// The names of packages in byte order. Equal ones stay in the order of the packages.
+pub(crate) fn sorted_names<'a>(
+    alloc: Global,
+    packages: &List<'a, PackageView<'a>>,
+) -> Result<Vec<NamePlace<'a>>, AllocError>
+    ensures { IfOk result (λ names. map name_seen names.items
+        ≡ placed_names_in_order (list_of (entries_in (list_value packages.now)))) }
+{
+    let mut names = names_of(alloc, packages)?;
+    sort_names(&mut names)?;
+    Ok(names)
+}
+
+/// The names of packages, in the order of these.
+fn names_of<'a>(
+    alloc: Global,
+    packages: &List<'a, PackageView<'a>>,
+) -> Result<Vec<NamePlace<'a>>, AllocError>
+    ensures { IfOk result (λ names. map name_seen names.items
+        ≡ placed_names_from 0 (list_of (entries_in (list_value packages.now)))) }
+{
+    let mut names = Vec::with_capacity(alloc, packages.len())?;
+    for i in 0..packages.len() {
+        let name = name_at(packages, i);
+        names.push(NamePlace { name, place: i })?;
+    }
+    Ok(names)
+}
+
+/// The name of the package at a place, counted from 0.
+fn name_at<'a>(packages: &List<'a, PackageView<'a>>, i: usize) -> &'a [u8]
+    requires { i < count_of (entries_in (list_value packages.now)) }
+    ensures { result.now ≡ package_name (entry_in (list_value packages.now) i) }
+{
+    if i >= packages.len() {
+        unreachable!();
+    }
+    let package = packages.get(i + 1);
+    package.info().name()
+}
+
+/// Puts names into byte order. Equal ones stay in theirs.
+fn sort_names(names: &mut Vec<NamePlace<'_>>) -> Result<(), AllocError>
+    ensures { IfOk result (λ _. map name_seen names.new.items
+        ≡ sorted_by placed_name_cmp (map name_seen names.old.items)) }
+{
+    names.sort_by(|one, other| one.name.cmp(&other.name))?;
+    Ok(())
+}
+
+/// How many names come before this one, where they are in order.
+fn count_before(names: &[NamePlace<'_>], name: &[u8]) -> usize
+    requires { IsSorted placed_name_cmp (map name_seen names.now) }
+    ensures within { result ≤ length names.now }
+    ensures point { IsPartitionPoint (λ n. precedes n.name name.now ≡ true)
+        (λ n. precedes n.name name.now ≡ false) (map name_seen names.now) result }
+{
+    names.partition_point(|entry| entry.name.cmp(&name).is_lt())
+}
+
+/// The place of the first of the packages with this name, where the names are in order.
+pub(crate) fn place_of(names: &[NamePlace<'_>], name: &[u8]) -> Option<usize>
+    requires { IsSorted placed_name_cmp (map name_seen names.now) }
+    ensures { result ≡ place_named name.now (map name_seen names.now) }
+{
+    let at = count_before(names, name);
+    if at == names.len() {
+        return None;
+    }
+    if names[at].name != name {
+        return None;
+    }
+    Some(names[at].place)
+}

@@ -1,0 +1,114 @@
+-- What a package keeps in a new database, and that no integer in it is 0.
+use Rattle.std.proofs.Common.{◌≡◌, ◌≢◌, ℕ, Bool, true, false, List, [], ◌∷◌, map, drop, Ok, refl, ap, sym, ◌∙◌, arith}
+use Rattle.std.specs.Prelude.{unwrap_or}
+use Rattle.adb_view.specs.Plain.{Plain, int, blob, obj, Plains, none, more, arr_value, blob_value, obj_value}
+use Rattle.adb_tables.specs.Values.{entries_in, entry_in, int_in, text_in}
+use Rattle.adb_tables.specs.declared.tables.Which.TheVariants.{Idb}
+use Rattle.adb_fields.specs.Repeated.{entries_at, files_in, folders_in, list_of, name_of}
+use Rattle.adb_schema.specs.Soundness.{payload_in, root_value}
+use Rattle.adb_schema.specs.declared.read.TheConstants.{IDB_WORD}
+use Rattle.adb_write.specs.Canonical.{written_of}
+use Rattle.adb_sound.specs.Root.{IsRootOf}
+use Rattle.adb_copy.specs.Zeros.{all_without_zeros, info_with, int_value, with_at, without_zeros}
+use Rattle.adb_tables.proofs.ValueEntries.{nth_obj}
+use Rattle.adb_copy.proofs.WithoutZeros.{int_zeros, text_zeros}
+use Rattle.adb_copy.proofs.Zeros.{at_other, at_same, nth_zeros, zeros_arr, zeros_obj, zeros_twice}
+use Rattle.db_core.specs.Members.{Member}
+use Rattle.db_write.specs.Information.{FILE_SIZE, HASHES, file_size_of, hashes_of}
+use Rattle.db_write.specs.NewDatabase.{database_container, database_of, database_value, each_by_flags, file_count, folder_after, folders_after, info_after, member_file_count, owned_entries, package_after, packages_after}
+use Rattle.db_write.specs.Unchanged.{all_owned, staying_members}
+use Rattle.db_write.proofs.ReadBack.{Back, is_file}
+use Rattle.db_write.proofs.RootNames.{info_entry, package_folders, package_info}
+use Rattle.db_write.proofs.RootParts.{fields_of_folder}
+use Rattle.db_write.proofs.Unchanged.{database_same}
+
+-- ---- information
+
+apart : (n : ℕ) → n ≡ 12 → n ≢ 2
+apart n e f = omega (arith, e, f)
+
+pub hashes_after : (m : Member) (flags : List Bool) → hashes_of (package_after m flags) ≡ unwrap_or m.id (hashes_of m.pkg)
+unfolding info_with without_zeros
+hashes_after m flags =
+    let info : Plain = entry_in m.pkg 0 in
+    let hash : Plain = blob (unwrap_or m.id (text_in (entry_in info 2))) in
+    let size : Plain = int (int_in (entry_in info 12)) in
+    let vs : Plains = with_at 12 size (with_at 2 hash (entries_in info)) in
+    ap (λ v. text_in (entry_in v 2)) (package_info m flags)
+    ∙ (ap text_in (nth_obj (all_without_zeros vs) 2 ∙ (nth_zeros vs 2 ∙ ap without_zeros (at_other 12 2 size (with_at 2 hash (entries_in info)) (apart 12 refl) ∙ at_same 2 hash (entries_in info))))
+    ∙ text_zeros hash)
+
+pub size_after : (m : Member) (flags : List Bool) → file_size_of (package_after m flags) ≡ file_size_of m.pkg
+unfolding info_with without_zeros
+size_after m flags =
+    let info : Plain = entry_in m.pkg 0 in
+    let hash : Plain = blob (unwrap_or m.id (text_in (entry_in info 2))) in
+    let size : Plain = int (int_in (entry_in info 12)) in
+    let vs : Plains = with_at 12 size (with_at 2 hash (entries_in info)) in
+    ap (λ v. int_in (entry_in v 12)) (package_info m flags)
+    ∙ (ap int_in (nth_obj (all_without_zeros vs) 12 ∙ (nth_zeros vs 12 ∙ ap without_zeros (at_same 12 size (with_at 2 hash (entries_in info)))))
+    ∙ int_zeros size)
+
+pub others_after : (m : Member) (flags : List Bool) (i : ℕ) → i ≢ HASHES → i ≢ FILE_SIZE → entry_in (entry_in (package_after m flags) 0) i ≡ without_zeros (entry_in (entry_in m.pkg 0) i)
+others_after m flags i a b = ap (λ v. entry_in v i) (package_info m flags) ∙ info_entry m.id (entry_in m.pkg 0) i (λ e. a (sym e)) (λ e. b (sym e))
+
+-- ---- folders
+
+each_part : {A : Type 0} (f g : Plain → A) → ((d : Plain) (flags : List Bool) → f (folder_after d flags) ≡ g d) → (ds : List Plain) (flags : List Bool) → map f (list_of (folders_after ds flags)) ≡ map g ds
+each_part f g h [] flags = refl
+each_part f g h (d ∷ ds) flags = λ j. h d flags j ∷ each_part f g h ds (drop (file_count d) flags) j
+
+pub folder_parts : {A : Type 0} (f g : Plain → A) → ((d : Plain) (flags : List Bool) → f (folder_after d flags) ≡ g d) → (m : Member) (flags : List Bool) → map f (folders_in (package_after m flags)) ≡ map g (folders_in m.pkg)
+folder_parts f g h m flags = ap (λ vs. map f (list_of vs)) (package_folders m flags) ∙ each_part f g h (folders_in m.pkg) flags
+
+pub folder_acl : (d : Plain) (flags : List Bool) → entry_in (folder_after d flags) 1 ≡ without_zeros (entry_in d 1)
+folder_acl d flags = nth_obj (fields_of_folder d flags) 1
+
+-- ---- no integer is 0
+
+owned_free : (ds : List Plain) (flags : List Bool) → all_without_zeros (owned_entries ds flags) ≡ owned_entries ds flags
+unfolding without_zeros
+owned_free [] flags = refl
+owned_free (d ∷ ds) [] = refl
+owned_free (d ∷ ds) (true ∷ flags) = λ j. more (zeros_twice d j) (owned_free ds flags j)
+owned_free (d ∷ ds) (false ∷ flags) = owned_free ds flags
+
+each_free : {X : Type 0} (count : X → ℕ) (value : X → List Bool → Plain) → ((x : X) (flags : List Bool) → without_zeros (value x flags) ≡ value x flags)
+    → (xs : List X) (flags : List Bool) → all_without_zeros (each_by_flags count value xs flags) ≡ each_by_flags count value xs flags
+unfolding without_zeros
+each_free count value h [] flags = refl
+each_free count value h (x ∷ xs) flags = λ j. more (h x flags j) (each_free count value h xs (drop (count x) flags) j)
+
+folder_free : (d : Plain) (flags : List Bool) → without_zeros (folder_after d flags) ≡ folder_after d flags
+unfolding without_zeros
+folder_free d flags =
+    zeros_obj (more (blob_value (name_of d)) (more (without_zeros (entry_in d 1)) (more (arr_value (owned_entries (files_in d) flags)) none)))
+    ∙ (λ j. obj_value (more (zeros_twice (blob (name_of d)) j) (more (zeros_twice (entry_in d 1) j)
+    (more ((zeros_arr (owned_entries (files_in d) flags) ∙ ap arr_value (owned_free (files_in d) flags)) j) none))))
+
+package_free : (m : Member) (flags : List Bool) → without_zeros (package_after m flags) ≡ package_after m flags
+unfolding without_zeros info_with
+package_free m flags =
+    let info : Plain = entry_in m.pkg 0 in
+    let with_id : Plains = with_at 12 (int (int_in (entry_in info 12))) (with_at 2 (blob (unwrap_or m.id (text_in (entry_in info 2)))) (entries_in info)) in
+    zeros_obj (more (info_after m.id info) (more (arr_value (folders_after (folders_in m.pkg) flags)) (more (without_zeros (entry_in m.pkg 2)) (more (without_zeros (entry_in m.pkg 3)) (more (int_value (int_in (entry_in m.pkg 4))) none)))))
+    ∙ (λ j. obj_value (more (zeros_twice (obj with_id) j)
+    (more ((zeros_arr (folders_after (folders_in m.pkg) flags) ∙ ap arr_value (each_free file_count folder_after folder_free (folders_in m.pkg) flags)) j)
+    (more (zeros_twice (entry_in m.pkg 2) j) (more (zeros_twice (entry_in m.pkg 3) j) (more (zeros_twice (int (int_in (entry_in m.pkg 4))) j) none))))))
+
+database_free : (members : List Member) (flags : List Bool) → without_zeros (database_value members flags) ≡ database_value members flags
+unfolding without_zeros database_value
+database_free members flags =
+    zeros_obj (more (arr_value (packages_after members flags)) none)
+    ∙ (λ j. obj_value (more ((zeros_arr (packages_after members flags) ∙ ap arr_value (each_free member_file_count package_after package_free members flags)) j) none))
+
+-- ---- written again
+
+pub written_again : Back → (members : List Member) (flags : List Bool) (bytes : List ℕ) → IsRootOf Idb (database_value members flags) → database_of members flags ≡ Ok bytes
+    → database_of (staying_members (entries_at 0 (root_value Idb (payload_in bytes)))) (all_owned (staying_members (entries_at 0 (root_value Idb (payload_in bytes))))) ≡ Ok bytes
+unfolding database_of
+written_again law members flags bytes root h =
+    let v : Plain = database_value members flags in
+    let back : root_value Idb (payload_in bytes) ≡ v = ap (λ (file : List ℕ). root_value Idb (payload_in file)) (sym (is_file members flags bytes h)) ∙ law Idb IDB_WORD v refl root in
+    (λ j. database_of (staying_members (entries_at 0 (back j))) (all_owned (staying_members (entries_at 0 (back j)))))
+    ∙ (ap (λ u. database_container (written_of u)) (database_same v root.shaped ∙ database_free members flags) ∙ h)

@@ -1,0 +1,12 @@
+use Rattle.adb_copy.specs.Zeros.{without_zeros}
+use Rattle.adb_fields.specs.Repeated.{name_of}
+use Rattle.adb_tables.specs.Values.{entry_in}
+use Rattle.db_write.proofs.KeptParts.{folder_acl, folder_parts}
+use Rattle.db_write.proofs.RootNames.{folder_name}
+use Rattle.db_write.proofs.laws.a_package_keeps_its_folders.Goals as goal
+
+pub returns-clause-names : goal.returns-clause-names
+returns-clause-names c m flags = folder_parts name_of name_of folder_name m flags
+
+pub returns-clause-acls : goal.returns-clause-acls
+returns-clause-acls c m flags = folder_parts (λ d. entry_in d 1) (λ d. without_zeros (entry_in d 1)) folder_acl m flags

@@ -1,0 +1,7 @@
+-- A path below the root may be written with one `/` in front.
+use Rattle.std.specs.Prelude.{ℕ, ◌==◌, if◌then◌else◌, List, [], ◌∷◌}
+
+-- a text without one leading `/`
+abbrev pub without_slash : List ℕ → List ℕ
+without_slash [] = []
+without_slash (b ∷ rest) = if b == 47 then rest else b ∷ rest

@@ -1,0 +1,81 @@
+//! A file of a tree, read once and compared with two entries.
+
+ghost use Rattle.std.specs.Prelude.{◌≡◌, length, Some, IfOk, IfSome};
+ghost use Rattle.std.specs.Option.{option_map};
+ghost use Rattle.base_core.specs.Calls.{IfObservable};
+ghost use Rattle.base_core.specs.Read.{OnlyReads};
+ghost use Rattle.base_core.specs.Tree.{files_of};
+ghost use Rattle.file_guard.specs.Listed.{comparison_by, comparison_of};
+
+use crate::listed::ListedFile;
+use crate::watch::Watch;
+use base_core::{Disk, Name, Tree};
+use piece_core::PIECE_LEN;
+
+/// How a file compares with two entries.
+#[derive(Clone, Copy, Debug, PartialEq, Eq)]
+pub struct Comparison {
+    /// Its bytes are as the new entry lists them.
+    pub as_new: bool,
+    /// Its bytes are as the old entry lists them.
+    pub as_old: bool,
+}
+
+/// Compares the file under a name with two entries, of which one may be absent: then no bytes are
+/// as it lists them. None comes exactly where the name is absent. The file is read once, in pieces
+/// of 65,536 bytes, and the tree stays as it is, whatever the answer.
+///
+/// # Errors
+///
+/// `Disk` where the tree failed.
+pub fn compare_file<T: Tree>(
+    tree: &mut T,
+    name: &Name,
+    new: Option<ListedFile<'_>>,
+    old: Option<ListedFile<'_>>,
+) -> Result<Option<Comparison>, Disk>
+    ensures answer { IfOk result (λ found. IfObservable (T.history tree.old) (λ v.
+        found ≡ comparison_of new.entry old.entry (files_of v name.now))) }
+    ensures tree { OnlyReads (record {}) (T.history tree.old) (T.history tree.new)
+        (T.counts tree.old) (T.counts tree.new) result }
+{
+    let Some(size) = tree.size(name)? else {
+        return Ok(None);
+    };
+    let comparison = compare_present(tree, name, size, new, old)?;
+    Ok(Some(comparison))
+}
+
+/// The same of a file that is there, and has so many bytes.
+fn compare_present<T: Tree>(
+    tree: &mut T,
+    name: &Name,
+    size: u64,
+    new: Option<ListedFile<'_>>,
+    old: Option<ListedFile<'_>>,
+) -> Result<Comparison, Disk>
+    requires { IfObservable (T.history tree.old) (λ v.
+        Some size ≡ option_map length (files_of v name.now)) }
+    ensures answer { IfOk result (λ comparison. IfObservable (T.history tree.old) (λ v.
+        IfSome (files_of v name.now) (λ bytes.
+        comparison ≡ comparison_by new.entry old.entry bytes))) }
+    ensures tree { OnlyReads (record {}) (T.history tree.old) (T.history tree.new)
+        (T.counts tree.old) (T.counts tree.new) result }
+{
+    let mut for_new = Watch::new(new);
+    let mut for_old = Watch::new(old);
+    let mut piece = [0; PIECE_LEN];
+    let mut at = 0;
+    while at < size {
+        let len = (size - at).min(PIECE_LEN as u64);
+        let bytes = &mut piece[..len as usize];
+        tree.read_at(name, at, bytes)?;
+        for_new = for_new.take(bytes);
+        for_old = for_old.take(bytes);
+        at += len;
+    }
+    Ok(Comparison {
+        as_new: for_new.is_met(),
+        as_old: for_old.is_met(),
+    })
+}

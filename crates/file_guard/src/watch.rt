@@ -1,0 +1,107 @@
+//! A comparison of a file's bytes, which come piece by piece, with an entry.
+
+ghost use Rattle.std.specs.Prelude.{◌≡◌, ℕ, Bool, List, [], ◌++◌, drop, Some};
+ghost use Rattle.file_guard.specs.Listed.{is_as_told};
+ghost use Rattle.file_guard.specs.Watching.{Watches};
+
+use crate::listed::ListedFile;
+use piece_core::Hasher;
+
+/// What stands in front of a link's text in the file that stands for it.
+const LINK_MARK: &[u8] = b"!<symlink>";
+
+/// How many bytes stand in front of a link's text in an entry.
+const TEXT_AT: usize = 2;
+
+/// What the bytes that are still to come have to be. Contracts see, by `Watching` of `specs/`, what
+/// is tested of all bytes.
+#[derive(Drop)]
+pub(crate) enum Watch<'a> {
+    /// Whatever comes, the file is not as listed.
+    Never,
+    /// The file is as listed where just these bytes come, the first ones and then the second ones.
+    Exactly(&'a [u8], &'a [u8]),
+    /// The file is as listed where all bytes together have this digest.
+    Hashed(Hasher, &'a [u8]),
+}
+
+impl<'a> Watch<'a> {
+    /// Before the first byte.
+    pub fn new(listed: Option<ListedFile<'a>>) -> Watch<'a>
+        ensures { Watches result (is_as_told listed.entry) [] }
+    {
+        match listed {
+            Some(listed) => watch_listed(listed),
+            None => Watch::Never,
+        }
+    }
+
+    /// Behind further bytes.
+    pub fn take(self, bytes: &[u8]) -> Watch<'a>
+        ensures { (test : List ℕ → Bool) (so_far : List ℕ) → Watches self.entry test so_far
+            → Watches result test (so_far ++ bytes.now) }
+    {
+        match self {
+            Watch::Never => Watch::Never,
+            Watch::Exactly(first, second) => bytes_behind(first, second, bytes),
+            Watch::Hashed(mut hasher, hash) => {
+                hasher.update(bytes);
+                Watch::Hashed(hasher, hash)
+            }
+        }
+    }
+
+    /// Whether the file is as listed, behind its last byte.
+    pub fn is_met(self) -> bool
+        ensures { (test : List ℕ → Bool) (bytes : List ℕ) → Watches self.entry test bytes
+            → result ≡ test bytes }
+    {
+        match self {
+            Watch::Never => false,
+            Watch::Exactly(first, second) => first.is_empty() && second.is_empty(),
+            Watch::Hashed(hasher, hash) => hasher.fault(hash).is_none(),
+        }
+    }
+}
+
+/// What is to come of a file that is listed so.
+fn watch_listed<'a>(listed: ListedFile<'a>) -> Watch<'a>
+    ensures { Watches result (is_as_told (Some listed.entry)) [] }
+{
+    if !listed.target.is_empty() {
+        return Watch::Exactly(LINK_MARK, text_of(listed.target));
+    }
+    if !listed.hash.is_empty() {
+        return Watch::Hashed(Hasher::new(listed.hash), listed.hash);
+    }
+    if listed.size == 0 {
+        return Watch::Exactly(&[], &[]);
+    }
+    Watch::Never
+}
+
+/// The text of a link with this target.
+fn text_of(target: &[u8]) -> &[u8]
+    ensures { result.now ≡ drop 2 target.now }
+{
+    match target.get(TEXT_AT..) {
+        Some(text) => text,
+        None => &[],
+    }
+}
+
+/// What is to come behind some bytes, where these were to come.
+fn bytes_behind<'a>(first: &'a [u8], second: &'a [u8], bytes: &[u8]) -> Watch<'a>
+    ensures { (test : List ℕ → Bool) (so_far : List ℕ)
+        → Watches (Watch.Exactly first.entry second.entry) test so_far
+        → Watches result test (so_far ++ bytes.now) }
+{
+    let len = bytes.len().min(first.len());
+    let Some(first_left) = first.strip_prefix(&bytes[..len]) else {
+        return Watch::Never;
+    };
+    match second.strip_prefix(&bytes[len..]) {
+        Some(second_left) => Watch::Exactly(first_left, second_left),
+        None => Watch::Never,
+    }
+}

@@ -1,0 +1,67 @@
+//! The files that the packages of a database list, as claims.
+
+ghost use Rattle.std.specs.Prelude.{◌≡◌, ◌<◌, [], Some, IfOk, length, map, slice_get};
+ghost use Rattle.db_core.specs.Members.{Member, listings_by, member_listings, staying_member};
+ghost use Rattle.db_core.specs.Seen.{packages_of};
+ghost use Rattle.list_order.specs.Sorted.{sorted_by};
+ghost use Rattle.path_claims.specs.Claims.{claim_cmp};
+ghost use Rattle.path_claims.specs.Seen.{claim_seen};
+ghost use Rattle.file_owners.specs.Gathered.{with_listings};
+ghost use Rattle.file_owners.specs.Owners.{claims_in};
+
+use crate::gather::add_folders;
+use adb_schema::PackageView;
+use db_core::Db;
+use path_claims::{Claim, sort_claims};
+use std::alloc::{AllocError, Global};
+use std::marker::PhantomData;
+
+/// Gathers the files that the packages of a database list, as those of members that all stay: the
+/// claims in the order of their paths, and those of one path in the order of the packages. It takes
+/// a few words for each file, and compares paths as a sort does.
+///
+/// # Errors
+///
+/// Want of memory.
+pub fn claims_in_database<'a>(alloc: Global, db: &Db<'a>) -> Result<Vec<Claim<'a>>, AllocError>
+    ensures { IfOk result (λ claims. map claim_seen claims.items
+        ≡ sorted_by claim_cmp (claims_in (map staying_member (packages_of db.now)))) }
+{
+    let mut claims = listed_files(alloc, db)?;
+    sort_claims(&mut claims)?;
+    Ok(claims)
+}
+
+/// The files in the order of packages, folders and files.
+fn listed_files<'a>(alloc: Global, db: &Db<'a>) -> Result<Vec<Claim<'a>>, AllocError>
+    ensures { IfOk result (λ claims. map claim_seen claims.items
+        ≡ with_listings [] (member_listings (map staying_member (packages_of db.now)))) }
+{
+    let mut claims = Vec::new(alloc);
+    for i in 0..db.len() {
+        add_package(&mut claims, db, i, PhantomData)?;
+    }
+    Ok(claims)
+}
+
+/// Adds the files of the package at a place, counted from 0. The mark serves the borrow checker
+/// alone, which does not know the parts of a view that is made and lent here unless the signature
+/// names the view as an argument.
+fn add_package<'a>(
+    claims: &mut Vec<Claim<'a>>,
+    db: &Db<'a>,
+    i: usize,
+    _mark: PhantomData<PackageView<'a>>,
+) -> Result<(), AllocError>
+    requires { i < length (packages_of db.now) }
+    ensures { IfOk result (λ _. (m : Member)
+        → slice_get (map staying_member (packages_of db.now)) i ≡ Some m
+        → map claim_seen claims.new.items
+        ≡ with_listings (map claim_seen claims.old.items) (listings_by i m)) }
+{
+    if i >= db.len() {
+        unreachable!();
+    }
+    let package = db.package(i);
+    add_folders(claims, i as u32, &package.paths())
+}

@@ -1,0 +1,90 @@
+-- Folders above a name, and a walk over its slashes.
+use Rattle.std.proofs.Common.{◌≡◌, ⊎_elim, ℕ, ◌+◌, ◌<◌, ◌≤◌, Bool, true, false, List, [], ◌∷◌, ◌++◌, length, get_or, take, drop, Option, Some, refl, sym, ap, subst, ◌∙◌, arith, length-append, take-append-drop}
+use Rattle.std.specs.Prelude.{bytes_eq}
+use Rattle.std.proofs.Math.Seq.{get_or-append_seam, take-append_seam}
+use Rattle.std.proofs.lemmas.Bool.{cases_lt, false_from_ne_true}
+use Rattle.std.proofs.lemmas.List.{drop_more, get_or-take, length-take-le, take-take}
+use Rattle.std.specs.Cmp.Lexicographic.{bytes_decides}
+use Rattle.base_core.specs.Files.{Files, IsFolderOf}
+use Rattle.list_order.specs.ByteOrder.{precedes}
+use Rattle.path_clashes.specs.Clash.{NameChange, is_name_after}
+use Rattle.path_clashes.specs.NearName.{IsFolderFound, name_if}
+use Rattle.path_clashes.proofs.PairOrder.{precedes_front}
+
+-- ---- a folder is the name up to a slash
+
+pub folder_at : (name : List ℕ) (k : ℕ) → k < length name → get_or name k 0 ≡ 47 → IsFolderOf (take k name) name
+folder_at name k within slash =
+    (drop (k + 1) name, sym (take-append-drop k name) ∙ ap (λ (l : List ℕ). take k name ++ l) (drop_more name k 0 within ∙ ap (λ x. x ∷ drop (k + 1) name) slash))
+
+pub at_folder : (folder name : List ℕ) → IsFolderOf folder name → (length folder < length name) × (get_or name (length folder) 0 ≡ 47) × (take (length folder) name ≡ folder)
+at_folder folder name (rest, is) = (
+  omega (arith, ap length is, length-append folder (47 ∷ rest)),
+  ap (λ (l : List ℕ). get_or l (length folder) 0) is ∙ get_or-append_seam folder 47 rest 0,
+  ap (take (length folder)) is ∙ take-append_seam folder (47 ∷ rest),
+)
+
+-- one above a name is above each other one that shares a longer front with it
+pub shared_folder : (before name folder : List ℕ) (len : ℕ) → len ≤ length before → take len before ≡ take len name → IsFolderOf folder name → length folder < len → IsFolderOf folder before
+shared_folder before name folder len within same above short =
+    subst (λ (f : List ℕ). IsFolderOf f before) whole (folder_at before (length folder) (omega arith) slash)
+  where
+    at : (length folder < length name) × (get_or name (length folder) 0 ≡ 47) × (take (length folder) name ≡ folder)
+    at = at_folder folder name above
+
+    slash : get_or before (length folder) 0 ≡ 47
+    slash =
+        sym (get_or-take len before (length folder) 0 short)
+        ∙ (ap (λ (l : List ℕ). get_or l (length folder) 0) same ∙ (get_or-take len name (length folder) 0 short ∙ at.1))
+
+    whole : take (length folder) before ≡ folder
+    whole =
+        sym (take-take (length folder) len before (omega arith))
+        ∙ (ap (take (length folder)) same ∙ (take-take (length folder) len name (omega arith) ∙ at.2))
+
+-- of two folders above a name the longer one does not come first
+pub longer_folder : (short long name : List ℕ) → IsFolderOf short name → IsFolderOf long name → length short ≤ length long → precedes long short ≡ false
+longer_folder short long name above also upto =
+    ap (λ (l : List ℕ). precedes l short) begins ∙ precedes_front short (drop (length short) long)
+  where
+    front : take (length short) long ≡ short
+    front =
+        ap (take (length short)) (sym (at_folder long name also).2)
+        ∙ (take-take (length short) (length long) name upto ∙ (at_folder short name above).2)
+
+    begins : long ≡ short ++ drop (length short) long
+    begins = sym (take-append-drop (length short) long) ∙ ap (λ (l : List ℕ). l ++ drop (length short) long) front
+
+-- nor does the name
+pub name_behind : (folder name : List ℕ) → IsFolderOf folder name → precedes name folder ≡ false
+name_behind folder name (rest, is) = ap (λ (l : List ℕ). precedes l folder) is ∙ precedes_front folder (47 ∷ rest)
+
+pub not_same : (folder name : List ℕ) → IsFolderOf folder name → bytes_eq name folder ≡ false
+not_same folder name above =
+    false_from_ne_true (bytes_eq name folder) (λ same. let e : name ≡ folder = (bytes_decides name folder).0 same in omega (arith, (at_folder folder name above).0, ap length e))
+
+pub nothing_above : (folder : List ℕ) → IsFolderOf folder [] → ⊥
+nothing_above folder above = omega (arith, (at_folder folder [] above).0)
+
+-- ---- the walk: so far no folder that is long enough is there after the change
+
+abbrev pub IsNoneUpto : NameChange → Files → List ℕ → ℕ → ℕ → Type 0
+IsNoneUpto change files name len i =
+    (other : List ℕ) → IsFolderOf other name → len ≤ length other → length other < i → is_name_after change files other ≡ true → ⊥
+
+pub found_at_slash : (change : NameChange) (files : Files) (name : List ℕ) (len i : ℕ) → i < length name → get_or name i 0 ≡ 47 → is_name_after change files (take i name) ≡ true → IsNoneUpto change files name len i → IsFolderFound change files name len (Some (take i name))
+found_at_slash change files name len i within slash there none = record {
+  above = folder_at name i within slash;
+  after = there;
+  shortest = λ other above long after. let is : length (take i name) ≡ i = length-take-le i name (omega arith) in
+      ⊎_elim (λ short. absurd (none other above long short after)) (λ upto. omega (arith, is, upto)) (cases_lt (length other) i);
+}
+
+-- the same, as the code tells it
+pub found_told : (change : NameChange) (files : Files) (name : List ℕ) (len i : ℕ) (found : Option (List ℕ)) (folder : List ℕ) → i < length name → get_or name i 0 ≡ 47 → found ≡ Some folder
+    → IsNoneUpto change files name len i → found ≡ name_if (is_name_after change files (take i name)) (take i name) → IsFolderFound change files name len (Some folder)
+found_told change files name len i found folder within slash is none told = by (is_name_after change files (take i name)) refl (sym is ∙ told)
+  where
+    by : (b : Bool) → is_name_after change files (take i name) ≡ b → Some folder ≡ name_if b (take i name) → IsFolderFound change files name len (Some folder)
+    by true after e = let same : take i name ≡ folder = cc in subst (λ (l : List ℕ). IsFolderFound change files name len (Some l)) same (found_at_slash change files name len i within slash after none)
+    by false off e = absurd (cc)

@@ -1,0 +1,12 @@
+use Rattle.std.proofs.Common.{◌≡◌, ◌≤◌, ◌-◌, length, take}
+use Rattle.path_clashes.proofs.clash.common_len.Given as goal
+
+abbrev pub invariant-loop-len : goal.invariant-loop-len
+invariant-loop-len l = record {
+  one : l.len ≤ length l.one;
+  other : l.len ≤ length l.other;
+  same : take l.len l.one ≡ take l.len l.other;
+}
+
+abbrev pub decreases-loop-len : goal.decreases-loop-len
+decreases-loop-len l = length l.one - l.len

@@ -1,0 +1,35 @@
+use Rattle.std.proofs.Common.{◌≡◌, ◌∙◌, ◌<◌, List, ℕ, length, get_or, map, refl, sym, arith, rules}
+use Rattle.adb_fields.specs.JoinedPath.{joined_path}
+use Rattle.base_core.specs.Tree.{files_of}
+use Rattle.path_clashes.specs.WrittenPaths.{change_by_paths}
+use Rattle.path_clashes.proofs.Observed.{observed_by, observed_by_two}
+use Rattle.path_clashes.proofs.Paths.{long, path_counts, path_here}
+use Rattle.path_clashes.proofs.SoFar.{all_told, more_told, name_next}
+use Rattle.path_clashes.proofs.clash.first_clash.Goals as goal
+
+pub clash_near-requires-clause-written : goal.clash_near-requires-clause-written
+clash_near-requires-clause-written g c =
+    path_counts c.args.written.now c.loop-path.path-index _ c.deref-in-loop-path.result.now c.loop-path-test.true (c.deref-in-loop-path.ensures.value ∙ c.in_ok-bytes.ensures)
+
+pub loop-path-preserved : goal.loop-path-preserved
+loop-path-preserved g c =
+    let names : List (List ℕ) = map joined_path c.args.written.now in
+    let within : c.loop-path.path-index < length names = omega (arith, c.loop-path-test.true, long c.args.written.now) in
+    let here : (d : List ℕ) → get_or names c.loop-path.path-index d ≡ c.deref-in-loop-path.result.now =
+    path_here c.args.written.now c.loop-path.path-index _ c.deref-in-loop-path.result.now c.loop-path-test.true (c.deref-in-loop-path.ensures.value ∙ c.in_ok-bytes.ensures) in
+    record {
+      before = sym c.deref-in-loop-path.ensures.value ∙ name_next names c.loop-path.path-index c.deref-in-loop-path.result.now here;
+      first =
+          observed_by_two _ _ _ _ _ c.loop-path.invariant.tree.same
+          (λ v so_far near. more_told (change_by_paths c.args.written.now (g.G.LetGo.lets_go c.args.let_go.now)) (files_of v) names c.requires.names c.requires.sorted (λ name any. any)
+          c.loop-path.path-index c.deref.result.now c.deref-in-loop-path.result.now _ _ _ within here (c.deref.ensures.value ∙ c.loop-path.invariant.before) c.first_of-first.ensures so_far near)
+          c.loop-path.invariant.first c.in_ok-found.ensures.near;
+      tree = search rules;
+    }
+
+pub returns-clause-first : goal.returns-clause-first
+returns-clause-first g c =
+    let all : c.loop-path.path-index ≡ length c.args.written.now = omega arith in
+    observed_by _ _ _
+    (λ v so_far. all_told (change_by_paths c.args.written.now (g.G.LetGo.lets_go c.args.let_go.now)) (files_of v) (map joined_path c.args.written.now) (λ name. refl) c.loop-path.path-index _ (all ∙ sym (long c.args.written.now)) so_far)
+    c.loop-path.invariant.first

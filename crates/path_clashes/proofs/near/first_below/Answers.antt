@@ -1,0 +1,7 @@
+use Rattle.path_clashes.proofs.Below.{found_listed}
+use Rattle.path_clashes.proofs.Observed.{observed_by}
+use Rattle.path_clashes.proofs.near.first_below.Goals as goal
+
+pub returns-clause-found : goal.returns-clause-found
+returns-clause-found g c =
+    observed_by _ _ _ (λ v list. found_listed (g.G.LetGo.lets_go c.args.let_go.now) v c.args.folder.now _ list _ c.in_ok-first.ensures) c.in_ok-names.ensures.value

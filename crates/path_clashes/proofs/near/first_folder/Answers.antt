@@ -1,0 +1,11 @@
+use Rattle.base_core.specs.Tree.{files_of}
+use Rattle.path_clashes.specs.WrittenPaths.{change_by_paths}
+use Rattle.path_clashes.proofs.Above.{found_told}
+use Rattle.path_clashes.proofs.Observed.{observed_by_two}
+use Rattle.path_clashes.proofs.near.first_folder.Goals as goal
+
+pub returns-in-Some-clause-found : goal.returns-in-Some-clause-found
+returns-in-Some-clause-found g c =
+    observed_by_two _ _ _ _ _ c.loop-i.invariant.tree.same
+    (λ v none told. found_told (change_by_paths c.args.written.now (g.G.LetGo.lets_go c.args.let_go.now)) (files_of v) c.args.name.now c.args.len c.loop-i.i _ c.in-Some.folder c.loop-i-test.true c.if-name-i-eq47.true c.in-Some.is none told)
+    c.loop-i.invariant.none c.in_ok-folder.ensures.found

@@ -1,0 +1,77 @@
+-- What is looked for near one name that counts as written: folders above it, names below it.
+use Rattle.std.specs.Prelude.{◌≡◌, ◌⊎◌, ◌≤◌, ℕ, Bool, true, false, not, ◌&&◌, if◌then◌else◌, List, Option, Some, None, is_some, length}
+use Rattle.base_core.specs.Files.{Files, IsFolderOf}
+use Rattle.list_order.specs.ByteOrder.{precedes}
+use Rattle.path_clashes.specs.Clash.{IsClash, NameChange, NamePair, is_name_after, precedes_pair}
+
+-- a file stands under the name and does not go
+abbrev pub is_standing : (List ℕ → Bool) → Files → List ℕ → Bool
+is_standing lets_go files name = is_some (files name) && not (lets_go name)
+
+abbrev pub name_if : Bool → List ℕ → Option (List ℕ)
+name_if b name = if b then Some name else None
+
+-- ---- above
+
+-- a folder above the name that is there after the change; of those that are so long the shortest
+pub record IsShortestFolder (change : NameChange) (files : Files) (name : List ℕ) (len : ℕ)
+    (folder : List ℕ) : Type 0 where
+  pub above : IsFolderOf folder name
+  pub after : is_name_after change files folder ≡ true
+  pub shortest : (other : List ℕ) → IsFolderOf other name → len ≤ length other
+      → is_name_after change files other ≡ true → length folder ≤ length other
+
+abbrev pub IsFolderFound : NameChange → Files → List ℕ → ℕ → Option (List ℕ) → Type 0
+IsFolderFound change files name len None =
+    (other : List ℕ) → IsFolderOf other name → len ≤ length other
+    → is_name_after change files other ≡ true → ⊥
+IsFolderFound change files name len (Some folder) =
+    IsShortestFolder change files name len folder
+
+-- ---- below
+
+-- the first of the names below a folder under which a file stands that does not go
+pub record IsFirstBelow (lets_go : List ℕ → Bool) (files : Files) (folder name : List ℕ)
+    : Type 0 where
+  pub below : IsFolderOf folder name
+  pub standing : is_standing lets_go files name ≡ true
+  pub first : (other : List ℕ) → IsFolderOf folder other
+      → is_standing lets_go files other ≡ true → precedes other name ≡ false
+
+abbrev pub IsNameFound : (List ℕ → Bool) → Files → List ℕ → Option (List ℕ) → Type 0
+IsNameFound lets_go files folder None =
+    (other : List ℕ) → IsFolderOf folder other → is_standing lets_go files other ≡ true → ⊥
+IsNameFound lets_go files folder (Some name) = IsFirstBelow lets_go files folder name
+
+-- ---- pairs with the name
+
+-- the first of two pairs, where there are two
+abbrev pub earlier_pair : Option NamePair → Option NamePair → Option NamePair
+earlier_pair None other = other
+earlier_pair (Some one) None = Some one
+earlier_pair (Some one) (Some other) = if precedes_pair other one then Some other else Some one
+
+-- it is a clash, if there is a pair
+abbrev pub IsClashIfSome : NameChange → Files → Option NamePair → Type 0
+IsClashIfSome change files None = Unit {0}
+IsClashIfSome change files (Some pair) = IsClash change files pair
+
+-- there is a pair, and the other one does not come before it
+abbrev pub IsNotBefore : NamePair → Option NamePair → Type 0
+IsNotBefore other None = ⊥
+IsNotBefore other (Some pair) = precedes_pair other pair ≡ false
+
+-- if the other pair is a clash, there is a pair, and the other one does not come before it
+abbrev pub IsNoEarlierClash : NameChange → Files → Option NamePair → NamePair → Type 0
+IsNoEarlierClash change files found other = IsClash change files other → IsNotBefore other found
+
+-- Of the clashes with a name the first: with the folders above it, but those also above the name
+-- before it, and with the names below it; nothing is said where the name before is the same one.
+pub record IsClashNear (change : NameChange) (files : Files) (before name : List ℕ)
+    (found : Option NamePair) : Type 0 where
+  pub is_one : IsClashIfSome change files found
+  pub above : (folder : List ℕ) → IsFolderOf folder name → IsFolderOf folder before
+      ⊎ IsNoEarlierClash change files found (record { path = folder; other = name })
+  pub below : (other : List ℕ) → is_standing change.lets_go files other ≡ true
+      → (before ≡ name)
+      ⊎ IsNoEarlierClash change files found (record { path = name; other = other })

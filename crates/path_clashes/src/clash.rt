@@ -1,0 +1,160 @@
+//! The first clash of a change.
+
+ghost use Rattle.std.specs.Prelude.{◌≡◌, ◌≤◌, true, IfOk, All, length, map, option_map, take};
+ghost use Rattle.std.specs.List.Sorted.{IsSorted};
+ghost use Rattle.adb_fields.specs.JoinedPath.{joined_path};
+ghost use Rattle.base_core.specs.Calls.{IfObservable};
+ghost use Rattle.base_core.specs.Name.{IsName};
+ghost use Rattle.base_core.specs.Read.{OnlyReads};
+ghost use Rattle.base_core.specs.Tree.{files_of};
+ghost use Rattle.list_order.specs.ByteOrder.{bytes_cmp};
+ghost use Rattle.path_clashes.specs.Clash.{precedes_pair};
+ghost use Rattle.path_clashes.specs.ClashSeen.{clash_seen};
+ghost use Rattle.path_clashes.specs.FirstClash.{IsClashOf};
+ghost use Rattle.path_clashes.specs.NearName.{IsClashNear, earlier_pair};
+ghost use Rattle.path_clashes.specs.WrittenPaths.{change_by_paths, is_path_of};
+
+use crate::let_go::LetGo;
+use crate::near::{first_below, first_folder};
+use adb_fields::FilePath;
+use base_core::{Name, Tree, TreeFault};
+use std::alloc::{AllocError, Global};
+
+/// Two names after a change, of which the first is a folder of the second.
+#[derive(Drop)]
+pub struct Clash {
+    pub path: Name,
+    pub other: Name,
+}
+
+/// Whether the first clash comes before the second.
+fn comes_before(one: &Clash, other: &Clash) -> bool
+    ensures { result ≡ precedes_pair (clash_seen one.now) (clash_seen other.now) }
+{
+    let by_path = one.path.as_bytes().cmp(other.path.as_bytes());
+    let by_other = one.other.as_bytes().cmp(other.other.as_bytes());
+    by_path.then(by_other).is_lt()
+}
+
+/// The first of two clashes, where there are two.
+fn first_of(one: Option<Clash>, other: Option<Clash>) -> Option<Clash>
+    ensures { option_map clash_seen result
+        ≡ earlier_pair (option_map clash_seen one) (option_map clash_seen other) }
+{
+    let Some(one) = one else {
+        return other;
+    };
+    let Some(other) = other else {
+        return Some(one);
+    };
+    if comes_before(&other, &one) {
+        Some(other)
+    } else {
+        Some(one)
+    }
+}
+
+/// The bytes of a path.
+fn path_bytes(alloc: Global, path: &FilePath<'_>) -> Result<Vec<u8>, AllocError>
+    ensures { IfOk result (λ bytes. bytes.items ≡ joined_path path.now) }
+{
+    let mut bytes = Vec::new(alloc);
+    if !path.folder.is_empty() {
+        bytes.extend_from_slice(path.folder)?;
+        bytes.push(b'/')?;
+    }
+    bytes.extend_from_slice(path.name)?;
+    Ok(bytes)
+}
+
+/// The name that these bytes are.
+fn name_of_bytes(alloc: Global, bytes: &[u8]) -> Result<Name, AllocError>
+    requires { IsName bytes.now }
+    ensures { IfOk result (λ name. name ≡ bytes.now) }
+{
+    match Name::read(alloc, bytes)? {
+        Some(name) => Ok(name),
+        None => unreachable!(),
+    }
+}
+
+/// How many bytes at the fronts of two texts are the same.
+fn common_len(one: &[u8], other: &[u8]) -> usize
+    ensures one { result ≤ length one.now }
+    ensures other { result ≤ length other.now }
+    ensures same { take result one.now ≡ take result other.now }
+{
+    let mut len = 0;
+    while len < one.len() && len < other.len() && one[len] == other[len] {
+        len += 1;
+    }
+    len
+}
+
+/// The first clash of a path that is written, with the names above it and below it. The folders that
+/// are also above the path before it were looked at with that one, and so was all where the two are
+/// the same.
+fn clash_near<T: Tree, G: LetGo>(
+    alloc: Global,
+    tree: &mut T,
+    written: &[FilePath<'_>],
+    let_go: &G,
+    before: &[u8],
+    bytes: &[u8],
+) -> Result<Option<Clash>, TreeFault>
+    requires sorted { IsSorted bytes_cmp (map joined_path written.now) }
+    requires names { All IsName (map joined_path written.now) }
+    requires written { is_path_of written.now bytes.now ≡ true }
+    ensures near { IfOk result (λ found. IfObservable (T.history tree.old) (λ v.
+        IsClashNear (change_by_paths written.now (G.lets_go let_go.now)) (files_of v)
+        before.now bytes.now (option_map clash_seen found))) }
+    ensures tree { OnlyReads TreeFault.Disk (T.history tree.old) (T.history tree.new)
+        (T.counts tree.old) (T.counts tree.new) result }
+{
+    if before == bytes {
+        return Ok(None);
+    }
+    let name = name_of_bytes(alloc, bytes)?;
+    let len = common_len(before, bytes);
+    if let Some(path) = first_folder(alloc, tree, written, let_go, bytes, len)? {
+        return Ok(Some(Clash { path, other: name }));
+    }
+    match first_below(alloc, tree, let_go, &name)? {
+        Some(other) => Ok(Some(Clash { path: name, other })),
+        None => Ok(None),
+    }
+}
+
+/// The first clash of a change that writes these paths, or None where there is none. The paths
+/// stand in byte order, and one may stand there several times. It only reads the tree.
+///
+/// The tree is asked for the names below each path, and at most once for each folder above them.
+/// So the calls grow with the paths, and not with the files of the tree.
+///
+/// # Errors
+///
+/// `Disk` where the tree failed, `Memory` where there was no memory.
+pub fn first_clash<T: Tree, G: LetGo>(
+    alloc: Global,
+    tree: &mut T,
+    written: &[FilePath<'_>],
+    let_go: &G,
+) -> Result<Option<Clash>, TreeFault>
+    requires sorted { IsSorted bytes_cmp (map joined_path written.now) }
+    requires names { All IsName (map joined_path written.now) }
+    ensures first { IfOk result (λ found. IfObservable (T.history tree.old) (λ v.
+        IsClashOf (change_by_paths written.now (G.lets_go let_go.now)) (files_of v)
+        (option_map clash_seen found))) }
+    ensures tree { OnlyReads TreeFault.Disk (T.history tree.old) (T.history tree.new)
+        (T.counts tree.old) (T.counts tree.new) result }
+{
+    let mut first = None;
+    let mut before = Vec::new(alloc);
+    for path in written {
+        let bytes = path_bytes(alloc, path)?;
+        let found = clash_near(alloc, tree, written, let_go, &before, &bytes)?;
+        first = first_of(first, found);
+        before = bytes;
+    }
+    Ok(first)
+}

@@ -1,0 +1,130 @@
+//! The names above and below one name that are there after a change.
+
+ghost use Rattle.std.specs.Prelude.{◌≡◌, not, IfOk, List, All, map};
+ghost use Rattle.std.specs.List.{find};
+ghost use Rattle.std.specs.List.Sorted.{IsSorted};
+ghost use Rattle.adb_fields.specs.JoinedPath.{joined_path};
+ghost use Rattle.base_core.specs.Calls.{IfObservable};
+ghost use Rattle.base_core.specs.Name.{IsName};
+ghost use Rattle.base_core.specs.Read.{OnlyReads};
+ghost use Rattle.base_core.specs.Tree.{files_of};
+ghost use Rattle.list_order.specs.ByteOrder.{bytes_cmp};
+ghost use Rattle.path_clashes.specs.Clash.{is_name_after};
+ghost use Rattle.path_clashes.specs.NearName.{IsFolderFound, IsNameFound, is_standing, name_if};
+ghost use Rattle.path_clashes.specs.WrittenPaths.{change_by_paths, is_path_of};
+
+use crate::let_go::LetGo;
+use adb_fields::FilePath;
+use base_core::{Name, Names, Tree, TreeFault};
+use std::alloc::{AllocError, Global};
+
+/// Whether a name is one of these paths.
+fn is_path_of(paths: &[FilePath<'_>], name: &[u8]) -> bool
+    requires { IsSorted bytes_cmp (map joined_path paths.now) }
+    ensures { result ≡ is_path_of paths.now name.now }
+{
+    let path = FilePath { folder: b"", name };
+    paths.binary_search_by(|other| other.compare(&path)).is_ok()
+}
+
+/// Whether a file stands under a name and does not go.
+fn is_standing<T: Tree, G: LetGo>(tree: &mut T, let_go: &G, name: &Name) -> Result<bool, TreeFault>
+    ensures answer { IfOk result (λ standing. IfObservable (T.history tree.old) (λ v.
+        standing ≡ is_standing (G.lets_go let_go.now) (files_of v) name.now)) }
+    ensures tree { OnlyReads TreeFault.Disk (T.history tree.old) (T.history tree.new)
+        (T.counts tree.old) (T.counts tree.new) result }
+{
+    if let_go.lets_go(name.as_bytes()) {
+        return Ok(false);
+    }
+    let size = tree.size(name)?;
+    Ok(size.is_some())
+}
+
+/// The folder's name, if it is there after the change.
+fn folder_after<T: Tree, G: LetGo>(
+    alloc: Global,
+    tree: &mut T,
+    written: &[FilePath<'_>],
+    let_go: &G,
+    folder: &[u8],
+) -> Result<Option<Name>, TreeFault>
+    requires sorted { IsSorted bytes_cmp (map joined_path written.now) }
+    requires names { All IsName (map joined_path written.now) }
+    ensures found { IfOk result (λ found. IfObservable (T.history tree.old) (λ v.
+        found ≡ name_if (is_name_after (change_by_paths written.now (G.lets_go let_go.now))
+        (files_of v) folder.now) folder.now)) }
+    ensures tree { OnlyReads TreeFault.Disk (T.history tree.old) (T.history tree.new)
+        (T.counts tree.old) (T.counts tree.new) result }
+{
+    let Some(name) = Name::read(alloc, folder)? else {
+        return Ok(None);
+    };
+    if is_path_of(written, folder) || is_standing(tree, let_go, &name)? {
+        return Ok(Some(name));
+    }
+    Ok(None)
+}
+
+/// The first folder above a name that is there after the change, of those that have this length or
+/// more.
+pub(crate) fn first_folder<T: Tree, G: LetGo>(
+    alloc: Global,
+    tree: &mut T,
+    written: &[FilePath<'_>],
+    let_go: &G,
+    name: &[u8],
+    len: usize,
+) -> Result<Option<Name>, TreeFault>
+    requires sorted { IsSorted bytes_cmp (map joined_path written.now) }
+    requires names { All IsName (map joined_path written.now) }
+    ensures found { IfOk result (λ found. IfObservable (T.history tree.old) (λ v.
+        IsFolderFound (change_by_paths written.now (G.lets_go let_go.now)) (files_of v)
+        name.now len found)) }
+    ensures tree { OnlyReads TreeFault.Disk (T.history tree.old) (T.history tree.new)
+        (T.counts tree.old) (T.counts tree.new) result }
+{
+    for i in len..name.len() {
+        if name[i] == b'/' {
+            if let Some(folder) = folder_after(alloc, tree, written, let_go, &name[..i])? {
+                return Ok(Some(folder));
+            }
+        }
+    }
+    Ok(None)
+}
+
+/// The first of several names under which a file does not go.
+fn first_to_stay<G: LetGo>(
+    alloc: Global,
+    names: &Names,
+    let_go: &G,
+) -> Result<Option<Name>, AllocError>
+    ensures { IfOk result (λ found.
+        found ≡ find (λ name. not (G.lets_go let_go.now name)) names.now) }
+{
+    for i in 0..names.len() {
+        let name = names.get(i);
+        if !let_go.lets_go(name.as_bytes()) {
+            return Ok(Some(name.copy(alloc)?));
+        }
+    }
+    Ok(None)
+}
+
+/// The first name below a folder under which a file stands that does not go.
+pub(crate) fn first_below<T: Tree, G: LetGo>(
+    alloc: Global,
+    tree: &mut T,
+    let_go: &G,
+    folder: &Name,
+) -> Result<Option<Name>, TreeFault>
+    ensures found { IfOk result (λ found. IfObservable (T.history tree.old) (λ v.
+        IsNameFound (G.lets_go let_go.now) (files_of v) folder.now found)) }
+    ensures tree { OnlyReads TreeFault.Disk (T.history tree.old) (T.history tree.new)
+        (T.counts tree.old) (T.counts tree.new) result }
+{
+    let names = tree.list(alloc, folder)?;
+    let first = first_to_stay(alloc, &names, let_go)?;
+    Ok(first)
+}

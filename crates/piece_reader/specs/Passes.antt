@@ -1,0 +1,153 @@
+-- Where the passes over the pieces of a package stand: the first one over all files, and then one
+-- over a single file, as often as is asked for.
+use Rattle.std.specs.Prelude.{◌≡◌, ◌≤◌, ℕ, ◌+◌, ◌==◌, ◌&&◌, Bool, true, false, if◌then◌else◌, List, [], ◌∷◌, length, drop, vec_capacity, vec_len, Option, Some, None}
+use Rattle.adb_block.specs.Reading.{reading_of}
+use Rattle.adb_block.specs.declared.block.BlockKind.TheVariants.{Adb}
+use Rattle.pkg_core.specs.Contents.{Expected, expected_contents}
+use Rattle.pkg_core.specs.Opened.{expected_of}
+use Rattle.pkg_pieces.specs.Values.{value_of_contents}
+use Rattle.piece_core.specs.Pieces.{PiecesRead, no_piece, part_of, piece, pieces_by_blocks, refusal}
+use Rattle.piece_core.specs.Places.{pieces_at}
+use Rattle.piece_core.specs.declared.part.Part.{Part}
+use Rattle.piece_core.specs.declared.place.BlockPlace.{BlockPlace}
+use Rattle.piece_reader.specs.Blocks.{pieces_from_block}
+use Rattle.piece_reader.specs.Readers.{IsReading, due_files, name_in_tree, offset_of, package_len}
+use Rattle.piece_reader.specs.declared.open.OpenFile.{OpenFile}
+use Rattle.piece_reader.specs.declared.package.PackagePieces.{PackagePieces}
+use Rattle.piece_reader.specs.declared.package.Pass.{Pass}
+use Rattle.piece_reader.specs.declared.package.Pass.TheVariants.{First, OneFile, Over}
+use Rattle.piece_reader.specs.declared.reader.Due.{Due}
+use Rattle.piece_reader.specs.declared.reader.Due.TheVariants.{Files, Nothing, Refused}
+
+-- ---- the pieces of one file
+
+-- up to the end of the file that they begin with
+abbrev pub pieces_of_first : PiecesRead → PiecesRead
+pieces_of_first no_piece = no_piece
+pieces_of_first (refusal c) = refusal c
+pieces_of_first (piece part bytes further) =
+    piece part bytes (if part.last then no_piece else pieces_of_first further)
+
+abbrev pub is_of_file : ℕ → ℕ → Part → Bool
+is_of_file path file part = (part.path == path) && (part.file == file)
+
+-- of the file with these positions; none where it has no contents
+abbrev pub pieces_of_file : ℕ → ℕ → PiecesRead → PiecesRead
+pieces_of_file path file no_piece = no_piece
+pieces_of_file path file (refusal c) = refusal c
+pieces_of_file path file (piece part bytes further) =
+    if is_of_file path file part
+    then pieces_of_first (piece part bytes further)
+    else pieces_of_file path file further
+
+-- ---- files that were handed out
+
+-- pieces of these bytes, none of them the last one of the file, and then further ones
+abbrev pub with_pieces : Expected → List (List ℕ) → PiecesRead → PiecesRead
+with_pieces e [] further = further
+with_pieces e (bytes ∷ others) further = piece (part_of e false) bytes (with_pieces e others further)
+
+-- some pieces of the file were handed out, and not its last one
+abbrev pub IsBegun : Expected → PiecesRead → PiecesRead → Type 0
+IsBegun e from pieces = (given : List (List ℕ)) × (from ≡ with_pieces e given pieces)
+
+-- the file was handed out whole
+abbrev pub IsHandedOut : Expected → PiecesRead → PiecesRead → Type 0
+IsHandedOut e from pieces = (given : List (List ℕ)) × (last : List ℕ)
+    × (from ≡ with_pieces e given (piece (part_of e true) last pieces))
+
+-- from the block at each offset on come the pieces of one of these files and of all behind it; the
+-- files that are left come last
+abbrev pub AreFilesAt : List ℕ → List ℕ → List Expected → PiecesRead → List Expected → PiecesRead
+    → Type 0
+AreFilesAt pkg [] es from left rest = (es ≡ left) × (from ≡ rest)
+AreFilesAt pkg (at ∷ ats) [] from left rest = ⊥
+AreFilesAt pkg (at ∷ ats) (e ∷ es) from left rest = (after : PiecesRead)
+    × (at ≤ length pkg) × (pieces_from_block (e ∷ es) at pkg ≡ from) × IsHandedOut e from after
+    × AreFilesAt pkg ats es after left rest
+
+-- ---- what a reader in passes shows
+
+abbrev pub name_of_package : PackagePieces → List ℕ
+name_of_package pieces = name_in_tree pieces.reader
+
+abbrev pub len_of_package : PackagePieces → ℕ
+len_of_package pieces = package_len pieces.reader
+
+-- the offset of the byte that is read next
+abbrev pub next_offset_of : PackagePieces → ℕ
+next_offset_of pieces = offset_of pieces.reader
+
+-- the files of the package that have contents, and all their pieces
+abbrev pub all_files : PackagePieces → List Expected
+all_files pieces = expected_contents (value_of_contents pieces.contents.now)
+
+abbrev pub all_pieces : PackagePieces → List ℕ → PiecesRead
+all_pieces pieces pkg = pieces_by_blocks (all_files pieces) (reading_of (record {
+  schema = 0;
+  last = Some Adb;
+  at = pieces.start;
+  left = drop pieces.start pkg;
+}))
+
+-- the first pass came to its end
+abbrev pub IsBehindFirst : Pass → Type 0
+IsBehindFirst First = ⊥
+IsBehindFirst OneFile = Unit {0}
+IsBehindFirst Over = Unit {0}
+
+abbrev pub HasEnded : PackagePieces → Type 0
+HasEnded pieces = IsBehindFirst pieces.pass
+
+-- ---- what is still to come, of a package of these bytes
+
+-- of a file that is open some pieces were handed out since its block
+abbrev pub IsBegunFrom : Option OpenFile → List Expected → ℕ → List ℕ → PiecesRead → PiecesRead
+    → Type 0
+IsBegunFrom None due block pkg now from = now ≡ from
+IsBegunFrom (Some o) due block pkg now from =
+    (pieces_from_block due block pkg ≡ from) × IsBegun (expected_of o.file.wanted) from now
+
+-- in the first pass: the files that were handed out, and the room for the offsets of the others
+pub record IsInFirstPass (p : PackagePieces) (pkg : List ℕ) (now : PiecesRead) : Type 0 where
+  pub from : PiecesRead
+  pub files : AreFilesAt pkg p.blocks.items (all_files p) (all_pieces p pkg)
+      (due_files p.reader) from
+  pub begun : IsBegunFrom p.reader.opened (due_files p.reader) p.reader.block pkg now from
+  pub room : vec_len p.blocks + length (due_files p.reader) ≤ vec_capacity p.blocks
+
+abbrev pub InFirstPass : Due → PackagePieces → List ℕ → PiecesRead → Type 0
+InFirstPass Files p pkg now = IsInFirstPass p pkg now
+InFirstPass Nothing p pkg now = ⊥
+InFirstPass (Refused c) p pkg now = Unit {0}
+
+-- all files were handed out
+abbrev pub HasHandedOut : PackagePieces → List ℕ → Type 0
+HasHandedOut p pkg =
+    AreFilesAt pkg p.blocks.items (all_files p) (all_pieces p pkg) [] no_piece
+
+abbrev pub AreInPass : Pass → PackagePieces → List ℕ → PiecesRead → Type 0
+AreInPass First p pkg now =
+    IsReading p.reader pkg now × InFirstPass p.reader.due p pkg now
+AreInPass OneFile p pkg now = (all : PiecesRead) × IsReading p.reader pkg all
+    × (now ≡ pieces_of_first all) × HasHandedOut p pkg
+AreInPass Over p pkg now = (now ≡ no_piece) × HasHandedOut p pkg
+
+-- these pieces are still to come
+abbrev pub IsPackageReading : PackagePieces → List ℕ → PiecesRead → Type 0
+IsPackageReading p pkg now = AreInPass p.pass p pkg now
+
+-- ---- inside
+
+-- so many files stand in front of the one with these positions, and its block stands there; or it
+-- has no contents
+abbrev pub IsBlockOf : ℕ → ℕ → List Expected → PiecesRead → List ℕ → Option (ℕ × ℕ) → Type 0
+IsBlockOf path file es all pkg None = pieces_of_file path file all ≡ no_piece
+IsBlockOf path file es all pkg (Some (k, block)) = (block ≤ length pkg)
+    × (pieces_of_file path file all ≡ pieces_of_first (pieces_from_block (drop k es) block pkg))
+
+-- the block of the file with these positions stands there; or it has no contents
+abbrev pub IsPlaceOf : ℕ → ℕ → PiecesRead → List ℕ → Option BlockPlace → Type 0
+IsPlaceOf path file all pkg None = pieces_of_file path file all ≡ no_piece
+IsPlaceOf path file all pkg (Some place) =
+    pieces_of_file path file all ≡ pieces_of_first (pieces_at place pkg)

@@ -1,0 +1,158 @@
+-- Where a reader of the pieces of a package stands, and what a call of it answers.
+use Rattle.std.specs.Prelude.{◌≡◌, ◌≤◌, ℕ, if◌then◌else◌, List, [], ◌∷◌, length, Option, Some, None, Result, Ok, Err}
+use Rattle.base_core.specs.declared.cause.Cause.{Cause}
+use Rattle.pkg_core.specs.Contents.{Expected}
+use Rattle.pkg_core.specs.Opened.{expected_of, left_in}
+use Rattle.pkg_core.specs.declared.walk.Walk.{Walk}
+use Rattle.piece_core.specs.Pieces.{PiecesRead, no_piece, part_of, piece, refusal}
+use Rattle.piece_core.specs.Places.{pieces_at}
+use Rattle.piece_core.specs.declared.part.Part.{Part}
+use Rattle.piece_core.specs.declared.place.BlockPlace.{BlockPlace}
+use Rattle.piece_reader.specs.Blocks.{pieces_from_block}
+use Rattle.piece_reader.specs.Opened.{IsOpenFile}
+use Rattle.piece_reader.specs.declared.fault.PieceFault.{PieceFault}
+use Rattle.piece_reader.specs.declared.fault.PieceFault.TheVariants.{Bad, Disk}
+use Rattle.piece_reader.specs.declared.files.FoundFile.{FoundFile}
+use Rattle.piece_reader.specs.declared.open.OpenFile.{OpenFile}
+use Rattle.piece_reader.specs.declared.reader.Due.{Due}
+use Rattle.piece_reader.specs.declared.reader.Due.TheVariants.{Files, Nothing, Refused}
+use Rattle.piece_reader.specs.declared.reader.PieceReader.{PieceReader}
+
+-- ---- what a reader shows
+
+-- the name of its package
+abbrev pub name_in_tree : PieceReader → List ℕ
+name_in_tree reader = reader.name.now
+
+-- how many bytes its package has
+abbrev pub package_len : PieceReader → ℕ
+package_len reader = reader.place.len
+
+-- the offset of the byte that is read next
+abbrev pub offset_in : BlockPlace → Option OpenFile → ℕ
+offset_in place None = place.at
+offset_in place (Some o) = o.at
+
+abbrev pub offset_of : PieceReader → ℕ
+offset_of reader = offset_in reader.place reader.opened
+
+-- the files whose last piece is still to come
+abbrev pub due_in : BlockPlace → Option OpenFile → List Expected
+due_in place None = left_in place.walk
+due_in place (Some o) = expected_of o.file.wanted ∷ left_in place.walk
+
+abbrev pub due_by : Due → BlockPlace → Option OpenFile → List Expected
+due_by Files place opened = due_in place opened
+due_by Nothing place opened = []
+due_by (Refused c) place opened = []
+
+abbrev pub due_files : PieceReader → List Expected
+due_files reader = due_by reader.due reader.place reader.opened
+
+-- no test failed, and the last block was not passed
+abbrev pub IsGoingOn : PieceReader → Type 0
+IsGoingOn reader = reader.due ≡ Files
+
+-- ---- what is still to come, of a package of these bytes
+
+abbrev pub ArePiecesFrom : BlockPlace → Option OpenFile → List ℕ → PiecesRead → Type 0
+ArePiecesFrom place None pkg pieces = pieces ≡ pieces_at place pkg
+ArePiecesFrom place (Some o) pkg pieces =
+    (so_far : List ℕ) × IsOpenFile o so_far pkg (pieces_at place pkg) pieces
+
+abbrev pub AreLeft : Due → BlockPlace → Option OpenFile → List ℕ → PiecesRead → Type 0
+AreLeft Files place opened pkg pieces = ArePiecesFrom place opened pkg pieces
+AreLeft Nothing place opened pkg pieces = pieces ≡ no_piece
+AreLeft (Refused c) place opened pkg pieces = pieces ≡ refusal c
+
+-- these pieces are still to come
+abbrev pub IsReading : PieceReader → List ℕ → PiecesRead → Type 0
+IsReading reader pkg pieces = AreLeft reader.due reader.place reader.opened pkg pieces
+
+-- ---- what is answered
+
+-- these bytes are the next piece, and what is left is still to come; no piece is left; or the first
+-- failed test, which is told from then on
+abbrev pub AnswersNext : (PiecesRead → Type 0) → PiecesRead → List ℕ
+    → Result (Option Part) PieceFault → Type 0
+AnswersNext AreToCome before bytes (Ok (Some part)) =
+    (after : PiecesRead) × (before ≡ piece part bytes after) × AreToCome after
+AnswersNext AreToCome before bytes (Ok None) = (before ≡ no_piece) × AreToCome no_piece
+AnswersNext AreToCome before bytes (Err (Bad c)) = (before ≡ refusal c) × AreToCome (refusal c)
+AnswersNext AreToCome before bytes (Err Disk) = Unit {0}
+
+-- the piece is one of the first file that is due, and this one is due until its last piece came
+pub record IsOfFirstDue (before : List Expected) (part : Part)
+    (after : List Expected) : Type 0 where
+  pub first : Expected
+  pub others : List Expected
+  pub due : before ≡ first ∷ others
+  pub of_first : part ≡ part_of first part.last
+  pub left : after ≡ (if part.last then others else first ∷ others)
+
+-- the pieces come file by file; at the end no file is due
+abbrev pub ComesInOrder : List Expected → Option Part → List Expected → Type 0
+ComesInOrder before None after = before ≡ []
+ComesInOrder before (Some part) after = IsOfFirstDue before part after
+
+-- ---- the block of a file that is open
+
+-- from the block on at this offset, whose file is open, these pieces come; where none is open,
+-- those that are still to come
+abbrev pub AreFromBlock : Option OpenFile → List Expected → ℕ → List ℕ → PiecesRead → PiecesRead
+    → Type 0
+AreFromBlock None due block pkg pieces from = pieces ≡ from
+AreFromBlock (Some o) due block pkg pieces from = pieces_from_block due block pkg ≡ from
+
+-- the offset of the block is kept whose file a piece is a part of
+abbrev pub KeepsBlock : PieceReader → List ℕ → PiecesRead → Option Part → PieceReader → Type 0
+KeepsBlock old pkg before None new = Unit {0}
+KeepsBlock old pkg before (Some part) new = (from : PiecesRead)
+    → AreFromBlock old.opened (due_in old.place old.opened) old.block pkg before from
+    → pieces_from_block (due_in old.place old.opened) new.block pkg ≡ from
+
+-- ---- inside
+
+-- the next file that was found, and the walk behind it; None where none is due
+abbrev pub FindsFile : Walk → Option FoundFile → Walk → Type 0
+FindsFile before None after = left_in before ≡ []
+FindsFile before (Some found) after =
+    left_in before ≡ expected_of found.file.file.wanted ∷ left_in after
+
+-- the next file was found: its contents begin, and the pieces behind them come from where the
+-- reader stands then; no piece is left; or the first failed test
+abbrev pub IsFileFound : BlockPlace → List ℕ → Result (Option FoundFile) PieceFault → BlockPlace
+    → Type 0
+IsFileFound before pkg (Ok None) after = pieces_at before pkg ≡ no_piece
+IsFileFound before pkg (Ok (Some found)) after =
+    IsOpenFile found.file [] pkg (pieces_at after pkg) (pieces_at before pkg)
+    × (pieces_at before pkg ≡ pieces_from_block (left_in before.walk) found.block pkg)
+IsFileFound before pkg (Err (Bad c)) after = pieces_at before pkg ≡ refusal c
+IsFileFound before pkg (Err Disk) after = Unit {0}
+
+-- the same of a file that is open already or is the next one
+abbrev pub IsFileOpened : PieceReader → List ℕ → PiecesRead
+    → Result (Option OpenFile) PieceFault → PieceReader → Type 0
+IsFileOpened old pkg before (Ok None) new = before ≡ no_piece
+IsFileOpened old pkg before (Ok (Some o)) new =
+    ((so_far : List ℕ) × IsOpenFile o so_far pkg (pieces_at new.place pkg) before)
+    × ((from : PiecesRead)
+    → AreFromBlock old.opened (due_in old.place old.opened) old.block pkg before from
+    → pieces_from_block (due_in old.place old.opened) new.block pkg ≡ from)
+IsFileOpened old pkg before (Err (Bad c)) new = before ≡ refusal c
+IsFileOpened old pkg before (Err Disk) new = Unit {0}
+
+-- as AnswersNext, but for what comes after a failed test
+abbrev pub IsPieceRead : PieceReader → List ℕ → PiecesRead → List ℕ
+    → Result (Option Part) PieceFault → Type 0
+IsPieceRead new pkg before bytes (Ok (Some part)) = (after : PiecesRead)
+    × (before ≡ piece part bytes after) × ArePiecesFrom new.place new.opened pkg after
+IsPieceRead new pkg before bytes (Ok None) = before ≡ no_piece
+IsPieceRead new pkg before bytes (Err (Bad c)) = before ≡ refusal c
+IsPieceRead new pkg before bytes (Err Disk) = Unit {0}
+
+-- the files that are due, by the file that was opened
+abbrev pub OpensDue : List Expected → Option OpenFile → BlockPlace → Type 0
+OpensDue before None place = before ≡ []
+OpensDue before (Some o) place =
+    before ≡ expected_of o.file.wanted ∷ left_in place.walk

@@ -1,0 +1,215 @@
+//! The pieces of a package in passes: of all its files, and then of single ones once more.
+
+ghost use Rattle.std.specs.Prelude.{◌≡◌, ◌≤◌, ◌+◌, ℕ, List, Ok, None, drop, length, IfOk, IfSome};
+ghost use Rattle.adb_block.specs.Reading.{reading_of};
+ghost use Rattle.pkg_core.specs.Contents.{expected_contents};
+ghost use Rattle.pkg_core.specs.Opened.{left_in};
+ghost use Rattle.piece_core.specs.Pieces.{PiecesRead, pieces_by_blocks, refusal_in};
+ghost use Rattle.pkg_pieces.specs.Front.{behind_front, front_end, front_file_len};
+ghost use Rattle.pkg_pieces.specs.Seen.{HasAt, IsSeenIn, ReadsFile};
+ghost use Rattle.pkg_pieces.specs.Values.{value_of_contents};
+ghost use Rattle.piece_reader.specs.Readers.{AnswersNext};
+ghost use Rattle.piece_reader.specs.Passes.{HasEnded, HasHandedOut, IsBlockOf, IsPackageReading, IsPlaceOf, all_pieces, len_of_package, name_of_package, next_offset_of, pieces_of_file};
+ghost use Rattle.piece_reader.specs.declared.fault.PieceFault.TheVariants.{Disk as DiskFault};
+
+use crate::fault::PieceFault;
+use crate::piece::Piece;
+use crate::reader::PieceReader;
+use adb_block::BlockKind;
+use base_core::{Name, Tree};
+use piece_core::{BlockPlace, Part};
+use pkg_core::Walk;
+use pkg_pieces::{Contents, Front};
+use std::alloc::{AllocError, Global};
+
+/// Which pieces are handed out.
+#[derive(Clone, Copy)]
+pub(crate) enum Pass {
+    /// Those of all files, for the first time.
+    First,
+    /// Those of one file, once more.
+    OneFile,
+    /// None.
+    Over,
+}
+
+/// The contents of a package's files in pieces: first of all files in the order of the package, and
+/// then of each file that `go_to` names. It keeps one number for each file. Contracts see, by
+/// `Passes` of `specs/`, which pieces of a package are still to come.
+#[derive(Drop)]
+pub struct PackagePieces<'a> {
+    pub(crate) contents: &'a Contents<'a>,
+    pub(crate) start: u64,
+    pub(crate) reader: PieceReader<'a>,
+    pub(crate) blocks: Vec<u64>,
+    pub(crate) pass: Pass,
+}
+
+impl<'a> PackagePieces<'a> {
+    /// A reader in front of the first piece of the package of this name, whose front and values
+    /// were read. Only this call takes memory: a number for each file with contents.
+    pub fn new(
+        alloc: Global,
+        front: &Front,
+        contents: &'a Contents<'a>,
+        name: &'a Name,
+    ) -> Result<PackagePieces<'a>, AllocError>
+        ensures name { IfOk result (λ pieces. name_of_package pieces ≡ name.entry.now) }
+        ensures len { IfOk result (λ pieces. len_of_package pieces ≡ front_file_len front.now) }
+        ensures offset { IfOk result (λ pieces. next_offset_of pieces ≡ front_end front.now) }
+        ensures all { IfOk result (λ pieces. (pkg : List ℕ) → all_pieces pieces pkg
+            ≡ pieces_by_blocks (expected_contents (value_of_contents contents.entry.now))
+            (reading_of (behind_front front.now pkg))) }
+        ensures pieces { IfOk result (λ pieces. (pkg : List ℕ)
+            → IsPackageReading pieces pkg (all_pieces pieces pkg)) }
+    {
+        let count = count_files(contents)?;
+        let blocks = Vec::with_capacity(alloc, count)?;
+        Ok(PackagePieces {
+            contents,
+            start: front.end(),
+            reader: PieceReader::new(front, contents, name),
+            blocks,
+            pass: Pass::First,
+        })
+    }
+
+    /// Reads the next piece, and gives which part of which file it is. None comes exactly behind
+    /// the last block, and after `go_to` behind the last piece of the file. The pieces of a file
+    /// have 65,536 bytes each, and the last one 1 to 65,536. The tree stays as it is, whatever the
+    /// answer.
+    ///
+    /// # Errors
+    ///
+    /// `Bad` with the first failed test, and again from then on: the order and the size of a file
+    /// are tested before its first piece, its digest before its last one is handed out. `Disk`
+    /// where the tree failed; then the reader may only be dropped.
+    pub fn next_piece<T: Tree>(
+        &mut self,
+        tree: &mut T,
+        piece: &mut Piece,
+    ) -> Result<Option<Part>, PieceFault>
+        // Of each package that is so long and has the bytes that were seen.
+        ensures piece { (seen : List ℕ)
+            × IsSeenIn (T.history tree.old) (name_of_package self.old) (len_of_package self.old)
+            (next_offset_of self.old) seen
+            × ((pkg : List ℕ) → length pkg ≡ len_of_package self.old
+            → HasAt pkg (next_offset_of self.old) seen
+            → (before : PiecesRead) → IsPackageReading self.old pkg before
+            → AnswersNext (IsPackageReading self.new pkg) before piece.new result) }
+        ensures end { result ≡ Ok None → HasEnded self.new }
+        ensures ended { HasEnded self.old → HasEnded self.new }
+        ensures all { (pkg : List ℕ) → all_pieces self.new pkg ≡ all_pieces self.old pkg }
+        ensures name { name_of_package self.new ≡ name_of_package self.old }
+        ensures len { len_of_package self.new ≡ len_of_package self.old }
+        ensures tree { ReadsFile (name_of_package self.old) (len_of_package self.old) DiskFault
+            (T.history tree.old) (T.history tree.new) (T.counts tree.old) (T.counts tree.new)
+            result }
+    {
+        if let Pass::Over = self.pass {
+            return Ok(None);
+        }
+        let Some(part) = self.reader.next_piece(tree, piece)? else {
+            self.pass = Pass::Over;
+            return Ok(None);
+        };
+        if part.last {
+            self.finish_file();
+        }
+        Ok(Some(part))
+    }
+
+    /// Goes on behind the last piece of a file.
+    fn finish_file(&mut self) {
+        if let Pass::First = self.pass {
+            // There is room for each file.
+            let _ = self.blocks.push(self.reader.block);
+        } else {
+            self.pass = Pass::Over;
+        }
+    }
+
+    /// Goes to the file with these positions. From then on its pieces come, tested as before, and
+    /// then None; None alone where it has no contents.
+    pub fn go_to(&mut self, path: u32, file: u32)
+        requires { HasEnded self.old }
+        ensures pieces { (pkg : List ℕ) → length pkg ≡ len_of_package self.old
+            → (before : PiecesRead) → IsPackageReading self.old pkg before
+            → IsPackageReading self.new pkg (pieces_of_file path file (all_pieces self.old pkg)) }
+        // No test of it fails in a package of the bytes that were read before.
+        ensures good { (pkg : List ℕ) (before : PiecesRead) → IsPackageReading self.old pkg before
+            → refusal_in (pieces_of_file path file (all_pieces self.old pkg)) ≡ None }
+        ensures ended { HasEnded self.new }
+        ensures all { (pkg : List ℕ) → all_pieces self.new pkg ≡ all_pieces self.old pkg }
+        ensures name { name_of_package self.new ≡ name_of_package self.old }
+        ensures len { len_of_package self.new ≡ len_of_package self.old }
+    {
+        match self.place_of(path, file) {
+            Some(place) => {
+                self.reader = PieceReader::in_front_of(self.reader.name, place);
+                self.pass = Pass::OneFile;
+            }
+            None => self.pass = Pass::Over,
+        }
+    }
+
+    /// In front of the block of the file with these positions; None where it has no contents.
+    fn place_of(&self, path: u32, file: u32) -> Option<BlockPlace<'a>>
+        ensures within { IfSome result (λ place. place.at ≤ place.len) }
+        ensures len { IfSome result (λ place. place.len ≡ len_of_package self.now) }
+        ensures place { (pkg : List ℕ) → length pkg ≡ len_of_package self.now
+            → HasHandedOut self.now pkg
+            → IsPlaceOf path file (all_pieces self.now pkg) pkg result }
+    {
+        let (k, block) = self.block_of(path, file)?;
+        let len = self.reader.place.len;
+        Some(BlockPlace {
+            len,
+            walk: walk_behind(self.contents, k),
+            last: BlockKind::Contents,
+            at: block.min(len),
+        })
+    }
+
+    /// How many files stand in front of the one with these positions, and the offset of its block;
+    /// None where it has no contents.
+    fn block_of(&self, path: u32, file: u32) -> Option<(usize, u64)>
+        ensures { (pkg : List ℕ) → HasHandedOut self.now pkg
+            → IsBlockOf path file (expected_contents (value_of_contents self.now.contents.now))
+            (all_pieces self.now pkg) pkg result }
+    {
+        let mut walk = Walk::new(self.contents.view().paths());
+        for (k, block) in self.blocks.iter().enumerate() {
+            let wanted = walk.next()?;
+            if wanted.folder == path && wanted.file == file {
+                return Some((k, *block));
+            }
+        }
+        None
+    }
+}
+
+/// How many files of a package have contents. No memory holds a number for each of 2^64.
+fn count_files(contents: &Contents<'_>) -> Result<usize, AllocError>
+    ensures { IfOk result (λ count.
+        count ≡ length (expected_contents (value_of_contents contents.now))) }
+{
+    let mut walk = Walk::new(contents.view().paths());
+    let mut count: usize = 0;
+    while walk.next().is_some() {
+        count = count.checked_add(1).ok_or(AllocError)?;
+    }
+    Ok(count)
+}
+
+/// The walk over the files of a package, behind so many of them.
+fn walk_behind<'a>(contents: &Contents<'a>, count: usize) -> Walk<'a>
+    ensures { left_in result
+        ≡ drop count (expected_contents (value_of_contents contents.entry.now)) }
+{
+    let mut walk = Walk::new(contents.view().paths());
+    for _ in 0..count {
+        walk.next();
+    }
+    walk
+}

@@ -1,0 +1,243 @@
+//! A reader of the pieces of a package's files, one after the other.
+
+ghost use Rattle.std.specs.Prelude.{◌≤◌};
+ghost use Rattle.piece_reader.specs.Opened.{open_end};
+
+use crate::fault::PieceFault;
+use crate::files::next_file;
+use crate::open::OpenFile;
+use crate::piece::Piece;
+use adb_block::BlockKind;
+use base_core::{Cause, Name, Tree};
+use piece_core::{BlockPlace, Part};
+use pkg_core::Walk;
+use pkg_pieces::{Contents, Front};
+
+/// What is still to come.
+#[derive(Clone, Copy)]
+pub(crate) enum Due {
+    /// The pieces of the files that are left.
+    Files,
+    /// Nothing: the last block was passed.
+    Nothing,
+    /// A test failed.
+    Refused(Cause),
+}
+
+/// A reader of the contents of a package's files in pieces, block by block in the order of the
+/// package. It takes no memory. Contracts see, by `Readers` of `specs/`, which pieces of a package
+/// are still to come, and the offset from which on it is read.
+#[derive(Drop)]
+pub struct PieceReader<'a> {
+    pub(crate) name: &'a Name,
+    pub(crate) place: BlockPlace<'a>,
+    pub(crate) opened: Option<OpenFile<'a>>,
+    pub(crate) block: u64,
+    pub(crate) due: Due,
+    ghost within: { place.at ≤ place.len },
+    ghost behind: { open_end opened ≤ place.at },
+    ghost begun: { block ≤ place.len },
+}
+
+impl<'a> PieceReader<'a> {
+    ghost use Rattle.std.specs.Prelude.{◌≡◌, ◌+◌, ℕ, List, None, length, IfOk, IfSome, OnSome};
+    ghost use Rattle.adb_block.specs.Reading.{reading_of};
+    ghost use Rattle.pkg_core.specs.Contents.{expected_contents};
+    ghost use Rattle.pkg_core.specs.Opened.{left_in};
+    ghost use Rattle.piece_core.specs.Pieces.{PiecesRead, pieces_by_blocks};
+    ghost use Rattle.piece_core.specs.Taking.{file_bytes_left};
+    ghost use Rattle.pkg_pieces.specs.Front.{behind_front, front_end, front_file_len};
+    ghost use Rattle.pkg_pieces.specs.Seen.{HasAt, IsSeenIn, ReadsFile};
+    ghost use Rattle.pkg_pieces.specs.Values.{value_of_contents};
+    ghost use Rattle.piece_reader.specs.Readers.{AnswersNext, ArePiecesFrom, ComesInOrder, IsFileOpened, IsGoingOn, IsPieceRead, IsReading, KeepsBlock, OpensDue, due_files, due_in, name_in_tree, offset_of, package_len};
+    ghost use Rattle.piece_reader.specs.declared.reader.Due.TheVariants.{Files};
+    ghost use Rattle.piece_reader.specs.declared.fault.PieceFault.TheVariants.{Disk as DiskFault};
+
+    /// A reader in front of the first piece of the package of this name, whose front and values
+    /// were read.
+    pub fn new(front: &Front, contents: &Contents<'a>, name: &'a Name) -> PieceReader<'a>
+        ensures name { name_in_tree result ≡ name.entry.now }
+        ensures len { package_len result ≡ front_file_len front.now }
+        ensures offset { offset_of result ≡ front_end front.now }
+        ensures files { due_files result ≡ expected_contents (value_of_contents contents.entry.now) }
+        // What is to come are the pieces of the blocks behind the front.
+        ensures pieces { (pkg : List ℕ) → IsReading result pkg
+            (pieces_by_blocks (expected_contents (value_of_contents contents.entry.now))
+            (reading_of (behind_front front.now pkg))) }
+    {
+        let place = BlockPlace {
+            len: front.file_len(),
+            walk: Walk::new(contents.view().paths()),
+            last: BlockKind::Adb,
+            at: front.end(),
+        };
+        PieceReader::in_front_of(name, place)
+    }
+
+    /// A reader in front of the block at a place.
+    pub(crate) fn in_front_of(name: &'a Name, place: BlockPlace<'a>) -> PieceReader<'a>
+        requires { place.at ≤ place.len }
+        ensures name { name_in_tree result ≡ name.entry.now }
+        ensures place { result.place ≡ place.entry }
+        ensures opened { result.opened ≡ None }
+        ensures due { result.due ≡ Files }
+    {
+        PieceReader {
+            name,
+            place,
+            opened: None,
+            block: 0,
+            due: Due::Files,
+        }
+    }
+
+    /// Reads the next piece, and gives which part of which file it is; None comes exactly behind
+    /// the last block. The pieces of a file have 65,536 bytes each, and the last one 1 to 65,536.
+    /// The tree stays as it is, whatever the answer.
+    ///
+    /// # Errors
+    ///
+    /// `Bad` with the first failed test, and again from then on: the order and the size of a file
+    /// are tested before its first piece, its digest before its last one is handed out. `Disk`
+    /// where the tree failed; then the reader may only be dropped.
+    pub fn next_piece<T: Tree>(
+        &mut self,
+        tree: &mut T,
+        piece: &mut Piece,
+    ) -> Result<Option<Part>, PieceFault>
+        // Of each package that is so long and has the bytes that were seen, from where the reader
+        // stood to where it stands then.
+        ensures piece { (seen : List ℕ)
+            × IsSeenIn (T.history tree.old) (name_in_tree self.old) (package_len self.old)
+            (offset_of self.old) seen
+            × IfOk result (λ found. IfSome found (λ _.
+            offset_of self.old + length seen ≡ offset_of self.new))
+            × ((pkg : List ℕ) → length pkg ≡ package_len self.old
+            → HasAt pkg (offset_of self.old) seen
+            → (before : PiecesRead) → IsReading self.old pkg before
+            → AnswersNext (IsReading self.new pkg) before piece.new result
+            × IfOk result (λ found. KeepsBlock self.old pkg before found self.new)) }
+        ensures order { IfOk result (λ found.
+            ComesInOrder (due_files self.old) found (due_files self.new)) }
+        ensures goes_on { IfOk result (λ found. OnSome found
+            (IsGoingOn self.old × IsGoingOn self.new)) }
+        ensures name { name_in_tree self.new ≡ name_in_tree self.old }
+        ensures len { package_len self.new ≡ package_len self.old }
+        ensures tree { ReadsFile (name_in_tree self.old) (package_len self.old) DiskFault
+            (T.history tree.old) (T.history tree.new) (T.counts tree.old) (T.counts tree.new)
+            result }
+    {
+        match self.due {
+            Due::Files => self.read_due(tree, piece),
+            Due::Nothing => Ok(None),
+            Due::Refused(cause) => Err(PieceFault::Bad(cause)),
+        }
+    }
+
+    /// Reads the next piece, where files are left.
+    fn read_due<T: Tree>(
+        &mut self,
+        tree: &mut T,
+        piece: &mut Piece,
+    ) -> Result<Option<Part>, PieceFault>
+        requires { IsGoingOn self.old }
+        ensures piece { (seen : List ℕ)
+            × IsSeenIn (T.history tree.old) (name_in_tree self.old) (package_len self.old)
+            (offset_of self.old) seen
+            × IfOk result (λ found. IfSome found (λ _.
+            offset_of self.old + length seen ≡ offset_of self.new))
+            × ((pkg : List ℕ) → length pkg ≡ package_len self.old
+            → HasAt pkg (offset_of self.old) seen
+            → (before : PiecesRead) → IsReading self.old pkg before
+            → AnswersNext (IsReading self.new pkg) before piece.new result
+            × IfOk result (λ found. KeepsBlock self.old pkg before found self.new)) }
+        ensures order { IfOk result (λ found.
+            ComesInOrder (due_files self.old) found (due_files self.new)) }
+        ensures goes_on { IfOk result (λ found. OnSome found
+            (IsGoingOn self.old × IsGoingOn self.new)) }
+        ensures name { name_in_tree self.new ≡ name_in_tree self.old }
+        ensures len { package_len self.new ≡ package_len self.old }
+        ensures tree { ReadsFile (name_in_tree self.old) (package_len self.old) DiskFault
+            (T.history tree.old) (T.history tree.new) (T.counts tree.old) (T.counts tree.new)
+            result }
+    {
+        match self.read_next(tree, piece) {
+            Ok(Some(part)) => Ok(Some(part)),
+            Ok(None) => {
+                self.due = Due::Nothing;
+                Ok(None)
+            }
+            Err(PieceFault::Bad(cause)) => {
+                self.due = Due::Refused(cause);
+                Err(PieceFault::Bad(cause))
+            }
+            Err(PieceFault::Disk) => Err(PieceFault::Disk),
+        }
+    }
+
+    /// Reads the next piece of the file that is open, or of the next one.
+    fn read_next<T: Tree>(
+        &mut self,
+        tree: &mut T,
+        piece: &mut Piece,
+    ) -> Result<Option<Part>, PieceFault>
+        ensures piece { (seen : List ℕ)
+            × IsSeenIn (T.history tree.old) (name_in_tree self.old) (package_len self.old)
+            (offset_of self.old) seen
+            × IfOk result (λ found. IfSome found (λ _.
+            offset_of self.old + length seen ≡ offset_of self.new))
+            × ((pkg : List ℕ) → length pkg ≡ package_len self.old
+            → HasAt pkg (offset_of self.old) seen
+            → (before : PiecesRead) → ArePiecesFrom self.old.place self.old.opened pkg before
+            → IsPieceRead self.new pkg before piece.new result
+            × IfOk result (λ found. KeepsBlock self.old pkg before found self.new)) }
+        ensures order { IfOk result (λ found. ComesInOrder
+            (due_in self.old.place self.old.opened) found (due_in self.new.place self.new.opened)) }
+        ensures due { self.new.due ≡ self.old.due }
+        ensures name { name_in_tree self.new ≡ name_in_tree self.old }
+        ensures len { package_len self.new ≡ package_len self.old }
+        ensures tree { ReadsFile (name_in_tree self.old) (package_len self.old) DiskFault
+            (T.history tree.old) (T.history tree.new) (T.counts tree.old) (T.counts tree.new)
+            result }
+    {
+        let Some(file) = self.open_next(tree)? else {
+            return Ok(None);
+        };
+        let (part, rest) = file.next_piece(tree, self.name, piece)?;
+        self.opened = rest;
+        Ok(Some(part))
+    }
+
+    /// The file that is open, or the next one; None behind the last block.
+    fn open_next<T: Tree>(&mut self, tree: &mut T) -> Result<Option<OpenFile<'a>>, PieceFault>
+        ensures file { (seen : List ℕ)
+            × IsSeenIn (T.history tree.old) (name_in_tree self.old) (package_len self.old)
+            (offset_of self.old) seen
+            × IfOk result (λ found. IfSome found (λ file.
+            offset_of self.old + length seen ≡ file.at))
+            × ((pkg : List ℕ) → length pkg ≡ package_len self.old
+            → HasAt pkg (offset_of self.old) seen
+            → (before : PiecesRead) → ArePiecesFrom self.old.place self.old.opened pkg before
+            → IsFileOpened self.old pkg before result self.new) }
+        ensures opens { IfOk result (λ found.
+            OpensDue (due_in self.old.place self.old.opened) found self.new.place) }
+        ensures room { IfOk result (λ found. IfSome found (λ file.
+            file.at + file_bytes_left file.file ≤ self.new.place.at)) }
+        ensures opened { self.new.opened ≡ None }
+        ensures due { self.new.due ≡ self.old.due }
+        ensures name { name_in_tree self.new ≡ name_in_tree self.old }
+        ensures len { package_len self.new ≡ package_len self.old }
+        ensures tree { ReadsFile (name_in_tree self.old) (package_len self.old) DiskFault
+            (T.history tree.old) (T.history tree.new) (T.counts tree.old) (T.counts tree.new)
+            result }
+    {
+        if let Some(file) = self.opened.take() {
+            return Ok(Some(file));
+        }
+        let Some(found) = next_file(tree, self.name, &mut self.place)? else {
+            return Ok(None);
+        };
+        self.block = found.block;
+        Ok(Some(found.file))
+    }
+}
