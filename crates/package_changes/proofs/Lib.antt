@@ -1,0 +1,4 @@
+mod Lists
+mod NamesInOrder
+mod NameTable
+mod PlacedLaws

@@ -5,7 +5,9 @@
 #![tactic(auto)]
 
 mod change;
+mod changes;
 mod names;
 mod selected;
 
 pub use change::{Change, PlacedChange};
+pub use changes::{Changes, changes};
