@@ -2,3 +2,4 @@ mod Lists
 mod NamesInOrder
 mod NameTable
 mod PlacedLaws
+mod ReportLines

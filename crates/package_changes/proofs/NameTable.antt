@@ -43,16 +43,13 @@ pub one_more_name : (key : Bor (List ℕ)) (other : List ℕ) (place : ℕ) (es 
 one_more_name key other place [] h = refl
 one_more_name key other place (e ∷ es) h = go (bytes_eq key.now e.0.now) refl (one_more_name key other place es)
   where
-    abbrev Added : Entries → Type 0
-    Added z = place_beside other (names_and_places z) ≡ or_place (place_beside other (names_and_places (e ∷ es))) (if bytes_eq key.now other then Some place else None)
-
     behind : (t : Bool) (o p : Option ℕ) → o ≡ or_place p (if bytes_eq key.now other then Some place else None) → (if t then Some e.1 else o) ≡ or_place (if t then Some e.1 else p) (if bytes_eq key.now other then Some place else None)
     behind true o p is = refl
     behind false o p is = is
 
     go : (t : Bool) → bytes_eq key.now e.0.now ≡ t
         → (None ≡ lookup (is_key key.now) es → place_beside other (names_and_places (insert_entry (λ (a b : Bor (List ℕ)). bytes_eq a.now b.now) es key place)) ≡ or_place (place_beside other (names_and_places es)) (if bytes_eq key.now other then Some place else None))
-        → Added (if t then (e.0, place) ∷ es else e ∷ insert_entry (λ (a b : Bor (List ℕ)). bytes_eq a.now b.now) es key place)
+        → place_beside other (names_and_places (if t then (e.0, place) ∷ es else e ∷ insert_entry (λ (a b : Bor (List ℕ)). bytes_eq a.now b.now) es key place)) ≡ or_place (place_beside other (names_and_places (e ∷ es))) (if bytes_eq key.now other then Some place else None)
     go true g more =
         let bad : None ≡ Some e.1 = h ∙ ap (λ t. if t then Some e.1 else lookup (is_key key.now) es) g in absurd (cc)
     go false g more =

@@ -45,18 +45,18 @@ another x y ys e =
 
 kept_from : (x : Bor (List ℕ)) (xs : List (Bor (List ℕ))) → map (λ n. n.now) (dedup_from is_same_name x xs) ≡ without_repeats (x.now ∷ map (λ n. n.now) xs)
 kept_from x [] = refl
-kept_from x (y ∷ ys) = go (is_same_name y x) refl
+kept_from x (y ∷ ys) = go (is_same_name y x) refl (kept_from x ys) (kept_from y ys)
   where
-    seen : List (Bor (List ℕ)) → List (List ℕ)
-    seen = map (λ n. n.now)
-
-    go : (t : Bool) → bytes_eq y.now x.now ≡ t → seen (cond t (dedup_from is_same_name x ys) (x ∷ dedup_from is_same_name y ys)) ≡ without_repeats (x.now ∷ (y.now ∷ seen ys))
-    go true e =
-        kept_from x ys
-        ∙ (ap (λ z. without_repeats (z ∷ seen ys)) (sym ((bytes_decides y.now x.now).0 e))
-        ∙ sym (repeated x.now y.now (seen ys) (same_either_way x.now y.now ∙ e)))
-    go false e =
-        ap (λ z. x.now ∷ z) (kept_from y ys) ∙ sym (another x.now y.now (seen ys) (same_either_way x.now y.now ∙ e))
+    go : (t : Bool) → bytes_eq y.now x.now ≡ t
+        → map (λ n. n.now) (dedup_from is_same_name x ys) ≡ without_repeats (x.now ∷ map (λ n. n.now) ys)
+        → map (λ n. n.now) (dedup_from is_same_name y ys) ≡ without_repeats (y.now ∷ map (λ n. n.now) ys)
+        → map (λ n. n.now) (cond t (dedup_from is_same_name x ys) (x ∷ dedup_from is_same_name y ys)) ≡ without_repeats (x.now ∷ (y.now ∷ map (λ n. n.now) ys))
+    go true e first second =
+        first
+        ∙ (ap (λ z. without_repeats (z ∷ map (λ n. n.now) ys)) (sym ((bytes_decides y.now x.now).0 e))
+        ∙ sym (repeated x.now y.now (map (λ n. n.now) ys) (same_either_way x.now y.now ∙ e)))
+    go false e first second =
+        ap (λ z. x.now ∷ z) second ∙ sym (another x.now y.now (map (λ n. n.now) ys) (same_either_way x.now y.now ∙ e))
 
 pub kept_once : (xs : List (Bor (List ℕ))) → map (λ n. n.now) (dedup is_same_name xs) ≡ without_repeats (map (λ n. n.now) xs)
 kept_once [] = refl

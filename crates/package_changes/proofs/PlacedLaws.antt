@@ -27,14 +27,14 @@ one_longer front x = length-append front (x ∷ [])
 
 at_position : {X : Type 0} (p : X → Bool) (front xs : List X) → option_and_then (slice_get (front ++ xs)) (position_from p (length front) xs) ≡ find p xs
 at_position p front [] = refl
-at_position p front (x ∷ xs) = go (p x) refl
+at_position p front (x ∷ xs) = go (p x) (at_position p (front ++ x ∷ []) xs)
   where
-    go : (t : Bool) → p x ≡ t → option_and_then (slice_get (front ++ x ∷ xs)) (cond t (Some (length front)) (position_from p (length front + 1) xs)) ≡ cond t (Some x) (find p xs)
-    go true e = slice_behind front x xs
-    go false e =
+    go : (t : Bool) → option_and_then (slice_get ((front ++ x ∷ []) ++ xs)) (position_from p (length (front ++ x ∷ [])) xs) ≡ find p xs
+        → option_and_then (slice_get (front ++ x ∷ xs)) (cond t (Some (length front)) (position_from p (length front + 1) xs)) ≡ cond t (Some x) (find p xs)
+    go true further = slice_behind front x xs
+    go false further =
         ap (λ z. option_and_then (slice_get z) (position_from p (length front + 1) xs)) (joined_one front x xs)
-        ∙ (ap (λ n. option_and_then (slice_get ((front ++ x ∷ []) ++ xs)) (position_from p n xs)) (sym (one_longer front x))
-        ∙ at_position p (front ++ x ∷ []) xs)
+        ∙ (ap (λ n. option_and_then (slice_get ((front ++ x ∷ []) ++ xs)) (position_from p n xs)) (sym (one_longer front x)) ∙ further)
 
 pub found_at_position : {X : Type 0} (p : X → Bool) (xs : List X) → option_and_then (slice_get xs) (position_from p 0 xs) ≡ find p xs
 found_at_position p xs = at_position p [] xs
@@ -62,7 +62,7 @@ change_alone None old new = refl
 change_alone (Some c) old new = refl
 
 one_change : (p : PlacedReplacement) (name : List ℕ) → option_map (λ (c : PlacedChange). c.change) (placed_change_of p name) ≡ change_of_name (replacement_of p) name
-unfolding placed_change_of, change_of_name
+unfolding placed_change_of change_of_name
 one_change p name =
     change_alone (change_between (list_any (bytes_eq name) p.again) name (option_and_then (slice_get p.before) (position_from (is_package_named name) 0 p.before)) (option_and_then (candidate_at p.pool) (selected_place p.pool p.trace name)))
     (position_from (is_package_named name) 0 p.before) (selected_place p.pool p.trace name)
@@ -80,7 +80,7 @@ mapped f g h same (a ∷ as) =
     ∙ (ap (λ o. cons_option o (map f (filter_map g as))) (same a) ∙ ap (cons_option (h a)) (mapped f g h same as))
 
 pub changes_alone : (p : PlacedReplacement) → map (λ (c : PlacedChange). c.change) (placed_changes_of p) ≡ changes_of (replacement_of p)
-unfolding placed_changes_of, changes_of
+unfolding placed_changes_of changes_of
 changes_alone p = mapped (λ (c : PlacedChange). c.change) (placed_change_of p) (change_of_name (replacement_of p)) (one_change p) (names_on_both_sides (replacement_of p))
 
 same_options : {A X : Type 0} (g h : A → Option X) → ((a : A) → g a ≡ h a) → (as : List A) → filter_map g as ≡ filter_map h as

@@ -41,8 +41,19 @@ pub struct PlacedChange<'a> {
     pub change: Change<'a>,
     /// The place in the database of the package before, counted from 0, if it was there.
     pub old: Option<usize>,
+    pub(crate) new: Option<u32>,
+}
+
+impl<'a> PlacedChange<'a> {
     /// The place of its candidate, if one is selected.
-    pub new: Option<CandId>,
+    pub fn new_place(&self) -> Option<CandId>
+        ensures { result ≡ self.now.new }
+    {
+        match self.new {
+            Some(place) => Some(CandId { place }),
+            None => None,
+        }
+    }
 }
 
 /// What is compared of a package of the database.

@@ -11,8 +11,9 @@ ghost use Rattle.package_changes.specs.SelectedNames.{change_at};
 ghost use Rattle.pool_core.specs.Candidates.{Candidate as CandidateValue};
 ghost use Rattle.pool_core.specs.Rank.{candidate_at};
 ghost use Rattle.pool_core.specs.Values.{candidate_value};
+ghost use Rattle.std.specs.Option.{ForSome};
 ghost use Rattle.std.specs.List.{filter_map, list_any, position_from};
-ghost use Rattle.std.specs.Prelude.{◌≡◌, ◌<◌, ◌==◌, ◌++◌, Some, length, map, bytes_eq, option_map, option_and_then, option_to_list, slice_get, ForSome, IfOk, OnOk};
+ghost use Rattle.std.specs.Prelude.{◌≡◌, ◌<◌, ◌==◌, ◌++◌, Some, length, map, bytes_eq, option_map, option_and_then, option_to_list, slice_get, IfOk, OnOk};
 
 use crate::change::{Change, PlacedChange, install, purge, replace};
 use crate::names::names_in_order;
@@ -32,6 +33,28 @@ pub struct Changes<'a> {
 }
 
 impl<'a> Changes<'a> {
+    /// What becomes of each package where the candidates of a selection take the place of the packages of
+    /// a database, and some names are to be installed again. It takes time in proportion to n log n in
+    /// the number of packages and candidates, and to the names that are to be installed again for each
+    /// package that stays.
+    pub fn of(
+        alloc: Global,
+        db: &Db<'a>,
+        pool: &Sealed<'a>,
+        trace: &Trace,
+        again: &Words,
+    ) -> Result<Changes<'a>, AllocError>
+        ensures changes { IfOk result (λ changes. map (λ c. c.change) (changes_seen changes)
+            ≡ changes_of (replacement_of (replacement_by db.now pool.now trace.now again.now))) }
+        ensures places { IfOk result (λ changes. changes_seen changes
+            ≡ placed_changes_of (replacement_by db.now pool.now trace.now again.now)) }
+    {
+        let selected = SelectedNames::of(alloc, pool, trace)?;
+        let names = names_on_both_sides(alloc, db, pool, trace)?;
+        let list = changes_of_names(alloc, db, pool, again, &selected, &names)?;
+        Ok(Changes { list })
+    }
+
     /// How many there are.
     pub fn len(&self) -> usize
         ensures { result ≡ length (changes_seen self.now) }
@@ -53,28 +76,6 @@ impl<'a> Changes<'a> {
     {
         &self.list[i]
     }
-}
-
-/// What becomes of each package where the candidates of a selection take the place of the packages of
-/// a database, and some names are to be installed again. It takes time in proportion to n log n in
-/// the number of packages and candidates, and to the names that are to be installed again for each
-/// package that stays.
-pub fn changes<'a>(
-    alloc: Global,
-    db: &Db<'a>,
-    pool: &Sealed<'a>,
-    trace: &Trace,
-    again: &Words,
-) -> Result<Changes<'a>, AllocError>
-    ensures changes { IfOk result (λ changes. map (λ c. c.change) (changes_seen changes)
-        ≡ changes_of (replacement_of (replacement_by db.now pool.now trace.now again.now))) }
-    ensures places { IfOk result (λ changes. changes_seen changes
-        ≡ placed_changes_of (replacement_by db.now pool.now trace.now again.now)) }
-{
-    let selected = SelectedNames::of(alloc, pool, trace)?;
-    let names = names_on_both_sides(alloc, db, pool, trace)?;
-    let list = changes_of_names(alloc, db, pool, again, &selected, &names)?;
-    Ok(Changes { list })
 }
 
 /// The names of the packages of a database and of the selected candidates, in byte order.
@@ -172,46 +173,32 @@ fn changes_of_names<'a>(
 {
     let mut list = Vec::new(alloc);
     for name in names {
-        let change = placed_change(db, pool, again, name, selected.place_of(name));
-        push_some(&mut list, change)?;
+        push_change(&mut list, db, pool, again, name, selected.place_of(name))?;
     }
     Ok(list)
 }
 
-/// Adds a change, if there is one.
-fn push_some<'a>(
+/// Adds what becomes of the package with this name, whose candidate has this place, if anything does.
+fn push_change<'a>(
     list: &mut Vec<PlacedChange<'a>>,
-    change: Option<PlacedChange<'a>>,
-) -> Result<(), AllocError>
-    ensures { OnOk result (map placed_change_seen list.new.items
-        ≡ map placed_change_seen list.old.items
-        ++ option_to_list (option_map placed_change_seen change.entry)) }
-{
-    match change {
-        None => Ok(()),
-        Some(change) => {
-            list.push(change)?;
-            Ok(())
-        }
-    }
-}
-
-/// What becomes of the package with this name, whose candidate has this place.
-fn placed_change<'a>(
     db: &Db<'a>,
     pool: &Sealed<'a>,
     again: &Words,
     name: &'a [u8],
-    new: Option<CandId>,
-) -> Option<PlacedChange<'a>>
-    ensures { option_map placed_change_seen result
-        ≡ placed_change_with (packages_of db.now) pool.now again.now name.entry.now
-        (position_from (is_package_named name.entry.now) 0 (packages_of db.now)) new }
+    new: Option<u32>,
+) -> Result<(), AllocError>
+    ensures { OnOk result (map placed_change_seen list.new.items
+        ≡ map placed_change_seen list.old.items
+        ++ option_to_list (placed_change_with (packages_of db.now) pool.now again.now name.entry.now
+        (position_from (is_package_named name.entry.now) 0 (packages_of db.now)) new)) }
 {
     let old = db.find(name);
     match change_between(db, pool, again, name, old, new) {
-        None => None,
-        Some(change) => Some(PlacedChange { change, old, new }),
+        None => Ok(()),
+        Some(change) => {
+            list.push(PlacedChange { change, old, new })?;
+            Ok(())
+        }
     }
 }
 
@@ -222,7 +209,7 @@ fn change_between<'a>(
     again: &Words,
     name: &'a [u8],
     old: Option<usize>,
-    new: Option<CandId>,
+    new: Option<u32>,
 ) -> Option<Change<'a>>
     requires { ForSome old (λ i. i < length (packages_of db.now)) }
     ensures { option_map change_seen result
@@ -239,13 +226,13 @@ fn change_between<'a>(
 }
 
 /// The candidate at a place, if there is one.
-fn candidate_of<'a>(pool: &Sealed<'a>, id: Option<CandId>) -> Option<Candidate<'a>>
+fn candidate_of<'a>(pool: &Sealed<'a>, place: Option<u32>) -> Option<Candidate<'a>>
     ensures { option_map candidate_value result
-        ≡ option_and_then (candidate_at pool.now) id.entry }
+        ≡ option_and_then (candidate_at pool.now) place }
 {
-    match id {
+    match place {
         None => None,
-        Some(id) => candidate_at(pool, id),
+        Some(place) => candidate_at(pool, CandId { place }),
     }
 }
 

@@ -7,7 +7,11 @@
 mod change;
 mod changes;
 mod names;
+mod report;
 mod selected;
+mod stays;
 
 pub use change::{Change, PlacedChange};
-pub use changes::{Changes, changes};
+pub use changes::Changes;
+pub use report::{push_change_lines, push_sum_line, simulated_report};
+pub use stays::push_stay_lines;

@@ -64,11 +64,11 @@ impl<'a> SelectedNames<'a> {
     }
 
     /// The place of the first selected candidate with this name.
-    pub(crate) fn place_of(&self, name: &[u8]) -> Option<CandId>
+    pub(crate) fn place_of(&self, name: &[u8]) -> Option<u32>
         ensures { result ≡ place_beside name.now self.now }
     {
         match self.by_name.get(name) {
-            Some(place) => Some(CandId { place: *place }),
+            Some(place) => Some(*place),
             None => None,
         }
     }

@@ -5,7 +5,7 @@ use Rattle.package_changes.specs.Placed.{PlacedChange, placed_change_of, placed_
 use Rattle.package_changes.specs.Seen.{replacement_by}
 use Rattle.package_changes.specs.SelectedNames.{change_at}
 use Rattle.package_changes.proofs.PlacedLaws.{by_table, changes_alone}
-use Rattle.package_changes.proofs.changes.changes.Goals as goal
+use Rattle.package_changes.proofs.changes.Changes.of.Goals as goal
 
 places : goal.returns-in_ok-list-clause-places
 unfolding placed_changes_of
