@@ -73,19 +73,19 @@ mapped_option : {X Y : Type 0} (f : X → Y) (o : Option X) (xs : List X) → ma
 mapped_option f None xs = refl
 mapped_option f (Some x) xs = refl
 
-mapped : {A X Y : Type 0} (f : X → Y) (g : A → Option X) (h : A → Option Y) → ((a : A) → option_map f (g a) ≡ h a) → (as : List A) → map f (filter_map g as) ≡ filter_map h as
+mapped : {A X Y : Type 0} (f : X → Y) (g : A → Option X) (h : A → Option Y) → ((a : A) → option_map f (g a) ≡ h a) → (xs : List A) → map f (filter_map g xs) ≡ filter_map h xs
 mapped f g h same [] = refl
-mapped f g h same (a ∷ as) =
-    mapped_option f (g a) (filter_map g as)
-    ∙ (ap (λ o. cons_option o (map f (filter_map g as))) (same a) ∙ ap (cons_option (h a)) (mapped f g h same as))
+mapped f g h same (a ∷ xs) =
+    mapped_option f (g a) (filter_map g xs)
+    ∙ (ap (λ o. cons_option o (map f (filter_map g xs))) (same a) ∙ ap (cons_option (h a)) (mapped f g h same xs))
 
 pub changes_alone : (p : PlacedReplacement) → map (λ (c : PlacedChange). c.change) (placed_changes_of p) ≡ changes_of (replacement_of p)
 unfolding placed_changes_of changes_of
 changes_alone p = mapped (λ (c : PlacedChange). c.change) (placed_change_of p) (change_of_name (replacement_of p)) (one_change p) (names_on_both_sides (replacement_of p))
 
-same_options : {A X : Type 0} (g h : A → Option X) → ((a : A) → g a ≡ h a) → (as : List A) → filter_map g as ≡ filter_map h as
+same_options : {A X : Type 0} (g h : A → Option X) → ((a : A) → g a ≡ h a) → (xs : List A) → filter_map g xs ≡ filter_map h xs
 same_options g h same [] = refl
-same_options g h same (a ∷ as) = ap (λ o. cons_option o (filter_map g as)) (same a) ∙ ap (cons_option (h a)) (same_options g h same as)
+same_options g h same (a ∷ xs) = ap (λ o. cons_option o (filter_map g xs)) (same a) ∙ ap (cons_option (h a)) (same_options g h same xs)
 
 -- the table leads to the places of the selected candidates
 pub by_table : (p : PlacedReplacement) (table : List (List ℕ × ℕ)) → ((name : List ℕ) → place_beside name table ≡ selected_place p.pool p.trace name) → (names : List (List ℕ)) → filter_map (change_at p.before p.pool p.again table) names ≡ filter_map (placed_change_of p) names

@@ -3,9 +3,8 @@ use Rattle.std.proofs.Common.{◌≡◌, ℕ, zero, suc, ◌+◌, Bool, true, fa
 use Rattle.std.specs.Prelude.{codes, fold, if◌then◌else◌, option_map, option_to_list, slice_get}
 use Rattle.std.specs.List.{cons_option, filter, flat_map, position_from, list_any}
 use Rattle.std.specs.Option.{option_map_or}
-use Rattle.std.specs.Prelude.{is_some}
+use Rattle.std.specs.Prelude.{is_some, ◌||◌}
 use Rattle.pool_core.specs.Candidates.{Candidate}
-use Rattle.report_core.specs.Reports.{spaced_behind, stays_text}
 
 pub joined : (r r1 r2 a b : List ℕ) → r1 ≡ r ++ a → r2 ≡ r1 ++ b → r2 ≡ r ++ (a ++ b)
 joined r r1 r2 a b e1 e2 = e2 ∙ (ap (λ z. z ++ b) e1 ∙ append_assoc r a b)
@@ -50,20 +49,10 @@ summed f s None rest = let same : s ≡ s + 0 = omega arith in ap (λ n. fold (�
 summed f s (Some c) rest = refl
 
 pub counted : (o : Option Candidate) (rest : List Candidate) → length (cons_option o rest) ≡ option_map_or (λ _. 1) o 0 + length rest
-counted None rest = refl
+counted None rest = omega arith
 counted (Some c) rest = omega arith
 
 -- ---- what stays
-
-pub stays_alone : (r r1 r2 name : List ℕ) (names : List (Bor (List ℕ))) → length names ≡ 0 → r1 ≡ r ++ name → r2 ≡ r1 ++ codes " stays" → r2 ≡ r ++ stays_text name (map (λ n. n.now) names)
-stays_alone r r1 r2 name [] none e1 e2 = joined r r1 r2 name (codes " stays") e1 e2
-stays_alone r r1 r2 name (x ∷ names) none e1 e2 = absurd (omega arith)
-
-pub stays_for_others : (r r1 r2 r3 name : List ℕ) (names : List (Bor (List ℕ))) → (length names ≡ 0 → ⊥) → r1 ≡ r ++ name → r2 ≡ r1 ++ codes " stays; required by:" → r3 ≡ r2 ++ spaced_behind (map (λ n. n.now) names) → r3 ≡ r ++ stays_text name (map (λ n. n.now) names)
-stays_for_others r r1 r2 r3 name [] some e1 e2 e3 = absurd (some refl)
-stays_for_others r r1 r2 r3 name (x ∷ names) some e1 e2 e3 =
-    joined r r1 r3 name (codes " stays; required by:" ++ spaced_behind (map (λ n. n.now) (x ∷ names))) e1
-    (joined r1 r2 r3 (codes " stays; required by:") (spaced_behind (map (λ n. n.now) (x ∷ names))) e2 e3)
 
 pub lines_here : {X : Type 0} (f : X → List ℕ) (p : X → Bool) (x : X) (xs : List X) → flat_map f (filter p (x ∷ xs)) ≡ (if p x then f x else []) ++ flat_map f (filter p xs)
 lines_here f p x xs = go (p x)
@@ -96,6 +85,6 @@ pub is_found : {X : Type 0} (p : X → Bool) (n : ℕ) (xs : List X) → is_some
 is_found p n [] = refl
 is_found p n (x ∷ xs) = go (p x) (is_found p (n + 1) xs)
   where
-    go : (t : Bool) → is_some (position_from p (n + 1) xs) ≡ list_any p xs → is_some (cond t (Some n) (position_from p (n + 1) xs)) ≡ (if t then true else list_any p xs)
+    go : (t : Bool) → is_some (position_from p (n + 1) xs) ≡ list_any p xs → is_some (cond t (Some n) (position_from p (n + 1) xs)) ≡ (t || list_any p xs)
     go true r = refl
     go false r = r

@@ -8,7 +8,7 @@ ghost use Rattle.pool_core.specs.Rank.{candidate_at};
 ghost use Rattle.report_core.specs.Reports.{change_lines, change_text, from_version_to, name_and_version, numbered_change, report_line, sum_text};
 ghost use Rattle.std.specs.Fmt.{decimal};
 ghost use Rattle.std.specs.Option.{option_map_or};
-ghost use Rattle.std.specs.Prelude.{◌≡◌, ◌≤◌, ◌++◌, ℕ, List, codes, length, map, sum_by, IfOk, OnOk};
+ghost use Rattle.std.specs.Prelude.{◌≡◌, ◌+◌, ◌≤◌, ◌++◌, ℕ, List, codes, length, map, sum_by, IfOk, OnOk};
 
 use crate::change::Change;
 use crate::changes::Changes;

@@ -6,8 +6,8 @@ use Rattle.package_changes.specs.Report.{selected_sum_line, simulated_report, st
 use Rattle.package_changes.proofs.ReportLines.{three_parts}
 use Rattle.package_changes.proofs.report.simulated_report.Goals as goal
 
-pub returns-in_ok-push_selected_sum : goal.returns-in_ok-push_selected_sum
+pub returns : goal.returns
 unfolding simulated_report
-returns-in_ok-push_selected_sum c = λ again same.
+returns c = λ again same.
     three_parts _ _ _ _ _ _ _ c.new-report.ensures c.in_ok-push_change_lines.ensures c.in_ok-push_stay_lines.ensures c.in_ok-push_selected_sum.ensures
     ∙ ap (λ z. change_lines z ++ (stay_lines (packages_of c.args.db.now) (candidates_at c.args.pool.now c.args.trace.now) c.args.to_go.now ++ selected_sum_line (candidates_at c.args.pool.now c.args.trace.now))) same

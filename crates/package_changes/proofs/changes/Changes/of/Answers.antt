@@ -7,7 +7,7 @@ use Rattle.package_changes.specs.SelectedNames.{change_at}
 use Rattle.package_changes.proofs.PlacedLaws.{by_table, changes_alone}
 use Rattle.package_changes.proofs.changes.Changes.of.Goals as goal
 
-places : goal.returns-in_ok-list-clause-places
+places : goal.returns-clause-places
 unfolding placed_changes_of
 places c =
     let p = replacement_by c.args.db.now c.args.pool.now c.args.trace.now c.args.again.now in
@@ -15,10 +15,10 @@ places c =
     ∙ (ap (filter_map (change_at (packages_of c.args.db.now) c.args.pool.now c.args.again.now c.in_ok-selected.selected)) c.in_ok-names.ensures
     ∙ by_table p c.in_ok-selected.selected c.in_ok-selected.ensures _)
 
-pub returns-in_ok-list-clause-places : goal.returns-in_ok-list-clause-places
-returns-in_ok-list-clause-places c = places c
+pub returns-clause-places : goal.returns-clause-places
+returns-clause-places c = places c
 
-pub returns-in_ok-list-clause-changes : goal.returns-in_ok-list-clause-changes
-returns-in_ok-list-clause-changes c =
+pub returns-clause-changes : goal.returns-clause-changes
+returns-clause-changes c =
     ap (map (λ (k : PlacedChange). k.change)) (places c)
     ∙ changes_alone (replacement_by c.args.db.now c.args.pool.now c.args.trace.now c.args.again.now)

@@ -1,4 +1,6 @@
-use Rattle.package_changes.specs.SelectedNames.{place_beside}
+use Rattle.std.proofs.Common.{◌∙◌, ap}
+use Rattle.std.specs.Prelude.{Some, None, bytes_eq, if◌then◌else◌}
+use Rattle.package_changes.specs.SelectedNames.{or_place, place_beside}
 use Rattle.package_changes.specs.Changes.{is_selected_named}
 use Rattle.package_changes.proofs.NameTable.{not_there, one_there}
 use Rattle.package_changes.proofs.selected.SelectedNames.add.Goals as goal
@@ -8,4 +10,6 @@ returns-in-None c = λ name. not_there (place_beside name c.args.self.now) (is_s
 
 pub returns-in_ok-add_name-in-Some : goal.returns-in_ok-add_name-in-Some
 returns-in_ok-add_name-in-Some c = λ name.
-    one_there _ (place_beside name c.args.self.now) name _ _ _ c.args.id c.in-Some.ensures c.name.ensures (c.in_ok-add_name-in-Some.ensures name)
+    one_there _ (place_beside name c.args.self.now) name _ _ _ c.args.id c.in-Some.ensures c.name.ensures 
+    (c.in_ok-add_name-in-Some.ensures name
+    ∙ ap (λ z. or_place (place_beside name c.args.self.now) (if bytes_eq c.name.result.now name then Some z else None)) c.id.view_is)

@@ -1,6 +1,0 @@
-use Rattle.std.specs.Prelude.{codes}
-use Rattle.package_changes.proofs.ReportLines.{joined}
-use Rattle.package_changes.proofs.stays.push_stay_line.Goals as goal
-
-pub returns-in_ok-push : goal.returns-in_ok-push
-returns-in_ok-push c = joined _ _ _ _ (codes "\n") c.in_ok-push_stay_text.ensures c.in_ok-push.ensures.ok
