@@ -1,10 +1,11 @@
 -- Texts that are pushed one behind another.
-use Rattle.std.proofs.Common.{◌≡◌, ℕ, zero, suc, ◌+◌, Bool, true, false, cond, List, [], ◌∷◌, ◌++◌, map, length, drop, Option, Some, None, Bor, refl, sym, ◌∙◌, ap, arith, append_assoc}
+use Rattle.std.proofs.Common.{◌≡◌, ℕ, zero, suc, ◌+◌, ◌<◌, get_or, Bool, true, false, cond, List, [], ◌∷◌, ◌++◌, map, length, drop, Option, Some, None, Bor, refl, sym, ◌∙◌, ap, arith, append_assoc}
 use Rattle.std.specs.Prelude.{codes, fold, if◌then◌else◌, option_map, option_to_list, slice_get}
 use Rattle.std.specs.List.{cons_option, filter, flat_map, position_from, list_any}
 use Rattle.std.specs.Option.{option_map_or}
 use Rattle.std.specs.Prelude.{is_some, ◌||◌}
 use Rattle.pool_core.specs.Candidates.{Candidate}
+use Rattle.package_changes.proofs.Lists.{item_at}
 
 pub joined : (r r1 r2 a b : List ℕ) → r1 ≡ r ++ a → r2 ≡ r1 ++ b → r2 ≡ r ++ (a ++ b)
 joined r r1 r2 a b e1 e2 = e2 ∙ (ap (λ z. z ++ b) e1 ∙ append_assoc r a b)
@@ -43,12 +44,17 @@ counted (Some c) rest = omega arith
 
 -- ---- what stays
 
-pub lines_here : {X : Type 0} (f : X → List ℕ) (p : X → Bool) (x : X) (xs : List X) → flat_map f (filter p (x ∷ xs)) ≡ (if p x then f x else []) ++ flat_map f (filter p xs)
+lines_here : {X : Type 0} (f : X → List ℕ) (p : X → Bool) (x : X) (xs : List X) → flat_map f (filter p (x ∷ xs)) ≡ (if p x then f x else []) ++ flat_map f (filter p xs)
 lines_here f p x xs = go (p x)
   where
     go : (t : Bool) → flat_map f (cond t (x ∷ filter p xs) (filter p xs)) ≡ (if t then f x else []) ++ flat_map f (filter p xs)
     go true = refl
     go false = refl
+
+pub lines_at : (f : List ℕ → List ℕ) (p : List ℕ → Bool) (names : List (Bor (List ℕ))) (i : ℕ) (d : Bor (List ℕ)) → i < length names → flat_map f (filter p (map (λ n. n.now) (drop i names))) ≡ (if p (get_or names i d).now then f (get_or names i d).now else []) ++ flat_map f (filter p (map (λ n. n.now) (drop (i + 1) names)))
+lines_at f p names i d l =
+    ap (λ z. flat_map f (filter p (map (λ n. n.now) z))) (item_at names i d l)
+    ∙ lines_here f p (get_or names i d).now (map (λ n. n.now) (drop (i + 1) names))
 
 pub lines_of_option : {X : Type 0} (f : X → List ℕ) (p : X → Bool) (o : Option X) (xs : List X) → flat_map f (filter p (cons_option o xs)) ≡ flat_map f (filter p (option_to_list o)) ++ flat_map f (filter p xs)
 lines_of_option f p None xs = refl
