@@ -15,7 +15,8 @@ use Rattle.change_files.specs.FileChange.{FileChange, is_claimed, old_entry, old
 use Rattle.change_files.specs.FilesAfter.{is_kept, is_removed, written_as}
 use Rattle.change_files.specs.NamesAfter.{is_let_go, counts_as_written, name_change}
 use Rattle.change_files.specs.PlanLists.{first_reserved, names_in_order, removals_of, writes_of}
-use Rattle.change_files.proofs.Sample.{folder, info, need, package_with, plain_file, with_file}
+use Rattle.file_guard.proofs.Sample.{plain_file}
+use Rattle.change_files.proofs.Sample.{folder, info, need, package_with, with_file}
 
 -- ---- two packages with one file
 

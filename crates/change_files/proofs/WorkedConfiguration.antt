@@ -10,7 +10,8 @@ use Rattle.change_files.specs.Fate.{fate_of, is_guarded}
 use Rattle.change_files.specs.FileChange.{FileChange, is_claimed, old_entry, old_listings, owner_listing}
 use Rattle.change_files.specs.FilesAfter.{Records, changed_files, is_kept, is_removed, written_as}
 use Rattle.change_files.specs.PlanLists.{aside_of, kept_of, names_in_order, removals_of, writes_of}
-use Rattle.change_files.proofs.Sample.{folder, info, link, new_bytes, package_with, with_file}
+use Rattle.file_guard.proofs.Sample.{link}
+use Rattle.change_files.proofs.Sample.{folder, info, new_bytes, package_with, with_file}
 
 abbrev c : List ℕ → Plain
 c version = package_with (info (codes "c") version []) (folder (codes "etc") (link (codes "c.conf") version ∷ []) ∷ [])

@@ -10,7 +10,8 @@ use Rattle.change_files.specs.Fate.{fate_of}
 use Rattle.change_files.specs.FileChange.{FileChange, is_claimed, old_entry, old_listings, owner_listing}
 use Rattle.change_files.specs.FilesAfter.{listing_bytes, written_as}
 use Rattle.change_files.specs.PlanLists.{names_in_order, writes_of}
-use Rattle.change_files.proofs.Sample.{folder, info, link, package_with, plain_file}
+use Rattle.file_guard.proofs.Sample.{link, plain_file}
+use Rattle.change_files.proofs.Sample.{folder, info, package_with}
 
 abbrev two : Plain
 two = package_with (info (codes "t") (codes "1") []) (folder (codes "a") (plain_file (codes "x") 0 [] ∷ plain_file (codes "y") 1 [] ∷ []) ∷ [])
