@@ -1,6 +1,7 @@
 pub mod AfterNames
 pub mod Coming
 pub mod InOrder
+pub mod LeftOver
 pub mod Lists
 pub mod Owned
 pub mod PlanNames

@@ -1,5 +1,5 @@
 -- Names that a change leaves as they are, and what it makes of others.
-use Rattle.std.proofs.Common.{◌≡◌, ◌∙◌, ℕ, Bool, true, false, List, length, Option, Some, None, is_some, refl, ap, sym, true≢false}
+use Rattle.std.proofs.Common.{◌≡◌, ◌⊎◌, inl, inr, ◌∙◌, ℕ, Bool, true, false, List, length, Option, Some, None, is_some, refl, ap, sym, true≢false}
 use Rattle.std.specs.Prelude.{not, ◌&&◌, ◌||◌, if◌then◌else◌, nat_le, option_and_then}
 use Rattle.std.specs.Str.{bytes_eq}
 use Rattle.std.proofs.lemmas.Bool.{and_from, and_left, and_parts, and_right, not_from_false, not_from_true, or_from, or_parts}
@@ -177,8 +177,9 @@ users_file_not_taken change files path bytes own = by_owner (coming_owner change
         ∙ (ap (if_in l) (users_fate change files path bytes l own comes)
         ∙ never_in l (not (agrees_with_old (old_entry change path) l.entry) && (nat_le (length (aside_name path)) 1024 && not (is_claimed change (aside_name path)))))
 
-users_file_stays : (change : FileChange) (files : Files) (path bytes : List ℕ) → change.purge ≡ false → IsUsersFile change files path bytes → is_removed change files path ≡ false
-users_file_stays change files path bytes no_purge own = by_entry (old_entry change path) refl
+users_file_stays : (change : FileChange) (files : Files) (path bytes : List ℕ) → (change.purge ≡ false) ⊎ (is_claimed change path ≡ true) → IsUsersFile change files path bytes → is_removed change files path ≡ false
+users_file_stays change files path bytes (inr claimed) own = removed_left change files path (claimed_not_left change files path claimed)
+users_file_stays change files path bytes (inl no_purge) own = by_entry (old_entry change path) refl
   where
     by_entry : (o : Option Plain) → old_entry change path ≡ o → is_removed change files path ≡ false
     by_entry None e = never_listed change files path (ap is_some e)
@@ -190,10 +191,10 @@ users_file_stays change files path bytes no_purge own = by_entry (old_entry chan
         (ap (λ (found : Option (List ℕ)). may_stay change path found (old_entry change path)) own.present
         ∙ (ap (may_stay change path (Some bytes)) e ∙ stays))
 
-pub users_file_is_spared : (change : FileChange) (bytes_of : Listing → List ℕ) (records : Records) (files : Files) (path bytes : List ℕ) → change.purge ≡ false → IsUsersFile change files path bytes → is_aside_name change files path ≡ false → is_record_name records path ≡ false
+pub users_file_is_spared : (change : FileChange) (bytes_of : Listing → List ℕ) (records : Records) (files : Files) (path bytes : List ℕ) → (change.purge ≡ false) ⊎ (is_claimed change path ≡ true) → IsUsersFile change files path bytes → is_aside_name change files path ≡ false → is_record_name records path ≡ false
     → changed_files change bytes_of records files path ≡ Some bytes
-users_file_is_spared change bytes_of records files path bytes no_purge own beside other =
-    untouched change bytes_of records files path (not_written change files path (users_file_not_taken change files path bytes own) beside) (users_file_stays change files path bytes no_purge own) other
+users_file_is_spared change bytes_of records files path bytes unpurged own beside other =
+    untouched change bytes_of records files path (not_written change files path (users_file_not_taken change files path bytes own) beside) (users_file_stays change files path bytes unpurged own) other
     ∙ own.present
 
 -- ---- names that nobody lists

@@ -50,6 +50,11 @@ file_beside : changed_files upgrade new_bytes records changed (codes "etc/c.conf
 unfolding member_listings claims_of owner_of_path winner old_listings old_entry is_claimed owner_listing is_as_listed_by do_entries_agree fate_of written_as is_removed changed_files
 file_beside = refl
 
+-- also where configuration is to be purged: a package lists it
+purged_upgrade : aside_of (record { old = c (codes "1") ∷ []; members = coming_member (c (codes "2")) [] ∷ []; purge = true }) changed ≡ conf ∷ []
+unfolding member_listings claims_of owner_of_path winner old_listings old_entry is_claimed owner_listing is_as_listed_by do_entries_agree fate_of written_as names_in_order aside_of
+purged_upgrade = refl
+
 -- unchanged: it is replaced
 replaced : writes_of upgrade unchanged ≡ record { name = conf; member = 0; folder = 1; file = 1 } ∷ []
 unfolding member_listings claims_of owner_of_path winner old_listings old_entry is_claimed owner_listing is_as_listed_by do_entries_agree fate_of written_as names_in_order writes_of

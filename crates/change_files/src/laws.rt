@@ -10,7 +10,7 @@ ghost use Rattle.file_owners.specs.Owners.{owner_of_path};
 ghost use Rattle.path_clashes.specs.Clash.{is_name_after};
 ghost use Rattle.change_files.specs.Fate.{aside_name};
 ghost use Rattle.change_files.specs.FileChange.{FileChange, coming_owner, is_claimed, owner_listing, was_listed};
-ghost use Rattle.change_files.specs.FilesAfter.{Records, changed_files, database_name, is_kept, is_removed, is_written, laid_beside, text_database_name, world_name, written_as};
+ghost use Rattle.change_files.specs.FilesAfter.{Records, changed_files, database_name, is_kept, is_left_over, is_removed, is_written, laid_beside, text_database_name, world_name, written_as};
 ghost use Rattle.change_files.specs.NamesAfter.{is_let_go, name_change};
 ghost use Rattle.change_files.specs.PlanLists.{FileWrite, aside_of, first_reserved, kept_of, removals_of, writes_of};
 ghost use Rattle.change_files.specs.Touched.{IsNewEntry, IsUsersFile, IsWriteOf, is_aside_name, is_coming_path, is_record_name};
@@ -85,6 +85,18 @@ pub fn what_is_removed_was_listed_before()
         → changed_files change bytes_of records files path ≡ None }
 {}
 
+/// What was listed before, and where no package lists it now and nothing is written, goes, unless
+/// the user changed it; and what is kept the user changed, and it is not to be purged.
+pub fn what_is_left_over_goes_unless_it_is_the_users()
+    ensures goes { (change : FileChange) (files : Files) (path : List ℕ)
+        → is_left_over change files path ≡ true
+        → ((bytes : List ℕ) → IsUsersFile change files path bytes → ⊥) ⊎ (change.purge ≡ true)
+        → is_removed change files path ≡ true }
+    ensures kept { (change : FileChange) (files : Files) (path : List ℕ)
+        → is_kept change files path ≡ true
+        → ((bytes : List ℕ) × IsUsersFile change files path bytes) × (change.purge ≡ false) }
+{}
+
 // ---- what is not touched
 
 /// A path whose owner stays is not touched.
@@ -99,11 +111,12 @@ pub fn the_file_of_a_package_that_stays_is_not_touched()
         → changed_files change bytes_of records files path ≡ files path }
 {}
 
-/// Configuration that the user changed keeps its bytes, unless it is to be purged. One that was
-/// laid beside another file gives way to what is laid there now.
+/// Configuration that the user changed keeps its bytes, unless it is to be purged and no package
+/// lists it. One that was laid beside another file gives way to what is laid there now.
 pub fn configuration_that_the_user_changed_stays()
     ensures { (change : FileChange) (bytes_of : Listing → List ℕ) (records : Records)
-        (files : Files) (path bytes : List ℕ) → change.purge ≡ false
+        (files : Files) (path bytes : List ℕ)
+        → (change.purge ≡ false) ⊎ (is_claimed change path ≡ true)
         → IsUsersFile change files path bytes
         → is_aside_name change files path ≡ false → is_record_name records path ≡ false
         → changed_files change bytes_of records files path ≡ Some bytes }
