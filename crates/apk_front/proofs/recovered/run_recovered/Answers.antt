@@ -1,6 +1,6 @@
 use Rattle.std.proofs.Common.{◌∙◌, sym}
 use Rattle.apk_front.proofs.Carried.{index_found_one, index_proper, index_read_one, index_run, package_found_one, package_proper, package_read_one, package_run}
-use Rattle.apk_front.proofs.recovered.make_one.Goals as goal
+use Rattle.apk_front.proofs.recovered.run_recovered.Goals as goal
 
 pub returns-in-Mkpkg-clause-found : goal.returns-in-Mkpkg-clause-found
 returns-in-Mkpkg-clause-found g c = package_found_one c.args.command.now _ c.mkpkg.result (sym c.in-Mkpkg.is ∙ c.applet.ensures.value) c.mkpkg.ensures.found
