@@ -2,6 +2,7 @@ pub mod AnyOf
 mod ListedNames
 pub mod ListingPlaces
 mod NamePlaces
+pub mod Opened
 pub mod Ordered
 pub mod PathParts
 pub mod Places

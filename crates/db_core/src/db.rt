@@ -2,19 +2,24 @@
 ghost use Rattle.adb_fields.specs.ListValue.{list_value};
 ghost use Rattle.adb_fields.specs.Repeated.{entries_at, list_of};
 ghost use Rattle.adb_schema.specs.ReadFaults.{IsReadFault};
-ghost use Rattle.adb_schema.specs.Soundness.{first_fault, payload_in, root_value};
+ghost use Rattle.adb_schema.specs.Soundness.{first_fault, payload_fault, payload_in, root_value};
 ghost use Rattle.adb_schema.specs.Views.{idb_value, package_value};
-ghost use Rattle.adb_tables.specs.Values.{count_of, entries_in, entry_in};
+ghost use Rattle.adb_tables.specs.Values.{count_of, entries_in, entry_in, is_sound};
+ghost use Rattle.adb_tables.specs.declared.tables.Kind.TheVariants as Kinds;
 ghost use Rattle.adb_tables.specs.declared.tables.Which.TheVariants as Tables;
+ghost use Rattle.adb_view.specs.Head.{head_fault, root_of};
 ghost use Rattle.db_core.specs.NamePlaces.{placed_names_in_order};
 ghost use Rattle.db_core.specs.NameSeen.{name_seen};
 ghost use Rattle.db_core.specs.Packages.{is_package_named, lists_names, lists_path, packages_by};
 ghost use Rattle.std.specs.List.{list_all, position_from};
-ghost use Rattle.std.specs.Prelude.{◌≡◌, ◌<◌, ◌^◌, ◌==◌, true, [], All, Some, None, IfSome, length, map, option_map, slice_get, IfOk, IfErr};
+ghost use Rattle.std.specs.Prelude.{◌≡◌, ◌<◌, ◌^◌, ◌==◌, true, [], All, Some, None, IfSome, length, map, option_map, slice_get, IfOk, IfErr, is_none};
 
 use crate::listed_paths::is_path_listed;
 use crate::name_places::{NamePlace, place_of, sorted_names};
-use adb_schema::{IdbView, List, PackageView, ReadFault, Which, read_adb};
+use adb_rules::no_text_is_bad_where_each_keeps_its_rule;
+use adb_schema::{IdbView, List, PackageView, ReadFault, View, Which, read_adb};
+use adb_tables::values_of_few_visits_have_no_fault;
+use adb_view::Adb;
 use base_core::Name;
 use std::alloc::{AllocError, Global};
 
@@ -59,6 +64,26 @@ impl<'a> Db<'a> {
         let checked = read_adb(alloc, bytes, Which::Idb)?;
         checked.values_keep_their_rules();
         let idb = checked.idb();
+        let names = sorted_names(alloc, &idb.packages())?;
+        Ok(Db {
+            idb: Some(idb),
+            names,
+        })
+    }
+
+    /// The database in a payload that passes all tests of one. They are not made again. It takes a
+    /// few words for each package.
+    ///
+    /// # Errors
+    ///
+    /// Want of memory.
+    pub fn open(alloc: Global, payload: &'a [u8]) -> Result<Db<'a>, AllocError>
+        requires { payload_fault Tables.Idb payload.now ≡ None }
+        ensures { IfOk result (λ db. packages_of db
+            ≡ entries_at 0 (root_value Tables.Idb payload.entry.now)) }
+    {
+        no_text_is_bad_where_each_keeps_its_rule();
+        let idb = open_idb(payload);
         let names = sorted_names(alloc, &idb.packages())?;
         Ok(Db {
             idb: Some(idb),
@@ -122,6 +147,27 @@ impl<'a> Db<'a> {
         ensures { All (λ l. IsName l.path)
             (member_listings (map staying_member (packages_of self.now))) }
     {}
+}
+
+/// A view of the database in a payload that passes all tests of one, which are not made again.
+pub fn open_idb(payload: &[u8]) -> IdbView<'_>
+    requires { payload_fault Tables.Idb payload.now ≡ None }
+    ensures { idb_value result ≡ root_value Tables.Idb payload.now }
+{
+    values_of_few_visits_have_no_fault();
+    open_root(payload)
+}
+
+/// The database in a payload whose head and root pass their tests.
+fn open_root(payload: &[u8]) -> IdbView<'_>
+    requires head { is_none (head_fault payload.now) ≡ true }
+    requires sound { is_sound payload.now (Kinds.Obj Tables.Idb) (root_of payload.now) ≡ true }
+    ensures { idb_value result ≡ root_value Tables.Idb payload.now }
+{
+    let Ok(adb) = Adb::new(payload) else {
+        unreachable!()
+    };
+    IdbView::of(adb, adb.root())
 }
 
 /// The package at a place, counted from 0.

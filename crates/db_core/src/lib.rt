@@ -13,7 +13,7 @@ mod members;
 mod name_places;
 mod owned;
 
-pub use db::Db;
+pub use db::{Db, open_idb};
 pub use laws::listings_stand_at_their_places;
 pub use members::{MOST_MEMBERS, Members};
 pub use owned::Owned;

@@ -40,12 +40,7 @@ impl HeadBytes {
     ///
     /// `Disk` where the tree failed.
     #[tactic(auto, using(crate::proofs::Heads::holds_none, crate::proofs::Heads::holds_short, crate::proofs::Heads::holds_cut, crate::proofs::Heads::holds_both, crate::proofs::Heads::short_both, crate::proofs::SeenBytes::seen_both, crate::proofs::SeenBytes::seen_by_read, crate::proofs::SeenBytes::proper_where_long))]
-    pub fn read<T: Tree>(
-        tree: &mut T,
-        name: &Name,
-        at: u64,
-        left: u64,
-    ) -> Result<HeadBytes, Disk>
+    pub fn read<T: Tree>(tree: &mut T, name: &Name, at: u64, left: u64) -> Result<HeadBytes, Disk>
         requires { at + left < 2 ^ 64 }
         ensures seen { IfOk result (λ head. (file_len : ℕ)
             → IsSeen (T.history tree.old) name.now file_len at head) }

@@ -1,0 +1,206 @@
+-- What the reads of a root explain.
+use Rattle.std.proofs.Common.{◌≡◌, ℕ, zero, suc, List, [], ◌∷◌, Option, Some, None, Result, Ok, Err, refl, sym, ap, ◌∙◌, subst}
+use Rattle.std.specs.Result.{IsErrAnd}
+use Rattle.base_core.specs.Read.{bytes_in}
+use Rattle.base_core.specs.Tree.{TreeState, files_of}
+use Rattle.command_core.specs.Command.{CommandLine}
+use Rattle.dep_core.specs.Repositories.{Repository}
+use Rattle.make_info.specs.Reads.{Reads}
+use Rattle.make_package.proofs.ReadLemmas.{as_told_of, explained, reads_or}
+use Rattle.make_package.specs.Runs.{Explains}
+use Rattle.report_core.specs.declared.refusal.Refusal as Refusals
+use Rattle.root_names.specs.RootNames.{database_name, repositories_name, text_database_name, world_name}
+use Rattle.adb_view.specs.Plain.{Plain}
+use Rattle.change_inputs.proofs.Handed.{failure_agrees, handed_on_disk, refused_part, refused_part_disk, unless_disk}
+use Rattle.change_inputs.proofs.IndexSteps.{all_unread, all_unread_stand, unread, unread_stands}
+use Rattle.change_inputs.specs.Answers.{Agrees, AgreesUnlessDisk, IsFailure, StandAt, StandsAt}
+use Rattle.change_inputs.specs.Chains.{and_then}
+use Rattle.change_inputs.specs.Indexes.{index_files_from, indexes_in_files, root_indexes}
+use Rattle.change_inputs.specs.Inputs.{Inputs, Root, index_reads_from, indexes_of, inputs_by, inputs_of, root_found, root_of}
+use Rattle.change_inputs.specs.RootFiles.{StandInRoot}
+use Rattle.change_inputs.specs.declared.refused.Refused.{Refused}
+use Rattle.change_inputs.specs.declared.root.RootFiles.{RootFiles}
+
+-- ---- reads that find what a list says
+
+abbrev nth_found : List (Option (List ℕ)) → ℕ → Option (List ℕ)
+nth_found [] n = None
+nth_found (f ∷ fs) zero = f
+nth_found (f ∷ fs) (suc n) = nth_found fs n
+
+-- from a number on they find this
+abbrev FindFrom : (ℕ → Option (List ℕ)) → ℕ → List (Option (List ℕ)) → Type 0
+FindFrom found n [] = Unit {0}
+FindFrom found n (f ∷ fs) = (found n ≡ f) × FindFrom found (suc n) fs
+
+later : (found : ℕ → Option (List ℕ)) (n : ℕ) (fs : List (Option (List ℕ))) → FindFrom (λ k. found (suc k)) n fs → FindFrom found (suc n) fs
+later found n [] h = tt
+later found n (f ∷ fs) h = (h.0, later found (suc n) fs h.1)
+
+found_from : (fs : List (Option (List ℕ))) → FindFrom (nth_found fs) 0 fs
+found_from [] = tt
+found_from (f ∷ fs) = (refl, later (nth_found (f ∷ fs)) 0 fs (found_from fs))
+
+-- what is found under the paths of repositories
+
+reads_unobserved : (found : ℕ → Option (List ℕ)) (n : ℕ) (rs : List Repository) (fs : List (Option (List ℕ))) → StandAt [] rs fs → FindFrom found n fs → index_reads_from (λ k name. found k) n rs ≡ fs
+reads_unobserved found n [] [] stand h = refl
+reads_unobserved found n [] (f ∷ fs) stand h = absurd stand
+reads_unobserved found n (r ∷ rs) [] stand h = absurd stand
+reads_unobserved found n (r ∷ rs) (f ∷ fs) stand h = λ i. h.0 i ∷ reads_unobserved found (suc n) rs fs stand.1 h.1 i
+
+reads_observed : (v : TreeState) (earlier : List TreeState) (n : ℕ) (rs : List Repository) (fs : List (Option (List ℕ))) → StandAt (v ∷ earlier) rs fs → index_reads_from (λ k name. files_of v name) n rs ≡ fs
+reads_observed v earlier n [] [] stand = refl
+reads_observed v earlier n [] (f ∷ fs) stand = absurd stand
+reads_observed v earlier n (r ∷ rs) [] stand = absurd stand
+reads_observed v earlier n (r ∷ rs) (f ∷ fs) stand = λ i. sym stand.0 i ∷ reads_observed v earlier (suc n) rs fs stand.1 i
+
+-- ---- reads of a root
+
+pub record AreReads (read : Reads) (file text world repositories : Option (List ℕ)) (rs : List Repository) (fs : List (Option (List ℕ))) : Type 0 where
+  pub file_is : read 0 database_name ≡ file
+  pub text_is : read 1 text_database_name ≡ text
+  pub world_is : read 2 world_name ≡ world
+  pub repositories_is : read 3 repositories_name ≡ repositories
+  pub indexes_are : index_reads_from read 4 rs ≡ fs
+
+pub explained_root : (history : List TreeState) (file text world repositories : Option (List ℕ)) (rs : List Repository) (fs : List (Option (List ℕ)))
+    → StandsAt history database_name file → StandsAt history text_database_name text → StandsAt history world_name world → StandsAt history repositories_name repositories → StandAt history rs fs
+    → Explains history (λ read. AreReads read file text world repositories rs fs)
+explained_root [] file text world repositories rs fs a b c d stand =
+    let all = file ∷ text ∷ world ∷ repositories ∷ fs in
+    let found = found_from all in
+    record {
+      read = λ n name. nth_found all n;
+      observed = tt;
+      is = record {
+        file_is = refl;
+        text_is = refl;
+        world_is = refl;
+        repositories_is = refl;
+        indexes_are = reads_unobserved (nth_found all) 4 rs fs stand found.1.1.1.1;
+      };
+    }
+explained_root (v ∷ earlier) file text world repositories rs fs a b c d stand =
+    record {
+      read = λ n name. files_of v name;
+      observed = λ n name. refl;
+      is = record {
+        file_is = sym a;
+        text_is = sym b;
+        world_is = sym c;
+        repositories_is = sym d;
+        indexes_are = reads_observed v earlier 4 rs fs stand;
+      };
+    }
+
+-- ---- the files of a root as they were read
+
+-- the text database counts only where there is no other
+text_or : (history : List TreeState) (files : RootFiles) → Option (List ℕ) → Option (List ℕ)
+text_or history files None = bytes_in files.text_database
+text_or history files (Some file) = unread history text_database_name
+
+text_stands : (history : List TreeState) (files : RootFiles) (file : Option (List ℕ)) → (file ≡ None → StandsAt history text_database_name (bytes_in files.text_database)) → StandsAt history text_database_name (text_or history files file)
+unfolding text_or
+text_stands history files None h = h refl
+text_stands history files (Some file) h = unread_stands history text_database_name
+
+same_root : (command : CommandLine) (history : List TreeState) (files : RootFiles) (file world repositories : Option (List ℕ)) → root_found command file (text_or history files file) world repositories ≡ root_found command file (bytes_in files.text_database) world repositories
+unfolding text_or
+same_root command history files None world repositories = refl
+same_root command history files (Some file) world repositories = refl
+
+pub explained_files : (history : List TreeState) (command : CommandLine) (files : RootFiles) (rs : List Repository) (fs : List (Option (List ℕ))) → StandInRoot history files → StandAt history rs fs
+    → Explains history (λ read. (root_of command read ≡ root_found command (bytes_in files.database) (bytes_in files.text_database) (bytes_in files.world) (bytes_in files.repositories)) × (index_reads_from read 4 rs ≡ fs))
+explained_files history command files rs fs stand indexes =
+    let file = bytes_in files.database in
+    let e = explained_root history file (text_or history files file) (bytes_in files.world) (bytes_in files.repositories) rs fs stand.database (text_stands history files file stand.text_database) stand.world stand.repositories indexes in
+    record {
+      read = e.read;
+      observed = e.observed;
+      is = (
+        (λ i. root_found command (e.is.file_is i) (e.is.text_is i) (e.is.world_is i) (e.is.repositories_is i)) ∙ same_root command history files file (bytes_in files.world) (bytes_in files.repositories),
+        e.is.indexes_are,
+      );
+    }
+
+-- ---- the inputs
+
+-- nothing is said where the tree failed or no memory was found
+pub explained_failure : {A : Type 0} (view : A → Inputs) (history : List TreeState) (command : CommandLine) (r : Result A Refused) (fault : Refused) → IsErrAnd r (λ e. e ≡ fault) → IsFailure fault
+    → Explains history (λ read. AgreesUnlessDisk view r (inputs_of command read))
+explained_failure view history command r fault is failed = explained history (λ read. AgreesUnlessDisk view r (inputs_of command read)) (λ read. failure_agrees view (inputs_of command read) r fault is failed)
+
+abbrev then_indexes : Reads → Root → Result Inputs Refusals.Refusal
+then_indexes read root = and_then (indexes_of read root.repositories) (λ indexes. Ok (inputs_by root indexes))
+
+-- a root that is refused
+pub explained_refusal : {A B : Type 0} (view : A → Inputs) (seen : B → Root) (history : List TreeState) (command : CommandLine) (files : RootFiles) (r : Result A Refused) (fault : Refused) → StandInRoot history files → IsErrAnd r (λ e. e ≡ fault)
+    → Agrees seen (Err fault) (root_found command (bytes_in files.database) (bytes_in files.text_database) (bytes_in files.world) (bytes_in files.repositories))
+    → Explains history (λ read. AgreesUnlessDisk view r (inputs_of command read))
+unfolding inputs_of
+explained_refusal view seen history command files r fault stand is h =
+    let e = explained_files history command files [] [] stand tt in
+    record {
+      read = e.read;
+      observed = e.observed;
+      is = handed_on_disk view _ r fault is
+          (unless_disk view _ (Err fault)
+          (refused_part seen view (then_indexes e.read) fault (root_of command e.read) (subst (λ x. Agrees seen (Err fault) x) (sym e.is.0) h)));
+    }
+
+-- a root that is good, and what comes of its indexes
+pub explained_indexes : {A : Type 0} (view : A → Inputs) (history : List TreeState) (command : CommandLine) (files : RootFiles) (root : Root) (fs : List (Option (List ℕ))) (r : Result A Refused) → StandInRoot history files
+    → root_found command (bytes_in files.database) (bytes_in files.text_database) (bytes_in files.world) (bytes_in files.repositories) ≡ Ok root
+    → StandAt history root.repositories fs → AgreesUnlessDisk view r (and_then (root_indexes fs) (λ indexes. Ok (inputs_by root indexes)))
+    → Explains history (λ read. AgreesUnlessDisk view r (inputs_of command read))
+unfolding inputs_of
+explained_indexes view history command files root fs r stand good indexes h =
+    let e = explained_files history command files root.repositories fs stand indexes in
+    record {
+      read = e.read;
+      observed = e.observed;
+      is =
+          subst (λ x. AgreesUnlessDisk view r (and_then x (then_indexes e.read))) (sym (e.is.0 ∙ good))
+          (subst (λ (x : List (Option (List ℕ))). AgreesUnlessDisk view r (and_then (root_indexes x) (λ indexes. Ok (inputs_by root indexes)))) (sym e.is.1) h);
+    }
+
+-- the files of the indexes are not all there
+pub indexes_absent : {A B : Type 0} (view : A → Inputs) (seen : B → List (List ℕ)) (root : Root) (fs : List (Option (List ℕ))) (r : Result A Refused) (fault : Refused) → IsErrAnd r (λ e. e ≡ fault) → AgreesUnlessDisk seen (Err fault) (index_files_from 1 fs)
+    → AgreesUnlessDisk view r (and_then (root_indexes fs) (λ indexes. Ok (inputs_by root indexes)))
+indexes_absent {A} {B} view seen root fs r fault is h =
+    handed_on_disk view _ r fault is
+    (refused_part_disk (λ (x : List Plain). x) view (λ indexes. Ok (inputs_by root indexes)) fault (root_indexes fs)
+    (refused_part_disk seen (λ (x : List Plain). x) (indexes_in_files 1) fault (index_files_from 1 fs) h))
+
+-- one of them is no index
+pub indexes_bad : {A B : Type 0} (view : A → Inputs) (seen : B → List Plain) (root : Root) (fs : List (Option (List ℕ))) (files : List (List ℕ)) (r : Result A Refused) (fault : Refused) → IsErrAnd r (λ e. e ≡ fault) → index_files_from 1 fs ≡ Ok files → Agrees seen (Err fault) (indexes_in_files 1 files)
+    → AgreesUnlessDisk view r (and_then (root_indexes fs) (λ indexes. Ok (inputs_by root indexes)))
+indexes_bad view seen root fs files r fault is there h =
+    handed_on_disk view _ r fault is
+    (unless_disk view _ (Err fault)
+    (refused_part seen view (λ indexes. Ok (inputs_by root indexes)) fault (root_indexes fs)
+    (subst (λ (x : Result (List (List ℕ)) Refusals.Refusal). Agrees seen (Err fault) (and_then x (indexes_in_files 1))) (sym there) h)))
+
+-- all are good
+pub indexes_good : (root : Root) (fs : List (Option (List ℕ))) (files : List (List ℕ)) (indexes : List Plain) → index_files_from 1 fs ≡ Ok files → indexes_in_files 1 files ≡ Ok indexes
+    → and_then (root_indexes fs) (λ indexes. Ok (inputs_by root indexes)) ≡ Ok (inputs_by root indexes)
+indexes_good root fs files indexes there good =
+    ap (λ (x : Result (List (List ℕ)) Refusals.Refusal). and_then (and_then x (indexes_in_files 1)) (λ indexes. Ok (inputs_by root indexes))) there
+    ∙ ap (λ (x : Result (List Plain) Refusals.Refusal). and_then x (λ indexes. Ok (inputs_by root indexes))) good
+
+pub explained_good : (history : List TreeState) (command : CommandLine) (files : RootFiles) (root : Root) (fs : List (Option (List ℕ))) (found : List (List ℕ)) (indexes : List Plain) → StandInRoot history files
+    → root_found command (bytes_in files.database) (bytes_in files.text_database) (bytes_in files.world) (bytes_in files.repositories) ≡ Ok root
+    → StandAt history root.repositories fs → index_files_from 1 fs ≡ Ok found → indexes_in_files 1 found ≡ Ok indexes
+    → Explains history (λ read. inputs_of command read ≡ Ok (inputs_by root indexes))
+explained_good history command files root fs found indexes stand good those there are =
+    explained_indexes {A = Inputs} (λ inputs. inputs) history command files root fs (Ok (inputs_by root indexes)) stand good those (indexes_good root fs found indexes there are)
+
+-- ---- over a tree as it was before
+
+pub as_before : (old now : List TreeState) (P : Reads → Type 0) → now ≡ old → Explains now P → Explains old P
+as_before old now P same h = subst (λ (t : List TreeState). Explains t P) same h
+
+pub root_as_now : (old now : List TreeState) (files : RootFiles) → now ≡ old → StandInRoot old files → StandInRoot now files
+root_as_now old now files same h = subst (λ (t : List TreeState). StandInRoot t files) (sym same) h

@@ -1,0 +1,6 @@
+pub mod Handed
+pub mod Texts
+pub mod WorldSteps
+pub mod IndexSteps
+pub mod PoolSteps
+pub mod Explained

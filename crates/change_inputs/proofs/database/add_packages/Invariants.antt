@@ -1,0 +1,12 @@
+use Rattle.std.proofs.Common.{◌≤◌, length}
+use Rattle.adb_fields.specs.ListValue.{list_value}
+use Rattle.adb_tables.specs.Values.{entries_in}
+use Rattle.pool_core.specs.declared.pool.TheConstants.{MOST_CANDIDATES}
+use Rattle.change_inputs.proofs.PoolSteps.{IsInstalledTo}
+use Rattle.change_inputs.proofs.database.add_packages.Given as goal
+
+abbrev pub invariant-loop-i : goal.invariant-loop-i
+invariant-loop-i l = record {
+  so_far : IsInstalledTo (entries_in (list_value l.packages)) l.i l.initial.pool l.pool;
+  fits : length l.pool ≤ MOST_CANDIDATES;
+}

@@ -1,0 +1,27 @@
+use Rattle.std.proofs.Common.{ℕ}
+use Rattle.std.specs.Prelude.{Vec}
+use Rattle.std.specs.declared.alloc.Global.{Global}
+use Rattle.change_inputs.proofs.Explained.{explained_good, explained_indexes, explained_refusal, indexes_absent, indexes_bad}
+use Rattle.change_inputs.specs.IndexFiles.{bytes_of_each}
+use Rattle.change_inputs.specs.Seen.{indexes_seen, inputs_seen, root_seen}
+use Rattle.change_inputs.proofs.loaded.Loaded.of_files.Goals as goal
+
+pub returns-in_err-root-clause-found : goal.returns-in_err-root-clause-found
+returns-in_err-root-clause-found g c = explained_refusal inputs_seen root_seen _ c.args.command.now c.args.files c.from_residual.result _ c.requires c.from_residual.ensures.1 c.in_err-root.ensures
+
+pub returns-in_err-found-clause-found : goal.returns-in_err-found-clause-found
+returns-in_err-found-clause-found g c =
+    let f = c.in_err-found.ensures.found in
+    explained_indexes inputs_seen _ c.args.command.now c.args.files (root_seen c.in_ok-root.root) f.0 c.from_residual-in_err-found.result c.requires c.in_ok-root.ensures f.1
+    (indexes_absent inputs_seen (λ (files : Vec (Vec ℕ Global) Global). bytes_of_each files.items) (root_seen c.in_ok-root.root) f.0 c.from_residual-in_err-found.result _ c.from_residual-in_err-found.ensures.1 f.2)
+
+pub returns-in_err-indexes-clause-found : goal.returns-in_err-indexes-clause-found
+returns-in_err-indexes-clause-found g c =
+    let f = c.in_ok-found.ensures.found in
+    explained_indexes inputs_seen _ c.args.command.now c.args.files (root_seen c.in_ok-root.root) f.0 c.from_residual-in_err-indexes.result c.requires c.in_ok-root.ensures f.1
+    (indexes_bad inputs_seen indexes_seen (root_seen c.in_ok-root.root) f.0 _ c.from_residual-in_err-indexes.result _ c.from_residual-in_err-indexes.ensures.1 f.2 c.in_err-indexes.ensures.answer)
+
+pub returns-clause-found : goal.returns-clause-found
+returns-clause-found g c =
+    let f = c.in_ok-found.ensures.found in
+    explained_good _ c.args.command.now c.args.files (root_seen c.in_ok-root.root) f.0 _ (indexes_seen c.in_ok-indexes.indexes) c.requires c.in_ok-root.ensures f.1 f.2 c.in_ok-indexes.ensures.answer

@@ -1,0 +1,42 @@
+-- What calls answer, and that what a call found stands in the tree.
+use Rattle.std.specs.Prelude.{◌≡◌, ℕ, List, [], ◌∷◌, Option, Result, Ok, Err}
+use Rattle.base_core.specs.Calls.{IfObservable}
+use Rattle.base_core.specs.Tree.{TreeState, files_of}
+use Rattle.dep_core.specs.Repositories.{Repository}
+use Rattle.report_core.specs.declared.refusal.Refusal as Refusals
+use Rattle.change_inputs.specs.declared.refused.Refused.{Refused}
+use Rattle.change_inputs.specs.declared.refused.Refused.TheVariants.{Disk, Memory, Refusal}
+
+-- an answer, seen by a view, is what a definition gives; want of memory says nothing of it
+abbrev pub Agrees :
+    {A B : Type 0} → (A → B) → Result A Refused → Result B Refusals.Refusal → Type 0
+Agrees view (Ok x) wanted = wanted ≡ Ok (view x)
+Agrees view (Err (Refusal refusal)) wanted = wanted ≡ Err refusal
+Agrees view (Err Disk) wanted = ⊥
+Agrees view (Err Memory) wanted = Unit {0}
+
+-- the same of a call that reads a tree, which may have failed
+abbrev pub AgreesUnlessDisk :
+    {A B : Type 0} → (A → B) → Result A Refused → Result B Refusals.Refusal → Type 0
+AgreesUnlessDisk view (Ok x) wanted = wanted ≡ Ok (view x)
+AgreesUnlessDisk view (Err (Refusal refusal)) wanted = wanted ≡ Err refusal
+AgreesUnlessDisk view (Err Disk) wanted = Unit {0}
+AgreesUnlessDisk view (Err Memory) wanted = Unit {0}
+
+-- no refusal, but a failed tree or want of memory
+abbrev pub IsFailure : Refused → Type 0
+IsFailure (Refusal refusal) = ⊥
+IsFailure Disk = Unit {0}
+IsFailure Memory = Unit {0}
+
+-- where the tree tells its files, this stands under the name
+abbrev pub StandsAt : List TreeState → List ℕ → Option (List ℕ) → Type 0
+StandsAt history name found = IfObservable history (λ v. found ≡ files_of v name)
+
+-- the same of what was found under the path of each repository
+abbrev pub StandAt : List TreeState → List Repository → List (Option (List ℕ)) → Type 0
+StandAt history [] [] = Unit {0}
+StandAt history [] (f ∷ found) = ⊥
+StandAt history (repository ∷ repositories) [] = ⊥
+StandAt history (repository ∷ repositories) (f ∷ found) =
+    StandsAt history repository.path f × StandAt history repositories found

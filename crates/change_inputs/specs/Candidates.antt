@@ -1,0 +1,44 @@
+-- The packages that a change chooses from: those of the indexes, and those that are installed.
+use Rattle.std.specs.Prelude.{ℕ, ◌+◌, nat_lt, true, if◌then◌else◌, List, [], ◌∷◌, ◌++◌, length, None, Some, Result, Ok, Err}
+use Rattle.adb_tables.specs.Values.{entries_in, entry_in}
+use Rattle.adb_view.specs.Plain.{Plain}
+use Rattle.dep_core.specs.Repositories.{Repository}
+use Rattle.pool_core.specs.Candidates.{Candidate, candidate_of, candidates_of_index, with_installed}
+use Rattle.pool_core.specs.declared.pool.TheConstants.{MOST_CANDIDATES}
+use Rattle.pool_core.specs.Rank.{SealedPool, UpgradedNames, sealed_pool_by}
+use Rattle.report_core.specs.declared.refusal.Refusal.{Refusal}
+use Rattle.report_core.specs.declared.refusal.Refusal.TheVariants.{TooMany}
+use Rattle.change_inputs.specs.Chains.{and_then}
+use Rattle.change_inputs.specs.Inputs.{Inputs}
+
+-- the packages of each repository's index; the first of these repositories has this number
+abbrev pub candidates_from : ℕ → List Repository → List Plain → List Candidate
+candidates_from n [] indexes = []
+candidates_from n (repository ∷ repositories) [] = []
+candidates_from n (repository ∷ repositories) (index ∷ indexes) =
+    candidates_of_index n repository.tag (entries_in (entry_in index 1))
+    ++ candidates_from (n + 1) repositories indexes
+
+-- an installed package, by the database
+abbrev pub installed_candidate : Plain → Candidate
+installed_candidate pkg = candidate_of (entry_in pkg 0) None None true
+
+-- with the installed packages, in the database's order
+abbrev pub with_all_installed : List Candidate → List Plain → List Candidate
+with_all_installed candidates [] = candidates
+with_all_installed candidates (pkg ∷ packages) =
+    with_all_installed (with_installed candidates (installed_candidate pkg)) packages
+
+-- all candidates, however many
+abbrev pub candidates_of : Inputs → List Candidate
+candidates_of inputs =
+    with_all_installed (candidates_from 1 inputs.root.repositories inputs.indexes)
+    inputs.root.database.packages
+
+-- the candidates under the new world and the names that the command upgrades, unless they are too
+-- many
+unfoldable pub root_pool : Inputs → UpgradedNames → Result SealedPool Refusal
+root_pool inputs upgraded =
+    if nat_lt MOST_CANDIDATES (length (candidates_of inputs)) then
+    Err (TooMany (MOST_CANDIDATES + 1)) else
+    Ok (sealed_pool_by (candidates_of inputs) inputs.root.new_world upgraded)

@@ -1,0 +1,19 @@
+-- What comes of a value that may be refused.
+use Rattle.std.specs.Prelude.{Option, Some, None, Result, Ok, Err}
+use Rattle.base_core.specs.declared.cause.Cause.{Cause}
+use Rattle.report_core.specs.declared.refusal.Refusal.{Refusal}
+
+-- what comes of a value, or the refusal that stands in its place
+abbrev pub and_then : {A B : Type 0} → Result A Refusal → (A → Result B Refusal) → Result B Refusal
+and_then (Ok a) next = next a
+and_then (Err refusal) next = Err refusal
+
+-- a value, or the refusal that an error is told as
+abbrev pub refused_as : {A E : Type 0} → (E → Refusal) → Result A E → Result A Refusal
+refused_as refusal (Ok a) = Ok a
+refused_as refusal (Err e) = Err (refusal e)
+
+-- a value, unless a test failed
+abbrev pub unless_cause : {A : Type 0} → (Cause → Refusal) → Option Cause → A → Result A Refusal
+unless_cause refusal None a = Ok a
+unless_cause refusal (Some cause) a = Err (refusal cause)

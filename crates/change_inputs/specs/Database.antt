@@ -1,0 +1,50 @@
+-- The database of a root: what is installed before a command.
+use Rattle.std.specs.Prelude.{ℕ, Bool, true, false, List, [], Option, Some, None, Result, Ok, Err}
+use Rattle.adb_fields.specs.Repeated.{entries_at}
+use Rattle.adb_schema.specs.Soundness.{first_fault, payload_in, root_value}
+use Rattle.adb_tables.specs.declared.tables.Which.TheVariants.{Idb}
+use Rattle.adb_view.specs.Plain.{Plain}
+use Rattle.report_core.specs.declared.refusal.Refusal.{Refusal}
+use Rattle.report_core.specs.declared.refusal.Refusal.TheVariants.{DatabaseBad, NoDatabase, ResultTooLarge}
+use Rattle.v2_core.specs.Payload.{payload_of_text}
+use Rattle.v2_core.specs.declared.fault.V2Fault.{V2Fault}
+use Rattle.v2_core.specs.declared.fault.V2Fault.TheVariants.{Bad, Memory, TooLarge}
+use Rattle.change_inputs.specs.Chains.{unless_cause}
+
+-- the packages, and whether a text database says them
+pub record Database : Type 0 where
+  pub packages : List Plain
+  pub from_text : Bool
+
+abbrev pub database_by : List Plain → Bool → Database
+database_by packages from_text = record { packages = packages; from_text = from_text }
+
+-- the database in a container
+abbrev pub container_database : List ℕ → Result Database Refusal
+container_database file =
+    unless_cause DatabaseBad (first_fault Idb file)
+    (database_by (entries_at 0 (root_value Idb (payload_in file))) false)
+
+-- what a text database says, as a payload
+abbrev pub payload_database : Result (List ℕ) V2Fault → Result Database Refusal
+payload_database (Ok payload) = Ok (database_by (entries_at 0 (root_value Idb payload)) true)
+payload_database (Err (Bad cause)) = Err (DatabaseBad cause)
+payload_database (Err (TooLarge bytes values)) = Err (ResultTooLarge bytes values)
+-- no text gives this
+payload_database (Err Memory) = Err NoDatabase
+
+-- the database that a text says
+abbrev pub text_database : List ℕ → Result Database Refusal
+text_database text = payload_database (payload_of_text text)
+
+-- where there is none, one without packages may be begun
+abbrev pub new_database : Bool → Result Database Refusal
+new_database true = Ok (database_by [] false)
+new_database false = Err NoDatabase
+
+-- by what is found under the two names of a database, of which the text is looked at last, and
+-- whether one may be begun
+abbrev pub root_database : Bool → Option (List ℕ) → Option (List ℕ) → Result Database Refusal
+root_database may_begin (Some file) text = container_database file
+root_database may_begin None (Some text) = text_database text
+root_database may_begin None None = new_database may_begin

@@ -1,0 +1,10 @@
+-- Of which faults of a tree a command tells.
+use Rattle.std.specs.Prelude.{◌≡◌}
+use Rattle.base_core.specs.declared.tree.TreeFault.{TreeFault}
+use Rattle.base_core.specs.declared.tree.TreeFault.TheVariants as Trees
+use Rattle.change_inputs.specs.declared.refused.Refused.{Refused}
+use Rattle.change_inputs.specs.declared.refused.Refused.TheVariants.{Disk, Memory}
+
+abbrev pub IsRefusedOf : TreeFault → Refused → Type 0
+IsRefusedOf Trees.Disk refused = refused ≡ Disk
+IsRefusedOf Trees.Memory refused = refused ≡ Memory

@@ -1,0 +1,21 @@
+-- Index files that pass all tests.
+use Rattle.std.specs.Prelude.{ℕ, Bool, List, Vec, map, is_none}
+use Rattle.std.specs.List.{list_all}
+use Rattle.std.specs.declared.alloc.Global.{Global}
+use Rattle.adb_schema.specs.Soundness.{first_fault, payload_in, root_value}
+use Rattle.adb_tables.specs.declared.tables.Which.TheVariants.{Index}
+use Rattle.adb_view.specs.Plain.{Plain}
+
+-- the bytes of each file
+abbrev pub bytes_of_each : List (Vec ℕ Global) → List (List ℕ)
+bytes_of_each files = map (λ file. file.items) files
+
+abbrev pub is_index : List ℕ → Bool
+is_index file = is_none (first_fault Index file)
+
+abbrev pub are_indexes : List (List ℕ) → Bool
+are_indexes files = list_all is_index files
+
+-- the value of an index file
+abbrev pub index_of_file : List ℕ → Plain
+index_of_file file = root_value Index (payload_in file)

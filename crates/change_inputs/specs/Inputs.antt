@@ -1,0 +1,96 @@
+-- What a change reads of a root, in the order of the tests: the database, world, the repositories,
+-- and their indexes.
+use Rattle.std.specs.Prelude.{ℕ, suc, List, [], ◌∷◌, Option, Result, Ok}
+use Rattle.adb_view.specs.Plain.{Plain}
+use Rattle.command_core.specs.Command.{CommandLine}
+use Rattle.dep_core.specs.Dependency.{Dependency}
+use Rattle.dep_core.specs.Repositories.{Repository}
+use Rattle.make_info.specs.Reads.{Reads}
+use Rattle.report_core.specs.declared.refusal.Refusal.{Refusal}
+use Rattle.root_names.specs.RootNames.{database_name, repositories_name, text_database_name, world_name}
+use Rattle.change_inputs.specs.Chains.{and_then}
+use Rattle.change_inputs.specs.Database.{Database, root_database}
+use Rattle.change_inputs.specs.Indexes.{root_indexes}
+use Rattle.change_inputs.specs.Repositories.{root_repositories}
+use Rattle.change_inputs.specs.World.{new_world, root_world, text_found}
+
+-- what the files of a root say for a command
+pub record Root : Type 0 where
+  pub database : Database
+  -- the text of world's file, world before the command, and the one that it asks for
+  pub world_text : List ℕ
+  pub world : List Dependency
+  pub new_world : List Dependency
+  pub repositories : List Repository
+
+abbrev pub root_by :
+    CommandLine → Database → List ℕ → List Dependency → List Repository → Root
+root_by command database text world repositories = record {
+  database = database;
+  world_text = text;
+  world = world;
+  new_world = new_world command.applet command.operands world;
+  repositories = repositories;
+}
+
+-- by what is found under the names of the database, the text database, world and the repositories;
+-- `--initdb`, which `add` alone has, lets a command begin a database
+abbrev pub root_found :
+    CommandLine → Option (List ℕ) → Option (List ℕ) → Option (List ℕ) → Option (List ℕ)
+    → Result Root Refusal
+root_found command file text world_file repositories_file =
+    and_then (root_database command.flags.initdb file text) (λ database.
+    and_then (root_world (text_found world_file)) (λ world.
+    and_then
+    (root_repositories command.flags.allow_untrusted (text_found repositories_file))
+    (λ repositories.
+    Ok (root_by command database (text_found world_file) world repositories))))
+
+-- the same, and the value of each repository's index
+pub record Inputs : Type 0 where
+  pub root : Root
+  pub indexes : List Plain
+
+abbrev pub inputs_by : Root → List Plain → Inputs
+inputs_by root indexes = record { root = root; indexes = indexes }
+
+-- ---- the numbers of the reads
+
+abbrev pub database_read : ℕ
+database_read = 0
+
+abbrev pub text_database_read : ℕ
+text_database_read = 1
+
+abbrev pub world_read : ℕ
+world_read = 2
+
+abbrev pub repositories_read : ℕ
+repositories_read = 3
+
+abbrev pub first_index_read : ℕ
+first_index_read = 4
+
+-- what is found under the paths of repositories; the read of the first one has this number
+abbrev pub index_reads_from : Reads → ℕ → List Repository → List (Option (List ℕ))
+index_reads_from read n [] = []
+index_reads_from read n (repository ∷ repositories) =
+    read n repository.path ∷ index_reads_from read (suc n) repositories
+
+-- ---- the inputs
+
+abbrev pub root_of : CommandLine → Reads → Result Root Refusal
+root_of command read =
+    root_found command (read database_read database_name)
+    (read text_database_read text_database_name) (read world_read world_name)
+    (read repositories_read repositories_name)
+
+abbrev pub indexes_of : Reads → List Repository → Result (List Plain) Refusal
+indexes_of read repositories =
+    root_indexes (index_reads_from read first_index_read repositories)
+
+-- the inputs of a command that changes what is installed, or its first refusal
+unfoldable pub inputs_of : CommandLine → Reads → Result Inputs Refusal
+inputs_of command read =
+    and_then (root_of command read) (λ root.
+    and_then (indexes_of read root.repositories) (λ indexes. Ok (inputs_by root indexes)))

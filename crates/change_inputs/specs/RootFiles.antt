@@ -1,0 +1,15 @@
+-- The files of a root as they were read.
+use Rattle.std.specs.Prelude.{◌≡◌, List, None}
+use Rattle.base_core.specs.Read.{bytes_in}
+use Rattle.base_core.specs.Tree.{TreeState}
+use Rattle.root_names.specs.RootNames.{database_name, repositories_name, text_database_name, world_name}
+use Rattle.change_inputs.specs.Answers.{StandsAt}
+use Rattle.change_inputs.specs.declared.root.RootFiles.{RootFiles}
+
+-- each stands under its name; the text database is looked for where there is no other
+pub record StandInRoot (history : List TreeState) (files : RootFiles) : Type 0 where
+  pub database : StandsAt history database_name (bytes_in files.database)
+  pub text_database : bytes_in files.database ≡ None
+      → StandsAt history text_database_name (bytes_in files.text_database)
+  pub world : StandsAt history world_name (bytes_in files.world)
+  pub repositories : StandsAt history repositories_name (bytes_in files.repositories)

@@ -1,0 +1,36 @@
+-- What the values of the program stand for.
+use Rattle.std.specs.Prelude.{true, false, List, [], map}
+use Rattle.adb_fields.specs.Repeated.{entries_at}
+use Rattle.adb_schema.specs.Soundness.{payload_in, root_value}
+use Rattle.adb_tables.specs.declared.tables.Which.TheVariants.{Idb}
+use Rattle.adb_view.specs.Plain.{Plain}
+use Rattle.change_inputs.specs.Database.{Database, database_by}
+use Rattle.change_inputs.specs.IndexFiles.{bytes_of_each, index_of_file}
+use Rattle.change_inputs.specs.Inputs.{Inputs, Root, inputs_by}
+use Rattle.change_inputs.specs.declared.database.DatabaseFile.{DatabaseFile}
+use Rattle.change_inputs.specs.declared.database.DatabaseFile.TheVariants.{Container, New, Payload}
+use Rattle.change_inputs.specs.declared.index.IndexFiles.{IndexFiles}
+use Rattle.change_inputs.specs.declared.loaded.Loaded.{Loaded}
+use Rattle.change_inputs.specs.declared.root.TestedRoot.{TestedRoot}
+
+-- the packages that it has, and whether a text says them
+abbrev pub database_seen : DatabaseFile → Database
+database_seen (Container own) =
+    database_by (entries_at 0 (root_value Idb (payload_in own.file.items))) false
+database_seen (Payload own) = database_by (entries_at 0 (root_value Idb own.payload.items)) true
+database_seen New = database_by [] false
+
+abbrev pub indexes_seen : IndexFiles → List Plain
+indexes_seen indexes = map index_of_file (bytes_of_each indexes.files.items)
+
+abbrev pub root_seen : TestedRoot → Root
+root_seen root = record {
+  database = database_seen root.database;
+  world_text = root.worlds.text.items;
+  world = root.worlds.before;
+  new_world = root.worlds.after;
+  repositories = root.repositories;
+}
+
+abbrev pub inputs_seen : Loaded → Inputs
+inputs_seen loaded = inputs_by (root_seen loaded.root) (indexes_seen loaded.indexes)

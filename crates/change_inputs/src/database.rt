@@ -1,0 +1,217 @@
+//! The database of a root: its file, or the text database that is taken over.
+ghost use Rattle.adb_fields.specs.ListValue.{list_value};
+ghost use Rattle.adb_fields.specs.Repeated.{list_of};
+ghost use Rattle.adb_schema.specs.Soundness.{first_fault, payload_fault, payload_in, root_value};
+ghost use Rattle.adb_schema.specs.Views.{idb_value};
+ghost use Rattle.adb_tables.specs.Values.{entries_in};
+ghost use Rattle.adb_tables.specs.declared.tables.Which.TheVariants as Tables;
+ghost use Rattle.base_core.specs.Read.{bytes_in};
+ghost use Rattle.change_inputs.specs.Answers.{Agrees};
+ghost use Rattle.change_inputs.specs.Candidates.{with_all_installed};
+ghost use Rattle.change_inputs.specs.Database.{container_database, new_database, root_database, text_database};
+ghost use Rattle.db_core.specs.Seen.{packages_of};
+ghost use Rattle.pool_core.specs.Values.{IsPoolFault};
+ghost use Rattle.pool_core.specs.declared.pool.TheConstants.{MOST_CANDIDATES};
+ghost use Rattle.std.specs.Prelude.{◌≡◌, ◌≤◌, true, None, Ok, is_none, IfErr, IfOk, OnOk, length};
+ghost use Rattle.v2_core.specs.Payload.{IsV2Fault, payload_of_text};
+
+use crate::opening::{payload_in, test_file};
+use crate::refused::Refused;
+use adb_schema::{IdbView, List, PackageView, ReadFault, Which};
+use db_core::{Db, open_idb};
+use pool_core::{Pool, PoolFault};
+use report_core::Refusal;
+use std::alloc::{AllocError, Global};
+use v2_core::{V2Fault, read_v2};
+
+/// The bytes of a database's file, which passed all tests.
+#[derive(Drop)]
+pub(crate) struct DatabaseContainer {
+    pub(crate) file: Vec<u8>,
+    ghost passed: { is_none (first_fault Tables.Idb file.items) ≡ true },
+    ghost sound: { is_none (payload_fault Tables.Idb (payload_in file.items)) ≡ true },
+}
+
+/// The payload that a text database says, which passed all tests.
+#[derive(Drop)]
+pub(crate) struct DatabasePayload {
+    pub(crate) payload: Vec<u8>,
+    ghost sound: { is_none (payload_fault Tables.Idb payload.items) ≡ true },
+}
+
+/// The database of a root.
+#[derive(Drop)]
+pub(crate) enum DatabaseFile {
+    /// It is there.
+    Container(DatabaseContainer),
+    /// A text database is taken over.
+    Payload(DatabasePayload),
+    /// There is none, and one without packages is begun.
+    New,
+}
+
+impl DatabaseFile {
+    ghost use Rattle.change_inputs.specs.Seen.{database_seen};
+
+    /// The database of a root, by the files under its two names, of which the text is looked at last.
+    /// Where there is none, `may_begin` says whether one without packages is begun.
+    ///
+    /// # Errors
+    ///
+    /// `NoDatabase`; `DatabaseBad` with the cause of the first test that fails; of a text `DatabaseBad`
+    /// with its first bad line, `ResultTooLarge` where its payload passes a limit of the writer, or
+    /// `DatabaseBad` with the first test of a database that it fails. Or `Memory`.
+    pub(crate) fn of(
+        alloc: Global,
+        may_begin: bool,
+        file: Option<Vec<u8>>,
+        text: Option<Vec<u8>>,
+    ) -> Result<DatabaseFile, Refused>
+        ensures { Agrees database_seen result
+            (root_database may_begin (bytes_in file) (bytes_in text)) }
+    {
+        match file {
+            Some(file) => DatabaseFile::in_container(alloc, file),
+            None => DatabaseFile::taken_over(alloc, may_begin, text),
+        }
+    }
+
+    // The database in a container.
+    fn in_container(alloc: Global, file: Vec<u8>) -> Result<DatabaseFile, Refused>
+        ensures { Agrees database_seen result (container_database file.items) }
+    {
+        match test_file(alloc, &file, Which::Idb) {
+            Ok(()) => Ok(DatabaseFile::Container(DatabaseContainer { file })),
+            Err(ReadFault::Bad(cause)) => Err(Refused::Refusal(Refusal::DatabaseBad { cause })),
+            Err(ReadFault::Memory) => Err(Refused::Memory),
+        }
+    }
+
+    // The database that a text says, or one that is begun.
+    fn taken_over(
+        alloc: Global,
+        may_begin: bool,
+        text: Option<Vec<u8>>,
+    ) -> Result<DatabaseFile, Refused>
+        ensures { Agrees database_seen result (root_database may_begin None (bytes_in text)) }
+    {
+        match text {
+            Some(text) => DatabaseFile::in_text(alloc, &text),
+            None => DatabaseFile::begun(may_begin),
+        }
+    }
+
+    // The database that a text says.
+    fn in_text(alloc: Global, text: &[u8]) -> Result<DatabaseFile, Refused>
+        ensures { Agrees database_seen result (text_database text.now) }
+    {
+        match payload_of_text(alloc, text) {
+            Ok(own) => Ok(DatabaseFile::Payload(own)),
+            Err(V2Fault::Bad(cause)) => Err(Refused::Refusal(Refusal::DatabaseBad { cause })),
+            Err(V2Fault::TooLarge { bytes, values }) => {
+                Err(Refused::Refusal(Refusal::ResultTooLarge { bytes, values }))
+            }
+            Err(V2Fault::Memory) => Err(Refused::Memory),
+        }
+    }
+
+    // A database without packages, where one may be begun.
+    fn begun(may_begin: bool) -> Result<DatabaseFile, Refused>
+        ensures { Agrees database_seen result (new_database may_begin) }
+    {
+        if !may_begin {
+            return Err(Refused::Refusal(Refusal::NoDatabase));
+        }
+        Ok(DatabaseFile::New)
+    }
+
+    /// The packages, which the file lends.
+    pub(crate) fn open(&self, alloc: Global) -> Result<Db<'_>, AllocError>
+        ensures { IfOk result (λ db. packages_of db ≡ (database_seen self.now).packages) }
+    {
+        match self {
+            DatabaseFile::Container(own) => Db::open(alloc, own.payload()),
+            DatabaseFile::Payload(own) => Db::open(alloc, &own.payload),
+            DatabaseFile::New => Ok(Db::empty(alloc)),
+        }
+    }
+
+    /// Adds each package to a pool.
+    pub(crate) fn add_to<'a>(&'a self, pool: &mut Pool<'a>) -> Result<(), PoolFault>
+        requires { length pool.old ≤ MOST_CANDIDATES }
+        ensures fits { OnOk result (length pool.new ≤ MOST_CANDIDATES) }
+        ensures ok { OnOk result (pool.new
+            ≡ with_all_installed pool.old (database_seen self.entry.now).packages) }
+        ensures fault { IfErr result (λ fault. IsPoolFault fault (length
+            (with_all_installed pool.old (database_seen self.entry.now).packages))) }
+    {
+        match self {
+            DatabaseFile::Container(own) => add_packages(pool, &own.idb().packages()),
+            DatabaseFile::Payload(own) => add_packages(pool, &own.idb().packages()),
+            DatabaseFile::New => Ok(()),
+        }
+    }
+
+    /// Whether a text database says them.
+    pub(crate) fn is_from_text(&self) -> bool
+        ensures { result ≡ (database_seen self.now).from_text }
+    {
+        match self {
+            DatabaseFile::Payload(_) => true,
+            DatabaseFile::Container(_) | DatabaseFile::New => false,
+        }
+    }
+}
+
+impl DatabaseContainer {
+    // The payload of the file.
+    fn payload(&self) -> &[u8]
+        ensures { result.now ≡ payload_in self.now.file.items }
+    {
+        payload_in(&self.file)
+    }
+
+    // The database in the file.
+    fn idb(&self) -> IdbView<'_>
+        ensures { idb_value result ≡ root_value Tables.Idb (payload_in self.now.file.items) }
+    {
+        open_idb(self.payload())
+    }
+}
+
+impl DatabasePayload {
+    // The database in the payload.
+    fn idb(&self) -> IdbView<'_>
+        ensures { idb_value result ≡ root_value Tables.Idb self.now.payload.items }
+    {
+        open_idb(&self.payload)
+    }
+}
+
+// Adds each of some packages to a pool.
+fn add_packages<'a>(
+    pool: &mut Pool<'a>,
+    packages: &List<'a, PackageView<'a>>,
+) -> Result<(), PoolFault>
+    requires { length pool.old ≤ MOST_CANDIDATES }
+    ensures fits { OnOk result (length pool.new ≤ MOST_CANDIDATES) }
+    ensures ok { OnOk result (pool.new
+        ≡ with_all_installed pool.old (list_of (entries_in (list_value packages.now)))) }
+    ensures fault { IfErr result (λ fault. IsPoolFault fault (length
+        (with_all_installed pool.old (list_of (entries_in (list_value packages.now)))))) }
+{
+    for i in 0..packages.len() {
+        let package = packages.get(i + 1);
+        pool.add_installed(package.info())?;
+    }
+    Ok(())
+}
+
+// The payload that a text says.
+fn payload_of_text(alloc: Global, text: &[u8]) -> Result<DatabasePayload, V2Fault>
+    ensures ok { IfOk result (λ own. payload_of_text text.now ≡ Ok own.payload.items) }
+    ensures err { IfErr result (λ fault. IsV2Fault fault (payload_of_text text.now)) }
+{
+    let payload = read_v2(alloc, text)?;
+    Ok(DatabasePayload { payload })
+}

@@ -1,0 +1,136 @@
+//! The indexes of repositories: their files, which are all read before one of them is tested.
+ghost use Rattle.adb_schema.specs.Soundness.{root_value};
+ghost use Rattle.adb_schema.specs.Views.{index_value};
+ghost use Rattle.adb_tables.specs.Values.{is_sound};
+ghost use Rattle.adb_tables.specs.declared.tables.Kind.TheVariants as Kinds;
+ghost use Rattle.adb_tables.specs.declared.tables.Which.TheVariants as Tables;
+ghost use Rattle.adb_view.specs.Head.{head_fault, root_of};
+ghost use Rattle.base_core.specs.Read.{OnlyReads};
+ghost use Rattle.change_inputs.specs.Answers.{Agrees, AgreesUnlessDisk, StandAt, StandsAt};
+ghost use Rattle.change_inputs.specs.IndexFiles.{are_indexes, bytes_of_each, index_of_file, is_index};
+ghost use Rattle.change_inputs.specs.Indexes.{index_file, index_files_from, index_in_file, indexes_in_files};
+ghost use Rattle.std.specs.Prelude.{◌≡◌, ◌<◌, ◌++◌, ◌∷◌, [], true, ℕ, List, Option, Some, IfOk, OnOk, is_none, length, slice_get};
+
+use crate::opening::{payload_in, test_file};
+use crate::reading::read_file;
+use crate::refused::Refused;
+use adb_schema::{IndexView, ReadFault, View, Which};
+use adb_tables::values_of_few_visits_have_no_fault;
+use adb_view::Adb;
+use base_core::{Name, Tree};
+use dep_core::Repos;
+use report_core::Refusal;
+use std::alloc::{AllocError, Global};
+
+/// The bytes of index files, each of which passes all tests.
+#[derive(Drop)]
+pub(crate) struct IndexFiles {
+    pub(crate) files: Vec<Vec<u8>>,
+    ghost sound: { are_indexes (bytes_of_each files.items) ≡ true },
+}
+
+impl IndexFiles {
+    ghost use Rattle.change_inputs.specs.Seen.{indexes_seen};
+
+    /// Tests all index files.
+    pub(crate) fn test(alloc: Global, files: Vec<Vec<u8>>) -> Result<IndexFiles, Refused>
+        ensures answer { Agrees indexes_seen result (indexes_in_files 1 (bytes_of_each files.items)) }
+        ensures kept { IfOk result (λ indexes. indexes.files.items ≡ files.items) }
+    {
+        for i in 0..files.len() {
+            test_index_file(alloc, i as u64 + 1, &files[i])?;
+        }
+        Ok(IndexFiles { files })
+    }
+
+    /// How many there are.
+    pub(crate) fn len(&self) -> usize
+        ensures { result ≡ length (indexes_seen self.now) }
+    {
+        self.files.len()
+    }
+
+    /// The index at a place, counted from 0.
+    pub(crate) fn open(&self, i: usize) -> IndexView<'_>
+        requires { i < length (indexes_seen self.now) }
+        ensures { slice_get (indexes_seen self.now) i ≡ Some (index_value result) }
+    {
+        values_of_few_visits_have_no_fault();
+        open_payload(payload_in(&self.files[i]))
+    }
+}
+
+// The index in a payload whose head and root were tested.
+fn open_payload(payload: &[u8]) -> IndexView<'_>
+    requires head { is_none (head_fault payload.now) ≡ true }
+    requires sound { is_sound payload.now (Kinds.Obj Tables.Index) (root_of payload.now) ≡ true }
+    ensures { index_value result ≡ root_value Tables.Index payload.now }
+{
+    let Ok(adb) = Adb::new(payload) else {
+        unreachable!()
+    };
+    IndexView::of(adb, adb.root())
+}
+
+/// Reads the file of each repository's index, up to the first that is absent.
+pub(crate) fn read_index_files<T: Tree>(
+    alloc: Global,
+    repositories: &Repos,
+    tree: &mut T,
+) -> Result<Vec<Vec<u8>>, Refused>
+    ensures found { (found : List (Option (List ℕ)))
+        × StandAt (T.history tree.old) repositories.now found
+        × AgreesUnlessDisk (λ files. bytes_of_each files.items) result (index_files_from 1 found) }
+    ensures count { IfOk result (λ files. length files.items ≡ length repositories.now) }
+    ensures tree { OnlyReads Refused.Disk (T.history tree.old) (T.history tree.new)
+        (T.counts tree.old) (T.counts tree.new) result }
+{
+    let mut files = Vec::new(alloc);
+    for i in 0..repositories.len() {
+        let file = read_index_file(alloc, i as u64 + 1, repositories.path(i), tree)?;
+        push_file(&mut files, file)?;
+    }
+    Ok(files)
+}
+
+// Adds a file at the end.
+fn push_file(files: &mut Vec<Vec<u8>>, file: Vec<u8>) -> Result<(), AllocError>
+    ensures { OnOk result (bytes_of_each files.new.items
+        ≡ bytes_of_each files.old.items ++ file.items ∷ []) }
+{
+    files.push(file)?;
+    Ok(())
+}
+
+// Reads the index file of the repository with this number.
+fn read_index_file<T: Tree>(
+    alloc: Global,
+    number: u64,
+    path: &Name,
+    tree: &mut T,
+) -> Result<Vec<u8>, Refused>
+    ensures found { (found : Option (List ℕ)) × StandsAt (T.history tree.old) path.now found
+        × AgreesUnlessDisk (λ file. file.items) result (index_file number found) }
+    ensures tree { OnlyReads Refused.Disk (T.history tree.old) (T.history tree.new)
+        (T.counts tree.old) (T.counts tree.new) result }
+{
+    match read_file(alloc, tree, path)? {
+        Some(file) => Ok(file),
+        None => Err(Refused::Refusal(Refusal::IndexMissing { repository: number })),
+    }
+}
+
+// Tests the index file of the repository with this number.
+fn test_index_file(alloc: Global, number: u64, file: &[u8]) -> Result<(), Refused>
+    ensures answer { Agrees (λ _. index_of_file file.now) result (index_in_file number file.now) }
+    ensures passed { OnOk result (is_index file.now ≡ true) }
+{
+    match test_file(alloc, file, Which::Index) {
+        Ok(()) => Ok(()),
+        Err(ReadFault::Bad(cause)) => Err(Refused::Refusal(Refusal::IndexBad {
+            repository: number,
+            cause,
+        })),
+        Err(ReadFault::Memory) => Err(Refused::Memory),
+    }
+}

@@ -1,0 +1,20 @@
+//! What a change reads of a root: the database, world, the list of repositories and their indexes,
+//! tested in this order, and the packages to choose from.
+//!
+//! `Loaded::read` reads and tests them, and a `Loaded` keeps them: `db` lends the database, `pool`
+//! makes the candidates of the indexes and of the database. The contracts cite `Inputs` and
+//! `Candidates` of `specs/`, which say them by what is found under each name.
+#![tactic(auto)]
+
+mod database;
+mod index;
+mod loaded;
+mod opening;
+mod reading;
+mod refused;
+mod repositories;
+mod root;
+mod world;
+
+pub use loaded::Loaded;
+pub use refused::Refused;

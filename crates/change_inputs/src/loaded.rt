@@ -1,0 +1,166 @@
+//! What a change reads of a root, and the packages that it chooses from.
+ghost use Rattle.base_core.specs.Read.{OnlyReads};
+ghost use Rattle.change_inputs.specs.Answers.{Agrees, AgreesUnlessDisk};
+ghost use Rattle.change_inputs.specs.Candidates.{candidates_from, candidates_of, root_pool};
+ghost use Rattle.change_inputs.specs.Inputs.{inputs_of};
+ghost use Rattle.change_inputs.specs.RootFiles.{StandInRoot};
+ghost use Rattle.db_core.specs.Seen.{packages_of};
+ghost use Rattle.make_package.specs.Runs.{Explains};
+ghost use Rattle.pool_core.specs.declared.pool.TheConstants.{MOST_CANDIDATES};
+ghost use Rattle.pool_core.specs.Values.{IsPoolFault, names_upgraded_by};
+ghost use Rattle.std.specs.Prelude.{◌≡◌, ◌≤◌, [], IfErr, IfOk, OnOk, length};
+
+use crate::index::{IndexFiles, read_index_files};
+use crate::refused::Refused;
+use crate::root::{RootFiles, TestedRoot, read_root, test_root};
+use base_core::{Tree, readings_in_a_row_join};
+use command_core::Command;
+use db_core::Db;
+use dep_core::{Repos, World};
+use pool_core::{Pool, PoolFault, Sealed, Upgrade};
+use report_core::Refusal;
+use std::alloc::{AllocError, Global};
+
+/// What a change reads of a root: its database, world, its repositories and their indexes. All
+/// passed their tests, and the bytes are kept.
+#[derive(Drop)]
+pub struct Loaded {
+    root: TestedRoot,
+    indexes: IndexFiles,
+    ghost paired: { length indexes.files.items ≡ length root.repositories },
+}
+
+impl Loaded {
+    ghost use Rattle.change_inputs.specs.Seen.{indexes_seen, inputs_seen};
+
+    /// Reads what a command works on: the database, world, the list of repositories and their indexes,
+    /// and tests them in this order. The tree stays as it is, whatever the answer.
+    ///
+    /// # Errors
+    ///
+    /// `NoDatabase`, where there is none and `--initdb` is not given; `DatabaseBad`, or
+    /// `ResultTooLarge` of a text database that passes a limit of the writer; `WorldBad`;
+    /// `RepositoriesBad`; `Untrusted`; `IndexMissing` of the first index that is absent; `IndexBad` of
+    /// the first one that fails a test. `Disk` where the tree failed, and `Memory`.
+    pub fn read<T: Tree>(alloc: Global, command: &Command, tree: &mut T) -> Result<Loaded, Refused>
+        ensures found { Explains (T.history tree.old) (λ read.
+            AgreesUnlessDisk inputs_seen result (inputs_of command.now read)) }
+        ensures tree { OnlyReads Refused.Disk (T.history tree.old) (T.history tree.new)
+            (T.counts tree.old) (T.counts tree.new) result }
+    {
+        readings_in_a_row_join::<RootFiles, Loaded, Refused>();
+        let files = read_root(alloc, tree)?;
+        Loaded::of_files(alloc, command, files, tree)
+    }
+
+    // By the files of a root, which say where the indexes lie.
+    fn of_files<T: Tree>(
+        alloc: Global,
+        command: &Command,
+        files: RootFiles,
+        tree: &mut T,
+    ) -> Result<Loaded, Refused>
+        requires { StandInRoot (T.history tree.old) files }
+        ensures found { Explains (T.history tree.old) (λ read.
+            AgreesUnlessDisk inputs_seen result (inputs_of command.now read)) }
+        ensures tree { OnlyReads Refused.Disk (T.history tree.old) (T.history tree.new)
+            (T.counts tree.old) (T.counts tree.new) result }
+    {
+        let root = test_root(alloc, command, files)?;
+        let found = read_index_files(alloc, &root.repositories, tree)?;
+        let indexes = IndexFiles::test(alloc, found)?;
+        Ok(Loaded { root, indexes })
+    }
+
+    /// The packages that are installed.
+    pub fn db(&self, alloc: Global) -> Result<Db<'_>, AllocError>
+        ensures { IfOk result (λ db.
+            packages_of db ≡ (inputs_seen self.now).root.database.packages) }
+    {
+        self.root.database.open(alloc)
+    }
+
+    /// Whether a text database says what is installed, which a change takes over.
+    pub fn is_from_text(&self) -> bool
+        ensures { result ≡ (inputs_seen self.now).root.database.from_text }
+    {
+        self.root.database.is_from_text()
+    }
+
+    /// The text of world's file, and nothing where it is absent.
+    pub fn world_text(&self) -> &[u8]
+        ensures { result.now ≡ (inputs_seen self.now).root.world_text }
+    {
+        &self.root.worlds.text
+    }
+
+    /// World before the command.
+    pub fn world(&self) -> &World
+        ensures { result.now ≡ (inputs_seen self.now).root.world }
+    {
+        &self.root.worlds.before
+    }
+
+    /// World as the command asks for it.
+    pub fn new_world(&self) -> &World
+        ensures { result.now ≡ (inputs_seen self.now).root.new_world }
+    {
+        &self.root.worlds.after
+    }
+
+    /// The repositories.
+    pub fn repositories(&self) -> &Repos
+        ensures { result.now ≡ (inputs_seen self.now).root.repositories }
+    {
+        &self.root.repositories
+    }
+
+    /// The candidates of the indexes and of the database, under the new world and the names that
+    /// the command upgrades.
+    ///
+    /// # Errors
+    ///
+    /// `TooMany` where there are more than a pool holds, or `Memory`.
+    pub fn pool<'a>(&'a self, alloc: Global, upgrade: Upgrade<'a>) -> Result<Sealed<'a>, Refused>
+        ensures { Agrees (λ pool. pool) result
+            (root_pool (inputs_seen self.entry.now) (names_upgraded_by upgrade.entry)) }
+    {
+        match self.candidates(alloc) {
+            Ok(pool) => Ok(pool.seal(&self.root.worlds.after, upgrade)?),
+            Err(PoolFault::TooMany { count }) => {
+                Err(Refused::Refusal(Refusal::TooMany { count }))
+            }
+            Err(PoolFault::Memory) => Err(Refused::Memory),
+        }
+    }
+
+    // The candidates of the indexes, and then those of the database.
+    fn candidates(&self, alloc: Global) -> Result<Pool<'_>, PoolFault>
+        ensures ok { IfOk result (λ pool. pool ≡ candidates_of (inputs_seen self.now)) }
+        ensures fits { IfOk result (λ pool. length pool ≤ MOST_CANDIDATES) }
+        ensures fault { IfErr result (λ fault.
+            IsPoolFault fault (length (candidates_of (inputs_seen self.now)))) }
+    {
+        let mut pool = Pool::new(alloc);
+        self.add_indexes(&mut pool)?;
+        self.root.database.add_to(&mut pool)?;
+        Ok(pool)
+    }
+
+    // Adds the packages of each index.
+    fn add_indexes<'a>(&'a self, pool: &mut Pool<'a>) -> Result<(), PoolFault>
+        requires { pool.old ≡ [] }
+        ensures fits { OnOk result (length pool.new ≤ MOST_CANDIDATES) }
+        ensures ok { OnOk result (pool.new
+            ≡ candidates_from 1 self.entry.now.root.repositories (indexes_seen self.entry.now.indexes)) }
+        ensures fault { IfErr result (λ fault. IsPoolFault fault (length
+            (candidates_from 1 self.entry.now.root.repositories
+            (indexes_seen self.entry.now.indexes)))) }
+    {
+        for i in 0..self.indexes.len() {
+            let index = self.indexes.open(i);
+            pool.add_index(index, i as u64 + 1, self.root.repositories.tag(i))?;
+        }
+        Ok(())
+    }
+}

@@ -1,0 +1,113 @@
+//! The files of a root, and what they say for a command.
+ghost use Rattle.base_core.specs.Read.{OnlyReads, bytes_in};
+ghost use Rattle.change_inputs.specs.Answers.{Agrees, IsFailure, StandsAt};
+ghost use Rattle.change_inputs.specs.Inputs.{root_found};
+ghost use Rattle.change_inputs.specs.RootFiles.{StandInRoot};
+ghost use Rattle.change_inputs.specs.Seen.{root_seen};
+ghost use Rattle.root_names.specs.RootNames.{database_name, text_database_name};
+ghost use Rattle.std.specs.Prelude.{◌≡◌, IfErr, IfOk, None};
+
+use crate::database::DatabaseFile;
+use crate::reading::read_file;
+use crate::refused::Refused;
+use crate::repositories::repositories_of;
+use crate::world::{Worlds, worlds_of};
+use base_core::{Tree, readings_in_a_row_join};
+use command_core::Command;
+use dep_core::Repos;
+use root_names::{database_name, repositories_name, text_database_name, world_name};
+use std::alloc::Global;
+
+/// The files of a root, each None where it is absent. The text database is looked for where there
+/// is no other.
+#[derive(Drop)]
+pub(crate) struct RootFiles {
+    pub(crate) database: Option<Vec<u8>>,
+    pub(crate) text_database: Option<Vec<u8>>,
+    pub(crate) world: Option<Vec<u8>>,
+    pub(crate) repositories: Option<Vec<u8>>,
+}
+
+/// What the files of a root say for a command. All passed their tests.
+#[derive(Drop)]
+pub(crate) struct TestedRoot {
+    pub(crate) database: DatabaseFile,
+    pub(crate) worlds: Worlds,
+    pub(crate) repositories: Repos,
+}
+
+/// Reads the files of a root.
+pub(crate) fn read_root<T: Tree>(alloc: Global, tree: &mut T) -> Result<RootFiles, Refused>
+    ensures found { IfOk result (λ files. StandInRoot (T.history tree.old) files) }
+    ensures failed { IfErr result IsFailure }
+    ensures tree { OnlyReads Refused.Disk (T.history tree.old) (T.history tree.new)
+        (T.counts tree.old) (T.counts tree.new) result }
+{
+    readings_in_a_row_join::<(Option<Vec<u8>>, Option<Vec<u8>>), Option<Vec<u8>>, Refused>();
+    let world_name = world_name(alloc)?;
+    let repositories_name = repositories_name(alloc)?;
+    let (database, text_database) = read_databases(alloc, tree)?;
+    let world = read_file(alloc, tree, &world_name)?;
+    let repositories = read_file(alloc, tree, &repositories_name)?;
+    Ok(RootFiles {
+        database,
+        text_database,
+        world,
+        repositories,
+    })
+}
+
+// Reads the database of a root, and the text database where there is no other.
+fn read_databases<T: Tree>(
+    alloc: Global,
+    tree: &mut T,
+) -> Result<(Option<Vec<u8>>, Option<Vec<u8>>), Refused>
+    ensures database { IfOk result (λ found.
+        StandsAt (T.history tree.old) database_name (bytes_in found.0)) }
+    ensures text_database { IfOk result (λ found. bytes_in found.0 ≡ None
+        → StandsAt (T.history tree.old) text_database_name (bytes_in found.1)) }
+    ensures failed { IfErr result IsFailure }
+    ensures tree { OnlyReads Refused.Disk (T.history tree.old) (T.history tree.new)
+        (T.counts tree.old) (T.counts tree.new) result }
+{
+    readings_in_a_row_join::<Option<Vec<u8>>, Option<Vec<u8>>, Refused>();
+    let name = database_name(alloc)?;
+    let text_name = text_database_name(alloc)?;
+    let database = read_file(alloc, tree, &name)?;
+    if database.is_some() {
+        return Ok((database, None));
+    }
+    let text_database = read_file(alloc, tree, &text_name)?;
+    Ok((None, text_database))
+}
+
+/// What the files of a root say for a command.
+///
+/// # Errors
+///
+/// Those of the database, then `WorldBad`, `RepositoriesBad`, and `Untrusted` where there is a
+/// repository and `--allow-untrusted` is not given. Or `Memory`.
+pub(crate) fn test_root(
+    alloc: Global,
+    command: &Command,
+    files: RootFiles,
+) -> Result<TestedRoot, Refused>
+    ensures { Agrees root_seen result (root_found command.now (bytes_in files.database)
+        (bytes_in files.text_database) (bytes_in files.world) (bytes_in files.repositories)) }
+{
+    let RootFiles {
+        database,
+        text_database,
+        world,
+        repositories,
+    } = files;
+    let flags = command.flags();
+    let database = DatabaseFile::of(alloc, flags.initdb, database, text_database)?;
+    let worlds = worlds_of(alloc, command, world)?;
+    let repositories = repositories_of(alloc, flags.allow_untrusted, repositories)?;
+    Ok(TestedRoot {
+        database,
+        worlds,
+        repositories,
+    })
+}

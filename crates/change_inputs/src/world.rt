@@ -1,0 +1,114 @@
+//! World before a command, and the one that the command asks for (apk-world(5)).
+ghost use Rattle.base_core.specs.Read.{bytes_in};
+ghost use Rattle.change_inputs.specs.Answers.{Agrees};
+ghost use Rattle.change_inputs.specs.World.{new_world, root_world, text_found, world_with_operand, world_with_operands, world_without_operands};
+ghost use Rattle.std.specs.Prelude.{◌≡◌, IfOk, OnOk};
+
+use crate::refused::Refused;
+use command_core::{Applet, Command, Operand, Operands};
+use dep_core::{World, WorldFault, read_dep};
+use report_core::Refusal;
+use std::alloc::{AllocError, Global};
+
+/// World, before a command and after it.
+#[derive(Drop)]
+pub(crate) struct Worlds {
+    /// The text of world's file, and nothing where it is absent.
+    pub(crate) text: Vec<u8>,
+    /// World as the text says it.
+    pub(crate) before: World,
+    /// World as the command asks for it.
+    pub(crate) after: World,
+}
+
+/// The worlds of a command, by what was found under world's name.
+///
+/// # Errors
+///
+/// `WorldBad` with the first bad line, or `Memory`.
+pub(crate) fn worlds_of(
+    alloc: Global,
+    command: &Command,
+    found: Option<Vec<u8>>,
+) -> Result<Worlds, Refused>
+    ensures read { Agrees (λ worlds. worlds.before) result
+        (root_world (text_found (bytes_in found))) }
+    ensures text { IfOk result (λ worlds. worlds.text.items ≡ text_found (bytes_in found)) }
+    ensures after { IfOk result (λ worlds.
+        worlds.after ≡ new_world command.now.applet command.now.operands worlds.before) }
+{
+    let text = text_found(alloc, found);
+    let before = read_world(alloc, &text)?;
+    let mut after = read_world(alloc, &text)?;
+    change_world(command, &mut after)?;
+    Ok(Worlds {
+        text,
+        before,
+        after,
+    })
+}
+
+/// The bytes of a file; one that is absent counts as empty.
+pub(crate) fn text_found(alloc: Global, found: Option<Vec<u8>>) -> Vec<u8>
+    ensures { result.items ≡ text_found (bytes_in found) }
+{
+    match found {
+        Some(text) => text,
+        None => Vec::new(alloc),
+    }
+}
+
+// World as a text says it.
+fn read_world(alloc: Global, text: &[u8]) -> Result<World, Refused>
+    ensures { Agrees (λ world. world) result (root_world text.now) }
+{
+    match World::read(alloc, text) {
+        Ok(world) => Ok(world),
+        Err(WorldFault::Bad { line }) => Err(Refused::Refusal(Refusal::WorldBad { line })),
+        Err(WorldFault::Memory) => Err(Refused::Memory),
+    }
+}
+
+// Makes of world what a command asks for.
+fn change_world(command: &Command, world: &mut World) -> Result<(), AllocError>
+    ensures { OnOk result
+        (world.new ≡ new_world command.now.applet command.now.operands world.old) }
+{
+    match command.applet() {
+        Applet::Add => add_operands(command.operands(), world),
+        Applet::Del => {
+            take_operands(command.operands(), world);
+            Ok(())
+        }
+        _ => Ok(()),
+    }
+}
+
+// Puts each operand in.
+fn add_operands(operands: &Operands, world: &mut World) -> Result<(), AllocError>
+    ensures { OnOk result (world.new ≡ world_with_operands operands.now world.old) }
+{
+    for i in 0..operands.len() {
+        add_operand(operands.get(i), world)?;
+    }
+    Ok(())
+}
+
+// Puts an operand in.
+fn add_operand(operand: &Operand, world: &mut World) -> Result<(), AllocError>
+    ensures { OnOk result (world.new ≡ world_with_operand operand.now world.old) }
+{
+    match read_dep(operand.text.as_bytes()) {
+        Some(dep) => world.add(&dep),
+        None => Ok(()),
+    }
+}
+
+// Takes each operand's name out.
+fn take_operands(operands: &Operands, world: &mut World)
+    ensures { world.new ≡ world_without_operands operands.now world.old }
+{
+    for i in 0..operands.len() {
+        world.del(operands.get(i).text.as_bytes());
+    }
+}

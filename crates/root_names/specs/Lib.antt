@@ -1,0 +1,2 @@
+-- what the contract of a change will say
+pub mod RootNames
