@@ -40,6 +40,7 @@ fn simulate(alloc: Global, loaded: &Loaded) -> Result<Report, Refused>
     let Some(trace) = solve(alloc, &pool, loaded.new_world())? else {
         return Err(Refused::Refusal(Refusal::Unsatisfied));
     };
-    let report = simulated_report(alloc, &loaded.db(), &pool, &trace)?;
+    let db = loaded.db(alloc)?;
+    let report = simulated_report(alloc, &db, &pool, &trace)?;
     Ok(report)
 }
