@@ -4,9 +4,9 @@
 //! it is refused) and `Choice` (which candidates are chosen). `laws` says that there is one choice.
 #![tactic(auto)]
 
-mod decide;
+mod deciding;
 mod laws;
 
 pub use change_inputs::Refused;
-pub use decide::decide;
+pub use deciding::decide;
 pub use laws::{a_choice_exists, a_choice_is_unique};
