@@ -1,11 +1,12 @@
 -- `add`: its verdict is an outcome, and the tree stays as it is.
 use Rattle.std.proofs.Common.{◌≡◌, ℕ, Bool, true, false, List, [], ◌∷◌, Option, None, Result, Ok, Err, refl, sym, ap, subst, ◌∙◌}
-use Rattle.std.specs.Prelude.{if◌then◌else◌, IfOk, IsErrOf}
+use Rattle.std.specs.Prelude.{if◌then◌else◌, not, IfOk, IsErrOf}
 use Rattle.base_core.specs.Calls.{IfObservable}
 use Rattle.base_core.specs.Faults.{Counts, IsNoFault}
 use Rattle.base_core.specs.Files.{Files, no_names}
 use Rattle.base_core.specs.Read.{OnlyReads}
 use Rattle.base_core.specs.Tree.{TreeState, files_of}
+use Rattle.base_core.specs.declared.tree.TreeFault.{TreeFault}
 use Rattle.base_core.specs.declared.tree.TreeFault.TheVariants as Trees
 use Rattle.change_inputs.specs.Answers.{AgreesUnlessDisk}
 use Rattle.change_inputs.specs.declared.refused.Refused.{Refused}
@@ -13,6 +14,7 @@ use Rattle.change_inputs.specs.declared.refused.Refused.TheVariants.{Disk, Memor
 use Rattle.command_core.specs.Command.{CommandLine}
 use Rattle.command_core.specs.declared.command.Applet.{Applet}
 use Rattle.command_core.specs.declared.command.Applet.TheVariants.{Add}
+use Rattle.command_core.specs.declared.command.Flags.{Flags}
 use Rattle.engine_core.specs.Choice.{IsChoiceFrom}
 use Rattle.engine_core.specs.Decided.{IsDecided, report_as_is}
 use Rattle.engine_core.specs.Simulated.{pool_for, simulated}
@@ -37,12 +39,30 @@ use Rattle.apk_front.proofs.Runs.{History, Judged, Leaves, left_at}
 abbrev pub HaveChoice : Type 0
 HaveChoice = (pool : Result SealedPool Refusal) → (chosen : Option (List ℕ)) × IsChoiceFrom pool chosen
 
+-- whether it is only simulated
+by_not : (b : Bool) → not b ≡ false → b ≡ true
+by_not true is = refl
+by_not false is = sym is
+
+by_not_so : (b : Bool) → not b ≡ true → b ≡ false
+by_not_so true is = sym is
+by_not_so false is = refl
+
+pub is_simulated : (a b : Flags) → a ≡ b → not a.simulate ≡ false → b.simulate ≡ true
+is_simulated a b same is = ap (λ (f : Flags). f.simulate) (sym same) ∙ by_not a.simulate is
+
+pub is_unsimulated : (a b : Flags) → a ≡ b → not a.simulate ≡ true → b.simulate ≡ false
+is_unsimulated a b same is = ap (λ (f : Flags). f.simulate) (sym same) ∙ by_not_so a.simulate is
+
 -- what is decided is told
 told_is : (decided : Result (List ℕ) Refused) (wanted : Result (List ℕ) Refusal) (verdict : Verdict) → AgreesUnlessDisk report_as_is decided wanted → IsToldAs decided verdict → (files : Files) → as_outcome files verdict ≡ report_or_refusal files wanted
 told_is (Ok report) wanted verdict is told files = told files ∙ ap (report_or_refusal files) (sym is)
 told_is (Err (IsRefused refusal)) wanted verdict is told files = told files ∙ ap (report_or_refusal files) (sym is)
 told_is (Err Disk) wanted verdict is told files = absurd told
 told_is (Err Memory) wanted verdict is told files = absurd told
+
+pub told_report : (decided : Result (List ℕ) Refused) (report text : List ℕ) (verdict : Verdict) → decided ≡ Ok report → text ≡ report → ((files : Files) → as_outcome files verdict ≡ just_report files text) → IsToldAs decided verdict
+told_report decided report text verdict is same told = subst (λ (d : Result (List ℕ) Refused). IsToldAs d verdict) (sym is) (λ files. told files ∙ ap (just_report files) same)
 
 simulated_is : (command : CommandLine) (read : Reads) (chosen : Option (List ℕ)) (files : Files) → command.flags.simulate ≡ true → report_or_refusal files (simulated command read chosen) ≡ add read files command chosen
 simulated_is command read chosen files simulate = ap (λ b. if b then report_or_refusal files (simulated command read chosen) else just_refusal files (Usage command.behind)) (sym simulate)
@@ -78,7 +98,13 @@ unsimulated have command verdict old simulate is =
 
 no_fault : (decided : Result (List ℕ) Refused) (old new : History) (a b : Counts) → OnlyReads Disk old new a b decided → (IsErrOf decided Disk → ⊥) → IsNoFault a b
 no_fault (Ok report) old new a b tree never = tree.kept
-no_fault (Err e) old new a b tree never = tree.others never
+no_fault (Err e) old new a b tree never = tree.others (λ is. never (ap Err is))
+
+same_fault : (e : TreeFault) → IsErrOf {T = Verdict} (Err e) Trees.Disk → e ≡ Trees.Disk
+same_fault e is = cc
+
+no_error : (verdict : Verdict) → IsErrOf {E = TreeFault} (Ok verdict) Trees.Disk → ⊥
+no_error verdict is = cc
 
 pub told_reads : (decided : Result (List ℕ) Refused) (judged : Judged) (old new : History) (a b : Counts) → OnlyReads Disk old new a b decided → (IsErrOf judged Trees.Disk → IsErrOf decided Disk) → (IsErrOf decided Disk → IsErrOf judged Trees.Disk)
     → OnlyReads Trees.Disk old new a b judged
@@ -86,7 +112,7 @@ told_reads decided (Ok verdict) old new a b tree disk lost = record {
   same = tree.same;
   goes_on = tree.goes_on;
   disk = λ is. tree.disk (disk is);
-  kept = no_fault decided old new a b tree lost;
+  kept = no_fault decided old new a b tree (λ is. no_error verdict (lost is));
   others = tt;
   proper = tree.proper;
 }
@@ -95,7 +121,7 @@ told_reads decided (Err e) old new a b tree disk lost = record {
   goes_on = tree.goes_on;
   disk = λ is. tree.disk (disk is);
   kept = tt;
-  others = λ other. no_fault decided old new a b tree (λ is. other (lost is));
+  others = λ other. no_fault decided old new a b tree (λ is. other (same_fault e (lost is)));
   proper = tree.proper;
 }
 
