@@ -1,7 +1,7 @@
 -- Names in byte order, each once: which they are, and that they rise.
-use Rattle.std.proofs.Common.{◌≡◌, ◌⊎◌, inl, inr, ◌∙◌, ℕ, Bool, true, false, cond, List, [], ◌∷◌, ◌++◌, map, Option, Some, None, is_some, refl, ap, sym, subst, true≢false}
-use Rattle.std.specs.Prelude.{if◌then◌else◌, option_map}
-use Rattle.std.specs.List.{filter, filter_map}
+use Rattle.std.proofs.Common.{◌≡◌, ◌⊎◌, inl, inr, ◌∙◌, ℕ, Bool, true, false, cond, List, [], ◌∷◌, ◌++◌, map, refl, ap, sym, subst, true≢false}
+use Rattle.std.specs.Prelude.{if◌then◌else◌}
+use Rattle.std.specs.List.{filter}
 use Rattle.std.specs.Ordering.{is_gt, is_lt, ordering_reverse}
 use Rattle.std.specs.declared.cmp.Ordering.{Ordering}
 use Rattle.std.specs.declared.cmp.Ordering.TheVariants.{Less, Equal, Greater}
@@ -106,9 +106,9 @@ rises_next x (y ∷ ys) late rises = by_test (bytes_eq x y) refl
     by_test false e =
         let first : order x y ≡ Less = comes_first x y (late y (inl refl)) e in (
           λ q here. elim here [
-              | inl is ↦ ap (order x) is ∙ first
-              | inr more ↦ nat_list_cmp_total.trans x y q first (rises.0 q more)
-            ],
+            | inl is ↦ ap (order x) is ∙ first
+            | inr more ↦ nat_list_cmp_total.trans x y q first (rises.0 q more)
+          ],
           rises,
         )
 

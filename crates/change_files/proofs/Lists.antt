@@ -1,7 +1,7 @@
 -- The elements of a list, of those that pass a test, and the first of them.
-use Rattle.std.proofs.Common.{◌≡◌, ◌⊎◌, inl, inr, ◌∙◌, ◌<◌, ℕ, zero, suc, Bool, true, false, cond, List, [], ◌∷◌, length, get_or, map, Contains, Option, Some, None, is_some, refl, ap, sym, subst, true≢false, arith}
-use Rattle.std.specs.Prelude.{◌||◌}
+use Rattle.std.proofs.Common.{◌≡◌, ◌⊎◌, inl, inr, ◌∙◌, ◌<◌, ℕ, zero, suc, Bool, true, false, cond, List, [], ◌∷◌, length, get_or, map, Contains, Some, refl, ap, sym, subst, true≢false, arith}
 use Rattle.std.specs.List.{filter, find, list_any}
+use Rattle.std.specs.Cmp.{both_ways}
 use Rattle.std.specs.Str.{bytes_eq}
 use Rattle.std.proofs.lemmas.Bool.{or_cases, or_left, or_right}
 use Rattle.std.proofs.lemmas.Slice.Eq.{bytes_eq-Decides}
@@ -68,3 +68,14 @@ one_at (x ∷ xs) (suc k) d below = inr (one_at xs k d (omega (arith, below)))
 
 pub one_from_contains : {X : Type 0} (xs : List X) (q : X) → Contains xs q → IsOneOf q xs
 one_from_contains {X} xs q found = let P : X → Type 0 = λ r. IsOneOf r xs in subst P found.2 (one_at xs found.0 q found.1)
+
+name_of_any : (q : List ℕ) (names : List (List ℕ)) → list_any (bytes_eq q) names ≡ true → IsIn q names
+name_of_any q [] h = absurd (true≢false (sym h))
+name_of_any q (x ∷ xs) h = elim (or_cases (bytes_eq q x) (list_any (bytes_eq q) xs) h) [
+  | inl is ↦ inl ((bytes_eq-Decides q x).0 is)
+  | inr more ↦ inr (name_of_any q xs more)
+]
+
+-- the test is true of just the names that another test is true of
+pub any_is : (q : List ℕ) (names : List (List ℕ)) (b : Bool) → (IsIn q names → b ≡ true) → (b ≡ true → IsIn q names) → list_any (bytes_eq q) names ≡ b
+any_is q names b there back = both_ways (list_any (bytes_eq q) names) b (λ h. there (name_of_any q names h)) (λ h. any_name q names (back h))

@@ -1,9 +1,9 @@
 -- The owner of a path, and what comes of its file.
-use Rattle.std.proofs.Common.{◌≡◌, ◌⊎◌, inl, inr, ◌∙◌, ℕ, ◌+◌, ◌-◌, ◌==◌, ◌≤◌, Bool, true, false, List, [], ◌∷◌, ◌++◌, length, take, drop, map, Contains, Option, Some, None, is_some, refl, ap, sym, subst, true≢false, arith}
+use Rattle.std.proofs.Common.{◌≡◌, ◌⊎◌, inl, inr, ◌∙◌, ℕ, ◌-◌, ◌==◌, Bool, true, false, List, ◌++◌, length, take, drop, map, Contains, Option, Some, None, is_some, refl, ap, sym, subst, true≢false, arith}
 use Rattle.std.specs.Prelude.{not, ◌&&◌, ◌||◌, if◌then◌else◌, codes, nat_eq, nat_le, option_and_then, option_map}
-use Rattle.std.specs.List.{ends_with, filter, find, list_any}
+use Rattle.std.specs.List.{ends_with, filter, find}
 use Rattle.std.specs.Str.{bytes_eq}
-use Rattle.std.proofs.lemmas.Bool.{and_parts, eqb-true}
+use Rattle.std.proofs.lemmas.Bool.{eqb-true}
 use Rattle.std.proofs.lemmas.List.{drop_at, length-append, take-append-drop, take_at}
 use Rattle.std.proofs.lemmas.Slice.Eq.{bytes_eq-Decides}
 use Rattle.adb_view.specs.Plain.{Plain}
@@ -154,8 +154,8 @@ is_beside path =
     let long = length-append path (codes ".apk-new") in
     let n : length path ≡ length (aside_name path) - 8 = omega (arith, long) in
     let end : ends_with nat_eq (aside_name path) (codes ".apk-new") ≡ true =
-        (bytes_eq-Decides (codes ".apk-new") (drop (length (aside_name path) - 8) (aside_name path))).1
-        (sym (drop_at path (codes ".apk-new") (length (aside_name path) - 8) n)) in
+    (bytes_eq-Decides (codes ".apk-new") (drop (length (aside_name path) - 8) (aside_name path))).1
+    (sym (drop_at path (codes ".apk-new") (length (aside_name path) - 8) n)) in
     ap (λ (b : Bool). if b then Some (take (length (aside_name path) - 8) (aside_name path)) else None) end
     ∙ ap (λ (xs : List ℕ). Some xs) (take_at path (codes ".apk-new") (length (aside_name path) - 8) n)
 

@@ -1,19 +1,20 @@
 -- The lists of a plan and the names that they hold.
-use Rattle.std.proofs.Common.{◌≡◌, ◌⊎◌, inl, inr, ◌∙◌, ◌<◌, ◌↔◌, ℕ, zero, suc, Bool, true, false, cond, List, [], ◌∷◌, ◌++◌, length, get_or, map, Contains, Option, Some, None, is_some, refl, ap, sym, subst, true≢false, arith}
+use Rattle.std.proofs.Common.{◌≡◌, inl, inr, ◌∙◌, ◌↔◌, ℕ, Bool, true, cond, List, [], ◌∷◌, ◌++◌, map, Contains, Option, Some, None, is_some, refl, ap, sym, subst, true≢false}
 use Rattle.std.specs.Prelude.{option_map}
-use Rattle.std.specs.List.{cons_option, filter, filter_map}
+use Rattle.std.specs.List.{cons_option, filter, filter_map, list_any}
+use Rattle.std.specs.Str.{bytes_eq}
 use Rattle.base_core.specs.Files.{Files}
 use Rattle.base_core.specs.Listed.{IsRising}
-use Rattle.base_core.proofs.Rising.{IsIn, Rises, contains_from_in, in_from_contains, pairs_from_rises}
+use Rattle.base_core.proofs.Rising.{IsIn, contains_from_in, in_from_contains, pairs_from_rises}
 use Rattle.db_core.specs.Members.{Listing}
 use Rattle.change_files.specs.Fate.{aside_name}
-use Rattle.change_files.specs.FileChange.{FileChange, coming_owner, was_listed}
+use Rattle.change_files.specs.FileChange.{FileChange}
 use Rattle.change_files.specs.FilesAfter.{is_kept, is_removed, is_written, laid_beside, written_as}
 use Rattle.change_files.specs.NamesAfter.{coming_paths}
 use Rattle.change_files.specs.PlanLists.{FileWrite, aside_of, kept_of, names_in_order, old_paths, removals_of, write_to, writes_of}
 use Rattle.change_files.specs.Touched.{IsWriteOf}
-use Rattle.change_files.proofs.InOrder.{filter_rises, from_filter, from_order, in_filter, in_left, in_map, in_order, in_right, order_rises}
-use Rattle.change_files.proofs.Lists.{IsOneOf, contains_from_one, one_from_contains}
+use Rattle.change_files.proofs.InOrder.{filter_rises, from_filter, in_filter, in_left, in_map, in_order, in_right, order_rises}
+use Rattle.change_files.proofs.Lists.{IsOneOf, any_is, contains_from_one, one_from_contains}
 use Rattle.change_files.proofs.Owned.{aside_found, in_coming_paths, in_old_paths, written_is}
 use Rattle.change_files.proofs.Untouched.{kept_is, removed_is}
 
@@ -147,3 +148,17 @@ written_or_removed change files name written removed = true≢false (sym written
 
 pub removed_or_kept : (change : FileChange) (files : Files) (name : List ℕ) → is_removed change files name ≡ true → is_kept change files name ≡ true → ⊥
 removed_or_kept change files name removed kept = true≢false (sym ((kept_is change files name kept).1) ∙ (removed_is change files name removed).1)
+
+-- ---- as tests on names
+
+pub written_any : (change : FileChange) (files : Files) (name : List ℕ) → list_any (bytes_eq name) (map (λ w. w.name) (writes_of change files)) ≡ is_written change files name
+written_any change files name =
+    any_is name (map (λ w. w.name) (writes_of change files)) (is_written change files name)
+    (λ here. (writes_hold change files name).0 (contains_from_in _ name here))
+    (λ written. in_from_contains _ name ((writes_hold change files name).1 written))
+
+pub removed_any : (change : FileChange) (files : Files) (path : List ℕ) → list_any (bytes_eq path) (removals_of change files) ≡ is_removed change files path
+removed_any change files path =
+    any_is path (removals_of change files) (is_removed change files path)
+    (λ here. (removals_hold change files path).0 (contains_from_in _ path here))
+    (λ removed. in_from_contains _ path ((removals_hold change files path).1 removed))

@@ -1,5 +1,5 @@
 -- Small packages, for rows that are worked by hand.
-use Rattle.std.specs.Prelude.{ℕ, List, [], ◌∷◌, ◌++◌, replicate, codes, Option, Some}
+use Rattle.std.specs.Prelude.{ℕ, List, [], ◌∷◌, codes}
 use Rattle.adb_view.specs.Plain.{Plain, null, int, Plains, none, more, blob_value, arr_value, obj_value}
 use Rattle.base_core.specs.Files.{Files, no_names, put_name}
 use Rattle.db_core.specs.Members.{Listing}

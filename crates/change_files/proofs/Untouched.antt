@@ -1,20 +1,19 @@
 -- Names that a change leaves as they are, and what it makes of others.
-use Rattle.std.proofs.Common.{◌≡◌, ◌∙◌, ℕ, Bool, true, false, List, length, Option, Some, None, is_some, refl, ap, sym, subst, true≢false}
+use Rattle.std.proofs.Common.{◌≡◌, ◌∙◌, ℕ, Bool, true, false, List, length, Option, Some, None, is_some, refl, ap, sym, true≢false}
 use Rattle.std.specs.Prelude.{not, ◌&&◌, ◌||◌, if◌then◌else◌, nat_le, option_and_then}
-use Rattle.std.specs.List.{list_any}
 use Rattle.std.specs.Str.{bytes_eq}
-use Rattle.std.proofs.lemmas.Bool.{and_from, and_left, and_parts, and_right, not_from_false, not_from_true, or_from, or_left, or_parts}
+use Rattle.std.proofs.lemmas.Bool.{and_from, and_left, and_parts, and_right, not_from_false, not_from_true, or_from, or_parts}
 use Rattle.adb_view.specs.Plain.{Plain}
 use Rattle.base_core.specs.Files.{Files}
 use Rattle.db_core.specs.Members.{Listing, is_coming}
 use Rattle.file_guard.specs.AsListed.{is_as_listed}
-use Rattle.change_files.specs.Fate.{Fate, agrees_with_old, aside_name, fate_beside, fate_by, fate_of, gives_way, goes_aside, goes_in, is_as_old, is_guarded}
+use Rattle.change_files.specs.Fate.{agrees_with_old, aside_name, fate_beside, fate_by, fate_of, gives_way, goes_aside, goes_in, is_as_old, is_guarded}
 use Rattle.change_files.specs.FileChange.{FileChange, coming_owner, is_claimed, old_entry, owner_listing, was_listed}
-use Rattle.change_files.specs.FilesAfter.{Records, bytes_after, changed_files, database_name, if_in, is_changed, is_kept, is_left_over, is_removed, is_written, laid_beside, may_stay, or_beside, path_beside, text_database_name, world_bytes_after, world_name, written_as, written_in}
+use Rattle.change_files.specs.FilesAfter.{Records, bytes_after, changed_files, database_name, if_in, is_changed, is_kept, is_left_over, is_removed, is_written, laid_beside, may_stay, path_beside, text_database_name, world_bytes_after, world_name, written_as, written_in}
 use Rattle.change_files.specs.NamesAfter.{coming_paths}
 use Rattle.change_files.specs.Touched.{IsUsersFile, is_as_new, is_aside_name, is_coming_path, is_record_name}
 use Rattle.change_files.proofs.Lists.{any_name}
-use Rattle.change_files.proofs.Owned.{aside_found, beside_is, claimed_by_owner, coming_is, in_coming_paths, nobody_beside, not_written, owner_is, owner_stays}
+use Rattle.change_files.proofs.Owned.{beside_is, claimed_by_owner, coming_is, in_coming_paths, nobody_beside, not_written, owner_is, owner_stays}
 
 -- ---- the bytes under a name
 
@@ -148,8 +147,8 @@ users_fate change files path bytes l own comes =
     let (owner, coming) = coming_is change path l comes in
     let unlike : is_as_listed l.entry bytes ≡ false = ap (λ (o : Option Listing). is_as_new o bytes) (sym comes) ∙ own.unlike_new in
     let test : (not (is_guarded path) || (is_as_listed l.entry bytes || is_as_old (old_entry change path) bytes)) ≡ false =
-        or_from (not (is_guarded path)) (is_as_listed l.entry bytes || is_as_old (old_entry change path) bytes) (not_from_true (is_guarded path) own.guarded)
-        (or_from (is_as_listed l.entry bytes) (is_as_old (old_entry change path) bytes) unlike own.unlike_old) in
+    or_from (not (is_guarded path)) (is_as_listed l.entry bytes || is_as_old (old_entry change path) bytes) (not_from_true (is_guarded path) own.guarded)
+    (or_from (is_as_listed l.entry bytes) (is_as_old (old_entry change path) bytes) unlike own.unlike_old) in
     ap (λ (q : List ℕ). fate_by change q l.entry (files q)) owner.of_path
     ∙ (ap (fate_by change path l.entry) own.present
     ∙ ap (λ (b : Bool). if b then goes_in else fate_beside change path l.entry) test)

@@ -1,7 +1,7 @@
 -- Rows that are worked by hand: two packages with one file, a clash, a reserved name.
-use Rattle.std.proofs.Common.{◌≡◌, ℕ, List, [], ◌∷◌, Option, Some, None, refl, codes, true, false}
+use Rattle.std.proofs.Common.{◌≡◌, ℕ, List, [], ◌∷◌, Some, refl, codes, false}
 use Rattle.adb_view.specs.Plain.{Plain}
-use Rattle.base_core.specs.Files.{Files, no_names}
+use Rattle.base_core.specs.Files.{no_names}
 use Rattle.db_core.specs.Members.{Member, claims_of, coming_member, member_listings, staying_member}
 use Rattle.dep_core.specs.ValueReading.{dependency_of_value}
 use Rattle.version_core.specs.Order.{is_version, tokens}
@@ -12,10 +12,10 @@ use Rattle.file_owners.specs.Owners.{member_beats, owner_of_path}
 use Rattle.file_owners.specs.Replaces.{is_preferred_to, names_package, takes_over}
 use Rattle.change_files.specs.Fate.{fate_of}
 use Rattle.change_files.specs.FileChange.{FileChange, is_claimed, old_entry, old_listings, owner_listing}
-use Rattle.change_files.specs.FilesAfter.{changed_files, is_kept, is_removed, written_as}
+use Rattle.change_files.specs.FilesAfter.{is_kept, is_removed, written_as}
 use Rattle.change_files.specs.NamesAfter.{is_let_go, is_written_name, name_change}
 use Rattle.change_files.specs.PlanLists.{first_reserved, names_in_order, removals_of, writes_of}
-use Rattle.change_files.proofs.Sample.{folder, info, need, new_bytes, package_with, plain_file, with_file}
+use Rattle.change_files.proofs.Sample.{folder, info, need, package_with, plain_file, with_file}
 
 -- ---- two packages with one file
 

@@ -1,5 +1,5 @@
 -- What becomes of a file that comes, and of the one that stands under its path.
-use Rattle.std.specs.Prelude.{ℕ, Bool, true, false, not, ◌&&◌, ◌||◌, if◌then◌else◌, List, ◌++◌, length, nat_le, codes, Option, Some, None, nat_eq}
+use Rattle.std.specs.Prelude.{ℕ, Bool, false, not, ◌&&◌, ◌||◌, if◌then◌else◌, List, ◌++◌, length, nat_le, codes, Option, Some, None, nat_eq}
 use Rattle.std.specs.List.{starts_with}
 use Rattle.adb_view.specs.Plain.{Plain}
 use Rattle.base_core.specs.Files.{Files}

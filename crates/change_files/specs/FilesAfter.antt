@@ -5,7 +5,7 @@ use Rattle.adb_view.specs.Plain.{Plain}
 use Rattle.base_core.specs.Files.{Files}
 use Rattle.db_core.specs.Members.{Listing}
 use Rattle.pkg_core.specs.Contents as Packages
-use Rattle.file_guard.specs.AsListed.{is_as_listed, is_link, link_bytes}
+use Rattle.file_guard.specs.AsListed.{has_target, is_as_listed, link_bytes}
 use Rattle.change_files.specs.Fate.{Fate, fate_of, gives_way, goes_aside, goes_in, is_guarded}
 use Rattle.change_files.specs.FileChange.{FileChange, coming_owner, is_claimed, old_entry, was_listed}
 
@@ -89,7 +89,7 @@ bytes_or_none (Some contents) = contents.bytes
 -- where each member that comes has these contents
 unfoldable pub listing_bytes : (ℕ → List Packages.Contents) → Listing → List ℕ
 listing_bytes contents l =
-    if is_link l.entry then link_bytes l.entry
+    if has_target l.entry then link_bytes l.entry
     else bytes_or_none (find (is_of_file l.folder l.file) (contents l.place))
 
 -- ---- all names

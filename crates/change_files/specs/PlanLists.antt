@@ -1,5 +1,5 @@
 -- What a change removes, writes and keeps, as lists in byte order.
-use Rattle.std.specs.Prelude.{ℕ, Bool, true, false, cond, List, [], ◌∷◌, ◌++◌, map, Option, option_map, is_some, bytes_eq}
+use Rattle.std.specs.Prelude.{ℕ, cond, List, [], ◌∷◌, ◌++◌, map, Option, option_map, is_some, bytes_eq}
 use Rattle.std.specs.List.{filter, filter_map}
 use Rattle.base_core.specs.Files.{Files}
 use Rattle.list_order.specs.ByteOrder.{bytes_cmp, smallest}

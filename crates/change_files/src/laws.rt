@@ -1,14 +1,17 @@
 //! What follows from the definitions, for all changes and files.
 
 ghost use Rattle.std.specs.Prelude.{◌≡◌, ◌⊎◌, ◌↔◌, ℕ, Bool, true, false, List, None, Some, map, is_some, Contains};
+ghost use Rattle.adb_rules.specs.Reserved.{is_reserved};
 ghost use Rattle.base_core.specs.Files.{Files};
 ghost use Rattle.base_core.specs.Listed.{IsRising};
 ghost use Rattle.db_core.specs.Members.{Listing, is_coming, member_listings};
 ghost use Rattle.file_owners.specs.Owners.{owner_of_path};
+ghost use Rattle.path_clashes.specs.Clash.{is_name_after};
 ghost use Rattle.change_files.specs.Fate.{aside_name};
 ghost use Rattle.change_files.specs.FileChange.{FileChange, coming_owner, is_claimed, owner_listing, was_listed};
 ghost use Rattle.change_files.specs.FilesAfter.{Records, changed_files, is_kept, is_removed, is_written, laid_beside, written_as};
-ghost use Rattle.change_files.specs.PlanLists.{FileWrite, aside_of, kept_of, removals_of, writes_of};
+ghost use Rattle.change_files.specs.NamesAfter.{name_change};
+ghost use Rattle.change_files.specs.PlanLists.{FileWrite, aside_of, first_reserved, kept_of, removals_of, writes_of};
 ghost use Rattle.change_files.specs.Touched.{IsUsersFile, IsWriteOf, is_aside_name, is_coming_path, is_record_name};
 
 // ---- what is written
@@ -29,10 +32,20 @@ pub fn what_is_written_is_owned_by_a_package_that_comes()
 
 /// Where something is written the file has those bytes after the change.
 pub fn what_is_written_takes_its_name()
-    ensures { (change : FileChange) (bytes_of : Listing → List ℕ) (records : Records) (files : Files)
-        (name : List ℕ) (l : Listing) → written_as change files name ≡ Some l
+    ensures { (change : FileChange) (bytes_of : Listing → List ℕ) (records : Records)
+        (files : Files) (name : List ℕ) (l : Listing) → written_as change files name ≡ Some l
         → is_record_name records name ≡ false
         → changed_files change bytes_of records files name ≡ Some (bytes_of l) }
+{}
+
+/// No name that is written is reserved where no package that comes lists a reserved path; and the
+/// database, the world and a text database have reserved names.
+pub fn what_is_written_is_not_reserved()
+    ensures written { (change : FileChange) (files : Files) (name : List ℕ) (l : Listing)
+        → first_reserved change.members ≡ None → written_as change files name ≡ Some l
+        → is_reserved name ≡ false }
+    ensures records { (records : Records) (name : List ℕ) → is_record_name records name ≡ true
+        → is_reserved name ≡ true }
 {}
 
 // ---- what is removed
@@ -62,29 +75,42 @@ pub fn the_file_of_a_package_that_stays_is_not_touched()
         → changed_files change bytes_of records files path ≡ files path }
 {}
 
-/// Configuration that the user changed keeps its bytes, unless it is to be purged. One that was laid
-/// beside another file gives way to what is laid there now.
+/// Configuration that the user changed keeps its bytes, unless it is to be purged. One that was
+/// laid beside another file gives way to what is laid there now.
 pub fn configuration_that_the_user_changed_stays()
-    ensures { (change : FileChange) (bytes_of : Listing → List ℕ) (records : Records) (files : Files)
-        (path bytes : List ℕ) → change.purge ≡ false → IsUsersFile change files path bytes
+    ensures { (change : FileChange) (bytes_of : Listing → List ℕ) (records : Records)
+        (files : Files) (path bytes : List ℕ) → change.purge ≡ false
+        → IsUsersFile change files path bytes
         → is_aside_name change files path ≡ false → is_record_name records path ≡ false
         → changed_files change bytes_of records files path ≡ Some bytes }
 {}
 
 /// What is kept stays as it is.
 pub fn what_is_kept_stays()
-    ensures { (change : FileChange) (bytes_of : Listing → List ℕ) (records : Records) (files : Files)
-        (path : List ℕ) → is_kept change files path ≡ true → is_record_name records path ≡ false
+    ensures { (change : FileChange) (bytes_of : Listing → List ℕ) (records : Records)
+        (files : Files) (path : List ℕ) → is_kept change files path ≡ true
+        → is_record_name records path ≡ false
         → changed_files change bytes_of records files path ≡ files path }
 {}
 
-/// A name that no package listed before and that no package which comes lists stays as it is, unless
-/// a file is laid beside another one under it.
+/// A name that no package listed before and that no package which comes lists stays as it is,
+/// unless a file is laid beside another one under it.
 pub fn a_name_that_nobody_lists_is_not_touched()
-    ensures { (change : FileChange) (bytes_of : Listing → List ℕ) (records : Records) (files : Files)
-        (name : List ℕ) → was_listed change name ≡ false → is_coming_path change name ≡ false
+    ensures { (change : FileChange) (bytes_of : Listing → List ℕ) (records : Records)
+        (files : Files) (name : List ℕ) → was_listed change name ≡ false
+        → is_coming_path change name ≡ false
         → is_aside_name change files name ≡ false → is_record_name records name ≡ false
         → changed_files change bytes_of records files name ≡ files name }
+{}
+
+// ---- the names
+
+/// Each file after a change stands under one of the names after.
+pub fn the_files_after_a_change_stand_under_its_names()
+    ensures { (change : FileChange) (bytes_of : Listing → List ℕ) (records : Records)
+        (files : Files) (name : List ℕ)
+        → is_some (changed_files change bytes_of records files name) ≡ true
+        → is_name_after (name_change change files) files name ≡ true }
 {}
 
 // ---- the lists

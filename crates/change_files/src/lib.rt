@@ -1,10 +1,10 @@
 //! What a change of packages makes of the files, name by name.
 //!
-//! It is a crate of definitions. `FileChange` of `specs/` says which packages list a path before and
-//! after; `Fate` what becomes of a file that comes where the user changed the one under its path;
-//! `FilesAfter` what stands under each name after the change; `NamesAfter` which names there are
-//! then; and `PlanLists` the same as lists of what is removed, written and kept. The functions are
-//! laws.
+//! It is a crate of definitions. `FileChange` of `specs/` says which packages list a path before
+//! and after; `Fate` what becomes of a file that comes where the user changed the one under its
+//! path; `FilesAfter` what stands under each name after the change; `NamesAfter` which names there
+//! are then; and `PlanLists` the same as lists of what is removed, written and kept. The functions
+//! are laws.
 #![tactic(auto)]
 
 mod laws;
@@ -12,7 +12,8 @@ mod laws;
 pub use laws::{
     a_name_has_one_place_in_a_plan, a_name_that_nobody_lists_is_not_touched,
     configuration_that_the_user_changed_stays, the_file_of_a_package_that_stays_is_not_touched,
-    the_lists_of_a_plan_hold_just_its_names, the_lists_of_a_plan_rise, what_is_kept_stays,
-    what_is_removed_was_listed_before, what_is_written_is_owned_by_a_package_that_comes,
+    the_files_after_a_change_stand_under_its_names, the_lists_of_a_plan_hold_just_its_names,
+    the_lists_of_a_plan_rise, what_is_kept_stays, what_is_removed_was_listed_before,
+    what_is_written_is_not_reserved, what_is_written_is_owned_by_a_package_that_comes,
     what_is_written_takes_its_name,
 };

@@ -6,13 +6,13 @@ use Rattle.base_core.specs.Tree.{TreeState, files_of}
 use Rattle.command_core.specs.Command.{CommandLine}
 use Rattle.dep_core.specs.Repositories.{Repository}
 use Rattle.make_info.specs.Reads.{Reads}
-use Rattle.make_package.proofs.ReadLemmas.{as_told_of, explained, reads_or}
+use Rattle.make_package.proofs.ReadLemmas.{explained}
 use Rattle.make_package.specs.Runs.{Explains}
 use Rattle.report_core.specs.declared.refusal.Refusal as Refusals
 use Rattle.root_names.specs.RootNames.{database_name, repositories_name, text_database_name, world_name}
 use Rattle.adb_view.specs.Plain.{Plain}
 use Rattle.change_inputs.proofs.Handed.{failure_agrees, handed_on_disk, refused_part, refused_part_disk, unless_disk}
-use Rattle.change_inputs.proofs.IndexSteps.{all_unread, all_unread_stand, unread, unread_stands}
+use Rattle.change_inputs.proofs.IndexSteps.{unread, unread_stands}
 use Rattle.change_inputs.specs.Answers.{Agrees, AgreesUnlessDisk, IsFailure, StandAt, StandsAt}
 use Rattle.change_inputs.specs.Chains.{and_then}
 use Rattle.change_inputs.specs.Indexes.{index_files_from, indexes_in_files, root_indexes}

@@ -1,5 +1,5 @@
 -- Answers that are handed on.
-use Rattle.std.proofs.Common.{◌≡◌, Result, Ok, Err, refl, ap, sym, subst}
+use Rattle.std.proofs.Common.{◌≡◌, Result, Ok, Err, ap, sym, subst}
 use Rattle.std.specs.Result.{IsErrAnd}
 use Rattle.report_core.specs.declared.refusal.Refusal as Refusals
 use Rattle.change_inputs.specs.Chains.{and_then}

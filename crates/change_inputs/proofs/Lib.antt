@@ -4,3 +4,4 @@ pub mod WorldSteps
 pub mod IndexSteps
 pub mod PoolSteps
 pub mod Explained
+pub mod OwnReads

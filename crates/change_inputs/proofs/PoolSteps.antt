@@ -1,9 +1,9 @@
 -- The candidates, index by index and package by package.
-use Rattle.std.proofs.Common.{◌≡◌, ℕ, zero, suc, ◌+◌, ◌-◌, ◌<◌, ◌≤◌, Bool, true, false, List, [], ◌∷◌, ◌++◌, length, drop, Option, Some, None, Result, Ok, Err, refl, sym, ap, ◌∙◌, subst, append_assoc, append-nil, arith, length-append}
-use Rattle.std.specs.Prelude.{IfErr, nat_lt, if◌then◌else◌}
+use Rattle.std.proofs.Common.{◌≡◌, ℕ, suc, ◌+◌, ◌-◌, ◌<◌, ◌≤◌, Bool, true, false, List, [], ◌∷◌, ◌++◌, length, drop, Option, Some, None, Result, Ok, Err, refl, sym, ap, ◌∙◌, subst, append_assoc, append-nil, arith, length-append}
+use Rattle.std.specs.Prelude.{IfErr, if◌then◌else◌}
 use Rattle.std.specs.Result.{IsErrAnd}
 use Rattle.std.proofs.Math.ListN.{drop_of_length-le}
-use Rattle.std.proofs.lemmas.Bool.{ltb-true, lt-ltb, le-ltb}
+use Rattle.std.proofs.lemmas.Bool.{lt-ltb, le-ltb}
 use Rattle.std.specs.List.{list_any, slice_get}
 use Rattle.std.specs.Option.{option_map}
 use Rattle.adb_fields.specs.Repeated.{list_of}
@@ -19,7 +19,6 @@ use Rattle.pool_core.specs.Values.{IsPoolFault}
 use Rattle.pool_core.specs.declared.pool.PoolFault.{PoolFault}
 use Rattle.pool_core.specs.declared.pool.PoolFault.TheVariants as Pools
 use Rattle.pool_core.specs.declared.pool.TheConstants.{MOST_CANDIDATES}
-use Rattle.report_core.specs.declared.refusal.Refusal as Refusals
 use Rattle.report_core.specs.declared.refusal.Refusal.TheVariants.{TooMany}
 use Rattle.change_inputs.specs.Candidates.{candidates_from, candidates_of, installed_candidate, root_pool, with_all_installed}
 use Rattle.change_inputs.specs.Inputs.{Inputs}

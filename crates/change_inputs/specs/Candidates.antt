@@ -1,5 +1,5 @@
 -- The packages that a change chooses from: those of the indexes, and those that are installed.
-use Rattle.std.specs.Prelude.{ℕ, ◌+◌, nat_lt, true, if◌then◌else◌, List, [], ◌∷◌, ◌++◌, length, None, Some, Result, Ok, Err}
+use Rattle.std.specs.Prelude.{ℕ, ◌+◌, nat_lt, true, if◌then◌else◌, List, [], ◌∷◌, ◌++◌, length, None, Result, Ok, Err}
 use Rattle.adb_tables.specs.Values.{entries_in, entry_in}
 use Rattle.adb_view.specs.Plain.{Plain}
 use Rattle.dep_core.specs.Repositories.{Repository}
@@ -8,7 +8,6 @@ use Rattle.pool_core.specs.declared.pool.TheConstants.{MOST_CANDIDATES}
 use Rattle.pool_core.specs.Rank.{SealedPool, UpgradedNames, sealed_pool_by}
 use Rattle.report_core.specs.declared.refusal.Refusal.{Refusal}
 use Rattle.report_core.specs.declared.refusal.Refusal.TheVariants.{TooMany}
-use Rattle.change_inputs.specs.Chains.{and_then}
 use Rattle.change_inputs.specs.Inputs.{Inputs}
 
 -- the packages of each repository's index; the first of these repositories has this number

@@ -8,6 +8,7 @@
 
 mod database;
 mod index;
+mod laws;
 mod loaded;
 mod opening;
 mod reading;
@@ -16,5 +17,6 @@ mod repositories;
 mod root;
 mod world;
 
+pub use laws::inputs_rest_on_their_own_reads;
 pub use loaded::Loaded;
 pub use refused::Refused;

@@ -13,8 +13,8 @@ file_hash entry = text_in (entry_in entry 4)
 abbrev pub file_target : Plain → List ℕ
 file_target entry = text_in (entry_in entry 5)
 
-abbrev pub is_link : Plain → Bool
-is_link entry = not (length (file_target entry) == 0)
+abbrev pub has_target : Plain → Bool
+has_target entry = not (length (file_target entry) == 0)
 
 -- what stands for a link to a target: a mark, and the link's text, which follows two bytes
 abbrev pub link_to : List ℕ → List ℕ

@@ -3,3 +3,6 @@ pub mod PieceRead
 pub mod BlockStepped
 pub mod FilesFound
 pub mod Readings
+pub mod FilesInOrder
+pub mod HandedOut
+pub mod PassSteps

@@ -3,4 +3,5 @@
 pub mod Blocks
 pub mod Opened
 pub mod Readers
+pub mod FilePlaces
 pub mod Passes

@@ -1,17 +1,20 @@
 -- Where the passes over the pieces of a package stand: the first one over all files, and then one
 -- over a single file, as often as is asked for.
-use Rattle.std.specs.Prelude.{◌≡◌, ◌≤◌, ℕ, ◌+◌, ◌==◌, ◌&&◌, Bool, true, false, if◌then◌else◌, List, [], ◌∷◌, length, drop, vec_capacity, vec_len, Option, Some, None}
+use Rattle.std.specs.Prelude.{◌≡◌, ◌≤◌, ℕ, ◌+◌, ◌==◌, ◌&&◌, Bool, true, false, if◌then◌else◌, List, [], ◌∷◌, length, drop, vec_capacity, vec_len, Option, Some, None, Result}
+use Rattle.base_core.specs.Tree.{TreeState}
 use Rattle.adb_block.specs.Reading.{reading_of}
 use Rattle.adb_block.specs.declared.block.BlockKind.TheVariants.{Adb}
 use Rattle.pkg_core.specs.Contents.{Expected, expected_contents}
 use Rattle.pkg_core.specs.Opened.{expected_of}
+use Rattle.pkg_pieces.specs.Seen.{HasAt, IsSeenIn}
 use Rattle.pkg_pieces.specs.Values.{value_of_contents}
 use Rattle.piece_core.specs.Pieces.{PiecesRead, no_piece, part_of, piece, pieces_by_blocks, refusal}
 use Rattle.piece_core.specs.Places.{pieces_at}
 use Rattle.piece_core.specs.declared.part.Part.{Part}
 use Rattle.piece_core.specs.declared.place.BlockPlace.{BlockPlace}
 use Rattle.piece_reader.specs.Blocks.{pieces_from_block}
-use Rattle.piece_reader.specs.Readers.{IsReading, due_files, name_in_tree, offset_of, package_len}
+use Rattle.piece_reader.specs.Readers.{AnswersNext, IsReading, due_in, name_in_tree, offset_of, package_len}
+use Rattle.piece_reader.specs.declared.fault.PieceFault.{PieceFault}
 use Rattle.piece_reader.specs.declared.open.OpenFile.{OpenFile}
 use Rattle.piece_reader.specs.declared.package.PackagePieces.{PackagePieces}
 use Rattle.piece_reader.specs.declared.package.Pass.{Pass}
@@ -112,9 +115,11 @@ IsBegunFrom (Some o) due block pkg now from =
 pub record IsInFirstPass (p : PackagePieces) (pkg : List ℕ) (now : PiecesRead) : Type 0 where
   pub from : PiecesRead
   pub files : AreFilesAt pkg p.blocks.items (all_files p) (all_pieces p pkg)
-      (due_files p.reader) from
-  pub begun : IsBegunFrom p.reader.opened (due_files p.reader) p.reader.block pkg now from
-  pub room : vec_len p.blocks + length (due_files p.reader) ≤ vec_capacity p.blocks
+      (due_in p.reader.place p.reader.opened) from
+  pub begun : IsBegunFrom p.reader.opened (due_in p.reader.place p.reader.opened) p.reader.block
+      pkg now from
+  pub room : vec_len p.blocks + length (due_in p.reader.place p.reader.opened)
+      ≤ vec_capacity p.blocks
 
 abbrev pub InFirstPass : Due → PackagePieces → List ℕ → PiecesRead → Type 0
 InFirstPass Files p pkg now = IsInFirstPass p pkg now
@@ -137,14 +142,25 @@ AreInPass Over p pkg now = (now ≡ no_piece) × HasHandedOut p pkg
 abbrev pub IsPackageReading : PackagePieces → List ℕ → PiecesRead → Type 0
 IsPackageReading p pkg now = AreInPass p.pass p pkg now
 
--- ---- inside
+-- ---- what is answered
 
--- so many files stand in front of the one with these positions, and its block stands there; or it
--- has no contents
-abbrev pub IsBlockOf : ℕ → ℕ → List Expected → PiecesRead → List ℕ → Option (ℕ × ℕ) → Type 0
-IsBlockOf path file es all pkg None = pieces_of_file path file all ≡ no_piece
-IsBlockOf path file es all pkg (Some (k, block)) = (block ≤ length pkg)
-    × (pieces_of_file path file all ≡ pieces_of_first (pieces_from_block (drop k es) block pkg))
+-- some bytes were seen from where the reader stood, and in each package that is so long and has
+-- them this is what comes next
+abbrev pub HandsOutNext : List TreeState → PackagePieces → List ℕ
+    → Result (Option Part) PieceFault → PackagePieces → Type 0
+HandsOutNext history old bytes result new = (seen : List ℕ)
+    × IsSeenIn history (name_of_package old) (len_of_package old) (next_offset_of old) seen
+    × ((pkg : List ℕ) → length pkg ≡ len_of_package old → HasAt pkg (next_offset_of old) seen
+    → (before : PiecesRead) → IsPackageReading old pkg before
+    → AnswersNext (IsPackageReading new pkg) before bytes result)
+
+-- the package and its pieces stay the same
+pub record IsSamePackage (old new : PackagePieces) : Type 0 where
+  pub name : name_of_package new ≡ name_of_package old
+  pub len : len_of_package new ≡ len_of_package old
+  pub all : (pkg : List ℕ) → all_pieces new pkg ≡ all_pieces old pkg
+
+-- ---- inside
 
 -- the block of the file with these positions stands there; or it has no contents
 abbrev pub IsPlaceOf : ℕ → ℕ → PiecesRead → List ℕ → Option BlockPlace → Type 0

@@ -1,5 +1,5 @@
 -- Where a reader of the pieces of a package stands, and what a call of it answers.
-use Rattle.std.specs.Prelude.{◌≡◌, ◌≤◌, ℕ, if◌then◌else◌, List, [], ◌∷◌, length, Option, Some, None, Result, Ok, Err}
+use Rattle.std.specs.Prelude.{◌≡◌, ◌≤◌, ℕ, if◌then◌else◌, List, [], ◌∷◌, is_none, length, Option, Some, None, Result, Ok, Err}
 use Rattle.base_core.specs.declared.cause.Cause.{Cause}
 use Rattle.pkg_core.specs.Contents.{Expected}
 use Rattle.pkg_core.specs.Opened.{expected_of, left_in}
@@ -53,6 +53,10 @@ due_files reader = due_by reader.due reader.place reader.opened
 abbrev pub IsGoingOn : PieceReader → Type 0
 IsGoingOn reader = reader.due ≡ Files
 
+-- and no file is open
+abbrev pub StandsBetween : PieceReader → Type 0
+StandsBetween reader = IsGoingOn reader × (reader.opened ≡ None)
+
 -- ---- what is still to come, of a package of these bytes
 
 abbrev pub ArePiecesFrom : BlockPlace → Option OpenFile → List ℕ → PiecesRead → Type 0
@@ -94,6 +98,17 @@ pub record IsOfFirstDue (before : List Expected) (part : Part)
 abbrev pub ComesInOrder : List Expected → Option Part → List Expected → Type 0
 ComesInOrder before None after = before ≡ []
 ComesInOrder before (Some part) after = IsOfFirstDue before part after
+
+-- behind a piece a reader goes on, and the file is open unless the piece is its last one
+pub record GoesOnBehind (part : Part) (old new : PieceReader) : Type 0 where
+  pub before : IsGoingOn old
+  pub after : IsGoingOn new
+  pub open_file : is_none new.opened ≡ part.last
+
+-- a failed test is kept
+abbrev pub HasRefused : PieceFault → PieceReader → Type 0
+HasRefused (Bad c) reader = reader.due ≡ Refused c
+HasRefused Disk reader = Unit {0}
 
 -- ---- the block of a file that is open
 

@@ -26,7 +26,7 @@ pub(crate) struct BlockRead {
 
 /// What a block of a package in a tree comes to.
 #[derive(Drop)]
-pub enum BlockStep<'a> {
+pub(crate) enum BlockStep<'a> {
     /// No block is left, and no file is due.
     End,
     /// The block holds no contents.
@@ -44,7 +44,7 @@ pub enum BlockStep<'a> {
 /// `Bad` with the first failed test: of the block's framing, as `frame_of` of `adb_block` tells it,
 /// or of its contents' positions and size, as `BlockPlace::step` of `piece_core` does; or `Disk`
 /// where the tree failed.
-pub fn next_block<'a, T: Tree>(
+pub(crate) fn next_block<'a, T: Tree>(
     tree: &mut T,
     name: &Name,
     place: &mut BlockPlace<'a>,

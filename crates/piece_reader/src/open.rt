@@ -15,7 +15,7 @@ use piece_core::{FilePieces, Part};
 /// A file of a package whose pieces are being read, and the offset of its next byte in the package.
 /// Contracts see, by `Opened` of `specs/`, which bytes of the package are still to come.
 #[derive(Drop)]
-pub struct OpenFile<'a> {
+pub(crate) struct OpenFile<'a> {
     pub(crate) file: FilePieces<'a>,
     pub(crate) at: u64,
 }
@@ -29,7 +29,7 @@ impl<'a> OpenFile<'a> {
     ///
     /// `Bad` with `HashDiffers`, behind the last piece, where all bytes together do not have the
     /// file's digest, or `Disk` where the tree failed.
-    pub fn next_piece<T: Tree>(
+    pub(crate) fn next_piece<T: Tree>(
         self,
         tree: &mut T,
         name: &Name,

@@ -1,20 +1,20 @@
 //! The pieces of a package in passes: of all its files, and then of single ones once more.
 
-ghost use Rattle.std.specs.Prelude.{◌≡◌, ◌≤◌, ◌+◌, ℕ, List, Ok, None, drop, length, IfOk, IfSome};
+ghost use Rattle.std.specs.Prelude.{◌≡◌, ◌≤◌, ◌+◌, ℕ, List, Ok, None, length, IfOk, IfSome};
 ghost use Rattle.adb_block.specs.Reading.{reading_of};
 ghost use Rattle.pkg_core.specs.Contents.{expected_contents};
-ghost use Rattle.pkg_core.specs.Opened.{left_in};
 ghost use Rattle.piece_core.specs.Pieces.{PiecesRead, pieces_by_blocks, refusal_in};
 ghost use Rattle.pkg_pieces.specs.Front.{behind_front, front_end, front_file_len};
-ghost use Rattle.pkg_pieces.specs.Seen.{HasAt, IsSeenIn, ReadsFile};
+ghost use Rattle.pkg_pieces.specs.Seen.{ReadsFile};
 ghost use Rattle.pkg_pieces.specs.Values.{value_of_contents};
-ghost use Rattle.piece_reader.specs.Readers.{AnswersNext};
-ghost use Rattle.piece_reader.specs.Passes.{HasEnded, HasHandedOut, IsBlockOf, IsPackageReading, IsPlaceOf, all_pieces, len_of_package, name_of_package, next_offset_of, pieces_of_file};
+ghost use Rattle.piece_reader.specs.Passes.{HandsOutNext, HasEnded, HasHandedOut, IsPackageReading, IsPlaceOf, IsSamePackage, all_pieces, len_of_package, name_of_package, next_offset_of, pieces_of_file};
+ghost use Rattle.piece_reader.specs.declared.package.Pass.TheVariants.{First, OneFile};
 ghost use Rattle.piece_reader.specs.declared.fault.PieceFault.TheVariants.{Disk as DiskFault};
 
 use crate::fault::PieceFault;
 use crate::piece::Piece;
 use crate::reader::PieceReader;
+use crate::walks::{count_files, index_of, skip};
 use adb_block::BlockKind;
 use base_core::{Name, Tree};
 use piece_core::{BlockPlace, Part};
@@ -63,7 +63,8 @@ impl<'a> PackagePieces<'a> {
         ensures pieces { IfOk result (λ pieces. (pkg : List ℕ)
             → IsPackageReading pieces pkg (all_pieces pieces pkg)) }
     {
-        let count = count_files(contents)?;
+        let mut walk = Walk::new(contents.view().paths());
+        let count = count_files(&mut walk)?;
         let blocks = Vec::with_capacity(alloc, count)?;
         Ok(PackagePieces {
             contents,
@@ -90,43 +91,69 @@ impl<'a> PackagePieces<'a> {
         piece: &mut Piece,
     ) -> Result<Option<Part>, PieceFault>
         // Of each package that is so long and has the bytes that were seen.
-        ensures piece { (seen : List ℕ)
-            × IsSeenIn (T.history tree.old) (name_of_package self.old) (len_of_package self.old)
-            (next_offset_of self.old) seen
-            × ((pkg : List ℕ) → length pkg ≡ len_of_package self.old
-            → HasAt pkg (next_offset_of self.old) seen
-            → (before : PiecesRead) → IsPackageReading self.old pkg before
-            → AnswersNext (IsPackageReading self.new pkg) before piece.new result) }
+        ensures piece { HandsOutNext (T.history tree.old) self.old piece.new result self.new }
         ensures end { result ≡ Ok None → HasEnded self.new }
         ensures ended { HasEnded self.old → HasEnded self.new }
-        ensures all { (pkg : List ℕ) → all_pieces self.new pkg ≡ all_pieces self.old pkg }
-        ensures name { name_of_package self.new ≡ name_of_package self.old }
-        ensures len { len_of_package self.new ≡ len_of_package self.old }
+        ensures same { IsSamePackage self.old self.new }
         ensures tree { ReadsFile (name_of_package self.old) (len_of_package self.old) DiskFault
             (T.history tree.old) (T.history tree.new) (T.counts tree.old) (T.counts tree.new)
             result }
     {
-        if let Pass::Over = self.pass {
-            return Ok(None);
+        match self.pass {
+            Pass::First => self.read_first(tree, piece),
+            Pass::OneFile => self.read_again(tree, piece),
+            Pass::Over => Ok(None),
         }
+    }
+
+    /// Reads the next piece of the first pass, and keeps where the block of each file stands.
+    fn read_first<T: Tree>(
+        &mut self,
+        tree: &mut T,
+        piece: &mut Piece,
+    ) -> Result<Option<Part>, PieceFault>
+        requires { self.old.pass ≡ First }
+        ensures piece { HandsOutNext (T.history tree.old) self.old piece.new result self.new }
+        ensures end { result ≡ Ok None → HasEnded self.new }
+        ensures same { IsSamePackage self.old self.new }
+        ensures tree { ReadsFile (name_of_package self.old) (len_of_package self.old) DiskFault
+            (T.history tree.old) (T.history tree.new) (T.counts tree.old) (T.counts tree.new)
+            result }
+    {
         let Some(part) = self.reader.next_piece(tree, piece)? else {
             self.pass = Pass::Over;
             return Ok(None);
         };
         if part.last {
-            self.finish_file();
+            // There is room for each file.
+            let _ = self.blocks.push(self.reader.block);
         }
         Ok(Some(part))
     }
 
-    /// Goes on behind the last piece of a file.
-    fn finish_file(&mut self) {
-        if let Pass::First = self.pass {
-            // There is room for each file.
-            let _ = self.blocks.push(self.reader.block);
-        } else {
+    /// Reads the next piece of a single file.
+    fn read_again<T: Tree>(
+        &mut self,
+        tree: &mut T,
+        piece: &mut Piece,
+    ) -> Result<Option<Part>, PieceFault>
+        requires { self.old.pass ≡ OneFile }
+        ensures piece { HandsOutNext (T.history tree.old) self.old piece.new result self.new }
+        ensures ended { HasEnded self.new }
+        ensures same { IsSamePackage self.old self.new }
+        ensures tree { ReadsFile (name_of_package self.old) (len_of_package self.old) DiskFault
+            (T.history tree.old) (T.history tree.new) (T.counts tree.old) (T.counts tree.new)
+            result }
+    {
+        let found = self.reader.next_piece(tree, piece)?;
+        let last = match found {
+            Some(part) => part.last,
+            None => true,
+        };
+        if last {
             self.pass = Pass::Over;
         }
+        Ok(found)
     }
 
     /// Goes to the file with these positions. From then on its pieces come, tested as before, and
@@ -140,9 +167,7 @@ impl<'a> PackagePieces<'a> {
         ensures good { (pkg : List ℕ) (before : PiecesRead) → IsPackageReading self.old pkg before
             → refusal_in (pieces_of_file path file (all_pieces self.old pkg)) ≡ None }
         ensures ended { HasEnded self.new }
-        ensures all { (pkg : List ℕ) → all_pieces self.new pkg ≡ all_pieces self.old pkg }
-        ensures name { name_of_package self.new ≡ name_of_package self.old }
-        ensures len { len_of_package self.new ≡ len_of_package self.old }
+        ensures same { IsSamePackage self.old self.new }
     {
         match self.place_of(path, file) {
             Some(place) => {
@@ -161,55 +186,16 @@ impl<'a> PackagePieces<'a> {
             → HasHandedOut self.now pkg
             → IsPlaceOf path file (all_pieces self.now pkg) pkg result }
     {
-        let (k, block) = self.block_of(path, file)?;
+        let mut walk = Walk::new(self.contents.view().paths());
+        let k = index_of(&mut walk, self.blocks.len(), path, file)?;
+        let mut walk = Walk::new(self.contents.view().paths());
+        skip(&mut walk, k);
         let len = self.reader.place.len;
         Some(BlockPlace {
             len,
-            walk: walk_behind(self.contents, k),
+            walk,
             last: BlockKind::Contents,
-            at: block.min(len),
+            at: len.min(self.blocks[k]),
         })
     }
-
-    /// How many files stand in front of the one with these positions, and the offset of its block;
-    /// None where it has no contents.
-    fn block_of(&self, path: u32, file: u32) -> Option<(usize, u64)>
-        ensures { (pkg : List ℕ) → HasHandedOut self.now pkg
-            → IsBlockOf path file (expected_contents (value_of_contents self.now.contents.now))
-            (all_pieces self.now pkg) pkg result }
-    {
-        let mut walk = Walk::new(self.contents.view().paths());
-        for (k, block) in self.blocks.iter().enumerate() {
-            let wanted = walk.next()?;
-            if wanted.folder == path && wanted.file == file {
-                return Some((k, *block));
-            }
-        }
-        None
-    }
-}
-
-/// How many files of a package have contents. No memory holds a number for each of 2^64.
-fn count_files(contents: &Contents<'_>) -> Result<usize, AllocError>
-    ensures { IfOk result (λ count.
-        count ≡ length (expected_contents (value_of_contents contents.now))) }
-{
-    let mut walk = Walk::new(contents.view().paths());
-    let mut count: usize = 0;
-    while walk.next().is_some() {
-        count = count.checked_add(1).ok_or(AllocError)?;
-    }
-    Ok(count)
-}
-
-/// The walk over the files of a package, behind so many of them.
-fn walk_behind<'a>(contents: &Contents<'a>, count: usize) -> Walk<'a>
-    ensures { left_in result
-        ≡ drop count (expected_contents (value_of_contents contents.entry.now)) }
-{
-    let mut walk = Walk::new(contents.view().paths());
-    for _ in 0..count {
-        walk.next();
-    }
-    walk
 }

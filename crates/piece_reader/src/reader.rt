@@ -40,7 +40,7 @@ pub struct PieceReader<'a> {
 }
 
 impl<'a> PieceReader<'a> {
-    ghost use Rattle.std.specs.Prelude.{◌≡◌, ◌+◌, ℕ, List, None, length, IfOk, IfSome, OnSome};
+    ghost use Rattle.std.specs.Prelude.{◌≡◌, ◌+◌, ℕ, List, None, is_none, length, IfErr, IfOk, IfSome};
     ghost use Rattle.adb_block.specs.Reading.{reading_of};
     ghost use Rattle.pkg_core.specs.Contents.{expected_contents};
     ghost use Rattle.pkg_core.specs.Opened.{left_in};
@@ -49,7 +49,7 @@ impl<'a> PieceReader<'a> {
     ghost use Rattle.pkg_pieces.specs.Front.{behind_front, front_end, front_file_len};
     ghost use Rattle.pkg_pieces.specs.Seen.{HasAt, IsSeenIn, ReadsFile};
     ghost use Rattle.pkg_pieces.specs.Values.{value_of_contents};
-    ghost use Rattle.piece_reader.specs.Readers.{AnswersNext, ArePiecesFrom, ComesInOrder, IsFileOpened, IsGoingOn, IsPieceRead, IsReading, KeepsBlock, OpensDue, due_files, due_in, name_in_tree, offset_of, package_len};
+    ghost use Rattle.piece_reader.specs.Readers.{AnswersNext, ArePiecesFrom, ComesInOrder, GoesOnBehind, HasRefused, IsFileOpened, IsGoingOn, IsPieceRead, IsReading, KeepsBlock, OpensDue, StandsBetween, due_files, due_in, name_in_tree, offset_of, package_len};
     ghost use Rattle.piece_reader.specs.declared.reader.Due.TheVariants.{Files};
     ghost use Rattle.piece_reader.specs.declared.fault.PieceFault.TheVariants.{Disk as DiskFault};
 
@@ -60,6 +60,7 @@ impl<'a> PieceReader<'a> {
         ensures len { package_len result ≡ front_file_len front.now }
         ensures offset { offset_of result ≡ front_end front.now }
         ensures files { due_files result ≡ expected_contents (value_of_contents contents.entry.now) }
+        ensures start { StandsBetween result }
         // What is to come are the pieces of the blocks behind the front.
         ensures pieces { (pkg : List ℕ) → IsReading result pkg
             (pieces_by_blocks (expected_contents (value_of_contents contents.entry.now))
@@ -119,8 +120,9 @@ impl<'a> PieceReader<'a> {
             × IfOk result (λ found. KeepsBlock self.old pkg before found self.new)) }
         ensures order { IfOk result (λ found.
             ComesInOrder (due_files self.old) found (due_files self.new)) }
-        ensures goes_on { IfOk result (λ found. OnSome found
-            (IsGoingOn self.old × IsGoingOn self.new)) }
+        ensures goes_on { IfOk result (λ found. IfSome found (λ part.
+            GoesOnBehind part self.old self.new)) }
+        ensures refused { IfErr result (λ fault. HasRefused fault self.new) }
         ensures name { name_in_tree self.new ≡ name_in_tree self.old }
         ensures len { package_len self.new ≡ package_len self.old }
         ensures tree { ReadsFile (name_in_tree self.old) (package_len self.old) DiskFault
@@ -153,8 +155,9 @@ impl<'a> PieceReader<'a> {
             × IfOk result (λ found. KeepsBlock self.old pkg before found self.new)) }
         ensures order { IfOk result (λ found.
             ComesInOrder (due_files self.old) found (due_files self.new)) }
-        ensures goes_on { IfOk result (λ found. OnSome found
-            (IsGoingOn self.old × IsGoingOn self.new)) }
+        ensures goes_on { IfOk result (λ found. IfSome found (λ part.
+            GoesOnBehind part self.old self.new)) }
+        ensures refused { IfErr result (λ fault. HasRefused fault self.new) }
         ensures name { name_in_tree self.new ≡ name_in_tree self.old }
         ensures len { package_len self.new ≡ package_len self.old }
         ensures tree { ReadsFile (name_in_tree self.old) (package_len self.old) DiskFault
@@ -194,6 +197,8 @@ impl<'a> PieceReader<'a> {
         ensures order { IfOk result (λ found. ComesInOrder
             (due_in self.old.place self.old.opened) found (due_in self.new.place self.new.opened)) }
         ensures due { self.new.due ≡ self.old.due }
+        ensures open { IfOk result (λ found. IfSome found (λ part.
+            is_none self.new.opened ≡ part.last)) }
         ensures name { name_in_tree self.new ≡ name_in_tree self.old }
         ensures len { package_len self.new ≡ package_len self.old }
         ensures tree { ReadsFile (name_in_tree self.old) (package_len self.old) DiskFault
@@ -203,6 +208,8 @@ impl<'a> PieceReader<'a> {
         let Some(file) = self.open_next(tree)? else {
             return Ok(None);
         };
+        // The file ends in front of the next block.
+        let _end = self.place.at;
         let (part, rest) = file.next_piece(tree, self.name, piece)?;
         self.opened = rest;
         Ok(Some(part))

@@ -1,5 +1,6 @@
-//! Answers questions to `piece_core` and `pkg_pieces`: a file's contents piece by piece, the front of
-//! a block against the next file, and the front of a package. Its stored run has all rows; `tests/lines.md` describes their form.
+//! Answers questions to `piece_core`, `pkg_pieces` and `piece_reader`: a file's contents piece by
+//! piece, the front of a block against the next file, the front of a package, and the pieces of all
+//! files of a package in a tree. Its stored run has all rows; `tests/lines.md` describes their form.
 #![tactic(auto)]
 
 ghost use Rattle.std.specs.Prelude.{◌≡◌, IfSome};
@@ -7,8 +8,12 @@ ghost use Rattle.adb_schema.specs.Checked.{which_of};
 ghost use Rattle.adb_tables.specs.declared.tables.Which.TheVariants as Tables;
 
 mod front;
+mod made;
+mod package;
 
 use crate::front::add_cuts;
+use crate::made::bytes_of;
+use crate::package::{add_back, add_ends, add_read, add_repeated, add_shortened, add_spoiled};
 use adb_schema::Checked;
 use adb_tables::{Which, shape};
 use adb_view::Adb;
@@ -39,13 +44,25 @@ enum Question {
     Pieces,
     Open,
     Cuts,
+    Read,
+    Spoil,
+    Repeat,
+    Shorten,
+    Back,
+    Ends,
 }
 
 #[rattlefmt::skip]
-const QUESTIONS: [(&[u8], Question); 3] = [
+const QUESTIONS: [(&[u8], Question); 9] = [
     (b"pieces", Question::Pieces),
     (b"open", Question::Open),
     (b"cuts", Question::Cuts),
+    (b"read", Question::Read),
+    (b"spoil", Question::Spoil),
+    (b"repeat", Question::Repeat),
+    (b"shorten", Question::Shorten),
+    (b"back", Question::Back),
+    (b"ends", Question::Ends),
 ];
 
 /// The contents of a package's files.
@@ -63,24 +80,21 @@ impl Subject for Files {
             Some(Question::Pieces) => add_pieces(alloc, words, answer),
             Some(Question::Open) => add_opened(alloc, words, answer),
             Some(Question::Cuts) => add_cuts(alloc, word_at(words, 1), answer),
+            Some(Question::Read) => add_read(alloc, words, answer),
+            Some(Question::Spoil) => add_spoiled(alloc, words, answer),
+            Some(Question::Repeat) => add_repeated(alloc, words, answer),
+            Some(Question::Shorten) => add_shortened(alloc, words, answer),
+            Some(Question::Back) => add_back(alloc, words, answer),
+            Some(Question::Ends) => add_ends(alloc, words, answer),
             None => answer.extend_from_slice(b"no question"),
         }
     }
 }
 
 /// The number that a word tells, at most `MOST_BYTES`; 0 where it tells none.
-fn small_number(word: &[u8]) -> u32 {
+pub(crate) fn small_number(word: &[u8]) -> u32 {
     let number = number_of(word).unwrap_or(0);
     u32::try_from(number).unwrap_or(0).min(MOST_BYTES)
-}
-
-/// So many bytes: 0 to 250, again and again.
-fn bytes_of(alloc: Global, len: u32) -> Result<Vec<u8>, AllocError> {
-    let mut bytes = Vec::new(alloc);
-    for i in 0..len {
-        bytes.push((i % 251) as u8)?;
-    }
-    Ok(bytes)
 }
 
 /// The payload of a package with one file of so many bytes, which have this SHA-1.
@@ -163,7 +177,12 @@ fn add_each(
 }
 
 /// Adds the file that a piece is a part of, how long the piece is, and whether it is the last.
-fn add_part(alloc: Global, part: Part, len: usize, answer: &mut Vec<u8>) -> Result<(), AllocError> {
+pub(crate) fn add_part(
+    alloc: Global,
+    part: Part,
+    len: usize,
+    answer: &mut Vec<u8>,
+) -> Result<(), AllocError> {
     let text = format!(in alloc; "{}.{} {len}", part.path, part.file)?;
     add_word(answer, text.as_bytes())?;
     if part.last {

@@ -1,6 +1,5 @@
 use Rattle.std.proofs.Common.{◌≡◌, ap, sym, ◌∙◌, Some, None}
 use Rattle.std.specs.Prelude.{is_none}
-use Rattle.std.specs.List.{slice_get}
 use Rattle.adb_schema.specs.Soundness.{first_fault, root_value}
 use Rattle.adb_tables.specs.Values.{is_sound}
 use Rattle.adb_tables.specs.declared.tables.Kind.TheVariants as Kinds

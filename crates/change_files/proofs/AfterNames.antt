@@ -1,0 +1,117 @@
+-- Each file after a change stands under one of the names after.
+use Rattle.std.proofs.Common.{◌≡◌, inl, inr, ◌∙◌, ℕ, Bool, true, false, List, ◌∷◌, Option, Some, None, is_some, refl, ap, sym, subst, true≢false}
+use Rattle.std.specs.Prelude.{not, ◌&&◌, ◌||◌, if◌then◌else◌, option_and_then}
+use Rattle.std.specs.List.{list_any}
+use Rattle.std.specs.Str.{bytes_eq}
+use Rattle.std.proofs.lemmas.Bool.{and_from, false_from_ne_true, not_from_false, or_from, or_left, or_right}
+use Rattle.std.proofs.lemmas.Slice.Eq.{bytes_eq-Decides}
+use Rattle.base_core.specs.Files.{Files}
+use Rattle.base_core.proofs.Rising.{IsIn}
+use Rattle.db_core.specs.Members.{Listing}
+use Rattle.path_clashes.specs.Clash.{is_name_after}
+use Rattle.change_files.specs.FileChange.{FileChange, is_claimed, old_entry, was_listed}
+use Rattle.change_files.specs.FilesAfter.{Records, bytes_after, changed_files, database_name, is_kept, is_removed, is_written, laid_beside, may_stay, path_beside, text_database_name, world_bytes_after, world_name, written_as}
+use Rattle.change_files.specs.NamesAfter.{coming_paths, is_let_go, is_written_name, name_change}
+use Rattle.change_files.specs.Touched.{is_record_name}
+use Rattle.change_files.proofs.Lists.{any_name}
+use Rattle.change_files.proofs.Owned.{in_coming_paths, is_beside, written_is}
+use Rattle.change_files.proofs.Untouched.{changed_so}
+
+-- ---- what counts as written
+
+counted : (change : FileChange) (files : Files) (name : List ℕ) → is_written_name change files name ≡ true → is_name_after (name_change change files) files name ≡ true
+counted change files name written = or_right (is_some (files name) && not (is_let_go change files name)) (is_written_name change files name) written
+
+counts_path : (change : FileChange) (files : Files) (name : List ℕ) → IsIn name (database_name ∷ world_name ∷ coming_paths change.members) → is_written_name change files name ≡ true
+unfolding is_written_name
+counts_path change files name among =
+    or_left (list_any (bytes_eq name) (database_name ∷ world_name ∷ coming_paths change.members)) (is_some (option_and_then (laid_beside change files) (path_beside name)))
+    (any_name name (database_name ∷ world_name ∷ coming_paths change.members) among)
+
+counts_beside : (change : FileChange) (files : Files) (name : List ℕ) → is_some (option_and_then (laid_beside change files) (path_beside name)) ≡ true → is_written_name change files name ≡ true
+unfolding is_written_name
+counts_beside change files name beside =
+    or_right (list_any (bytes_eq name) (database_name ∷ world_name ∷ coming_paths change.members)) (is_some (option_and_then (laid_beside change files) (path_beside name))) beside
+
+counts_written : (change : FileChange) (files : Files) (name : List ℕ) (l : Listing) → written_as change files name ≡ Some l → is_written_name change files name ≡ true
+counts_written change files name l e =
+    let written = written_is change files name l e in
+    elim written.under [
+      | inl own ↦ counts_path change files name
+          (inr (inr (subst (λ (q : List ℕ). IsIn q (coming_paths change.members)) (sym own.0) (in_coming_paths change l.path l written.comes))))
+      | inr beside ↦ counts_beside change files name
+          (ap (λ (q : List ℕ). is_some (option_and_then (laid_beside change files) (path_beside q))) beside.0
+          ∙ (ap (λ (o : Option (List ℕ)). is_some (option_and_then (laid_beside change files) o)) (is_beside l.path)
+          ∙ ap is_some beside.1))
+    ]
+
+-- ---- what stays
+
+gone_by : (listed claimed written may : Bool) → written ≡ false → (listed && not (claimed || ((listed && (not claimed && not written)) && may))) ≡ true
+    → ((listed && (not claimed && not written)) && not may) ≡ true
+gone_by false claimed written may w e = absurd (true≢false (sym e))
+gone_by true true written may w e = absurd (true≢false (sym e))
+gone_by true false true may w e = absurd (true≢false w)
+gone_by true false false true w e = absurd (true≢false (sym e))
+gone_by true false false false w e = refl
+
+-- a name that is let go, and not written, is removed
+let_go_removed : (change : FileChange) (files : Files) (name : List ℕ) → is_let_go change files name ≡ true → is_written change files name ≡ false → is_removed change files name ≡ true
+unfolding is_let_go is_kept is_removed
+let_go_removed change files name goes unwritten =
+    gone_by (was_listed change name) (is_claimed change name) (is_written change files name) (may_stay change name (files name) (old_entry change name)) unwritten goes
+
+still_there : (change : FileChange) (bytes_of : Listing → List ℕ) (files : Files) (name : List ℕ) → is_written change files name ≡ false → is_some (bytes_after bytes_of None (is_removed change files name) (files name)) ≡ true
+    → is_name_after (name_change change files) files name ≡ true
+still_there change bytes_of files name unwritten there =
+    or_left (is_some (files name) && not (is_let_go change files name)) (is_written_name change files name) (by_removed (is_removed change files name) refl there)
+  where
+    by_removed : (b : Bool) → is_removed change files name ≡ b → is_some (bytes_after bytes_of None b (files name)) ≡ true → (is_some (files name) && not (is_let_go change files name)) ≡ true
+    by_removed true e there = absurd (true≢false (sym there))
+    by_removed false e there =
+        and_from (is_some (files name)) (not (is_let_go change files name)) there
+        (not_from_false (is_let_go change files name)
+        (false_from_ne_true (is_let_go change files name) (λ goes. true≢false (sym (let_go_removed change files name goes unwritten) ∙ e))))
+
+by_written : (change : FileChange) (bytes_of : Listing → List ℕ) (files : Files) (name : List ℕ) → is_some (bytes_after bytes_of (written_as change files name) (is_removed change files name) (files name)) ≡ true
+    → is_name_after (name_change change files) files name ≡ true
+by_written change bytes_of files name there = by_listing (written_as change files name) refl there
+  where
+    by_listing : (o : Option Listing) → written_as change files name ≡ o → is_some (bytes_after bytes_of o (is_removed change files name) (files name)) ≡ true → is_name_after (name_change change files) files name ≡ true
+    by_listing None e there = still_there change bytes_of files name (ap is_some e) there
+    by_listing (Some l) e there = counted change files name (counts_written change files name l e)
+
+-- ---- all of them
+
+equal_names : (name other : List ℕ) → bytes_eq name other ≡ true → name ≡ other
+equal_names name other e = (bytes_eq-Decides name other).0 e
+
+-- a text database that was taken over is absent
+text_gone : (change : FileChange) (bytes_of : Listing → List ℕ) (records : Records) (files : Files) (name : List ℕ) → bytes_eq name database_name ≡ false → bytes_eq name world_name ≡ false
+    → (records.takes_text_over && bytes_eq name text_database_name) ≡ true → changed_files change bytes_of records files name ≡ None
+unfolding changed_files
+text_gone change bytes_of records files name database world text =
+    let after : Option (List ℕ) = bytes_after bytes_of (written_as change files name) (is_removed change files name) (files name) in
+    ap (λ (b : Bool). if b then Some records.database else (if bytes_eq name world_name then world_bytes_after records.world (files name) else (if records.takes_text_over && bytes_eq name text_database_name then None else after))) database
+    ∙ (ap (λ (b : Bool). if b then world_bytes_after records.world (files name) else (if records.takes_text_over && bytes_eq name text_database_name then None else after)) world
+    ∙ ap (λ (b : Bool). if b then None else after) text)
+
+pub names_after : (change : FileChange) (bytes_of : Listing → List ℕ) (records : Records) (files : Files) (name : List ℕ) → is_some (changed_files change bytes_of records files name) ≡ true
+    → is_name_after (name_change change files) files name ≡ true
+names_after change bytes_of records files name there = by_database (bytes_eq name database_name) refl
+  where
+    by_text : (b : Bool) → (records.takes_text_over && bytes_eq name text_database_name) ≡ b → bytes_eq name database_name ≡ false → bytes_eq name world_name ≡ false → is_name_after (name_change change files) files name ≡ true
+    by_text true text database world = absurd (true≢false (sym there ∙ ap is_some (text_gone change bytes_of records files name database world text)))
+    by_text false text database world =
+        let other : is_record_name records name ≡ false =
+        or_from (bytes_eq name database_name) (bytes_eq name world_name || (records.takes_text_over && bytes_eq name text_database_name)) database
+        (or_from (bytes_eq name world_name) (records.takes_text_over && bytes_eq name text_database_name) world text) in
+        by_written change bytes_of files name (sym (ap is_some (changed_so change bytes_of records files name other)) ∙ there)
+
+    by_world : (b : Bool) → bytes_eq name world_name ≡ b → bytes_eq name database_name ≡ false → is_name_after (name_change change files) files name ≡ true
+    by_world true world database = counted change files name (counts_path change files name (inr (inl (equal_names name world_name world))))
+    by_world false world database = by_text (records.takes_text_over && bytes_eq name text_database_name) refl database world
+
+    by_database : (b : Bool) → bytes_eq name database_name ≡ b → is_name_after (name_change change files) files name ≡ true
+    by_database true database = counted change files name (counts_path change files name (inl (equal_names name database_name database)))
+    by_database false database = by_world (bytes_eq name world_name) refl database

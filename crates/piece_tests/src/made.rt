@@ -1,0 +1,167 @@
+//! Packages of several files.
+
+ghost use Rattle.std.specs.Prelude.{◌<◌, ◌^◌, length};
+
+use adb_schema::PACKAGE_WORD;
+use sha1::Sha1;
+use sha2::Digest;
+use std::alloc::{AllocError, Global};
+
+/// The head of a payload, whose root is still to be set, and the info of the package `a` of version
+/// `1`.
+const INFO: &[u8] = b"\0\0\0\0\0\0\0\0\x01a\x011\x03\0\0\0\x08\0\0\x80\x0a\0\0\x80";
+
+/// What is wrong with a package.
+#[derive(Clone, Copy)]
+pub(crate) enum Flaw {
+    /// Nothing.
+    None,
+    /// The byte at an offset of the last file is another than its digest is of.
+    Spoiled(usize),
+    /// In place of the last block of contents the first one stands once more.
+    Repeated,
+    /// The payload of the last block of contents is cut to so many bytes.
+    Shortened(usize),
+}
+
+/// So many bytes: 0 to 250, again and again.
+pub(crate) fn bytes_of(alloc: Global, len: u32) -> Result<Vec<u8>, AllocError> {
+    let mut bytes = Vec::new(alloc);
+    for i in 0..len {
+        bytes.push((i % 251) as u8)?;
+    }
+    Ok(bytes)
+}
+
+/// The container of a package with files of these sizes in one folder, and with this flaw.
+pub(crate) fn package_of(alloc: Global, sizes: &[u32], flaw: Flaw) -> Result<Vec<u8>, AllocError> {
+    let mut file = Vec::new(alloc);
+    file.extend_from_slice(b"ADB.")?;
+    file.extend_from_slice(&PACKAGE_WORD.to_le_bytes())?;
+    let payload = payload_of(alloc, sizes)?;
+    add_block(&mut file, 0, &payload)?;
+    for i in 0..sizes.len() {
+        if sizes[i] > 0 {
+            let flaw = if i + 1 == sizes.len() {
+                flaw
+            } else {
+                Flaw::None
+            };
+            let contents = contents_with(alloc, sizes, i, flaw)?;
+            add_block(&mut file, 2, &contents)?;
+        }
+    }
+    Ok(file)
+}
+
+/// The payload of the contents of the file at a place, counted from 0, with a flaw.
+fn contents_with(alloc: Global, sizes: &[u32], i: usize, flaw: Flaw) -> Result<Vec<u8>, AllocError>
+    requires { i < length sizes.now }
+{
+    match flaw {
+        Flaw::Repeated => contents_of(alloc, 0, sizes[0]),
+        _ => {
+            let contents = contents_of(alloc, i, sizes[i])?;
+            flawed(alloc, &contents, flaw)
+        }
+    }
+}
+
+/// The payload of the contents of the file that so many stand in front of.
+fn contents_of(alloc: Global, before: usize, size: u32) -> Result<Vec<u8>, AllocError> {
+    let mut payload = Vec::new(alloc);
+    payload.extend_from_slice(&1u32.to_le_bytes())?;
+    payload.extend_from_slice(&low_word(before.saturating_add(1)).to_le_bytes())?;
+    payload.extend_from_slice(&bytes_of(alloc, size)?)?;
+    Ok(payload)
+}
+
+/// The payload of contents with a flaw.
+fn flawed(alloc: Global, payload: &[u8], flaw: Flaw) -> Result<Vec<u8>, AllocError> {
+    let mut bytes = payload.to_vec(alloc)?;
+    match flaw {
+        Flaw::Spoiled(at) => {
+            let at = at.saturating_add(8);
+            if at < bytes.len() {
+                bytes[at] = 255;
+            }
+        }
+        Flaw::Shortened(len) => bytes.truncate(len),
+        Flaw::None | Flaw::Repeated => {}
+    }
+    Ok(bytes)
+}
+
+/// The payload of a package with files of these sizes, named `a`, `b` and so on.
+fn payload_of(alloc: Global, sizes: &[u32]) -> Result<Vec<u8>, AllocError> {
+    let mut payload = INFO.to_vec(alloc)?;
+    let mut files = Vec::new(alloc);
+    let mut letter = b'a';
+    for size in sizes {
+        let hash = Sha1::digest(&bytes_of(alloc, *size)?);
+        let object = add_file(&mut payload, letter, *size, &hash)?;
+        files.push(0xe000_0000 | object)?;
+        letter = letter.wrapping_add(1);
+    }
+    let files = add_words(&mut payload, &files)?;
+    let folder = add_words(&mut payload, &[0, 0, 0xd000_0000 | files])?;
+    let folders = add_words(&mut payload, &[0xe000_0000 | folder])?;
+    let root = add_words(&mut payload, &[0xe000_000c, 0xd000_0000 | folders])?;
+    if payload.len() >= 8 {
+        payload[4..8].copy_from_slice(&(0xe000_0000 | root).to_le_bytes());
+    }
+    Ok(payload)
+}
+
+/// Adds a file of this name, size and digest, and gives the offset of its object.
+fn add_file(
+    payload: &mut Vec<u8>,
+    letter: u8,
+    size: u32,
+    hash: &[u8; 20],
+) -> Result<u32, AllocError> {
+    let name = low_word(payload.len());
+    payload.extend_from_slice(&[1, letter])?;
+    let digest = low_word(payload.len());
+    payload.push(20)?;
+    payload.extend_from_slice(hash)?;
+    let words = [
+        0x8000_0000 | name,
+        0,
+        0x1000_0000 | size,
+        0,
+        0x8000_0000 | digest,
+    ];
+    add_words(payload, &words)
+}
+
+/// Adds an object or an array of these words, at an offset that four divides, and gives the offset.
+fn add_words(payload: &mut Vec<u8>, words: &[u32]) -> Result<u32, AllocError> {
+    for _ in 0..(4 - payload.len() % 4) % 4 {
+        payload.push(0)?;
+    }
+    let at = low_word(payload.len());
+    payload.extend_from_slice(&low_word(words.len().saturating_add(1)).to_le_bytes())?;
+    for word in words {
+        payload.extend_from_slice(&word.to_le_bytes())?;
+    }
+    Ok(at)
+}
+
+/// The low 28 bits of a number.
+pub(crate) fn low_word(number: usize) -> u32
+    ensures { result < 2 ^ 28 }
+{
+    (number & 0x0fff_ffff) as u32
+}
+
+/// Adds a block of the kind of this number, and its padding.
+fn add_block(file: &mut Vec<u8>, kind: u32, payload: &[u8]) -> Result<(), AllocError> {
+    let raw = low_word(payload.len()) + 4;
+    file.extend_from_slice(&(kind << 30 | raw).to_le_bytes())?;
+    file.extend_from_slice(payload)?;
+    for _ in 0..(8 - raw % 8) % 8 {
+        file.push(0)?;
+    }
+    Ok(())
+}

@@ -1,0 +1,233 @@
+//! Packages in a tree whose files are read in pieces.
+
+ghost use Rattle.std.specs.Prelude.{◌≡◌, Ok, true};
+ghost use Rattle.piece_reader.specs.Passes.{HasEnded};
+
+use crate::made::{Flaw, low_word, package_of};
+use crate::{add_cause, add_part, small_number};
+use adb_schema::PACKAGE_WORD;
+use base_core::{Name, Words};
+use piece_reader::{PackagePieces, Piece, PieceFault};
+use pkg_core::PackageFault;
+use pkg_pieces::{Contents, Front, FrontFault, read_front};
+use row_lines::{add_number, add_word, word_at};
+use std::alloc::{AllocError, Global};
+use tree_memory::MemoryTree;
+
+/// The most pieces of a row's package, and the most files.
+const MOST: usize = 100;
+
+/// Adds the pieces of a package: `read SIZES`, by the sizes of its files, and how the tree was read.
+pub(crate) fn add_read(
+    alloc: Global,
+    words: &Words,
+    answer: &mut Vec<u8>,
+) -> Result<(), AllocError> {
+    let file = package_with(alloc, words, 1, Flaw::None)?;
+    add_package(alloc, &file, 0, true, answer)
+}
+
+/// The same where a byte of the last file is another: `spoil AT SIZES`.
+pub(crate) fn add_spoiled(
+    alloc: Global,
+    words: &Words,
+    answer: &mut Vec<u8>,
+) -> Result<(), AllocError> {
+    let at = small_number(word_at(words, 1)) as usize;
+    let file = package_with(alloc, words, 2, Flaw::Spoiled(at))?;
+    add_package(alloc, &file, 0, false, answer)
+}
+
+/// The same where the first block of contents stands in place of the last: `repeat SIZES`.
+pub(crate) fn add_repeated(
+    alloc: Global,
+    words: &Words,
+    answer: &mut Vec<u8>,
+) -> Result<(), AllocError> {
+    let file = package_with(alloc, words, 1, Flaw::Repeated)?;
+    add_package(alloc, &file, 0, false, answer)
+}
+
+/// The same where the last block of contents has so many bytes: `shorten LEN SIZES`.
+pub(crate) fn add_shortened(
+    alloc: Global,
+    words: &Words,
+    answer: &mut Vec<u8>,
+) -> Result<(), AllocError> {
+    let len = small_number(word_at(words, 1)) as usize;
+    let file = package_with(alloc, words, 2, Flaw::Shortened(len))?;
+    add_package(alloc, &file, 0, false, answer)
+}
+
+/// The pieces of a package, and then of each file once more, from one that is not there to the
+/// first: `back SIZES`.
+pub(crate) fn add_back(
+    alloc: Global,
+    words: &Words,
+    answer: &mut Vec<u8>,
+) -> Result<(), AllocError> {
+    let file = package_with(alloc, words, 1, Flaw::None)?;
+    let sizes = sizes_from(alloc, words, 1)?;
+    add_package(alloc, &file, low_word(sizes.len()) + 1, false, answer)
+}
+
+/// What a package comes to that is cut at each length, from one offset on, and each length at which
+/// that is another than at the length before: `ends FROM SIZES`.
+pub(crate) fn add_ends(
+    alloc: Global,
+    words: &Words,
+    answer: &mut Vec<u8>,
+) -> Result<(), AllocError> {
+    let first = small_number(word_at(words, 1)) as usize;
+    let file = package_with(alloc, words, 2, Flaw::None)?;
+    let mut last = Vec::new(alloc);
+    for len in first..=file.len() {
+        let mut found = Vec::new(alloc);
+        add_package(alloc, &file[..len], 0, false, &mut found)?;
+        if found != last {
+            add_word(answer, b"from ")?;
+            add_number(alloc, answer, len as u128)?;
+            add_word(answer, &found)?;
+        }
+        last = found;
+    }
+    Ok(())
+}
+
+/// The sizes that the words from a place on tell.
+fn sizes_from(alloc: Global, words: &Words, first: usize) -> Result<Vec<u32>, AllocError> {
+    let mut sizes = Vec::new(alloc);
+    for i in first..words.len() {
+        if sizes.len() < MOST {
+            sizes.push(small_number(word_at(words, i)))?;
+        }
+    }
+    Ok(sizes)
+}
+
+/// A package with files of the sizes that the words from a place on tell, and with a flaw.
+fn package_with(
+    alloc: Global,
+    words: &Words,
+    first: usize,
+    flaw: Flaw,
+) -> Result<Vec<u8>, AllocError> {
+    let sizes = sizes_from(alloc, words, first)?;
+    package_of(alloc, &sizes, flaw)
+}
+
+/// Adds what is read of a package in a tree: all its pieces, and the pieces of each of the first
+/// `back` files once more, from the last to the first; and where it is asked for how many calls of
+/// the tree there were behind the front, and the longest read of them.
+fn add_package(
+    alloc: Global,
+    file: &[u8],
+    back: u32,
+    counts: bool,
+    answer: &mut Vec<u8>,
+) -> Result<(), AllocError> {
+    let Some(name) = Name::read(alloc, b"p")? else {
+        return Ok(());
+    };
+    let mut tree = MemoryTree::new(alloc);
+    if tree.can_put(&name) {
+        tree.put(&name, file)?;
+    }
+    let front = match read_front(alloc, &mut tree, &name, PACKAGE_WORD) {
+        Ok(Some(front)) => front,
+        Ok(None) => return add_word(answer, b"no file"),
+        Err(FrontFault::Bad(cause)) => return add_cause(alloc, cause, answer),
+        Err(FrontFault::Disk) => return add_word(answer, b"a fault"),
+        Err(FrontFault::Memory) => return Err(AllocError),
+    };
+    let calls = tree.calls();
+    add_passes(alloc, &mut tree, &name, &front, back, answer)?;
+    if counts {
+        add_word(answer, b"calls")?;
+        add_number(
+            alloc,
+            answer,
+            u128::from(tree.calls().saturating_sub(calls)),
+        )?;
+        add_word(answer, b"longest")?;
+        add_number(alloc, answer, u128::from(tree.longest_read()))?;
+    }
+    Ok(())
+}
+
+/// Adds the pieces behind a front.
+fn add_passes(
+    alloc: Global,
+    tree: &mut MemoryTree,
+    name: &Name,
+    front: &Front,
+    back: u32,
+    answer: &mut Vec<u8>,
+) -> Result<(), AllocError> {
+    let contents = match Contents::new(alloc, front) {
+        Ok(contents) => contents,
+        Err(PackageFault::Bad(cause)) => return add_cause(alloc, cause, answer),
+        Err(PackageFault::Memory) => return Err(AllocError),
+    };
+    let mut pieces = PackagePieces::new(alloc, front, &contents, name)?;
+    let mut piece = Piece::new();
+    if !add_all(alloc, tree, &mut pieces, &mut piece, answer)? {
+        return add_next(alloc, tree, &mut pieces, &mut piece, answer);
+    }
+    'files: for i in 0..back {
+        pieces.go_to(1, back - i);
+        if !add_all(alloc, tree, &mut pieces, &mut piece, answer)? {
+            return Ok(());
+        }
+    }
+    Ok(())
+}
+
+/// Adds all pieces that are still to come, and tells whether the end came.
+fn add_all(
+    alloc: Global,
+    tree: &mut MemoryTree,
+    pieces: &mut PackagePieces<'_>,
+    piece: &mut Piece,
+    answer: &mut Vec<u8>,
+) -> Result<bool, AllocError>
+    ensures { result ≡ Ok true → HasEnded pieces.new }
+{
+    for _ in 0..MOST {
+        match pieces.next_piece(tree, piece) {
+            Ok(Some(part)) => add_part(alloc, part, piece.bytes().len(), answer)?,
+            Ok(None) => {
+                add_word(answer, b"end")?;
+                return Ok(true);
+            }
+            Err(fault) => {
+                add_fault(alloc, fault, answer)?;
+                return Ok(false);
+            }
+        }
+    }
+    Ok(false)
+}
+
+/// Adds what one more call answers.
+fn add_next(
+    alloc: Global,
+    tree: &mut MemoryTree,
+    pieces: &mut PackagePieces<'_>,
+    piece: &mut Piece,
+    answer: &mut Vec<u8>,
+) -> Result<(), AllocError> {
+    match pieces.next_piece(tree, piece) {
+        Ok(Some(part)) => add_part(alloc, part, piece.bytes().len(), answer),
+        Ok(None) => add_word(answer, b"end"),
+        Err(fault) => add_fault(alloc, fault, answer),
+    }
+}
+
+/// Adds a fault.
+fn add_fault(alloc: Global, fault: PieceFault, answer: &mut Vec<u8>) -> Result<(), AllocError> {
+    match fault {
+        PieceFault::Bad(cause) => add_cause(alloc, cause, answer),
+        PieceFault::Disk => add_word(answer, b"a fault"),
+    }
+}
