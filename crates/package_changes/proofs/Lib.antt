@@ -1,0 +1,5 @@
+mod Lists
+mod NamesInOrder
+mod NameTable
+mod PlacedLaws
+mod ReportLines

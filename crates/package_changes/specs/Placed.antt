@@ -1,12 +1,12 @@
 -- The changes that a selection leads to, with the places of the packages that they are of.
-use Rattle.std.specs.Prelude.{ℕ, List, Option, option_map}
-use Rattle.std.specs.List.{filter_map, find, position_from}
+use Rattle.std.specs.Prelude.{ℕ, List, Option, bytes_eq, option_map, option_and_then, slice_get}
+use Rattle.std.specs.List.{filter_map, find, list_any, position_from}
 use Rattle.adb_view.specs.Plain.{Plain}
 use Rattle.db_core.specs.Packages.{is_package_named}
 use Rattle.pool_core.specs.Candidates.{Candidate}
 use Rattle.pool_core.specs.Rank.{SealedPool, candidate_at, is_at}
 use Rattle.report_core.specs.Reports.{Change}
-use Rattle.package_changes.specs.Changes.{Replacement, change_of_name, is_selected_named, names_on_both_sides}
+use Rattle.package_changes.specs.Changes.{Replacement, change_between, is_selected_named, names_on_both_sides}
 
 -- the packages before, the candidates, the places of the selected ones among them, and the names
 -- that are to be installed again
@@ -36,18 +36,18 @@ pub record PlacedChange : Type 0 where
   pub old : Option ℕ
   pub new : Option ℕ
 
--- a change of the package of this name, with its places
-abbrev pub place_change : PlacedReplacement → List ℕ → Change → PlacedChange
-place_change p name change =
-    record {
-      change = change;
-      old = position_from (is_package_named name) 0 p.before;
-      new = selected_place p.pool p.trace name;
-    }
+-- what becomes of the package of this name, whose places are these
+abbrev pub placed_change_with :
+    List Plain → SealedPool → List (List ℕ) → List ℕ → Option ℕ → Option ℕ → Option PlacedChange
+placed_change_with before pool again name old new =
+    option_map (λ change. record { change = change; old = old; new = new })
+    (change_between (list_any (bytes_eq name) again) name (option_and_then (slice_get before) old)
+    (option_and_then (candidate_at pool) new))
 
 unfoldable pub placed_change_of : PlacedReplacement → List ℕ → Option PlacedChange
 placed_change_of p name =
-    option_map (place_change p name) (change_of_name (replacement_of p) name)
+    placed_change_with p.before p.pool p.again name
+    (position_from (is_package_named name) 0 p.before) (selected_place p.pool p.trace name)
 
 -- in byte order of names
 unfoldable pub placed_changes_of : PlacedReplacement → List PlacedChange

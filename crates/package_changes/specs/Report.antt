@@ -41,10 +41,9 @@ abbrev pub was_installed : List Plain → List ℕ → Bool
 was_installed before name = list_any (is_package_named name) before
 
 -- Of the names that were to go, in byte order, each once. What was not installed does not stay.
-unfoldable pub stay_lines : Replacement → List (List ℕ) → List ℕ
-stay_lines r to_go =
-    flat_map (selected_stay_lines r.selected)
-    (filter (was_installed r.before) (names_in_order to_go))
+abbrev pub stay_lines : List Plain → List Candidate → List (List ℕ) → List ℕ
+stay_lines before selected to_go =
+    flat_map (selected_stay_lines selected) (filter (was_installed before) (names_in_order to_go))
 
 -- ---- the report
 
@@ -55,4 +54,4 @@ selected_sum_line selected = report_line (sum_text (sum_by installed_size select
 -- the changes, what stays of the names that were to go, and the sum
 unfoldable pub simulated_report : Replacement → List (List ℕ) → List ℕ
 simulated_report r to_go =
-    change_lines (changes_of r) ++ stay_lines r to_go ++ selected_sum_line r.selected
+    change_lines (changes_of r) ++ stay_lines r.before r.selected to_go ++ selected_sum_line r.selected

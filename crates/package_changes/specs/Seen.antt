@@ -8,6 +8,7 @@ use Rattle.package_changes.specs.Placed.{PlacedChange, PlacedReplacement}
 use Rattle.package_changes.specs.declared.change.Change.{Change}
 use Rattle.package_changes.specs.declared.change.Change.TheVariants.{Downgrade, Install, Purge, Reinstall, Replace, Upgrade}
 use Rattle.package_changes.specs.declared.change.PlacedChange.{PlacedChange as Placed}
+use Rattle.package_changes.specs.declared.changes.Changes.{Changes}
 
 abbrev pub change_seen : Change → Texts.Change
 change_seen (Install name version) = Texts.Install name.now version.now
@@ -19,6 +20,10 @@ change_seen (Replace name old new) = Texts.Replace name.now old.now new.now
 
 abbrev pub placed_change_seen : Placed → PlacedChange
 placed_change_seen p = record { change = change_seen p.change; old = p.old; new = p.new }
+
+-- the changes, in their order
+abbrev pub changes_seen : Changes → List PlacedChange
+changes_seen changes = map placed_change_seen changes.list.items
 
 -- what a database, a pool and a selection say of a replacement
 abbrev pub replacement_by : Db → SealedPool → List ℕ → List (List ℕ) → PlacedReplacement

@@ -2,11 +2,12 @@
 ghost use Rattle.adb_schema.specs.Views.{package_value};
 ghost use Rattle.db_core.specs.Seen.{packages_of};
 ghost use Rattle.file_owners.specs.Replaces.{version_text};
-ghost use Rattle.package_changes.specs.Changes.{change_between, is_same_texts, package_id, version_change, version_text_cmp};
+ghost use Rattle.package_changes.specs.Changes.{change_between, is_same_texts, package_id, selected_version, version_change, version_text_cmp};
 ghost use Rattle.package_changes.specs.Seen.{change_seen};
 ghost use Rattle.pool_core.specs.Candidates.{is_same_id, version_of_text};
 ghost use Rattle.pool_core.specs.Values.{candidate_value};
-ghost use Rattle.std.specs.Prelude.{◌≡◌, ◌<◌, Some, None, length, option_map, slice_get};
+ghost use Rattle.report_core.specs.Reports as Texts;
+ghost use Rattle.std.specs.Prelude.{◌≡◌, ◌<◌, false, Some, None, length, option_map, slice_get};
 ghost use Rattle.std.specs.Option.{option_cmp};
 ghost use Rattle.version_core.specs.Order.{version_cmp};
 
@@ -40,8 +41,19 @@ pub struct PlacedChange<'a> {
     pub change: Change<'a>,
     /// The place in the database of the package before, counted from 0, if it was there.
     pub old: Option<usize>,
+    pub(crate) new: Option<u32>,
+}
+
+impl<'a> PlacedChange<'a> {
     /// The place of its candidate, if one is selected.
-    pub new: Option<CandId>,
+    pub fn new_place(&self) -> Option<CandId>
+        ensures { result ≡ self.now.new }
+    {
+        match self.new {
+            Some(place) => Some(CandId { place }),
+            None => None,
+        }
+    }
 }
 
 /// What is compared of a package of the database.
@@ -54,16 +66,27 @@ pub(crate) struct OldPackage<'a> {
 impl<'a> OldPackage<'a> {
     /// The texts of a package. The mark serves the borrow checker alone, which does not know the parts
     /// of a view that is made and lent here unless the signature names the view as an argument.
-    pub(crate) fn of(package: &PackageView<'a>, _mark: PhantomData<PackageView<'a>>) -> OldPackage<'a>
-        ensures version { result.version.now ≡ version_text (package_value package.now) }
-        ensures id { result.id.now ≡ package_id (package_value package.now) }
+    pub(crate) fn of(
+        pkg: &PackageView<'a>,
+        _mark: PhantomData<PackageView<'a>>,
+    ) -> OldPackage<'a>
+        ensures version { result.version.now ≡ version_text (package_value pkg.now) }
+        ensures id { result.id.now ≡ package_id (package_value pkg.now) }
     {
-        let info = package.info();
+        let info = pkg.info();
         OldPackage {
             version: info.version(),
             id: info.hashes(),
         }
     }
+}
+
+/// What becomes of a candidate whose name no package of the database has.
+pub(crate) fn install<'a>(name: &'a [u8], new: &Candidate<'a>) -> Change<'a>
+    ensures { change_seen result
+        ≡ Texts.Install name.entry.now (selected_version (candidate_value new.now)) }
+{
+    Change::Install(name, new.info.version())
 }
 
 /// What becomes of a package of the database for which no candidate is selected.
@@ -74,11 +97,11 @@ pub(crate) fn purge<'a>(
     _mark: PhantomData<PackageView<'a>>,
 ) -> Change<'a>
     requires { i < length (packages_of db.now) }
-    ensures { option_map (λ pkg. change_between false name.entry.now (Some pkg) None)
+    ensures { option_map (λ p. change_between false name.entry.now (Some p) None)
         (slice_get (packages_of db.now) i) ≡ Some (Some (change_seen result)) }
 {
-    let package = db.package(i);
-    let old = OldPackage::of(&package, PhantomData);
+    let pkg = db.package(i);
+    let old = OldPackage::of(&pkg, PhantomData);
     Change::Purge(name, old.version)
 }
 
@@ -89,14 +112,15 @@ pub(crate) fn replace<'a>(
     i: usize,
     new: &Candidate<'a>,
     is_again: bool,
+    _mark: PhantomData<PackageView<'a>>,
 ) -> Option<Change<'a>>
     requires { i < length (packages_of db.now) }
-    ensures { option_map (λ pkg. change_between is_again name.entry.now (Some pkg)
+    ensures { option_map (λ p. change_between is_again name.entry.now (Some p)
         (Some (candidate_value new.now))) (slice_get (packages_of db.now) i)
         ≡ Some (option_map change_seen result) }
 {
-    let package = db.package(i);
-    let old = OldPackage::of(&package, PhantomData);
+    let pkg = db.package(i);
+    let old = OldPackage::of(&pkg, PhantomData);
     if !is_same_selected(&old, new) {
         return Some(version_change(name, old.version, new.info.version()));
     }

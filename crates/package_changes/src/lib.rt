@@ -5,7 +5,13 @@
 #![tactic(auto)]
 
 mod change;
+mod changes;
 mod names;
+mod report;
 mod selected;
+mod stays;
 
 pub use change::{Change, PlacedChange};
+pub use changes::Changes;
+pub use report::{push_change_lines, push_sum_line, simulated_report};
+pub use stays::push_stay_lines;

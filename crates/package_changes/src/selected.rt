@@ -25,7 +25,7 @@ pub(crate) fn candidate_at<'a>(pool: &Sealed<'a>, id: CandId) -> Option<Candidat
 /// The names of the selected candidates, each with the place of the first that has it.
 #[derive(Drop)]
 pub(crate) struct SelectedNames<'a> {
-    by_name: IndexMap<&'a [u8], CandId>,
+    by_name: IndexMap<&'a [u8], u32>,
 }
 
 impl<'a> Model for SelectedNames<'a> {
@@ -64,10 +64,13 @@ impl<'a> SelectedNames<'a> {
     }
 
     /// The place of the first selected candidate with this name.
-    pub(crate) fn place_of(&self, name: &[u8]) -> Option<CandId>
+    pub(crate) fn place_of(&self, name: &[u8]) -> Option<u32>
         ensures { result ≡ place_beside name.now self.now }
     {
-        self.by_name.get(name).copied()
+        match self.by_name.get(name) {
+            Some(place) => Some(*place),
+            None => None,
+        }
     }
 
     // Adds the candidate at a place, if there is one and no other has its name.
@@ -78,20 +81,25 @@ impl<'a> SelectedNames<'a> {
     {
         match pool.at(id) {
             None => Ok(()),
-            Some(details) => self.add_name(details.name(), id),
+            Some(details) => {
+                self.add_name(details.name(), id.place)?;
+                Ok(())
+            }
         }
     }
 
-    // Adds a name, unless it is there.
-    fn add_name(&mut self, name: &'a [u8], id: CandId) -> Result<(), AllocError>
+    // Adds a name with a place, unless it is there.
+    fn add_name(&mut self, name: &'a [u8], place: u32) -> Result<(), AllocError>
         ensures { OnOk result ((other : List ℕ) → place_beside other self.new
             ≡ or_place (place_beside other self.old)
-            (if bytes_eq name.entry.now other then Some id else None)) }
+            (if bytes_eq name.entry.now other then Some place else None)) }
     {
-        if self.by_name.get(name).is_some() {
-            return Ok(());
+        match self.by_name.get(name) {
+            Some(_) => Ok(()),
+            None => {
+                self.by_name.insert(name, place)?;
+                Ok(())
+            }
         }
-        self.by_name.insert(name, id)?;
-        Ok(())
     }
 }
