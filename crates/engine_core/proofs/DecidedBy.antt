@@ -1,7 +1,10 @@
 -- What is decided, by what was read.
 use Rattle.std.proofs.Common.{◌≡◌, ℕ, Bool, true, false, List, [], Option, Some, None, Result, Ok, Err, refl, sym, ap, subst, ◌∙◌}
 use Rattle.std.specs.Prelude.{if◌then◌else◌}
-use Rattle.std.proofs.lemmas.Result.{same_Ok}
+use Rattle.std.specs.Result.{IsErrAnd}
+use Rattle.std.proofs.lemmas.Result.{err_from_is_err_and}
+use Rattle.base_core.specs.Tree.{TreeState}
+use Rattle.make_package.specs.Runs.{Explains}
 use Rattle.change_inputs.specs.Answers.{Agrees, AgreesUnlessDisk}
 use Rattle.change_inputs.specs.Candidates.{candidates_of, root_pool}
 use Rattle.change_inputs.specs.Chains.{and_then}
@@ -31,7 +34,7 @@ pool_world inputs pool is = by_size _ _ is
   where
     by_size : (b : Bool) (refusal : Refusal) → (if b then Err refusal else Ok (sealed_pool_by (candidates_of inputs) inputs.root.new_world no_names)) ≡ Ok pool → pool.world ≡ inputs.root.new_world
     by_size true refusal is = cc
-    by_size false refusal is = ap (λ (p : SealedPool). p.world) (sym (same_Ok (sealed_pool_by (candidates_of inputs) inputs.root.new_world no_names) pool is))
+    by_size false refusal is = let same : sealed_pool_by (candidates_of inputs) inputs.root.new_world no_names ≡ pool = cc in ap (λ (p : SealedPool). p.world) (sym same)
 
 -- ---- by inputs
 
@@ -73,3 +76,20 @@ decided_read command inputs decided read is (chosen, choice, agrees) = (
   subst (λ (r : Result Inputs Refusal). IsChoiceFrom (and_then r pool_by) chosen) (sym is) choice,
   subst (λ (r : Result Inputs Refusal). AgreesUnlessDisk report_as_is decided (and_then r (λ i. report_by i chosen))) (sym is) (unless_disk decided (report_by inputs chosen) agrees),
 )
+
+-- the inputs could not be read
+pub unread : HaveChoice → (command : CommandLine) (decided : Result (List ℕ) Refused) (e : Refused) (old : List TreeState) → IsErrAnd decided (λ f. f ≡ e)
+    → Explains old (λ read. AgreesUnlessDisk inputs_seen (Err e) (inputs_of command read)) → Explains old (IsDecided command decided)
+unread have command decided e old is found =
+    let p = err_from_is_err_and decided is in
+    record {
+      read = found.read;
+      observed = found.observed;
+      is = subst (λ (d : Result (List ℕ) Refused). IsDecided command d found.read) (sym (p.1 ∙ ap Err p.2)) (decided_unread have command e found.read found.is);
+    }
+
+-- they were read
+pub was_read : (command : CommandLine) (inputs : Loaded) (decided : Result (List ℕ) Refused) (old : List TreeState) → Explains old (λ read. AgreesUnlessDisk inputs_seen (Ok inputs) (inputs_of command read)) → IsDecidedBy (inputs_seen inputs) decided
+    → Explains old (IsDecided command decided)
+was_read command inputs decided old found by =
+    record { read = found.read; observed = found.observed; is = decided_read command (inputs_seen inputs) decided found.read found.is by }
