@@ -6,6 +6,7 @@ use Rattle.base_core.specs.Files.{Files}
 use Rattle.db_core.specs.Members.{Listing}
 use Rattle.pkg_core.specs.Contents as Packages
 use Rattle.file_guard.specs.AsListed.{has_target, is_as_listed, link_bytes}
+pub use Rattle.root_names.specs.RootNames.{database_name, text_database_name, world_name}
 use Rattle.change_files.specs.Fate.{Fate, fate_of, gives_way, goes_aside, goes_in, is_guarded}
 use Rattle.change_files.specs.FileChange.{FileChange, coming_owner, is_claimed, old_entry, was_listed}
 
@@ -93,15 +94,6 @@ listing_bytes contents l =
     else bytes_or_none (find (is_of_file l.folder l.file) (contents l.place))
 
 -- ---- all names
-
-abbrev pub database_name : List ℕ
-database_name = codes "lib/apk/db/installed.adb"
-
-abbrev pub text_database_name : List ℕ
-text_database_name = codes "lib/apk/db/installed"
-
-abbrev pub world_name : List ℕ
-world_name = codes "etc/apk/world"
 
 -- a world that is absent and has nothing to say stays absent
 abbrev pub world_bytes_after : List ℕ → Option (List ℕ) → Option (List ℕ)

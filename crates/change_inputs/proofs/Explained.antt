@@ -1,5 +1,5 @@
 -- What the reads of a root explain.
-use Rattle.std.proofs.Common.{◌≡◌, ℕ, zero, suc, List, [], ◌∷◌, Option, Some, None, Result, Ok, Err, refl, sym, ap, ◌∙◌, subst}
+use Rattle.std.proofs.Common.{◌≡◌, ℕ, zero, suc, Bool, List, [], ◌∷◌, Option, Some, None, Result, Ok, Err, refl, sym, ap, ◌∙◌, subst}
 use Rattle.std.specs.Result.{IsErrAnd}
 use Rattle.base_core.specs.Read.{bytes_in}
 use Rattle.base_core.specs.Tree.{TreeState, files_of}
@@ -15,8 +15,9 @@ use Rattle.change_inputs.proofs.Handed.{failure_agrees, handed_on_disk, refused_
 use Rattle.change_inputs.proofs.IndexSteps.{unread, unread_stands}
 use Rattle.change_inputs.specs.Answers.{Agrees, AgreesUnlessDisk, IsFailure, StandAt, StandsAt}
 use Rattle.change_inputs.specs.Chains.{and_then}
+use Rattle.change_inputs.specs.Database.{Database, root_database}
 use Rattle.change_inputs.specs.Indexes.{index_files_from, indexes_in_files, root_indexes}
-use Rattle.change_inputs.specs.Inputs.{Inputs, Root, index_reads_from, indexes_of, inputs_by, inputs_of, root_found, root_of}
+use Rattle.change_inputs.specs.Inputs.{Inputs, Root, database_of, index_reads_from, indexes_of, inputs_by, inputs_of, root_found, root_of}
 use Rattle.change_inputs.specs.RootFiles.{StandInRoot}
 use Rattle.change_inputs.specs.declared.refused.Refused.{Refused}
 use Rattle.change_inputs.specs.declared.root.RootFiles.{RootFiles}
@@ -97,30 +98,66 @@ explained_root (v ∷ earlier) file text world repositories rs fs a b c d stand 
 -- ---- the files of a root as they were read
 
 -- the text database counts only where there is no other
-text_or : (history : List TreeState) (files : RootFiles) → Option (List ℕ) → Option (List ℕ)
-text_or history files None = bytes_in files.text_database
-text_or history files (Some file) = unread history text_database_name
+text_or : (history : List TreeState) (text file : Option (List ℕ)) → Option (List ℕ)
+text_or history text None = text
+text_or history text (Some file) = unread history text_database_name
 
-text_stands : (history : List TreeState) (files : RootFiles) (file : Option (List ℕ)) → (file ≡ None → StandsAt history text_database_name (bytes_in files.text_database)) → StandsAt history text_database_name (text_or history files file)
+text_stands : (history : List TreeState) (text file : Option (List ℕ)) → (file ≡ None → StandsAt history text_database_name text) → StandsAt history text_database_name (text_or history text file)
 unfolding text_or
-text_stands history files None h = h refl
-text_stands history files (Some file) h = unread_stands history text_database_name
+text_stands history text None h = h refl
+text_stands history text (Some file) h = unread_stands history text_database_name
 
-same_root : (command : CommandLine) (history : List TreeState) (files : RootFiles) (file world repositories : Option (List ℕ)) → root_found command file (text_or history files file) world repositories ≡ root_found command file (bytes_in files.text_database) world repositories
+same_database : (may_begin : Bool) (history : List TreeState) (text file : Option (List ℕ)) → root_database may_begin file (text_or history text file) ≡ root_database may_begin file text
 unfolding text_or
-same_root command history files None world repositories = refl
-same_root command history files (Some file) world repositories = refl
+same_database may_begin history text None = refl
+same_database may_begin history text (Some file) = refl
+
+same_root : (command : CommandLine) (history : List TreeState) (text file world repositories : Option (List ℕ)) → root_found command file (text_or history text file) world repositories ≡ root_found command file text world repositories
+unfolding text_or
+same_root command history text None world repositories = refl
+same_root command history text (Some file) world repositories = refl
+
+-- the database alone
+pub explained_database : (history : List TreeState) (command : CommandLine) (file text : Option (List ℕ)) → StandsAt history database_name file → (file ≡ None → StandsAt history text_database_name text)
+    → Explains history (λ read. database_of command read ≡ root_database command.flags.initdb file text)
+explained_database history command file text stands text_stand =
+    let e = explained_root history file (text_or history text file) (unread history world_name) (unread history repositories_name) [] [] stands (text_stands history text file text_stand) (unread_stands history world_name) (unread_stands history repositories_name) tt in
+    record {
+      read = e.read;
+      observed = e.observed;
+      is = (λ i. root_database command.flags.initdb (e.is.file_is i) (e.is.text_is i)) ∙ same_database command.flags.initdb history text file;
+    }
+
+pub database_failed : {A : Type 0} (view : A → Database) (history : List TreeState) (command : CommandLine) (r : Result A Refused) (fault : Refused) → IsErrAnd r (λ e. e ≡ fault) → IsFailure fault
+    → Explains history (λ read. AgreesUnlessDisk view r (database_of command read))
+database_failed view history command r fault is failed = explained history (λ read. AgreesUnlessDisk view r (database_of command read)) (λ read. failure_agrees view (database_of command read) r fault is failed)
+
+pub database_refused : {A B : Type 0} (view : A → Database) (seen : B → Database) (history : List TreeState) (command : CommandLine) (file text : Option (List ℕ)) (r : Result A Refused) (fault : Refused) → StandsAt history database_name file → (file ≡ None → StandsAt history text_database_name text)
+    → IsErrAnd r (λ e. e ≡ fault) → Agrees seen (Err fault) (root_database command.flags.initdb file text) → Explains history (λ read. AgreesUnlessDisk view r (database_of command read))
+database_refused view seen history command file text r fault stands text_stand is h =
+    let e = explained_database history command file text stands text_stand in
+    record {
+      read = e.read;
+      observed = e.observed;
+      is = handed_on_disk view (database_of command e.read) r fault is (unless_disk view (database_of command e.read) (Err fault) (subst (λ x. Agrees seen (Err fault) x) (sym e.is) h));
+    }
+
+pub database_given : (history : List TreeState) (command : CommandLine) (file text : Option (List ℕ)) (database : Database) → StandsAt history database_name file → (file ≡ None → StandsAt history text_database_name text)
+    → root_database command.flags.initdb file text ≡ Ok database → Explains history (λ read. database_of command read ≡ Ok database)
+database_given history command file text database stands text_stand is =
+    let e = explained_database history command file text stands text_stand in
+    record { read = e.read; observed = e.observed; is = e.is ∙ is }
 
 pub explained_files : (history : List TreeState) (command : CommandLine) (files : RootFiles) (rs : List Repository) (fs : List (Option (List ℕ))) → StandInRoot history files → StandAt history rs fs
     → Explains history (λ read. (root_of command read ≡ root_found command (bytes_in files.database) (bytes_in files.text_database) (bytes_in files.world) (bytes_in files.repositories)) × (index_reads_from read 4 rs ≡ fs))
 explained_files history command files rs fs stand indexes =
     let file = bytes_in files.database in
-    let e = explained_root history file (text_or history files file) (bytes_in files.world) (bytes_in files.repositories) rs fs stand.database (text_stands history files file stand.text_database) stand.world stand.repositories indexes in
+    let e = explained_root history file (text_or history (bytes_in files.text_database) file) (bytes_in files.world) (bytes_in files.repositories) rs fs stand.database (text_stands history (bytes_in files.text_database) file stand.text_database) stand.world stand.repositories indexes in
     record {
       read = e.read;
       observed = e.observed;
       is = (
-        (λ i. root_found command (e.is.file_is i) (e.is.text_is i) (e.is.world_is i) (e.is.repositories_is i)) ∙ same_root command history files file (bytes_in files.world) (bytes_in files.repositories),
+        (λ i. root_found command (e.is.file_is i) (e.is.text_is i) (e.is.world_is i) (e.is.repositories_is i)) ∙ same_root command history (bytes_in files.text_database) file (bytes_in files.world) (bytes_in files.repositories),
         e.is.indexes_are,
       );
     }

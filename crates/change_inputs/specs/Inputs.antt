@@ -79,6 +79,12 @@ index_reads_from read n (repository ∷ repositories) =
 
 -- ---- the inputs
 
+-- the database alone
+abbrev pub database_of : CommandLine → Reads → Result Database Refusal
+database_of command read =
+    root_database command.flags.initdb (read database_read database_name)
+    (read text_database_read text_database_name)
+
 abbrev pub root_of : CommandLine → Reads → Result Root Refusal
 root_of command read =
     root_found command (read database_read database_name)

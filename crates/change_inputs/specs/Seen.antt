@@ -10,6 +10,7 @@ use Rattle.change_inputs.specs.Inputs.{Inputs, Root, inputs_by}
 use Rattle.change_inputs.specs.declared.database.DatabaseFile.{DatabaseFile}
 use Rattle.change_inputs.specs.declared.database.DatabaseFile.TheVariants.{Container, New, Payload}
 use Rattle.change_inputs.specs.declared.index.IndexFiles.{IndexFiles}
+use Rattle.change_inputs.specs.declared.installed.Installed.{Installed}
 use Rattle.change_inputs.specs.declared.loaded.Loaded.{Loaded}
 use Rattle.change_inputs.specs.declared.root.TestedRoot.{TestedRoot}
 
@@ -19,6 +20,9 @@ database_seen (Container own) =
     database_by (entries_at 0 (root_value Idb (payload_in own.file.items))) false
 database_seen (Payload own) = database_by (entries_at 0 (root_value Idb own.payload.items)) true
 database_seen New = database_by [] false
+
+abbrev pub installed_seen : Installed → Database
+installed_seen installed = database_seen installed.database
 
 abbrev pub indexes_seen : IndexFiles → List Plain
 indexes_seen indexes = map index_of_file (bytes_of_each indexes.files.items)

@@ -33,7 +33,8 @@ world_with_operands (o ∷ operands) world = world_with_operands operands (world
 -- each operand's name is taken out
 abbrev pub world_without_operands : List Operand → List Dependency → List Dependency
 world_without_operands [] world = world
-world_without_operands (o ∷ operands) world = world_without_operands operands (without_name o.text world)
+world_without_operands (o ∷ operands) world =
+    world_without_operands operands (without_name o.text world)
 
 -- `add` puts its operands in, `del` takes theirs out, and the others leave world as it is
 abbrev pub new_world : Applet → List Operand → List Dependency → List Dependency

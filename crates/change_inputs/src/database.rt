@@ -53,14 +53,14 @@ pub(crate) enum DatabaseFile {
 impl DatabaseFile {
     ghost use Rattle.change_inputs.specs.Seen.{database_seen};
 
-    /// The database of a root, by the files under its two names, of which the text is looked at last.
-    /// Where there is none, `may_begin` says whether one without packages is begun.
+    /// The database of a root, by the files under its two names, of which the text is looked at
+    /// last. Where there is none, `may_begin` says whether one without packages is begun.
     ///
     /// # Errors
     ///
-    /// `NoDatabase`; `DatabaseBad` with the cause of the first test that fails; of a text `DatabaseBad`
-    /// with its first bad line, `ResultTooLarge` where its payload passes a limit of the writer, or
-    /// `DatabaseBad` with the first test of a database that it fails. Or `Memory`.
+    /// `NoDatabase`; `DatabaseBad` with the cause of the first test that fails; of a text
+    /// `DatabaseBad` with its first bad line, `ResultTooLarge` where its payload passes a limit of
+    /// the writer, or `DatabaseBad` with the first test of a database that it fails. Or `Memory`.
     pub(crate) fn of(
         alloc: Global,
         may_begin: bool,

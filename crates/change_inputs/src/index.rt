@@ -34,7 +34,8 @@ impl IndexFiles {
 
     /// Tests all index files.
     pub(crate) fn test(alloc: Global, files: Vec<Vec<u8>>) -> Result<IndexFiles, Refused>
-        ensures answer { Agrees indexes_seen result (indexes_in_files 1 (bytes_of_each files.items)) }
+        ensures answer { Agrees indexes_seen result
+            (indexes_in_files 1 (bytes_of_each files.items)) }
         ensures kept { IfOk result (λ indexes. indexes.files.items ≡ files.items) }
     {
         for i in 0..files.len() {

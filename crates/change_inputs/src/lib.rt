@@ -2,12 +2,14 @@
 //! tested in this order, and the packages to choose from.
 //!
 //! `Loaded::read` reads and tests them, and a `Loaded` keeps them: `db` lends the database, `pool`
-//! makes the candidates of the indexes and of the database. The contracts cite `Inputs` and
-//! `Candidates` of `specs/`, which say them by what is found under each name.
+//! makes the candidates of the indexes and of the database. `Installed::read` reads the database
+//! alone. The contracts cite `Inputs` and `Candidates` of `specs/`, which say them by what is found
+//! under each name.
 #![tactic(auto)]
 
 mod database;
 mod index;
+mod installed;
 mod laws;
 mod loaded;
 mod opening;
@@ -17,6 +19,7 @@ mod repositories;
 mod root;
 mod world;
 
+pub use installed::Installed;
 pub use laws::inputs_rest_on_their_own_reads;
 pub use loaded::Loaded;
 pub use refused::Refused;

@@ -33,15 +33,15 @@ pub struct Loaded {
 impl Loaded {
     ghost use Rattle.change_inputs.specs.Seen.{indexes_seen, inputs_seen};
 
-    /// Reads what a command works on: the database, world, the list of repositories and their indexes,
-    /// and tests them in this order. The tree stays as it is, whatever the answer.
+    /// Reads what a command works on: the database, world, the list of repositories and their
+    /// indexes, and tests them in this order. The tree stays as it is, whatever the answer.
     ///
     /// # Errors
     ///
     /// `NoDatabase`, where there is none and `--initdb` is not given; `DatabaseBad`, or
     /// `ResultTooLarge` of a text database that passes a limit of the writer; `WorldBad`;
-    /// `RepositoriesBad`; `Untrusted`; `IndexMissing` of the first index that is absent; `IndexBad` of
-    /// the first one that fails a test. `Disk` where the tree failed, and `Memory`.
+    /// `RepositoriesBad`; `Untrusted`; `IndexMissing` of the first index that is absent; `IndexBad`
+    /// of the first one that fails a test. `Disk` where the tree failed, and `Memory`.
     pub fn read<T: Tree>(alloc: Global, command: &Command, tree: &mut T) -> Result<Loaded, Refused>
         ensures found { Explains (T.history tree.old) (λ read.
             AgreesUnlessDisk inputs_seen result (inputs_of command.now read)) }
@@ -152,7 +152,8 @@ impl Loaded {
         requires { pool.old ≡ [] }
         ensures fits { OnOk result (length pool.new ≤ MOST_CANDIDATES) }
         ensures ok { OnOk result (pool.new
-            ≡ candidates_from 1 self.entry.now.root.repositories (indexes_seen self.entry.now.indexes)) }
+            ≡ candidates_from 1 self.entry.now.root.repositories
+            (indexes_seen self.entry.now.indexes)) }
         ensures fault { IfErr result (λ fault. IsPoolFault fault (length
             (candidates_from 1 self.entry.now.root.repositories
             (indexes_seen self.entry.now.indexes)))) }

@@ -57,8 +57,8 @@ pub(crate) fn read_root<T: Tree>(alloc: Global, tree: &mut T) -> Result<RootFile
     })
 }
 
-// Reads the database of a root, and the text database where there is no other.
-fn read_databases<T: Tree>(
+/// Reads the database of a root, and the text database where there is no other.
+pub(crate) fn read_databases<T: Tree>(
     alloc: Global,
     tree: &mut T,
 ) -> Result<(Option<Vec<u8>>, Option<Vec<u8>>), Refused>

@@ -11,6 +11,7 @@
 mod block;
 mod fault;
 mod files;
+mod laws;
 mod open;
 mod package;
 mod piece;
@@ -18,6 +19,7 @@ mod reader;
 mod walks;
 
 pub use fault::PieceFault;
+pub use laws::the_pieces_are_refused_for_the_first_fault_of_the_blocks;
 pub use package::PackagePieces;
 pub use piece::Piece;
 pub use reader::PieceReader;

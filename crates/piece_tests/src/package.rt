@@ -143,13 +143,13 @@ fn add_package(
     let calls = tree.calls();
     add_passes(alloc, &mut tree, &name, &front, back, answer)?;
     if counts {
-        add_word(answer, b"calls")?;
+        add_word(answer, b"calls ")?;
         add_number(
             alloc,
             answer,
             u128::from(tree.calls().saturating_sub(calls)),
         )?;
-        add_word(answer, b"longest")?;
+        add_word(answer, b"longest ")?;
         add_number(alloc, answer, u128::from(tree.longest_read()))?;
     }
     Ok(())
