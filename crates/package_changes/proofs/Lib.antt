@@ -3,3 +3,4 @@ mod NamesInOrder
 mod NameTable
 mod PlacedLaws
 mod ReportLines
+mod Worked

@@ -1,7 +1,7 @@
 -- Lists element by element.
-use Rattle.std.proofs.Common.{◌≡◌, ℕ, zero, suc, ◌+◌, ◌<◌, ◌≤◌, Bool, true, false, cond, get_or, List, [], ◌∷◌, ◌++◌, map, length, drop, Option, Some, None, refl, sym, ◌∙◌, ap, arith, append_assoc}
+use Rattle.std.proofs.Common.{◌≡◌, ℕ, zero, suc, ◌+◌, ◌<◌, ◌≤◌, Bool, true, false, cond, get_or, List, [], ◌∷◌, ◌++◌, map, length, drop, Option, Some, None, Bor, refl, sym, ◌∙◌, ap, arith, append_assoc}
 use Rattle.std.specs.Prelude.{◌||◌, option_map, option_to_list}
-use Rattle.std.specs.List.{cons_option, list_any, slice_get}
+use Rattle.std.specs.List.{cons_option, filter_map, list_any, slice_get}
 use Rattle.std.proofs.lemmas.List.{drop_all, map-append}
 
 -- what is left of a list where an element stands
@@ -43,13 +43,13 @@ pub option_mapped : {X Y : Type 0} (f : X → Y) (o : Option X) (xs : List X) �
 option_mapped f None xs = refl
 option_mapped f (Some x) xs = refl
 
--- what is left of a list where an element that a loop reads stands
-pub item_at : {X : Type 0} (xs : List X) (i : ℕ) (x : X) → i < length xs → x ≡ get_or xs i x → drop i xs ≡ x ∷ drop (i + 1) xs
-item_at [] i x l e = absurd (omega arith)
-item_at (y ∷ xs) zero x l e = ap (λ z. z ∷ xs) (sym e)
-item_at (y ∷ xs) (suc i) x l e =
+-- what is left of a list within it
+pub item_at : {X : Type 0} (xs : List X) (i : ℕ) (d : X) → i < length xs → drop i xs ≡ get_or xs i d ∷ drop (i + 1) xs
+item_at [] i d l = absurd (omega arith)
+item_at (y ∷ xs) zero d l = refl
+item_at (y ∷ xs) (suc i) d l =
     let next : suc (i + 1) ≡ suc i + 1 = omega arith in
-    item_at xs i x (omega arith) e ∙ ap (λ n. x ∷ drop n (y ∷ xs)) next
+    item_at xs i d (omega arith) ∙ ap (λ n. get_or xs i d ∷ drop n (y ∷ xs)) next
 
 -- ---- whether an element passes a test
 
@@ -66,3 +66,10 @@ any_later p xs i x all h e inv =
 
 pub any_none : {X : Type 0} (p : X → Bool) (xs : List X) (i : ℕ) (all : Bool) → length xs ≤ i → list_any p (drop i xs) ≡ all → false ≡ all
 any_none p xs i all past inv = ap (list_any p) (sym (drop_all i xs past)) ∙ inv
+
+-- ---- what is made of each name
+
+pub made_here : {X : Type 0} (f : List ℕ → Option X) (names : List (Bor (List ℕ))) (i : ℕ) (d : Bor (List ℕ)) → i < length names → filter_map f (map (λ n. n.now) (drop i names)) ≡ option_to_list (f (get_or names i d).now) ++ filter_map f (map (λ n. n.now) (drop (i + 1) names))
+made_here f names i d l =
+    ap (λ z. filter_map f (map (λ n. n.now) z)) (item_at names i d l)
+    ∙ option_in_front (f (get_or names i d).now) (filter_map f (map (λ n. n.now) (drop (i + 1) names)))

@@ -1,41 +1,31 @@
 -- Texts that are pushed one behind another.
-use Rattle.std.proofs.Common.{◌≡◌, ℕ, zero, suc, ◌+◌, Bool, true, false, cond, List, [], ◌∷◌, ◌++◌, map, length, drop, Option, Some, None, Bor, refl, sym, ◌∙◌, ap, arith, append_assoc}
+use Rattle.std.proofs.Common.{◌≡◌, ℕ, zero, suc, ◌+◌, ◌<◌, get_or, Bool, true, false, cond, List, [], ◌∷◌, ◌++◌, map, length, drop, Option, Some, None, Bor, refl, sym, ◌∙◌, ap, arith, append_assoc}
 use Rattle.std.specs.Prelude.{codes, fold, if◌then◌else◌, option_map, option_to_list, slice_get}
 use Rattle.std.specs.List.{cons_option, filter, flat_map, position_from, list_any}
 use Rattle.std.specs.Option.{option_map_or}
 use Rattle.std.specs.Prelude.{is_some, ◌||◌}
 use Rattle.pool_core.specs.Candidates.{Candidate}
+use Rattle.package_changes.proofs.Lists.{item_at}
 
 pub joined : (r r1 r2 a b : List ℕ) → r1 ≡ r ++ a → r2 ≡ r1 ++ b → r2 ≡ r ++ (a ++ b)
 joined r r1 r2 a b e1 e2 = e2 ∙ (ap (λ z. z ++ b) e1 ∙ append_assoc r a b)
 
-pub five : (r r1 r2 r3 r4 r5 a b c d e : List ℕ) → r1 ≡ r ++ a → r2 ≡ r1 ++ b → r3 ≡ r2 ++ c → r4 ≡ r3 ++ d → r5 ≡ r4 ++ e → r5 ≡ r ++ (a ++ (b ++ (c ++ (d ++ e))))
+pub four : (r r1 r2 r3 r4 a b c d : List ℕ) → r1 ≡ r ++ a → r2 ≡ r1 ++ b → r3 ≡ r2 ++ c → r4 ≡ r3 ++ d → r4 ≡ r ++ (a ++ b ++ c ++ d)
+four r r1 r2 r3 r4 a b c d e1 e2 e3 e4 =
+    joined r r3 r4 (a ++ b ++ c) d (joined r r2 r3 (a ++ b) c (joined r r1 r2 a b e1 e2) e3) e4
+
+pub five : (r r1 r2 r3 r4 r5 a b c d e : List ℕ) → r1 ≡ r ++ a → r2 ≡ r1 ++ b → r3 ≡ r2 ++ c → r4 ≡ r3 ++ d → r5 ≡ r4 ++ e → r5 ≡ r ++ (a ++ b ++ c ++ d ++ e)
 five r r1 r2 r3 r4 r5 a b c d e e1 e2 e3 e4 e5 =
-    joined r r1 r5 a (b ++ (c ++ (d ++ e))) e1
-    (joined r1 r2 r5 b (c ++ (d ++ e)) e2
-    (joined r2 r3 r5 c (d ++ e) e3
-    (joined r3 r4 r5 d e e4 e5)))
+    joined r r4 r5 (a ++ b ++ c ++ d) e (four r r1 r2 r3 r4 a b c d e1 e2 e3 e4) e5
 
-pub seven : (r r1 r2 r3 r4 r5 r6 r7 a b c d e f g : List ℕ) → r1 ≡ r ++ a → r2 ≡ r1 ++ b → r3 ≡ r2 ++ c → r4 ≡ r3 ++ d → r5 ≡ r4 ++ e → r6 ≡ r5 ++ f → r7 ≡ r6 ++ g → r7 ≡ r ++ (a ++ (b ++ (c ++ (d ++ (e ++ (f ++ g))))))
-seven r r1 r2 r3 r4 r5 r6 r7 a b c d e f g e1 e2 e3 e4 e5 e6 e7 =
-    joined r r1 r7 a (b ++ (c ++ (d ++ (e ++ (f ++ g))))) e1
-    (joined r1 r2 r7 b (c ++ (d ++ (e ++ (f ++ g)))) e2
-    (five r2 r3 r4 r5 r6 r7 c d e f g e3 e4 e5 e6 e7))
-
-pub numbered_line : (r r1 r2 r3 a b c d e t nl : List ℕ) → r1 ≡ r ++ (a ++ (b ++ (c ++ (d ++ e)))) → r2 ≡ r1 ++ t → r3 ≡ r2 ++ nl → r3 ≡ r ++ ((a ++ (b ++ (c ++ (d ++ (e ++ t))))) ++ nl)
-numbered_line r r1 r2 r3 a b c d e t nl e1 e2 e3 =
-    joined r r2 r3 (a ++ (b ++ (c ++ (d ++ (e ++ t))))) nl (joined r r1 r2 (a ++ (b ++ (c ++ (d ++ e)))) t e1 e2 ∙ ap (λ z. r ++ z) right) e3
-  where
-    right : (a ++ (b ++ (c ++ (d ++ e)))) ++ t ≡ a ++ (b ++ (c ++ (d ++ (e ++ t))))
-    right =
-        append_assoc a (b ++ (c ++ (d ++ e))) t
-        ∙ ap (λ z. a ++ z) (append_assoc b (c ++ (d ++ e)) t
-        ∙ ap (λ z. b ++ z) (append_assoc c (d ++ e) t ∙ ap (λ z. c ++ z) (append_assoc d e t)))
+pub six : (r r1 r2 r3 r4 r5 r6 a b c d e f : List ℕ) → r1 ≡ r ++ a → r2 ≡ r1 ++ b → r3 ≡ r2 ++ c → r4 ≡ r3 ++ d → r5 ≡ r4 ++ e → r6 ≡ r5 ++ f → r6 ≡ r ++ (a ++ b ++ c ++ d ++ e ++ f)
+six r r1 r2 r3 r4 r5 r6 a b c d e f e1 e2 e3 e4 e5 e6 =
+    joined r r5 r6 (a ++ b ++ c ++ d ++ e) f (five r r1 r2 r3 r4 r5 a b c d e e1 e2 e3 e4 e5) e6
 
 -- a report that was empty
-pub three_parts : (r0 r1 r2 r3 a b s : List ℕ) → r0 ≡ [] → r1 ≡ r0 ++ a → r2 ≡ r1 ++ b → r3 ≡ r2 ++ s → r3 ≡ a ++ (b ++ s)
+pub three_parts : (r0 r1 r2 r3 a b s : List ℕ) → r0 ≡ [] → r1 ≡ r0 ++ a → r2 ≡ r1 ++ b → r3 ≡ r2 ++ s → r3 ≡ a ++ b ++ s
 three_parts r0 r1 r2 r3 a b s e0 e1 e2 e3 =
-    joined r1 r2 r3 b s e2 e3 ∙ ap (λ z. z ++ (b ++ s)) (e1 ∙ ap (λ z. z ++ a) e0)
+    e3 ∙ ap (λ z. z ++ s) (e2 ∙ ap (λ z. z ++ b) (e1 ∙ ap (λ z. z ++ a) e0))
 
 pub get_mapped : {X Y : Type 0} (f : X → Y) (xs : List X) (i : ℕ) (x : X) → slice_get xs i ≡ Some x → slice_get (map f xs) i ≡ Some (f x)
 get_mapped f [] i x e = cc
@@ -54,12 +44,17 @@ counted (Some c) rest = omega arith
 
 -- ---- what stays
 
-pub lines_here : {X : Type 0} (f : X → List ℕ) (p : X → Bool) (x : X) (xs : List X) → flat_map f (filter p (x ∷ xs)) ≡ (if p x then f x else []) ++ flat_map f (filter p xs)
+lines_here : {X : Type 0} (f : X → List ℕ) (p : X → Bool) (x : X) (xs : List X) → flat_map f (filter p (x ∷ xs)) ≡ (if p x then f x else []) ++ flat_map f (filter p xs)
 lines_here f p x xs = go (p x)
   where
     go : (t : Bool) → flat_map f (cond t (x ∷ filter p xs) (filter p xs)) ≡ (if t then f x else []) ++ flat_map f (filter p xs)
     go true = refl
     go false = refl
+
+pub lines_at : (f : List ℕ → List ℕ) (p : List ℕ → Bool) (names : List (Bor (List ℕ))) (i : ℕ) (d : Bor (List ℕ)) → i < length names → flat_map f (filter p (map (λ n. n.now) (drop i names))) ≡ (if p (get_or names i d).now then f (get_or names i d).now else []) ++ flat_map f (filter p (map (λ n. n.now) (drop (i + 1) names)))
+lines_at f p names i d l =
+    ap (λ z. flat_map f (filter p (map (λ n. n.now) z))) (item_at names i d l)
+    ∙ lines_here f p (get_or names i d).now (map (λ n. n.now) (drop (i + 1) names))
 
 pub lines_of_option : {X : Type 0} (f : X → List ℕ) (p : X → Bool) (o : Option X) (xs : List X) → flat_map f (filter p (cons_option o xs)) ≡ flat_map f (filter p (option_to_list o)) ++ flat_map f (filter p xs)
 lines_of_option f p None xs = refl

@@ -76,7 +76,7 @@ fn push_change_line(
 /// Adds the number of a change, and how many there are.
 fn push_number(report: &mut Report, number: u128, count: u128) -> Result<(), AllocError>
     ensures { OnOk result (report.new ≡ report.old
-        ++ (codes "(" ++ (decimal number ++ (codes "/" ++ (decimal count ++ codes ") "))))) }
+        ++ (codes "(" ++ decimal number ++ codes "/" ++ decimal count ++ codes ") ")) }
 {
     report.push(b"(")?;
     report.number(number)?;

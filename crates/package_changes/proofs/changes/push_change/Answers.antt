@@ -23,11 +23,11 @@ one_pushed list new x o is e =
 pub returns-in-None : goal.returns-in-None
 returns-in-None c =
     nothing_pushed (map placed_change_seen c.args.list.now.items) _
-    (ap (option_map (with_places c.find.result c.args.new)) c.in-None.ensures
-    ∙ ap (λ o. placed_change_with (packages_of c.args.db.now) c.args.pool.now c.args.again.now c.args.name.now o c.args.new) c.find.ensures.found)
+    (ap (option_map (with_places c.find-old.result c.args.new)) c.in-None.ensures
+    ∙ ap (λ o. placed_change_with (packages_of c.args.db.now) c.args.pool.now c.args.again.now c.args.name.now o c.args.new) c.find-old.ensures.found)
 
 pub returns-in_ok-push-in-Some : goal.returns-in_ok-push-in-Some
 returns-in_ok-push-in-Some c =
     one_pushed c.args.list.now.items _ _ _ c.in_ok-push-in-Some.ensures.items
-    (ap (option_map (with_places c.find.result c.args.new)) c.in-Some.ensures
-    ∙ ap (λ o. placed_change_with (packages_of c.args.db.now) c.args.pool.now c.args.again.now c.args.name.now o c.args.new) c.find.ensures.found)
+    (ap (option_map (with_places c.find-old.result c.args.new)) c.in-Some.ensures
+    ∙ ap (λ o. placed_change_with (packages_of c.args.db.now) c.args.pool.now c.args.again.now c.args.name.now o c.args.new) c.find-old.ensures.found)

@@ -1,4 +1,4 @@
-use Rattle.std.proofs.Common.{◌∙◌, ap, map}
+use Rattle.std.proofs.Common.{◌∙◌, List, ℕ, Bor, ap, map}
 use Rattle.std.specs.List.{filter_map}
 use Rattle.db_core.specs.Seen.{packages_of}
 use Rattle.package_changes.specs.Placed.{PlacedChange, placed_change_of, placed_changes_of}
@@ -12,7 +12,7 @@ unfolding placed_changes_of
 places c =
     let p = replacement_by c.args.db.now c.args.pool.now c.args.trace.now c.args.again.now in
     c.in_ok-list.ensures
-    ∙ (ap (filter_map (change_at (packages_of c.args.db.now) c.args.pool.now c.args.again.now c.in_ok-selected.selected)) c.in_ok-names.ensures
+    ∙ (ap (filter_map (change_at (packages_of c.args.db.now) c.args.pool.now c.args.again.now c.in_ok-selected.selected)) (ap (map (λ (n : Bor (List ℕ)). n.now)) c.deref.ensures.value ∙ c.in_ok-names.ensures)
     ∙ by_table p c.in_ok-selected.selected c.in_ok-selected.ensures _)
 
 pub returns-clause-places : goal.returns-clause-places
