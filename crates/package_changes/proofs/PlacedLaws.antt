@@ -1,9 +1,8 @@
 -- Changes with their places are the changes.
-use Rattle.std.proofs.Common.{◌≡◌, ℕ, ◌+◌, Bool, true, false, cond, List, [], ◌∷◌, ◌++◌, map, length, Option, Some, None, refl, sym, ◌∙◌, ap, arith, length-append}
-use Rattle.std.specs.Prelude.{bytes_eq, option_and_then, option_map, slice_get, is_some}
+use Rattle.std.proofs.Common.{◌≡◌, ℕ, ◌+◌, Bool, true, false, cond, List, [], ◌∷◌, ◌++◌, map, length, Option, Some, None, refl, sym, ◌∙◌, ap, length-append}
+use Rattle.std.specs.Prelude.{bytes_eq, option_and_then, option_map, slice_get}
 use Rattle.std.specs.List.{cons_option, filter_map, find, list_any, position_from}
 use Rattle.std.specs.Option.{option_map_or}
-use Rattle.adb_view.specs.Plain.{Plain}
 use Rattle.db_core.specs.Packages.{is_package_named}
 use Rattle.pool_core.specs.Candidates.{Candidate}
 use Rattle.pool_core.specs.Rank.{SealedPool, candidate_at, is_at}

@@ -1,6 +1,6 @@
 -- Texts that are pushed one behind another.
-use Rattle.std.proofs.Common.{◌≡◌, ℕ, zero, suc, ◌+◌, ◌<◌, get_or, Bool, true, false, cond, List, [], ◌∷◌, ◌++◌, map, length, drop, Option, Some, None, Bor, refl, sym, ◌∙◌, ap, arith, append_assoc}
-use Rattle.std.specs.Prelude.{codes, fold, if◌then◌else◌, option_map, option_to_list, slice_get}
+use Rattle.std.proofs.Common.{◌≡◌, ℕ, zero, suc, ◌+◌, ◌<◌, get_or, Bool, true, false, cond, List, [], ◌∷◌, ◌++◌, map, length, drop, Option, Some, None, Bor, refl, ◌∙◌, ap, arith, append_assoc}
+use Rattle.std.specs.Prelude.{fold, if◌then◌else◌, option_to_list, slice_get}
 use Rattle.std.specs.List.{cons_option, filter, flat_map, position_from, list_any}
 use Rattle.std.specs.Option.{option_map_or}
 use Rattle.std.specs.Prelude.{is_some, ◌||◌}

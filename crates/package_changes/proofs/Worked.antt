@@ -5,10 +5,11 @@ use Rattle.adb_view.specs.Plain.{Plain, blob, more, none, obj}
 use Rattle.change_files.specs.PlanLists.{names_in_order}
 use Rattle.dep_core.specs.Dependency.{Dependency, dependency_by}
 use Rattle.pool_core.specs.Candidates.{Candidate, candidate_by}
-use Rattle.package_changes.specs.Changes.{Replacement, change_of_name, changes_of}
+use Rattle.package_changes.specs.Changes.{change_of_name, changes_of}
 use Rattle.package_changes.specs.Report.{stay_lines}
 use Rattle.report_core.specs.Reports.{Install, Purge, Reinstall, Replace, Upgrade}
-use Rattle.version_core.specs.Order.{version_cmp}
+use Rattle.version_core.specs.Order.{is_version, tokens, version_cmp}
+use Rattle.version_core.specs.Token.{component_lexeme, next_lexeme, number_lexeme}
 
 abbrev info_of : List ℕ → List ℕ → Plain
 info_of name version = obj (more (blob name) (more (blob version) none))
@@ -64,9 +65,9 @@ b_comes_again = refl
 
 -- the same version with no id is another package
 b_is_replaced : changes_of (record { before = package_of (codes "b") (codes "1") ∷ []; selected = candidate_of (Some 1) (codes "b") (codes "1") [] ∷ []; again = [] }) ≡ Replace (codes "b") (codes "1") (codes "1") ∷ []
-unfolding changes_of change_of_name names_in_order version_cmp
+unfolding changes_of change_of_name names_in_order is_version version_cmp tokens next_lexeme number_lexeme component_lexeme
 b_is_replaced = refl
 
 b_is_upgraded : changes_of (record { before = package_of (codes "b") (codes "1.9") ∷ []; selected = candidate_of (Some 1) (codes "b") (codes "1.10") [] ∷ []; again = [] }) ≡ Upgrade (codes "b") (codes "1.9") (codes "1.10") ∷ []
-unfolding changes_of change_of_name names_in_order version_cmp
+unfolding changes_of change_of_name names_in_order is_version version_cmp tokens next_lexeme number_lexeme component_lexeme
 b_is_upgraded = refl

@@ -31,12 +31,12 @@ is_selected_named name c = bytes_eq c.name name
 
 -- the candidate is an installed package with this version and this id: of no repository, or with
 -- the same text and the same id
-abbrev pub is_same_texts : List ℕ → List ℕ → Candidate → Bool
-is_same_texts version id c =
+abbrev pub is_installed_as : List ℕ → List ℕ → Candidate → Bool
+is_installed_as version id c =
     not (is_some c.repository) || (bytes_eq version (selected_version c) && is_same_id id c.id)
 
 abbrev pub is_same_selected : Plain → Candidate → Bool
-is_same_selected pkg c = is_same_texts (version_text pkg) (package_id pkg) c
+is_same_selected pkg c = is_installed_as (version_text pkg) (package_id pkg) c
 
 -- from one version to another, by their order
 abbrev pub version_change : List ℕ → List ℕ → List ℕ → Ordering → Change

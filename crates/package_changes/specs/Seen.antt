@@ -1,5 +1,5 @@
 -- What the changes of the program stand for.
-use Rattle.std.specs.Prelude.{ℕ, List, map, Option}
+use Rattle.std.specs.Prelude.{ℕ, List, map}
 use Rattle.db_core.specs.Seen.{packages_of}
 use Rattle.db_core.specs.declared.db.Db.{Db}
 use Rattle.pool_core.specs.Rank.{SealedPool}

@@ -2,7 +2,7 @@
 ghost use Rattle.adb_schema.specs.Views.{package_value};
 ghost use Rattle.db_core.specs.Seen.{packages_of};
 ghost use Rattle.file_owners.specs.Replaces.{version_text};
-ghost use Rattle.package_changes.specs.Changes.{change_between, is_same_texts, package_id, selected_version, version_change, version_text_cmp};
+ghost use Rattle.package_changes.specs.Changes.{change_between, is_installed_as, package_id, selected_version, version_change, version_text_cmp};
 ghost use Rattle.package_changes.specs.Seen.{change_seen};
 ghost use Rattle.pool_core.specs.Candidates.{is_same_id, version_of_text};
 ghost use Rattle.pool_core.specs.Values.{candidate_value};
@@ -64,12 +64,9 @@ pub(crate) struct OldPackage<'a> {
 }
 
 impl<'a> OldPackage<'a> {
-    /// The texts of a package. The mark serves the borrow checker alone, which does not know the parts
-    /// of a view that is made and lent here unless the signature names the view as an argument.
-    pub(crate) fn of(
-        pkg: &PackageView<'a>,
-        _mark: PhantomData<PackageView<'a>>,
-    ) -> OldPackage<'a>
+    /// The texts of a package. The mark serves the borrow checker alone, which does not know the
+    /// parts of a view that is made and lent here unless the signature names the view.
+    pub(crate) fn of(pkg: &PackageView<'a>, _mark: PhantomData<PackageView<'a>>) -> OldPackage<'a>
         ensures version { result.version.now ≡ version_text (package_value pkg.now) }
         ensures id { result.id.now ≡ package_id (package_value pkg.now) }
     {
@@ -132,7 +129,8 @@ pub(crate) fn replace<'a>(
 
 /// Whether the candidate is the installed package.
 fn is_same_selected(old: &OldPackage<'_>, new: &Candidate<'_>) -> bool
-    ensures { result ≡ is_same_texts old.now.version.now old.now.id.now (candidate_value new.now) }
+    ensures { result
+        ≡ is_installed_as old.now.version.now old.now.id.now (candidate_value new.now) }
 {
     if new.repo.is_none() {
         return true;

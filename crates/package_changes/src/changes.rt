@@ -33,10 +33,10 @@ pub struct Changes<'a> {
 }
 
 impl<'a> Changes<'a> {
-    /// What becomes of each package where the candidates of a selection take the place of the packages of
-    /// a database, and some names are to be installed again. It takes time in proportion to n log n in
-    /// the number of packages and candidates, and to the names that are to be installed again for each
-    /// package that stays.
+    /// What becomes of each package where the candidates of a selection take the place of the
+    /// packages of a database, and some names are to be installed again. It takes time in
+    /// proportion to n log n in the number of packages and candidates, and to the names that are to
+    /// be installed again for each package that stays.
     pub fn of(
         alloc: Global,
         db: &Db<'a>,
@@ -106,8 +106,8 @@ fn push_old_names<'a>(names: &mut Vec<&'a [u8]>, db: &Db<'a>) -> Result<(), Allo
     Ok(())
 }
 
-/// The name of the package at a place. The mark serves the borrow checker alone, which does not know
-/// the parts of a view that is made and lent here unless the signature names the view.
+/// The name of the package at a place. The mark serves the borrow checker alone, which does not
+/// know the parts of a view that is made and lent here unless the signature names the view.
 fn name_at<'a>(db: &Db<'a>, i: usize, _mark: PhantomData<PackageView<'a>>) -> &'a [u8]
     requires { i < length (packages_of db.now) }
     ensures { option_map package_name (slice_get (packages_of db.now) i) ≡ Some result.now }
@@ -116,6 +116,7 @@ fn name_at<'a>(db: &Db<'a>, i: usize, _mark: PhantomData<PackageView<'a>>) -> &'
     name_of(&pkg, PhantomData)
 }
 
+/// The name of a package.
 fn name_of<'a>(pkg: &PackageView<'a>, _mark: PhantomData<PackageView<'a>>) -> &'a [u8]
     ensures { result.now ≡ package_name (package_value pkg.now) }
 {
@@ -178,7 +179,8 @@ fn changes_of_names<'a>(
     Ok(list)
 }
 
-/// Adds what becomes of the package with this name, whose candidate has this place, if anything does.
+/// Adds what becomes of the package with this name, whose candidate has this place, if anything
+/// does.
 fn push_change<'a>(
     list: &mut Vec<PlacedChange<'a>>,
     db: &Db<'a>,

@@ -1,7 +1,7 @@
-//! What becomes of each package where a selection takes the place of the packages before, and how it
-//! is reported. A database, a pool and a selection come in; changes with their places, and reports,
-//! go out. The contracts cite `specs/`: `Changes` (what becomes of a package), `Placed` (the places of
-//! the packages that a change is of) and `Report`.
+//! What becomes of each package where a selection takes the place of the packages before, and how
+//! it is reported. A database, a pool and a selection come in; changes with their places, and
+//! reports, go out. The contracts cite `specs/`: `Changes` (what becomes of a package), `Placed`
+//! (the places of the packages that a change is of) and `Report`.
 #![tactic(auto)]
 
 mod change;

@@ -163,6 +163,7 @@ pub fn push_sum_line(report: &mut Report, bytes: u128, count: u128) -> Result<()
     Ok(())
 }
 
+/// Adds the text of that line.
 fn push_sum(report: &mut Report, bytes: u128, count: u128) -> Result<(), AllocError>
     ensures { OnOk result (report.new ≡ report.old ++ sum_text bytes count) }
 {

@@ -261,6 +261,7 @@ fn push_stay_line(report: &mut Report, name: &[u8], names: &[&[u8]]) -> Result<(
     Ok(())
 }
 
+/// Adds the text of that line.
 fn push_stay_text(report: &mut Report, name: &[u8], names: &[&[u8]]) -> Result<(), AllocError>
     ensures { OnOk result (report.new
         ≡ report.old ++ stays_text name.now (map (λ n. n.now) names.now)) }

@@ -1,8 +1,8 @@
-use Rattle.std.proofs.Common.{◌≡◌, ◌∙◌, ◌+◌, ◌++◌, List, ℕ, length, arith, drop, map, ap, sym}
+use Rattle.std.proofs.Common.{◌≡◌, ◌∙◌, ◌+◌, ◌++◌, List, length, arith, drop, map, ap, sym}
 use Rattle.std.proofs.lemmas.List.{drop_all, length-map}
 use Rattle.report_core.specs.Reports.{Change, change_lines_from}
 use Rattle.package_changes.specs.Placed.{PlacedChange}
-use Rattle.package_changes.specs.Seen.{changes_seen, change_seen}
+use Rattle.package_changes.specs.Seen.{changes_seen}
 use Rattle.package_changes.proofs.Lists.{all_told, left_at, told}
 use Rattle.package_changes.proofs.ReportLines.{get_mapped}
 use Rattle.package_changes.proofs.report.push_change_lines.Goals as goal

@@ -1,7 +1,7 @@
 use Rattle.std.proofs.Common.{◌∙◌, List, ℕ, Bor, ap, map}
 use Rattle.std.specs.List.{filter_map}
 use Rattle.db_core.specs.Seen.{packages_of}
-use Rattle.package_changes.specs.Placed.{PlacedChange, placed_change_of, placed_changes_of}
+use Rattle.package_changes.specs.Placed.{PlacedChange, placed_changes_of}
 use Rattle.package_changes.specs.Seen.{replacement_by}
 use Rattle.package_changes.specs.SelectedNames.{change_at}
 use Rattle.package_changes.proofs.PlacedLaws.{by_table, changes_alone}

@@ -10,6 +10,6 @@ returns-in-None c = λ name. not_there (place_beside name c.args.self.now) (is_s
 
 pub returns-in_ok-add_name-in-Some : goal.returns-in_ok-add_name-in-Some
 returns-in_ok-add_name-in-Some c = λ name.
-    one_there _ (place_beside name c.args.self.now) name _ _ _ c.args.id c.in-Some.ensures c.name.ensures 
+    one_there _ (place_beside name c.args.self.now) name _ _ _ c.args.id c.in-Some.ensures c.name.ensures
     (c.in_ok-add_name-in-Some.ensures name
     ∙ ap (λ z. or_place (place_beside name c.args.self.now) (if bytes_eq c.name.result.now name then Some z else None)) c.id.view_is)
