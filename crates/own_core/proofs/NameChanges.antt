@@ -22,7 +22,7 @@ use Rattle.path_clashes.specs.Clash.{NameChange}
 use Rattle.change_files.specs.Fate.{aside_name}
 use Rattle.change_files.specs.FileChange.{FileChange, is_claimed, old_entry, was_listed}
 use Rattle.change_files.specs.FilesAfter.{database_name, is_kept, is_left_over, laid_beside, may_stay, path_beside, world_name}
-use Rattle.change_files.specs.NamesAfter.{coming_paths, is_let_go, is_written_name, name_change}
+use Rattle.change_files.specs.NamesAfter.{coming_paths, is_let_go, counts_as_written, name_change}
 use Rattle.own_core.specs.ClaimEntries.{claim_entry, comes_at, comes_if_any, is_of_coming_owner, old_members}
 use Rattle.own_core.specs.Fates.{is_flag}
 use Rattle.own_core.specs.Going.{is_beside}
@@ -146,8 +146,8 @@ all_written change besides =
 
 module _ (change : Change) (claims : HasClaims change) (coming : List PathClaim) (firsts : HasFirsts (filter (is_of_coming_owner (members_of change.members.now)) (claims_after change)) coming)
     (parts : Parts) (v : TreeState) (earlier : List TreeState) (are : AreParts change (v ∷ earlier) coming parts) where
-  written_is : (name : List ℕ) → list_any (bytes_eq name) (sorted_by bytes_cmp (all_written change (map (λ c. aside_name c.path) (asides_of parts)))) ≡ is_written_name (change_of change) (files_of v) name
-  unfolding is_written_name
+  written_is : (name : List ℕ) → list_any (bytes_eq name) (sorted_by bytes_cmp (all_written change (map (λ c. aside_name c.path) (asides_of parts)))) ≡ counts_as_written (change_of change) (files_of v) name
+  unfolding counts_as_written
   written_is name =
       any_sorted bytes_cmp (bytes_eq name) (all_written change (map (λ c. aside_name c.path) (asides_of parts)))
       ∙ (any_both (bytes_eq name) ((database_name ∷ world_name ∷ []) ++ map (λ c. c.path) (filter (λ c. comes_at (members_of change.members.now) c.member) (claims_after change))) (map (λ c. aside_name c.path) (asides_of parts))
