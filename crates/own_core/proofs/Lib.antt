@@ -11,3 +11,4 @@ pub mod PartsMeaning
 pub mod NameChanges
 pub mod PlanParts
 pub mod Refusals
+pub mod WholePlan

@@ -33,7 +33,7 @@ invariant_of-let_go g c = record {
 
 pub first_clash-requires-clause-sorted : goal.first_clash-requires-clause-sorted
 first_clash-requires-clause-sorted g c =
-    sorted_list (map joined_path c.deref-3.result.now) _ (ap (map joined_path) c.deref-3.ensures.value ∙ c.in_ok-written.ensures)
+    sorted_list (map joined_path c.deref-3.result.now) (all_written c.args.change.now c.in_ok-besides.besides) (ap (map joined_path) c.deref-3.ensures.value ∙ c.in_ok-written.ensures)
 
 pub first_clash-requires-clause-names : goal.first_clash-requires-clause-names
 first_clash-requires-clause-names g c =
