@@ -52,7 +52,6 @@ found_some p [] i x g t = absurd (no_some x g)
 found_some p (z ∷ xs) zero x g t = (z, ap (λ b. cond b (Some z) (find p xs)) (ap p (ap (value_or z) g) ∙ t))
 found_some p (z ∷ xs) (suc i) x g t = found_past (p z) z (find p xs) (found_some p xs i x g t)
 
-
 pub found_ext : {X : Type 0} (p q : X → Bool) → ((x : X) → p x ≡ q x) → (xs : List X) → find p xs ≡ find q xs
 found_ext p q h [] = refl
 found_ext p q h (x ∷ xs) = λ j. cond (h x j) (Some x) (found_ext p q h xs j)

@@ -77,7 +77,7 @@ none_there cs path i c up h l g e =
     let back : Each (λ (d : PathClaim). precedes d.path path ≡ false) (drop i cs) = each_above (λ (d : PathClaim). precedes d.path path ≡ false) cs i h.1 in
     let here = subst (Each (λ (d : PathClaim). precedes d.path path ≡ false)) (drop_at cs i c g) back in
     let rises : Rises (λ x y. is_lt (claim_cmp x y)) (ranks claim_cmp claims_total) (c ∷ drop (suc i) cs) =
-        subst (Rises (λ x y. is_lt (claim_cmp x y)) (ranks claim_cmp claims_total)) (drop_at cs i c g) (rises_drop i cs (rises_sorted (λ x y. is_lt (claim_cmp x y)) (ranks claim_cmp claims_total) cs up)) in
+    subst (Rises (λ x y. is_lt (claim_cmp x y)) (ranks claim_cmp claims_total)) (drop_at cs i c g) (rises_drop i cs (rises_sorted (λ x y. is_lt (claim_cmp x y)) (ranks claim_cmp claims_total) cs up)) in
     let first : precedes path c.path ≡ true = behind c.path path here.0 e in
     sym (within_place cs path i l h ∙ (ap (find (is_of_path path)) (drop_at cs i c g)
     ∙ found_none (is_of_path path) (c ∷ drop (suc i) cs) (e, higher first (drop (suc i) cs) rises.0)))

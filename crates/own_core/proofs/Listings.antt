@@ -22,14 +22,14 @@ use Rattle.path_claims.proofs.Whole.{from_sorted}
 use Rattle.claim_lists.proofs.Lists.{found_ext, found_filtered, found_first, found_is, found_none, first_of}
 use Rattle.file_owners.specs.Owners.{claim_by, claims_from, claims_in, owner_of_path}
 use Rattle.change_files.specs.FileChange.{FileChange, coming_owner, if_it_comes, is_claimed, old_entry, old_listings, owner_listing}
-use Rattle.own_core.specs.ClaimEntries.{AreClaimsOf, HasFileAt, IsClaimOf, claim_entry, comes_at, comes_if_any, file_at, folders_if_any, is_of_coming_owner}
+use Rattle.own_core.specs.ClaimEntries.{AreClaimsOf, HasFileAt, IsClaimOf, claim_entry, comes_at, comes_if_any, listed_file_at, folders_if_any, is_of_coming_owner}
 
 -- ---- each listing stands where it says
 
 pub record IsPlaced (members : List Member) (l : Listing) : Type 0 where
   pub at : slice_get members l.place ≡ Some l.member
   pub place : HasFileAt (entry_in l.member.pkg 1) l.folder l.file
-  pub entry : l.entry ≡ file_at (entry_in l.member.pkg 1) l.folder l.file
+  pub entry : l.entry ≡ listed_file_at (entry_in l.member.pkg 1) l.folder l.file
 
 pub each_both : {X : Type 0} (P : X → Type 0) (xs ys : List X) → Each P xs → Each P ys → Each P (xs ++ ys)
 each_both P [] ys h g = g
@@ -50,7 +50,7 @@ each_in_folders P m place none i h = tt
 each_in_folders P m place (more v vs) i h = each_both P (listings_in_folder m place i 1 (name_of v) (files_in v)) (listings_in_folders m place (i + 1) (list_of vs))
     (let n : i + 0 ≡ i = omega arith in subst (λ k. Each P (listings_in_folder m place k 1 (name_of v) (files_in v))) n (h 0 (omega arith)))
     (each_in_folders P m place vs (i + 1) (λ k l.
-        (let n : i + suc k ≡ i + 1 + k = omega arith in subst (λ j. Each P (listings_in_folder m place j 1 (name_of (nth vs k)) (files_in (nth vs k)))) n (h (suc k) (omega arith)))))
+    (let n : i + suc k ≡ i + 1 + k = omega arith in subst (λ j. Each P (listings_in_folder m place j 1 (name_of (nth vs k)) (files_in (nth vs k)))) n (h (suc k) (omega arith)))))
 
 each_from : (P : Listing → Type 0) (ms : List Member) (n : ℕ) → ((k : ℕ) (m : Member) → slice_get ms k ≡ Some m → Each P (listings_by (n + k) m)) → Each P (listings_from n ms)
 each_from P [] n h = tt
@@ -97,8 +97,8 @@ claim_for n l = record { path = refl; member = refl; folder = refl; file = refl 
 pub entry_of : (members : List Member) (l : Listing) (c : PathClaim) → IsPlaced members l → IsClaimFor l c → claim_entry members c ≡ l.entry
 unfolding claim_entry
 entry_of members l c h k =
-    (λ j. file_at (folders_if_any (slice_get members (k.member j))) (k.folder j) (k.file j))
-    ∙ (ap (λ m. file_at (folders_if_any m) l.folder l.file) h.at ∙ sym h.entry)
+    (λ j. listed_file_at (folders_if_any (slice_get members (k.member j))) (k.folder j) (k.file j))
+    ∙ (ap (λ m. listed_file_at (folders_if_any m) l.folder l.file) h.at ∙ sym h.entry)
 
 abbrev pub GoTogether : Option Listing → Option PathClaim → Type 0
 GoTogether None None = Unit {0}

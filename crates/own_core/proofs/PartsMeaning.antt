@@ -26,10 +26,10 @@ use Rattle.change_files.specs.NamesAfter.{name_change}
 use Rattle.change_files.specs.PlanLists.{aside_of, kept_of, removals_of, writes_of}
 use Rattle.path_clashes.specs.Clash.{HasNoClash}
 use Rattle.own_core.specs.ClaimEntries.{AreClaimsOf, IsClaimOf, is_of_coming_owner, members_before, old_members}
-use Rattle.own_core.specs.Fates.{HaveRoom, claim_fate, is_fate, is_flag, is_free_beside, marked_claims}
+use Rattle.own_core.specs.Fates.{HaveRoomBeside, claim_fate, is_fate, is_flag, is_free_beside, marked_claims}
 use Rattle.own_core.specs.Going.{does_stay, is_beside, is_left}
 use Rattle.own_core.specs.ListsSeen.{AreListsOf}
-use Rattle.own_core.specs.Parts.{AreParts, asides_of, ins_of, kept_of_parts, left_in, removed_of}
+use Rattle.own_core.specs.Parts.{AreParts, asides_of, ins_of, kept_of_parts, left_claims_by, removed_of}
 use Rattle.own_core.specs.Planned.{IsPlanOf}
 use Rattle.own_core.specs.Sides.{HasClaims, change_of, claims_after, claims_before}
 use Rattle.own_core.specs.WritesSeen.{HasNameBeside, HaveNamesBeside, aside_write, claim_write, write_cmp}
@@ -131,17 +131,17 @@ names_marked test cs xs ms h e i c g = let f = marked_from test cs ms i c (ap (�
 pub ins_named : (change : Change) (history : List TreeState) (coming : List PathClaim) (parts : Parts) → AreClaimsOf (members_of change.members.now) coming → AreParts change history coming parts → HaveNames (ins_of parts)
 ins_named change history coming parts h p = names_marked (is_fate goes_in) coming (ins_of parts) p.fates (λ i c g. (h i c g).name) p.ins
 
-left_named : (change : Change) → HasClaims change → (asides : List PathClaim) → HaveNames (left_in change asides)
+left_named : (change : Change) → HasClaims change → (asides : List PathClaim) → HaveNames (left_claims_by change asides)
 left_named change h asides i c g =
     let f = filter_from (λ d. is_left (change_of change) asides d.path) (claims_before change) i c g in (h.old_files f.0 c f.1).name
 
 pub removed_named : (change : Change) (history : List TreeState) (coming : List PathClaim) (parts : Parts) → HasClaims change → AreParts change history coming parts → HaveNames (removed_of parts)
-removed_named change history coming parts h p = names_marked (is_flag false) (left_in change (asides_of parts)) (removed_of parts) p.stays (left_named change h (asides_of parts)) p.removed
+removed_named change history coming parts h p = names_marked (is_flag false) (left_claims_by change (asides_of parts)) (removed_of parts) p.stays (left_named change h (asides_of parts)) p.removed
 
 pub kept_named : (change : Change) (history : List TreeState) (coming : List PathClaim) (parts : Parts) → HasClaims change → AreParts change history coming parts → HaveNames (kept_of_parts parts)
-kept_named change history coming parts h p = names_marked (is_flag true) (left_in change (asides_of parts)) (kept_of_parts parts) p.stays (left_named change h (asides_of parts)) p.kept
+kept_named change history coming parts h p = names_marked (is_flag true) (left_claims_by change (asides_of parts)) (kept_of_parts parts) p.stays (left_named change h (asides_of parts)) p.kept
 
-room_of : (change : FileChange) (cs : List PathClaim) (fs : List Fates.Fate) → HaveRoom change cs fs → (i : ℕ) (c : PathClaim) → slice_get (marked_claims (is_fate goes_aside) cs fs) i ≡ Some c → is_free_beside change c.path ≡ true
+room_of : (change : FileChange) (cs : List PathClaim) (fs : List Fates.Fate) → HaveRoomBeside change cs fs → (i : ℕ) (c : PathClaim) → slice_get (marked_claims (is_fate goes_aside) cs fs) i ≡ Some c → is_free_beside change c.path ≡ true
 room_of change [] fs h i c g = absurd (no_some c g)
 room_of change (d ∷ cs) [] h i c g = absurd h
 room_of change (d ∷ cs) (f ∷ fs) h i c g = go (is_fate goes_aside f) refl i (λ j k. room_of change cs fs h.1 j c k) g
@@ -171,7 +171,7 @@ kept_sorted change history coming parts h p =
     rising_sorted (kept_of_parts parts)
     (Names.pairs_from_rises (paths (kept_of_parts parts))
     (subst (λ cs. Names.Rises (paths cs)) (sym p.kept)
-    (marked_rises (is_flag true) (left_in change (asides_of parts)) p.stays
+    (marked_rises (is_flag true) (left_claims_by change (asides_of parts)) p.stays
     (filtered_rises (λ c. is_left (change_of change) (asides_of parts) c.path) (claims_before change) (Names.rises_from_pairs (paths (claims_before change)) h.before.rising)))))
 
 -- ---- over the files of the tree
@@ -202,10 +202,10 @@ module _ (change : Change) (claims : HasClaims change) (coming : List PathClaim)
   pub before_each : (q : List ℕ) → find (is_of_path q) (claims_before change) ≡ find (is_of_path q) (sorted_by claim_cmp (claims_in (old_members (change_of change))))
   before_each q = claims.before.each q
 
-  by_flag : (b : Bool) (xs : List PathClaim) → xs ≡ marked_claims (is_flag b) (left_in change (asides_of parts)) are.stays
+  by_flag : (b : Bool) (xs : List PathClaim) → xs ≡ marked_claims (is_flag b) (left_claims_by change (asides_of parts)) are.stays
       → xs ≡ going (change_of change) (files_of v) (claims_before change) before_up before_each (asides_of parts) beside_parts b
   by_flag b xs e =
-      e ∙ (ap (marked_claims (is_flag b) (left_in change (asides_of parts))) are.told.1 ∙ marked_by (is_flag b) (does_stay (change_of change) (files_of v)) (left_in change (asides_of parts)))
+      e ∙ (ap (marked_claims (is_flag b) (left_claims_by change (asides_of parts))) are.told.1 ∙ marked_by (is_flag b) (does_stay (change_of change) (files_of v)) (left_claims_by change (asides_of parts)))
 
   pub kept_parts : kept_of_parts parts ≡ going (change_of change) (files_of v) (claims_before change) before_up before_each (asides_of parts) beside_parts true
   kept_parts = by_flag true (kept_of_parts parts) are.kept

@@ -33,7 +33,7 @@ use Rattle.change_files.specs.FileChange.{FileChange}
 use Rattle.change_files.specs.FilesAfter.{database_name, world_name}
 use Rattle.change_files.specs.NamesAfter.{name_change}
 use Rattle.own_core.specs.ClaimEntries.{AreClaimsOf, IsClaimOf, comes_at, is_of_coming_owner, members_before}
-use Rattle.own_core.specs.Fates.{HaveRoom, fate_seen, marked_claims}
+use Rattle.own_core.specs.Fates.{HaveRoomBeside, fate_seen, marked_claims}
 use Rattle.own_core.specs.Parts.{AreParts, asides_of, kept_of_parts}
 use Rattle.own_core.specs.Sides.{HasClaims, change_of, claims_after, claims_before}
 use Rattle.own_core.specs.WritesSeen.{HaveNamesBeside}
@@ -50,7 +50,7 @@ use Rattle.own_core.proofs.WritesMeaning.{each_finds_itself}
 
 -- ---- parts
 
-pub fates_len : (change : FileChange) (xs : List Claim) (fs : List Fate) → HaveRoom change (map claim_seen xs) (map fate_seen fs) → length fs ≡ length xs
+pub fates_len : (change : FileChange) (xs : List Claim) (fs : List Fate) → HaveRoomBeside change (map claim_seen xs) (map fate_seen fs) → length fs ≡ length xs
 fates_len change xs fs h = sym (map_len fate_seen fs) ∙ (room_len change (map claim_seen xs) (map fate_seen fs) h ∙ map_len claim_seen xs)
 
 pub marked_sorted : {Y : Type 0} (test : Y → Bool) (cs xs : List PathClaim) (ms : List Y) → Names.Rises (paths cs) → xs ≡ marked_claims test cs ms → IsSorted claim_cmp xs

@@ -323,7 +323,7 @@ module _ (change : FileChange) (files : Files) (coming : List PathClaim) (up : N
   free_in q here =
       let f = found_in asides q here in
       let t = found_is (is_of_path q) (λ c. (find (is_of_path c.path) coming ≡ Some c) × (is_fate goes_aside (claim_fate change files c) ≡ true)) asides f.0
-          (each_passing (λ c. find (is_of_path c.path) coming ≡ Some c) (λ c. is_fate goes_aside (claim_fate change files c)) coming (each_finds_itself coming up)) f.1 in
+      (each_passing (λ c. find (is_of_path c.path) coming ≡ Some c) (λ c. is_fate goes_aside (claim_fate change files c)) coming (each_finds_itself coming up)) f.1 in
       ap (λ p. is_claimed change (aside_name p)) (sym ((bytes_decides f.0.path q).0 t.1)) ∙ free_beside change files f.0 t.0.1
 
   in_write_names : (q : List ℕ) → Names.IsIn q (paths ins) ⊎ Names.IsIn q (map aside_name (paths asides)) → Names.IsIn q (write_names (sorted_by write_cmp all_writes))
@@ -346,12 +346,15 @@ module _ (change : FileChange) (files : Files) (coming : List PathClaim) (up : N
   mapped_some name (Some l) = refl
 
   there : (q : List ℕ) → Names.IsIn q (write_names (sorted_by write_cmp all_writes)) → Names.IsIn q places × (is_some (as_written q) ≡ true)
-  there q here = (elim (of_write_names q here) [
-    | inl a ↦ both_in q (coming_paths change.members) (map aside_name (coming_paths change.members)) (inl (in_coming_paths change q (comes_in q a)))
-    | inr b ↦ (let f = in_aside q (paths asides) b in
+  there q here = (
+    elim (of_write_names q here) [
+      | inl a ↦ both_in q (coming_paths change.members) (map aside_name (coming_paths change.members)) (inl (in_coming_paths change q (comes_in q a)))
+      | inr b ↦ (let f = in_aside q (paths asides) b in
           both_in q (coming_paths change.members) (map aside_name (coming_paths change.members))
           (inr (subst (λ z. Names.IsIn z (map aside_name (coming_paths change.members))) (sym f.1) (aside_in f.0 (coming_paths change.members) (in_coming_paths change f.0 (comes_aside f.0 f.2))))))
-  ], written q here)
+    ],
+    written q here,
+  )
     where
       comes_in : (q : List ℕ) → Names.IsIn q (paths ins) → is_some (coming_owner change q) ≡ true
       comes_in q a = by_owner (coming_owner change q) (in_is change files coming up each q ∙ is_there ins q a)

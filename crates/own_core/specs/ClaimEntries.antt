@@ -14,8 +14,8 @@ use Rattle.change_files.specs.FileChange.{FileChange}
 -- ---- files
 
 -- a file of folders, by their positions, which count from 1
-abbrev pub file_at : Plain → ℕ → ℕ → Plain
-file_at folders folder file = entry_in (entry_in (entry_in folders (folder - 1)) 2) (file - 1)
+abbrev pub listed_file_at : Plain → ℕ → ℕ → Plain
+listed_file_at folders folder file = entry_in (entry_in (entry_in folders (folder - 1)) 2) (file - 1)
 
 pub record HasFileAt (folders : Plain) (folder file : ℕ) : Type 0 where
   pub folder_low : 0 < folder
@@ -31,7 +31,7 @@ folders_if_any (Some m) = entry_in m.pkg 1
 
 -- the entry of the file that a claim speaks of
 unfoldable pub claim_entry : List Member → PathClaim → Plain
-claim_entry members c = file_at (folders_if_any (slice_get members c.member)) c.folder c.file
+claim_entry members c = listed_file_at (folders_if_any (slice_get members c.member)) c.folder c.file
 
 -- a claim speaks of a file of one of the members, whose path is a name
 pub record IsClaimOf (members : List Member) (c : PathClaim) : Type 0 where

@@ -28,14 +28,14 @@ is_free_beside change path =
     nat_le (length (aside_name path)) 1024 && not (is_claimed change (aside_name path))
 
 -- a file that goes aside has a name there
-abbrev pub HasRoom : FileChange → List ℕ → Fates.Fate → Type 0
-HasRoom change path fate = fate ≡ goes_aside → is_free_beside change path ≡ true
+abbrev pub HasRoomBeside : FileChange → List ℕ → Fates.Fate → Type 0
+HasRoomBeside change path fate = fate ≡ goes_aside → is_free_beside change path ≡ true
 
-abbrev pub HaveRoom : FileChange → List PathClaim → List Fates.Fate → Type 0
-HaveRoom change [] [] = Unit {0}
-HaveRoom change [] (f ∷ fates) = ⊥
-HaveRoom change (c ∷ cs) [] = ⊥
-HaveRoom change (c ∷ cs) (f ∷ fates) = HasRoom change c.path f × HaveRoom change cs fates
+abbrev pub HaveRoomBeside : FileChange → List PathClaim → List Fates.Fate → Type 0
+HaveRoomBeside change [] [] = Unit {0}
+HaveRoomBeside change [] (f ∷ fates) = ⊥
+HaveRoomBeside change (c ∷ cs) [] = ⊥
+HaveRoomBeside change (c ∷ cs) (f ∷ fates) = HasRoomBeside change c.path f × HaveRoomBeside change cs fates
 
 -- what is read of an entry, where there is one
 abbrev pub IsOfEntryIfAny : Option ListedFile → Option Plain → Type 0

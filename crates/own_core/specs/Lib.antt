@@ -1,9 +1,11 @@
+-- what the contract of `apk` says
+pub mod WritesSeen
+pub mod Planned
+-- what only inner contracts and proofs use
 pub mod ClaimEntries
 pub mod Sides
 pub mod Fates
 pub mod Going
-pub mod WritesSeen
-pub mod FaultsSeen
 pub mod Parts
 pub mod ListsSeen
-pub mod Planned
+pub mod FaultsSeen

@@ -7,7 +7,7 @@ use Rattle.path_claims.specs.Claims.{PathClaim}
 use Rattle.path_claims.specs.Seen.{claim_seen}
 use Rattle.change_files.specs.Fate as Fates
 use Rattle.change_files.specs.Fate.{goes_aside, goes_in}
-use Rattle.own_core.specs.Fates.{HaveRoom, claim_fate, is_fate, is_flag, marked_claims}
+use Rattle.own_core.specs.Fates.{HaveRoomBeside, claim_fate, is_fate, is_flag, marked_claims}
 use Rattle.own_core.specs.Going.{does_stay, is_left}
 use Rattle.own_core.specs.Sides.{change_of, claims_before}
 use Rattle.own_core.specs.declared.change.Change.{Change}
@@ -26,8 +26,8 @@ abbrev pub kept_of_parts : Parts → List PathClaim
 kept_of_parts parts = map claim_seen parts.kept.items
 
 -- the claims of paths that are left over where these files are laid beside others
-abbrev pub left_in : Change → List PathClaim → List PathClaim
-left_in change asides =
+abbrev pub left_claims_by : Change → List PathClaim → List PathClaim
+left_claims_by change asides =
     filter (λ c. is_left (change_of change) asides c.path) (claims_before change)
 
 -- The files that come are parted by their fates, and those that are left over by whether they stay;
@@ -36,14 +36,14 @@ pub record AreParts (change : Change) (history : List TreeState) (coming : List 
     (parts : Parts) : Type 0 where
   pub fates : List Fates.Fate
   pub stays : List Bool
-  pub room : HaveRoom (change_of change) coming fates
+  pub room : HaveRoomBeside (change_of change) coming fates
   pub ins : ins_of parts ≡ marked_claims (is_fate goes_in) coming fates
   pub asides : asides_of parts ≡ marked_claims (is_fate goes_aside) coming fates
   pub removed : removed_of parts
-      ≡ marked_claims (is_flag false) (left_in change (asides_of parts)) stays
+      ≡ marked_claims (is_flag false) (left_claims_by change (asides_of parts)) stays
   pub kept : kept_of_parts parts
-      ≡ marked_claims (is_flag true) (left_in change (asides_of parts)) stays
+      ≡ marked_claims (is_flag true) (left_claims_by change (asides_of parts)) stays
   pub told : IfObservable history (λ v.
       (fates ≡ map (claim_fate (change_of change) (files_of v)) coming)
       × (stays ≡ map (does_stay (change_of change) (files_of v))
-      (left_in change (asides_of parts))))
+      (left_claims_by change (asides_of parts))))

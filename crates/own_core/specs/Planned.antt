@@ -40,16 +40,16 @@ pub record IsPlanFor (members : List Member) (plan : FilePlan) : Type 0 where
 
 -- ---- why there is none
 
-abbrev pub name_at : List Member → ℕ → Option (List ℕ)
-name_at members place = option_map member_name (slice_get members place)
+abbrev pub member_name_at : List Member → ℕ → Option (List ℕ)
+member_name_at members place = option_map member_name (slice_get members place)
 
 -- the first path that no package owns, and the names of two that list it
 pub record IsContest (members : List Member) (path first second : List ℕ) : Type 0 where
   pub contest : ContestedPath
   pub is : contested_of members ≡ Some contest
   pub at : path ≡ contest.path
-  pub lister : name_at members contest.rivals.first ≡ Some first
-  pub other : name_at members contest.rivals.second ≡ Some second
+  pub lister : member_name_at members contest.rivals.first ≡ Some first
+  pub other : member_name_at members contest.rivals.second ≡ Some second
 
 abbrev pub IsOwnedBy : List Member → PlanFault → Type 0
 IsOwnedBy members (Reserved path) = ⊥

@@ -132,10 +132,7 @@ impl<'c, 'o, 'n> LetGo for LetGoPaths<'c, 'o, 'n> {
         || is_some (find (is_of_path name) (map claim_seen paths.kept.now))) };
 
     fn lets_go(&self, name: &[u8]) -> bool {
-        let path = FilePath {
-            folder: &[],
-            name,
-        };
+        let path = FilePath { folder: &[], name };
         if find_claim(self.before, &path).is_none() || find_claim(self.after, &path).is_some() {
             return false;
         }

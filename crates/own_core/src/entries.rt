@@ -7,7 +7,7 @@ ghost use Rattle.adb_tables.specs.Values.{count_of, entries_in, entry_in};
 ghost use Rattle.db_core.specs.Seen.{members_of};
 ghost use Rattle.file_guard.specs.Listed.{IsOfEntry};
 ghost use Rattle.path_claims.specs.Seen.{claim_seen};
-ghost use Rattle.own_core.specs.ClaimEntries.{HasFileAt, IsClaimOf, claim_entry, file_at, members_before};
+ghost use Rattle.own_core.specs.ClaimEntries.{HasFileAt, IsClaimOf, claim_entry, listed_file_at, members_before};
 
 use adb_schema::{DirInfo, FileInfo, List, PackageView};
 use db_core::{Db, Members};
@@ -26,13 +26,9 @@ fn listed_in_files<'a>(files: &List<'a, FileInfo<'a>>, file: u32) -> ListedFile<
 }
 
 /// The same of a file of folders; positions count from 1.
-fn listed_in_folders<'a>(
-    folders: &List<'a, DirInfo<'a>>,
-    folder: u32,
-    file: u32,
-) -> ListedFile<'a>
+fn listed_in_folders<'a>(folders: &List<'a, DirInfo<'a>>, folder: u32, file: u32) -> ListedFile<'a>
     requires { HasFileAt (list_value folders.now) folder file }
-    ensures { IsOfEntry result (file_at (list_value folders.now) folder file) }
+    ensures { IsOfEntry result (listed_file_at (list_value folders.now) folder file) }
 {
     let folder = folders.get(folder as usize);
     listed_in_files(&folder.files(), file)
@@ -42,7 +38,7 @@ fn listed_in_folders<'a>(
 fn listed_in<'a>(pkg: &PackageView<'a>, claim: &Claim<'_>) -> ListedFile<'a>
     requires { HasFileAt (entry_in (package_value pkg.now) 1) claim.now.folder claim.now.file }
     ensures { IsOfEntry result
-        (file_at (entry_in (package_value pkg.now) 1) claim.now.folder claim.now.file) }
+        (listed_file_at (entry_in (package_value pkg.now) 1) claim.now.folder claim.now.file) }
 {
     listed_in_folders(&pkg.paths(), claim.folder, claim.file)
 }

@@ -12,7 +12,7 @@ ghost use Rattle.db_core.specs.Seen.{members_of};
 ghost use Rattle.file_guard.specs.Listed.{IsOfEntry};
 ghost use Rattle.path_claims.specs.Seen.{claim_seen};
 ghost use Rattle.own_core.specs.ClaimEntries.{AreClaimsOf, IsClaimOf, claim_entry};
-ghost use Rattle.own_core.specs.Fates.{HasRoom, HaveRoom, IsOfEntryIfAny, claim_fate, fate_seen, is_free_beside};
+ghost use Rattle.own_core.specs.Fates.{HasRoomBeside, HaveRoomBeside, IsOfEntryIfAny, claim_fate, fate_seen, is_free_beside};
 ghost use Rattle.own_core.specs.Sides.{HasClaims, change_of};
 
 use crate::change::Change;
@@ -92,7 +92,7 @@ fn fate_beside(
     ensures fate { IfOk result (λ fate. (entry : Plain) → IsOfEntry new.now entry
         → fate_seen fate ≡ fate_beside (change_of change.now) name.now entry) }
     ensures room { IfOk result
-        (λ fate. HasRoom (change_of change.now) name.now (fate_seen fate)) }
+        (λ fate. HasRoomBeside (change_of change.now) name.now (fate_seen fate)) }
 {
     if agrees_with_old(new, old) || !is_free_beside(alloc, change, name)? {
         return Ok(Fate::GivesWay);
@@ -123,7 +123,7 @@ fn guarded_fate<T: Tree>(
     ensures fate { IfOk result (λ fate. IfObservable (T.history tree.old) (λ v. fate_seen fate
         ≡ claim_fate (change_of change.now) (files_of v) (claim_seen claim.now))) }
     ensures room { IfOk result (λ fate.
-        HasRoom (change_of change.now) (claim_seen claim.now).path (fate_seen fate)) }
+        HasRoomBeside (change_of change.now) (claim_seen claim.now).path (fate_seen fate)) }
     ensures tree { OnlyReads TreeFault.Disk (T.history tree.old) (T.history tree.new)
         (T.counts tree.old) (T.counts tree.new) result }
 {
@@ -150,7 +150,7 @@ fn fate_of<T: Tree>(
     ensures fate { IfOk result (λ fate. IfObservable (T.history tree.old) (λ v. fate_seen fate
         ≡ claim_fate (change_of change.now) (files_of v) (claim_seen claim.now))) }
     ensures room { IfOk result (λ fate.
-        HasRoom (change_of change.now) (claim_seen claim.now).path (fate_seen fate)) }
+        HasRoomBeside (change_of change.now) (claim_seen claim.now).path (fate_seen fate)) }
     ensures tree { OnlyReads TreeFault.Disk (T.history tree.old) (T.history tree.new)
         (T.counts tree.old) (T.counts tree.new) result }
 {
@@ -179,7 +179,7 @@ pub(crate) fn fates_of<T: Tree>(
     ensures fates { IfOk result (λ fates. IfObservable (T.history tree.old) (λ v.
         map fate_seen fates.items
         ≡ map (claim_fate (change_of change.now) (files_of v)) (map claim_seen coming.now))) }
-    ensures room { IfOk result (λ fates. HaveRoom (change_of change.now) (map claim_seen coming.now)
+    ensures room { IfOk result (λ fates. HaveRoomBeside (change_of change.now) (map claim_seen coming.now)
         (map fate_seen fates.items)) }
     ensures tree { OnlyReads TreeFault.Disk (T.history tree.old) (T.history tree.new)
         (T.counts tree.old) (T.counts tree.new) result }

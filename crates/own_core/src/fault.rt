@@ -9,10 +9,15 @@ use std::alloc::AllocError;
 #[derive(Drop)]
 pub enum PlanFault {
     /// A package that comes lists a path that no package may hold. It is the first one.
-    Reserved { path: Name },
+    Reserved {
+        path: Name,
+    },
     /// After the change `path` would be a folder of `other`, and at least one of them is written.
     /// It is the first such pair.
-    PathClash { path: Name, other: Name },
+    PathClash {
+        path: Name,
+        other: Name,
+    },
     /// The first path that no package owns, the first package that lists it, and the first other
     /// one that this one does not beat.
     Owned {

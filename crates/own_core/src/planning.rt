@@ -24,13 +24,13 @@ ghost use Rattle.path_clashes.specs.FirstClash.{IsClashOf};
 ghost use Rattle.own_core.specs.ClaimEntries.{AreClaimsOf, IsClaimOf, is_of_coming_owner, is_reserved_coming};
 ghost use Rattle.own_core.specs.ListsSeen.{AreListsOf};
 ghost use Rattle.own_core.specs.Parts.{AreParts, asides_of, ins_of, kept_of_parts, removed_of};
-ghost use Rattle.own_core.specs.Planned.{IsOwnedBy, IsPlanFor, IsPlanOf, IsRefusalFor, IsRefusalOf, change_by, name_at};
+ghost use Rattle.own_core.specs.Planned.{IsOwnedBy, IsPlanFor, IsPlanOf, IsRefusalFor, IsRefusalOf, change_by, member_name_at};
 ghost use Rattle.own_core.specs.Sides.{HasClaims, change_of, claims_after};
 ghost use Rattle.own_core.specs.WritesSeen.{HaveNamesBeside};
 
 use crate::change::Change;
 use crate::clashes::{LetGoPaths, names_beside, written_paths};
-use crate::coming::{coming_claims, comes};
+use crate::coming::{comes, coming_claims};
 use crate::fate::{Fate, fates_of};
 use crate::fault::PlanFault;
 use crate::parts::{claims_where, claims_with, left_claims, stays_of};
@@ -190,9 +190,9 @@ fn first_reserved(
 }
 
 /// The name of the member at a place.
-fn name_at(alloc: Global, members: &Members<'_>, place: u32) -> Result<Text, AllocError>
+fn member_name_at(alloc: Global, members: &Members<'_>, place: u32) -> Result<Text, AllocError>
     requires { place < length (members_of members.now) }
-    ensures { IfOk result (λ name. name_at (members_of members.now) place ≡ Some name) }
+    ensures { IfOk result (λ name. member_name_at (members_of members.now) place ≡ Some name) }
 {
     let view = members.view(place as usize);
     Text::of(alloc, view.info().name())
@@ -210,8 +210,8 @@ fn contest(
     ensures { IfOk result (IsOwnedBy (members_of members.now)) }
 {
     let path = name_of_path(alloc, &contested.path)?;
-    let first = name_at(alloc, members, contested.rivals.first)?;
-    let second = name_at(alloc, members, contested.rivals.second)?;
+    let first = member_name_at(alloc, members, contested.rivals.first)?;
+    let second = member_name_at(alloc, members, contested.rivals.second)?;
     Ok(PlanFault::Owned {
         path,
         first,
@@ -220,11 +220,7 @@ fn contest(
 }
 
 /// The lists of a change against which nothing stands.
-fn lists_of(
-    alloc: Global,
-    parts: &Parts<'_, '_>,
-    owned: Vec<bool>,
-) -> Result<FilePlan, AllocError>
+fn lists_of(alloc: Global, parts: &Parts<'_, '_>, owned: Vec<bool>) -> Result<FilePlan, AllocError>
     requires removed { HaveNames (removed_of parts.now) }
     requires kept { HaveNames (kept_of_parts parts.now) }
     requires ins { HaveNames (ins_of parts.now) }

@@ -8,11 +8,11 @@ use Rattle.claim_lists.proofs.once.one_of_each_path.Goals.{then-begins_path+in_o
 pub loop-i-preserved : goal.loop-i-preserved
 loop-i-preserved c = elim c.if-begins_path.branch [
   | then-begins_path+in_ok-push w ↦
-        first_pushed c.args.claims.now c.loop-i.firsts.items c.if-begins_path.firsts.items c.loop-i.i _ c.requires c.loop-i-test.true (sym c.begins_path.ensures ∙ w.if-begins_path.true)
-        (ap (λ v. v.items) w.firsts-is ∙ w.in_ok-push.ensures.items) c.loop-i.invariant
+      first_pushed c.args.claims.now c.loop-i.firsts.items c.if-begins_path.firsts.items c.loop-i.i _ c.requires c.loop-i-test.true (sym c.begins_path.ensures ∙ w.if-begins_path.true)
+      (ap (λ v. v.items) w.firsts-is ∙ w.in_ok-push.ensures.items) c.loop-i.invariant
   | else-begins_path w ↦
-        firsts_kept c.args.claims.now c.loop-i.firsts.items c.if-begins_path.firsts.items c.loop-i.i c.loop-i-test.true (sym c.begins_path.ensures ∙ w.if-begins_path.false)
-        (ap (λ v. v.items) w.firsts-is) c.loop-i.invariant
+      firsts_kept c.args.claims.now c.loop-i.firsts.items c.if-begins_path.firsts.items c.loop-i.i c.loop-i-test.true (sym c.begins_path.ensures ∙ w.if-begins_path.false)
+      (ap (λ v. v.items) w.firsts-is) c.loop-i.invariant
 ]
 
 pub returns : goal.returns

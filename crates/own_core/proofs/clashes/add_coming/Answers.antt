@@ -14,11 +14,11 @@ comes-requires c = c.requires c.loop-claim.claim-index _ (seen_at claim_seen c.a
 pub loop-claim-preserved : goal.loop-claim-preserved
 loop-claim-preserved c = elim c.if-comes.branch [
   | then-comes+in_ok-push w ↦
-        path_more (λ d. comes_at (members_of c.args.members.now) d.member) c.args.claims.now c.loop-claim.claim-index _ c.comes.result (map joined_path c.args.paths.now.items) c.loop-claim.paths.items c.if-comes.paths.items
-        c.loop-claim-test.true c.comes.ensures w.if-comes.true (ap (λ v. v.items) w.paths-is ∙ w.in_ok-push.ensures.items) c.loop-claim.invariant
+      path_more (λ d. comes_at (members_of c.args.members.now) d.member) c.args.claims.now c.loop-claim.claim-index _ c.comes.result (map joined_path c.args.paths.now.items) c.loop-claim.paths.items c.if-comes.paths.items
+      c.loop-claim-test.true c.comes.ensures w.if-comes.true (ap (λ v. v.items) w.paths-is ∙ w.in_ok-push.ensures.items) c.loop-claim.invariant
   | else-comes w ↦
-        path_left (λ d. comes_at (members_of c.args.members.now) d.member) c.args.claims.now c.loop-claim.claim-index _ c.comes.result (map joined_path c.args.paths.now.items) c.loop-claim.paths.items c.if-comes.paths.items
-        c.loop-claim-test.true c.comes.ensures w.if-comes.false (ap (λ v. v.items) w.paths-is) c.loop-claim.invariant
+      path_left (λ d. comes_at (members_of c.args.members.now) d.member) c.args.claims.now c.loop-claim.claim-index _ c.comes.result (map joined_path c.args.paths.now.items) c.loop-claim.paths.items c.if-comes.paths.items
+      c.loop-claim-test.true c.comes.ensures w.if-comes.false (ap (λ v. v.items) w.paths-is) c.loop-claim.invariant
 ]
 
 pub returns : goal.returns

@@ -19,11 +19,11 @@ is_of_coming_owner-requires-clause-owner c =
 pub loop-i-preserved : goal.loop-i-preserved
 loop-i-preserved c = elim c.if-is_of_coming_owner.branch [
   | then-is_of_coming_owner+in_ok-push w ↦
-        kept_one (is_of_coming_owner (members_of c.args.members.now)) c.args.claims.now c.loop-i.owned.items c.if-is_of_coming_owner.owned.items c.loop-i.i _ c.is_of_coming_owner.result c.loop-i-test.true
-        c.is_of_coming_owner.ensures w.if-is_of_coming_owner.true (ap (λ v. v.items) w.owned-is ∙ w.in_ok-push.ensures.items) c.loop-i.invariant
+      kept_one (is_of_coming_owner (members_of c.args.members.now)) c.args.claims.now c.loop-i.owned.items c.if-is_of_coming_owner.owned.items c.loop-i.i _ c.is_of_coming_owner.result c.loop-i-test.true
+      c.is_of_coming_owner.ensures w.if-is_of_coming_owner.true (ap (λ v. v.items) w.owned-is ∙ w.in_ok-push.ensures.items) c.loop-i.invariant
   | else-is_of_coming_owner w ↦
-        left_one (is_of_coming_owner (members_of c.args.members.now)) c.args.claims.now c.loop-i.owned.items c.if-is_of_coming_owner.owned.items c.loop-i.i _ c.is_of_coming_owner.result c.loop-i-test.true
-        c.is_of_coming_owner.ensures w.if-is_of_coming_owner.false (ap (λ v. v.items) w.owned-is) c.loop-i.invariant
+      left_one (is_of_coming_owner (members_of c.args.members.now)) c.args.claims.now c.loop-i.owned.items c.if-is_of_coming_owner.owned.items c.loop-i.i _ c.is_of_coming_owner.result c.loop-i-test.true
+      c.is_of_coming_owner.ensures w.if-is_of_coming_owner.false (ap (λ v. v.items) w.owned-is) c.loop-i.invariant
 ]
 
 pub returns : goal.returns

@@ -8,11 +8,11 @@ use Rattle.own_core.proofs.parts.claims_where.Goals.{then-is_flag+in_ok-push, el
 pub loop-i-preserved : goal.loop-i-preserved
 loop-i-preserved c = elim c.if-is_flag.branch [
   | then-is_flag+in_ok-push w ↦
-        marked_one (λ (b : Bool). b) (is_flag c.args.flag) c.args.left.now c.loop-i.some.items c.if-is_flag.some.items c.args.flags.now c.loop-i.i _ _ c.is_flag.result c.loop-i-test.true c.requires
-        c.is_flag.ensures w.if-is_flag.true (ap (λ v. v.items) w.some-is ∙ w.in_ok-push.ensures.items) c.loop-i.invariant
+      marked_one (λ (b : Bool). b) (is_flag c.args.flag) c.args.left.now c.loop-i.some.items c.if-is_flag.some.items c.args.flags.now c.loop-i.i _ _ c.is_flag.result c.loop-i-test.true c.requires
+      c.is_flag.ensures w.if-is_flag.true (ap (λ v. v.items) w.some-is ∙ w.in_ok-push.ensures.items) c.loop-i.invariant
   | else-is_flag w ↦
-        unmarked_one (λ (b : Bool). b) (is_flag c.args.flag) c.args.left.now c.loop-i.some.items c.if-is_flag.some.items c.args.flags.now c.loop-i.i _ c.is_flag.result c.loop-i-test.true c.requires
-        c.is_flag.ensures w.if-is_flag.false (ap (λ v. v.items) w.some-is) c.loop-i.invariant
+      unmarked_one (λ (b : Bool). b) (is_flag c.args.flag) c.args.left.now c.loop-i.some.items c.if-is_flag.some.items c.args.flags.now c.loop-i.i _ c.is_flag.result c.loop-i-test.true c.requires
+      c.is_flag.ensures w.if-is_flag.false (ap (λ v. v.items) w.some-is) c.loop-i.invariant
 ]
 
 pub returns : goal.returns

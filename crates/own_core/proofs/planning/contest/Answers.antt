@@ -7,11 +7,11 @@ use Rattle.own_core.proofs.planning.contest.Goals as goal
 pub name_of_path-requires : goal.name_of_path-requires
 name_of_path-requires c = (contestable (members_of c.args.members.now) (contested_seen c.args.contested.now) c.requires.named c.requires.contested).name
 
-pub name_at-requires : goal.name_at-requires
-name_at-requires c = (contestable (members_of c.args.members.now) (contested_seen c.args.contested.now) c.requires.named c.requires.contested).first
+pub member_name_at-requires : goal.member_name_at-requires
+member_name_at-requires c = (contestable (members_of c.args.members.now) (contested_seen c.args.contested.now) c.requires.named c.requires.contested).first
 
-pub name_at-requires-2 : goal.name_at-requires-2
-name_at-requires-2 c = (contestable (members_of c.args.members.now) (contested_seen c.args.contested.now) c.requires.named c.requires.contested).second
+pub member_name_at-requires-2 : goal.member_name_at-requires-2
+member_name_at-requires-2 c = (contestable (members_of c.args.members.now) (contested_seen c.args.contested.now) c.requires.named c.requires.contested).second
 
 pub returns : goal.returns
 returns c = record {

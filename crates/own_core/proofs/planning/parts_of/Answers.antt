@@ -10,7 +10,7 @@ use Rattle.path_claims.specs.Seen.{claim_seen}
 use Rattle.own_core.specs.ClaimEntries.{AreClaimsOf, members_before}
 use Rattle.own_core.specs.Fates.{claim_fate, fate_seen, is_fate, is_flag, marked_claims}
 use Rattle.own_core.specs.Going.{does_stay, is_left}
-use Rattle.own_core.specs.Parts.{left_in}
+use Rattle.own_core.specs.Parts.{left_claims_by}
 use Rattle.own_core.specs.Sides.{change_of, claims_before}
 use Rattle.own_core.specs.declared.fate.Fate.{Fate}
 use Rattle.own_core.specs.declared.fate.Fate.TheVariants.{GoesAside}
@@ -36,8 +36,8 @@ stays_of-requires g c =
 
 pub returns-clause-parts : goal.returns-clause-parts
 returns-clause-parts g c =
-    let left : map claim_seen c.in_ok-left.left.items ≡ left_in c.args.change.now (map claim_seen c.in_ok-asides.asides.items) =
-        c.in_ok-left.ensures ∙ ap (λ (xs : List Claim). filter (λ d. is_left (change_of c.args.change.now) (map claim_seen xs) d.path) (claims_before c.args.change.now)) c.deref-3.ensures.value in
+    let left : map claim_seen c.in_ok-left.left.items ≡ left_claims_by c.args.change.now (map claim_seen c.in_ok-asides.asides.items) =
+    c.in_ok-left.ensures ∙ ap (λ (xs : List Claim). filter (λ d. is_left (change_of c.args.change.now) (map claim_seen xs) d.path) (claims_before c.args.change.now)) c.deref-3.ensures.value in
     record {
       fates = map fate_seen c.in_ok-fates.fates.items;
       stays = c.in_ok-stays.stays.items;
@@ -48,7 +48,7 @@ returns-clause-parts g c =
       kept = c.in_ok-kept.ensures ∙ (λ j. marked_claims (is_flag true) ((ap (map claim_seen) c.deref-7.ensures.value ∙ left) j) (c.deref-8.ensures.value j));
       told = told_both (λ v. map fate_seen c.in_ok-fates.fates.items ≡ map (claim_fate (change_of c.args.change.now) (files_of v)) (map claim_seen c.args.coming.now))
           (λ v. c.in_ok-stays.stays.items ≡ map (does_stay (change_of c.args.change.now) (files_of v)) (map claim_seen c.deref-4.result.now))
-          (λ v. c.in_ok-stays.stays.items ≡ map (does_stay (change_of c.args.change.now) (files_of v)) (left_in c.args.change.now (map claim_seen c.in_ok-asides.asides.items)))
+          (λ v. c.in_ok-stays.stays.items ≡ map (does_stay (change_of c.args.change.now) (files_of v)) (left_claims_by c.args.change.now (map claim_seen c.in_ok-asides.asides.items)))
           _ _ c.in_ok-fates.ensures.tree.same c.in_ok-fates.ensures.fates c.in_ok-stays.ensures.stays
           (λ v e. e ∙ ap (map (does_stay (change_of c.args.change.now) (files_of v))) (ap (map claim_seen) c.deref-4.ensures.value ∙ left));
     }

@@ -44,8 +44,8 @@ parts_of-requires-clause-claims g c =
       purge = c.args.purge;
     } in
     let claims : HasClaims change = has_claims change c.listed_paths_are_names.ensures c.listed_paths_are_names-2.ensures (map claim_seen c.deref-2.result.now) (ap (map claim_seen) c.deref-2.ensures.value ∙ c.in_ok-listed.ensures)
-        (subst (λ (xs : List Claim). HasFirsts (map claim_seen c.deref-2.result.now) (map claim_seen xs)) (sym c.deref-3.ensures.value) c.in_ok-before.ensures)
-        (ap (map claim_seen) c.deref-4.ensures.value ∙ c.in_ok-found.ensures.claims) in
+    (subst (λ (xs : List Claim). HasFirsts (map claim_seen c.deref-2.result.now) (map claim_seen xs)) (sym c.deref-3.ensures.value) c.in_ok-before.ensures)
+    (ap (map claim_seen) c.deref-4.ensures.value ∙ c.in_ok-found.ensures.claims) in
     claims
 
 pub parts_of-requires-clause-files : goal.parts_of-requires-clause-files
@@ -58,10 +58,10 @@ parts_of-requires-clause-files g c =
       purge = c.args.purge;
     } in
     let claims : HasClaims change = has_claims change c.listed_paths_are_names.ensures c.listed_paths_are_names-2.ensures (map claim_seen c.deref-2.result.now) (ap (map claim_seen) c.deref-2.ensures.value ∙ c.in_ok-listed.ensures)
-        (subst (λ (xs : List Claim). HasFirsts (map claim_seen c.deref-2.result.now) (map claim_seen xs)) (sym c.deref-3.ensures.value) c.in_ok-before.ensures)
-        (ap (map claim_seen) c.deref-4.ensures.value ∙ c.in_ok-found.ensures.claims) in
+    (subst (λ (xs : List Claim). HasFirsts (map claim_seen c.deref-2.result.now) (map claim_seen xs)) (sym c.deref-3.ensures.value) c.in_ok-before.ensures)
+    (ap (map claim_seen) c.deref-4.ensures.value ∙ c.in_ok-found.ensures.claims) in
     let firsts : HasFirsts (filter (is_of_coming_owner (members_of c.args.after.now)) (map claim_seen c.deref-4.result.now)) (map claim_seen c.deref-7.result.now) =
-        firsts_over (members_of c.args.after.now) c.deref-4.result.now c.deref-5.result.now c.in_ok-coming.coming.items c.deref-7.result.now (c.deref-5.ensures.value ∙ sym c.deref-4.ensures.value) c.deref-7.ensures.value c.in_ok-coming.ensures in
+    firsts_over (members_of c.args.after.now) c.deref-4.result.now c.deref-5.result.now c.in_ok-coming.coming.items c.deref-7.result.now (c.deref-5.ensures.value ∙ sym c.deref-4.ensures.value) c.deref-7.ensures.value c.in_ok-coming.ensures in
     let files : AreClaimsOf (members_of c.args.after.now) (map claim_seen c.deref-7.result.now) = coming_files_of (members_of c.args.after.now) (map claim_seen c.deref-4.result.now) (map claim_seen c.deref-7.result.now) claims.new_files firsts in
     files
 
@@ -75,8 +75,8 @@ clash_of-requires-clause-claims g c =
       purge = c.args.purge;
     } in
     let claims : HasClaims change = has_claims change c.listed_paths_are_names.ensures c.listed_paths_are_names-2.ensures (map claim_seen c.deref-2.result.now) (ap (map claim_seen) c.deref-2.ensures.value ∙ c.in_ok-listed.ensures)
-        (subst (λ (xs : List Claim). HasFirsts (map claim_seen c.deref-2.result.now) (map claim_seen xs)) (sym c.deref-3.ensures.value) c.in_ok-before.ensures)
-        (ap (map claim_seen) c.deref-4.ensures.value ∙ c.in_ok-found.ensures.claims) in
+    (subst (λ (xs : List Claim). HasFirsts (map claim_seen c.deref-2.result.now) (map claim_seen xs)) (sym c.deref-3.ensures.value) c.in_ok-before.ensures)
+    (ap (map claim_seen) c.deref-4.ensures.value ∙ c.in_ok-found.ensures.claims) in
     claims
 
 pub clash_of-requires-clause-files : goal.clash_of-requires-clause-files
@@ -89,10 +89,10 @@ clash_of-requires-clause-files g c =
       purge = c.args.purge;
     } in
     let claims : HasClaims change = has_claims change c.listed_paths_are_names.ensures c.listed_paths_are_names-2.ensures (map claim_seen c.deref-2.result.now) (ap (map claim_seen) c.deref-2.ensures.value ∙ c.in_ok-listed.ensures)
-        (subst (λ (xs : List Claim). HasFirsts (map claim_seen c.deref-2.result.now) (map claim_seen xs)) (sym c.deref-3.ensures.value) c.in_ok-before.ensures)
-        (ap (map claim_seen) c.deref-4.ensures.value ∙ c.in_ok-found.ensures.claims) in
+    (subst (λ (xs : List Claim). HasFirsts (map claim_seen c.deref-2.result.now) (map claim_seen xs)) (sym c.deref-3.ensures.value) c.in_ok-before.ensures)
+    (ap (map claim_seen) c.deref-4.ensures.value ∙ c.in_ok-found.ensures.claims) in
     let firsts : HasFirsts (filter (is_of_coming_owner (members_of c.args.after.now)) (map claim_seen c.deref-4.result.now)) (map claim_seen c.deref-7.result.now) =
-        firsts_over (members_of c.args.after.now) c.deref-4.result.now c.deref-5.result.now c.in_ok-coming.coming.items c.deref-7.result.now (c.deref-5.ensures.value ∙ sym c.deref-4.ensures.value) c.deref-7.ensures.value c.in_ok-coming.ensures in
+    firsts_over (members_of c.args.after.now) c.deref-4.result.now c.deref-5.result.now c.in_ok-coming.coming.items c.deref-7.result.now (c.deref-5.ensures.value ∙ sym c.deref-4.ensures.value) c.deref-7.ensures.value c.in_ok-coming.ensures in
     let files : AreClaimsOf (members_of c.args.after.now) (map claim_seen c.deref-7.result.now) = coming_files_of (members_of c.args.after.now) (map claim_seen c.deref-4.result.now) (map claim_seen c.deref-7.result.now) claims.new_files firsts in
     subst (λ (xs : List Claim). AreClaimsOf (members_of c.args.after.now) (map claim_seen xs)) (c.deref-7.ensures.value ∙ sym c.deref-8.ensures.value) files
 
@@ -106,8 +106,8 @@ lists_of-requires-clause-removed g c =
       purge = c.args.purge;
     } in
     let claims : HasClaims change = has_claims change c.listed_paths_are_names.ensures c.listed_paths_are_names-2.ensures (map claim_seen c.deref-2.result.now) (ap (map claim_seen) c.deref-2.ensures.value ∙ c.in_ok-listed.ensures)
-        (subst (λ (xs : List Claim). HasFirsts (map claim_seen c.deref-2.result.now) (map claim_seen xs)) (sym c.deref-3.ensures.value) c.in_ok-before.ensures)
-        (ap (map claim_seen) c.deref-4.ensures.value ∙ c.in_ok-found.ensures.claims) in
+    (subst (λ (xs : List Claim). HasFirsts (map claim_seen c.deref-2.result.now) (map claim_seen xs)) (sym c.deref-3.ensures.value) c.in_ok-before.ensures)
+    (ap (map claim_seen) c.deref-4.ensures.value ∙ c.in_ok-found.ensures.claims) in
     removed_named change _ (map claim_seen c.deref-7.result.now) c.in_ok-parts.parts claims c.in_ok-parts.ensures.parts
 
 pub lists_of-requires-clause-kept : goal.lists_of-requires-clause-kept
@@ -120,8 +120,8 @@ lists_of-requires-clause-kept g c =
       purge = c.args.purge;
     } in
     let claims : HasClaims change = has_claims change c.listed_paths_are_names.ensures c.listed_paths_are_names-2.ensures (map claim_seen c.deref-2.result.now) (ap (map claim_seen) c.deref-2.ensures.value ∙ c.in_ok-listed.ensures)
-        (subst (λ (xs : List Claim). HasFirsts (map claim_seen c.deref-2.result.now) (map claim_seen xs)) (sym c.deref-3.ensures.value) c.in_ok-before.ensures)
-        (ap (map claim_seen) c.deref-4.ensures.value ∙ c.in_ok-found.ensures.claims) in
+    (subst (λ (xs : List Claim). HasFirsts (map claim_seen c.deref-2.result.now) (map claim_seen xs)) (sym c.deref-3.ensures.value) c.in_ok-before.ensures)
+    (ap (map claim_seen) c.deref-4.ensures.value ∙ c.in_ok-found.ensures.claims) in
     kept_named change _ (map claim_seen c.deref-7.result.now) c.in_ok-parts.parts claims c.in_ok-parts.ensures.parts
 
 pub lists_of-requires-clause-ins : goal.lists_of-requires-clause-ins
@@ -134,10 +134,10 @@ lists_of-requires-clause-ins g c =
       purge = c.args.purge;
     } in
     let claims : HasClaims change = has_claims change c.listed_paths_are_names.ensures c.listed_paths_are_names-2.ensures (map claim_seen c.deref-2.result.now) (ap (map claim_seen) c.deref-2.ensures.value ∙ c.in_ok-listed.ensures)
-        (subst (λ (xs : List Claim). HasFirsts (map claim_seen c.deref-2.result.now) (map claim_seen xs)) (sym c.deref-3.ensures.value) c.in_ok-before.ensures)
-        (ap (map claim_seen) c.deref-4.ensures.value ∙ c.in_ok-found.ensures.claims) in
+    (subst (λ (xs : List Claim). HasFirsts (map claim_seen c.deref-2.result.now) (map claim_seen xs)) (sym c.deref-3.ensures.value) c.in_ok-before.ensures)
+    (ap (map claim_seen) c.deref-4.ensures.value ∙ c.in_ok-found.ensures.claims) in
     let firsts : HasFirsts (filter (is_of_coming_owner (members_of c.args.after.now)) (map claim_seen c.deref-4.result.now)) (map claim_seen c.deref-7.result.now) =
-        firsts_over (members_of c.args.after.now) c.deref-4.result.now c.deref-5.result.now c.in_ok-coming.coming.items c.deref-7.result.now (c.deref-5.ensures.value ∙ sym c.deref-4.ensures.value) c.deref-7.ensures.value c.in_ok-coming.ensures in
+    firsts_over (members_of c.args.after.now) c.deref-4.result.now c.deref-5.result.now c.in_ok-coming.coming.items c.deref-7.result.now (c.deref-5.ensures.value ∙ sym c.deref-4.ensures.value) c.deref-7.ensures.value c.in_ok-coming.ensures in
     let files : AreClaimsOf (members_of c.args.after.now) (map claim_seen c.deref-7.result.now) = coming_files_of (members_of c.args.after.now) (map claim_seen c.deref-4.result.now) (map claim_seen c.deref-7.result.now) claims.new_files firsts in
     ins_named change _ (map claim_seen c.deref-7.result.now) c.in_ok-parts.parts files c.in_ok-parts.ensures.parts
 
@@ -151,10 +151,10 @@ lists_of-requires-clause-asides g c =
       purge = c.args.purge;
     } in
     let claims : HasClaims change = has_claims change c.listed_paths_are_names.ensures c.listed_paths_are_names-2.ensures (map claim_seen c.deref-2.result.now) (ap (map claim_seen) c.deref-2.ensures.value ∙ c.in_ok-listed.ensures)
-        (subst (λ (xs : List Claim). HasFirsts (map claim_seen c.deref-2.result.now) (map claim_seen xs)) (sym c.deref-3.ensures.value) c.in_ok-before.ensures)
-        (ap (map claim_seen) c.deref-4.ensures.value ∙ c.in_ok-found.ensures.claims) in
+    (subst (λ (xs : List Claim). HasFirsts (map claim_seen c.deref-2.result.now) (map claim_seen xs)) (sym c.deref-3.ensures.value) c.in_ok-before.ensures)
+    (ap (map claim_seen) c.deref-4.ensures.value ∙ c.in_ok-found.ensures.claims) in
     let firsts : HasFirsts (filter (is_of_coming_owner (members_of c.args.after.now)) (map claim_seen c.deref-4.result.now)) (map claim_seen c.deref-7.result.now) =
-        firsts_over (members_of c.args.after.now) c.deref-4.result.now c.deref-5.result.now c.in_ok-coming.coming.items c.deref-7.result.now (c.deref-5.ensures.value ∙ sym c.deref-4.ensures.value) c.deref-7.ensures.value c.in_ok-coming.ensures in
+    firsts_over (members_of c.args.after.now) c.deref-4.result.now c.deref-5.result.now c.in_ok-coming.coming.items c.deref-7.result.now (c.deref-5.ensures.value ∙ sym c.deref-4.ensures.value) c.deref-7.ensures.value c.in_ok-coming.ensures in
     let files : AreClaimsOf (members_of c.args.after.now) (map claim_seen c.deref-7.result.now) = coming_files_of (members_of c.args.after.now) (map claim_seen c.deref-4.result.now) (map claim_seen c.deref-7.result.now) claims.new_files firsts in
     asides_named change _ (map claim_seen c.deref-7.result.now) c.in_ok-parts.parts files c.in_ok-parts.ensures.parts
 
@@ -168,10 +168,10 @@ returns-clause-plan g c =
       purge = c.args.purge;
     } in
     let claims : HasClaims change = has_claims change c.listed_paths_are_names.ensures c.listed_paths_are_names-2.ensures (map claim_seen c.deref-2.result.now) (ap (map claim_seen) c.deref-2.ensures.value ∙ c.in_ok-listed.ensures)
-        (subst (λ (xs : List Claim). HasFirsts (map claim_seen c.deref-2.result.now) (map claim_seen xs)) (sym c.deref-3.ensures.value) c.in_ok-before.ensures)
-        (ap (map claim_seen) c.deref-4.ensures.value ∙ c.in_ok-found.ensures.claims) in
+    (subst (λ (xs : List Claim). HasFirsts (map claim_seen c.deref-2.result.now) (map claim_seen xs)) (sym c.deref-3.ensures.value) c.in_ok-before.ensures)
+    (ap (map claim_seen) c.deref-4.ensures.value ∙ c.in_ok-found.ensures.claims) in
     let firsts : HasFirsts (filter (is_of_coming_owner (members_of c.args.after.now)) (map claim_seen c.deref-4.result.now)) (map claim_seen c.deref-7.result.now) =
-        firsts_over (members_of c.args.after.now) c.deref-4.result.now c.deref-5.result.now c.in_ok-coming.coming.items c.deref-7.result.now (c.deref-5.ensures.value ∙ sym c.deref-4.ensures.value) c.deref-7.ensures.value c.in_ok-coming.ensures in
+    firsts_over (members_of c.args.after.now) c.deref-4.result.now c.deref-5.result.now c.in_ok-coming.coming.items c.deref-7.result.now (c.deref-5.ensures.value ∙ sym c.deref-4.ensures.value) c.deref-7.ensures.value c.in_ok-coming.ensures in
     plan_is change claims (map claim_seen c.deref-7.result.now) firsts c.in_ok-parts.parts _ c.in_ok-parts.ensures.parts c.in_ok-found.found.owned.items c.in_ok-plan.plan c.in_ok-plan.ensures
     (no_clash_told (change_of change) _ _ c.in_ok-parts.ensures.tree.same c.in_ok-clash.clash c.in_default-clash.is c.in_ok-clash.ensures.clash)
 
