@@ -1,8 +1,7 @@
 -- What a package brings is as it lists it.
-use Rattle.std.proofs.Common.{◌≡◌, ◌⊎◌, inl, inr, ◌∙◌, ℕ, ◌+◌, ◌<◌, ◌≤◌, ◌==◌, Bool, true, false, cond, List, [], ◌∷◌, ◌++◌, length, drop, Contains, Option, Some, None, refl, ap, sym, subst, true≢false, arith}
-use Rattle.std.specs.Prelude.{not, ◌&&◌, if◌then◌else◌, codes, is_none}
+use Rattle.std.proofs.Common.{◌≡◌, ◌⊎◌, inl, inr, ◌∙◌, ℕ, ◌+◌, ◌<◌, ◌≤◌, ◌==◌, Bool, true, false, cond, List, [], ◌∷◌, ◌++◌, length, Contains, Option, Some, None, refl, ap, sym, subst, true≢false, arith}
+use Rattle.std.specs.Prelude.{not, ◌&&◌, if◌then◌else◌, is_none}
 use Rattle.std.specs.List.{find}
-use Rattle.std.specs.Str.{bytes_eq}
 use Rattle.std.proofs.lemmas.Bool.{and_from, and_left, and_right, eq-eqb, eqb-true, false_from_ne_true}
 use Rattle.std.proofs.lemmas.Slice.Eq.{bytes_eq-Decides}
 use Rattle.adb_view.specs.Plain.{Plain}
@@ -10,9 +9,9 @@ use Rattle.adb_tables.specs.Values.{entry_in, int_in}
 use Rattle.adb_fields.specs.Repeated.{files_in, folders_in, name_of}
 use Rattle.adb_rules.specs.Rules.{is_digest_length}
 use Rattle.adb_rules.specs.Texts.{is_with_contents}
-use Rattle.pkg_core.specs.Contents.{Contents, Expected, expected_at, expected_contents, expected_files, expected_folders, hash_fault}
+use Rattle.pkg_core.specs.Contents.{Contents, Expected, expected_contents, expected_files, expected_folders}
 use Rattle.pkg_core.specs.GoodContents.{AreContentsOf, HaveDigests, IsContentsOf}
-use Rattle.db_core.specs.Members.{Listing, Member, listings_by, listings_from, listings_in_folder, listings_in_folders, member_listing, member_listings}
+use Rattle.db_core.specs.Members.{Listing, Member, listings_by, listings_from, listings_in_folder, listings_in_folders, member_listings}
 use Rattle.file_guard.specs.AsListed.{file_hash, file_size, file_target, has_target, is_as_listed, link_bytes, link_to}
 use Rattle.file_guard.proofs.Told.{told_hash, told_link}
 use Rattle.change_files.specs.FilesAfter.{bytes_or_none, is_of_file, listing_bytes}

@@ -1,6 +1,6 @@
 //! What follows from the definitions, for all changes and files.
 
-ghost use Rattle.std.specs.Prelude.{◌≡◌, ◌≢◌, ◌⊎◌, ◌↔◌, ℕ, Bool, true, false, List, [], None, Some, IsSome, map, is_some, Contains};
+ghost use Rattle.std.specs.Prelude.{◌≡◌, ◌≢◌, ◌⊎◌, ◌↔◌, ℕ, Bool, true, false, List, [], None, Some, IsSome, map, is_some, All, Contains};
 ghost use Rattle.adb_rules.specs.Reserved.{is_reserved};
 ghost use Rattle.adb_rules.specs.Texts.{is_with_contents};
 ghost use Rattle.base_core.specs.Files.{Files};
@@ -13,7 +13,7 @@ ghost use Rattle.path_clashes.specs.Clash.{is_name_after};
 ghost use Rattle.pkg_core.specs.Contents.{Contents, expected_contents};
 ghost use Rattle.pkg_core.specs.GoodContents.{AreContentsOf, HaveDigests};
 ghost use Rattle.change_files.specs.Fate.{aside_name};
-ghost use Rattle.change_files.specs.FileChange.{FileChange, coming_owner, is_claimed, owner_listing, was_listed};
+ghost use Rattle.change_files.specs.FileChange.{FileChange, coming_owner, is_claimed, old_listings, owner_listing, was_listed};
 ghost use Rattle.change_files.specs.FilesAfter.{Records, changed_files, database_name, is_kept, is_left_over, is_removed, is_written, laid_beside, listing_bytes, text_database_name, world_name, written_as};
 ghost use Rattle.change_files.specs.NamesAfter.{is_let_go, name_change};
 ghost use Rattle.change_files.specs.PlanLists.{FileWrite, aside_of, first_reserved, kept_of, removals_of, writes_of};
@@ -67,7 +67,7 @@ pub fn what_a_package_brings_is_as_listed()
         → HaveDigests (expected_contents l.member.pkg)
         → AreContentsOf (expected_contents l.member.pkg) (contents l.place)
         → (is_with_contents l.entry ≡ false → has_target l.entry ≡ false
-            → is_as_listed l.entry [] ≡ true)
+        → is_as_listed l.entry [] ≡ true)
         → is_as_listed l.entry (listing_bytes contents l) ≡ true }
 {}
 
@@ -100,6 +100,13 @@ pub fn what_is_removed_was_listed_before()
         (files : Files) (path : List ℕ) → is_removed change files path ≡ true
         → is_record_name records path ≡ false
         → changed_files change bytes_of records files path ≡ None }
+{}
+
+/// No name that is removed is reserved, where the packages before list no reserved path.
+pub fn what_is_removed_is_not_reserved()
+    ensures { (change : FileChange) (files : Files) (path : List ℕ)
+        → All (λ l. is_reserved l.path ≡ false) (old_listings change)
+        → is_removed change files path ≡ true → is_reserved path ≡ false }
 {}
 
 /// What was listed before, and where no package lists it now and nothing is written, goes, unless
