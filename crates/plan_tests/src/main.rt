@@ -71,12 +71,7 @@ impl Planned {
     }
 
     /// Plans the change, and adds the plan.
-    fn plan(
-        &mut self,
-        alloc: Global,
-        purge: bool,
-        answer: &mut Vec<u8>,
-    ) -> Result<(), AllocError> {
+    fn plan(&mut self, alloc: Global, purge: bool, answer: &mut Vec<u8>) -> Result<(), AllocError> {
         self.change.purge = purge;
         let before = self.tree.calls();
         self.database = add_plan(alloc, &mut self.tree, &self.change, answer)?;

@@ -15,6 +15,18 @@ const MOST_BYTES: usize = 268_435_455;
 /// The fields of a package's information, up to what it replaces.
 const INFO_FIELDS: usize = 17;
 
+/// The fields of a file, up to its target.
+const FILE_FIELDS: usize = 6;
+
+/// The place of a file's size.
+const SIZE: usize = 2;
+
+/// The place of a file's digest.
+const HASHES: usize = 4;
+
+/// The place of a link's target.
+const TARGET: usize = 5;
+
 /// What stands before the text of a link's target: the type of a symbolic link.
 const LINK: &[u8] = b"\x00\xa0";
 
@@ -41,12 +53,7 @@ pub fn database_file(alloc: Global, rows: &[Words]) -> Result<Vec<u8>, AllocErro
     container(alloc, writer, root, IDB_WORD)
 }
 
-fn container(
-    alloc: Global,
-    writer: Writer,
-    root: Val,
-    schema: u32,
-) -> Result<Vec<u8>, AllocError> {
+fn container(alloc: Global, writer: Writer, root: Val, schema: u32) -> Result<Vec<u8>, AllocError> {
     let Ok(payload) = writer.finish(root) else {
         return Err(AllocError);
     };
@@ -134,12 +141,7 @@ fn write_folders(alloc: Global, writer: &mut Writer, files: &[u8]) -> Result<Val
 
 impl Folders {
     /// Adds a file. A path that ends in a slash is a folder without files.
-    fn add(
-        &mut self,
-        alloc: Global,
-        writer: &mut Writer,
-        file: &[u8],
-    ) -> Result<(), AllocError> {
+    fn add(&mut self, alloc: Global, writer: &mut Writer, file: &[u8]) -> Result<(), AllocError> {
         let (path, said) = listed_parts(file);
         let (_, name) = parted_last(path);
         if name.is_empty() {
@@ -173,19 +175,19 @@ fn write_file(
     name: &[u8],
     said: &[u8],
 ) -> Result<Val, AllocError> {
-    let name = writer.blob(name)?;
-    let mut fields = [name, Val::of(0), Val::of(0), Val::of(0), Val::of(0), Val::of(0)];
+    let mut fields = [Val::of(0); FILE_FIELDS];
+    fields[0] = writer.blob(name)?;
     match said {
         [b'=', bytes @ ..] => {
-            fields[2] = write_number(writer, bytes.len() as u64)?;
-            fields[4] = writer.blob(&Sha256::digest(bytes))?;
+            fields[SIZE] = write_number(writer, bytes.len() as u64)?;
+            fields[HASHES] = writer.blob(&Sha256::digest(bytes))?;
         }
         [b'#', bytes @ ..] => {
-            fields[2] = write_number(writer, bytes.len() as u64)?;
-            fields[4] = writer.blob(&Sha1::digest(bytes))?;
+            fields[SIZE] = write_number(writer, bytes.len() as u64)?;
+            fields[HASHES] = writer.blob(&Sha1::digest(bytes))?;
         }
-        [b':', size @ ..] => fields[2] = write_number(writer, number_in(size))?,
-        [b'>', text @ ..] => fields[5] = write_target(alloc, writer, text)?,
+        [b':', size @ ..] => fields[SIZE] = write_number(writer, number_in(size))?,
+        [b'>', text @ ..] => fields[TARGET] = write_target(alloc, writer, text)?,
         _ => {}
     }
     writer.obj(&fields)
