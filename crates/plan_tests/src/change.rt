@@ -1,0 +1,233 @@
+//! Changes of packages, from the words of rows, and the plans of their files.
+ghost use Rattle.adb_fields.specs.Repeated.{package_name};
+ghost use Rattle.adb_view.specs.Plain.{Plain};
+ghost use Rattle.db_core.specs.Seen.{packages_of};
+ghost use Rattle.pkg_pieces.specs.Values.{value_of_contents};
+ghost use Rattle.std.specs.Prelude.{◌≡◌, ◌<◌, Some, length, slice_get};
+
+use crate::answer::{add_fault, add_files};
+use crate::package::{database_file, package_file};
+use adb_schema::{PACKAGE_WORD, PackageView, ReadFault};
+use base_core::{Name, Tree, Words};
+use db_core::{Db, MOST_MEMBERS, Members, Owned};
+use db_write::write_db;
+use own_core::plan;
+use pkg_core::PackageFault;
+use pkg_pieces::{Contents, Front, FrontFault, read_front};
+use row_lines::word_at;
+use std::alloc::{AllocError, Global};
+use std::marker::PhantomData;
+use tree_memory::MemoryTree;
+
+/// The packages before a change and after it, each as its row tells it.
+#[derive(Drop)]
+pub struct Change {
+    pub before: Vec<Words>,
+    pub after: Vec<Words>,
+    pub purge: bool,
+}
+
+/// Adds the plan of a change. The database after it goes out; no bytes where there is none.
+pub fn add_plan(
+    alloc: Global,
+    tree: &mut MemoryTree,
+    change: &Change,
+    answer: &mut Vec<u8>,
+) -> Result<Vec<u8>, AllocError> {
+    let file = database_file(alloc, &change.before)?;
+    let fronts = fronts_of(alloc, &change.after)?;
+    add_plan_over(alloc, tree, change, &file, &fronts, answer)
+}
+
+/// Adds it over the file of a database and the fronts of the packages that come.
+fn add_plan_over<'a>(
+    alloc: Global,
+    tree: &mut MemoryTree,
+    change: &Change,
+    file: &'a [u8],
+    fronts: &'a [Front],
+    answer: &mut Vec<u8>,
+) -> Result<Vec<u8>, AllocError> {
+    match Db::read(alloc, file) {
+        Ok(db) => add_plan_of(alloc, tree, change, &db, fronts, answer),
+        Err(ReadFault::Bad(_)) => {
+            answer.extend_from_slice(b"the database is bad")?;
+            Ok(Vec::new(alloc))
+        }
+        Err(ReadFault::Memory) => Err(AllocError),
+    }
+}
+
+fn add_plan_of<'a>(
+    alloc: Global,
+    tree: &mut MemoryTree,
+    change: &Change,
+    db: &Db<'a>,
+    fronts: &'a [Front],
+    answer: &mut Vec<u8>,
+) -> Result<Vec<u8>, AllocError> {
+    let Some(members) = members_of(alloc, db, &change.after, fronts)? else {
+        answer.extend_from_slice(b"a package is bad, absent or not in order")?;
+        return Ok(Vec::new(alloc));
+    };
+    match plan(alloc, db, &members, tree, change.purge) {
+        Ok(found) => {
+            add_files(alloc, &found, answer)?;
+            database_after(alloc, &members, found.owned())
+        }
+        Err(fault) => {
+            add_fault(fault, answer)?;
+            Ok(Vec::new(alloc))
+        }
+    }
+}
+
+/// The database after a change; no bytes where it would be too large.
+fn database_after(
+    alloc: Global,
+    members: &Members<'_>,
+    owned: &Owned,
+) -> Result<Vec<u8>, AllocError> {
+    match write_db(alloc, members, owned) {
+        Ok(file) => Ok(file),
+        Err(_) => Ok(Vec::new(alloc)),
+    }
+}
+
+// ---- the packages that come
+
+/// Whether the package of a row stays.
+fn does_stay(row: &Words) -> bool {
+    word_at(row, 0) == b"stays".as_slice()
+}
+
+/// The fronts of the packages that come.
+fn fronts_of(alloc: Global, rows: &[Words]) -> Result<Vec<Front>, AllocError> {
+    let mut fronts = Vec::new(alloc);
+    for row in rows {
+        if !does_stay(row) {
+            if let Some(front) = front_of(alloc, row)? {
+                fronts.push(front)?;
+            }
+        }
+    }
+    Ok(fronts)
+}
+
+/// The front of the package of a row.
+fn front_of(alloc: Global, row: &Words) -> Result<Option<Front>, AllocError> {
+    let file = package_file(alloc, row)?;
+    let Some(name) = Name::read(alloc, b"p")? else {
+        return Ok(None);
+    };
+    let mut tree = MemoryTree::new(alloc);
+    if tree.can_put(&name) {
+        tree.put(&name, &file)?;
+    }
+    match read_front(alloc, &mut tree, &name, PACKAGE_WORD) {
+        Ok(front) => Ok(front),
+        Err(FrontFault::Bad(_) | FrontFault::Disk) => Ok(None),
+        Err(FrontFault::Memory) => Err(AllocError),
+    }
+}
+
+// ---- the packages after the change
+
+/// The packages after a change, of which those that come have these fronts. None: one is bad,
+/// absent or not in order.
+fn members_of<'a>(
+    alloc: Global,
+    db: &Db<'a>,
+    rows: &[Words],
+    fronts: &'a [Front],
+) -> Result<Option<Members<'a>>, AllocError> {
+    let mut members = Members::new(alloc);
+    let mut left = fronts.iter();
+    for row in rows {
+        let added = if does_stay(row) {
+            add_installed(&mut members, db, word_at(row, 1))?
+        } else {
+            add_coming(alloc, &mut members, left.next())?
+        };
+        if !added {
+            return Ok(None);
+        }
+    }
+    Ok(Some(members))
+}
+
+/// The name of the package at a place, counted from 0.
+fn name_at<'a>(db: &Db<'a>, i: usize, _mark: PhantomData<PackageView<'a>>) -> &'a [u8]
+    requires { i < length (packages_of db.now) }
+    ensures { (pkg : Plain) → slice_get (packages_of db.now) i ≡ Some pkg
+        → result.now ≡ package_name pkg }
+{
+    let package = db.package(i);
+    package.info().name()
+}
+
+/// Adds the package of the database with this name, unless there is none or it is not in order.
+fn add_installed<'a>(
+    members: &mut Members<'a>,
+    db: &Db<'a>,
+    name: &[u8],
+) -> Result<bool, AllocError> {
+    for i in 0..db.len() {
+        if name_at(db, i, PhantomData) == name {
+            return add_at(members, db, i);
+        }
+    }
+    Ok(false)
+}
+
+/// Adds the package at a place of the database, unless it is not in order.
+fn add_at<'a>(members: &mut Members<'a>, db: &Db<'a>, i: usize) -> Result<bool, AllocError>
+    requires { i < length (packages_of db.now) }
+{
+    if members.len() >= MOST_MEMBERS {
+        return Ok(false);
+    }
+    if !members.comes_behind(name_at(db, i, PhantomData)) {
+        return Ok(false);
+    }
+    members.stays(db, i)?;
+    Ok(true)
+}
+
+/// Adds the package with this front, unless it is bad or not in order.
+fn add_coming<'a>(
+    alloc: Global,
+    members: &mut Members<'a>,
+    front: Option<&'a Front>,
+) -> Result<bool, AllocError> {
+    let Some(front) = front else {
+        return Ok(false);
+    };
+    match Contents::new(alloc, front) {
+        Ok(contents) => add_contents(members, &contents),
+        Err(PackageFault::Bad(_)) => Ok(false),
+        Err(PackageFault::Memory) => Err(AllocError),
+    }
+}
+
+fn add_contents<'a>(
+    members: &mut Members<'a>,
+    contents: &Contents<'a>,
+) -> Result<bool, AllocError> {
+    if members.len() >= MOST_MEMBERS {
+        return Ok(false);
+    }
+    if !members.comes_behind(name_of(contents, PhantomData)) {
+        return Ok(false);
+    }
+    members.comes_in_pieces(contents)?;
+    Ok(true)
+}
+
+/// The name of a package.
+fn name_of<'a>(contents: &Contents<'a>, _mark: PhantomData<PackageView<'a>>) -> &'a [u8]
+    ensures { result.now ≡ package_name (value_of_contents contents.now) }
+{
+    let info = contents.view().info();
+    info.name()
+}

@@ -1,0 +1,224 @@
+//! Packages and databases, from the words of rows.
+
+use adb_schema::{IDB_WORD, PACKAGE_WORD};
+use adb_view::Val;
+use adb_write::{Writer, file_of};
+use base_core::Words;
+use row_lines::{number_of, word_at};
+use sha1::Sha1;
+use sha2::{Digest, Sha256};
+use std::alloc::{AllocError, Global};
+
+/// The most bytes of a payload.
+const MOST_BYTES: usize = 268_435_455;
+
+/// The fields of a package's information, up to what it replaces.
+const INFO_FIELDS: usize = 17;
+
+/// The fields of a file, up to its target.
+const FILE_FIELDS: usize = 6;
+
+/// The place of a file's size.
+const SIZE: usize = 2;
+
+/// The place of a file's digest.
+const HASHES: usize = 4;
+
+/// The place of a link's target.
+const TARGET: usize = 5;
+
+/// What stands before the text of a link's target: the type of a symbolic link.
+const LINK: &[u8] = b"\x00\xa0";
+
+/// What stands between a path and what is said of its file.
+const MARKS: &[u8] = b"=#:>";
+
+/// The container of the package of a row, without contents.
+pub fn package_file(alloc: Global, row: &Words) -> Result<Vec<u8>, AllocError> {
+    let mut writer = Writer::new(alloc);
+    let root = write_package(alloc, &mut writer, row)?;
+    container(alloc, writer, root, PACKAGE_WORD)
+}
+
+/// The container of the database with the packages of these rows.
+pub fn database_file(alloc: Global, rows: &[Words]) -> Result<Vec<u8>, AllocError> {
+    let mut writer = Writer::new(alloc);
+    let mut packages = Vec::new(alloc);
+    for row in rows {
+        packages.push(write_package(alloc, &mut writer, row)?)?;
+    }
+    let packages = writer.arr(&packages)?;
+    let fields = [packages];
+    let root = writer.obj(&fields)?;
+    container(alloc, writer, root, IDB_WORD)
+}
+
+fn container(alloc: Global, writer: Writer, root: Val, schema: u32) -> Result<Vec<u8>, AllocError> {
+    let Ok(payload) = writer.finish(root) else {
+        return Err(AllocError);
+    };
+    if payload.len() > MOST_BYTES {
+        return Err(AllocError);
+    }
+    file_of(alloc, schema, &payload)
+}
+
+/// Writes the package of `WORD NAME VERSION PRIORITY FILES REPLACES..`. Files have commas between
+/// them. What is replaced is `NAME:VERSION:MATCH`, where the number says which versions match.
+fn write_package(alloc: Global, writer: &mut Writer, row: &Words) -> Result<Val, AllocError> {
+    let mut info = [Val::of(0); INFO_FIELDS];
+    info[0] = writer.blob(word_at(row, 1))?;
+    info[1] = writer.blob(word_at(row, 2))?;
+    info[INFO_FIELDS - 1] = write_replaces(alloc, writer, row)?;
+    let info = writer.obj(&info)?;
+    let priority = write_number(writer, number_in(word_at(row, 3)))?;
+    let folders = write_folders(alloc, writer, word_at(row, 4))?;
+    let fields = [info, folders, Val::of(0), Val::of(0), priority];
+    writer.obj(&fields)
+}
+
+/// The number that a word is; 0 where it is none.
+fn number_in(word: &[u8]) -> u64 {
+    u64::try_from(number_of(word).unwrap_or(0)).unwrap_or(0)
+}
+
+/// Writes a number; nothing stands for 0.
+fn write_number(writer: &mut Writer, number: u64) -> Result<Val, AllocError> {
+    if number == 0 {
+        return Ok(Val::of(0));
+    }
+    writer.int(number)
+}
+
+/// Writes what the package replaces.
+fn write_replaces(alloc: Global, writer: &mut Writer, row: &Words) -> Result<Val, AllocError> {
+    let mut replaces = Vec::new(alloc);
+    for i in 5..row.len() {
+        replaces.push(write_replaced(writer, row.word(i))?)?;
+    }
+    writer.arr(&replaces)
+}
+
+fn write_replaced(writer: &mut Writer, word: &[u8]) -> Result<Val, AllocError> {
+    let (name, rest) = parted(word, b':');
+    let (version, matching) = parted(rest, b':');
+    let name = writer.blob(name)?;
+    let version = writer.blob(version)?;
+    let matching = write_number(writer, number_in(matching))?;
+    let fields = [name, version, matching];
+    writer.obj(&fields)
+}
+
+/// Folders that are written, and the files of the one that comes next.
+#[derive(Drop)]
+struct Folders {
+    written: Vec<Val>,
+    files: Vec<Val>,
+}
+
+/// Writes folders with their files. Files of one folder that stand side by side share it.
+fn write_folders(alloc: Global, writer: &mut Writer, files: &[u8]) -> Result<Val, AllocError> {
+    let mut folders = Folders {
+        written: Vec::new(alloc),
+        files: Vec::new(alloc),
+    };
+    let mut above: Option<&[u8]> = None;
+    for file in files.split(|byte| *byte == b',') {
+        let (path, _) = listed_parts(file);
+        let (folder, _) = parted_last(path);
+        if above != Some(folder) {
+            folders.end(writer, above)?;
+        }
+        folders.add(alloc, writer, file)?;
+        above = Some(folder);
+    }
+    if files.is_empty() {
+        return Ok(Val::of(0));
+    }
+    folders.end(writer, above)?;
+    writer.arr(&folders.written)
+}
+
+impl Folders {
+    /// Adds a file. A path that ends in a slash is a folder without files.
+    fn add(&mut self, alloc: Global, writer: &mut Writer, file: &[u8]) -> Result<(), AllocError> {
+        let (path, said) = listed_parts(file);
+        let (_, name) = parted_last(path);
+        if name.is_empty() {
+            return Ok(());
+        }
+        let file = write_file(alloc, writer, name, said)?;
+        self.files.push(file)?;
+        Ok(())
+    }
+
+    /// Ends a folder, if there is one.
+    fn end(&mut self, writer: &mut Writer, folder: Option<&[u8]>) -> Result<(), AllocError> {
+        let Some(name) = folder else {
+            return Ok(());
+        };
+        let name = writer.blob(name)?;
+        let files = writer.arr(&self.files)?;
+        let fields = [name, Val::of(0), files];
+        let written = writer.obj(&fields)?;
+        self.written.push(written)?;
+        self.files.clear();
+        Ok(())
+    }
+}
+
+/// Writes a file with what is said of it: `=BYTES` with their SHA-256, `#BYTES` with their SHA-1,
+/// `:SIZE` without a digest, `>TEXT` as a link; an empty file where nothing is said.
+fn write_file(
+    alloc: Global,
+    writer: &mut Writer,
+    name: &[u8],
+    said: &[u8],
+) -> Result<Val, AllocError> {
+    let mut fields = [Val::of(0); FILE_FIELDS];
+    fields[0] = writer.blob(name)?;
+    match said {
+        [b'=', bytes @ ..] => {
+            fields[SIZE] = write_number(writer, bytes.len() as u64)?;
+            fields[HASHES] = writer.blob(&Sha256::digest(bytes))?;
+        }
+        [b'#', bytes @ ..] => {
+            fields[SIZE] = write_number(writer, bytes.len() as u64)?;
+            fields[HASHES] = writer.blob(&Sha1::digest(bytes))?;
+        }
+        [b':', size @ ..] => fields[SIZE] = write_number(writer, number_in(size))?,
+        [b'>', text @ ..] => fields[TARGET] = write_target(alloc, writer, text)?,
+        _ => {}
+    }
+    writer.obj(&fields)
+}
+
+fn write_target(alloc: Global, writer: &mut Writer, text: &[u8]) -> Result<Val, AllocError> {
+    let mut target = Vec::from_slice(alloc, LINK)?;
+    target.extend_from_slice(text)?;
+    writer.blob(&target)
+}
+
+/// A path, and what is said of its file, from the mark on.
+fn listed_parts(file: &[u8]) -> (&[u8], &[u8]) {
+    match file.iter().position(|byte| MARKS.contains(byte)) {
+        Some(i) if i < file.len() => (&file[..i], &file[i..]),
+        _ => (file, b""),
+    }
+}
+
+/// What stands before the first byte of this kind, and what behind it.
+fn parted(text: &[u8], mark: u8) -> (&[u8], &[u8]) {
+    match text.iter().position(|byte| *byte == mark) {
+        Some(i) if i < text.len() => (&text[..i], &text[i + 1..]),
+        _ => (text, b""),
+    }
+}
+
+/// The folder and the name of a path.
+fn parted_last(path: &[u8]) -> (&[u8], &[u8]) {
+    match path.iter().rposition(|byte| *byte == b'/') {
+        Some(i) if i < path.len() => (&path[..i], &path[i + 1..]),
+        _ => (b"", path),
+    }
+}
