@@ -17,7 +17,7 @@ use tree_memory::MemoryTree;
 /// The most pieces of a row's package, and the most files.
 const MOST: usize = 100;
 
-/// Adds the pieces of a package, by the sizes of its files, and how the tree was read: `read SIZES`.
+/// Adds the pieces of a package, by the sizes of its files, and how it was read: `read SIZES`.
 pub(crate) fn add_read(
     alloc: Global,
     words: &Words,
@@ -138,7 +138,7 @@ fn package_with(
 }
 
 /// Adds what is read of a package in a tree: all its pieces, and the pieces of each of the first
-/// `back` files once more, from the last to the first, of the changed bytes where there are any; and
+/// `back` files once more, from the last to the first, of the changed bytes if there are any; and
 /// where it is asked for how many calls of the tree there were behind the front, and the longest
 /// read of them.
 fn add_package(
