@@ -1,7 +1,6 @@
 -- Files that were handed out, and the pieces of one of them.
-use Rattle.std.proofs.Common.{◌≡◌, ℕ, zero, suc, ◌≤◌, ◌==◌, ◌&&◌, Bool, true, false, if◌then◌else◌, List, [], ◌∷◌, ◌++◌, length, get_or, drop, Option, Some, None, refl, ap, sym, subst, ◌∙◌}
+use Rattle.std.proofs.Common.{◌≡◌, ℕ, zero, suc, ◌<◌, ◌≤◌, Bool, true, false, if◌then◌else◌, List, [], ◌∷◌, ◌++◌, length, get_or, drop, Option, Some, None, refl, ap, sym, subst, ◌∙◌, arith}
 use Rattle.std.specs.Option.{option_map}
-use Rattle.base_core.specs.declared.cause.Cause.{Cause}
 use Rattle.pkg_core.specs.Contents.{Expected}
 use Rattle.piece_core.specs.Pieces.{PiecesRead, no_piece, part_of, piece, refusal, refusal_in}
 use Rattle.piece_reader.specs.Blocks.{pieces_from_block}
@@ -113,3 +112,15 @@ one_found path file pkg [] es from k are some = absurd (cc)
 one_found path file pkg (at ∷ ats) [] from k are some = absurd are
 one_found path file pkg (at ∷ ats) (e ∷ es) from k (after, within, same, (given, last, is), others) some =
     found_by path file pkg ats at e es given last from after (index_in path file es (length ats)) k (has_positions path file e) refl within same is some (λ n there. one_found path file pkg ats es after n others there)
+
+-- ---- how many there are
+
+pub as_many : (pkg ats : List ℕ) (es : List Expected) (from : PiecesRead) → AreFilesAt pkg ats es from [] no_piece → length ats ≡ length es
+as_many pkg [] es from are = ap length (sym are.0)
+as_many pkg (at ∷ ats) [] from are = absurd are
+as_many pkg (at ∷ ats) (e ∷ es) from (after, within, same, handed, others) = ap suc (as_many pkg ats es after others)
+
+pub kept_at : (ats : List ℕ) (k a b : ℕ) → k < length ats → get_or ats k a ≡ get_or ats k b
+kept_at [] k a b less = let none : k < 0 = less in omega (arith, none)
+kept_at (at ∷ ats) zero a b less = refl
+kept_at (at ∷ ats) (suc k) a b less = kept_at ats k a b (let more : suc k < suc (length ats) = less in omega (arith, more))

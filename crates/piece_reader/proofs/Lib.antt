@@ -5,4 +5,5 @@ pub mod FilesFound
 pub mod Readings
 pub mod FilesInOrder
 pub mod HandedOut
+pub mod ReadAgain
 pub mod PassSteps

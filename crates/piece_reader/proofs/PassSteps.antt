@@ -1,25 +1,22 @@
 -- One call for the next piece.
-use Rattle.std.proofs.Common.{◌≡◌, ℕ, ◌+◌, ◌<◌, ◌≤◌, Bool, true, false, is_none, is_ok, if◌then◌else◌, List, [], ◌∷◌, ◌++◌, length, Option, Some, None, Result, Ok, Err, refl, ap, sym, subst, ◌∙◌, arith}
+use Rattle.std.proofs.Common.{◌≡◌, ℕ, ◌+◌, ◌<◌, ◌≤◌, Bool, true, false, is_none, is_ok, if◌then◌else◌, List, [], ◌∷◌, ◌++◌, length, Option, Some, None, Result, Ok, refl, ap, sym, subst, ◌∙◌, arith}
 use Rattle.std.specs.Prelude.{IsOk, Vec, vec_capacity, vec_len}
 use Rattle.std.specs.declared.alloc.Global.{Global}
-use Rattle.base_core.specs.declared.cause.Cause.{Cause}
 use Rattle.pkg_core.specs.Contents.{Expected}
 use Rattle.pkg_core.specs.Opened.{expected_of}
-use Rattle.piece_core.specs.Pieces.{PiecesRead, no_piece, part_of, piece, refusal}
+use Rattle.piece_core.specs.Pieces.{PiecesRead, no_piece, part_of, piece}
 use Rattle.piece_core.specs.declared.part.Part.{Part}
 use Rattle.piece_core.specs.declared.place.BlockPlace.{BlockPlace}
 use Rattle.piece_reader.specs.Blocks.{pieces_from_block}
 use Rattle.piece_reader.specs.Opened.{open_end}
-use Rattle.piece_reader.specs.Passes.{AreFilesAt, AreInPass, HasHandedOut, InFirstPass, IsBegun, IsBegunFrom, IsBehindFirst, IsInFirstPass, IsPackageReading, all_files, all_pieces, pieces_of_first}
-use Rattle.piece_reader.specs.Readers.{AnswersNext, AreFromBlock, AreLeft, GoesOnBehind, HasRefused, IsOfFirstDue, IsReading, KeepsBlock, StandsBetween, due_by, due_files, due_in, offset_in, offset_of, package_len}
-use Rattle.piece_reader.specs.declared.fault.PieceFault.{PieceFault}
-use Rattle.piece_reader.specs.declared.fault.PieceFault.TheVariants.{Bad, Disk}
+use Rattle.piece_reader.specs.Passes.{AreFilesAt, AreInPass, BehindFirst, InFirstPass, IsBegun, IsBegunFrom, IsBehindFirst, IsInFirstPass, IsPackageReading, all_files, all_pieces}
+use Rattle.piece_reader.specs.Readers.{AnswersNext, AreFromBlock, GoesOnBehind, IsOfFirstDue, IsReading, KeepsBlock, StandsBetween, due_by, due_files, due_in, offset_in}
 use Rattle.piece_reader.specs.declared.open.OpenFile.{OpenFile}
 use Rattle.piece_reader.specs.declared.package.PackagePieces.{PackagePieces}
 use Rattle.piece_reader.specs.declared.package.Pass.{Pass}
 use Rattle.piece_reader.specs.declared.package.Pass.TheVariants.{First, OneFile, Over}
 use Rattle.piece_reader.specs.declared.reader.Due.{Due}
-use Rattle.piece_reader.specs.declared.reader.Due.TheVariants.{Files, Nothing, Refused}
+use Rattle.piece_reader.specs.declared.reader.Due.TheVariants.{Files}
 use Rattle.piece_reader.specs.declared.reader.PieceReader.{PieceReader}
 use Rattle.piece_reader.proofs.HandedOut.{last_piece_too, one_file_more, one_piece_more}
 
@@ -33,8 +30,7 @@ offset_within place (Some o) within behind = omega (arith, within, behind)
 
 pub over_again : (p : PackagePieces) (pkg : List ℕ) (before : PiecesRead) → p.pass ≡ Over → IsPackageReading p pkg before → (before ≡ no_piece) × IsPackageReading p pkg no_piece
 over_again p pkg before is reading =
-    let here = subst (λ (pass : Pass). AreInPass pass p pkg before) is reading in
-    (here.0, subst (λ (pass : Pass). AreInPass pass p pkg no_piece) (sym is) (refl, here.1))
+    (subst (λ (pass : Pass). AreInPass pass p pkg before) is reading, subst (λ (pass : Pass). AreInPass pass p pkg no_piece) (sym is) refl)
 
 -- ---- a piece of the first pass
 
@@ -65,8 +61,8 @@ record IsReadFirst (p : PackagePieces) (r : PieceReader) (pkg : List ℕ) (befor
   pub open_file : is_none r.opened ≡ part.last
   pub block : (from : PiecesRead) → AreFromBlock p.reader.opened (due_in p.reader.place p.reader.opened) p.reader.block pkg before from → pieces_from_block (due_in p.reader.place p.reader.opened) r.block pkg ≡ from
 
-first_more : (p : PackagePieces) (r : PieceReader) (pkg : List ℕ) (before : PiecesRead) (part : Part) (bytes : List ℕ) (after : PiecesRead) → IsReadFirst p r pkg before part bytes after → part.last ≡ false → IsInFirstPass p pkg before → IsInFirstPass (record p { reader = r }) pkg after
-first_more p r pkg before part bytes after read not_last first =
+first_more : (p : PackagePieces) (r : PieceReader) (counted : p.files ≡ length (all_files p)) (pkg : List ℕ) (before : PiecesRead) (part : Part) (bytes : List ℕ) (after : PiecesRead) → IsReadFirst p r pkg before part bytes after → part.last ≡ false → IsInFirstPass p pkg before → IsInFirstPass (record p { reader = r; counted = counted }) pkg after
+first_more p r counted pkg before part bytes after read not_last first =
     let order = read.order in
     let left : due_in r.place r.opened ≡ due_in p.reader.place p.reader.opened = order.left ∙ (ap (λ (b : Bool). if b then order.others else (order.first ∷ order.others)) not_last ∙ sym order.due) in
     let of_file : part ≡ part_of order.first false = order.of_first ∙ ap (part_of order.first) not_last in
@@ -85,8 +81,8 @@ pub record IsKept (before after : Vec ℕ Global) (block : ℕ) : Type 0 where
   pub len : vec_len after ≡ vec_len before + 1
   pub capacity : vec_capacity before ≤ vec_capacity after
 
-first_last : (p : PackagePieces) (r : PieceReader) (blocks : Vec ℕ Global) (pkg : List ℕ) (before : PiecesRead) (part : Part) (bytes : List ℕ) (after : PiecesRead) → length pkg ≡ r.place.len → IsReadFirst p r pkg before part bytes after → part.last ≡ true → (vec_len p.blocks < vec_capacity p.blocks → IsKept p.blocks blocks r.block) → IsInFirstPass p pkg before → IsInFirstPass (record p { reader = r; blocks = blocks }) pkg after
-first_last p r blocks pkg before part bytes after long read is_last keep first =
+first_last : (p : PackagePieces) (r : PieceReader) (blocks : Vec ℕ Global) (counted : p.files ≡ length (all_files p)) (pkg : List ℕ) (before : PiecesRead) (part : Part) (bytes : List ℕ) (after : PiecesRead) → length pkg ≡ r.place.len → IsReadFirst p r pkg before part bytes after → part.last ≡ true → (vec_len p.blocks < vec_capacity p.blocks → IsKept p.blocks blocks r.block) → IsInFirstPass p pkg before → IsInFirstPass (record p { reader = r; blocks = blocks; counted = counted }) pkg after
+first_last p r blocks counted pkg before part bytes after long read is_last keep first =
     let order = read.order in
     let es : List Expected = due_in p.reader.place p.reader.opened in
     let left : due_in r.place r.opened ≡ order.others = order.left ∙ ap (λ (b : Bool). if b then order.others else (order.first ∷ order.others)) is_last in
@@ -134,17 +130,17 @@ abbrev pub SaysNext : PieceReader → PieceReader → List ℕ → List ℕ → 
 SaysNext old new pkg bytes part = (before : PiecesRead) → IsReading old pkg before
     → AnswersNext (IsReading new pkg) before bytes (Ok (Some part)) × KeepsBlock old pkg before (Some part) new
 
-pub goes_on_first : (p : PackagePieces) (r : PieceReader) (pkg bytes : List ℕ) (before : PiecesRead) (part : Part) → p.pass ≡ First → part.last ≡ false → GoesOnBehind part p.reader r → IsOfFirstDue (due_files p.reader) part (due_files r) → SaysNext p.reader r pkg bytes part → IsPackageReading p pkg before → AnswersNext (IsPackageReading (record p { reader = r }) pkg) before bytes (Ok (Some part))
-goes_on_first p r pkg bytes before part is not_last goes order says reading =
+pub goes_on_first : (p : PackagePieces) (r : PieceReader) (counted : p.files ≡ length (all_files p)) (pkg bytes : List ℕ) (before : PiecesRead) (part : Part) → p.pass ≡ First → part.last ≡ false → GoesOnBehind part p.reader r → IsOfFirstDue (due_files p.reader) part (due_files r) → SaysNext p.reader r pkg bytes part → IsPackageReading p pkg before → AnswersNext (IsPackageReading (record p { reader = r; counted = counted }) pkg) before bytes (Ok (Some part))
+goes_on_first p r counted pkg bytes before part is not_last goes order says reading =
     let (reads, first) = in_first p pkg before is goes.before reading in
     let ((after, same, left), keeps) = says before reads in
-    (after, same, to_first (record p { reader = r }) pkg after is goes.after left (first_more p r pkg before part bytes after (read_of p r pkg before part bytes after goes order same keeps) not_last first))
+    (after, same, to_first (record p { reader = r; counted = counted }) pkg after is goes.after left (first_more p r counted pkg before part bytes after (read_of p r pkg before part bytes after goes order same keeps) not_last first))
 
-pub ends_file_first : (p : PackagePieces) (r : PieceReader) (blocks : Vec ℕ Global) (pkg bytes : List ℕ) (before : PiecesRead) (part : Part) → p.pass ≡ First → part.last ≡ true → length pkg ≡ r.place.len → (vec_len p.blocks < vec_capacity p.blocks → IsKept p.blocks blocks r.block) → GoesOnBehind part p.reader r → IsOfFirstDue (due_files p.reader) part (due_files r) → SaysNext p.reader r pkg bytes part → IsPackageReading p pkg before → AnswersNext (IsPackageReading (record p { reader = r; blocks = blocks }) pkg) before bytes (Ok (Some part))
-ends_file_first p r blocks pkg bytes before part is is_last long keep goes order says reading =
+pub ends_file_first : (p : PackagePieces) (r : PieceReader) (blocks : Vec ℕ Global) (counted : p.files ≡ length (all_files p)) (pkg bytes : List ℕ) (before : PiecesRead) (part : Part) → p.pass ≡ First → part.last ≡ true → length pkg ≡ r.place.len → (vec_len p.blocks < vec_capacity p.blocks → IsKept p.blocks blocks r.block) → GoesOnBehind part p.reader r → IsOfFirstDue (due_files p.reader) part (due_files r) → SaysNext p.reader r pkg bytes part → IsPackageReading p pkg before → AnswersNext (IsPackageReading (record p { reader = r; blocks = blocks; counted = counted }) pkg) before bytes (Ok (Some part))
+ends_file_first p r blocks counted pkg bytes before part is is_last long keep goes order says reading =
     let (reads, first) = in_first p pkg before is goes.before reading in
     let ((after, same, left), keeps) = says before reads in
-    (after, same, to_first (record p { reader = r; blocks = blocks }) pkg after is goes.after left (first_last p r blocks pkg before part bytes after long (read_of p r pkg before part bytes after goes order same keeps) is_last keep first))
+    (after, same, to_first (record p { reader = r; blocks = blocks; counted = counted }) pkg after is goes.after left (first_last p r blocks counted pkg before part bytes after long (read_of p r pkg before part bytes after goes order same keeps) is_last keep first))
 
 pub kept_by : {A E : Type 0} (before after : Vec ℕ Global) (block : ℕ) (r : Result A E) → IsOk r → after.items ≡ (if is_ok r then before.items ++ block ∷ [] else before.items) → vec_len after ≡ (if is_ok r then vec_len before + 1 else vec_len before) → vec_capacity before ≤ vec_capacity after → IsKept before after block
 kept_by before after block r good items len capacity =
@@ -154,12 +150,19 @@ kept_by before after block r good items len capacity =
       capacity = capacity;
     }
 
+-- ---- as read in the first pass
+
+pub still_first : (pass : Pass) (ended : Type 0) → pass ≡ First → BehindFirst pass ended
+still_first First ended is = tt
+still_first OneFile ended is = absurd (let e : OneFile ≡ First = is in (cc))
+still_first Over ended is = absurd (let e : Over ≡ First = is in (cc))
+
 -- ---- going to a file
 
-pub handed_out : (pass : Pass) (p : PackagePieces) (pkg : List ℕ) (before : PiecesRead) → IsBehindFirst pass → AreInPass pass p pkg before → HasHandedOut p pkg
-handed_out First p pkg before over are = absurd over
-handed_out OneFile p pkg before over (all, reads, first, out) = out
-handed_out Over p pkg before over are = are.1
+pub handed_out : (pass : Pass) (ended : Type 0) → IsBehindFirst pass → BehindFirst pass ended → ended
+handed_out First ended over are = absurd over
+handed_out OneFile ended over are = are
+handed_out Over ended over are = are
 
 -- ---- the start
 

@@ -1,14 +1,15 @@
 -- Where the passes over the pieces of a package stand: the first one over all files, and then one
 -- over a single file, as often as is asked for.
-use Rattle.std.specs.Prelude.{◌≡◌, ◌≤◌, ℕ, ◌+◌, ◌==◌, ◌&&◌, Bool, true, false, if◌then◌else◌, List, [], ◌∷◌, length, drop, vec_capacity, vec_len, Option, Some, None, Result}
+use Rattle.std.specs.Prelude.{◌≡◌, ◌≤◌, ℕ, ◌+◌, ◌==◌, ◌&&◌, Bool, true, false, if◌then◌else◌, List, [], ◌∷◌, length, drop, vec_capacity, vec_len, Option, Some, None, Result, IfOk, IfSome, ◌⊎◌}
+use Rattle.base_core.specs.declared.cause.Cause.{Cause}
 use Rattle.base_core.specs.Tree.{TreeState}
 use Rattle.adb_block.specs.Reading.{reading_of}
-use Rattle.adb_block.specs.declared.block.BlockKind.TheVariants.{Adb}
+use Rattle.adb_block.specs.declared.block.BlockKind.TheVariants.{Adb, Contents}
 use Rattle.pkg_core.specs.Contents.{Expected, expected_contents}
-use Rattle.pkg_core.specs.Opened.{expected_of}
+use Rattle.pkg_core.specs.Opened.{expected_of, left_in}
 use Rattle.pkg_pieces.specs.Seen.{HasAt, IsSeenIn}
 use Rattle.pkg_pieces.specs.Values.{value_of_contents}
-use Rattle.piece_core.specs.Pieces.{PiecesRead, no_piece, part_of, piece, pieces_by_blocks, refusal}
+use Rattle.piece_core.specs.Pieces.{PiecesRead, no_piece, part_of, piece, pieces_by_blocks, pieces_of_bytes, refusal}
 use Rattle.piece_core.specs.Places.{pieces_at}
 use Rattle.piece_core.specs.declared.part.Part.{Part}
 use Rattle.piece_core.specs.declared.place.BlockPlace.{BlockPlace}
@@ -131,28 +132,61 @@ abbrev pub HasHandedOut : PackagePieces → List ℕ → Type 0
 HasHandedOut p pkg =
     AreFilesAt pkg p.blocks.items (all_files p) (all_pieces p pkg) [] no_piece
 
+-- where the first pass ended
+abbrev pub BehindFirst : Pass → Type 0 → Type 0
+BehindFirst First ended = Unit {0}
+BehindFirst OneFile ended = ended
+BehindFirst Over ended = ended
+
+-- the package has all files as they were handed out, where the first pass ended
+abbrev pub IsAsRead : PackagePieces → List ℕ → Type 0
+IsAsRead p pkg = BehindFirst p.pass (HasHandedOut p pkg)
+
 abbrev pub AreInPass : Pass → PackagePieces → List ℕ → PiecesRead → Type 0
 AreInPass First p pkg now =
     IsReading p.reader pkg now × InFirstPass p.reader.due p pkg now
 AreInPass OneFile p pkg now = (all : PiecesRead) × IsReading p.reader pkg all
-    × (now ≡ pieces_of_first all) × HasHandedOut p pkg
-AreInPass Over p pkg now = (now ≡ no_piece) × HasHandedOut p pkg
+    × (now ≡ pieces_of_first all)
+AreInPass Over p pkg now = now ≡ no_piece
 
 -- these pieces are still to come
 abbrev pub IsPackageReading : PackagePieces → List ℕ → PiecesRead → Type 0
 IsPackageReading p pkg now = AreInPass p.pass p pkg now
 
+-- ---- a file once more
+
+-- a test failed in front of the first piece; or they are the pieces of as many bytes as the file
+-- has, and the last one comes only where these have its digest
+abbrev pub AreTested : Expected → PiecesRead → Type 0
+AreTested e pieces = ((c : Cause) × (pieces ≡ refusal c))
+    ⊎ ((bytes : List ℕ) × (length bytes ≡ e.size) × (pieces ≡ pieces_of_bytes e bytes no_piece))
+
+-- the pieces of a file that is read from a block of the package at some offset, tested
+pub record IsReadAgain (e : Expected) (pkg : List ℕ) (pieces : PiecesRead) : Type 0 where
+  pub at : ℕ
+  pub others : List Expected
+  pub come : pieces ≡ pieces_of_first (pieces_from_block (e ∷ others) at pkg)
+  pub tested : AreTested e pieces
+
+-- of the file that is asked for; none where it has no contents
+abbrev pub AreReadAgain : Option Expected → List ℕ → PiecesRead → Type 0
+AreReadAgain None pkg pieces = pieces ≡ no_piece
+AreReadAgain (Some e) pkg pieces = IsReadAgain e pkg pieces
+
 -- ---- what is answered
 
--- some bytes were seen from where the reader stood, and in each package that is so long and has
--- them this is what comes next
+-- some bytes were seen, from where the reader stood to where it stands behind a piece; and in each
+-- package that is so long and has them this is what comes next
 abbrev pub HandsOutNext : List TreeState → PackagePieces → List ℕ
     → Result (Option Part) PieceFault → PackagePieces → Type 0
 HandsOutNext history old bytes result new = (seen : List ℕ)
     × IsSeenIn history (name_of_package old) (len_of_package old) (next_offset_of old) seen
+    × IfOk result (λ found. IfSome found (λ _.
+    next_offset_of old + length seen ≡ next_offset_of new))
     × ((pkg : List ℕ) → length pkg ≡ len_of_package old → HasAt pkg (next_offset_of old) seen
     → (before : PiecesRead) → IsPackageReading old pkg before
-    → AnswersNext (IsPackageReading new pkg) before bytes result)
+    → AnswersNext (IsPackageReading new pkg) before bytes result
+    × (IsAsRead old pkg → IsAsRead new pkg))
 
 -- the package and its pieces stay the same
 pub record IsSamePackage (old new : PackagePieces) : Type 0 where
@@ -167,3 +201,10 @@ abbrev pub IsPlaceOf : ℕ → ℕ → PiecesRead → List ℕ → Option BlockP
 IsPlaceOf path file all pkg None = pieces_of_file path file all ≡ no_piece
 IsPlaceOf path file all pkg (Some place) =
     pieces_of_file path file all ≡ pieces_of_first (pieces_at place pkg)
+
+-- that place is in front of this file; or there is neither
+abbrev pub IsInFrontOf : Option Expected → Option BlockPlace → Type 0
+IsInFrontOf None place = place ≡ None
+IsInFrontOf (Some e) None = ⊥
+IsInFrontOf (Some e) (Some place) = (others : List Expected)
+    × (left_in place.walk ≡ e ∷ others) × (place.last ≡ Contents)

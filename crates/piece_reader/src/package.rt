@@ -1,15 +1,8 @@
 //! The pieces of a package in passes: of all its files, and then of single ones once more.
 
-ghost use Rattle.std.specs.Prelude.{◌≡◌, ◌≤◌, ◌+◌, ℕ, List, Ok, None, length, IfOk, IfSome};
-ghost use Rattle.adb_block.specs.Reading.{reading_of};
+ghost use Rattle.std.specs.Prelude.{◌≡◌, length};
 ghost use Rattle.pkg_core.specs.Contents.{expected_contents};
-ghost use Rattle.piece_core.specs.Pieces.{PiecesRead, pieces_by_blocks, refusal_in};
-ghost use Rattle.pkg_pieces.specs.Front.{behind_front, front_end, front_file_len};
-ghost use Rattle.pkg_pieces.specs.Seen.{ReadsFile};
 ghost use Rattle.pkg_pieces.specs.Values.{value_of_contents};
-ghost use Rattle.piece_reader.specs.Passes.{HandsOutNext, HasEnded, HasHandedOut, IsPackageReading, IsPlaceOf, IsSamePackage, all_pieces, len_of_package, name_of_package, next_offset_of, pieces_of_file};
-ghost use Rattle.piece_reader.specs.declared.package.Pass.TheVariants.{First, OneFile};
-ghost use Rattle.piece_reader.specs.declared.fault.PieceFault.TheVariants.{Disk as DiskFault};
 
 use crate::fault::PieceFault;
 use crate::piece::Piece;
@@ -41,11 +34,25 @@ pub struct PackagePieces<'a> {
     pub(crate) contents: &'a Contents<'a>,
     pub(crate) start: u64,
     pub(crate) reader: PieceReader<'a>,
+    pub(crate) files: usize,
     pub(crate) blocks: Vec<u64>,
     pub(crate) pass: Pass,
+    ghost counted: { files ≡ length (expected_contents (value_of_contents contents.now)) },
 }
 
 impl<'a> PackagePieces<'a> {
+    ghost use Rattle.std.specs.Prelude.{◌≡◌, ◌≤◌, ◌+◌, ℕ, List, Ok, None, get_or, length, IfOk, IfSome};
+    ghost use Rattle.adb_block.specs.Reading.{reading_of};
+    ghost use Rattle.piece_core.specs.Pieces.{PiecesRead, pieces_by_blocks, refusal_in};
+    ghost use Rattle.pkg_pieces.specs.Front.{behind_front, front_end, front_file_len};
+    ghost use Rattle.pkg_pieces.specs.Seen.{ReadsFile};
+    ghost use Rattle.piece_reader.specs.FilePlaces.{expected_with_positions};
+    ghost use Rattle.piece_reader.specs.Passes.{AreReadAgain, HandsOutNext, HasEnded, HasHandedOut, IsAsRead, IsInFrontOf, IsPackageReading, IsPlaceOf, IsSamePackage, all_files, all_pieces, len_of_package, name_of_package, next_offset_of, pieces_of_file};
+    ghost use Rattle.piece_reader.specs.declared.package.Pass.TheVariants.{First, OneFile};
+    ghost use Rattle.piece_reader.specs.declared.fault.PieceFault.TheVariants.{Disk as DiskFault};
+    ghost use Rattle.pkg_core.specs.Contents.{expected_contents};
+    ghost use Rattle.pkg_pieces.specs.Values.{value_of_contents};
+
     /// A reader in front of the first piece of the package of this name, whose front and values
     /// were read. Only this call takes memory: a number for each file with contents.
     pub fn new(
@@ -62,14 +69,16 @@ impl<'a> PackagePieces<'a> {
             (reading_of (behind_front front.now pkg))) }
         ensures pieces { IfOk result (λ pieces. (pkg : List ℕ)
             → IsPackageReading pieces pkg (all_pieces pieces pkg)) }
+        ensures as_read { IfOk result (λ pieces. (pkg : List ℕ) → IsAsRead pieces pkg) }
     {
         let mut walk = Walk::new(contents.view().paths());
-        let count = count_files(&mut walk)?;
-        let blocks = Vec::with_capacity(alloc, count)?;
+        let files = count_files(&mut walk)?;
+        let blocks = Vec::with_capacity(alloc, files)?;
         Ok(PackagePieces {
             contents,
             start: front.end(),
             reader: PieceReader::new(front, contents, name),
+            files,
             blocks,
             pass: Pass::First,
         })
@@ -160,12 +169,17 @@ impl<'a> PackagePieces<'a> {
     /// then None; None alone where it has no contents.
     pub fn go_to(&mut self, path: u32, file: u32)
         requires { HasEnded self.old }
+        // Of each package that is so long, also of one that was changed since.
+        ensures tested { (pkg : List ℕ) → length pkg ≡ len_of_package self.old
+            → (pieces : PiecesRead) × IsPackageReading self.new pkg pieces × AreReadAgain
+            (expected_with_positions path file (all_files self.old)) pkg pieces }
         ensures pieces { (pkg : List ℕ) → length pkg ≡ len_of_package self.old
-            → (before : PiecesRead) → IsPackageReading self.old pkg before
+            → IsAsRead self.old pkg
             → IsPackageReading self.new pkg (pieces_of_file path file (all_pieces self.old pkg)) }
         // No test of it fails in a package of the bytes that were read before.
-        ensures good { (pkg : List ℕ) (before : PiecesRead) → IsPackageReading self.old pkg before
+        ensures good { (pkg : List ℕ) → IsAsRead self.old pkg
             → refusal_in (pieces_of_file path file (all_pieces self.old pkg)) ≡ None }
+        ensures as_read { (pkg : List ℕ) → IsAsRead self.old pkg → IsAsRead self.new pkg }
         ensures ended { HasEnded self.new }
         ensures same { IsSamePackage self.old self.new }
     {
@@ -178,24 +192,37 @@ impl<'a> PackagePieces<'a> {
         }
     }
 
-    /// In front of the block of the file with these positions; None where it has no contents.
+    /// In front of the block of the file with these positions; None where it has no contents. Where
+    /// no block of it was kept it is behind the last one, where the file is missing.
     fn place_of(&self, path: u32, file: u32) -> Option<BlockPlace<'a>>
         ensures within { IfSome result (λ place. place.at ≤ place.len) }
         ensures len { IfSome result (λ place. place.len ≡ len_of_package self.now) }
+        ensures file { IsInFrontOf (expected_with_positions path file (all_files self.now)) result }
         ensures place { (pkg : List ℕ) → length pkg ≡ len_of_package self.now
             → HasHandedOut self.now pkg
             → IsPlaceOf path file (all_pieces self.now pkg) pkg result }
     {
         let mut walk = Walk::new(self.contents.view().paths());
-        let k = index_of(&mut walk, self.blocks.len(), path, file)?;
+        let k = index_of(&mut walk, self.files, path, file)?;
         let mut walk = Walk::new(self.contents.view().paths());
         skip(&mut walk, k);
         let len = self.reader.place.len;
+        let at = self.block_at(k);
         Some(BlockPlace {
             len,
             walk,
             last: BlockKind::Contents,
-            at: len.min(self.blocks[k]),
+            at: len.min(at),
         })
+    }
+
+    /// The offset of the block that was kept at a place; the length of the package where none was.
+    fn block_at(&self, k: usize) -> u64
+        ensures { result ≡ get_or self.now.blocks.items k (len_of_package self.now) }
+    {
+        if k < self.blocks.len() {
+            return self.blocks[k];
+        }
+        self.reader.place.len
     }
 }

@@ -13,7 +13,9 @@ mod package;
 
 use crate::front::add_cuts;
 use crate::made::bytes_of;
-use crate::package::{add_back, add_ends, add_read, add_repeated, add_shortened, add_spoiled};
+use crate::package::{
+    add_back, add_changed, add_ends, add_read, add_repeated, add_shortened, add_spoiled,
+};
 use adb_schema::Checked;
 use adb_tables::{Which, shape};
 use adb_view::Adb;
@@ -49,11 +51,12 @@ enum Question {
     Repeat,
     Shorten,
     Back,
+    Change,
     Ends,
 }
 
 #[rattlefmt::skip]
-const QUESTIONS: [(&[u8], Question); 9] = [
+const QUESTIONS: [(&[u8], Question); 10] = [
     (b"pieces", Question::Pieces),
     (b"open", Question::Open),
     (b"cuts", Question::Cuts),
@@ -62,6 +65,7 @@ const QUESTIONS: [(&[u8], Question); 9] = [
     (b"repeat", Question::Repeat),
     (b"shorten", Question::Shorten),
     (b"back", Question::Back),
+    (b"change", Question::Change),
     (b"ends", Question::Ends),
 ];
 
@@ -85,6 +89,7 @@ impl Subject for Files {
             Some(Question::Repeat) => add_repeated(alloc, words, answer),
             Some(Question::Shorten) => add_shortened(alloc, words, answer),
             Some(Question::Back) => add_back(alloc, words, answer),
+            Some(Question::Change) => add_changed(alloc, words, answer),
             Some(Question::Ends) => add_ends(alloc, words, answer),
             None => answer.extend_from_slice(b"no question"),
         }

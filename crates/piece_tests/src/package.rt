@@ -17,14 +17,14 @@ use tree_memory::MemoryTree;
 /// The most pieces of a row's package, and the most files.
 const MOST: usize = 100;
 
-/// Adds the pieces of a package: `read SIZES`, by the sizes of its files, and how the tree was read.
+/// Adds the pieces of a package, by the sizes of its files, and how it was read: `read SIZES`.
 pub(crate) fn add_read(
     alloc: Global,
     words: &Words,
     answer: &mut Vec<u8>,
 ) -> Result<(), AllocError> {
     let file = package_with(alloc, words, 1, Flaw::None)?;
-    add_package(alloc, &file, 0, true, answer)
+    add_package(alloc, &file, None, 0, true, answer)
 }
 
 /// The same where a byte of the last file is another: `spoil AT SIZES`.
@@ -35,7 +35,7 @@ pub(crate) fn add_spoiled(
 ) -> Result<(), AllocError> {
     let at = small_number(word_at(words, 1)) as usize;
     let file = package_with(alloc, words, 2, Flaw::Spoiled(at))?;
-    add_package(alloc, &file, 0, false, answer)
+    add_package(alloc, &file, None, 0, false, answer)
 }
 
 /// The same where the first block of contents stands in place of the last: `repeat SIZES`.
@@ -45,7 +45,7 @@ pub(crate) fn add_repeated(
     answer: &mut Vec<u8>,
 ) -> Result<(), AllocError> {
     let file = package_with(alloc, words, 1, Flaw::Repeated)?;
-    add_package(alloc, &file, 0, false, answer)
+    add_package(alloc, &file, None, 0, false, answer)
 }
 
 /// The same where the last block of contents has so many bytes: `shorten LEN SIZES`.
@@ -56,7 +56,7 @@ pub(crate) fn add_shortened(
 ) -> Result<(), AllocError> {
     let len = small_number(word_at(words, 1)) as usize;
     let file = package_with(alloc, words, 2, Flaw::Shortened(len))?;
-    add_package(alloc, &file, 0, false, answer)
+    add_package(alloc, &file, None, 0, false, answer)
 }
 
 /// The pieces of a package, and then of each file once more, from one that is not there to the
@@ -68,7 +68,28 @@ pub(crate) fn add_back(
 ) -> Result<(), AllocError> {
     let file = package_with(alloc, words, 1, Flaw::None)?;
     let sizes = sizes_from(alloc, words, 1)?;
-    add_package(alloc, &file, low_word(sizes.len()) + 1, false, answer)
+    add_package(alloc, &file, None, low_word(sizes.len()) + 1, false, answer)
+}
+
+/// The pieces of a package, and then of each file once more, from the last to the first, where a
+/// byte of the last file was changed in between: `change AT SIZES`.
+pub(crate) fn add_changed(
+    alloc: Global,
+    words: &Words,
+    answer: &mut Vec<u8>,
+) -> Result<(), AllocError> {
+    let at = small_number(word_at(words, 1)) as usize;
+    let file = package_with(alloc, words, 2, Flaw::None)?;
+    let changed = package_with(alloc, words, 2, Flaw::Spoiled(at))?;
+    let sizes = sizes_from(alloc, words, 2)?;
+    add_package(
+        alloc,
+        &file,
+        Some(&changed),
+        low_word(sizes.len()),
+        false,
+        answer,
+    )
 }
 
 /// What a package comes to that is cut at each length, from one offset on, and each length at which
@@ -83,7 +104,7 @@ pub(crate) fn add_ends(
     let mut last = Vec::new(alloc);
     for len in first..=file.len() {
         let mut found = Vec::new(alloc);
-        add_package(alloc, &file[..len], 0, false, &mut found)?;
+        add_package(alloc, &file[..len], None, 0, false, &mut found)?;
         if found != last {
             add_word(answer, b"from ")?;
             add_number(alloc, answer, len as u128)?;
@@ -117,11 +138,13 @@ fn package_with(
 }
 
 /// Adds what is read of a package in a tree: all its pieces, and the pieces of each of the first
-/// `back` files once more, from the last to the first; and where it is asked for how many calls of
-/// the tree there were behind the front, and the longest read of them.
+/// `back` files once more, from the last to the first, of the changed bytes if there are any; and
+/// where it is asked for how many calls of the tree there were behind the front, and the longest
+/// read of them.
 fn add_package(
     alloc: Global,
     file: &[u8],
+    changed: Option<&[u8]>,
     back: u32,
     counts: bool,
     answer: &mut Vec<u8>,
@@ -130,9 +153,7 @@ fn add_package(
         return Ok(());
     };
     let mut tree = MemoryTree::new(alloc);
-    if tree.can_put(&name) {
-        tree.put(&name, file)?;
-    }
+    put(&mut tree, &name, file)?;
     let front = match read_front(alloc, &mut tree, &name, PACKAGE_WORD) {
         Ok(Some(front)) => front,
         Ok(None) => return add_word(answer, b"no file"),
@@ -141,7 +162,7 @@ fn add_package(
         Err(FrontFault::Memory) => return Err(AllocError),
     };
     let calls = tree.calls();
-    add_passes(alloc, &mut tree, &name, &front, back, answer)?;
+    add_passes(alloc, &mut tree, &name, &front, changed, back, answer)?;
     if counts {
         add_word(answer, b"calls ")?;
         add_number(
@@ -155,12 +176,21 @@ fn add_package(
     Ok(())
 }
 
-/// Adds the pieces behind a front.
+/// Sets a file of the tree.
+fn put(tree: &mut MemoryTree, name: &Name, bytes: &[u8]) -> Result<(), AllocError> {
+    if tree.can_put(name) {
+        tree.put(name, bytes)?;
+    }
+    Ok(())
+}
+
+/// Adds the pieces behind a front, and of files once more.
 fn add_passes(
     alloc: Global,
     tree: &mut MemoryTree,
     name: &Name,
     front: &Front,
+    changed: Option<&[u8]>,
     back: u32,
     answer: &mut Vec<u8>,
 ) -> Result<(), AllocError> {
@@ -174,10 +204,13 @@ fn add_passes(
     if !add_all(alloc, tree, &mut pieces, &mut piece, answer)? {
         return add_next(alloc, tree, &mut pieces, &mut piece, answer);
     }
+    if let Some(bytes) = changed {
+        put(tree, name, bytes)?;
+    }
     'files: for i in 0..back {
         pieces.go_to(1, back - i);
         if !add_all(alloc, tree, &mut pieces, &mut piece, answer)? {
-            return Ok(());
+            return add_next(alloc, tree, &mut pieces, &mut piece, answer);
         }
     }
     Ok(())

@@ -1,5 +1,5 @@
 -- In front of the first piece.
-use Rattle.std.proofs.Common.{◌≡◌, ℕ, List, Some, length, drop, ap, sym, subst, ◌∙◌, arith}
+use Rattle.std.proofs.Common.{◌≡◌, ℕ, Some, length, drop, ap, sym, subst, ◌∙◌, arith}
 use Rattle.adb_block.specs.declared.block.BlockKind.TheVariants.{Adb}
 use Rattle.adb_block.specs.Reading.{reading_of}
 use Rattle.adb_view.specs.Plain.{Plain}
@@ -27,8 +27,8 @@ returns-clause-all c = λ pkg.
 pub returns-clause-pieces : goal.returns-clause-pieces
 returns-clause-pieces c = λ pkg.
     let files = expected_contents (value_of_contents c.args.contents.now) in
-    let p : PackagePieces = record { contents = c.args.contents; start = c.end.result; reader = c.new.result; blocks = c.in_ok-blocks.blocks; pass = First } in
-    let all : all_pieces p pkg ≡ pieces_by_blocks files (reading_of (behind_front c.args.front.now pkg)) = ap (λ (n : ℕ). pieces_by_blocks files (reading_of (record { schema = 0; last = Some Adb; at = n; left = drop n pkg }))) c.end.ensures.exact ∙ sym (any_schema files c.args.front.now.schema (front_end c.args.front.now) (Some Adb) pkg) in
     let left : left_in c.new-walk.result ≡ files = c.new-walk.ensures ∙ ap (λ (v : Plain). expected_folders 1 (list_of (entries_in v))) (c.paths.ensures ∙ ap (λ (v : Plain). entry_in v 1) c.view.ensures) in
     let count : length (left_in c.new-walk.result) ≡ length files = ap length left in
-    starts p pkg c.new.ensures.start c.new.ensures.files c.in_ok-blocks.ensures.items (omega (arith, c.in_ok-blocks.ensures.len, c.in_ok-blocks.ensures.exact, c.in_ok-count.ensures, count)) (subst (λ (ps : PiecesRead). IsReading c.new.result pkg ps) (sym all) (c.new.ensures.pieces pkg))
+    let p : PackagePieces = record { contents = c.args.contents; start = c.end.result; reader = c.new.result; files = c.in_ok-files.files; blocks = c.in_ok-blocks.blocks; pass = First; counted = _ } in
+    let all : all_pieces p pkg ≡ pieces_by_blocks files (reading_of (behind_front c.args.front.now pkg)) = ap (λ (n : ℕ). pieces_by_blocks files (reading_of (record { schema = 0; last = Some Adb; at = n; left = drop n pkg }))) c.end.ensures.exact ∙ sym (any_schema files c.args.front.now.schema (front_end c.args.front.now) (Some Adb) pkg) in
+    starts p pkg c.new.ensures.start c.new.ensures.files c.in_ok-blocks.ensures.items (omega (arith, c.in_ok-blocks.ensures.len, c.in_ok-blocks.ensures.exact, c.in_ok-files.ensures, count)) (subst (λ (ps : PiecesRead). IsReading c.new.result pkg ps) (sym all) (c.new.ensures.pieces pkg))
