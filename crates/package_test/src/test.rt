@@ -1,7 +1,7 @@
 //! How a package in a tree is tested: its front, its values, and then piece by piece what stands
 //! behind them.
 
-ghost use Rattle.std.specs.Prelude.{◌≡◌, ℕ, List, Option, length, IfOk, IfErr};
+ghost use Rattle.std.specs.Prelude.{◌≡◌, ℕ, List, Option, Some, length, IfOk};
 ghost use Rattle.adb_block.specs.Reading.{reading_of};
 ghost use Rattle.adb_schema.specs.declared.read.TheConstants.{PACKAGE_WORD};
 ghost use Rattle.base_core.specs.Calls.{IfObservable};
@@ -10,14 +10,16 @@ ghost use Rattle.base_core.specs.Tree.{files_of};
 ghost use Rattle.base_core.specs.declared.tree.TreeFault.TheVariants.{Disk as DiskFault};
 ghost use Rattle.pkg_core.specs.Contents.{contents_fault, expected_contents};
 ghost use Rattle.pkg_core.specs.Whole.{container_fault};
-ghost use Rattle.pkg_pieces.specs.Front.{IsFrontOf, behind_front, front_end, front_file_len};
+ghost use Rattle.pkg_pieces.specs.Front.{IsFrontOf, behind_front, front_end, front_fault, front_file_len};
 ghost use Rattle.pkg_pieces.specs.Seen.{HasAt, IsSeenIn, ReadsFile};
 ghost use Rattle.pkg_pieces.specs.Values.{value_of_contents};
 ghost use Rattle.package_test.specs.Tests.{IsTestOf};
 
 use adb_schema::PACKAGE_WORD;
 use base_core::{Cause, Name, Tree, TreeFault};
-use piece_reader::{Piece, PieceFault, PieceReader};
+use piece_reader::{
+    Piece, PieceFault, PieceReader, the_pieces_are_refused_for_the_first_fault_of_the_blocks,
+};
 use pkg_core::PackageFault;
 use pkg_pieces::{Contents, Front, FrontFault, read_front};
 use std::alloc::Global;
@@ -60,10 +62,20 @@ pub fn test_package<T: Tree>(
             Ok(test_of(fault))
         }
         Ok(None) => Ok(PackageTest::Absent),
-        Err(FrontFault::Bad(Cause::WrongSchema { .. })) => Ok(PackageTest::OtherSchema),
-        Err(FrontFault::Bad(cause)) => Ok(PackageTest::Bad(cause)),
+        Err(FrontFault::Bad(cause)) => Ok(test_by_front(cause)),
         Err(FrontFault::Disk) => Err(TreeFault::Disk),
         Err(FrontFault::Memory) => Err(TreeFault::Memory),
+    }
+}
+
+/// What the first failed test of a front says.
+fn test_by_front(cause: Cause) -> PackageTest
+    ensures { (file : List ℕ) → front_fault PACKAGE_WORD file ≡ Some cause.entry
+        → IsTestOf (Some file) result }
+{
+    match cause {
+        Cause::WrongSchema { .. } => PackageTest::OtherSchema,
+        cause => PackageTest::Bad(cause),
     }
 }
 
@@ -115,6 +127,7 @@ fn first_fault_behind<T: Tree>(
     ensures tree { ReadsFile name.now (front_file_len front.now) DiskFault (T.history tree.old)
         (T.history tree.new) (T.counts tree.old) (T.counts tree.new) result }
 {
+    the_pieces_are_refused_for_the_first_fault_of_the_blocks();
     let mut reader = PieceReader::new(front, contents, name);
     let mut piece = Piece::new();
     'pieces: loop {
