@@ -12,6 +12,7 @@ use Rattle.piece_core.specs.Pieces.{PiecesRead, piece, refusal_in}
 use Rattle.piece_core.specs.declared.part.Part.{Part}
 use Rattle.piece_reader.specs.Readers.{AnswersNext, IsOfFirstDue, IsReading, KeepsBlock, due_files, name_in_tree, offset_of, package_len}
 use Rattle.piece_reader.specs.declared.fault.PieceFault.{PieceFault}
+use Rattle.piece_reader.specs.declared.fault.PieceFault.TheVariants.{Bad}
 use Rattle.piece_reader.specs.declared.reader.PieceReader.{PieceReader}
 use Rattle.piece_reader.proofs.BlockSeen.{nothing_seen}
 use Rattle.piece_reader.proofs.FilesFound.{IsSeenUpTo, seen_up_to}
@@ -118,6 +119,12 @@ told_from h later name len at begun now new bytes result fault FaultIn same name
     (subst (λ (n : ℕ). IsFaultTold h name n (offset_of begun) FaultIn fault) lens
     (subst (λ (n : List ℕ). IsFaultTold h n (package_len begun) (offset_of begun) FaultIn fault) names
     (told h later (name_in_tree begun) (package_len begun) begun now new bytes result fault FaultIn same named long passed read says starts)))
+
+pub none_fails : (new : PieceReader) (bytes pkg : List ℕ) (before : PiecesRead) → AnswersNext (IsReading new pkg) before bytes (Ok None) → refusal_in before ≡ None
+none_fails new bytes pkg before answer = ap refusal_in answer.0
+
+pub one_fails : (new : PieceReader) (bytes : List ℕ) (c : Cause) (pkg : List ℕ) (before : PiecesRead) → AnswersNext (IsReading new pkg) before bytes (Err (Bad c)) → refusal_in before ≡ Some c
+one_fails new bytes c pkg before answer = ap refusal_in answer.0
 
 -- ---- how many steps are left
 

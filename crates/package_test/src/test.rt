@@ -70,7 +70,7 @@ pub fn test_package<T: Tree>(
 
 /// What the first failed test of a front says.
 fn test_by_front(cause: Cause) -> PackageTest
-    ensures { (file : List ℕ) → front_fault PACKAGE_WORD file ≡ Some cause.entry
+    ensures { (file : List ℕ) → front_fault PACKAGE_WORD file ≡ Some cause
         → IsTestOf (Some file) result }
 {
     match cause {

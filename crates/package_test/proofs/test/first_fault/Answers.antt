@@ -7,4 +7,4 @@ pub returns-in-Ok-clause-fault : goal.returns-in-Ok-clause-fault
 returns-in-Ok-clause-fault g c = whole_by_contents _ _ c.args.front.now (value_of_contents c.in-Ok.contents) c.first_fault_behind.result c.in-Ok.ensures.sound c.in-Ok.ensures.value c.first_fault_behind.ensures.fault
 
 pub returns-in-Err-Bad-clause-fault : goal.returns-in-Err-Bad-clause-fault
-returns-in-Err-Bad-clause-fault g c = whole_by_values _ _ c.args.front.now c.in-Err-Bad.cause c.args.front.now.within c.in-Err-Bad.ensures.bad
+returns-in-Err-Bad-clause-fault g c = whole_by_values _ _ c.args.front.now _ _ _ c.in-Err-Bad.cause-is c.in-Err-Bad.field-0-is c.args.front.now.within c.in-Err-Bad.ensures.bad
