@@ -1,5 +1,6 @@
 -- Piece by piece.
-use Rattle.std.proofs.Common.{◌≡◌, sym, subst, ◌∙◌, Ok, Err, List, ℕ}
+use Rattle.std.proofs.Common.{◌≡◌, ap, sym, subst, ◌∙◌, Some, None, Ok, Err, List, ℕ}
+use Rattle.base_core.specs.declared.cause.Cause.{Cause}
 use Rattle.base_core.specs.declared.tree.TreeFault.TheVariants.{Disk as DiskFault}
 use Rattle.adb_block.specs.Reading.{reading_of}
 use Rattle.pkg_core.specs.Contents.{contents_fault, expected_contents}
@@ -9,7 +10,7 @@ use Rattle.pkg_pieces.specs.Values.{value_of_contents}
 use Rattle.pkg_pieces.proofs.SeenBytes.{reads_in_a_row}
 use Rattle.piece_reader.proofs.Readings.{renamed}
 use Rattle.piece_reader.specs.declared.fault.PieceFault.{PieceFault}
-use Rattle.piece_reader.specs.declared.fault.PieceFault.TheVariants.{Disk as PieceDisk}
+use Rattle.piece_reader.specs.declared.fault.PieceFault.TheVariants.{Bad, Disk as PieceDisk}
 use Rattle.package_test.proofs.FullPieces.{full_pieces}
 use Rattle.package_test.proofs.PiecesPassed.{IsReadBy, nearer, none_fails, one_fails, one_passed, reads_as, told_from}
 use Rattle.package_test.proofs.test.first_fault_behind.Goals as goal
@@ -35,7 +36,7 @@ pub returns-in-Ok-None-clause-fault : goal.returns-in-Ok-None-clause-fault
 returns-in-Ok-None-clause-fault g c =
     let inv = c.pieces.invariant in
     let es = expected_contents (value_of_contents c.args.contents.now) in
-    told_from _ _ _ _ _ c.new-reader.result c.pieces.reader c.next_piece.new.self c.next_piece.new.piece _ _ (λ pkg. contents_fault es (reading_of (behind_front c.args.front.now pkg))) inv.tree.same c.new-reader.ensures.name c.new-reader.ensures.len c.new-reader.ensures.offset inv.name inv.len inv.passed (rw c.in-Ok-None.field-0-is at c.in-Ok-None.ensures.piece)
+    told_from _ _ _ _ _ c.new-reader.result c.pieces.reader c.next_piece.new.self c.next_piece.new.piece (Ok None) _ (λ pkg. contents_fault es (reading_of (behind_front c.args.front.now pkg))) inv.tree.same c.new-reader.ensures.name c.new-reader.ensures.len c.new-reader.ensures.offset inv.name inv.len inv.passed (rw c.in-Ok-None.field-0-is at c.in-Ok-None.ensures.piece)
     (none_fails c.next_piece.new.self c.next_piece.new.piece)
     (λ pkg. (pieces_by_blocks es (reading_of (behind_front c.args.front.now pkg)), c.new-reader.ensures.pieces pkg, c.the_pieces_are_refused_for_the_first_fault_of_the_blocks.ensures es _))
 
@@ -43,6 +44,6 @@ pub returns-in-Err-Bad-clause-fault : goal.returns-in-Err-Bad-clause-fault
 returns-in-Err-Bad-clause-fault g c =
     let inv = c.pieces.invariant in
     let es = expected_contents (value_of_contents c.args.contents.now) in
-    told_from _ _ _ _ _ c.new-reader.result c.pieces.reader c.next_piece.new.self c.next_piece.new.piece _ _ (λ pkg. contents_fault es (reading_of (behind_front c.args.front.now pkg))) inv.tree.same c.new-reader.ensures.name c.new-reader.ensures.len c.new-reader.ensures.offset inv.name inv.len inv.passed (subst (λ (f : PieceFault). IsReadBy (g.T.Tree.history c.pieces.tree) c.pieces.reader c.next_piece.new.piece (Err f) c.next_piece.new.self) c.in-Err-Bad.field-0-is c.in-Err-Bad.ensures.piece)
-    (one_fails c.next_piece.new.self c.next_piece.new.piece _)
+    told_from _ _ _ _ _ c.new-reader.result c.pieces.reader c.next_piece.new.self c.next_piece.new.piece (Err (Bad c.in-Err-Bad.cause)) _ (λ pkg. contents_fault es (reading_of (behind_front c.args.front.now pkg))) inv.tree.same c.new-reader.ensures.name c.new-reader.ensures.len c.new-reader.ensures.offset inv.name inv.len inv.passed (subst (λ (f : PieceFault). IsReadBy (g.T.Tree.history c.pieces.tree) c.pieces.reader c.next_piece.new.piece (Err f) c.next_piece.new.self) c.in-Err-Bad.field-0-is c.in-Err-Bad.ensures.piece)
+    (λ pkg before answer. one_fails c.next_piece.new.self c.next_piece.new.piece c.in-Err-Bad.cause pkg before answer ∙ ap (λ (x : Cause). Some x) (sym c.in-Err-Bad.cause-is))
     (λ pkg. (pieces_by_blocks es (reading_of (behind_front c.args.front.now pkg)), c.new-reader.ensures.pieces pkg, c.the_pieces_are_refused_for_the_first_fault_of_the_blocks.ensures es _))
