@@ -168,12 +168,16 @@ recovering v old mid recovery =
     since_weaker (λ w. RecoversAs v w × IsLessWaiting v w) (IsRecovering v) old mid (λ w both. record { reads = both.0; waiting = both.1 })
     (since_and (RecoversAs v) (IsLessWaiting v) old mid recovery.reads recovery.waiting)
 
-at_work : (effect : Effect) (output : Option (List ℕ)) (new old : Files) (w : TreeState) → effect ≡ Makes → IsReadApart output new old w → IsReadAtWork effect output new old w
+-- only a command that makes a file has an output
+abbrev pub MakesOutput : Effect → Option (List ℕ) → Type 0
+MakesOutput effect output = (name : List ℕ) → output ≡ Some name → effect ≡ Makes
+
+at_work : (effect : Effect) (output : Option (List ℕ)) (new old : Files) (w : TreeState) → MakesOutput effect output → IsReadApart output new old w → IsReadAtWork effect output new old w
 at_work effect None new old w makes same = inl (λ q off. ap (λ (f : Files). f q) same)
-at_work effect (Some name) new old w makes (inl others) = inl (λ q off. others q (off_scratch effect name q makes off))
+at_work effect (Some name) new old w makes (inl others) = inl (λ q off. others q (off_scratch effect name q (makes name refl) off))
 at_work effect (Some name) new old w makes (inr is) = inr (inr is)
 
-reads_behind : (A B : Outcome → Type 0) (effect : Effect) (output : Option (List ℕ)) (v u : TreeState) (old mid now : History) → does_recover effect ≡ true → effect ≡ Makes → files_of u ≡ work_files effect (files_of v) → ((o : Outcome) → A o → B o)
+reads_behind : (A B : Outcome → Type 0) (effect : Effect) (output : Option (List ℕ)) (v u : TreeState) (old mid now : History) → does_recover effect ≡ true → MakesOutput effect output → files_of u ≡ work_files effect (files_of v) → ((o : Outcome) → A o → B o)
     → Since (IsRecovering v) old mid → AreReadApart A output u mid now → AreReadOnTheWay B effect output v old now
 reads_behind A B effect output v u old mid now recovers makes work into first (inl same) =
     inl (since_both (IsRecovering v) (λ w. files_of w ≡ files_of u) (IsBehindRecovery effect (λ w. files_of w ≡ work_files effect (files_of v)) v) old mid now (λ w r. inl (recovers, r)) (λ w is. inr (is ∙ work)) first same)
@@ -219,7 +223,7 @@ no_fault_to_recover : (effect : Effect) (files : Files) (P : Type 0) → recover
 no_fault_to_recover effect files P none some = absurd (false≢true (sym (ap (λ (o : Option Cause). is_some o) none) ∙ some))
 
 pub whole_behind : AreLaws → (A B : Outcome → Type 0) (effect : Effect) (output : Option (List ℕ)) (judged : Judged) (v u : TreeState) (rest more now : History)
-    → does_recover effect ≡ true → effect ≡ Makes → recovery_fault effect (files_of v) ≡ None → files_of u ≡ work_files effect (files_of v) → u.names intent_name ≡ None → ((o : Outcome) → A o → B o) → ((o : Outcome) → B o → A o)
+    → does_recover effect ≡ true → MakesOutput effect output → recovery_fault effect (files_of v) ≡ None → files_of u ≡ work_files effect (files_of v) → u.names intent_name ≡ None → ((o : Outcome) → A o → B o) → ((o : Outcome) → B o → A o)
     → IsRecovered v (v ∷ rest) (u ∷ more) → IsRun A output judged u (u ∷ more) now → StaysWithout (u ∷ more) now judged → IsWholeRun B effect output judged v (v ∷ rest) now
 whole_behind laws A B effect output judged v u rest more now recovers makes good work none into from recovered run memory =
     let calm = recovered.recovery.calm in

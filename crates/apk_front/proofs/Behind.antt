@@ -1,4 +1,4 @@
--- A command that makes a file, behind a recovery: its outcomes.
+-- A command behind a recovery: its outcomes.
 use Rattle.std.proofs.Common.{◌≡◌, ◌⊎◌, inl, inr, ℕ, Bool, true, false, List, [], ◌∷◌, Option, Some, None, IsSome, Ok, Err, refl, sym, ap, subst, ◌∙◌}
 use Rattle.std.specs.Prelude.{IfOk, OnOk}
 use Rattle.std.proofs.lemmas.Bool.{false≢true}
@@ -10,15 +10,13 @@ use Rattle.base_core.specs.Files.{Files, no_names}
 use Rattle.base_core.specs.Tree.{TreeState, files_of}
 use Rattle.base_core.specs.declared.cause.Cause.{Cause}
 use Rattle.command_core.specs.Command.{CommandLine}
-use Rattle.command_core.specs.declared.command.Applet.{Applet}
-use Rattle.command_core.specs.declared.command.Applet.TheVariants.{Mkndx, Mkpkg}
 use Rattle.journal_core.specs.Kept.{IsLessWaiting}
 use Rattle.journal_core.specs.Recovery.{IsSettled, RestsOn, intent_at, intent_name, intent_of, intent_unless, read_intent}
 use Rattle.journal_core.specs.Staged.{HasRoomToReplay, IsEmptyStage, IsIntentFault, unstaged_files}
 use Rattle.journal_core.specs.declared.recovering.RecoverFault.{RecoverFault}
 use Rattle.journal_core.specs.declared.recovering.RecoverFault.TheVariants.{IntentBad as BadIntent}
 use Rattle.outcome.specs.Commands.{IsFoundOutcomeOf, IsFoundOver, IsOutcomeOf, IsOutcomeOver, IsOutcomeUnless}
-use Rattle.outcome.specs.Effect.{Effect, Computes, Reads, Tells, Makes, Changes, does_only_read, does_recover, effect_of}
+use Rattle.outcome.specs.Effect.{Effect, Computes, Reads, Tells, Makes, Changes, does_recover, effect_of, output_if}
 use Rattle.outcome.specs.Outcome.{Outcome, just_refusal}
 use Rattle.outcome.specs.Work.{fault_of_intent, recovery_fault, work_files}
 use Rattle.report_core.specs.declared.refusal.Refusal.TheVariants.{IntentBad}
@@ -26,33 +24,19 @@ use Rattle.apk_front.specs.Moments.{HasRoomFor, HasRoomToWrite, LeavesRoomFor}
 use Rattle.apk_front.specs.Runs.{IsRun, IsWholeRun}
 use Rattle.apk_front.specs.Verdicts.{ReportsOne, as_outcome}
 use Rattle.apk_front.specs.declared.answer.Verdict.{Verdict}
-use Rattle.apk_front.proofs.Carried.{Ones, RoomFor, Wholes, only_reads_unless}
-use Rattle.apk_front.proofs.AfterRecovery.{AreLaws, IsCalm, IsRecovery, LastsUnread, LeavesAll, RecoversAs, StaysWithout, whole_behind, whole_failed, whole_idle}
+use Rattle.apk_front.proofs.Carried.{Ones, RoomFor, Wholes}
+use Rattle.apk_front.proofs.AfterRecovery.{AreLaws, IsCalm, IsRecovery, LastsUnread, LeavesAll, MakesOutput, RecoversAs, StaysWithout, whole_behind, whole_failed, whole_idle}
 use Rattle.apk_front.proofs.Runs.{History, Judged, Leaves, none_is_some}
 
 -- ---- a command that recovers
 
-pub recovers : (applet : Applet) → (applet ≡ Mkpkg) ⊎ (applet ≡ Mkndx) → does_recover (effect_of applet) ≡ true
-recovers applet (inl is) = ap (λ (a : Applet). does_recover (effect_of a)) is
-recovers applet (inr is) = ap (λ (a : Applet). does_recover (effect_of a)) is
-
-reads_not : (effect : Effect) → does_only_read effect ≡ true → does_recover effect ≡ false
-reads_not Computes reads = refl
-reads_not Reads reads = refl
-reads_not Tells reads = cc
-reads_not Makes reads = cc
-reads_not Changes reads = cc
-
--- no other applet recovers
-pub no_other : (applet own : Applet) → applet ≡ own → does_recover (effect_of own) ≡ true → (applet ≡ Mkpkg → ⊥) → (applet ≡ Mkndx → ⊥) → ⊥
-no_other applet own same recovering p i =
-    false≢true (sym (reads_not (effect_of applet) (only_reads_unless applet p i)) ∙ ap (λ (a : Applet). does_recover (effect_of a)) same ∙ recovering)
-
--- a command that recovers makes a file
-recovers_makes : (applet : Applet) → does_recover (effect_of applet) ≡ true → effect_of applet ≡ Makes
-recovers_makes Mkpkg recovering = refl
-recovers_makes Mkndx recovering = refl
-recovers_makes other recovering = cc
+-- only a command that makes a file has an output
+pub outputs_make : (effect : Effect) (command : CommandLine) → MakesOutput effect (output_if effect command)
+outputs_make Computes command name is = cc
+outputs_make Reads command name is = cc
+outputs_make Tells command name is = cc
+outputs_make Makes command name is = refl
+outputs_make Changes command name is = cc
 
 work_is : (effect : Effect) (files : Files) → does_recover effect ≡ true → work_files effect files ≡ unstaged_files files
 work_is Computes files recovering = cc
@@ -140,30 +124,31 @@ Settled mid v = (ignored : List ℕ → Bool) → IsOrderly (RestsOn ignored) v 
 abbrev pub Idle : History → History → TreeState → Type 0
 Idle old mid v = v.names intent_name ≡ None → IsEmptyStage v.names → mid ≡ old
 
-pub behind_run : AreLaws → (command : CommandLine) (output : Option (List ℕ)) (judged : Judged) (old mid now : History) → does_recover (effect_of command.applet) ≡ true
+pub behind_run : AreLaws → (command : CommandLine) (output : Option (List ℕ)) (judged : Judged) (old mid now : History) → does_recover (effect_of command.applet) ≡ true → MakesOutput (effect_of command.applet) output
     → IfObservable old (λ v. IsRecovery v old mid) → IfObservable old IsGood → IfObservable old (λ v. HasNow mid (LeavesUnstaged v)) → IfObservable old (Settled mid)
     → IfObservable mid (λ u. IsRun (Ones command u) output judged u mid now) → StaysWithout mid now judged
     → IfObservable old (λ v. IsWholeRun (Wholes command v) (effect_of command.applet) output judged v old now)
-behind_run laws command output judged [] mid now recovering recovery good left settled run memory = tt
-behind_run laws command output judged (v ∷ rest) [] now recovering recovery good left settled run memory = absurd left
-behind_run laws command output judged (v ∷ rest) (u ∷ more) now recovering recovery good left settled run memory =
-    whole_behind laws (Ones command u) (Wholes command v) (effect_of command.applet) output judged v u rest more now recovering (recovers_makes command.applet recovering)
+behind_run laws command output judged [] mid now recovering makes recovery good left settled run memory = tt
+behind_run laws command output judged (v ∷ rest) [] now recovering makes recovery good left settled run memory = absurd left
+behind_run laws command output judged (v ∷ rest) (u ∷ more) now recovering makes recovery good left settled run memory =
+    whole_behind laws (Ones command u) (Wholes command v) (effect_of command.applet) output judged v u rest more now recovering makes
     (good_is (effect_of command.applet) (files_of v) recovering good) (left.0 ∙ sym (work_is (effect_of command.applet) (files_of v) recovering)) left.1
     (λ o one. into command v u o recovering good left one) (λ o one. from command v u o recovering good left one) (record { recovery = recovery; files = left; settled = settled }) run memory
 
-room_is : (effect : Effect) (output : Option (List ℕ)) (files : Files) → effect ≡ Makes → HasRoomToWrite effect output files → HasRoomFor output files
-room_is effect output files makes room = subst (λ (e : Effect). HasRoomToWrite e output files) makes room
+room_is : (effect : Effect) (output : Option (List ℕ)) (files : Files) → MakesOutput effect output → HasRoomToWrite effect output files → HasRoomFor output files
+room_is effect None files makes room = tt
+room_is effect (Some name) files makes room = subst (λ (e : Effect). HasRoomToWrite e (Some name) files) (makes name refl) room
 
-pub behind_proper : (command : CommandLine) (output : Option (List ℕ)) (old mid : History) (first second last : ℕ) → does_recover (effect_of command.applet) ≡ true → IfObservable old IsGood → IfObservable old (λ v. HasNow mid (LeavesUnstaged v))
+pub behind_proper : (command : CommandLine) (output : Option (List ℕ)) (old mid : History) (first second last : ℕ) → does_recover (effect_of command.applet) ≡ true → MakesOutput (effect_of command.applet) output → IfObservable old IsGood → IfObservable old (λ v. HasNow mid (LeavesUnstaged v))
     → IfObservable old (λ v. HasRoomToReplay (files_of v) → second ≡ first) → IfObservable mid (λ u. RoomFor (Ones command u) output (files_of u) → last ≡ second)
     → IfObservable old (λ v. LeavesRoomFor (effect_of command.applet) output (Wholes command v) (files_of v) → last ≡ first)
-behind_proper command output [] mid first second last recovering good left before after = tt
-behind_proper command output (v ∷ rest) [] first second last recovering good left before after = absurd left
-behind_proper command output (v ∷ rest) (u ∷ more) first second last recovering good left before after = λ room.
+behind_proper command output [] mid first second last recovering makes good left before after = tt
+behind_proper command output (v ∷ rest) [] first second last recovering makes good left before after = absurd left
+behind_proper command output (v ∷ rest) (u ∷ more) first second last recovering makes good left before after = λ room.
     after
     (λ o one commits.
     subst (HasRoomFor output) (sym (left.0 ∙ sym (work_is (effect_of command.applet) (files_of v) recovering)))
-    (room_is (effect_of command.applet) output (work_files (effect_of command.applet) (files_of v)) (recovers_makes command.applet recovering) (room.1 o (into command v u o recovering good left one) commits)))
+    (room_is (effect_of command.applet) output (work_files (effect_of command.applet) (files_of v)) makes (room.1 o (into command v u o recovering good left one) commits)))
     ∙ before (room.0 recovering)
 
 -- ---- it did not

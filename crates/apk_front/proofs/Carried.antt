@@ -21,7 +21,7 @@ use Rattle.make_index.specs.Files.{AreFiles}
 use Rattle.make_info.specs.Reads.{Reads}
 use Rattle.outcome.specs.Dump.{adbdump, dump_outcome, text_outcome, dump_of}
 use Rattle.outcome.specs.Make.{mkndx, mkpkg}
-use Rattle.outcome.specs.Commands.{IsFoundOutcomeOf, IsFoundOver, MayBeListedFor, IsListingFor, IsOutcome, IsOutcomeOf, IsOutcomeOver, reads_in, applet_outcome, command_outcome}
+use Rattle.outcome.specs.Commands.{IsChosenFor, IsFoundOutcomeOf, IsFoundOver, MayBeListedFor, IsListingFor, IsOutcome, IsOutcomeOf, IsOutcomeOver, reads_in, applet_outcome, command_outcome}
 use Rattle.outcome.specs.Effect.{Effect, does_only_read, does_recover, effect_by, effect_of, output, output_by, output_if, reads_only}
 use Rattle.outcome.specs.Work.{recovery_fault}
 use Rattle.outcome.specs.Outcome.{Outcome, just_refusal, just_report, outcome_of, report_unless}
@@ -36,7 +36,7 @@ use Rattle.words_core.specs.Grammar.{command_of}
 use Rattle.words_core.specs.declared.read.WordsFault.{WordsFault}
 use Rattle.words_core.specs.declared.read.WordsFault.TheVariants.{Usage as WrongWord}
 use Rattle.command_core.specs.declared.command.Applet.{Applet}
-use Rattle.command_core.specs.declared.command.Applet.TheVariants.{Adbdump, Mkndx, Mkpkg, Verify, Version}
+use Rattle.command_core.specs.declared.command.Applet.TheVariants.{Adbdump, Add, Mkndx, Mkpkg, Verify, Version}
 use Rattle.command_core.specs.declared.operands.Operand.{Operand}
 use Rattle.apk_front.specs.Answers.{answer_by}
 use Rattle.apk_front.specs.Moments.{AnswersOutcome, AreReadOnTheWay, AreSafe, CommitsNothing, HasNothingToRecover, HasRoomFor, HidesScratchOf, IsAtRest, IsLeftUndone, LeavesAtRest, LeavesLasting, LeavesRoom, LeavesRoomFor, LeavesSettled, Settles, StagesNothing, UnreadNamesLast, ignored_but}
@@ -46,7 +46,7 @@ use Rattle.apk_front.specs.Verdicts.{IsPrinted, IsShown, Reports, ReportsOne, as
 use Rattle.apk_front.specs.declared.answer.Answer.{Answer}
 use Rattle.apk_front.specs.declared.answer.Answer.TheVariants.{Ok as Done, Refused, TreeFault as TreeFailed, OutFault, Memory}
 use Rattle.apk_front.specs.declared.answer.Verdict.{Verdict}
-use Rattle.apk_front.proofs.Judged.{Runs, found_at, no_listing, no_listing_by_some, of_over, over_of, reads_without}
+use Rattle.apk_front.proofs.Judged.{Runs, found_at, no_choice, no_listing, no_listing_by_some, of_over, over_of, reads_without}
 use Rattle.apk_front.proofs.AfterRecovery.{LeavesAll, whole_idle}
 use Rattle.apk_front.proofs.Runs.{History, Judged, Leaves, ok_always, run_among}
 
@@ -68,17 +68,18 @@ dump_leaves : (files : Files) (os : List Operand) → Leaves files (adbdump (rea
 dump_leaves files [] = (refl, refl)
 dump_leaves files (o ∷ os) = found_leaves files o.place (files (without_dot o.text))
 
-look_leaves : (applet : Applet) (command : CommandLine) (names : List (List ℕ)) (files : Files) → does_only_read (effect_of applet) ≡ true → Leaves files (applet_outcome applet command names (reads_in files) files)
-look_leaves Verify command names files reads = unless_leaves files (verify_refusal (reads_in files) 0 command.operands) (sound_lines command.operands)
-look_leaves Version command names files reads =
+look_leaves : (applet : Applet) (command : CommandLine) (names : List (List ℕ)) (chosen : Option (List ℕ)) (files : Files) → does_only_read (effect_of applet) ≡ true → Leaves files (applet_outcome applet command names chosen (reads_in files) files)
+look_leaves Verify command names chosen files reads = unless_leaves files (verify_refusal (reads_in files) 0 command.operands) (sound_lines command.operands)
+look_leaves Version command names chosen files reads =
     elim command.flags.test as (λ b. Leaves files (if b then report_unless files (version_refusal command.operands) (order_report command.operands) else outcome_of (version_refusal command.operands) (invalid_lines command.operands) files)) [
       | true ↦ unless_leaves files (version_refusal command.operands) (order_report command.operands)
       | false ↦ (refl, refl)
     ]
-look_leaves Adbdump command names files reads = dump_leaves files command.operands
-look_leaves Mkpkg command names files reads = cc
-look_leaves Mkndx command names files reads = cc
-look_leaves other command names files reads = (refl, refl)
+look_leaves Adbdump command names chosen files reads = dump_leaves files command.operands
+look_leaves Mkpkg command names chosen files reads = cc
+look_leaves Mkndx command names chosen files reads = cc
+look_leaves Add command names chosen files reads = cc
+look_leaves other command names chosen files reads = (refl, refl)
 
 abbrev pub Ones : CommandLine → TreeState → Outcome → Type 0
 Ones command v = IsOutcomeOver command (files_of v)
@@ -87,16 +88,16 @@ Ones command v = IsOutcomeOver command (files_of v)
 abbrev pub Wholes : CommandLine → TreeState → Outcome → Type 0
 Wholes command v = IsOutcomeOf (Ok command) (files_of v)
 
-pub look_found : (command : CommandLine) (old : History) (judged : Judged) → does_only_read (effect_of command.applet) ≡ true → IfOk judged (λ verdict. IfObservable old (λ v. as_outcome (files_of v) verdict ≡ command_outcome command [] (reads_in (files_of v)) (files_of v)))
+pub look_found : (command : CommandLine) (old : History) (judged : Judged) → does_only_read (effect_of command.applet) ≡ true → IfOk judged (λ verdict. IfObservable old (λ v. as_outcome (files_of v) verdict ≡ command_outcome command [] None (reads_in (files_of v)) (files_of v)))
     → IfOk judged (λ verdict. IfObservable old (λ v. ReportsOne (Wholes command v) verdict))
 look_found command old (Err e) reads found = tt
 look_found command [] (Ok verdict) reads found = tt
 look_found command (v ∷ rest) (Ok verdict) reads found =
-    (as_outcome (files_of v) verdict, of_over command (files_of v) (as_outcome (files_of v) verdict) (reads_without (effect_of command.applet) reads) ([], no_listing command.applet command (files_of v) reads, found), refl)
+    (as_outcome (files_of v) verdict, of_over command (files_of v) (as_outcome (files_of v) verdict) (reads_without (effect_of command.applet) reads) ([], no_listing command.applet command (files_of v) reads, None, no_choice command.applet command (reads_in (files_of v)) reads, found), refl)
 
-pub look_read : (command : CommandLine) (judged : Judged) → does_only_read (effect_of command.applet) ≡ true → IfOk judged (λ verdict. (read : Reads) × (as_outcome no_names verdict ≡ command_outcome command [] read no_names)) → IfOk judged (ReportsOne (IsFoundOutcomeOf (Ok command)))
+pub look_read : (command : CommandLine) (judged : Judged) → does_only_read (effect_of command.applet) ≡ true → IfOk judged (λ verdict. (read : Reads) × (as_outcome no_names verdict ≡ command_outcome command [] None read no_names)) → IfOk judged (ReportsOne (IsFoundOutcomeOf (Ok command)))
 look_read command (Err e) reads found = tt
-look_read command (Ok verdict) reads (read, is) = (as_outcome no_names verdict, inl ([], no_listing_by_some command.applet command reads, read, is), refl)
+look_read command (Ok verdict) reads (read, is) = (as_outcome no_names verdict, inl ([], no_listing_by_some command.applet command reads, read, None, no_choice command.applet command read reads, is), refl)
 
 pub look_run : (command : CommandLine) (old now : History) (judged : Judged) → does_only_read (effect_of command.applet) ≡ true → now ≡ old
     → IfObservable old (λ v. IsWholeRun (Wholes command v) (effect_of command.applet) (output_if (effect_of command.applet) command) judged v old now)
@@ -107,24 +108,24 @@ look_run command (v ∷ rest) now judged reads same =
     (λ o one.
     let is = over_of command (files_of v) o none one in
     ok_always (LeavesAll (effect_of command.applet) v o) judged
-    (subst (Leaves (files_of v)) (sym is.2) (look_leaves command.applet command is.0 (files_of v) reads), λ can. false≢true (sym none ∙ can.0)))
+    (subst (Leaves (files_of v)) (sym is.4) (look_leaves command.applet command is.0 is.2 (files_of v) reads), λ can. false≢true (sym none ∙ can.0)))
 
 -- ---- an applet that makes
 
 package_one : (command : CommandLine) (files : Files) (o : Outcome) → Mkpkg ≡ command.applet → IsPackageOutcome command files o → IsOutcomeOver command files o
 package_one command files o same (names, listed, is) =
-    (names, subst (λ (a : Applet). IsListingFor a command files names) same listed, is ∙ ap (λ (a : Applet). applet_outcome a command names (reads_in files) files) same)
+    (names, subst (λ (a : Applet). IsListingFor a command files names) same listed, None, subst (λ (a : Applet). IsChosenFor a command (reads_in files) None) same refl, is ∙ ap (λ (a : Applet). applet_outcome a command names None (reads_in files) files) same)
 
 one_package : (command : CommandLine) (files : Files) (o : Outcome) → Mkpkg ≡ command.applet → IsOutcomeOver command files o → IsPackageOutcome command files o
-one_package command files o same (names, listed, is) =
-    (names, subst (λ (a : Applet). IsListingFor a command files names) (sym same) listed, is ∙ ap (λ (a : Applet). applet_outcome a command names (reads_in files) files) (sym same))
+one_package command files o same (names, listed, chosen, choice, is) =
+    (names, subst (λ (a : Applet). IsListingFor a command files names) (sym same) listed, is ∙ ap (λ (a : Applet). applet_outcome a command names chosen (reads_in files) files) (sym same))
 
 index_one : (command : CommandLine) (files : Files) (o : Outcome) → Mkndx ≡ command.applet → IsIndexOutcome command files o → IsOutcomeOver command files o
 index_one command files o same is =
-    ([], subst (λ (a : Applet). IsListingFor a command files []) same refl, is ∙ ap (λ (a : Applet). applet_outcome a command [] (reads_in files) files) same)
+    ([], subst (λ (a : Applet). IsListingFor a command files []) same refl, None, subst (λ (a : Applet). IsChosenFor a command (reads_in files) None) same refl, is ∙ ap (λ (a : Applet). applet_outcome a command [] None (reads_in files) files) same)
 
 one_index : (command : CommandLine) (files : Files) (o : Outcome) → Mkndx ≡ command.applet → IsOutcomeOver command files o → IsIndexOutcome command files o
-one_index command files o same (names, listed, is) = is ∙ ap (λ (a : Applet). applet_outcome a command names (reads_in files) files) (sym same)
+one_index command files o same (names, listed, chosen, choice, is) = is ∙ ap (λ (a : Applet). applet_outcome a command names chosen (reads_in files) files) (sym same)
 
 reports_among : (A B : TreeState → Outcome → Type 0) (old : History) (judged : Judged) → ((v : TreeState) (o : Outcome) → A v o → B v o) → IfOk judged (λ verdict. IfObservable old (λ v. ReportsOne (A v) verdict))
     → IfOk judged (λ verdict. IfObservable old (λ v. ReportsOne (B v) verdict))
@@ -144,13 +145,13 @@ pub package_read_one : (command : CommandLine) (judged : Judged) → Mkpkg ≡ c
     → IfOk judged (ReportsOne (IsFoundOver command))
 package_read_one command (Err e) same found = tt
 package_read_one command (Ok verdict) same (names, named, read, reports) =
-    (mkpkg read no_names command names, (names, subst (λ (a : Applet). MayBeListedFor a command names) same named, read, ap (λ (a : Applet). applet_outcome a command names read no_names) same), reports)
+    (mkpkg read no_names command names, (names, subst (λ (a : Applet). MayBeListedFor a command names) same named, read, None, subst (λ (a : Applet). IsChosenFor a command read None) same refl, ap (λ (a : Applet). applet_outcome a command names None read no_names) same), reports)
 
 pub index_read_one : (command : CommandLine) (judged : Judged) → Mkndx ≡ command.applet → IfOk judged (λ verdict. (read : Reads) × AreFiles read 0 command.operands × Reports verdict (mkndx read no_names command))
     → IfOk judged (ReportsOne (IsFoundOver command))
 index_read_one command (Err e) same found = tt
 index_read_one command (Ok verdict) same (read, files, reports) =
-    (mkndx read no_names command, ([], subst (λ (a : Applet). MayBeListedFor a command []) same refl, read, ap (λ (a : Applet). applet_outcome a command [] read no_names) same), reports)
+    (mkndx read no_names command, ([], subst (λ (a : Applet). MayBeListedFor a command []) same refl, read, None, subst (λ (a : Applet). IsChosenFor a command read None) same refl, ap (λ (a : Applet). applet_outcome a command [] None read no_names) same), reports)
 
 runs_among : (A B : TreeState → Outcome → Type 0) (out : Option (List ℕ)) (judged : Judged) (old now : History) → ((v : TreeState) (o : Outcome) → A v o → B v o) → ((v : TreeState) (o : Outcome) → B v o → A v o)
     → IfObservable old (λ v. IsRun (A v) out judged v old now) → IfObservable old (λ v. IsRun (B v) out judged v old now)
@@ -348,43 +349,45 @@ pub usage_reported : (words : List (List ℕ)) (old : History) (verdict : Verdic
 usage_reported words [] verdict is = tt
 usage_reported words (v ∷ rest) verdict is = (as_outcome (files_of v) verdict, is v, refl)
 
--- an applet that does not make only reads
-pub only_reads_unless : (applet : Applet) → (applet ≡ Mkpkg → ⊥) → (applet ≡ Mkndx → ⊥) → does_only_read (effect_of applet) ≡ true
-only_reads_unless Mkpkg p i = absurd (p refl)
-only_reads_unless Mkndx p i = absurd (i refl)
-only_reads_unless other p i = refl
+-- an applet that does not write only reads
+pub only_reads_unless : (applet : Applet) → (applet ≡ Mkpkg → ⊥) → (applet ≡ Mkndx → ⊥) → (applet ≡ Add → ⊥) → does_only_read (effect_of applet) ≡ true
+only_reads_unless Mkpkg p i a = absurd (p refl)
+only_reads_unless Mkndx p i a = absurd (i refl)
+only_reads_unless Add p i a = absurd (a refl)
+only_reads_unless other p i a = refl
 
-pub reads_one : (command : CommandLine) (applet : Applet) → applet ≡ command.applet → (applet ≡ Mkpkg → ⊥) → (applet ≡ Mkndx → ⊥) → does_only_read (effect_of command.applet) ≡ true
-reads_one command applet same p i = subst (λ (a : Applet). does_only_read (effect_of a) ≡ true) same (only_reads_unless applet p i)
+pub reads_one : (command : CommandLine) (applet : Applet) → applet ≡ command.applet → (applet ≡ Mkpkg → ⊥) → (applet ≡ Mkndx → ⊥) → (applet ≡ Add → ⊥) → does_only_read (effect_of command.applet) ≡ true
+reads_one command applet same p i n = subst (λ (a : Applet). does_only_read (effect_of a) ≡ true) same (only_reads_unless applet p i n)
 
 -- ---- an applet that no word names yet
 
 nothing_of : (applet : Applet) (command : CommandLine) → (applet ≡ Verify → ⊥) → (applet ≡ Version → ⊥) → (applet ≡ Adbdump → ⊥) → does_only_read (effect_of applet) ≡ true
-    → (read : Reads) (files : Files) → applet_outcome applet command [] read files ≡ just_report files []
+    → (read : Reads) (files : Files) → applet_outcome applet command [] None read files ≡ just_report files []
 nothing_of Verify command v n d reads read files = absurd (v refl)
 nothing_of Version command v n d reads read files = absurd (n refl)
 nothing_of Adbdump command v n d reads read files = absurd (d refl)
 nothing_of Mkpkg command v n d reads read files = cc
 nothing_of Mkndx command v n d reads read files = cc
+nothing_of Add command v n d reads read files = cc
 nothing_of other command v n d reads read files = refl
 
 -- the outcome of a command is empty
 abbrev pub IsNothing : CommandLine → Type 0
-IsNothing command = (read : Reads) (files : Files) → command_outcome command [] read files ≡ just_report files []
+IsNothing command = (read : Reads) (files : Files) → command_outcome command [] None read files ≡ just_report files []
 
 pub is_nothing : (command : CommandLine) (applet : Applet) → applet ≡ command.applet → (applet ≡ Verify → ⊥) → (applet ≡ Version → ⊥) → (applet ≡ Adbdump → ⊥) → does_only_read (effect_of command.applet) ≡ true → IsNothing command
 is_nothing command applet same v n d reads =
     nothing_of command.applet command (λ is. v (same ∙ is)) (λ is. n (same ∙ is)) (λ is. d (same ∙ is)) reads
 
 pub nothing_found : (old : History) (command : CommandLine) (verdict : Verdict) → IsNothing command → ((files : Files) → as_outcome files verdict ≡ just_report files [])
-    → IfObservable old (λ v. as_outcome (files_of v) verdict ≡ command_outcome command [] (reads_in (files_of v)) (files_of v))
+    → IfObservable old (λ v. as_outcome (files_of v) verdict ≡ command_outcome command [] None (reads_in (files_of v)) (files_of v))
 nothing_found [] command verdict nothing is = tt
 nothing_found (v ∷ old) command verdict nothing is = is (files_of v) ∙ sym (nothing (reads_in (files_of v)) (files_of v))
 
-pub nothing_read : (command : CommandLine) (verdict : Verdict) → IsNothing command → ((files : Files) → as_outcome files verdict ≡ just_report files []) → (read : Reads) × (as_outcome no_names verdict ≡ command_outcome command [] read no_names)
+pub nothing_read : (command : CommandLine) (verdict : Verdict) → IsNothing command → ((files : Files) → as_outcome files verdict ≡ just_report files []) → (read : Reads) × (as_outcome no_names verdict ≡ command_outcome command [] None read no_names)
 nothing_read command verdict nothing is = (λ k name. None, is no_names ∙ sym (nothing (λ k name. None) no_names))
 
-pub nothing_by_words : (command : CommandLine) (verdict : Verdict) → IsNothing command → ((files : Files) → as_outcome files verdict ≡ just_report files []) → (files : Files) → as_outcome files verdict ≡ command_outcome command [] (reads_in files) files
+pub nothing_by_words : (command : CommandLine) (verdict : Verdict) → IsNothing command → ((files : Files) → as_outcome files verdict ≡ just_report files []) → (files : Files) → as_outcome files verdict ≡ command_outcome command [] None (reads_in files) files
 nothing_by_words command verdict nothing is files = is files ∙ sym (nothing (reads_in files) files)
 
 -- ---- what is said of every run

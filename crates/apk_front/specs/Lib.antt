@@ -6,4 +6,5 @@ pub mod Status
 pub mod Verdicts
 pub mod Runs
 pub mod Containers
+pub mod Added
 pub mod Effects

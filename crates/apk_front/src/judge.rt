@@ -1,5 +1,5 @@
 //! A command line is judged: its words are read, and its applet is run.
-ghost use Rattle.std.specs.Prelude.{◌≡◌, [], Ok, IfOk, IsErrOf, IsTrue, MatchResult, OnOk};
+ghost use Rattle.std.specs.Prelude.{◌≡◌, [], None, Ok, IfOk, IsErrOf, IsTrue, MatchResult, OnOk};
 ghost use Rattle.apk_front.specs.Answers.{name_an_applet};
 ghost use Rattle.apk_front.specs.Moments.{LeavesRoom, LeavesRoomFor};
 ghost use Rattle.apk_front.specs.Runs.{IsWholeRun};
@@ -16,7 +16,7 @@ ghost use Rattle.words_core.specs.Grammar.{command_of};
 
 use crate::answer::Verdict;
 use crate::dump::adbdump;
-use crate::recovered::make;
+use crate::recovered::recover_and_run;
 use crate::verify::verify;
 use crate::version::version;
 use base_core::{Tree, TreeFault, Words};
@@ -72,7 +72,7 @@ fn run<T: Tree>(alloc: Global, command: &Command, tree: &mut T) -> Result<Verdic
     ensures by_words { IsTrue (does_rest_on_words (effect_of command.now.applet))
         → MatchResult result
         (λ verdict. (files : Files)
-        → as_outcome files verdict ≡ command_outcome command.now [] (reads_in files) files)
+        → as_outcome files verdict ≡ command_outcome command.now [] None (reads_in files) files)
         (λ fault. fault ≡ TreeFault.Memory) }
     ensures untouched { IsTrue (does_rest_on_words (effect_of command.now.applet))
         → tree.new ≡ tree.old }
@@ -95,7 +95,7 @@ fn run<T: Tree>(alloc: Global, command: &Command, tree: &mut T) -> Result<Verdic
         → (T.counts tree.new).misuses ≡ (T.counts tree.old).misuses) }
 {
     match command.applet() {
-        Applet::Mkpkg | Applet::Mkndx => make(alloc, command, tree),
+        Applet::Mkpkg | Applet::Mkndx | Applet::Add => recover_and_run(alloc, command, tree),
         _ => look(alloc, command, tree),
     }
 }
@@ -106,13 +106,13 @@ fn look<T: Tree>(alloc: Global, command: &Command, tree: &mut T) -> Result<Verdi
     requires { IsTrue (does_only_read (effect_of command.now.applet)) }
     ensures found { IfOk result (λ verdict. IfObservable (T.history tree.old) (λ v.
         as_outcome (files_of v) verdict
-        ≡ command_outcome command.now [] (reads_in (files_of v)) (files_of v))) }
+        ≡ command_outcome command.now [] None (reads_in (files_of v)) (files_of v))) }
     ensures by_reads { IfOk result (λ verdict. (read : Reads)
-        × (as_outcome no_names verdict ≡ command_outcome command.now [] read no_names)) }
+        × (as_outcome no_names verdict ≡ command_outcome command.now [] None read no_names)) }
     ensures by_words { IsTrue (does_rest_on_words (effect_of command.now.applet))
         → MatchResult result
         (λ verdict. (files : Files)
-        → as_outcome files verdict ≡ command_outcome command.now [] (reads_in files) files)
+        → as_outcome files verdict ≡ command_outcome command.now [] None (reads_in files) files)
         (λ fault. fault ≡ TreeFault.Memory) }
     ensures untouched { IsTrue (does_rest_on_words (effect_of command.now.applet))
         → tree.new ≡ tree.old }

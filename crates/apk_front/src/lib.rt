@@ -8,6 +8,7 @@
 //! (what a run does to the tree).
 #![tactic(auto)]
 
+mod add;
 mod answer;
 mod dump;
 mod effect;

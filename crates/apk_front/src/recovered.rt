@@ -1,4 +1,4 @@
-//! A command that makes a file: what an intent has still to do is done first.
+//! A command that recovers: what an intent has still to do is done first.
 ghost use Rattle.std.specs.Prelude.{◌≡◌, true, None, Ok, IfOk, IsErrOf, IsSome, OnOk};
 ghost use Rattle.apk_front.specs.Moments.{HasRoomFor, LeavesRoomFor};
 ghost use Rattle.apk_front.specs.Runs.{IsRun, IsWholeRun};
@@ -13,6 +13,7 @@ ghost use Rattle.outcome.specs.Effect.{does_recover, effect_of, output_if};
 ghost use Rattle.outcome.specs.Outcome.{Outcome, just_refusal};
 ghost use Rattle.report_core.specs.declared.refusal.Refusal.TheVariants.{IntentBad};
 
+use crate::add::add;
 use crate::answer::Verdict;
 use crate::make::{mkndx, mkpkg};
 use base_core::{Tree, TreeFault, counts_of_calls_in_a_row_join};
@@ -24,8 +25,8 @@ use journal_core::{
 use report_core::Refusal;
 use std::alloc::Global;
 
-/// Recovers the tree, and makes a file of what is then there.
-pub(crate) fn make<T: Tree>(
+/// Recovers the tree, and runs a command over what is then there.
+pub(crate) fn recover_and_run<T: Tree>(
     alloc: Global,
     command: &Command,
     tree: &mut T,
@@ -57,13 +58,17 @@ pub(crate) fn make<T: Tree>(
     quiet_then_old_or_new_is_old_or_new();
     moments_on_the_way_join();
     match recover(alloc, tree) {
-        Ok(()) => make_one(alloc, command, tree),
+        Ok(()) => run_recovered(alloc, command, tree),
         Err(fault) => refuse_to_recover(alloc, fault),
     }
 }
 
-// Makes a file of what is there.
-fn make_one<T: Tree>(alloc: Global, command: &Command, tree: &mut T) -> Result<Verdict, TreeFault>
+// Runs a command over what is there.
+fn run_recovered<T: Tree>(
+    alloc: Global,
+    command: &Command,
+    tree: &mut T,
+) -> Result<Verdict, TreeFault>
     requires { does_recover (effect_of command.now.applet) ≡ true }
     ensures found { IfOk result (λ verdict. IfObservable (T.history tree.old) (λ v.
         ReportsOne (IsOutcomeOver command.now (files_of v)) verdict)) }
@@ -88,6 +93,7 @@ fn make_one<T: Tree>(alloc: Global, command: &Command, tree: &mut T) -> Result<V
     match command.applet() {
         Applet::Mkpkg => mkpkg(alloc, command, tree),
         Applet::Mkndx => mkndx(alloc, command, tree),
+        Applet::Add => add(alloc, command, tree),
         _ => unreachable!(),
     }
 }

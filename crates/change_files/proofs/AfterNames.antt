@@ -11,29 +11,29 @@ use Rattle.db_core.specs.Members.{Listing}
 use Rattle.path_clashes.specs.Clash.{is_name_after}
 use Rattle.change_files.specs.FileChange.{FileChange, is_claimed, old_entry, was_listed}
 use Rattle.change_files.specs.FilesAfter.{Records, bytes_after, changed_files, database_name, is_kept, is_removed, is_written, laid_beside, may_stay, path_beside, text_database_name, world_bytes_after, world_name, written_as}
-use Rattle.change_files.specs.NamesAfter.{coming_paths, is_let_go, is_written_name, name_change}
+use Rattle.change_files.specs.NamesAfter.{coming_paths, is_let_go, counts_as_written, name_change}
 use Rattle.change_files.specs.Touched.{is_record_name}
 use Rattle.change_files.proofs.Lists.{any_name}
 use Rattle.change_files.proofs.Owned.{in_coming_paths, is_beside, written_is}
-use Rattle.change_files.proofs.Untouched.{changed_so}
+use Rattle.change_files.proofs.Untouched.{changed_so, is_gone}
 
 -- ---- what counts as written
 
-counted : (change : FileChange) (files : Files) (name : List ℕ) → is_written_name change files name ≡ true → is_name_after (name_change change files) files name ≡ true
-counted change files name written = or_right (is_some (files name) && not (is_let_go change files name)) (is_written_name change files name) written
+counted : (change : FileChange) (files : Files) (name : List ℕ) → counts_as_written change files name ≡ true → is_name_after (name_change change files) files name ≡ true
+counted change files name written = or_right (is_some (files name) && not (is_let_go change files name)) (counts_as_written change files name) written
 
-counts_path : (change : FileChange) (files : Files) (name : List ℕ) → IsIn name (database_name ∷ world_name ∷ coming_paths change.members) → is_written_name change files name ≡ true
-unfolding is_written_name
+counts_path : (change : FileChange) (files : Files) (name : List ℕ) → IsIn name (database_name ∷ world_name ∷ coming_paths change.members) → counts_as_written change files name ≡ true
+unfolding counts_as_written
 counts_path change files name among =
     or_left (list_any (bytes_eq name) (database_name ∷ world_name ∷ coming_paths change.members)) (is_some (option_and_then (laid_beside change files) (path_beside name)))
     (any_name name (database_name ∷ world_name ∷ coming_paths change.members) among)
 
-counts_beside : (change : FileChange) (files : Files) (name : List ℕ) → is_some (option_and_then (laid_beside change files) (path_beside name)) ≡ true → is_written_name change files name ≡ true
-unfolding is_written_name
+counts_beside : (change : FileChange) (files : Files) (name : List ℕ) → is_some (option_and_then (laid_beside change files) (path_beside name)) ≡ true → counts_as_written change files name ≡ true
+unfolding counts_as_written
 counts_beside change files name beside =
     or_right (list_any (bytes_eq name) (database_name ∷ world_name ∷ coming_paths change.members)) (is_some (option_and_then (laid_beside change files) (path_beside name))) beside
 
-counts_written : (change : FileChange) (files : Files) (name : List ℕ) (l : Listing) → written_as change files name ≡ Some l → is_written_name change files name ≡ true
+counts_written : (change : FileChange) (files : Files) (name : List ℕ) (l : Listing) → written_as change files name ≡ Some l → counts_as_written change files name ≡ true
 counts_written change files name l e =
     let written = written_is change files name l e in
     elim written.under [
@@ -64,7 +64,7 @@ let_go_removed change files name goes unwritten =
 still_there : (change : FileChange) (bytes_of : Listing → List ℕ) (files : Files) (name : List ℕ) → is_written change files name ≡ false → is_some (bytes_after bytes_of None (is_removed change files name) (files name)) ≡ true
     → is_name_after (name_change change files) files name ≡ true
 still_there change bytes_of files name unwritten there =
-    or_left (is_some (files name) && not (is_let_go change files name)) (is_written_name change files name) (by_removed (is_removed change files name) refl there)
+    or_left (is_some (files name) && not (is_let_go change files name)) (counts_as_written change files name) (by_removed (is_removed change files name) refl there)
   where
     by_removed : (b : Bool) → is_removed change files name ≡ b → is_some (bytes_after bytes_of None b (files name)) ≡ true → (is_some (files name) && not (is_let_go change files name)) ≡ true
     by_removed true e there = absurd (true≢false (sym there))
@@ -115,3 +115,34 @@ names_after change bytes_of records files name there = by_database (bytes_eq nam
     by_database : (b : Bool) → bytes_eq name database_name ≡ b → is_name_after (name_change change files) files name ≡ true
     by_database true database = counted change files name (counts_path change files name (inl (equal_names name database_name database)))
     by_database false database = by_world (bytes_eq name world_name) refl database
+
+-- ---- what stands, and what is gone
+
+let_go_by : (listed claimed written may : Bool) → ((listed && (not claimed && not written)) && not may) ≡ true
+    → (listed && not (claimed || ((listed && (not claimed && not written)) && may))) ≡ true
+let_go_by false claimed written may e = absurd (true≢false (sym e))
+let_go_by true true written may e = absurd (true≢false (sym e))
+let_go_by true false true may e = absurd (true≢false (sym e))
+let_go_by true false false true e = absurd (true≢false (sym e))
+let_go_by true false false false e = refl
+
+removed_let_go : (change : FileChange) (files : Files) (name : List ℕ) → is_removed change files name ≡ true → is_let_go change files name ≡ true
+unfolding is_let_go is_kept is_removed
+removed_let_go change files name removed =
+    let_go_by (was_listed change name) (is_claimed change name) (is_written change files name) (may_stay change name (files name) (old_entry change name)) removed
+
+pub name_stands : (change : FileChange) (bytes_of : Listing → List ℕ) (records : Records) (files : Files) (name : List ℕ) → is_some (files name) ≡ true → is_let_go change files name ≡ false → is_record_name records name ≡ false
+    → is_some (changed_files change bytes_of records files name) ≡ true
+name_stands change bytes_of records files name there stays other = ap is_some (changed_so change bytes_of records files name other) ∙ by_listing (written_as change files name)
+  where
+    unremoved : is_removed change files name ≡ false
+    unremoved = false_from_ne_true (is_removed change files name) (λ removed. true≢false (sym (removed_let_go change files name removed) ∙ stays))
+
+    by_listing : (o : Option Listing) → is_some (bytes_after bytes_of o (is_removed change files name) (files name)) ≡ true
+    by_listing (Some l) = refl
+    by_listing None = ap (λ (b : Bool). is_some (bytes_after bytes_of None b (files name))) unremoved ∙ there
+
+pub name_goes : (change : FileChange) (bytes_of : Listing → List ℕ) (records : Records) (files : Files) (name : List ℕ) → is_let_go change files name ≡ true → is_written change files name ≡ false → is_record_name records name ≡ false
+    → changed_files change bytes_of records files name ≡ None
+name_goes change bytes_of records files name goes unwritten other =
+    is_gone change bytes_of records files name (let_go_removed change files name goes unwritten) other

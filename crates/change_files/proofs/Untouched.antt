@@ -1,5 +1,5 @@
 -- Names that a change leaves as they are, and what it makes of others.
-use Rattle.std.proofs.Common.{◌≡◌, ◌∙◌, ℕ, Bool, true, false, List, length, Option, Some, None, is_some, refl, ap, sym, true≢false}
+use Rattle.std.proofs.Common.{◌≡◌, ◌⊎◌, inl, inr, ◌∙◌, ℕ, Bool, true, false, List, length, Option, Some, None, is_some, refl, ap, sym, true≢false}
 use Rattle.std.specs.Prelude.{not, ◌&&◌, ◌||◌, if◌then◌else◌, nat_le, option_and_then}
 use Rattle.std.specs.Str.{bytes_eq}
 use Rattle.std.proofs.lemmas.Bool.{and_from, and_left, and_parts, and_right, not_from_false, not_from_true, or_from, or_parts}
@@ -11,7 +11,7 @@ use Rattle.change_files.specs.Fate.{agrees_with_old, aside_name, fate_beside, fa
 use Rattle.change_files.specs.FileChange.{FileChange, coming_owner, is_claimed, old_entry, owner_listing, was_listed}
 use Rattle.change_files.specs.FilesAfter.{Records, bytes_after, changed_files, database_name, if_in, is_changed, is_kept, is_left_over, is_removed, is_written, laid_beside, may_stay, path_beside, text_database_name, world_bytes_after, world_name, written_as, written_in}
 use Rattle.change_files.specs.NamesAfter.{coming_paths}
-use Rattle.change_files.specs.Touched.{IsUsersFile, is_as_new, is_aside_name, is_coming_path, is_record_name}
+use Rattle.change_files.specs.Touched.{IsUsersFile, is_aside_name, is_coming_path, is_record_name}
 use Rattle.change_files.proofs.Lists.{any_name}
 use Rattle.change_files.proofs.Owned.{beside_is, claimed_by_owner, coming_is, in_coming_paths, nobody_beside, not_written, owner_is, owner_stays}
 
@@ -45,6 +45,10 @@ claimed_not_left change files path claimed =
 removed_left : (change : FileChange) (files : Files) (path : List ℕ) → is_left_over change files path ≡ false → is_removed change files path ≡ false
 unfolding is_removed
 removed_left change files path e = and_left (is_left_over change files path) (not (may_stay change path (files path) (old_entry change path))) e
+
+never_listed : (change : FileChange) (files : Files) (name : List ℕ) → was_listed change name ≡ false → is_removed change files name ≡ false
+never_listed change files name never =
+    removed_left change files name (and_left (was_listed change name) (not (is_claimed change name) && not (is_written change files name)) never)
 
 -- it was listed before, no package lists it now, and nothing is written there
 pub record IsLeftOver (change : FileChange) (files : Files) (path : List ℕ) : Type 0 where
@@ -141,14 +145,20 @@ stays_as_it_is change bytes_of records files path l owner stays other =
 
 -- ---- configuration that the user changed
 
-users_fate : (change : FileChange) (files : Files) (path bytes : List ℕ) (l : Listing) → IsUsersFile change files path bytes → coming_owner change path ≡ Some l → fate_of change files l ≡ fate_beside change path l.entry
+unlike_old : (change : FileChange) (path bytes : List ℕ) → ((entry : Plain) → old_entry change path ≡ Some entry → is_as_listed entry bytes ≡ false) → is_as_old (old_entry change path) bytes ≡ false
+unlike_old change path bytes differs = by_entry (old_entry change path) differs
+  where
+    by_entry : (o : Option Plain) → ((entry : Plain) → o ≡ Some entry → is_as_listed entry bytes ≡ false) → is_as_old o bytes ≡ false
+    by_entry None differs = refl
+    by_entry (Some entry) differs = differs entry refl
+
+pub users_fate : (change : FileChange) (files : Files) (path bytes : List ℕ) (l : Listing) → IsUsersFile change files path bytes → coming_owner change path ≡ Some l → fate_of change files l ≡ fate_beside change path l.entry
 unfolding fate_of
 users_fate change files path bytes l own comes =
     let (owner, coming) = coming_is change path l comes in
-    let unlike : is_as_listed l.entry bytes ≡ false = ap (λ (o : Option Listing). is_as_new o bytes) (sym comes) ∙ own.unlike_new in
     let test : (not (is_guarded path) || (is_as_listed l.entry bytes || is_as_old (old_entry change path) bytes)) ≡ false =
     or_from (not (is_guarded path)) (is_as_listed l.entry bytes || is_as_old (old_entry change path) bytes) (not_from_true (is_guarded path) own.guarded)
-    (or_from (is_as_listed l.entry bytes) (is_as_old (old_entry change path) bytes) unlike own.unlike_old) in
+    (or_from (is_as_listed l.entry bytes) (is_as_old (old_entry change path) bytes) (own.unlike_new l comes) (unlike_old change path bytes own.unlike_old)) in
     ap (λ (q : List ℕ). fate_by change q l.entry (files q)) owner.of_path
     ∙ (ap (fate_by change path l.entry) own.present
     ∙ ap (λ (b : Bool). if b then goes_in else fate_beside change path l.entry) test)
@@ -167,21 +177,24 @@ users_file_not_taken change files path bytes own = by_owner (coming_owner change
         ∙ (ap (if_in l) (users_fate change files path bytes l own comes)
         ∙ never_in l (not (agrees_with_old (old_entry change path) l.entry) && (nat_le (length (aside_name path)) 1024 && not (is_claimed change (aside_name path)))))
 
-users_file_stays : (change : FileChange) (files : Files) (path bytes : List ℕ) → change.purge ≡ false → IsUsersFile change files path bytes → is_removed change files path ≡ false
-users_file_stays change files path bytes no_purge own =
-    may_stay_unremoved change files path
-    (ap (λ (found : Option (List ℕ)). may_stay change path found (old_entry change path)) own.present ∙ by_entry (old_entry change path) own.unlike_old)
+users_file_stays : (change : FileChange) (files : Files) (path bytes : List ℕ) → (change.purge ≡ false) ⊎ (is_claimed change path ≡ true) → IsUsersFile change files path bytes → is_removed change files path ≡ false
+users_file_stays change files path bytes (inr claimed) own = removed_left change files path (claimed_not_left change files path claimed)
+users_file_stays change files path bytes (inl no_purge) own = by_entry (old_entry change path) refl
   where
-    by_entry : (o : Option Plain) → is_as_old o bytes ≡ false → may_stay change path (Some bytes) o ≡ true
-    by_entry None unlike = refl
-    by_entry (Some entry) unlike =
+    by_entry : (o : Option Plain) → old_entry change path ≡ o → is_removed change files path ≡ false
+    by_entry None e = never_listed change files path (ap is_some e)
+    by_entry (Some entry) e =
+        let stays : (is_guarded path && (not change.purge && is_changed entry (Some bytes))) ≡ true =
         and_from (is_guarded path) (not change.purge && is_changed entry (Some bytes)) own.guarded
-        (and_from (not change.purge) (is_changed entry (Some bytes)) (not_from_false change.purge no_purge) (not_from_false (is_as_listed entry bytes) unlike))
+        (and_from (not change.purge) (is_changed entry (Some bytes)) (not_from_false change.purge no_purge) (not_from_false (is_as_listed entry bytes) (own.unlike_old entry e))) in
+        may_stay_unremoved change files path
+        (ap (λ (found : Option (List ℕ)). may_stay change path found (old_entry change path)) own.present
+        ∙ (ap (may_stay change path (Some bytes)) e ∙ stays))
 
-pub users_file_is_spared : (change : FileChange) (bytes_of : Listing → List ℕ) (records : Records) (files : Files) (path bytes : List ℕ) → change.purge ≡ false → IsUsersFile change files path bytes → is_aside_name change files path ≡ false → is_record_name records path ≡ false
+pub users_file_is_spared : (change : FileChange) (bytes_of : Listing → List ℕ) (records : Records) (files : Files) (path bytes : List ℕ) → (change.purge ≡ false) ⊎ (is_claimed change path ≡ true) → IsUsersFile change files path bytes → is_aside_name change files path ≡ false → is_record_name records path ≡ false
     → changed_files change bytes_of records files path ≡ Some bytes
-users_file_is_spared change bytes_of records files path bytes no_purge own beside other =
-    untouched change bytes_of records files path (not_written change files path (users_file_not_taken change files path bytes own) beside) (users_file_stays change files path bytes no_purge own) other
+users_file_is_spared change bytes_of records files path bytes unpurged own beside other =
+    untouched change bytes_of records files path (not_written change files path (users_file_not_taken change files path bytes own) beside) (users_file_stays change files path bytes unpurged own) other
     ∙ own.present
 
 -- ---- names that nobody lists
@@ -192,10 +205,6 @@ no_owner change path never = by_owner (coming_owner change path) refl
     by_owner : (o : Option Listing) → coming_owner change path ≡ o → o ≡ None
     by_owner None e = refl
     by_owner (Some l) e = absurd (true≢false (sym (any_name path (coming_paths change.members) (in_coming_paths change path l e)) ∙ never))
-
-never_listed : (change : FileChange) (files : Files) (name : List ℕ) → was_listed change name ≡ false → is_removed change files name ≡ false
-never_listed change files name never =
-    removed_left change files name (and_left (was_listed change name) (not (is_claimed change name) && not (is_written change files name)) never)
 
 pub others_stay : (change : FileChange) (bytes_of : Listing → List ℕ) (records : Records) (files : Files) (name : List ℕ) → was_listed change name ≡ false → is_coming_path change name ≡ false → is_aside_name change files name ≡ false → is_record_name records name ≡ false
     → changed_files change bytes_of records files name ≡ files name

@@ -1,5 +1,5 @@
 -- Rows that are worked by hand: two packages with one file, a clash, a reserved name.
-use Rattle.std.proofs.Common.{◌≡◌, ℕ, List, [], ◌∷◌, Some, refl, codes, false}
+use Rattle.std.proofs.Common.{◌≡◌, ℕ, List, [], ◌∷◌, Some, refl, codes, false, true}
 use Rattle.adb_view.specs.Plain.{Plain}
 use Rattle.base_core.specs.Files.{no_names}
 use Rattle.db_core.specs.Members.{Member, claims_of, coming_member, member_listings, staying_member}
@@ -7,15 +7,16 @@ use Rattle.dep_core.specs.ValueReading.{dependency_of_value}
 use Rattle.version_core.specs.Order.{is_version, tokens}
 use Rattle.version_core.specs.Token.{component_lexeme, hash_lexeme, next_lexeme, number_lexeme, revision_lexeme, suffix_rank}
 use Rattle.path_claims.specs.Contest.{winner}
-use Rattle.path_clashes.specs.Clash.{IsClash}
+use Rattle.path_clashes.specs.Clash.{IsClash, NamePair, precedes_pair}
 use Rattle.file_owners.specs.Owners.{member_beats, owner_of_path}
 use Rattle.file_owners.specs.Replaces.{is_preferred_to, names_package, takes_over}
 use Rattle.change_files.specs.Fate.{fate_of}
 use Rattle.change_files.specs.FileChange.{FileChange, is_claimed, old_entry, old_listings, owner_listing}
 use Rattle.change_files.specs.FilesAfter.{is_kept, is_removed, written_as}
-use Rattle.change_files.specs.NamesAfter.{is_let_go, is_written_name, name_change}
+use Rattle.change_files.specs.NamesAfter.{is_let_go, counts_as_written, name_change}
 use Rattle.change_files.specs.PlanLists.{first_reserved, names_in_order, removals_of, writes_of}
-use Rattle.change_files.proofs.Sample.{folder, info, need, package_with, plain_file, with_file}
+use Rattle.file_guard.proofs.Sample.{plain_file}
+use Rattle.change_files.proofs.Sample.{folder, info, need, package_with, with_file}
 
 -- ---- two packages with one file
 
@@ -55,14 +56,37 @@ goes : removals_of (change (p1 ∷ []) []) (with_file (codes "usr/x") (codes "1"
 unfolding member_listings claims_of owner_of_path winner old_listings old_entry is_claimed owner_listing fate_of written_as names_in_order is_removed removals_of
 goes = refl
 
+-- also where no file stands there
+goes_unseen : removals_of (change (p1 ∷ []) []) no_names ≡ codes "usr/x" ∷ []
+unfolding member_listings claims_of owner_of_path winner old_listings old_entry is_claimed owner_listing fate_of written_as names_in_order is_removed removals_of
+goes_unseen = refl
+
 -- ---- a file of the tree where a package has a folder
 
 abbrev r1 : Plain
 r1 = package_with (info (codes "r") (codes "1") []) (folder (codes "usr/x") (plain_file (codes "y") 0 [] ∷ []) ∷ [])
 
 clash : IsClash (name_change (change [] (coming_member r1 [] ∷ [])) (with_file (codes "usr/x") (codes "1"))) (with_file (codes "usr/x") (codes "1")) (record { path = codes "usr/x"; other = codes "usr/x/y" })
-unfolding member_listings old_listings old_entry is_claimed is_kept is_let_go is_written_name
+unfolding member_listings old_listings old_entry is_claimed is_kept is_let_go counts_as_written
 clash = record { folder = (codes "y", refl); path_after = refl; other_after = refl; written = refl }
+
+-- what a package that stays lists does not count as written
+stays_unwritten : counts_as_written (change (r1 ∷ []) (staying_member r1 ∷ [])) no_names (codes "usr/x/y") ≡ false
+unfolding member_listings claims_of owner_of_path winner old_listings old_entry is_claimed owner_listing fate_of counts_as_written
+stays_unwritten = refl
+
+-- `.` comes before `/`, and yet the pair with the smaller path comes first
+abbrev pair_of : List ℕ → List ℕ → NamePair
+pair_of path other = record { path = path; other = other }
+
+smaller_path : precedes_pair (pair_of (codes "usr/x") (codes "usr/x/y")) (pair_of (codes "usr/x.d") (codes "usr/x.d/z")) ≡ true
+smaller_path = refl
+
+greater_path : precedes_pair (pair_of (codes "usr/x.d") (codes "usr/x.d/z")) (pair_of (codes "usr/x") (codes "usr/x/y")) ≡ false
+greater_path = refl
+
+smaller_other : precedes_pair (pair_of (codes "usr/x") (codes "usr/x/y")) (pair_of (codes "usr/x") (codes "usr/x/z")) ≡ true
+smaller_other = refl
 
 -- ---- a reserved name
 
@@ -72,3 +96,11 @@ r2 = package_with (info (codes "r") (codes "1") []) (folder (codes "usr/x") (pla
 reserved : first_reserved (coming_member r2 [] ∷ []) ≡ Some (codes "lib/apk/db/z")
 unfolding member_listings first_reserved
 reserved = refl
+
+-- two of them: the smaller path, not the one that is listed first
+abbrev r3 : Plain
+r3 = package_with (info (codes "r") (codes "1") []) (folder (codes "lib/apk/db") (plain_file (codes "z") 0 [] ∷ []) ∷ folder (codes "etc/apk") (plain_file (codes "world") 0 [] ∷ []) ∷ [])
+
+first_of_two : first_reserved (coming_member r3 [] ∷ []) ≡ Some (codes "etc/apk/world")
+unfolding member_listings first_reserved
+first_of_two = refl

@@ -1,16 +1,17 @@
 -- Rows that are worked by hand: configuration that the user changed.
 use Rattle.std.proofs.Common.{◌≡◌, ℕ, Bool, List, [], ◌∷◌, Some, refl, codes, true, false}
 use Rattle.adb_view.specs.Plain.{Plain}
-use Rattle.base_core.specs.Files.{Files}
+use Rattle.base_core.specs.Files.{Files, no_names}
 use Rattle.db_core.specs.Members.{claims_of, coming_member, member_listings}
 use Rattle.path_claims.specs.Contest.{winner}
 use Rattle.file_owners.specs.Owners.{owner_of_path}
 use Rattle.file_guard.specs.AsListed.{do_entries_agree, is_as_listed_by}
-use Rattle.change_files.specs.Fate.{fate_of}
+use Rattle.change_files.specs.Fate.{fate_of, is_guarded}
 use Rattle.change_files.specs.FileChange.{FileChange, is_claimed, old_entry, old_listings, owner_listing}
 use Rattle.change_files.specs.FilesAfter.{Records, changed_files, is_kept, is_removed, written_as}
 use Rattle.change_files.specs.PlanLists.{aside_of, kept_of, names_in_order, removals_of, writes_of}
-use Rattle.change_files.proofs.Sample.{folder, info, link, new_bytes, package_with, with_file}
+use Rattle.file_guard.proofs.Sample.{link}
+use Rattle.change_files.proofs.Sample.{folder, info, new_bytes, package_with, with_file}
 
 abbrev c : List ℕ → Plain
 c version = package_with (info (codes "c") version []) (folder (codes "etc") (link (codes "c.conf") version ∷ []) ∷ [])
@@ -49,10 +50,45 @@ file_beside : changed_files upgrade new_bytes records changed (codes "etc/c.conf
 unfolding member_listings claims_of owner_of_path winner old_listings old_entry is_claimed owner_listing is_as_listed_by do_entries_agree fate_of written_as is_removed changed_files
 file_beside = refl
 
+-- also where configuration is to be purged: a package lists it
+purged_upgrade : aside_of (record { old = c (codes "1") ∷ []; members = coming_member (c (codes "2")) [] ∷ []; purge = true }) changed ≡ conf ∷ []
+unfolding member_listings claims_of owner_of_path winner old_listings old_entry is_claimed owner_listing is_as_listed_by do_entries_agree fate_of written_as names_in_order aside_of
+purged_upgrade = refl
+
 -- unchanged: it is replaced
 replaced : writes_of upgrade unchanged ≡ record { name = conf; member = 0; folder = 1; file = 1 } ∷ []
 unfolding member_listings claims_of owner_of_path winner old_listings old_entry is_claimed owner_listing is_as_listed_by do_entries_agree fate_of written_as names_in_order writes_of
 replaced = refl
+
+-- as the new entry lists it: it is replaced too, and nothing is laid beside it
+as_new : writes_of upgrade (with_file conf (codes "!<symlink>2")) ≡ record { name = conf; member = 0; folder = 1; file = 1 } ∷ []
+unfolding member_listings claims_of owner_of_path winner old_listings old_entry is_claimed owner_listing is_as_listed_by do_entries_agree fate_of written_as names_in_order writes_of
+as_new = refl
+
+-- ---- nobody listed the path before
+
+abbrev fresh : FileChange
+fresh = record { old = []; members = coming_member (c (codes "2")) [] ∷ []; purge = false }
+
+-- what stands there is the user's
+fresh_aside : aside_of fresh changed ≡ conf ∷ []
+unfolding member_listings claims_of owner_of_path winner old_listings old_entry is_claimed owner_listing is_as_listed_by do_entries_agree fate_of written_as names_in_order aside_of
+fresh_aside = refl
+
+fresh_write : writes_of fresh no_names ≡ record { name = conf; member = 0; folder = 1; file = 1 } ∷ []
+unfolding member_listings claims_of owner_of_path winner old_listings old_entry is_claimed owner_listing is_as_listed_by do_entries_agree fate_of written_as names_in_order writes_of
+fresh_write = refl
+
+-- ---- what is configuration
+
+below_etc : is_guarded conf ≡ true
+below_etc = refl
+
+longer_folder : is_guarded (codes "etcetera/x") ≡ false
+longer_folder = refl
+
+deeper_folder : is_guarded (codes "usr/etc/x") ≡ false
+deeper_folder = refl
 
 -- ---- the package goes
 
@@ -70,6 +106,15 @@ not_removed = refl
 purged : removals_of (removal true) changed ≡ conf ∷ []
 unfolding member_listings claims_of owner_of_path winner old_listings old_entry is_claimed owner_listing is_as_listed_by fate_of written_as names_in_order is_removed removals_of
 purged = refl
+
+-- no file stands there: it is removed all the same, and nothing is kept
+absent_removed : removals_of (removal false) no_names ≡ conf ∷ []
+unfolding member_listings claims_of owner_of_path winner old_listings old_entry is_claimed owner_listing is_as_listed_by fate_of written_as names_in_order is_removed removals_of
+absent_removed = refl
+
+absent_kept : kept_of (removal false) no_names ≡ []
+unfolding member_listings claims_of owner_of_path winner old_listings old_entry is_claimed owner_listing is_as_listed_by fate_of written_as names_in_order is_kept kept_of
+absent_kept = refl
 
 -- ---- the same version comes once more: nothing is new
 

@@ -57,8 +57,9 @@ abbrev pub is_changed : Plain → Option (List ℕ) → Bool
 is_changed entry None = false
 is_changed entry (Some bytes) = not (is_as_listed entry bytes)
 
+-- it is configuration, which is not to be purged, and the user changed it
 abbrev pub may_stay : FileChange → List ℕ → Option (List ℕ) → Option Plain → Bool
-may_stay change path bytes None = true
+may_stay change path bytes None = false
 may_stay change path bytes (Some entry) =
     is_guarded path && (not change.purge && is_changed entry bytes)
 

@@ -14,8 +14,8 @@ coming_paths members =
 
 -- a package that comes lists the name, or a file is laid beside another under it; the database and
 -- the world always
-unfoldable pub is_written_name : FileChange → Files → List ℕ → Bool
-is_written_name change files name =
+unfoldable pub counts_as_written : FileChange → Files → List ℕ → Bool
+counts_as_written change files name =
     list_any (bytes_eq name) (database_name ∷ world_name ∷ coming_paths change.members)
     || is_some (option_and_then (laid_beside change files) (path_beside name))
 
@@ -26,4 +26,4 @@ is_let_go change files name =
 
 abbrev pub name_change : FileChange → Files → NameChange
 name_change change files =
-    record { counts_as_written = is_written_name change files; lets_go = is_let_go change files }
+    record { counts_as_written = counts_as_written change files; lets_go = is_let_go change files }

@@ -1,10 +1,11 @@
 -- What laws say of single names.
-use Rattle.std.specs.Prelude.{◌≡◌, ℕ, Bool, true, false, ◌&&◌, ◌||◌, List, Option, Some, None, is_some, option_and_then, bytes_eq}
+use Rattle.std.specs.Prelude.{◌≡◌, ℕ, Bool, true, false, ◌&&◌, ◌||◌, List, Some, is_some, option_and_then, bytes_eq}
 use Rattle.std.specs.List.{list_any}
 use Rattle.base_core.specs.Files.{Files}
 use Rattle.db_core.specs.Members.{Listing}
-use Rattle.file_guard.specs.AsListed.{is_as_listed}
-use Rattle.change_files.specs.Fate.{is_as_old, is_guarded}
+use Rattle.adb_view.specs.Plain.{Plain}
+use Rattle.file_guard.specs.AsListed.{do_entries_agree, is_as_listed}
+use Rattle.change_files.specs.Fate.{is_guarded}
 use Rattle.change_files.specs.FileChange.{FileChange, coming_owner, old_entry}
 use Rattle.change_files.specs.FilesAfter.{Records, database_name, laid_beside, path_beside, text_database_name, world_name, written_as}
 use Rattle.change_files.specs.NamesAfter.{coming_paths}
@@ -24,17 +25,18 @@ is_aside_name change files name = is_some (option_and_then (laid_beside change f
 abbrev pub is_coming_path : FileChange → List ℕ → Bool
 is_coming_path change path = list_any (bytes_eq path) (coming_paths change.members)
 
-abbrev pub is_as_new : Option Listing → List ℕ → Bool
-is_as_new None bytes = false
-is_as_new (Some l) bytes = is_as_listed l.entry bytes
-
 -- configuration that the user changed: what stands under a guarded path is neither as a package
 -- that comes lists it nor as one listed it before
 pub record IsUsersFile (change : FileChange) (files : Files) (path bytes : List ℕ) : Type 0 where
   pub guarded : is_guarded path ≡ true
   pub present : files path ≡ Some bytes
-  pub unlike_new : is_as_new (coming_owner change path) bytes ≡ false
-  pub unlike_old : is_as_old (old_entry change path) bytes ≡ false
+  pub unlike_new : (l : Listing) → coming_owner change path ≡ Some l → is_as_listed l.entry bytes ≡ false
+  pub unlike_old : (entry : Plain) → old_entry change path ≡ Some entry → is_as_listed entry bytes ≡ false
+
+-- what a package listed under the path before says something else than the entry
+abbrev pub IsNewEntry : FileChange → List ℕ → Plain → Type 0
+IsNewEntry change path entry =
+    (old : Plain) → old_entry change path ≡ Some old → do_entries_agree old entry ≡ false
 
 -- what is written under a name, as the plan tells it
 pub record IsWriteOf (change : FileChange) (files : Files) (write : FileWrite) : Type 0 where

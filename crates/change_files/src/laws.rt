@@ -1,18 +1,19 @@
 //! What follows from the definitions, for all changes and files.
 
-ghost use Rattle.std.specs.Prelude.{◌≡◌, ◌⊎◌, ◌↔◌, ℕ, Bool, true, false, List, None, Some, map, is_some, Contains};
+ghost use Rattle.std.specs.Prelude.{◌≡◌, ◌≢◌, ◌⊎◌, ◌↔◌, ℕ, Bool, true, false, List, [], None, Some, IsSome, map, is_some, Contains};
 ghost use Rattle.adb_rules.specs.Reserved.{is_reserved};
 ghost use Rattle.base_core.specs.Files.{Files};
 ghost use Rattle.base_core.specs.Listed.{IsRising};
+ghost use Rattle.base_core.specs.Name.{IsName};
 ghost use Rattle.db_core.specs.Members.{Listing, is_coming, member_listings};
 ghost use Rattle.file_owners.specs.Owners.{owner_of_path};
 ghost use Rattle.path_clashes.specs.Clash.{is_name_after};
 ghost use Rattle.change_files.specs.Fate.{aside_name};
 ghost use Rattle.change_files.specs.FileChange.{FileChange, coming_owner, is_claimed, owner_listing, was_listed};
-ghost use Rattle.change_files.specs.FilesAfter.{Records, changed_files, is_kept, is_removed, is_written, laid_beside, written_as};
-ghost use Rattle.change_files.specs.NamesAfter.{name_change};
+ghost use Rattle.change_files.specs.FilesAfter.{Records, changed_files, database_name, is_kept, is_left_over, is_removed, is_written, laid_beside, text_database_name, world_name, written_as};
+ghost use Rattle.change_files.specs.NamesAfter.{is_let_go, name_change};
 ghost use Rattle.change_files.specs.PlanLists.{FileWrite, aside_of, first_reserved, kept_of, removals_of, writes_of};
-ghost use Rattle.change_files.specs.Touched.{IsUsersFile, IsWriteOf, is_aside_name, is_coming_path, is_record_name};
+ghost use Rattle.change_files.specs.Touched.{IsNewEntry, IsUsersFile, IsWriteOf, is_aside_name, is_coming_path, is_record_name};
 
 // ---- what is written
 
@@ -28,6 +29,29 @@ pub fn what_is_written_is_owned_by_a_package_that_comes()
         → written_as change files name ≡ Some l
         → (coming_owner change l.path ≡ Some l)
         × ((name ≡ l.path) ⊎ (name ≡ aside_name l.path)) }
+{}
+
+/// A file whose owner comes takes its path, unless the user changed the one that stands there.
+pub fn what_comes_takes_its_path()
+    ensures { (change : FileChange) (files : Files) (path : List ℕ) (l : Listing)
+        → coming_owner change path ≡ Some l
+        → ((bytes : List ℕ) → IsUsersFile change files path bytes → ⊥)
+        → written_as change files path ≡ Some l }
+{}
+
+/// Beside a file that the user changed the new one is laid, where no package listed the path before
+/// or what it listed says something else, and the name beside is one that no package lists; and
+/// only there.
+pub fn what_differs_lies_beside_the_users_file()
+    ensures beside { (change : FileChange) (files : Files) (path bytes : List ℕ) (l : Listing)
+        → coming_owner change path ≡ Some l → IsUsersFile change files path bytes
+        → IsNewEntry change path l.entry
+        → IsName (aside_name path) → is_claimed change (aside_name path) ≡ false
+        → laid_beside change files path ≡ Some l }
+    ensures only { (change : FileChange) (files : Files) (path : List ℕ) (l : Listing)
+        → laid_beside change files path ≡ Some l
+        → ((bytes : List ℕ) × IsUsersFile change files path bytes)
+        × IsNewEntry change path l.entry × (is_claimed change (aside_name path) ≡ false) }
 {}
 
 /// Where something is written the file has those bytes after the change.
@@ -61,6 +85,18 @@ pub fn what_is_removed_was_listed_before()
         → changed_files change bytes_of records files path ≡ None }
 {}
 
+/// What was listed before, and where no package lists it now and nothing is written, goes, unless
+/// the user changed it; and what is kept the user changed, and it is not to be purged.
+pub fn what_is_left_over_goes_unless_it_is_the_users()
+    ensures goes { (change : FileChange) (files : Files) (path : List ℕ)
+        → is_left_over change files path ≡ true
+        → ((bytes : List ℕ) → IsUsersFile change files path bytes → ⊥) ⊎ (change.purge ≡ true)
+        → is_removed change files path ≡ true }
+    ensures kept { (change : FileChange) (files : Files) (path : List ℕ)
+        → is_kept change files path ≡ true
+        → ((bytes : List ℕ) × IsUsersFile change files path bytes) × (change.purge ≡ false) }
+{}
+
 // ---- what is not touched
 
 /// A path whose owner stays is not touched.
@@ -75,11 +111,12 @@ pub fn the_file_of_a_package_that_stays_is_not_touched()
         → changed_files change bytes_of records files path ≡ files path }
 {}
 
-/// Configuration that the user changed keeps its bytes, unless it is to be purged. One that was
-/// laid beside another file gives way to what is laid there now.
+/// Configuration that the user changed keeps its bytes, unless it is to be purged and no package
+/// lists it. One that was laid beside another file gives way to what is laid there now.
 pub fn configuration_that_the_user_changed_stays()
     ensures { (change : FileChange) (bytes_of : Listing → List ℕ) (records : Records)
-        (files : Files) (path bytes : List ℕ) → change.purge ≡ false
+        (files : Files) (path bytes : List ℕ)
+        → (change.purge ≡ false) ⊎ (is_claimed change path ≡ true)
         → IsUsersFile change files path bytes
         → is_aside_name change files path ≡ false → is_record_name records path ≡ false
         → changed_files change bytes_of records files path ≡ Some bytes }
@@ -111,6 +148,40 @@ pub fn the_files_after_a_change_stand_under_its_names()
         (files : Files) (name : List ℕ)
         → is_some (changed_files change bytes_of records files name) ≡ true
         → is_name_after (name_change change files) files name ≡ true }
+{}
+
+/// A file of before whose name is not let go of stands after a change; one that is let go of, and
+/// under whose name nothing is written, is absent then.
+pub fn the_names_after_a_change_are_those_of_its_files()
+    ensures stands { (change : FileChange) (bytes_of : Listing → List ℕ) (records : Records)
+        (files : Files) (name : List ℕ)
+        → is_some (files name) ≡ true → is_let_go change files name ≡ false
+        → is_record_name records name ≡ false
+        → is_some (changed_files change bytes_of records files name) ≡ true }
+    ensures gone { (change : FileChange) (bytes_of : Listing → List ℕ) (records : Records)
+        (files : Files) (name : List ℕ)
+        → is_let_go change files name ≡ true → is_written change files name ≡ false
+        → is_record_name records name ≡ false
+        → changed_files change bytes_of records files name ≡ None }
+{}
+
+// ---- the records
+
+/// The new database and the new world stand under their names; a world that was absent and has
+/// nothing to say stays absent, and so is a text database that was taken over.
+pub fn the_records_of_a_change_stand_under_their_names()
+    ensures database { (change : FileChange) (bytes_of : Listing → List ℕ) (records : Records)
+        (files : Files)
+        → changed_files change bytes_of records files database_name ≡ Some records.database }
+    ensures world { (change : FileChange) (bytes_of : Listing → List ℕ) (records : Records)
+        (files : Files) → (records.world ≢ []) ⊎ IsSome (files world_name)
+        → changed_files change bytes_of records files world_name ≡ Some records.world }
+    ensures no_world { (change : FileChange) (bytes_of : Listing → List ℕ) (records : Records)
+        (files : Files) → records.world ≡ [] → files world_name ≡ None
+        → changed_files change bytes_of records files world_name ≡ None }
+    ensures text { (change : FileChange) (bytes_of : Listing → List ℕ) (records : Records)
+        (files : Files) → records.takes_text_over ≡ true
+        → changed_files change bytes_of records files text_database_name ≡ None }
 {}
 
 // ---- the lists

@@ -13,7 +13,10 @@ pub use laws::{
     a_name_has_one_place_in_a_plan, a_name_that_nobody_lists_is_not_touched,
     configuration_that_the_user_changed_stays, the_file_of_a_package_that_stays_is_not_touched,
     the_files_after_a_change_stand_under_its_names, the_lists_of_a_plan_hold_just_its_names,
-    the_lists_of_a_plan_rise, what_is_kept_stays, what_is_removed_was_listed_before,
+    the_lists_of_a_plan_rise, the_names_after_a_change_are_those_of_its_files,
+    the_records_of_a_change_stand_under_their_names, what_comes_takes_its_path,
+    what_differs_lies_beside_the_users_file, what_is_kept_stays,
+    what_is_left_over_goes_unless_it_is_the_users, what_is_removed_was_listed_before,
     what_is_written_is_not_reserved, what_is_written_is_owned_by_a_package_that_comes,
     what_is_written_takes_its_name,
 };

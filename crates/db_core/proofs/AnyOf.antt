@@ -10,12 +10,12 @@ nothing : (n : ℕ) → drop {A = Plain} n [] ≡ []
 nothing zero = refl
 nothing (suc n) = refl
 
-any_step : (p : Plain → Bool) (vs : Plains) (i : ℕ) → i < count_of vs → list_any p (drop i (list_of vs)) ≡ (p (nth vs i) || list_any p (drop (suc i) (list_of vs)))
+pub any_step : (p : Plain → Bool) (vs : Plains) (i : ℕ) → i < count_of vs → list_any p (drop i (list_of vs)) ≡ (p (nth vs i) || list_any p (drop (suc i) (list_of vs)))
 any_step p none i h = absurd (omega arith)
 any_step p (more v vs) zero h = refl
 any_step p (more v vs) (suc i) h = any_step p vs i (omega arith)
 
-past_end : (p : Plain → Bool) (vs : Plains) (i : ℕ) → count_of vs ≤ i → list_any p (drop i (list_of vs)) ≡ false
+pub past_end : (p : Plain → Bool) (vs : Plains) (i : ℕ) → count_of vs ≤ i → list_any p (drop i (list_of vs)) ≡ false
 past_end p none i h = ap (list_any p) (nothing i)
 past_end p (more v vs) zero h = absurd (omega arith)
 past_end p (more v vs) (suc i) h = past_end p vs i (omega arith)

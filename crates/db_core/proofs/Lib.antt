@@ -1,6 +1,7 @@
 pub mod AnyOf
 mod ListedNames
 pub mod ListingPlaces
+mod MemberPlaces
 mod NamePlaces
 pub mod Opened
 pub mod Ordered

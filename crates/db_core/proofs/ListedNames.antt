@@ -1,4 +1,4 @@
--- What a package lists are names.
+-- What a package lists are names, of which a database has none that is reserved.
 use Rattle.std.proofs.Common.{◌≡◌, ℕ, suc, zero, ◌+◌, ◌<◌, Bool, true, false, cond, List, [], ◌∷◌, ◌++◌, map, length, get_or, Option, Some, None, Result, Ok, Err, refl, ap, sym, ◌∙◌, subst, arith, true≢false}
 use Rattle.std.specs.Prelude.{◌&&◌, ◌||◌, ◌==◌, not, nat_le, nat_lt, if◌then◌else◌, is_ok, slice_get, All}
 use Rattle.std.specs.Str.{IsUtf8, is_utf8}
@@ -13,13 +13,15 @@ use Rattle.adb_view.specs.Plain.{Plain, Plains, none, more}
 use Rattle.adb_view.specs.Shaped.{Each}
 use Rattle.adb_tables.specs.Values.{entries_in, entry_in}
 use Rattle.adb_tables.specs.declared.tables.Which.{Which}
+use Rattle.adb_tables.specs.declared.tables.Which.TheVariants.{Idb}
 use Rattle.adb_fields.specs.Paths.{path_of}
-use Rattle.adb_fields.specs.Repeated.{files_in, folders_in, list_of, name_of, paths_under}
+use Rattle.adb_fields.specs.Repeated.{files_in, folders_in, list_of, name_of, paths_in, paths_under}
+use Rattle.adb_rules.specs.Reserved.{is_reserved}
 use Rattle.adb_rules.specs.Rules.{is_file_name, is_folder_name, is_one_part}
 use Rattle.adb_rules.specs.SoundValues.{IsFileOf, IsFolder, IsPackage}
 use Rattle.db_core.specs.EntrySeen.{member_by}
-use Rattle.db_core.specs.Members.{Listing, Member, listings_by, listings_from, listings_in_folder, listings_in_folders, member_listings, staying_member}
-use Rattle.db_core.specs.Packages.{lists_names}
+use Rattle.db_core.specs.Members.{Member, listings_by, listings_from, listings_in_folder, listings_in_folders, member_listings, staying_member}
+use Rattle.db_core.specs.Packages.{lists_names, lists_no_reserved}
 
 -- ---- a name behind another one and a slash
 
@@ -84,26 +86,39 @@ path_named (b ∷ folder) name h file =
 
 -- ---- the paths of a package that keeps the rules
 
-files_named : (root : Which) (folder : List ℕ) → is_folder_name folder ≡ true → (vs : Plains) → Each (IsFileOf root folder) vs
-    → list_all is_name (map (λ file. path_of folder (name_of file)) (list_of vs)) ≡ true
-files_named root folder h none each = refl
-files_named root folder h (more v vs) each =
-    both_true (is_name (path_of folder (name_of v))) _ (path_named folder (name_of v) h each.0.name) (files_named root folder h vs each.1)
+module _ (p : List ℕ → Bool) (root : Which)
+    (file_passes : (folder : List ℕ) (v : Plain) → is_folder_name folder ≡ true → IsFileOf root folder v → p (path_of folder (name_of v)) ≡ true) where
+  files_pass : (folder : List ℕ) → is_folder_name folder ≡ true → (vs : Plains) → Each (IsFileOf root folder) vs → list_all p (map (λ file. path_of folder (name_of file)) (list_of vs)) ≡ true
+  files_pass folder h none each = refl
+  files_pass folder h (more v vs) each = both_true (p (path_of folder (name_of v))) _ (file_passes folder v h each.0) (files_pass folder h vs each.1)
 
-folders_named : (root : Which) (vs : Plains) → Each (IsFolder root) vs → list_all is_name (flat_map paths_under (list_of vs)) ≡ true
-folders_named root none each = refl
-folders_named root (more v vs) each =
-    list_all-append is_name (paths_under v) (flat_map paths_under (list_of vs))
-    ∙ both_true (list_all is_name (paths_under v)) (list_all is_name (flat_map paths_under (list_of vs)))
-    (files_named root (name_of v) each.0.name (entries_in (entry_in v 2)) each.0.files)
-    (folders_named root vs each.1)
+  folders_pass : (vs : Plains) → Each (IsFolder root) vs → list_all p (flat_map paths_under (list_of vs)) ≡ true
+  folders_pass none each = refl
+  folders_pass (more v vs) each =
+      list_all-append p (paths_under v) (flat_map paths_under (list_of vs))
+      ∙ both_true (list_all p (paths_under v)) (list_all p (flat_map paths_under (list_of vs)))
+      (files_pass (name_of v) each.0.name (entries_in (entry_in v 2)) each.0.files)
+      (folders_pass vs each.1)
+
+  package_passes : (v : Plain) → IsPackage root v → list_all p (paths_in v) ≡ true
+  package_passes v is = folders_pass (entries_in (entry_in v 1)) is.folders
+
+  packages_pass : (vs : Plains) → Each (IsPackage root) vs → list_all (λ v. list_all p (paths_in v)) (list_of vs) ≡ true
+  packages_pass none each = refl
+  packages_pass (more v vs) each = both_true (list_all p (paths_in v)) (list_all (λ v. list_all p (paths_in v)) (list_of vs)) (package_passes v each.0) (packages_pass vs each.1)
+
+file_named : (root : Which) (folder : List ℕ) (v : Plain) → is_folder_name folder ≡ true → IsFileOf root folder v → is_name (path_of folder (name_of v)) ≡ true
+file_named root folder v h file = path_named folder (name_of v) h file.name
 
 pub package_lists_names : (root : Which) (v : Plain) → IsPackage root v → lists_names v ≡ true
-package_lists_names root v is = folders_named root (entries_in (entry_in v 1)) is.folders
+package_lists_names root v is = package_passes is_name root (file_named root) v is
 
 pub packages_list_names : (root : Which) (vs : Plains) → Each (IsPackage root) vs → list_all lists_names (list_of vs) ≡ true
-packages_list_names root none each = refl
-packages_list_names root (more v vs) each = both_true (lists_names v) (list_all lists_names (list_of vs)) (package_lists_names root v each.0) (packages_list_names root vs each.1)
+packages_list_names root vs each = packages_pass is_name root (file_named root) vs each
+
+-- in a database none is reserved
+pub packages_list_no_reserved : (vs : Plains) → Each (IsPackage Idb) vs → list_all lists_no_reserved (list_of vs) ≡ true
+packages_list_no_reserved vs each = packages_pass (λ path. not (is_reserved path)) Idb (λ folder v h file. file.listed) vs each
 
 -- ---- of a database and of members
 
@@ -125,39 +140,47 @@ passes_at p [] all k d l = absurd (omega arith)
 passes_at p (x ∷ xs) all zero d l = (and_parts (p x) (list_all p xs) all).0
 passes_at p (x ∷ xs) all (suc k) d l = passes_at p xs (and_parts (p x) (list_all p xs) all).1 k d (omega arith)
 
-abbrev pub has_name : Listing → Bool
-has_name l = is_name l.path
+module _ (p : List ℕ → Bool) where
+  in_folder : (m : Member) (place folder i : ℕ) (above : List ℕ) (entries : List Plain)
+      → list_all (λ l. p l.path) (listings_in_folder m place folder i above entries) ≡ list_all p (map (λ file. path_of above (name_of file)) entries)
+  in_folder m place folder i above [] = refl
+  in_folder m place folder i above (e ∷ es) = ap (λ b. p (path_of above (name_of e)) && b) (in_folder m place folder (i + 1) above es)
 
-named_in_folder : (m : Member) (place folder i : ℕ) (above : List ℕ) (entries : List Plain)
-    → list_all has_name (listings_in_folder m place folder i above entries) ≡ list_all is_name (map (λ file. path_of above (name_of file)) entries)
-named_in_folder m place folder i above [] = refl
-named_in_folder m place folder i above (e ∷ es) = ap (λ b. is_name (path_of above (name_of e)) && b) (named_in_folder m place folder (i + 1) above es)
+  in_folders : (m : Member) (place i : ℕ) (folders : List Plain) → list_all (λ l. p l.path) (listings_in_folders m place i folders) ≡ list_all p (flat_map paths_under folders)
+  in_folders m place i [] = refl
+  in_folders m place i (f ∷ fs) =
+      list_all-append (λ l. p l.path) (listings_in_folder m place i 1 (name_of f) (files_in f)) (listings_in_folders m place (i + 1) fs)
+      ∙ ((λ j. in_folder m place i 1 (name_of f) (files_in f) j && in_folders m place (i + 1) fs j)
+      ∙ sym (list_all-append p (paths_under f) (flat_map paths_under fs)))
 
-named_in_folders : (m : Member) (place i : ℕ) (folders : List Plain) → list_all has_name (listings_in_folders m place i folders) ≡ list_all is_name (flat_map paths_under folders)
-named_in_folders m place i [] = refl
-named_in_folders m place i (f ∷ fs) =
-    list_all-append has_name (listings_in_folder m place i 1 (name_of f) (files_in f)) (listings_in_folders m place (i + 1) fs)
-    ∙ ((λ j. named_in_folder m place i 1 (name_of f) (files_in f) j && named_in_folders m place (i + 1) fs j)
-    ∙ sym (list_all-append is_name (paths_under f) (flat_map paths_under fs)))
+  in_members : (place : ℕ) (ms : List Member) → list_all (λ l. p l.path) (listings_from place ms) ≡ list_all (λ m. list_all p (paths_in m.pkg)) ms
+  in_members place [] = refl
+  in_members place (m ∷ ms) =
+      list_all-append (λ l. p l.path) (listings_by place m) (listings_from (place + 1) ms)
+      ∙ (λ j. in_folders m place 1 (folders_in m.pkg) j && in_members (place + 1) ms j)
 
-named_in_members : (place : ℕ) (ms : List Member) → list_all has_name (listings_from place ms) ≡ list_all (λ m. lists_names m.pkg) ms
-named_in_members place [] = refl
-named_in_members place (m ∷ ms) =
-    list_all-append has_name (listings_by place m) (listings_from (place + 1) ms)
-    ∙ (λ j. named_in_folders m place 1 (folders_in m.pkg) j && named_in_members (place + 1) ms j)
+  all_pass : (ms : List Member) → list_all (λ m. list_all p (paths_in m.pkg)) ms ≡ true → All (λ l. p l.path ≡ true) (member_listings ms)
+  unfolding member_listings
+  all_pass ms h k d l = passes_at (λ l. p l.path) (listings_from 0 ms) (in_members 0 ms ∙ h) k d l
 
-pub all_names : (ms : List Member) → list_all (λ m. lists_names m.pkg) ms ≡ true → All (λ l. IsName l.path) (member_listings ms)
-unfolding member_listings
-all_names ms h k d l = passes_at has_name (listings_from 0 ms) (named_in_members 0 ms ∙ h) k d l
+  packages_all_pass : (pkgs : List Plain) → list_all (λ v. list_all p (paths_in v)) pkgs ≡ true → All (λ l. p l.path ≡ true) (member_listings (map staying_member pkgs))
+  packages_all_pass pkgs h = all_pass (map staying_member pkgs) (list_all-map (λ (m : Member). list_all p (paths_in m.pkg)) staying_member pkgs ∙ h)
 
 pub packages_named : (pkgs : List Plain) → list_all lists_names pkgs ≡ true → All (λ l. IsName l.path) (member_listings (map staying_member pkgs))
-packages_named pkgs h = all_names (map staying_member pkgs) (list_all-map (λ (m : Member). lists_names m.pkg) staying_member pkgs ∙ h)
+packages_named pkgs h = packages_all_pass is_name pkgs h
+
+absent : (b : Bool) → not b ≡ true → b ≡ false
+absent true e = absurd (true≢false (sym e))
+absent false e = refl
+
+pub packages_unreserved : (pkgs : List Plain) → list_all lists_no_reserved pkgs ≡ true → All (λ l. is_reserved l.path ≡ false) (member_listings (map staying_member pkgs))
+packages_unreserved pkgs h k d l = absent (is_reserved (get_or (member_listings (map staying_member pkgs)) k d).path) (packages_all_pass (λ path. not (is_reserved path)) pkgs h k d l)
 
 abbrev pub Kept : Type 0
 Kept = List ℕ × ℕ × Option (List ℕ)
 
 pub members_named : (es : List Kept) → list_all (λ e. lists_names (member_by e).pkg) es ≡ true → All (λ l. IsName l.path) (member_listings (map member_by es))
-members_named es h = all_names (map member_by es) (list_all-map (λ (m : Member). lists_names m.pkg) member_by es ∙ h)
+members_named es h = all_pass is_name (map member_by es) (list_all-map (λ (m : Member). lists_names m.pkg) member_by es ∙ h)
 
 pub named_more : {A B : Type 0} (r : Result A B) (es new : List Kept) (e : Kept) → new ≡ (if is_ok r then es ++ e ∷ [] else es)
     → list_all (λ e. lists_names (member_by e).pkg) es ≡ true → lists_names (member_by e).pkg ≡ true → list_all (λ e. lists_names (member_by e).pkg) new ≡ true

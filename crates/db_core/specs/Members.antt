@@ -1,5 +1,5 @@
 -- The packages after a change, and the files that they list.
-use Rattle.std.specs.Prelude.{ℕ, ◌+◌, Bool, true, List, [], ◌∷◌, ◌++◌, Option, Some, None, is_some, bytes_eq, map}
+use Rattle.std.specs.Prelude.{ℕ, ◌+◌, ◌==◌, Bool, true, false, List, [], ◌∷◌, ◌++◌, Option, Some, None, is_some, bytes_eq, map}
 use Rattle.std.specs.List.{filter}
 use Rattle.base_core.specs.Listed.{IsRising}
 use Rattle.list_order.specs.ByteOrder.{precedes}
@@ -35,6 +35,11 @@ abbrev pub comes_behind : List ℕ → List Member → Bool
 comes_behind name [] = true
 comes_behind name (m ∷ []) = precedes (member_name m) name
 comes_behind name (m ∷ n ∷ members) = comes_behind name (n ∷ members)
+
+-- whether a place is the one that was found
+abbrev pub is_place : ℕ → Option ℕ → Bool
+is_place i None = false
+is_place i (Some found) = found == i
 
 -- ---- their files
 

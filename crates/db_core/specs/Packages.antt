@@ -1,8 +1,9 @@
 -- The packages of a database, and who of them lists a file.
-use Rattle.std.specs.Prelude.{ℕ, Bool, List, [], Option, Some, None, bytes_eq}
+use Rattle.std.specs.Prelude.{ℕ, Bool, List, [], Option, Some, None, not, bytes_eq}
 use Rattle.std.specs.List.{list_all, list_any}
 use Rattle.base_core.specs.Name.{is_name}
 use Rattle.adb_view.specs.Plain.{Plain}
+use Rattle.adb_rules.specs.Reserved.{is_reserved}
 use Rattle.adb_fields.specs.Repeated.{entries_at, package_name, paths_in}
 
 abbrev pub is_package_named : List ℕ → Plain → Bool
@@ -15,6 +16,10 @@ lists_path path pkg = list_any (bytes_eq path) (paths_in pkg)
 -- each path that a package lists is a name
 abbrev pub lists_names : Plain → Bool
 lists_names pkg = list_all is_name (paths_in pkg)
+
+-- no path that it lists is reserved
+abbrev pub lists_no_reserved : Plain → Bool
+lists_no_reserved pkg = list_all (λ path. not (is_reserved path)) (paths_in pkg)
 
 -- the packages of the value of a database, or of none
 abbrev pub packages_by : Option Plain → List Plain

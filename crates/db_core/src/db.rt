@@ -10,9 +10,9 @@ ghost use Rattle.adb_tables.specs.declared.tables.Which.TheVariants as Tables;
 ghost use Rattle.adb_view.specs.Head.{head_fault, root_of};
 ghost use Rattle.db_core.specs.NamePlaces.{placed_names_in_order};
 ghost use Rattle.db_core.specs.NameSeen.{name_seen};
-ghost use Rattle.db_core.specs.Packages.{is_package_named, lists_names, lists_path, packages_by};
+ghost use Rattle.db_core.specs.Packages.{is_package_named, lists_names, lists_no_reserved, lists_path, packages_by};
 ghost use Rattle.std.specs.List.{list_all, position_from};
-ghost use Rattle.std.specs.Prelude.{◌≡◌, ◌<◌, ◌^◌, ◌==◌, true, [], All, Some, None, IfSome, length, map, option_map, slice_get, IfOk, IfErr, is_none};
+ghost use Rattle.std.specs.Prelude.{◌≡◌, ◌<◌, ◌^◌, ◌==◌, true, false, [], All, Some, None, IfSome, length, map, option_map, slice_get, IfOk, IfErr, is_none};
 
 use crate::listed_paths::is_path_listed;
 use crate::name_places::{NamePlace, place_of, sorted_names};
@@ -32,9 +32,11 @@ pub struct Db<'a> {
     ghost by_name: { map name_seen names.items
         ≡ placed_names_in_order (packages_by (option_map idb_value idb)) },
     ghost named: { list_all lists_names (packages_by (option_map idb_value idb)) ≡ true },
+    ghost free: { list_all lists_no_reserved (packages_by (option_map idb_value idb)) ≡ true },
 }
 
 impl<'a> Db<'a> {
+    ghost use Rattle.adb_rules.specs.Reserved.{is_reserved};
     ghost use Rattle.base_core.specs.Name.{IsName};
     ghost use Rattle.db_core.specs.Members.{member_listings, staying_member};
     ghost use Rattle.db_core.specs.Seen.{packages_of};
@@ -145,6 +147,12 @@ impl<'a> Db<'a> {
     /// Each path that a package of the database lists is a name.
     pub fn listed_paths_are_names(&self)
         ensures { All (λ l. IsName l.path)
+            (member_listings (map staying_member (packages_of self.now))) }
+    {}
+
+    /// No path that a package of the database lists is reserved.
+    pub fn no_listed_path_is_reserved(&self)
+        ensures { All (λ l. is_reserved l.path ≡ false)
             (member_listings (map staying_member (packages_of self.now))) }
     {}
 }

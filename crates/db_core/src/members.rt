@@ -4,14 +4,16 @@ ghost use Rattle.adb_schema.specs.Views.{package_value};
 ghost use Rattle.adb_view.specs.Plain.{Plain};
 ghost use Rattle.base_core.specs.Listed.{IsRising};
 ghost use Rattle.db_core.specs.EntrySeen.{member_by};
-ghost use Rattle.db_core.specs.Members.{Member, comes_behind, coming_member, member_name, staying_member};
+ghost use Rattle.db_core.specs.Members.{Member, comes_behind, coming_member, is_place, member_name, staying_member};
+ghost use Rattle.list_order.specs.ByteOrder.{precedes};
+ghost use Rattle.std.specs.List.Sorted.{IsPartitionPoint};
 ghost use Rattle.db_core.specs.Packages.{lists_names};
 ghost use Rattle.db_core.specs.declared.members.TheConstants.{MOST_MEMBERS};
 ghost use Rattle.pkg_core.specs.Opened.{opened_payload, opened_value};
 ghost use Rattle.pkg_pieces.specs.Values.{payload_of_contents, value_of_contents};
 ghost use Rattle.sha2.specs.Sha256.{sha256};
 ghost use Rattle.std.specs.List.{list_all};
-ghost use Rattle.std.specs.Prelude.{All, ◌≡◌, ◌<◌, ◌≤◌, ◌++◌, ◌∷◌, [], true, ◌==◌, Some, None, length, map, slice_get, IfOk, OnOk, OnErr};
+ghost use Rattle.std.specs.Prelude.{◌≡◌, ◌<◌, ◌≤◌, ◌++◌, ◌∷◌, [], true, false, ◌==◌, ℕ, All, Some, None, IfSome, bytes_eq, length, map, slice_get, IfOk, OnOk, OnErr};
 
 use crate::db::Db;
 use adb_schema::PackageView;
@@ -53,6 +55,14 @@ pub struct Members<'a> {
     ghost in_order: { IsRising (map (λ e. member_name (member_by e)) entries.items) },
     ghost few: { length entries.items ≤ MOST_MEMBERS },
     ghost named: { list_all (λ e. lists_names (member_by e).pkg) entries.items ≡ true },
+}
+
+/// Whether the name of a package comes before another one.
+fn is_before(entry: &Entry<'_>, name: &[u8]) -> bool
+    ensures { result ≡ precedes (member_name (member_by entry.now)) name.now }
+{
+    let order = entry.view.info().name().cmp(&name);
+    order.is_lt()
 }
 
 impl<'a> Members<'a> {
@@ -141,6 +151,34 @@ impl<'a> Members<'a> {
         }
         let order = self.entries[count - 1].view.info().name().cmp(&name);
         order.is_lt()
+    }
+
+    /// The place of the package with this name, counted from 0. None comes exactly where no package
+    /// has the name. The names are halved at each step.
+    pub fn find(&self, name: &[u8]) -> Option<usize>
+        ensures found { (i : ℕ) (m : Member) → slice_get (members_of self.now) i ≡ Some m
+            → is_place i result ≡ bytes_eq (member_name m) name.now }
+        ensures within { IfSome result (λ i. i < length (members_of self.now)) }
+    {
+        let at = self.count_before(name);
+        if at == self.len() {
+            return None;
+        }
+        if self.entries[at].view.info().name() != name {
+            return None;
+        }
+        Some(at)
+    }
+
+    /// How many packages have names that come before this one.
+    fn count_before(&self, name: &[u8]) -> usize
+        ensures within { result ≤ length self.now.entries.items }
+        ensures point { IsPartitionPoint
+            (λ e. precedes (member_name (member_by e)) name.now ≡ true)
+            (λ e. precedes (member_name (member_by e)) name.now ≡ false)
+            self.now.entries.items result }
+    {
+        self.entries.partition_point(|entry| is_before(entry, name))
     }
 
     /// How many packages there are.

@@ -19,7 +19,7 @@ use Rattle.db_write.specs.NewDatabase.{database_container, database_of, database
 use Rattle.db_write.specs.Unchanged.{all_owned, staying_members}
 use Rattle.db_write.proofs.ReadBack.{Back, is_file}
 use Rattle.db_write.proofs.RootNames.{info_entry, package_folders, package_info}
-use Rattle.db_write.proofs.RootParts.{fields_of_folder}
+use Rattle.db_write.proofs.RootParts.{fields_of_folder, fields_of_package}
 use Rattle.db_write.proofs.Unchanged.{database_same}
 
 -- ---- information
@@ -63,6 +63,18 @@ folder_parts f g h m flags = ap (λ vs. map f (list_of vs)) (package_folders m f
 
 pub folder_acl : (d : Plain) (flags : List Bool) → entry_in (folder_after d flags) 1 ≡ without_zeros (entry_in d 1)
 folder_acl d flags = nth_obj (fields_of_folder d flags) 1
+
+-- ---- scripts, triggers and priority
+
+pub scripts_after : (m : Member) (flags : List Bool) → entry_in (package_after m flags) 2 ≡ without_zeros (entry_in m.pkg 2)
+scripts_after m flags = nth_obj (fields_of_package m flags) 2
+
+pub triggers_after : (m : Member) (flags : List Bool) → entry_in (package_after m flags) 3 ≡ without_zeros (entry_in m.pkg 3)
+triggers_after m flags = nth_obj (fields_of_package m flags) 3
+
+pub priority_after : (m : Member) (flags : List Bool) → int_in (entry_in (package_after m flags) 4) ≡ int_in (entry_in m.pkg 4)
+unfolding without_zeros
+priority_after m flags = ap int_in (nth_obj (fields_of_package m flags) 4) ∙ int_zeros (int (int_in (entry_in m.pkg 4)))
 
 -- ---- no integer is 0
 

@@ -3,6 +3,7 @@ pub mod KeptParts
 pub mod Listed
 pub mod Marking
 pub mod OneOwner
+pub mod OwnedEntries
 pub mod OwnedPaths
 pub mod ReadBack
 pub mod Root

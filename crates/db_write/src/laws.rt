@@ -9,7 +9,7 @@ ghost use Rattle.adb_schema.specs.Soundness.{payload_in, root_value};
 ghost use Rattle.adb_schema.specs.declared.read.TheConstants.{IDB_WORD};
 ghost use Rattle.adb_sound.specs.Root.{IsRootOf};
 ghost use Rattle.adb_tables.specs.Schema.{shape_of};
-ghost use Rattle.adb_tables.specs.Values.{entry_in};
+ghost use Rattle.adb_tables.specs.Values.{entry_in, int_in};
 ghost use Rattle.adb_tables.specs.declared.tables.Kind.TheVariants as Kinds;
 ghost use Rattle.adb_tables.specs.declared.tables.Which.TheVariants as Tables;
 ghost use Rattle.adb_view.specs.Plain.{Plain};
@@ -122,6 +122,26 @@ pub fn a_package_keeps_its_folders()
     ensures acls { (m : Member) (flags : List Bool)
         → map (λ folder. entry_in folder 1) (folders_in (package_after m flags))
         ≡ map (λ folder. without_zeros (entry_in folder 1)) (folders_in m.pkg) }
+{}
+
+/// The entries of files in a new database are those of the files that members list and own, in
+/// their order, each as its member has it, where an integer 0 is Null.
+pub fn a_database_keeps_the_entries_of_owned_files()
+    ensures { (members : List Member) (flags : List Bool)
+        → map (λ l. l.entry)
+        (member_listings (map staying_member (list_of (packages_after members flags))))
+        ≡ map (λ l. without_zeros l.entry) (owned_listings (member_listings members) flags) }
+{}
+
+/// A package in a new database has the scripts, the triggers and the priority in replacing that it
+/// had, where an integer 0 is Null.
+pub fn a_package_keeps_its_scripts_and_its_priority()
+    ensures scripts { (m : Member) (flags : List Bool)
+        → entry_in (package_after m flags) 2 ≡ without_zeros (entry_in m.pkg 2) }
+    ensures triggers { (m : Member) (flags : List Bool)
+        → entry_in (package_after m flags) 3 ≡ without_zeros (entry_in m.pkg 3) }
+    ensures priority { (m : Member) (flags : List Bool)
+        → int_in (entry_in (package_after m flags) 4) ≡ int_in (entry_in m.pkg 4) }
 {}
 
 /// A database that was written, and whose value may stand at the root of a container, is written

@@ -1,5 +1,5 @@
 -- What is known of a file whose front was read, and of the tree.
-use Rattle.std.proofs.Common.{◌≡◌, ◌∙◌, ◌≤◌, ℕ, ◌+◌, Bool, List, [], ◌∷◌, ◌++◌, length, take, drop, Option, Some, None, Result, Ok, Err, refl, ap, sym, subst, arith}
+use Rattle.std.proofs.Common.{◌≡◌, ◌∙◌, ◌≤◌, ℕ, ◌+◌, Bool, List, [], ◌∷◌, ◌++◌, length, take, take_all, drop, Option, Some, None, Result, Ok, Err, refl, ap, sym, subst, arith}
 use Rattle.std.specs.Option.{option_map}
 use Rattle.std.specs.Prelude.{IfErr, IfSome, IsErrOf, OnErr}
 use Rattle.std.proofs.Math.Seq.{take-add}
@@ -15,10 +15,13 @@ use Rattle.file_guard.specs.declared.watch.Watch.{Watch}
 
 -- ---- the file
 
--- where the tree tells its files, so many bytes of the one under the name were seen
-abbrev pub WatchesFront : List TreeState → List ℕ → Watch → Option ListedFile → ℕ → Type 0
-WatchesFront history name watch listed at =
-    IfObservable history (λ v. IfSome (files_of v name) (λ bytes. Watches watch (is_as_told listed) (take at bytes)))
+-- the bytes that were read, and what is to come behind them; where the tree tells its files, they
+-- are the first ones of the file under the name
+pub record HasRead (history : List TreeState) (name : List ℕ) (for_new for_old : Watch) (new old : Option ListedFile) (at : ℕ) : Type 0 where
+  pub bytes : List ℕ
+  pub front : IfObservable history (λ v. IfSome (files_of v name) (λ file. bytes ≡ take at file))
+  pub due_new : Watches for_new (is_as_told new) bytes
+  pub due_old : Watches for_old (is_as_told old) bytes
 
 -- what is known of the file under a name as soon as it is known of each file, where the tree tells
 -- it
@@ -29,27 +32,52 @@ of_file P (Some bytes) h = h bytes refl
 file_has : (P : List ℕ → Type 0) (found : Option (List ℕ)) (bytes : List ℕ) → found ≡ Some bytes → IfSome found P → P bytes
 file_has P found bytes is h = let Q : Option (List ℕ) → Type 0 = λ o. IfSome o P in subst Q is h
 
-further_in : (v : TreeState) (name : List ℕ) (watch after : Watch) (listed : Option ListedFile) (at n : ℕ) (piece : List ℕ)
-    → ((test : List ℕ → Bool) (so_far : List ℕ) → Watches watch test so_far → Watches after test (so_far ++ piece))
-    → IfSome (files_of v name) (λ bytes. piece ≡ take n (drop at bytes))
-    → IfSome (files_of v name) (λ bytes. Watches watch (is_as_told listed) (take at bytes))
-    → IfSome (files_of v name) (λ bytes. Watches after (is_as_told listed) (take (at + n) bytes))
-further_in v name watch after listed at n piece takes read h =
-    of_file _ (files_of v name) (λ bytes is.
-    let piece_is : piece ≡ take n (drop at bytes) = file_has _ (files_of v name) bytes is read in
-    let front_is : take at bytes ++ piece ≡ take (at + n) bytes = ap (λ (xs : List ℕ). take at bytes ++ xs) piece_is ∙ sym (take-add at n bytes) in
-    subst (λ (front : List ℕ). Watches after (is_as_told listed) front) front_is
-    (takes (is_as_told listed) (take at bytes) (file_has _ (files_of v name) bytes is h)))
+nothing_read : (history : List TreeState) (name : List ℕ) → IfObservable history (λ v. IfSome (files_of v name) (λ file. [] ≡ take 0 file))
+nothing_read [] name = tt
+nothing_read (v ∷ earlier) name = of_file _ (files_of v name) (λ file is. refl)
 
-pub further : (history later : List TreeState) (name : List ℕ) (watch after : Watch) (listed : Option ListedFile) (at n : ℕ) (piece : List ℕ)
+pub before_first : (history : List TreeState) (name : List ℕ) (for_new for_old : Watch) (new old : Option ListedFile) → Watches for_new (is_as_told new) [] → Watches for_old (is_as_told old) []
+    → HasRead history name for_new for_old new old 0
+before_first history name for_new for_old new old is_new is_old =
+    record { bytes = []; front = nothing_read history name; due_new = is_new; due_old = is_old }
+
+further_front : (history later : List TreeState) (name : List ℕ) (at n : ℕ) (bytes piece : List ℕ) → later ≡ history
+    → IfObservable later (λ v. IfSome (files_of v name) (λ file. piece ≡ take n (drop at file)))
+    → IfObservable history (λ v. IfSome (files_of v name) (λ file. bytes ≡ take at file))
+    → IfObservable history (λ v. IfSome (files_of v name) (λ file. bytes ++ piece ≡ take (at + n) file))
+further_front [] later name at n bytes piece same read h = tt
+further_front (v ∷ earlier) later name at n bytes piece same read h =
+    of_file _ (files_of v name) (λ file is.
+    let read_here = subst (λ (states : List TreeState). IfObservable states (λ v. IfSome (files_of v name) (λ file. piece ≡ take n (drop at file)))) same read in
+    let piece_is : piece ≡ take n (drop at file) = file_has _ (files_of v name) file is read_here in
+    let bytes_are : bytes ≡ take at file = file_has _ (files_of v name) file is h in
+    ap (λ (xs : List ℕ). xs ++ piece) bytes_are
+    ∙ (ap (λ (xs : List ℕ). take at file ++ xs) piece_is ∙ sym (take-add at n file)))
+
+pub further : (history later : List TreeState) (name : List ℕ) (for_new for_old new_after old_after : Watch) (new old : Option ListedFile) (at n : ℕ) (piece : List ℕ)
     → later ≡ history
-    → ((test : List ℕ → Bool) (so_far : List ℕ) → Watches watch test so_far → Watches after test (so_far ++ piece))
-    → IfObservable later (λ v. IfSome (files_of v name) (λ bytes. piece ≡ take n (drop at bytes)))
-    → WatchesFront history name watch listed at → WatchesFront history name after listed (at + n)
-further [] later name watch after listed at n piece same takes read h = tt
-further (v ∷ earlier) later name watch after listed at n piece same takes read h =
-    further_in v name watch after listed at n piece takes
-    (subst (λ (states : List TreeState). IfObservable states (λ v. IfSome (files_of v name) (λ bytes. piece ≡ take n (drop at bytes)))) same read) h
+    → ((test : List ℕ → Bool) (so_far : List ℕ) → Watches for_new test so_far → Watches new_after test (so_far ++ piece))
+    → ((test : List ℕ → Bool) (so_far : List ℕ) → Watches for_old test so_far → Watches old_after test (so_far ++ piece))
+    → IfObservable later (λ v. IfSome (files_of v name) (λ file. piece ≡ take n (drop at file)))
+    → HasRead history name for_new for_old new old at → HasRead history name new_after old_after new old (at + n)
+further history later name for_new for_old new_after old_after new old at n piece same takes_new takes_old read has = record {
+  bytes = has.bytes ++ piece;
+  front = further_front history later name at n has.bytes piece same read has.front;
+  due_new = takes_new (is_as_told new) has.bytes has.due_new;
+  due_old = takes_old (is_as_told old) has.bytes has.due_old;
+}
+
+-- all bytes of the file
+pub all_read : (history : List TreeState) (name : List ℕ) (size at : ℕ) (bytes : List ℕ) → IfObservable history (λ v. Some size ≡ option_map length (files_of v name)) → size ≤ at
+    → IfObservable history (λ v. IfSome (files_of v name) (λ file. bytes ≡ take at file)) → IfObservable history (λ v. Some bytes ≡ files_of v name)
+all_read [] name size at bytes told le h = tt
+all_read (v ∷ earlier) name size at bytes told le h = by_file (files_of v name) told h
+  where
+    by_file : (found : Option (List ℕ)) → Some size ≡ option_map length found → IfSome found (λ file. bytes ≡ take at file) → Some bytes ≡ found
+    by_file None told h = absurd (cc)
+    by_file (Some file) told h =
+        let long : length file ≡ size = (cc) in
+        ap (λ (xs : List ℕ). Some xs) (h ∙ take_all at file (omega arith))
 
 -- ---- the tree
 

@@ -1,6 +1,6 @@
 //! A file of a tree, read once and compared with two entries.
 
-ghost use Rattle.std.specs.Prelude.{◌≡◌, length, Some, IfOk, IfSome};
+ghost use Rattle.std.specs.Prelude.{◌≡◌, ℕ, List, length, Option, Some, IfOk};
 ghost use Rattle.std.specs.Option.{option_map};
 ghost use Rattle.base_core.specs.Calls.{IfObservable};
 ghost use Rattle.base_core.specs.Read.{OnlyReads};
@@ -23,7 +23,8 @@ pub struct Comparison {
 
 /// Compares the file under a name with two entries, of which one may be absent: then no bytes are
 /// as it lists them. None comes exactly where the name is absent. The file is read once, in pieces
-/// of 65,536 bytes, and the tree stays as it is, whatever the answer.
+/// of 65,536 bytes, and the tree stays as it is, whatever the answer. Also where the tree does not
+/// tell its files the answer is right of some file or of none.
 ///
 /// # Errors
 ///
@@ -34,6 +35,9 @@ pub fn compare_file<T: Tree>(
     new: Option<ListedFile<'_>>,
     old: Option<ListedFile<'_>>,
 ) -> Result<Option<Comparison>, Disk>
+    ensures found { IfOk result (λ answer. (file : Option (List ℕ))
+        × IfObservable (T.history tree.old) (λ v. file ≡ files_of v name.now)
+        × (answer ≡ comparison_of new.entry old.entry file)) }
     ensures answer { IfOk result (λ found. IfObservable (T.history tree.old) (λ v.
         found ≡ comparison_of new.entry old.entry (files_of v name.now))) }
     ensures tree { OnlyReads (record {}) (T.history tree.old) (T.history tree.new)
@@ -56,9 +60,9 @@ fn compare_present<T: Tree>(
 ) -> Result<Comparison, Disk>
     requires { IfObservable (T.history tree.old) (λ v.
         Some size ≡ option_map length (files_of v name.now)) }
-    ensures answer { IfOk result (λ comparison. IfObservable (T.history tree.old) (λ v.
-        IfSome (files_of v name.now) (λ bytes.
-        comparison ≡ comparison_by new.entry old.entry bytes))) }
+    ensures found { IfOk result (λ comparison. (bytes : List ℕ)
+        × IfObservable (T.history tree.old) (λ v. Some bytes ≡ files_of v name.now)
+        × (comparison ≡ comparison_by new.entry old.entry bytes)) }
     ensures tree { OnlyReads (record {}) (T.history tree.old) (T.history tree.new)
         (T.counts tree.old) (T.counts tree.new) result }
 {

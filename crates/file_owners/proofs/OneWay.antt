@@ -1,5 +1,5 @@
 -- No two members beat each other.
-use Rattle.std.proofs.Common.{◌≡◌, ℕ, suc, zero, ◌<◌, ◌≤◌, Bool, true, false, List, [], ◌∷◌, length, Option, Some, None, refl, ap, sym, ◌∙◌, arith, true≢false}
+use Rattle.std.proofs.Common.{◌≡◌, ℕ, suc, zero, ◌≤◌, Bool, true, false, List, [], ◌∷◌, length, Option, Some, None, refl, ap, sym, ◌∙◌, arith, true≢false}
 use Rattle.std.specs.Prelude.{◌||◌, ◌&&◌, not, nat_lt, ◌==◌, slice_get}
 use Rattle.std.specs.Ordering.{is_lt, ordering_reverse}
 use Rattle.std.specs.declared.cmp.Ordering.{Ordering}
@@ -57,25 +57,11 @@ none_is_beaten members x y g = sym (ap (takes_over_if_any (slice_get members x))
     go None = refl
     go (Some a) = refl
 
--- two members by their places
-some_member : (members : List Member) (i : ℕ) → i < length members → (m : Member) × (slice_get members i ≡ Some m)
-some_member [] i l = absurd (omega arith)
-some_member (m ∷ members) zero l = (m, refl)
-some_member (m ∷ members) (suc i) l = some_member members i (omega arith)
-
+-- no member stands past the last
 none_member : (members : List Member) (i : ℕ) → length members ≤ i → slice_get members i ≡ None
 none_member [] i l = refl
 none_member (m ∷ members) zero l = absurd (omega arith)
 none_member (m ∷ members) (suc i) l = none_member members i (omega arith)
-
-pub two_members : (members : List Member) (x y : ℕ) (v w : Plain) (t : Bool) → x < length members → y < length members
-    → ((m : Member) → slice_get members x ≡ Some m → v ≡ m.pkg) → ((m : Member) → slice_get members y ≡ Some m → w ≡ m.pkg)
-    → t ≡ takes_over v w → t ≡ member_beats members x y
-unfolding member_beats
-two_members members x y v w t l k f g h =
-    let m = some_member members x l in
-    let n = some_member members y k in
-    h ∙ ((λ j. takes_over (f m.0 m.1 j) (g n.0 n.1 j)) ∙ sym (λ j. takes_over_if_any (m.1 j) (n.1 j)))
 
 pub no_first : (members : List Member) (x y : ℕ) → length members ≤ x → false ≡ member_beats members x y
 no_first members x y l = none_beats members x y (none_member members x l)

@@ -3,3 +3,4 @@ pub mod Replaces
 pub mod Owners
 -- what only inner contracts and proofs use
 pub mod Gathered
+pub mod NamedPlaces

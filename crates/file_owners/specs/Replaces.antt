@@ -22,16 +22,15 @@ abbrev pub replaced_dependency : Plain → Option Dependency
 replaced_dependency v =
     dependency_of_value (text_in (entry_in v 0)) (text_in (entry_in v 1)) (int_in (entry_in v 2))
 
--- one of the entries is positive, and met by a name and a version
-abbrev pub is_any_replaced : List Plain → List ℕ → List ℕ → Bool
-is_any_replaced entries name version =
-    list_any (λ v. is_replaced_by (replaced_dependency v) name version) entries
-
--- x names y: what x replaces is met by y's own name and version
-unfoldable pub names_package : Plain → Plain → Bool
-names_package x y =
+-- an entry of what a package replaces names y: it is positive, and met by y's own name and version
+abbrev pub is_named_by : Plain → Plain → Bool
+is_named_by entry y =
     is_version (version_text y)
-    && is_any_replaced (entries_at 16 (entry_in x 0)) (package_name y) (version_text y)
+    && is_replaced_by (replaced_dependency entry) (package_name y) (version_text y)
+
+-- x names y: an entry of what x replaces does
+unfoldable pub names_package : Plain → Plain → Bool
+names_package x y = list_any (λ entry. is_named_by entry y) (entries_at 16 (entry_in x 0))
 
 abbrev pub replacing_priority : Plain → ℕ
 replacing_priority pkg = int_in (entry_in pkg 4)

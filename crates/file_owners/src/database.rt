@@ -27,9 +27,9 @@ pub fn claims_in_database<'a>(alloc: Global, db: &Db<'a>) -> Result<Vec<Claim<'a
     ensures { IfOk result (λ claims. map claim_seen claims.items
         ≡ sorted_by claim_cmp (claims_in (map staying_member (packages_of db.now)))) }
 {
-    let mut claims = listed_files(alloc, db)?;
-    sort_claims(&mut claims)?;
-    Ok(claims)
+    let mut sorted = listed_files(alloc, db)?;
+    sort_claims(&mut sorted)?;
+    Ok(sorted)
 }
 
 /// The files in the order of packages, folders and files.

@@ -124,7 +124,7 @@ fn add_member<'a>(
 }
 
 /// A place among members, as claims have it.
-fn place_of(members: &Members<'_>, i: usize) -> u32
+pub(crate) fn place_of(members: &Members<'_>, i: usize) -> u32
     requires { i < length (members_of members.now) }
     ensures { result ≡ i }
 {

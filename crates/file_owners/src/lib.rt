@@ -2,12 +2,14 @@
 //!
 //! `owners_of_files` takes the packages after a change, those that stay and those that come. It
 //! tells for each file that one of them lists whether that package owns it. `claims_in_database`
-//! gathers the files that the packages of a database list. The contracts cite `Replaces` (which package takes over the files of another) and `Owners` of `specs/`.
+//! gathers the files that the packages of a database list. The contracts cite `Replaces` (which
+//! package takes over the files of another) and `Owners` of `specs/`.
 #![tactic(auto)]
 
 mod database;
 mod gather;
 mod laws;
+mod named;
 mod owner;
 mod replaces;
 

@@ -8,44 +8,56 @@ ghost use Rattle.path_claims.specs.Claims.{claim_cmp};
 ghost use Rattle.path_claims.specs.ContestedSeen.{contested_seen};
 ghost use Rattle.path_claims.specs.Seen.{claim_seen};
 ghost use Rattle.file_owners.specs.Owners.{claims_in, contested_of, member_beats, owned_of, owner_of_path};
-ghost use Rattle.file_owners.specs.Replaces.{takes_over};
+ghost use Rattle.file_owners.specs.NamedPlaces.{ArePlacesOfEach};
 
 use crate::gather::claims_in;
-use crate::replaces::takes_over;
+use crate::named::{is_among, places_of_each};
+use crate::replaces::is_preferred;
 use db_core::Members;
 use path_claims::{Contest, Owners, owners_of};
 use std::alloc::{AllocError, Global};
 
-/// Members, some of which take over the files of others.
-#[derive(Clone, Copy)]
+/// Members, some of which take over the files of others: for each the places of those that it
+/// names.
+#[derive(Drop)]
 struct Claimants<'m, 'a> {
     members: &'m Members<'a>,
+    named: Vec<Vec<u32>>,
+    ghost each: { ArePlacesOfEach (members_of members.now) (map (λ v. v.items) named.items) },
 }
 
 impl<'m, 'a> Contest for Claimants<'m, 'a> {
     ghost beats = { λ claimants. member_beats (members_of claimants.members.now) };
 
     fn beats(&self, one: u32, other: u32) -> bool {
-        let one = one as usize;
-        let other = other as usize;
-        if one >= self.members.len() || other >= self.members.len() {
+        if one as usize >= self.members.len() {
             return false;
         }
-        member_beats(self.members, one, other)
+        if other as usize >= self.members.len() {
+            return false;
+        }
+        member_beats(self.members, &self.named, one, other)
     }
 }
 
 /// Whether the member at one place takes over the files of the one at another.
-fn member_beats(members: &Members<'_>, one: usize, other: usize) -> bool
+fn member_beats(members: &Members<'_>, named: &[Vec<u32>], one: u32, other: u32) -> bool
     requires one { one < length (members_of members.now) }
     requires other { other < length (members_of members.now) }
+    requires each { ArePlacesOfEach (members_of members.now) (map (λ v. v.items) named.now) }
     ensures { result ≡ member_beats (members_of members.now) one other }
 {
-    takes_over(members.view(one), members.view(other))
+    if !is_among(&named[one as usize], other) {
+        return false;
+    }
+    if !is_among(&named[other as usize], one) {
+        return true;
+    }
+    is_preferred(members.view(one as usize), members.view(other as usize))
 }
 
-/// Finds who owns the files that members list. It takes a few words for each file, and compares
-/// paths as a sort does.
+/// Finds who owns the files that members list. It takes a few words for each file and each entry of
+/// what members replace, reads each entry once, and compares paths as a sort does.
 ///
 /// # Errors
 ///
@@ -61,5 +73,6 @@ pub fn owners_of_files<'a>(alloc: Global, members: &Members<'a>) -> Result<Owner
         ≡ contested_of (members_of members.now)) }
 {
     let claims = claims_in(alloc, members)?;
-    owners_of(alloc, &Claimants { members }, claims)
+    let named = places_of_each(alloc, members)?;
+    owners_of(alloc, &Claimants { members, named }, claims)
 }

@@ -7,6 +7,11 @@ use Rattle.std.proofs.lemmas.Bool.{false≢true}
 use Rattle.base_core.specs.Files.{Files, IsWithin}
 use Rattle.base_core.specs.Listed.{IsNamesOf}
 use Rattle.base_core.specs.declared.cause.Cause.{Cause}
+use Rattle.engine_core.specs.Choice.{IsChoiceFrom}
+use Rattle.engine_core.specs.Simulated.{pool_for}
+use Rattle.make_info.specs.Reads.{Reads}
+use Rattle.pool_core.specs.Rank.{SealedPool}
+use Rattle.report_core.specs.declared.refusal.Refusal.{Refusal}
 use Rattle.report_core.specs.declared.refusal.Refusal.TheVariants.{IntentBad, Usage}
 use Rattle.command_core.specs.Command.{CommandLine}
 use Rattle.command_core.specs.Files.{without_dot}
@@ -14,12 +19,12 @@ use Rattle.command_core.specs.declared.values.TheConstants.{FILES}
 use Rattle.command_core.specs.Files.{without_dot}
 use Rattle.words_core.specs.Grammar.{command_of}
 use Rattle.command_core.specs.declared.command.Applet.{Applet}
-use Rattle.command_core.specs.declared.command.Applet.TheVariants.{Mkpkg}
+use Rattle.command_core.specs.declared.command.Applet.TheVariants.{Add, Mkpkg}
 use Rattle.command_core.specs.declared.values.OptionValue.{OptionValue}
 use Rattle.make_package.specs.Sources.{values_with}
 use Rattle.outcome.proofs.Recovered.{unstaged_within}
-use Rattle.outcome.specs.Commands.{IsListingFor, IsOutcome, IsOutcomeOf, IsOutcomeOver, IsOutcomeUnless, reads_in, command_outcome}
-use Rattle.outcome.specs.Effect.{Effect, Computes, Reads, Tells, Makes, Changes, effect_of}
+use Rattle.outcome.specs.Commands.{IsChosenFor, IsListingFor, IsOutcome, IsOutcomeOf, IsOutcomeOver, IsOutcomeUnless, reads_in, command_outcome}
+use Rattle.outcome.specs.Effect.{Effect, Computes, Reads as OnlyReads, Tells, Makes, Changes, effect_of}
 use Rattle.outcome.specs.Make.{IsListing, files_below}
 use Rattle.outcome.specs.Outcome.{Outcome, just_refusal}
 use Rattle.outcome.specs.Work.{recovery_fault, work_files}
@@ -49,25 +54,41 @@ names_exist have other command files within h = ([], refl)
 
 work_within : (effect : Effect) (files : Files) (within : List (List ℕ)) → IsWithin within files → (names : List (List ℕ)) × IsWithin names (work_files effect files)
 work_within Computes files within h = (within, h)
-work_within Reads files within h = (within, h)
+work_within OnlyReads files within h = (within, h)
 work_within Tells files within h = unstaged_within files within h
 work_within Makes files within h = unstaged_within files within h
 work_within Changes files within h = unstaged_within files within h
 
-outcome_unless : HaveList → (fault : Option Cause) (command : CommandLine) (files : Files) (within : List (List ℕ)) → IsWithin within files → (o : Outcome) × IsOutcomeUnless fault command files o
-outcome_unless have (Some cause) command files within h = (just_refusal files (IntentBad cause), refl)
-outcome_unless have None command files within h =
+-- something is chosen, whatever the candidates are, and just one thing
+abbrev pub HaveChoice : Type 0
+HaveChoice = (pool : Result SealedPool Refusal) → (chosen : Option (List ℕ)) × IsChoiceFrom pool chosen
+
+abbrev pub HaveOneChoice : Type 0
+HaveOneChoice = (pool : Result SealedPool Refusal) (a b : Option (List ℕ)) → IsChoiceFrom pool a → IsChoiceFrom pool b → a ≡ b
+
+chosen_exists : HaveChoice → (applet : Applet) (command : CommandLine) (read : Reads) → (chosen : Option (List ℕ)) × IsChosenFor applet command read chosen
+chosen_exists choose Add command read = choose (pool_for command read)
+chosen_exists choose other command read = (None, refl)
+
+chosen_one : HaveOneChoice → (applet : Applet) (command : CommandLine) (read : Reads) (a b : Option (List ℕ)) → IsChosenFor applet command read a → IsChosenFor applet command read b → a ≡ b
+chosen_one one Add command read a b x y = one (pool_for command read) a b x y
+chosen_one one other command read a b x y = x ∙ sym y
+
+outcome_unless : HaveList → HaveChoice → (fault : Option Cause) (command : CommandLine) (files : Files) (within : List (List ℕ)) → IsWithin within files → (o : Outcome) × IsOutcomeUnless fault command files o
+outcome_unless have choose (Some cause) command files within h = (just_refusal files (IntentBad cause), refl)
+outcome_unless have choose None command files within h =
     let work = work_files (effect_of command.applet) files in
     let (within_work, is) = work_within (effect_of command.applet) files within h in
     let (names, listed) = names_exist have command.applet command work within_work is in
-    (command_outcome command names (reads_in work) work, (names, listed, refl))
+    let (chosen, choice) = chosen_exists choose command.applet command (reads_in work) in
+    (command_outcome command names chosen (reads_in work) work, (names, listed, chosen, choice, refl))
 
-outcome_by : HaveList → (read : Result CommandLine ℕ) (files : Files) (within : List (List ℕ)) → IsWithin within files → (o : Outcome) × IsOutcomeOf read files o
-outcome_by have (Err place) files within h = (just_refusal files (Usage place), refl)
-outcome_by have (Ok command) files within h = outcome_unless have (recovery_fault (effect_of command.applet) files) command files within h
+outcome_by : HaveList → HaveChoice → (read : Result CommandLine ℕ) (files : Files) (within : List (List ℕ)) → IsWithin within files → (o : Outcome) × IsOutcomeOf read files o
+outcome_by have choose (Err place) files within h = (just_refusal files (Usage place), refl)
+outcome_by have choose (Ok command) files within h = outcome_unless have choose (recovery_fault (effect_of command.applet) files) command files within h
 
-pub outcome_exists : HaveList → (words within : List (List ℕ)) (files : Files) → IsWithin within files → (o : Outcome) × IsOutcome words files o
-outcome_exists have words within files h = outcome_by have (command_of words) files within h
+pub outcome_exists : HaveList → HaveChoice → (words within : List (List ℕ)) (files : Files) → IsWithin within files → (o : Outcome) × IsOutcome words files o
+outcome_exists have choose words within files h = outcome_by have choose (command_of words) files within h
 
 listing_one : HaveOneList → (values : List OptionValue) (files : Files) (a b : List (List ℕ)) → IsListing values files a → IsListing values files b → a ≡ b
 listing_one one [] files a b x y = x ∙ sym y
@@ -77,17 +98,20 @@ names_one : HaveOneList → (applet : Applet) (command : CommandLine) (files : F
 names_one one Mkpkg command files a b x y = listing_one one (values_with FILES command.values) files a b x y
 names_one one other command files a b x y = x ∙ sym y
 
-over_one : HaveOneList → (command : CommandLine) (files : Files) (a b : Outcome) → IsOutcomeOver command files a → IsOutcomeOver command files b → a ≡ b
-over_one one command files a b (n, g, x) (m, k, y) =
-    x ∙ (ap (λ names. command_outcome command names (reads_in files) files) (names_one one command.applet command files n m g k) ∙ sym y)
+over_one : HaveOneList → HaveOneChoice → (command : CommandLine) (files : Files) (a b : Outcome) → IsOutcomeOver command files a → IsOutcomeOver command files b → a ≡ b
+over_one one choice command files a b (n, g, c, h, x) (m, k, d, l, y) =
+    x
+    ∙ ap (λ names. command_outcome command names c (reads_in files) files) (names_one one command.applet command files n m g k)
+    ∙ ap (λ chosen. command_outcome command m chosen (reads_in files) files) (chosen_one choice command.applet command (reads_in files) c d h l)
+    ∙ sym y
 
-unless_one : HaveOneList → (fault : Option Cause) (command : CommandLine) (files : Files) (a b : Outcome) → IsOutcomeUnless fault command files a → IsOutcomeUnless fault command files b → a ≡ b
-unless_one one (Some cause) command files a b x y = x ∙ sym y
-unless_one one None command files a b x y = over_one one command (work_files (effect_of command.applet) files) a b x y
+unless_one : HaveOneList → HaveOneChoice → (fault : Option Cause) (command : CommandLine) (files : Files) (a b : Outcome) → IsOutcomeUnless fault command files a → IsOutcomeUnless fault command files b → a ≡ b
+unless_one one choice (Some cause) command files a b x y = x ∙ sym y
+unless_one one choice None command files a b x y = over_one one choice command (work_files (effect_of command.applet) files) a b x y
 
-outcome_one : HaveOneList → (read : Result CommandLine ℕ) (files : Files) (a b : Outcome) → IsOutcomeOf read files a → IsOutcomeOf read files b → a ≡ b
-outcome_one one (Err place) files a b x y = x ∙ sym y
-outcome_one one (Ok command) files a b x y = unless_one one (recovery_fault (effect_of command.applet) files) command files a b x y
+outcome_one : HaveOneList → HaveOneChoice → (read : Result CommandLine ℕ) (files : Files) (a b : Outcome) → IsOutcomeOf read files a → IsOutcomeOf read files b → a ≡ b
+outcome_one one choice (Err place) files a b x y = x ∙ sym y
+outcome_one one choice (Ok command) files a b x y = unless_one one choice (recovery_fault (effect_of command.applet) files) command files a b x y
 
-pub outcome_unique : HaveOneList → (words : List (List ℕ)) (files : Files) (a b : Outcome) → IsOutcome words files a → IsOutcome words files b → a ≡ b
-outcome_unique one words files a b x y = outcome_one one (command_of words) files a b x y
+pub outcome_unique : HaveOneList → HaveOneChoice → (words : List (List ℕ)) (files : Files) (a b : Outcome) → IsOutcome words files a → IsOutcome words files b → a ≡ b
+outcome_unique one choice words files a b x y = outcome_one one choice (command_of words) files a b x y

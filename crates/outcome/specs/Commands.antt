@@ -11,7 +11,10 @@ use Rattle.report_core.specs.declared.refusal.Refusal.TheVariants.{IntentBad, Us
 use Rattle.command_core.specs.Command.{CommandLine}
 use Rattle.words_core.specs.Grammar.{command_of}
 use Rattle.command_core.specs.declared.command.Applet.{Applet}
-use Rattle.command_core.specs.declared.command.Applet.TheVariants.{Adbdump, Mkndx, Mkpkg, Verify, Version}
+use Rattle.command_core.specs.declared.command.Applet.TheVariants.{Adbdump, Add, Mkndx, Mkpkg, Verify, Version}
+use Rattle.engine_core.specs.Choice.{IsChoiceFrom}
+use Rattle.engine_core.specs.Simulated.{pool_for}
+use Rattle.outcome.specs.Changing.{add}
 use Rattle.outcome.specs.Dump.{adbdump}
 use Rattle.outcome.specs.Effect.{does_recover, effect_of}
 use Rattle.outcome.specs.Make.{IsListing, mkndx, mkpkg}
@@ -22,18 +25,30 @@ use Rattle.outcome.specs.Work.{recovery_fault, work_files}
 
 -- ---- the outcome of an applet
 
--- by the names that it lists, by what its reads find, and by the files, which it may change
-abbrev pub applet_outcome : Applet → CommandLine → List (List ℕ) → Reads → Files → Outcome
-applet_outcome Verify command names read files = verify read files command.operands
-applet_outcome Version command names read files = version files command.flags command.operands
-applet_outcome Adbdump command names read files = adbdump read files command.operands
-applet_outcome Mkpkg command names read files = mkpkg read files command names
-applet_outcome Mkndx command names read files = mkndx read files command
+-- by the names that it lists, by the candidates that are chosen, by what its reads find, and by the
+-- files, which it may change
+abbrev pub applet_outcome :
+    Applet → CommandLine → List (List ℕ) → Option (List ℕ) → Reads → Files → Outcome
+applet_outcome Verify command names chosen read files = verify read files command.operands
+applet_outcome Version command names chosen read files =
+    version files command.flags command.operands
+applet_outcome Adbdump command names chosen read files = adbdump read files command.operands
+applet_outcome Mkpkg command names chosen read files = mkpkg read files command names
+applet_outcome Mkndx command names chosen read files = mkndx read files command
+applet_outcome Add command names chosen read files = add read files command chosen
 -- no word names another applet yet
-applet_outcome other command names read files = just_report files []
+applet_outcome other command names chosen read files = just_report files []
 
-abbrev pub command_outcome : CommandLine → List (List ℕ) → Reads → Files → Outcome
-command_outcome command names read files = applet_outcome command.applet command names read files
+abbrev pub command_outcome :
+    CommandLine → List (List ℕ) → Option (List ℕ) → Reads → Files → Outcome
+command_outcome command names chosen read files =
+    applet_outcome command.applet command names chosen read files
+
+-- what an applet chooses, by what its reads find: the places of candidates, in the order in which
+-- they are chosen; None where none satisfy the world, and of an applet that chooses nothing
+abbrev pub IsChosenFor : Applet → CommandLine → Reads → Option (List ℕ) → Type 0
+IsChosenFor Add command read chosen = IsChoiceFrom (pool_for command read) chosen
+IsChosenFor other command read chosen = chosen ≡ None
 
 -- ---- over the files of a tree
 
@@ -51,7 +66,9 @@ abbrev pub IsOutcomeOver : CommandLine → Files → Outcome → Type 0
 IsOutcomeOver command files outcome =
     (names : List (List ℕ))
     × IsListingFor command.applet command files names
-    × (outcome ≡ command_outcome command names (reads_in files) files)
+    × (chosen : Option (List ℕ))
+    × IsChosenFor command.applet command (reads_in files) chosen
+    × (outcome ≡ command_outcome command names chosen (reads_in files) files)
 
 -- a bad intent is refused before all else but a usage error, and nothing changes
 abbrev pub IsOutcomeUnless : Option Cause → CommandLine → Files → Outcome → Type 0
@@ -82,7 +99,9 @@ IsFoundOver command outcome =
     (names : List (List ℕ))
     × MayBeListedFor command.applet command names
     × (read : Reads)
-    × (outcome ≡ command_outcome command names read no_names)
+    × (chosen : Option (List ℕ))
+    × IsChosenFor command.applet command read chosen
+    × (outcome ≡ command_outcome command names chosen read no_names)
 
 -- some file is no intent container, and that is refused
 abbrev pub IsFoundUnrecovered : Outcome → Type 0

@@ -4,7 +4,7 @@ use Rattle.make_info.specs.Output.{output_name}
 use Rattle.command_core.specs.Command.{CommandLine}
 use Rattle.words_core.specs.Grammar.{command_of}
 use Rattle.command_core.specs.declared.command.Applet.{Applet}
-use Rattle.command_core.specs.declared.command.Applet.TheVariants.{Adbdump, Mkndx, Mkpkg, Verify}
+use Rattle.command_core.specs.declared.command.Applet.TheVariants.{Adbdump, Add, Mkndx, Mkpkg, Verify}
 
 pub data Effect : Type 0 where
   -- it looks at the words alone
@@ -18,12 +18,13 @@ pub data Effect : Type 0 where
   -- it recovers, reads files, and writes and removes several in one step
   Changes : Effect
 
--- no word names an applet that is not listed here, and none yet that tells or changes
+-- no word names yet an applet that tells
 abbrev pub effect_of : Applet → Effect
 effect_of Verify = Reads
 effect_of Adbdump = Reads
 effect_of Mkpkg = Makes
 effect_of Mkndx = Makes
+effect_of Add = Changes
 effect_of other = Computes
 
 abbrev pub does_rest_on_words : Effect → Bool

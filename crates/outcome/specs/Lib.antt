@@ -7,5 +7,6 @@ pub mod Version
 pub mod Verify
 pub mod Dump
 pub mod Make
+pub mod Changing
 -- what only inner contracts and proofs use
 pub mod Sound

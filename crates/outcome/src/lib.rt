@@ -3,7 +3,7 @@
 //!
 //! It is a crate of definitions. `Outcome` of `specs/` says what a command comes to, `Commands`
 //! what a command line comes to, `Effect` what it looks at and changes, and `Version`, `Verify`,
-//! `Dump` and `Make` what each command comes to; `Sound` says when a file is a sound container. The
+//! `Dump`, `Make` and `Changing` what each command comes to; `Sound` says when a file is a sound container. The
 //! functions are laws: they do nothing, and their contracts say what follows from the definitions,
 //! for all words and files.
 #![tactic(auto)]
@@ -21,6 +21,7 @@ ghost use Rattle.words_core.specs.Grammar.{command_of};
 
 use adb_schema::sound_containers_hold_sound_values;
 use base_core::{files_have_one_list_of_names, the_files_of_a_whole_state_are_named_files};
+use engine_core::{a_choice_exists, a_choice_is_unique};
 use journal_intent::an_intent_is_read_from_a_sound_container;
 use make_core::{a_made_index_is_sound, a_made_package_is_sound};
 
@@ -30,6 +31,7 @@ pub fn an_outcome_exists()
         → IsWithin within files → (o : Outcome) × IsOutcome words files o }
 {
     files_have_one_list_of_names();
+    a_choice_exists();
 }
 
 /// A command line has one outcome over some files, and no second one.
@@ -38,6 +40,7 @@ pub fn an_outcome_is_unique()
         → IsOutcome words files a → IsOutcome words files b → a ≡ b }
 {
     files_have_one_list_of_names();
+    a_choice_is_unique();
 }
 
 /// A command that only reads leaves the files as they are, and commits nothing.

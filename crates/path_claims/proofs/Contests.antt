@@ -1,7 +1,8 @@
 -- The walk finds the winner, if there is one.
-use Rattle.std.proofs.Common.{◌≡◌, ℕ, suc, zero, ◌<◌, ◌≤◌, Bool, true, false, cond, List, [], ◌∷◌, length, map, drop, Option, Some, None, refl, ap, sym, ◌∙◌, subst, arith, true≢false, inl, inr}
+use Rattle.std.proofs.Common.{◌≡◌, ℕ, suc, zero, ◌-◌, ◌<◌, ◌≤◌, Bool, true, false, cond, List, [], ◌∷◌, length, map, drop, take, Option, Some, None, refl, ap, sym, ◌∙◌, subst, arith, true≢false, inl, inr}
 use Rattle.std.specs.Prelude.{◌||◌, ◌&&◌, ◌⊎◌, ◌==◌, if◌then◌else◌, not, option_map, slice_index_or}
 use Rattle.std.specs.List.{find, list_any}
+use Rattle.std.proofs.lemmas.List.{take_all}
 use borrow.Author.Tests.{eqb-true}
 use Rattle.path_claims.specs.Contest.{beats_each, first_rivals, rivals_of, winner, IsOneWay}
 use Rattle.path_claims.specs.LeftOver.{left_over}
@@ -110,19 +111,11 @@ module _ (beats : ℕ → ℕ → Bool) (one_way : IsOneWay beats) where
           let is : left_over beats c rest ≡ x = stays_left (c ∷ rest) x f.0 c rest (λ y a. a) f.1 in
           sym (subst (λ l. (if beats_each beats (c ∷ rest) l then Some l else None) ≡ Some x) (sym is) (ap (λ b. if b then Some x else None) f.0))
 
-  -- the first is passed over at once
-  again : (c : ℕ) (rest : List ℕ) → left_over beats c (c ∷ rest) ≡ left_over beats c rest
-  again c rest = go (beats c c)
-    where
-      go : (b : Bool) → (if b then left_over beats c rest else left_over beats c rest) ≡ left_over beats c rest
-      go true = refl
-      go false = refl
-
-  pub winner_by : (c : ℕ) (rest : List ℕ) (left : ℕ) (b : Bool) → left ≡ left_over beats c (c ∷ rest) → b ≡ beats_each beats (c ∷ rest) left
+  pub winner_by : (c : ℕ) (rest : List ℕ) (left : ℕ) (b : Bool) → left ≡ left_over beats c rest → b ≡ beats_each beats (c ∷ rest) left
       → (if b then Some left else None) ≡ winner beats (c ∷ rest)
   winner_by c rest left b l w =
       ap (λ x. if x then Some left else None) w
-      ∙ ((λ j. if beats_each beats (c ∷ rest) ((l ∙ again c rest) j) then Some ((l ∙ again c rest) j) else None) ∙ sym (winner_is c rest))
+      ∙ ((λ j. if beats_each beats (c ∷ rest) (l j) then Some (l j) else None) ∙ sym (winner_is c rest))
 
 -- ---- no two owners
 
@@ -155,10 +148,11 @@ none_wins beats f [] h = refl
 none_wins beats f (x ∷ xs) h = absurd (none_long (length xs) (eqb-true _ _ h))
 
 pub one_wins : {X : Type 0} (beats : ℕ → ℕ → Bool) → IsOneWay beats → (f : X → ℕ) (xs : List X) (d : X) (left : ℕ) (b : Bool) → (length xs == 0) ≡ false
-    → left ≡ left_over beats (f (slice_index_or xs 0 d)) (map f xs) → b ≡ beats_each beats (map f xs) left
+    → left ≡ left_over beats (f (slice_index_or xs 0 d)) (map f (take (length xs - 1) (drop 1 xs))) → b ≡ beats_each beats (map f xs) left
     → (if b then Some left else None) ≡ winner beats (map f xs)
 one_wins beats w f [] d left b h l t = absurd (true≢false h)
-one_wins beats w f (x ∷ xs) d left b h l t = winner_by beats w (f x) (map f xs) left b l t
+one_wins beats w f (x ∷ xs) d left b h l t =
+    winner_by beats w (f x) (map f xs) left b (l ∙ ap (λ r. left_over beats (f x) (map f r)) (take_all (length (x ∷ xs) - 1) xs (omega arith))) t
 
 -- ---- the first that passes
 

@@ -66,7 +66,7 @@ pub(crate) fn winner<C: Contest>(contest: &C, claims: &[Claim<'_>]) -> Option<u3
     if claims.is_empty() {
         return None;
     }
-    let left = left_over(contest, claims[0].member, claims);
+    let left = left_over(contest, claims[0].member, &claims[1..]);
     if is_winner(contest, left, claims) {
         Some(left)
     } else {

@@ -178,7 +178,8 @@ fn owned_flags(
 }
 
 /// Finds who owns the paths that members claim. It takes a few words for each claim, and compares
-/// as a sort does; each claim is asked of the contest at most twice.
+/// as a sort does; each claim is asked of the contest at most twice, and one that is alone in its
+/// path not at all.
 ///
 /// # Errors
 ///

@@ -2,7 +2,7 @@
 //!
 //! The change is given by the paths that it writes, and by a `LetGo`, which says under which names
 //! a file goes. `first_clash` looks near the paths alone: at the folders above them, and at the
-//! names below them. The contracts cite `Clash` of `specs/`.
+//! names below them. The contracts cite `Clash`, `FirstClash` and `WrittenPaths` of `specs/`.
 #![tactic(auto)]
 
 mod clash;

@@ -9,8 +9,8 @@ use Rattle.std.proofs.lemmas.List.{length-take-le, take-append-drop}
 use Rattle.std.proofs.lemmas.Option.{none-some}
 use lib.Utf8.{encode}
 use Rattle.command_core.specs.declared.command.Applet.{Applet}
-use Rattle.command_core.specs.declared.command.Applet.TheVariants.{Verify}
-use Rattle.command_core.specs.declared.command.Flag.TheVariants.{AllowUntrusted, NoScripts}
+use Rattle.command_core.specs.declared.command.Applet.TheVariants.{Add}
+use Rattle.command_core.specs.declared.command.Flag.TheVariants.{AllowUntrusted, Initdb, NoScripts, Simulate}
 use Rattle.command_core.specs.declared.command.Flags.{Flags}
 use Rattle.command_core.specs.Flags.{no_flags}
 use Rattle.words_core.specs.declared.options.Meaning.{Meaning}
@@ -26,7 +26,7 @@ use Rattle.words_core.proofs.LinesRead.{by_early}
 use Rattle.words_core.proofs.MoreWords.{usage_stays}
 use Rattle.words_core.proofs.OffendingWords.{usage_between}
 use Rattle.words_core.proofs.Sites.{err_here, flags_end, flags_step, foreign_between, no_start, seek_early, seek_end, seek_here, seek_late, take_stays}
-use Rattle.words_core.proofs.WordsCompleted.{CanBeCompleted, IsJudgedGood, completed_from, judged_good, with_texts}
+use Rattle.words_core.proofs.WordsCompleted.{CanBeCompleted, IsJudgedGood, completed_from, judged_good}
 
 -- what is behind the applet where it is named behind words
 pub named_behind : (words : List (List ℕ)) (word : List ℕ) (more : List (List ℕ)) → drop (1 + length words) (words ++ (word ∷ more)) ≡ more
@@ -35,28 +35,32 @@ named_behind (w ∷ words) word more = (let same : 1 + length (w ∷ words) ≡ 
 
 -- ---- options before the applet
 
--- two options say the same flag of every applet
+-- two options say the same flag
 abbrev is_same_meaning : Meaning → Meaning → Bool
 is_same_meaning (Plain AllowUntrusted) (Plain AllowUntrusted) = true
 is_same_meaning (Plain NoScripts) (Plain NoScripts) = true
+is_same_meaning (Plain Initdb) (Plain Initdb) = true
+is_same_meaning (Plain Simulate) (Plain Simulate) = true
 is_same_meaning a b = false
 
--- such a word is no option of the first applet, or says there what it says for `verify`
+-- such a word is no option of the first applet, or says there what it says for `add`
 abbrev says_same : Option OptionSpec → Option OptionSpec → Bool
-says_same None verify = true
+says_same None add = true
 says_same (Some o) None = false
 says_same (Some o) (Some v) = is_same_meaning o.meaning v.meaning
 
-abbrev is_as_verify : Applet → List ℕ → Bool
-is_as_verify applet word = says_same (option_spelled (options_of applet) word) (option_spelled (options_of Verify) word)
+abbrev is_as_add : Applet → List ℕ → Bool
+is_as_add applet word = says_same (option_spelled (options_of applet) word) (option_spelled (options_of Add) word)
 
-today : list_all (λ applet. list_all (is_as_verify applet) early_words) applets ≡ true
+today : list_all (λ applet. list_all (is_as_add applet) early_words) applets ≡ true
 unfolding common_options options_of early_words
 today = refl
 
 same_flags : (flags more : Flags) (a b : Meaning) → is_same_meaning a b ≡ true → with_meaning flags a ≡ Some more → with_meaning flags b ≡ Some more
 same_flags flags more (Plain AllowUntrusted) (Plain AllowUntrusted) s h = h
 same_flags flags more (Plain NoScripts) (Plain NoScripts) s h = h
+same_flags flags more (Plain Initdb) (Plain Initdb) s h = h
+same_flags flags more (Plain Simulate) (Plain Simulate) s h = h
 same_flags flags more a b s h = absurd (false≢true s)
 
 same_option : (flags more : Flags) (o v : Option OptionSpec) → says_same o v ≡ true → option_and_then (with_spec flags) o ≡ Some more → option_and_then (with_spec flags) v ≡ Some more
@@ -64,36 +68,36 @@ same_option flags more None v s h = absurd (none-some more h)
 same_option flags more (Some o) None s h = absurd (false≢true s)
 same_option flags more (Some o) (Some v) s h = same_flags flags more o.meaning v.meaning s h
 
--- options before the applet that are an applet's are those of `verify` too
+-- options before the applet that are an applet's are those of `add` too
 abbrev IsSuited : Applet → Flags → ℕ → List (List ℕ) → Type 0
 IsSuited applet flags place words = (more : Flags) × (early_flags (options_of applet) flags place words ≡ Ok more)
 
-suited : (applet : Applet) (flags : Flags) (place : ℕ) (words : List (List ℕ)) → list_all (is_as_verify applet) early_words ≡ true → applet_site place words ≡ Err (place + length words) → IsSuited applet flags place words → IsSuited Verify flags place words
+suited : (applet : Applet) (flags : Flags) (place : ℕ) (words : List (List ℕ)) → list_all (is_as_add applet) early_words ≡ true → applet_site place words ≡ Err (place + length words) → IsSuited applet flags place words → IsSuited Add flags place words
 suited applet flags place [] each s f = (flags, refl)
 suited applet flags place (word ∷ words) each s f =
     let next : place + length (word ∷ words) ≡ place + 1 + length words = omega arith in
-    elim (is_end word) as (λ b. is_end word ≡ b → IsSuited Verify flags place (word ∷ words)) [
-      | true ↦ λ e. (flags, flags_end (options_of Verify) flags place word words e)
-      | false ↦ λ e. elim (is_option word) as (λ b. is_option word ≡ b → IsSuited Verify flags place (word ∷ words)) [
+    elim (is_end word) as (λ b. is_end word ≡ b → IsSuited Add flags place (word ∷ words)) [
+      | true ↦ λ e. (flags, flags_end (options_of Add) flags place word words e)
+      | false ↦ λ e. elim (is_option word) as (λ b. is_option word ≡ b → IsSuited Add flags place (word ∷ words)) [
         | false ↦ λ o. absurd (let same : place + length (word ∷ words) ≡ place = err_here place (place + length (word ∷ words)) false word (sym (seek_here place word words e o) ∙ s) in omega arith)
-        | true ↦ λ o. elim (is_early word) as (λ b. is_early word ≡ b → IsSuited Verify flags place (word ∷ words)) [
+        | true ↦ λ o. elim (is_early word) as (λ b. is_early word ≡ b → IsSuited Add flags place (word ∷ words)) [
           | false ↦ λ y. absurd (let same : Err place ≡ Err (place + length (word ∷ words)) = sym (seek_late place word words e o y) ∙ s in let is : place ≡ place + length (word ∷ words) = cc in omega arith)
-          | true ↦ λ y. elim (with_option (options_of applet) flags word) as (λ m. with_option (options_of applet) flags word ≡ m → IsSuited Verify flags place (word ∷ words)) [
+          | true ↦ λ y. elim (with_option (options_of applet) flags word) as (λ m. with_option (options_of applet) flags word ≡ m → IsSuited Add flags place (word ∷ words)) [
             | None ↦ λ m. absurd (let none : Err place ≡ Ok f.0 = sym (flags_step (options_of applet) flags place word words None e m) ∙ f.1 in cc)
             | Some g ↦ λ m.
-                let same : with_option (options_of Verify) flags word ≡ Some g = same_option flags g (option_spelled (options_of applet) word) (option_spelled (options_of Verify) word) (by_early (is_as_verify applet) word each y) m in
+                let same : with_option (options_of Add) flags word ≡ Some g = same_option flags g (option_spelled (options_of applet) word) (option_spelled (options_of Add) word) (by_early (is_as_add applet) word each y) m in
                 let rest = suited applet g (place + 1) words each (sym (seek_early place word words e o y) ∙ (s ∙ ap Err next)) (f.0, sym (flags_step (options_of applet) flags place word words (Some g) e m) ∙ f.1) in
-                (rest.0, flags_step (options_of Verify) flags place word words (Some g) e same ∙ rest.1)
+                (rest.0, flags_step (options_of Add) flags place word words (Some g) e same ∙ rest.1)
           ] refl
         ] refl
       ] refl
     ] refl
 
-any_suits : (words : List (List ℕ)) (xs : List Applet) → list_all (λ applet. list_all (is_as_verify applet) early_words) xs ≡ true → applet_site 1 words ≡ Err (1 + length words) → list_any (suit words) xs ≡ true → IsSuited Verify no_flags 1 words
+any_suits : (words : List (List ℕ)) (xs : List Applet) → list_all (λ applet. list_all (is_as_add applet) early_words) xs ≡ true → applet_site 1 words ≡ Err (1 + length words) → list_any (suit words) xs ≡ true → IsSuited Add no_flags 1 words
 any_suits words [] each s h = absurd (false≢true h)
 any_suits words (x ∷ xs) each s h =
-    let parts = and_parts (list_all (is_as_verify x) early_words) (list_all (λ applet. list_all (is_as_verify applet) early_words) xs) each in
-    elim (early_flags (options_of x) no_flags 1 words) as (λ r. early_flags (options_of x) no_flags 1 words ≡ r → (is_ok r || list_any (suit words) xs) ≡ true → IsSuited Verify no_flags 1 words) [
+    let parts = and_parts (list_all (is_as_add x) early_words) (list_all (λ applet. list_all (is_as_add applet) early_words) xs) each in
+    elim (early_flags (options_of x) no_flags 1 words) as (λ r. early_flags (options_of x) no_flags 1 words ≡ r → (is_ok r || list_any (suit words) xs) ≡ true → IsSuited Add no_flags 1 words) [
       | Ok more ↦ λ f h. suited x no_flags 1 words parts.0 s (more, f)
       | Err at ↦ λ f h. any_suits words xs parts.1 s h
     ] refl h
@@ -102,63 +106,62 @@ any_suits words (x ∷ xs) each s h =
 
 -- the words before the applet, whether or not the options have ended
 abbrev pub IsSought : ℕ → List (List ℕ) → Type 0
-IsSought place words = (ended : Bool) × (applet_site place (words ++ (codes "verify" ∷ (codes "a" ∷ []))) ≡ Ok (site_by ended (place + length words) Verify))
+IsSought place words = (ended : Bool) × (applet_site place (words ++ (codes "add" ∷ [])) ≡ Ok (site_by ended (place + length words) Add))
 
 pub end_sought : (place : ℕ) (word : List ℕ) (words : List (List ℕ)) → is_end word ≡ true → site_behind_end (place + 1) words ≡ Err (place + length (word ∷ words)) → IsSought place (word ∷ words)
 unfolding site_behind_end site_at
-end_sought place word [] e h = (true, seek_end place word (codes "verify" ∷ (codes "a" ∷ [])) e)
+end_sought place word [] e h = (true, seek_end place word (codes "add" ∷ []) e)
 end_sought place word (next ∷ words) e h = absurd (let same : place + length (word ∷ (next ∷ words)) ≡ place + 1 = err_here (place + 1) (place + length (word ∷ (next ∷ words))) true next h in omega arith)
 
 pub sought : (place : ℕ) (words : List (List ℕ)) → applet_site place words ≡ Err (place + length words) → IsSought place words
 unfolding site_at
-sought place [] h = (false, let same : place ≡ place + 0 = omega arith in ap (λ k. Ok (site_by false k Verify)) same)
+sought place [] h = (false, let same : place ≡ place + 0 = omega arith in ap (λ k. Ok (site_by false k Add)) same)
 sought place (word ∷ words) h =
     let next : place + length (word ∷ words) ≡ place + 1 + length words = omega arith in
-    let more : List (List ℕ) = codes "verify" ∷ (codes "a" ∷ []) in
+    let more : List (List ℕ) = codes "add" ∷ [] in
     elim (is_end word) as (λ b. is_end word ≡ b → IsSought place (word ∷ words)) [
       | true ↦ λ e. end_sought place word words e (sym (seek_end place word words e) ∙ h)
       | false ↦ λ e. elim (is_option word) as (λ b. is_option word ≡ b → IsSought place (word ∷ words)) [
         | true ↦ λ o. elim (is_early word) as (λ b. is_early word ≡ b → IsSought place (word ∷ words)) [
           | false ↦ λ y. absurd (let same : Err place ≡ Err (place + length (word ∷ words)) = sym (seek_late place word words e o y) ∙ h in let is : place ≡ place + length (word ∷ words) = cc in omega arith)
           | true ↦ λ y. (let rest = sought (place + 1) words (sym (seek_early place word words e o y) ∙ (h ∙ ap Err next)) in
-              (rest.0, seek_early place word (words ++ more) e o y ∙ (rest.1 ∙ ap (λ k. Ok (site_by rest.0 k Verify)) (sym next))))
+              (rest.0, seek_early place word (words ++ more) e o y ∙ (rest.1 ∙ ap (λ k. Ok (site_by rest.0 k Add)) (sym next))))
         ] refl
         | false ↦ λ o. absurd (let same : place + length (word ∷ words) ≡ place = err_here place (place + length (word ∷ words)) false word (sym (seek_here place word words e o) ∙ h) in omega arith)
       ] refl
     ] refl
 
--- the applet and a file behind words that lack an applet
-pub from_named : (start : Start) (words : List (List ℕ)) → start.applet ≡ Verify → start.read ≡ 1 + length words → reading_behind start (words ++ (codes "verify" ∷ (codes "a" ∷ []))) ≡ with_texts (first_state start.flags) [] (start.read + 1) (codes "a" ∷ [])
+-- the applet behind words that lack it
+pub from_named : (start : Start) (words : List (List ℕ)) → start.applet ≡ Add → start.read ≡ 1 + length words → reading_behind start (words ++ (codes "add" ∷ [])) ≡ reading_by (first_state start.flags) [] None
 unfolding reading_behind
 from_named start words v r =
-    subst (λ left. (if start.ended then reading_by (first_state start.flags) (operands_of (start.read + 1) left) None else option_reading (options_of start.applet) (first_state start.flags) (start.read + 1) left) ≡ with_texts (first_state start.flags) [] (start.read + 1) (codes "a" ∷ []))
-    (sym (ap (λ k. drop k (words ++ (codes "verify" ∷ (codes "a" ∷ [])))) r ∙ named_behind words (codes "verify") (codes "a" ∷ [])))
-    (elim start.ended as (λ b. (if b then reading_by (first_state start.flags) (operands_of (start.read + 1) (codes "a" ∷ [])) None else option_reading (options_of start.applet) (first_state start.flags) (start.read + 1) (codes "a" ∷ [])) ≡ with_texts (first_state start.flags) [] (start.read + 1) (codes "a" ∷ [])) [
+    subst (λ left. (if start.ended then reading_by (first_state start.flags) (operands_of (start.read + 1) left) None else option_reading (options_of start.applet) (first_state start.flags) (start.read + 1) left) ≡ reading_by (first_state start.flags) [] None)
+    (sym (ap (λ k. drop k (words ++ (codes "add" ∷ []))) r ∙ named_behind words (codes "add") []))
+    (elim start.ended as (λ b. (if b then reading_by (first_state start.flags) (operands_of (start.read + 1) []) None else option_reading (options_of start.applet) (first_state start.flags) (start.read + 1) []) ≡ reading_by (first_state start.flags) [] None) [
       | true ↦ refl
       | false ↦ refl
     ])
 
-file_good : (state : OptionState) (at : ℕ) → IsJudgedGood Verify (with_texts state [] at (codes "a" ∷ []))
-unfolding is_name is_utf8 chars encode
-file_good state at end = judged_good Verify (with_texts state [] at (codes "a" ∷ [])) end refl refl refl
+none_good : (state : OptionState) → IsJudgedGood Add (reading_by state [] None)
+none_good state end = judged_good Add (reading_by state [] None) end refl refl refl
 
 pub applet_completed : (words : List (List ℕ)) → applet_site 1 words ≡ Err (1 + length words) → list_any (suit words) applets ≡ true → CanBeCompleted words
 unfolding command_of
 applet_completed words h k =
-    let more : List (List ℕ) = codes "verify" ∷ (codes "a" ∷ []) in
+    let more : List (List ℕ) = codes "add" ∷ [] in
     let found = sought 1 words h in
     let flags = any_suits words applets today h k in
-    let site : AppletSite = site_by found.0 (1 + length words) Verify in
+    let site : AppletSite = site_by found.0 (1 + length words) Add in
     let start : Start = start_by site flags.0 in
-    let reading = with_texts (first_state flags.0) [] (1 + length words + 1) (codes "a" ∷ []) in
+    let reading = reading_by (first_state flags.0) [] None in
     let before : 1 + length words - 1 ≡ length words = omega arith in
-    let early : early_flags (options_of Verify) no_flags 1 (take (1 + length words - 1) (words ++ more)) ≡ Ok flags.0 =
-    ap (λ n. early_flags (options_of Verify) no_flags 1 (take n (words ++ more))) before
-    ∙ (ap (early_flags (options_of Verify) no_flags 1) (take_stays (length words) words more (omega arith) ∙ take_all words) ∙ flags.1) in
+    let early : early_flags (options_of Add) no_flags 1 (take (1 + length words - 1) (words ++ more)) ≡ Ok flags.0 =
+    ap (λ n. early_flags (options_of Add) no_flags 1 (take n (words ++ more))) before
+    ∙ (ap (early_flags (options_of Add) no_flags 1) (take_stays (length words) words more (omega arith) ∙ take_all words) ∙ flags.1) in
     let is : line_start (words ++ more) ≡ Ok start = ap (start_from (words ++ more)) found.1 ∙ ap (start_with site) early in (
       more,
-      command_read (length (words ++ more) + 1) Verify reading,
-      ap (command_from (words ++ more)) is ∙ (ap (verdict (length (words ++ more) + 1) Verify) (from_named start words refl refl) ∙ file_good (first_state flags.0) (1 + length words + 1) (length (words ++ more) + 1)),
+      command_read (length (words ++ more) + 1) Add reading,
+      ap (command_from (words ++ more)) is ∙ (ap (verdict (length (words ++ more) + 1) Add) (from_named start words refl refl) ∙ none_good (first_state flags.0) (length (words ++ more) + 1)),
     )
   where
     take_all : (ws : List (List ℕ)) → take (length ws) ws ≡ ws

@@ -35,7 +35,8 @@ pub(crate) enum Meaning {
 }
 
 // The applets that exist.
-const APPLETS: [Applet; 5] = [
+const APPLETS: [Applet; 6] = [
+    Applet::Add,
     Applet::Verify,
     Applet::Version,
     Applet::Adbdump,

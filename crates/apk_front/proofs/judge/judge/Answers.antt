@@ -1,8 +1,11 @@
 use Rattle.std.proofs.Common.{Ok}
-use Rattle.apk_front.proofs.Carried.{proper_by_command, run_by_command, usage_reported, usage_run}
+use Rattle.apk_front.proofs.Carried.{by_command, proper_by_command, run_by_command, usage_reported, usage_run}
 use Rattle.apk_front.proofs.Judged.{usage_found, usage_verdict}
 use Rattle.apk_front.proofs.Named.{command_named}
 use Rattle.apk_front.proofs.judge.judge.Goals as goal
+
+pub returns-in-Ok-clause-found : goal.returns-in-Ok-clause-found
+returns-in-Ok-clause-found g c = by_command c.args.words.now _ _ c.run.result c.in-Ok.ensures.ok c.run.ensures.found
 
 pub returns-in-Ok-clause-run : goal.returns-in-Ok-clause-run
 returns-in-Ok-clause-run g c = run_by_command c.args.words.now _ _ _ _ c.in-Ok.ensures.ok c.run.ensures.run

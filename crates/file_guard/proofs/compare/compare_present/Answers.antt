@@ -4,7 +4,7 @@ use Rattle.std.proofs.lemmas.List.{length-take-le}
 use Rattle.base_core.specs.Calls.{IfObservable}
 use Rattle.base_core.specs.Tree.{TreeState, CanRead}
 use Rattle.base_core.proofs.Counting.{readings_two}
-use Rattle.file_guard.proofs.Fronts.{WatchesFront, can_read_piece, further, read_again, read_once}
+use Rattle.file_guard.proofs.Fronts.{HasRead, can_read_piece, further, read_again, read_once}
 use Rattle.file_guard.proofs.compare.compare_present.Goals as goal
 
 pub loop-at-preserved : goal.loop-at-preserved
@@ -24,8 +24,7 @@ loop-at-preserved g c =
       tree = readings_two (record {}) (g.T.Tree.history c.args.tree.now) (g.T.Tree.history c.loop-at.tree) (g.T.Tree.history c.read_at.new.self)
           (g.T.Tree.counts c.args.tree.now) (g.T.Tree.counts c.loop-at.tree) (g.T.Tree.counts c.read_at.new.self) 0 (Ok 0) c.loop-at.invariant.tree
           (read_again (record {}) _ _ _ _ _ 0 one_more);
-      for_new = subst (λ (n : ℕ). WatchesFront (g.T.Tree.history c.args.tree.now) c.args.name.now c.take-for_new.result c.args.new (c.loop-at.at + n)) len
-          (further _ _ _ c.loop-at.for_new c.take-for_new.result c.args.new c.loop-at.at (length (take c.min-len.result c.loop-at.piece)) c.read_at.new.into c.loop-at.invariant.tree.same c.take-for_new.ensures c.in_ok-read_at.ensures.value c.loop-at.invariant.for_new);
-      for_old = subst (λ (n : ℕ). WatchesFront (g.T.Tree.history c.args.tree.now) c.args.name.now c.take-for_old.result c.args.old (c.loop-at.at + n)) len
-          (further _ _ _ c.loop-at.for_old c.take-for_old.result c.args.old c.loop-at.at (length (take c.min-len.result c.loop-at.piece)) c.read_at.new.into c.loop-at.invariant.tree.same c.take-for_old.ensures c.in_ok-read_at.ensures.value c.loop-at.invariant.for_old);
+      has_read = subst (λ (n : ℕ). HasRead (g.T.Tree.history c.args.tree.now) c.args.name.now c.take-for_new.result c.take-for_old.result c.args.new c.args.old (c.loop-at.at + n)) len
+          (further _ _ _ c.loop-at.for_new c.loop-at.for_old c.take-for_new.result c.take-for_old.result c.args.new c.args.old c.loop-at.at (length (take c.min-len.result c.loop-at.piece)) c.read_at.new.into
+          c.loop-at.invariant.tree.same c.take-for_new.ensures c.take-for_old.ensures c.in_ok-read_at.ensures.value c.loop-at.invariant.has_read);
     }

@@ -2,15 +2,14 @@
 use Rattle.std.proofs.Common.{ℕ, ◌-◌, ◌≤◌, Ok}
 use Rattle.base_core.specs.Read.{OnlyReads}
 use Rattle.base_core.specs.declared.tree.Disk.{Disk}
-use Rattle.file_guard.proofs.Fronts.{WatchesFront}
+use Rattle.file_guard.proofs.Fronts.{HasRead}
 use Rattle.file_guard.proofs.compare.compare_present.Given as goal
 
 abbrev pub invariant-loop-at : goal.invariant-loop-at
 invariant-loop-at g l = record {
   within : l.at ≤ l.size;
   tree : OnlyReads {A = ℕ} {E = Disk} (record {}) (g.T.Tree.history l.initial.tree) (g.T.Tree.history l.tree) (g.T.Tree.counts l.initial.tree) (g.T.Tree.counts l.tree) (Ok 0);
-  for_new : WatchesFront (g.T.Tree.history l.initial.tree) l.name l.for_new l.fn.new l.at;
-  for_old : WatchesFront (g.T.Tree.history l.initial.tree) l.name l.for_old l.fn.old l.at;
+  has_read : HasRead (g.T.Tree.history l.initial.tree) l.name l.for_new l.for_old l.fn.new l.fn.old l.at;
 }
 
 abbrev pub decreases-loop-at : goal.decreases-loop-at

@@ -7,4 +7,4 @@ use Rattle.file_owners.proofs.Claiming.{all_gathered}
 use Rattle.file_owners.proofs.database.claims_in_database.Goals as goal
 
 pub returns : goal.returns
-returns c = c.in_ok-sort_claims.ensures ∙ ap (sorted_by claim_cmp) (c.in_ok-claims.ensures ∙ all_gathered (map staying_member (packages_of c.args.db.now)))
+returns c = c.in_ok-sort_claims.ensures ∙ ap (sorted_by claim_cmp) (c.in_ok-sorted.ensures ∙ all_gathered (map staying_member (packages_of c.args.db.now)))

@@ -1,0 +1,117 @@
+-- The file of a package that comes: it goes in, or lies beside the one that the user changed.
+use Rattle.std.proofs.Common.{◌≡◌, ◌∙◌, ℕ, Bool, true, false, List, length, Option, Some, None, refl, ap, sym, true≢false}
+use Rattle.std.specs.Prelude.{not, ◌&&◌, ◌||◌, if◌then◌else◌, ◌==◌, nat_le, nat_lt, option_and_then}
+use Rattle.std.specs.List.{list_all, list_any}
+use Rattle.std.specs.Str.{is_utf8}
+use Rattle.std.proofs.lemmas.Bool.{and_from, and_parts, not_from_false, or_parts}
+use Rattle.adb_view.specs.Plain.{Plain}
+use Rattle.base_core.specs.Files.{Files}
+use Rattle.base_core.specs.Name.{IsName, is_name, is_part, parts_of}
+use Rattle.db_core.specs.Members.{Listing}
+use Rattle.file_guard.specs.AsListed.{do_entries_agree, is_as_listed}
+use Rattle.change_files.specs.Fate.{Fate, agrees_with_old, aside_name, fate_beside, fate_by, fate_of, gives_way, goes_aside, goes_in, is_as_old, is_guarded}
+use Rattle.change_files.specs.FileChange.{FileChange, coming_owner, is_claimed, old_entry}
+use Rattle.change_files.specs.FilesAfter.{if_aside, if_in, laid_beside, or_beside, path_beside, written_as}
+use Rattle.change_files.specs.Touched.{IsNewEntry, IsUsersFile}
+use Rattle.change_files.proofs.Owned.{aside_found, coming_is, nobody_beside}
+use Rattle.change_files.proofs.Untouched.{users_fate}
+
+-- ---- it goes in
+
+guarded_so : (b : Bool) → not b ≡ false → b ≡ true
+guarded_so true e = refl
+guarded_so false e = absurd (true≢false e)
+
+-- a file of which the tests say so is the user's
+users_file : (change : FileChange) (files : Files) (path bytes : List ℕ) (l : Listing) → coming_owner change path ≡ Some l → files path ≡ Some bytes
+    → (not (is_guarded path) || (is_as_listed l.entry bytes || is_as_old (old_entry change path) bytes)) ≡ false → IsUsersFile change files path bytes
+users_file change files path bytes l comes present tests =
+    let (unguarded, listed) = or_parts (not (is_guarded path)) (is_as_listed l.entry bytes || is_as_old (old_entry change path) bytes) tests in
+    let (new, old) = or_parts (is_as_listed l.entry bytes) (is_as_old (old_entry change path) bytes) listed in
+    record {
+      guarded = guarded_so (is_guarded path) unguarded;
+      present = present;
+      unlike_new = λ m is. let same : m ≡ l = (cc) in ap (λ (m : Listing). is_as_listed m.entry bytes) same ∙ new;
+      unlike_old = λ entry is. ap (λ (o : Option Plain). is_as_old o bytes) (sym is) ∙ old;
+    }
+
+fate_at : (change : FileChange) (files : Files) (path : List ℕ) (l : Listing) → coming_owner change path ≡ Some l → fate_of change files l ≡ fate_by change path l.entry (files path)
+unfolding fate_of
+fate_at change files path l comes =
+    let (owner, coming) = coming_is change path l comes in
+    ap (λ (q : List ℕ). fate_by change q l.entry (files q)) owner.of_path
+
+nobodys_fate : (change : FileChange) (files : Files) (path : List ℕ) (l : Listing) → coming_owner change path ≡ Some l → ((bytes : List ℕ) → IsUsersFile change files path bytes → ⊥) → fate_of change files l ≡ goes_in
+nobodys_fate change files path l comes nobodys = fate_at change files path l comes ∙ by_file (files path) refl
+  where
+    by_file : (found : Option (List ℕ)) → files path ≡ found → fate_by change path l.entry found ≡ goes_in
+    by_file None present = refl
+    by_file (Some bytes) present = by_tests (not (is_guarded path) || (is_as_listed l.entry bytes || is_as_old (old_entry change path) bytes)) refl
+      where
+        by_tests : (b : Bool) → (not (is_guarded path) || (is_as_listed l.entry bytes || is_as_old (old_entry change path) bytes)) ≡ b → (if b then goes_in else fate_beside change path l.entry) ≡ goes_in
+        by_tests true tests = refl
+        by_tests false tests = absurd (nobodys bytes (users_file change files path bytes l comes present tests))
+
+pub takes_path : (change : FileChange) (files : Files) (path : List ℕ) (l : Listing) → coming_owner change path ≡ Some l → ((bytes : List ℕ) → IsUsersFile change files path bytes → ⊥) → written_as change files path ≡ Some l
+unfolding written_as
+takes_path change files path l comes nobodys =
+    let beside : Option Listing = option_and_then (laid_beside change files) (path_beside path) in
+    ap (λ (o : Option Listing). or_beside (option_and_then (λ l. if_in l (fate_of change files l)) o) beside) comes
+    ∙ ap (λ (f : Fate). or_beside (if_in l f) beside) (nobodys_fate change files path l comes nobodys)
+
+-- ---- it lies beside another
+
+name_is_short : (bytes : List ℕ) → IsName bytes → nat_le (length bytes) 1024 ≡ true
+unfolding is_name
+name_is_short bytes named =
+    let a = and_parts _ (list_all is_part (parts_of bytes)) named in
+    let b = and_parts _ (is_utf8 bytes) a.0 in
+    let c = and_parts _ (not (list_any (λ x. x == 0) bytes)) b.0 in
+    (and_parts (nat_lt 0 (length bytes)) (nat_le (length bytes) 1024) c.0).1
+
+new_disagrees : (change : FileChange) (path : List ℕ) (entry : Plain) → IsNewEntry change path entry → agrees_with_old (old_entry change path) entry ≡ false
+new_disagrees change path entry differs = by_entry (old_entry change path) differs
+  where
+    by_entry : (o : Option Plain) → ((old : Plain) → o ≡ Some old → do_entries_agree old entry ≡ false) → agrees_with_old o entry ≡ false
+    by_entry None differs = refl
+    by_entry (Some old) differs = differs old refl
+
+pub lies_beside : (change : FileChange) (files : Files) (path bytes : List ℕ) (l : Listing) → coming_owner change path ≡ Some l → IsUsersFile change files path bytes → IsNewEntry change path l.entry
+    → IsName (aside_name path) → is_claimed change (aside_name path) ≡ false → laid_beside change files path ≡ Some l
+lies_beside change files path bytes l comes own differs named free =
+    let tests : (not (agrees_with_old (old_entry change path) l.entry) && (nat_le (length (aside_name path)) 1024 && not (is_claimed change (aside_name path)))) ≡ true =
+    and_from (not (agrees_with_old (old_entry change path) l.entry)) (nat_le (length (aside_name path)) 1024 && not (is_claimed change (aside_name path)))
+    (not_from_false (agrees_with_old (old_entry change path) l.entry) (new_disagrees change path l.entry differs))
+    (and_from (nat_le (length (aside_name path)) 1024) (not (is_claimed change (aside_name path))) (name_is_short (aside_name path) named)
+    (not_from_false (is_claimed change (aside_name path)) free)) in
+    ap (option_and_then (λ l. if_aside l (fate_of change files l))) comes
+    ∙ ap (if_aside l) (users_fate change files path bytes l own comes ∙ ap (λ (b : Bool). if b then goes_aside else gives_way) tests)
+
+-- an entry that goes aside differs from the one before
+new_entry : (change : FileChange) (path : List ℕ) (entry : Plain) → fate_beside change path entry ≡ goes_aside → IsNewEntry change path entry
+new_entry change path entry aside old is = by_tests (do_entries_agree old entry) refl
+  where
+    by_tests : (b : Bool) → do_entries_agree old entry ≡ b → do_entries_agree old entry ≡ false
+    by_tests false agrees = agrees
+    by_tests true agrees =
+        let way : fate_beside change path entry ≡ gives_way =
+        ap (λ (b : Bool). if not b && (nat_le (length (aside_name path)) 1024 && not (is_claimed change (aside_name path))) then goes_aside else gives_way)
+        (ap (λ (o : Option Plain). agrees_with_old o entry) is ∙ agrees) in
+        absurd (cc)
+
+pub beside_users_file : (change : FileChange) (files : Files) (path : List ℕ) (l : Listing) → laid_beside change files path ≡ Some l
+    → ((bytes : List ℕ) × IsUsersFile change files path bytes) × IsNewEntry change path l.entry × (is_claimed change (aside_name path) ≡ false)
+beside_users_file change files path l laid =
+    let (comes, aside) = aside_found change files path l laid in
+    let (own, differs) = by_file comes (files path) refl (sym (fate_at change files path l comes) ∙ aside) in
+    (own, differs, nobody_beside change files path l laid)
+  where
+    by_file : coming_owner change path ≡ Some l → (found : Option (List ℕ)) → files path ≡ found → fate_by change path l.entry found ≡ goes_aside
+        → ((bytes : List ℕ) × IsUsersFile change files path bytes) × IsNewEntry change path l.entry
+    by_file comes None present aside = absurd (cc)
+    by_file comes (Some bytes) present aside = by_tests (not (is_guarded path) || (is_as_listed l.entry bytes || is_as_old (old_entry change path) bytes)) refl aside
+      where
+        by_tests : (b : Bool) → (not (is_guarded path) || (is_as_listed l.entry bytes || is_as_old (old_entry change path) bytes)) ≡ b → (if b then goes_in else fate_beside change path l.entry) ≡ goes_aside
+            → ((bytes : List ℕ) × IsUsersFile change files path bytes) × IsNewEntry change path l.entry
+        by_tests true tests aside = absurd (cc)
+        by_tests false tests aside = ((bytes, users_file change files path bytes l comes present tests), new_entry change path l.entry aside)

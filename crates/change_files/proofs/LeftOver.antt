@@ -1,0 +1,59 @@
+-- What is left over goes, unless the user changed it.
+use Rattle.std.proofs.Common.{◌≡◌, ◌⊎◌, inl, inr, ◌∙◌, ℕ, Bool, true, false, List, Option, Some, None, refl, ap, sym, true≢false}
+use Rattle.std.specs.Prelude.{not, ◌&&◌}
+use Rattle.std.proofs.lemmas.Bool.{and_from, and_parts, not_from_false}
+use Rattle.adb_view.specs.Plain.{Plain}
+use Rattle.base_core.specs.Files.{Files}
+use Rattle.file_guard.specs.AsListed.{is_as_listed}
+use Rattle.change_files.specs.Fate.{is_guarded}
+use Rattle.change_files.specs.FileChange.{FileChange, old_entry}
+use Rattle.change_files.specs.FilesAfter.{is_changed, is_kept, is_left_over, is_removed, may_stay}
+use Rattle.change_files.specs.Touched.{IsUsersFile}
+use Rattle.change_files.proofs.Owned.{claimed_by_owner, coming_is}
+use Rattle.change_files.proofs.Untouched.{IsLeftOver, kept_is, left_over_is}
+
+not_so : (b : Bool) → not b ≡ true → b ≡ false
+not_so true e = sym e
+not_so false e = refl
+
+-- what may stay is the user's file, and is not to be purged
+stays_is_users : (change : FileChange) (files : Files) (path : List ℕ) → IsLeftOver change files path → may_stay change path (files path) (old_entry change path) ≡ true
+    → ((bytes : List ℕ) × IsUsersFile change files path bytes) × (change.purge ≡ false)
+stays_is_users change files path left stays = by_entry (old_entry change path) refl stays
+  where
+    by_file : (entry : Plain) → old_entry change path ≡ Some entry → is_guarded path ≡ true → (found : Option (List ℕ)) → files path ≡ found → is_changed entry found ≡ true → (bytes : List ℕ) × IsUsersFile change files path bytes
+    by_file entry listed guarded None present changed = absurd (true≢false (sym changed))
+    by_file entry listed guarded (Some bytes) present changed = (
+      bytes,
+      record {
+        guarded = guarded;
+        present = present;
+        unlike_new = λ l comes. absurd (true≢false (sym (claimed_by_owner change path l ((coming_is change path l comes).0)) ∙ left.unclaimed));
+        unlike_old = λ other is.
+            let same : other ≡ entry = (cc) in
+            ap (λ (e : Plain). is_as_listed e bytes) same ∙ not_so (is_as_listed entry bytes) changed;
+      },
+    )
+
+    by_entry : (o : Option Plain) → old_entry change path ≡ o → may_stay change path (files path) o ≡ true → ((bytes : List ℕ) × IsUsersFile change files path bytes) × (change.purge ≡ false)
+    by_entry None listed stays = absurd (true≢false (sym stays))
+    by_entry (Some entry) listed stays =
+        let (guarded, behind) = and_parts (is_guarded path) (not change.purge && is_changed entry (files path)) stays in
+        let (unpurged, changed) = and_parts (not change.purge) (is_changed entry (files path)) behind in
+        (by_file entry listed guarded (files path) refl changed, not_so change.purge unpurged)
+
+pub left_over_goes : (change : FileChange) (files : Files) (path : List ℕ) → is_left_over change files path ≡ true → ((bytes : List ℕ) → IsUsersFile change files path bytes → ⊥) ⊎ (change.purge ≡ true)
+    → is_removed change files path ≡ true
+unfolding is_removed
+left_over_goes change files path left free = by_test (may_stay change path (files path) (old_entry change path)) refl
+  where
+    by_test : (b : Bool) → may_stay change path (files path) (old_entry change path) ≡ b → (is_left_over change files path && not (may_stay change path (files path) (old_entry change path))) ≡ true
+    by_test false gone = and_from (is_left_over change files path) (not (may_stay change path (files path) (old_entry change path))) left (not_from_false (may_stay change path (files path) (old_entry change path)) gone)
+    by_test true stays =
+        let (own, unpurged) = stays_is_users change files path (left_over_is change files path left) stays in
+        absurd (elim free [ inl nobodys ↦ nobodys own.0 own.1 | inr purged ↦ true≢false (sym purged ∙ unpurged) ])
+
+pub kept_is_users : (change : FileChange) (files : Files) (path : List ℕ) → is_kept change files path ≡ true
+    → ((bytes : List ℕ) × IsUsersFile change files path bytes) × (change.purge ≡ false)
+kept_is_users change files path kept =
+    let (left, stays) = kept_is change files path kept in stays_is_users change files path left stays

@@ -1,0 +1,36 @@
+-- What stands under the names of the database, the world and a text database after a change.
+use Rattle.std.proofs.Common.{◌≡◌, ◌≢◌, ◌⊎◌, inl, inr, ◌∙◌, ℕ, Bool, true, List, [], ◌∷◌, Option, Some, None, refl, ap, sym, true≢false}
+use Rattle.std.specs.Prelude.{◌&&◌, if◌then◌else◌, IsSome}
+use Rattle.std.specs.Str.{bytes_eq}
+use Rattle.base_core.specs.Files.{Files}
+use Rattle.db_core.specs.Members.{Listing}
+use Rattle.change_files.specs.FileChange.{FileChange}
+use Rattle.change_files.specs.FilesAfter.{Records, bytes_after, changed_files, database_name, is_removed, text_database_name, world_bytes_after, world_name, written_as}
+
+pub database_after : (change : FileChange) (bytes_of : Listing → List ℕ) (records : Records) (files : Files) → changed_files change bytes_of records files database_name ≡ Some records.database
+unfolding changed_files
+database_after change bytes_of records files = refl
+
+world_written : (world : List ℕ) (old : Option (List ℕ)) → (world ≢ []) ⊎ IsSome old → world_bytes_after world old ≡ Some world
+world_written [] None (inl full) = absurd (full refl)
+world_written [] None (inr there) = absurd (true≢false (sym there))
+world_written [] (Some old) h = refl
+world_written (b ∷ world) old h = refl
+
+pub world_after : (change : FileChange) (bytes_of : Listing → List ℕ) (records : Records) (files : Files) → (records.world ≢ []) ⊎ IsSome (files world_name)
+    → changed_files change bytes_of records files world_name ≡ Some records.world
+unfolding changed_files
+world_after change bytes_of records files h = world_written records.world (files world_name) h
+
+pub no_world_after : (change : FileChange) (bytes_of : Listing → List ℕ) (records : Records) (files : Files) → records.world ≡ [] → files world_name ≡ None
+    → changed_files change bytes_of records files world_name ≡ None
+unfolding changed_files
+no_world_after change bytes_of records files empty none =
+    ap (λ (world : List ℕ). world_bytes_after world (files world_name)) empty ∙ ap (world_bytes_after []) none
+
+pub no_text_after : (change : FileChange) (bytes_of : Listing → List ℕ) (records : Records) (files : Files) → records.takes_text_over ≡ true
+    → changed_files change bytes_of records files text_database_name ≡ None
+unfolding changed_files
+no_text_after change bytes_of records files taken =
+    let after : Option (List ℕ) = bytes_after bytes_of (written_as change files text_database_name) (is_removed change files text_database_name) (files text_database_name) in
+    ap (λ (b : Bool). if b && bytes_eq text_database_name text_database_name then None else after) taken

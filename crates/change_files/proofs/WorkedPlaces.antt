@@ -1,0 +1,47 @@
+-- Rows that are worked by hand: one folder with two files, of which one has contents.
+use Rattle.std.proofs.Common.{◌≡◌, ℕ, List, [], ◌∷◌, refl, codes, false}
+use Rattle.adb_view.specs.Plain.{Plain}
+use Rattle.base_core.specs.Files.{no_names}
+use Rattle.db_core.specs.Members.{Listing, claims_of, coming_member, member_listing, member_listings}
+use Rattle.path_claims.specs.Contest.{winner}
+use Rattle.pkg_core.specs.Contents.{Contents}
+use Rattle.file_owners.specs.Owners.{owner_of_path}
+use Rattle.change_files.specs.Fate.{fate_of}
+use Rattle.change_files.specs.FileChange.{FileChange, is_claimed, old_entry, old_listings, owner_listing}
+use Rattle.change_files.specs.FilesAfter.{listing_bytes, written_as}
+use Rattle.change_files.specs.PlanLists.{names_in_order, writes_of}
+use Rattle.file_guard.proofs.Sample.{link, plain_file}
+use Rattle.change_files.proofs.Sample.{folder, info, package_with}
+
+abbrev two : Plain
+two = package_with (info (codes "t") (codes "1") []) (folder (codes "a") (plain_file (codes "x") 0 [] ∷ plain_file (codes "y") 1 [] ∷ []) ∷ [])
+
+abbrev comes : FileChange
+comes = record { old = []; members = coming_member two [] ∷ []; purge = false }
+
+-- ---- where a plan finds the files
+
+two_writes : writes_of comes no_names ≡ record { name = codes "a/x"; member = 0; folder = 1; file = 1 } ∷ record { name = codes "a/y"; member = 0; folder = 1; file = 2 } ∷ []
+unfolding member_listings claims_of owner_of_path winner old_listings old_entry is_claimed owner_listing fate_of written_as names_in_order writes_of
+two_writes = refl
+
+-- ---- what they have
+
+-- the member has these contents: those of the second file
+abbrev has_y : ℕ → List Contents
+has_y place = record { folder = 1; file = 2; bytes = codes "y" } ∷ []
+
+abbrev listing_at : ℕ → Plain → Listing
+listing_at file entry = member_listing (coming_member two []) 0 1 file (codes "a") entry
+
+with_contents : listing_bytes has_y (listing_at 2 (plain_file (codes "y") 1 [])) ≡ codes "y"
+unfolding listing_bytes
+with_contents = refl
+
+without_contents : listing_bytes has_y (listing_at 1 (plain_file (codes "x") 0 [])) ≡ []
+unfolding listing_bytes
+without_contents = refl
+
+of_link : listing_bytes has_y (listing_at 2 (link (codes "y") (codes "1"))) ≡ codes "!<symlink>1"
+unfolding listing_bytes
+of_link = refl

@@ -1,0 +1,63 @@
+-- Rows that are worked by hand: bytes against an entry, and two entries.
+use Rattle.std.proofs.Common.{◌≡◌, ℕ, List, [], codes, refl, true, false}
+use Rattle.file_guard.specs.AsListed.{do_entries_agree, is_as_listed, is_as_listed_by}
+use Rattle.file_guard.proofs.Sample.{link, plain_file}
+
+abbrev name : List ℕ
+name = codes "x"
+
+abbrev digest : List ℕ
+digest = codes "01234567890123456789"
+
+-- ---- bytes
+
+empty_file : is_as_listed (plain_file name 0 []) [] ≡ true
+unfolding is_as_listed_by
+empty_file = refl
+
+empty_no_more : is_as_listed (plain_file name 0 []) (codes "x") ≡ false
+unfolding is_as_listed_by
+empty_no_more = refl
+
+-- a size without a digest tells nothing
+size_alone : is_as_listed (plain_file name 3 []) (codes "abc") ≡ false
+unfolding is_as_listed_by
+size_alone = refl
+
+size_alone_empty : is_as_listed (plain_file name 3 []) [] ≡ false
+unfolding is_as_listed_by
+size_alone_empty = refl
+
+link_text : is_as_listed (link name (codes "y")) (codes "!<symlink>y") ≡ true
+unfolding is_as_listed_by
+link_text = refl
+
+link_without_mark : is_as_listed (link name (codes "y")) (codes "y") ≡ false
+unfolding is_as_listed_by
+link_without_mark = refl
+
+link_to_other : is_as_listed (link name (codes "y")) (codes "!<symlink>z") ≡ false
+unfolding is_as_listed_by
+link_to_other = refl
+
+-- ---- two entries
+
+other_name : do_entries_agree (plain_file name 3 digest) (plain_file (codes "y") 3 digest) ≡ true
+unfolding do_entries_agree
+other_name = refl
+
+other_size : do_entries_agree (plain_file name 3 digest) (plain_file name 4 digest) ≡ false
+unfolding do_entries_agree
+other_size = refl
+
+other_digest : do_entries_agree (plain_file name 3 digest) (plain_file name 3 []) ≡ false
+unfolding do_entries_agree
+other_digest = refl
+
+other_target : do_entries_agree (link name (codes "y")) (link name (codes "z")) ≡ false
+unfolding do_entries_agree
+other_target = refl
+
+no_target : do_entries_agree (link name (codes "y")) (plain_file name 0 []) ≡ false
+unfolding do_entries_agree
+no_target = refl

@@ -1,0 +1,274 @@
+-- A package names the members whose places were gathered.
+use Rattle.std.proofs.Common.{◌≡◌, ◌⊎◌, inl, inr, ℕ, suc, zero, ◌+◌, ◌<◌, ◌≤◌, Bool, true, false, cond, List, [], ◌∷◌, ◌++◌, map, length, drop, get_or, Option, Some, None, Result, Ok, Err, refl, ap, sym, ◌∙◌, subst, arith, true≢false}
+use Rattle.std.specs.Prelude.{◌%◌, ◌==◌, ◌&&◌, ◌||◌, not, bytes_eq, if◌then◌else◌, is_ok, nat_lt, slice_get, MatchResult}
+use Rattle.std.specs.Cmp.Lexicographic.{bytes_decides}
+use Rattle.std.specs.List.{list_any}
+use Rattle.std.specs.List.Sorted.{IsBinarySearchResult, IsPermutation, IsSorted}
+use Rattle.std.specs.Ordering.{is_lt, nat_cmp}
+use Rattle.std.proofs.lemmas.Bool.{cases_lt}
+use Rattle.std.proofs.lemmas.Bool.Decides.{eqb_tells}
+use Rattle.std.proofs.lemmas.Cmp.{nat_cmp_total}
+use Rattle.std.proofs.lemmas.List.{get_or_default, length-append}
+use Rattle.std.proofs.lemmas.List.Folds.{list_any-append, list_any_at, list_any_none}
+use Rattle.std.proofs.lemmas.List.Sorted.{list_any-IsPermutation, ranks_by, searched, sorted_far}
+use Rattle.std.proofs.lemmas.Map.Keys.{ge_from_not_lt}
+use Rattle.dep_core.specs.Dependency.{Dependency}
+use Rattle.dep_core.specs.Reading.{any_version}
+use Rattle.dep_core.specs.Value.{is_matching, is_version_or_empty}
+use Rattle.dep_core.specs.ValueReading.{bits_of, dependency_of_value, on_version}
+use Rattle.dep_core.specs.Dependency.{is_dep_name}
+use Rattle.version_core.specs.Order.{is_version}
+use Rattle.adb_view.specs.Plain.{Plain, Plains}
+use Rattle.adb_fields.specs.Repeated.{entries_at, list_of, package_name}
+use Rattle.adb_tables.specs.Values.{count_of, entry_in, int_in, nth, text_in}
+use Rattle.db_core.specs.Members.{Member, is_place, member_name}
+use Rattle.db_core.proofs.AnyOf.{any_step, past_end}
+use Rattle.file_owners.specs.NamedPlaces.{ArePlacesNamed, ArePlacesOfEach}
+use Rattle.file_owners.specs.Owners.{member_beats, takes_over_if_any}
+use Rattle.file_owners.specs.Replaces.{is_named_by, is_preferred_to, is_replaced_by, names_package, replaced_dependency, takes_over, version_text}
+
+abbrev is_one : {X : Type 0} → Option X → Bool
+is_one None = false
+is_one (Some x) = true
+
+abbrev value_or : {X : Type 0} → X → Option X → X
+value_or d None = d
+value_or d (Some x) = x
+
+-- ---- an entry names no package of another name
+
+named_on : (d : Dependency) (version : List ℕ) (bits : Option ℕ) → (on_version d version bits).name ≡ d.name
+named_on d [] bits = refl
+named_on d (b ∷ rest) None = refl
+named_on d (b ∷ rest) (Some bits) = refl
+
+not_met : (o : Option Dependency) (name version : List ℕ) → ((d : Dependency) → o ≡ Some d → bytes_eq d.name name ≡ false) → is_replaced_by o name version ≡ false
+not_met None name version h = refl
+not_met (Some d) name version h = go (not d.conflict) (bytes_eq d.name name) _ (h d refl)
+  where
+    go : (a b c : Bool) → b ≡ false → (a && (b && c)) ≡ false
+    go true b c e = ap (λ x. x && c) e
+    go false b c e = refl
+
+value_named : (name version : List ℕ) (matching : ℕ) (d : Dependency) → dependency_of_value name version matching ≡ Some d → d.name ≡ name
+unfolding dependency_of_value
+value_named name version matching d e =
+    let made : Dependency = on_version (any_version (not (nat_lt matching 16)) name) version (bits_of (matching % 16)) in
+    go (is_dep_name name && (is_version_or_empty version && is_matching matching)) made (named_on (any_version (not (nat_lt matching 16)) name) version (bits_of (matching % 16))) e
+  where
+    go : (t : Bool) (made : Dependency) → made.name ≡ name → (if t then Some made else None) ≡ Some d → d.name ≡ name
+    go true made n s = sym (ap (λ o. (value_or d o).name) s) ∙ n
+    go false made n s = absurd (true≢false (sym (ap is_one s)))
+
+turned : (a b : List ℕ) → bytes_eq a b ≡ false → bytes_eq b a ≡ false
+turned a b h = go (bytes_eq b a) refl
+  where
+    go : (t : Bool) → bytes_eq b a ≡ t → t ≡ false
+    go false e = refl
+    go true e = absurd (true≢false (sym ((bytes_decides a b).1 (sym ((bytes_decides b a).0 e))) ∙ h))
+
+other_name : (entry y : Plain) → bytes_eq (package_name y) (text_in (entry_in entry 0)) ≡ false → is_named_by entry y ≡ false
+other_name entry y h =
+    let name : List ℕ = text_in (entry_in entry 0) in
+    ap (λ t. is_version (version_text y) && t)
+    (not_met (replaced_dependency entry) (package_name y) (version_text y)
+    (λ d e. ap (λ n. bytes_eq n (package_name y)) (value_named name (text_in (entry_in entry 1)) (int_in (entry_in entry 2)) d e) ∙ turned (package_name y) name h))
+    ∙ none_and (is_version (version_text y))
+  where
+    none_and : (a : Bool) → (a && false) ≡ false
+    none_and true = refl
+    none_and false = refl
+
+-- ---- the member that an entry names
+
+pub none_found : (entry : Plain) (members : List Member) → ((i : ℕ) (m : Member) → slice_get members i ≡ Some m → false ≡ bytes_eq (member_name m) (text_in (entry_in entry 0)))
+    → (y : ℕ) (m : Member) → slice_get members y ≡ Some m → false ≡ is_named_by entry m.pkg
+none_found entry members h y m g = sym (other_name entry m.pkg (sym (h y m g)))
+
+pub found_is : (entry : Plain) (members : List Member) (place : ℕ) (t : Bool)
+    → ((i : ℕ) (m : Member) → slice_get members i ≡ Some m → is_place i (Some place) ≡ bytes_eq (member_name m) (text_in (entry_in entry 0)))
+    → ((m : Member) → slice_get members place ≡ Some m → t ≡ is_named_by entry m.pkg)
+    → (y : ℕ) (m : Member) → slice_get members y ≡ Some m → cond t (place == y) false ≡ is_named_by entry m.pkg
+found_is entry members place t found test y m g = go (eqb_tells place y)
+  where
+    off : (t : Bool) → cond t false false ≡ false
+    off true = refl
+    off false = refl
+
+    on : (t : Bool) → cond t true false ≡ t
+    on true = refl
+    on false = refl
+
+    go : ((place == y) ≡ true) × (place ≡ y) ⊎ ((place == y) ≡ false) × (place ≡ y → ⊥) → cond t (place == y) false ≡ is_named_by entry m.pkg
+    go (inl (e, s)) = ap (λ b. cond t b false) e ∙ (on t ∙ test m (ap (slice_get members) s ∙ g))
+    go (inr (e, n)) = ap (λ b. cond t b false) e ∙ (off t ∙ sym (other_name entry m.pkg (sym (found y m g) ∙ e)))
+
+-- ---- entry by entry
+
+abbrev pub AreSoFar : List Member → List ℕ → Plains → ℕ → Type 0
+AreSoFar members places vs i =
+    (y : ℕ) (m : Member) → slice_get members y ≡ Some m
+    → (list_any (λ place. place == y) places || list_any (λ entry. is_named_by entry m.pkg) (drop i (list_of vs)))
+    ≡ list_any (λ entry. is_named_by entry m.pkg) (list_of vs)
+
+grouped : (a b c : Bool) → ((a || b) || c) ≡ (a || (b || c))
+grouped true b c = refl
+grouped false b c = refl
+
+pub entry_read : (members : List Member) (old new : List ℕ) (place : Option ℕ) (vs : Plains) (i : ℕ) (entry : Plain) → i < count_of vs → entry ≡ nth vs i
+    → ((y : ℕ) → list_any (λ p. p == y) new ≡ (list_any (λ p. p == y) old || is_place y place))
+    → ((y : ℕ) (m : Member) → slice_get members y ≡ Some m → is_place y place ≡ is_named_by entry m.pkg)
+    → AreSoFar members old vs i → AreSoFar members new vs (i + 1)
+entry_read members old new place vs i entry l is added named inv y m g =
+    let s : i + 1 ≡ suc i = omega arith in
+    let p : Plain → Bool = λ entry. is_named_by entry m.pkg in
+    (λ j. added y j || list_any p (drop (s j) (list_of vs)))
+    ∙ (grouped (list_any (λ p. p == y) old) (is_place y place) (list_any p (drop (suc i) (list_of vs)))
+    ∙ (ap (λ b. list_any (λ p. p == y) old || (b || list_any p (drop (suc i) (list_of vs)))) (named y m g ∙ ap p is)
+    ∙ (ap (λ b. list_any (λ p. p == y) old || b) (sym (any_step p vs i l)) ∙ inv y m g)))
+
+pub all_read : (members : List Member) (places : List ℕ) (vs : Plains) (i : ℕ) → count_of vs ≤ i → AreSoFar members places vs i
+    → (y : ℕ) (m : Member) → slice_get members y ≡ Some m → list_any (λ p. p == y) places ≡ list_any (λ entry. is_named_by entry m.pkg) (list_of vs)
+all_read members places vs i l inv y m g =
+    let p : Plain → Bool = λ entry. is_named_by entry m.pkg in
+    sym (or_none (list_any (λ p. p == y) places)) ∙ (ap (λ b. list_any (λ p. p == y) places || b) (sym (past_end p vs i l)) ∙ inv y m g)
+  where
+    or_none : (a : Bool) → (a || false) ≡ a
+    or_none true = refl
+    or_none false = refl
+
+-- one place more, if there is one
+pub place_added : (old new : List ℕ) (place y : ℕ) → new ≡ old ++ place ∷ [] → list_any (λ p. p == y) new ≡ (list_any (λ p. p == y) old || is_place y (Some place))
+place_added old new place y is =
+    ap (list_any (λ p. p == y)) is ∙ (list_any-append (λ p. p == y) old (place ∷ []) ∙ ap (λ b. list_any (λ p. p == y) old || b) (or_none (place == y)))
+  where
+    or_none : (a : Bool) → (a || false) ≡ a
+    or_none true = refl
+    or_none false = refl
+
+pub none_added : (old new : List ℕ) (y : ℕ) → new ≡ old → list_any (λ p. p == y) new ≡ (list_any (λ p. p == y) old || false)
+none_added old new y is = ap (list_any (λ p. p == y)) is ∙ sym (or_none (list_any (λ p. p == y) old))
+  where
+    or_none : (a : Bool) → (a || false) ≡ a
+    or_none true = refl
+    or_none false = refl
+
+-- ---- in rising order
+
+pub in_order : (members : List Member) (pkg : Plain) (old new : List ℕ) → IsPermutation old new → IsSorted nat_cmp new
+    → ((y : ℕ) (m : Member) → slice_get members y ≡ Some m → list_any (λ p. p == y) old ≡ list_any (λ entry. is_named_by entry m.pkg) (entries_at 16 (entry_in pkg 0)))
+    → ArePlacesNamed members pkg new
+unfolding names_package
+in_order members pkg old new moved rising named = record {
+  rising = rising;
+  named = λ y m g. sym (list_any-IsPermutation (λ p. p == y) old new moved) ∙ named y m g;
+}
+
+nat_rises : (xs : List ℕ) → IsSorted nat_cmp xs → (i j : ℕ) → i ≤ j → j < length xs → get_or xs i 0 ≤ get_or xs j 0
+nat_rises xs up i j le l = ge_from_not_lt (get_or xs j 0) (get_or xs i 0) (sorted_far (λ x y. is_lt (nat_cmp x y)) (ranks_by nat_cmp_total (λ x. x)) xs up i j 0 le l)
+
+pub among : (xs : List ℕ) (x : ℕ) (r : Result ℕ ℕ) → IsBinarySearchResult (λ y. nat_cmp y x) xs r → IsSorted nat_cmp xs → is_ok r ≡ list_any (λ p. p == x) xs
+among xs x r position up = go r (searched xs x r position (nat_rises xs up))
+  where
+    same : (a : ℕ) → a ≡ x → (a == x) ≡ true
+    same a e = elim (eqb_tells a x) [ inl h ↦ h.0 | inr h ↦ absurd (h.1 e) ]
+
+    other : (a : ℕ) → (a ≡ x → ⊥) → (a == x) ≡ false
+    other a n = elim (eqb_tells a x) [ inl h ↦ absurd (n h.1) | inr h ↦ h.0 ]
+
+    elsewhere : (i : ℕ) → ((k : ℕ) → k < i → get_or xs k 0 < x) → ((k : ℕ) → i ≤ k → k < length xs → x < get_or xs k 0) → (k : ℕ) → k < length xs → (k < i) ⊎ (i ≤ k) → (get_or xs k 0 ≡ x → ⊥)
+    elsewhere i low high k l (inl h) e = let less = low k h in omega (arith, less, e)
+    elsewhere i low high k l (inr h) e = let more = high k h l in omega (arith, more, e)
+
+    go : (r : Result ℕ ℕ) → MatchResult r (λ i. (i < length xs) × (get_or xs i 0 ≡ x)) (λ i. (i ≤ length xs) × ((k : ℕ) → k < i → get_or xs k 0 < x) × ((k : ℕ) → i ≤ k → k < length xs → x < get_or xs k 0))
+        → is_ok r ≡ list_any (λ p. p == x) xs
+    go (Ok i) h = sym (list_any_at (λ p. p == x) xs i 0 h.0 (same (get_or xs i 0) h.1))
+    go (Err i) h = sym (list_any_none (λ p. p == x) xs (λ k d l. other (get_or xs k d) (λ e. elsewhere i h.1 h.2 k l (cases_lt k i) (get_or_default xs k 0 d l ∙ e))))
+
+-- ---- member by member
+
+abbrev pub AreOfEachSoFar : List Member → List (List ℕ) → ℕ → Type 0
+AreOfEachSoFar members named i =
+    (length named ≡ i)
+    × ((x : ℕ) (m : Member) (places : List ℕ) → slice_get members x ≡ Some m → slice_get named x ≡ Some places → ArePlacesNamed members m.pkg places)
+
+at_end : (xs : List (List ℕ)) (y z : List ℕ) (k : ℕ) → slice_get (xs ++ y ∷ []) k ≡ Some z → (slice_get xs k ≡ Some z) ⊎ ((k ≡ length xs) × (y ≡ z))
+at_end [] y z zero g = inr (refl, ap (value_or y) g)
+at_end [] y z (suc k) g = absurd (true≢false (sym (ap is_one g)))
+at_end (x ∷ xs) y z zero g = inl g
+at_end (x ∷ xs) y z (suc k) g = behind (at_end xs y z k g)
+  where
+    behind : (slice_get xs k ≡ Some z) ⊎ ((k ≡ length xs) × (y ≡ z)) → (slice_get xs k ≡ Some z) ⊎ ((suc k ≡ suc (length xs)) × (y ≡ z))
+    behind (inl h) = inl h
+    behind (inr (e, s)) = inr (ap suc e, s)
+
+pub member_gathered : (members : List Member) (old new : List (List ℕ)) (places : List ℕ) (i : ℕ) (pkg : Plain) → new ≡ old ++ places ∷ []
+    → ((m : Member) → slice_get members i ≡ Some m → pkg ≡ m.pkg) → ArePlacesNamed members pkg places
+    → AreOfEachSoFar members old i → AreOfEachSoFar members new (i + 1)
+member_gathered members old new places i pkg is there named inv = (
+  omega (arith, ap length is, length-append old (places ∷ []), inv.0),
+  λ x m ps g h. go x m ps g (at_end old places ps x (ap (λ xs. slice_get xs x) (sym is) ∙ h)),
+)
+  where
+    go : (x : ℕ) (m : Member) (ps : List ℕ) → slice_get members x ≡ Some m → (slice_get old x ≡ Some ps) ⊎ ((x ≡ length old) × (places ≡ ps)) → ArePlacesNamed members m.pkg ps
+    go x m ps g (inl h) = inv.1 x m ps g h
+    go x m ps g (inr (e, s)) =
+        let at : slice_get members i ≡ Some m = ap (slice_get members) (sym (inv.0) ∙ sym e) ∙ g in
+        subst (λ v. ArePlacesNamed members v ps) (there m at) (subst (ArePlacesNamed members pkg) s named)
+
+pub all_gathered : (members : List Member) (named : List (List ℕ)) (i : ℕ) → i ≡ length members → AreOfEachSoFar members named i → ArePlacesOfEach members named
+all_gathered members named i e inv = record { long = inv.0 ∙ e; each = inv.1 }
+
+-- ---- which of two members beats the other
+
+some_member : (members : List Member) (i : ℕ) → i < length members → (m : Member) × (slice_get members i ≡ Some m)
+some_member [] i l = absurd (omega arith)
+some_member (m ∷ members) zero l = (m, refl)
+some_member (m ∷ members) (suc i) l = some_member members i (omega arith)
+
+-- places at a place, as they are kept
+pub kept_at : {V : Type 0} (f : V → List ℕ) (named : List V) (i : ℕ) (v : V) → i < length named → v ≡ get_or named i v → slice_get (map f named) i ≡ Some (f v)
+kept_at f [] i v l e = absurd (omega arith)
+kept_at f (x ∷ xs) zero v l e = ap (λ u. Some (f u)) (sym e)
+kept_at f (x ∷ xs) (suc i) v l e = kept_at f xs i v (omega arith) e
+
+module _ (members : List Member) (named : List (List ℕ)) (all : ArePlacesOfEach members named) (x y : ℕ) (l : x < length members) (k : y < length members) where
+  pub rising_at : (i : ℕ) (places : List ℕ) → i < length members → slice_get named i ≡ Some places → IsSorted nat_cmp places
+  rising_at i places h g = let m = some_member members i h in (all.each i m.0 places m.1 g).rising
+
+  names_at : (i j : ℕ) (m n : Member) (places : List ℕ) → slice_get members i ≡ Some m → slice_get members j ≡ Some n → slice_get named i ≡ Some places → list_any (λ p. p == j) places ≡ names_package m.pkg n.pkg
+  names_at i j m n places g h s = (all.each i m places g s).named j n h
+
+  beats_is : (m n : Member) → slice_get members x ≡ Some m → slice_get members y ≡ Some n → takes_over m.pkg n.pkg ≡ member_beats members x y
+  unfolding member_beats
+  beats_is m n g h = sym (λ j. takes_over_if_any (g j) (h j))
+
+  pub not_named : (places : List ℕ) (t : Bool) → slice_get named x ≡ Some places → t ≡ list_any (λ p. p == y) places → t ≡ false → false ≡ member_beats members x y
+  unfolding takes_over
+  not_named places t g is absent =
+      let m = some_member members x l in
+      let n = some_member members y k in
+      let e : names_package m.0.pkg n.0.pkg ≡ false = sym (names_at x y m.0 n.0 places m.1 n.1 g) ∙ (sym is ∙ absent) in
+      sym (sym (beats_is m.0 n.0 m.1 n.1) ∙ ap (λ b. b && (not (names_package n.0.pkg m.0.pkg) || is_preferred_to m.0.pkg n.0.pkg)) e)
+
+  pub not_back : (places others : List ℕ) (t u : Bool) → slice_get named x ≡ Some places → slice_get named y ≡ Some others → t ≡ list_any (λ p. p == y) places → t ≡ true
+      → u ≡ list_any (λ p. p == x) others → u ≡ false → true ≡ member_beats members x y
+  unfolding takes_over
+  not_back places others t u g h is yes_named back no_back =
+      let m = some_member members x l in
+      let n = some_member members y k in
+      let e : names_package m.0.pkg n.0.pkg ≡ true = sym (names_at x y m.0 n.0 places m.1 n.1 g) ∙ (sym is ∙ yes_named) in
+      let f : names_package n.0.pkg m.0.pkg ≡ false = sym (names_at y x n.0 m.0 others n.1 m.1 h) ∙ (sym back ∙ no_back) in
+      sym (sym (beats_is m.0 n.0 m.1 n.1) ∙ (λ j. e j && (not (f j) || is_preferred_to m.0.pkg n.0.pkg)))
+
+  pub by_preference : (places others : List ℕ) (t u p : Bool) (v w : Plain) → slice_get named x ≡ Some places → slice_get named y ≡ Some others → t ≡ list_any (λ p. p == y) places → t ≡ true
+      → u ≡ list_any (λ p. p == x) others → u ≡ true → ((m : Member) → slice_get members x ≡ Some m → v ≡ m.pkg) → ((m : Member) → slice_get members y ≡ Some m → w ≡ m.pkg)
+      → p ≡ is_preferred_to v w → p ≡ member_beats members x y
+  unfolding takes_over
+  by_preference places others t u p v w g h is yes_named back yes_back first second preferred =
+      let m = some_member members x l in
+      let n = some_member members y k in
+      let e : names_package m.0.pkg n.0.pkg ≡ true = sym (names_at x y m.0 n.0 places m.1 n.1 g) ∙ (sym is ∙ yes_named) in
+      let f : names_package n.0.pkg m.0.pkg ≡ true = sym (names_at y x n.0 m.0 others n.1 m.1 h) ∙ (sym back ∙ yes_back) in
+      preferred ∙ ((λ j. is_preferred_to (first m.0 m.1 j) (second n.0 n.1 j))
+      ∙ (sym (λ j. e j && (not (f j) || is_preferred_to m.0.pkg n.0.pkg)) ∙ beats_is m.0 n.0 m.1 n.1))

@@ -1,0 +1,20 @@
+-- The places of the members that a package names.
+use Rattle.std.specs.Prelude.{◌≡◌, ℕ, ◌==◌, List, length, Some, slice_get}
+use Rattle.std.specs.List.{list_any}
+use Rattle.std.specs.List.Sorted.{IsSorted}
+use Rattle.std.specs.Ordering.{nat_cmp}
+use Rattle.adb_view.specs.Plain.{Plain}
+use Rattle.db_core.specs.Members.{Member}
+use Rattle.file_owners.specs.Replaces.{names_package}
+
+-- they rise, and are those of the members that the package names
+pub record ArePlacesNamed (members : List Member) (pkg : Plain) (places : List ℕ) : Type 0 where
+  pub rising : IsSorted nat_cmp places
+  pub named : (y : ℕ) (m : Member) → slice_get members y ≡ Some m
+      → list_any (λ place. place == y) places ≡ names_package pkg m.pkg
+
+-- for each member in its order
+pub record ArePlacesOfEach (members : List Member) (named : List (List ℕ)) : Type 0 where
+  pub long : length named ≡ length members
+  pub each : (x : ℕ) (m : Member) (places : List ℕ) → slice_get members x ≡ Some m
+      → slice_get named x ≡ Some places → ArePlacesNamed members m.pkg places

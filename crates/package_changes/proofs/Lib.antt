@@ -1,0 +1,6 @@
+mod Lists
+mod NamesInOrder
+mod NameTable
+mod PlacedLaws
+mod ReportLines
+mod Worked

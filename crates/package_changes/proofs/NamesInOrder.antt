@@ -1,0 +1,63 @@
+-- Names without repeats.
+use Rattle.std.proofs.Common.{◌≡◌, ℕ, Bool, true, false, cond, List, [], ◌∷◌, map, Bor, refl, sym, ◌∙◌, ap, subst, true≢false}
+use Rattle.std.specs.Prelude.{bytes_eq}
+use Rattle.std.specs.List.{dedup, dedup_from}
+use Rattle.std.specs.Cmp.Lexicographic.{bytes_decides}
+use Rattle.change_files.specs.PlanLists.{unless_next, without_repeats}
+
+pub same_either_way : (a b : List ℕ) → bytes_eq a b ≡ bytes_eq b a
+same_either_way a b = go (bytes_eq a b) (bytes_eq b a) refl refl
+  where
+    go : (s t : Bool) → bytes_eq a b ≡ s → bytes_eq b a ≡ t → s ≡ t
+    go true true e f = refl
+    go false false e f = refl
+    go true false e f = absurd (true≢false (sym ((bytes_decides b a).1 (sym ((bytes_decides a b).0 e))) ∙ f))
+    go false true e f = absurd (true≢false (sym ((bytes_decides a b).1 (sym ((bytes_decides b a).0 f))) ∙ e))
+
+abbrev pub is_same_name : Bor (List ℕ) → Bor (List ℕ) → Bool
+is_same_name a b = bytes_eq a.now b.now
+
+-- names without repeats begin with the first of the names
+record Begins (x : List ℕ) (names : List (List ℕ)) : Type 0 where
+  rest : List (List ℕ)
+  is : names ≡ x ∷ rest
+
+begins : (x : List ℕ) (xs : List (List ℕ)) → Begins x (without_repeats (x ∷ xs))
+begins x [] = record { rest = []; is = refl }
+begins x (y ∷ ys) = go (begins y ys)
+  where
+    go : Begins y (without_repeats (y ∷ ys)) → Begins x (unless_next x (without_repeats (y ∷ ys)))
+    go b = subst (λ r. Begins x (unless_next x r)) (sym b.is) (pick (bytes_eq x y) refl)
+      where
+        pick : (t : Bool) → bytes_eq x y ≡ t → Begins x (cond t (y ∷ b.rest) (x ∷ y ∷ b.rest))
+        pick true e = record { rest = b.rest; is = ap (λ z. z ∷ b.rest) (sym ((bytes_decides x y).0 e)) }
+        pick false e = record { rest = y ∷ b.rest; is = refl }
+
+repeated : (x y : List ℕ) (ys : List (List ℕ)) → bytes_eq x y ≡ true → unless_next x (without_repeats (y ∷ ys)) ≡ without_repeats (y ∷ ys)
+repeated x y ys e =
+    let b = begins y ys in
+    subst (λ r. unless_next x r ≡ r) (sym b.is) (ap (λ t. cond t (y ∷ b.rest) (x ∷ y ∷ b.rest)) e)
+
+another : (x y : List ℕ) (ys : List (List ℕ)) → bytes_eq x y ≡ false → unless_next x (without_repeats (y ∷ ys)) ≡ x ∷ without_repeats (y ∷ ys)
+another x y ys e =
+    let b = begins y ys in
+    subst (λ r. unless_next x r ≡ x ∷ r) (sym b.is) (ap (λ t. cond t (y ∷ b.rest) (x ∷ y ∷ b.rest)) e)
+
+kept_from : (x : Bor (List ℕ)) (xs : List (Bor (List ℕ))) → map (λ n. n.now) (dedup_from is_same_name x xs) ≡ without_repeats (x.now ∷ map (λ n. n.now) xs)
+kept_from x [] = refl
+kept_from x (y ∷ ys) = go (is_same_name y x) refl (kept_from x ys) (kept_from y ys)
+  where
+    go : (t : Bool) → bytes_eq y.now x.now ≡ t
+        → map (λ n. n.now) (dedup_from is_same_name x ys) ≡ without_repeats (x.now ∷ map (λ n. n.now) ys)
+        → map (λ n. n.now) (dedup_from is_same_name y ys) ≡ without_repeats (y.now ∷ map (λ n. n.now) ys)
+        → map (λ n. n.now) (cond t (dedup_from is_same_name x ys) (x ∷ dedup_from is_same_name y ys)) ≡ without_repeats (x.now ∷ (y.now ∷ map (λ n. n.now) ys))
+    go true e first second =
+        first
+        ∙ (ap (λ z. without_repeats (z ∷ map (λ n. n.now) ys)) (sym ((bytes_decides y.now x.now).0 e))
+        ∙ sym (repeated x.now y.now (map (λ n. n.now) ys) (same_either_way x.now y.now ∙ e)))
+    go false e first second =
+        ap (λ z. x.now ∷ z) second ∙ sym (another x.now y.now (map (λ n. n.now) ys) (same_either_way x.now y.now ∙ e))
+
+pub kept_once : (xs : List (Bor (List ℕ))) → map (λ n. n.now) (dedup is_same_name xs) ≡ without_repeats (map (λ n. n.now) xs)
+kept_once [] = refl
+kept_once (x ∷ xs) = kept_from x xs

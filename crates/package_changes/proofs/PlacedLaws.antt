@@ -1,0 +1,94 @@
+-- Changes with their places are the changes.
+use Rattle.std.proofs.Common.{◌≡◌, ℕ, ◌+◌, Bool, true, false, cond, List, [], ◌∷◌, ◌++◌, map, length, Option, Some, None, refl, sym, ◌∙◌, ap, length-append}
+use Rattle.std.specs.Prelude.{bytes_eq, option_and_then, option_map, slice_get}
+use Rattle.std.specs.List.{cons_option, filter_map, find, list_any, position_from}
+use Rattle.std.specs.Option.{option_map_or}
+use Rattle.db_core.specs.Packages.{is_package_named}
+use Rattle.pool_core.specs.Candidates.{Candidate}
+use Rattle.pool_core.specs.Rank.{SealedPool, candidate_at, is_at}
+use Rattle.report_core.specs.Reports.{Change}
+use Rattle.package_changes.specs.Changes.{change_between, change_of_name, changes_of, is_selected_named, names_on_both_sides}
+use Rattle.package_changes.specs.Placed.{PlacedChange, PlacedReplacement, candidates_at, placed_change_of, placed_change_with, placed_changes_of, replacement_of, selected_place}
+use Rattle.package_changes.specs.SelectedNames.{change_at, place_beside}
+
+-- ---- the first by its place
+
+slice_behind : {X : Type 0} (front : List X) (x : X) (xs : List X) → slice_get (front ++ x ∷ xs) (length front) ≡ Some x
+slice_behind [] x xs = refl
+slice_behind (y ∷ front) x xs = slice_behind front x xs
+
+joined_one : {X : Type 0} (front : List X) (x : X) (xs : List X) → front ++ x ∷ xs ≡ (front ++ x ∷ []) ++ xs
+joined_one [] x xs = refl
+joined_one (y ∷ front) x xs = ap (λ z. y ∷ z) (joined_one front x xs)
+
+one_longer : {X : Type 0} (front : List X) (x : X) → length (front ++ x ∷ []) ≡ length front + 1
+one_longer front x = length-append front (x ∷ [])
+
+at_position : {X : Type 0} (p : X → Bool) (front xs : List X) → option_and_then (slice_get (front ++ xs)) (position_from p (length front) xs) ≡ find p xs
+at_position p front [] = refl
+at_position p front (x ∷ xs) = go (p x) (at_position p (front ++ x ∷ []) xs)
+  where
+    go : (t : Bool) → option_and_then (slice_get ((front ++ x ∷ []) ++ xs)) (position_from p (length (front ++ x ∷ [])) xs) ≡ find p xs
+        → option_and_then (slice_get (front ++ x ∷ xs)) (cond t (Some (length front)) (position_from p (length front + 1) xs)) ≡ cond t (Some x) (find p xs)
+    go true further = slice_behind front x xs
+    go false further =
+        ap (λ z. option_and_then (slice_get z) (position_from p (length front + 1) xs)) (joined_one front x xs)
+        ∙ (ap (λ n. option_and_then (slice_get ((front ++ x ∷ []) ++ xs)) (position_from p n xs)) (sym (one_longer front x)) ∙ further)
+
+pub found_at_position : {X : Type 0} (p : X → Bool) (xs : List X) → option_and_then (slice_get xs) (position_from p 0 xs) ≡ find p xs
+found_at_position p xs = at_position p [] xs
+
+-- the first of the candidates at places
+pub found_at_place : (pool : SealedPool) (p : Candidate → Bool) (places : List ℕ) → option_and_then (candidate_at pool) (find (is_at pool p) places) ≡ find p (candidates_at pool places)
+found_at_place pool p [] = refl
+found_at_place pool p (n ∷ places) = go (candidate_at pool n) refl (found_at_place pool p places)
+  where
+    pick : (t : Bool) (c : Candidate) → candidate_at pool n ≡ Some c → option_and_then (candidate_at pool) (find (is_at pool p) places) ≡ find p (candidates_at pool places)
+        → option_and_then (candidate_at pool) (cond t (Some n) (find (is_at pool p) places)) ≡ cond t (Some c) (find p (candidates_at pool places))
+    pick true c e rest = e
+    pick false c e rest = rest
+
+    go : (c : Option Candidate) → candidate_at pool n ≡ c → option_and_then (candidate_at pool) (find (is_at pool p) places) ≡ find p (candidates_at pool places)
+        → option_and_then (candidate_at pool) (cond (option_map_or p c false) (Some n) (find (is_at pool p) places)) ≡ find p (cons_option c (candidates_at pool places))
+    go None e rest = rest
+    go (Some c) e rest = pick (p c) c e rest
+
+-- ---- changes
+
+-- the change alone
+change_alone : (o : Option Change) (old new : Option ℕ) → option_map (λ (c : PlacedChange). c.change) (option_map (λ change. record { change = change; old = old; new = new }) o) ≡ o
+change_alone None old new = refl
+change_alone (Some c) old new = refl
+
+one_change : (p : PlacedReplacement) (name : List ℕ) → option_map (λ (c : PlacedChange). c.change) (placed_change_of p name) ≡ change_of_name (replacement_of p) name
+unfolding placed_change_of change_of_name
+one_change p name =
+    change_alone (change_between (list_any (bytes_eq name) p.again) name (option_and_then (slice_get p.before) (position_from (is_package_named name) 0 p.before)) (option_and_then (candidate_at p.pool) (selected_place p.pool p.trace name)))
+    (position_from (is_package_named name) 0 p.before) (selected_place p.pool p.trace name)
+    ∙ (ap (λ o. change_between (list_any (bytes_eq name) p.again) name o (option_and_then (candidate_at p.pool) (selected_place p.pool p.trace name))) (found_at_position (is_package_named name) p.before)
+    ∙ ap (λ o. change_between (list_any (bytes_eq name) p.again) name (find (is_package_named name) p.before) o) (found_at_place p.pool (is_selected_named name) p.trace))
+
+mapped_option : {X Y : Type 0} (f : X → Y) (o : Option X) (xs : List X) → map f (cons_option o xs) ≡ cons_option (option_map f o) (map f xs)
+mapped_option f None xs = refl
+mapped_option f (Some x) xs = refl
+
+mapped : {A X Y : Type 0} (f : X → Y) (g : A → Option X) (h : A → Option Y) → ((a : A) → option_map f (g a) ≡ h a) → (xs : List A) → map f (filter_map g xs) ≡ filter_map h xs
+mapped f g h same [] = refl
+mapped f g h same (a ∷ xs) =
+    mapped_option f (g a) (filter_map g xs)
+    ∙ (ap (λ o. cons_option o (map f (filter_map g xs))) (same a) ∙ ap (cons_option (h a)) (mapped f g h same xs))
+
+pub changes_alone : (p : PlacedReplacement) → map (λ (c : PlacedChange). c.change) (placed_changes_of p) ≡ changes_of (replacement_of p)
+unfolding placed_changes_of changes_of
+changes_alone p = mapped (λ (c : PlacedChange). c.change) (placed_change_of p) (change_of_name (replacement_of p)) (one_change p) (names_on_both_sides (replacement_of p))
+
+same_options : {A X : Type 0} (g h : A → Option X) → ((a : A) → g a ≡ h a) → (xs : List A) → filter_map g xs ≡ filter_map h xs
+same_options g h same [] = refl
+same_options g h same (a ∷ xs) = ap (λ o. cons_option o (filter_map g xs)) (same a) ∙ ap (cons_option (h a)) (same_options g h same xs)
+
+-- the table leads to the places of the selected candidates
+pub by_table : (p : PlacedReplacement) (table : List (List ℕ × ℕ)) → ((name : List ℕ) → place_beside name table ≡ selected_place p.pool p.trace name) → (names : List (List ℕ)) → filter_map (change_at p.before p.pool p.again table) names ≡ filter_map (placed_change_of p) names
+unfolding placed_change_of
+by_table p table leads names =
+    same_options (change_at p.before p.pool p.again table) (placed_change_of p)
+    (λ name. ap (placed_change_with p.before p.pool p.again name (position_from (is_package_named name) 0 p.before)) (leads name)) names

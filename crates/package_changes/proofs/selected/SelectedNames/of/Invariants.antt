@@ -1,0 +1,11 @@
+-- The first of those that are left is found where no earlier one has the name.
+use Rattle.std.proofs.Common.{◌≡◌, List, ℕ, drop}
+use Rattle.std.specs.List.{find}
+use Rattle.pool_core.specs.Rank.{is_at}
+use Rattle.package_changes.specs.Changes.{is_selected_named}
+use Rattle.package_changes.specs.SelectedNames.{or_place, place_beside}
+use Rattle.package_changes.proofs.selected.SelectedNames.of.Given as goal
+
+abbrev pub invariant-loop-i : goal.invariant-loop-i
+invariant-loop-i l =
+    (name : List ℕ) → or_place (place_beside name l.names) (find (is_at l.pool (is_selected_named name)) (drop l.i l.trace)) ≡ find (is_at l.pool (is_selected_named name)) l.trace

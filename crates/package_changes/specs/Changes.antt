@@ -1,0 +1,78 @@
+-- What becomes of each package where a selection takes the place of the packages before.
+use Rattle.std.specs.Prelude.{ℕ, Bool, not, ◌&&◌, ◌||◌, if◌then◌else◌, List, ◌++◌, map, Option, Some, None, bytes_eq, is_some}
+use Rattle.std.specs.List.{filter_map, find, list_any}
+use Rattle.std.specs.declared.cmp.Ordering.{Ordering}
+use Rattle.std.specs.declared.cmp.Ordering.TheVariants.{Less, Equal, Greater}
+use Rattle.adb_view.specs.Plain.{Plain}
+use Rattle.adb_tables.specs.Values.{entry_in, text_in}
+use Rattle.adb_fields.specs.Repeated.{package_name}
+use Rattle.db_core.specs.Packages.{is_package_named}
+use Rattle.file_owners.specs.Replaces.{version_text}
+use Rattle.change_files.specs.PlanLists.{names_in_order}
+use Rattle.pool_core.specs.Candidates.{Candidate, is_same_id, version_of_text}
+use Rattle.std.specs.Option.{option_cmp}
+use Rattle.version_core.specs.Order.{version_cmp}
+use Rattle.report_core.specs.Reports.{Change, Downgrade, Install, Purge, Reinstall, Replace, Upgrade}
+
+-- the packages before, the selected ones, and the names that are to be installed again
+pub record Replacement : Type 0 where
+  pub before : List Plain
+  pub selected : List Candidate
+  pub again : List (List ℕ)
+
+abbrev pub package_id : Plain → List ℕ
+package_id pkg = text_in (entry_in (entry_in pkg 0) 2)
+
+abbrev pub selected_version : Candidate → List ℕ
+selected_version c = text_in (entry_in c.info 1)
+
+abbrev pub is_selected_named : List ℕ → Candidate → Bool
+is_selected_named name c = bytes_eq c.name name
+
+-- the candidate is an installed package with this version and this id: of no repository, or with
+-- the same text and the same id
+abbrev pub is_installed_as : List ℕ → List ℕ → Candidate → Bool
+is_installed_as version id c =
+    not (is_some c.repository) || (bytes_eq version (selected_version c) && is_same_id id c.id)
+
+abbrev pub is_same_selected : Plain → Candidate → Bool
+is_same_selected pkg c = is_installed_as (version_text pkg) (package_id pkg) c
+
+-- from one version to another, by their order
+abbrev pub version_change : List ℕ → List ℕ → List ℕ → Ordering → Change
+version_change name old new Less = Upgrade name old new
+version_change name old new Equal = Replace name old new
+version_change name old new Greater = Downgrade name old new
+
+-- The order of two versions; a text that is none comes first, and no tested container has one.
+abbrev pub version_text_cmp : List ℕ → List ℕ → Ordering
+version_text_cmp old new = option_cmp version_cmp (version_of_text old) (version_of_text new)
+
+-- none for a package that stays as it is
+abbrev pub unless_same : List ℕ → Plain → Candidate → Bool → Bool → Option Change
+unless_same name pkg c is_same is_again =
+    if not is_same then Some (version_change name (version_text pkg) (selected_version c)
+    (version_text_cmp (version_text pkg) (selected_version c)))
+    else if is_again then Some (Reinstall name (selected_version c)) else None
+
+abbrev pub change_between : Bool → List ℕ → Option Plain → Option Candidate → Option Change
+change_between is_again name None None = None
+change_between is_again name None (Some c) = Some (Install name (selected_version c))
+change_between is_again name (Some pkg) None = Some (Purge name (version_text pkg))
+change_between is_again name (Some pkg) (Some c) =
+    unless_same name pkg c (is_same_selected pkg c) is_again
+
+-- what becomes of the package of this name, if anything does
+unfoldable pub change_of_name : Replacement → List ℕ → Option Change
+change_of_name r name =
+    change_between (list_any (bytes_eq name) r.again) name
+    (find (is_package_named name) r.before) (find (is_selected_named name) r.selected)
+
+-- the names of the packages before and of the selected ones, in byte order, each once
+abbrev pub names_on_both_sides : Replacement → List (List ℕ)
+names_on_both_sides r =
+    names_in_order (map package_name r.before ++ map (λ (c : Candidate). c.name) r.selected)
+
+-- the changes, in byte order of names
+unfoldable pub changes_of : Replacement → List Change
+changes_of r = filter_map (change_of_name r) (names_on_both_sides r)

@@ -1,0 +1,54 @@
+-- The changes that a selection leads to, with the places of the packages that they are of.
+use Rattle.std.specs.Prelude.{ℕ, List, Option, bytes_eq, option_map, option_and_then, slice_get}
+use Rattle.std.specs.List.{filter_map, find, list_any, position_from}
+use Rattle.adb_view.specs.Plain.{Plain}
+use Rattle.db_core.specs.Packages.{is_package_named}
+use Rattle.pool_core.specs.Candidates.{Candidate}
+use Rattle.pool_core.specs.Rank.{SealedPool, candidate_at, is_at}
+use Rattle.report_core.specs.Reports.{Change}
+use Rattle.package_changes.specs.Changes.{Replacement, change_between, is_selected_named, names_on_both_sides}
+
+-- the packages before, the candidates, the places of the selected ones among them, and the names
+-- that are to be installed again
+pub record PlacedReplacement : Type 0 where
+  pub before : List Plain
+  pub pool : SealedPool
+  pub trace : List ℕ
+  pub again : List (List ℕ)
+
+-- the candidates at places
+abbrev pub candidates_at : SealedPool → List ℕ → List Candidate
+candidates_at pool places = filter_map (candidate_at pool) places
+
+-- the same with the candidates in place of their places
+abbrev pub replacement_of : PlacedReplacement → Replacement
+replacement_of p =
+    record { before = p.before; selected = candidates_at p.pool p.trace; again = p.again }
+
+-- the place among the candidates of the selected one with this name
+abbrev pub selected_place : SealedPool → List ℕ → List ℕ → Option ℕ
+selected_place pool trace name = find (is_at pool (is_selected_named name)) trace
+
+-- what becomes of a package; its place among the packages before, counted from 0, if it was there;
+-- and the place of its candidate, if one is selected
+pub record PlacedChange : Type 0 where
+  pub change : Change
+  pub old : Option ℕ
+  pub new : Option ℕ
+
+-- what becomes of the package of this name, whose places are these
+abbrev pub placed_change_with :
+    List Plain → SealedPool → List (List ℕ) → List ℕ → Option ℕ → Option ℕ → Option PlacedChange
+placed_change_with before pool again name old new =
+    option_map (λ change. record { change = change; old = old; new = new })
+    (change_between (list_any (bytes_eq name) again) name (option_and_then (slice_get before) old)
+    (option_and_then (candidate_at pool) new))
+
+unfoldable pub placed_change_of : PlacedReplacement → List ℕ → Option PlacedChange
+placed_change_of p name =
+    placed_change_with p.before p.pool p.again name
+    (position_from (is_package_named name) 0 p.before) (selected_place p.pool p.trace name)
+
+-- in byte order of names
+unfoldable pub placed_changes_of : PlacedReplacement → List PlacedChange
+placed_changes_of p = filter_map (placed_change_of p) (names_on_both_sides (replacement_of p))

@@ -1,0 +1,31 @@
+-- What the changes of the program stand for.
+use Rattle.std.specs.Prelude.{ℕ, List, map}
+use Rattle.db_core.specs.Seen.{packages_of}
+use Rattle.db_core.specs.declared.db.Db.{Db}
+use Rattle.pool_core.specs.Rank.{SealedPool}
+use Rattle.report_core.specs.Reports as Texts
+use Rattle.package_changes.specs.Placed.{PlacedChange, PlacedReplacement}
+use Rattle.package_changes.specs.declared.change.Change.{Change}
+use Rattle.package_changes.specs.declared.change.Change.TheVariants.{Downgrade, Install, Purge, Reinstall, Replace, Upgrade}
+use Rattle.package_changes.specs.declared.change.PlacedChange.{PlacedChange as Placed}
+use Rattle.package_changes.specs.declared.changes.Changes.{Changes}
+
+abbrev pub change_seen : Change → Texts.Change
+change_seen (Install name version) = Texts.Install name.now version.now
+change_seen (Reinstall name version) = Texts.Reinstall name.now version.now
+change_seen (Purge name version) = Texts.Purge name.now version.now
+change_seen (Upgrade name old new) = Texts.Upgrade name.now old.now new.now
+change_seen (Downgrade name old new) = Texts.Downgrade name.now old.now new.now
+change_seen (Replace name old new) = Texts.Replace name.now old.now new.now
+
+abbrev pub placed_change_seen : Placed → PlacedChange
+placed_change_seen p = record { change = change_seen p.change; old = p.old; new = p.new }
+
+-- the changes, in their order
+abbrev pub changes_seen : Changes → List PlacedChange
+changes_seen changes = map placed_change_seen changes.list.items
+
+-- what a database, a pool and a selection say of a replacement
+abbrev pub replacement_by : Db → SealedPool → List ℕ → List (List ℕ) → PlacedReplacement
+replacement_by db pool trace again =
+    record { before = packages_of db; pool = pool; trace = trace; again = again }

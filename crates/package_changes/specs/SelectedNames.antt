@@ -1,0 +1,28 @@
+-- The table of the names of the selected candidates.
+use Rattle.std.specs.Prelude.{ℕ, List, [], ◌∷◌, map, Option, Some, None, if◌then◌else◌, bytes_eq}
+use Rattle.std.specs.Borrow.{Bor}
+use Rattle.std.specs.List.{position_from}
+use Rattle.adb_view.specs.Plain.{Plain}
+use Rattle.db_core.specs.Packages.{is_package_named}
+use Rattle.pool_core.specs.Rank.{SealedPool}
+use Rattle.package_changes.specs.Placed.{PlacedChange, placed_change_with}
+
+abbrev pub names_and_places : List (Bor (List ℕ) × ℕ) → List (List ℕ × ℕ)
+names_and_places entries = map (λ (e : Bor (List ℕ) × ℕ). (e.0.now, e.1)) entries
+
+-- the place beside a name
+abbrev pub place_beside : List ℕ → List (List ℕ × ℕ) → Option ℕ
+place_beside name [] = None
+place_beside name (e ∷ es) = if bytes_eq e.0 name then Some e.1 else place_beside name es
+
+-- what becomes of the package of a name, where the selected candidates have these names and places
+abbrev pub change_at :
+    List Plain → SealedPool → List (List ℕ) → List (List ℕ × ℕ) → List ℕ → Option PlacedChange
+change_at before pool again selected name =
+    placed_change_with before pool again name (position_from (is_package_named name) 0 before)
+    (place_beside name selected)
+
+-- what was there, or else another one
+abbrev pub or_place : Option ℕ → Option ℕ → Option ℕ
+or_place None other = other
+or_place (Some place) other = Some place

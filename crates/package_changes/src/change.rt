@@ -1,0 +1,176 @@
+//! What becomes of one package.
+ghost use Rattle.adb_schema.specs.Views.{package_value};
+ghost use Rattle.db_core.specs.Seen.{packages_of};
+ghost use Rattle.file_owners.specs.Replaces.{version_text};
+ghost use Rattle.package_changes.specs.Changes.{change_between, is_installed_as, package_id, selected_version, version_change, version_text_cmp};
+ghost use Rattle.package_changes.specs.Seen.{change_seen};
+ghost use Rattle.pool_core.specs.Candidates.{is_same_id, version_of_text};
+ghost use Rattle.pool_core.specs.Values.{candidate_value};
+ghost use Rattle.report_core.specs.Reports as Texts;
+ghost use Rattle.std.specs.Prelude.{◌≡◌, ◌<◌, false, Some, None, length, option_map, slice_get};
+ghost use Rattle.std.specs.Option.{option_cmp};
+ghost use Rattle.version_core.specs.Order.{version_cmp};
+
+use adb_schema::PackageView;
+use db_core::Db;
+use pool_core::{CandId, Candidate};
+use std::cmp::Ordering;
+use std::marker::PhantomData;
+use version_core::Version;
+
+/// What becomes of a package: its name, and the versions before and after.
+#[derive(Clone, Copy)]
+pub enum Change<'a> {
+    /// It comes.
+    Install(&'a [u8], &'a [u8]),
+    /// It comes again.
+    Reinstall(&'a [u8], &'a [u8]),
+    /// It goes.
+    Purge(&'a [u8], &'a [u8]),
+    /// A greater version takes the place of the old one.
+    Upgrade(&'a [u8], &'a [u8], &'a [u8]),
+    /// A smaller version takes the place of the old one.
+    Downgrade(&'a [u8], &'a [u8], &'a [u8]),
+    /// A version that is equal in order takes the place of the old one.
+    Replace(&'a [u8], &'a [u8], &'a [u8]),
+}
+
+/// What becomes of a package, and where it is found.
+#[derive(Clone, Copy)]
+pub struct PlacedChange<'a> {
+    pub change: Change<'a>,
+    /// The place in the database of the package before, counted from 0, if it was there.
+    pub old: Option<usize>,
+    pub(crate) new: Option<u32>,
+}
+
+impl<'a> PlacedChange<'a> {
+    /// The place of its candidate, if one is selected.
+    pub fn new_place(&self) -> Option<CandId>
+        ensures { result ≡ self.now.new }
+    {
+        match self.new {
+            Some(place) => Some(CandId { place }),
+            None => None,
+        }
+    }
+}
+
+/// What is compared of a package of the database.
+#[derive(Clone, Copy)]
+pub(crate) struct OldPackage<'a> {
+    version: &'a [u8],
+    id: &'a [u8],
+}
+
+impl<'a> OldPackage<'a> {
+    /// The texts of a package. The mark serves the borrow checker alone, which does not know the
+    /// parts of a view that is made and lent here unless the signature names the view.
+    pub(crate) fn of(pkg: &PackageView<'a>, _mark: PhantomData<PackageView<'a>>) -> OldPackage<'a>
+        ensures version { result.version.now ≡ version_text (package_value pkg.now) }
+        ensures id { result.id.now ≡ package_id (package_value pkg.now) }
+    {
+        let info = pkg.info();
+        OldPackage {
+            version: info.version(),
+            id: info.hashes(),
+        }
+    }
+}
+
+/// What becomes of a candidate whose name no package of the database has.
+pub(crate) fn install<'a>(name: &'a [u8], new: &Candidate<'a>) -> Change<'a>
+    ensures { change_seen result
+        ≡ Texts.Install name.entry.now (selected_version (candidate_value new.now)) }
+{
+    Change::Install(name, new.info.version())
+}
+
+/// What becomes of a package of the database for which no candidate is selected.
+pub(crate) fn purge<'a>(
+    name: &'a [u8],
+    db: &Db<'a>,
+    i: usize,
+    _mark: PhantomData<PackageView<'a>>,
+) -> Change<'a>
+    requires { i < length (packages_of db.now) }
+    ensures { option_map (λ p. change_between false name.entry.now (Some p) None)
+        (slice_get (packages_of db.now) i) ≡ Some (Some (change_seen result)) }
+{
+    let pkg = db.package(i);
+    let old = OldPackage::of(&pkg, PhantomData);
+    Change::Purge(name, old.version)
+}
+
+/// What becomes of a package of the database whose name a selected candidate has, if anything does.
+pub(crate) fn replace<'a>(
+    name: &'a [u8],
+    db: &Db<'a>,
+    i: usize,
+    new: &Candidate<'a>,
+    is_again: bool,
+    _mark: PhantomData<PackageView<'a>>,
+) -> Option<Change<'a>>
+    requires { i < length (packages_of db.now) }
+    ensures { option_map (λ p. change_between is_again name.entry.now (Some p)
+        (Some (candidate_value new.now))) (slice_get (packages_of db.now) i)
+        ≡ Some (option_map change_seen result) }
+{
+    let pkg = db.package(i);
+    let old = OldPackage::of(&pkg, PhantomData);
+    if !is_same_selected(&old, new) {
+        return Some(version_change(name, old.version, new.info.version()));
+    }
+    if is_again {
+        return Some(Change::Reinstall(name, new.info.version()));
+    }
+    None
+}
+
+/// Whether the candidate is the installed package.
+fn is_same_selected(old: &OldPackage<'_>, new: &Candidate<'_>) -> bool
+    ensures { result
+        ≡ is_installed_as old.now.version.now old.now.id.now (candidate_value new.now) }
+{
+    if new.repo.is_none() {
+        return true;
+    }
+    if old.version != new.info.version() {
+        return false;
+    }
+    is_same_id(old.id, new.info.hashes())
+}
+
+/// Whether two ids are there, and the shorter is a front of the longer.
+fn is_same_id(one: &[u8], other: &[u8]) -> bool
+    ensures { result ≡ is_same_id one.now other.now }
+{
+    if one.is_empty() || other.is_empty() {
+        return false;
+    }
+    one.starts_with(other) || other.starts_with(one)
+}
+
+/// The change from one version to another.
+fn version_change<'a>(name: &'a [u8], old: &'a [u8], new: &'a [u8]) -> Change<'a>
+    ensures { change_seen result ≡ version_change name.entry.now old.entry.now new.entry.now
+        (version_text_cmp old.entry.now new.entry.now) }
+{
+    match version_text_cmp(old, new) {
+        Ordering::Less => Change::Upgrade(name, old, new),
+        Ordering::Equal => Change::Replace(name, old, new),
+        Ordering::Greater => Change::Downgrade(name, old, new),
+    }
+}
+
+/// The order of two versions; a text that is none comes first.
+fn version_text_cmp(old: &[u8], new: &[u8]) -> Ordering
+    ensures { result ≡ version_text_cmp old.now new.now }
+{
+    match (Version::read(old), Version::read(new)) {
+        (None, None) => Ordering::Equal,
+        (None, Some(_)) => Ordering::Less,
+        (Some(_), None) => Ordering::Greater,
+        (Some(old), Some(new)) => old.compare(&new),
+    }
+}

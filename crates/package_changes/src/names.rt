@@ -1,0 +1,51 @@
+//! Names in byte order, each once.
+ghost use Rattle.change_files.specs.PlanLists.{names_in_order, without_repeats};
+ghost use Rattle.list_order.specs.ByteOrder.{bytes_cmp};
+ghost use Rattle.list_order.specs.Sorted.{sorted_by};
+ghost use Rattle.std.specs.Prelude.{◌≡◌, ◌++◌, map, IfOk};
+
+use base_core::Words;
+use std::alloc::{AllocError, Global};
+
+/// Names in byte order, each once.
+#[tactic(auto, unfolding(change_files::specs::PlanLists::names_in_order))]
+pub(crate) fn names_in_order<'a>(names: Vec<&'a [u8]>) -> Result<Vec<&'a [u8]>, AllocError>
+    ensures { IfOk result (λ sorted. map (λ n. n.now) sorted.items
+        ≡ names_in_order (map (λ n. n.now) names.entry.items)) }
+{
+    let mut names = names;
+    sort_names(&mut names)?;
+    drop_repeats(&mut names);
+    Ok(names)
+}
+
+/// Puts names into byte order.
+fn sort_names(names: &mut Vec<&[u8]>) -> Result<(), AllocError>
+    ensures { IfOk result (λ _. map (λ n. n.now) names.new.items
+        ≡ sorted_by bytes_cmp (map (λ n. n.now) names.old.items)) }
+{
+    names.sort_by(|one, other| one.cmp(other))?;
+    Ok(())
+}
+
+/// Drops a name behind the same one.
+fn drop_repeats(names: &mut Vec<&[u8]>)
+    ensures { map (λ n. n.now) names.new.items
+        ≡ without_repeats (map (λ n. n.now) names.old.items) }
+{
+    names.dedup();
+}
+
+/// Words, as names.
+pub(crate) fn names_of_words<'a>(
+    alloc: Global,
+    words: &'a Words,
+) -> Result<Vec<&'a [u8]>, AllocError>
+    ensures { IfOk result (λ names. map (λ n. n.now) names.items ≡ words.entry.now) }
+{
+    let mut names = Vec::new(alloc);
+    for i in 0..words.len() {
+        names.push(words.word(i))?;
+    }
+    Ok(names)
+}

@@ -1,0 +1,105 @@
+//! The selected candidates: each by its place, and all of them by their names.
+ghost use Rattle.package_changes.specs.Changes.{is_selected_named};
+ghost use Rattle.package_changes.specs.Placed.{selected_place};
+ghost use Rattle.package_changes.specs.SelectedNames.{or_place, place_beside};
+ghost use Rattle.pool_core.specs.Rank.{candidate_at, is_at};
+ghost use Rattle.pool_core.specs.Values.{candidate_value};
+ghost use Rattle.std.specs.Prelude.{◌≡◌, ℕ, List, [], Some, None, if◌then◌else◌, bytes_eq, option_map, IfOk, OnOk};
+
+use indexmap::IndexMap;
+use pool_core::{CandId, Candidate, Sealed};
+use solve_core::Trace;
+use std::alloc::{AllocError, Global};
+use std::marker::Model;
+
+/// The candidate at a place, if there is one.
+pub(crate) fn candidate_at<'a>(pool: &Sealed<'a>, id: CandId) -> Option<Candidate<'a>>
+    ensures { option_map candidate_value result ≡ candidate_at pool.now id }
+{
+    if id.place as usize >= pool.len() {
+        return None;
+    }
+    Some(pool.candidate(id))
+}
+
+/// The names of the selected candidates, each with the place of the first that has it.
+#[derive(Drop)]
+pub(crate) struct SelectedNames<'a> {
+    by_name: IndexMap<&'a [u8], u32>,
+}
+
+impl<'a> Model for SelectedNames<'a> {
+    ghost use Rattle.std.specs.Prelude.{ℕ, List};
+    ghost use Rattle.package_changes.specs.SelectedNames.{names_and_places};
+
+    ghost Value = { List (List ℕ × ℕ) };
+
+    ghost view = { λ s. names_and_places s.by_name.entries };
+}
+
+impl<'a> SelectedNames<'a> {
+    /// The names of the candidates at the places of a selection.
+    pub(crate) fn of(
+        alloc: Global,
+        pool: &Sealed<'a>,
+        trace: &Trace,
+    ) -> Result<SelectedNames<'a>, AllocError>
+        ensures { IfOk result (λ names. (name : List ℕ)
+            → place_beside name names ≡ selected_place pool.now trace.now name) }
+    {
+        let mut names = SelectedNames::new(alloc);
+        for i in 0..trace.len() {
+            names.add(pool, trace.get(i))?;
+        }
+        Ok(names)
+    }
+
+    // No names.
+    fn new(alloc: Global) -> SelectedNames<'a>
+        ensures { result ≡ [] }
+    {
+        SelectedNames {
+            by_name: IndexMap::new(alloc),
+        }
+    }
+
+    /// The place of the first selected candidate with this name.
+    pub(crate) fn place_of(&self, name: &[u8]) -> Option<u32>
+        ensures { result ≡ place_beside name.now self.now }
+    {
+        match self.by_name.get(name) {
+            Some(place) => Some(*place),
+            None => None,
+        }
+    }
+
+    // Adds the candidate at a place, if there is one and no other has its name.
+    fn add(&mut self, pool: &Sealed<'a>, id: CandId) -> Result<(), AllocError>
+        ensures { OnOk result ((name : List ℕ) → place_beside name self.new
+            ≡ or_place (place_beside name self.old)
+            (if is_at pool.now (is_selected_named name) id then Some id else None)) }
+    {
+        match pool.at(id) {
+            None => Ok(()),
+            Some(details) => {
+                self.add_name(details.name(), id.place)?;
+                Ok(())
+            }
+        }
+    }
+
+    // Adds a name with a place, unless it is there.
+    fn add_name(&mut self, name: &'a [u8], place: u32) -> Result<(), AllocError>
+        ensures { OnOk result ((other : List ℕ) → place_beside other self.new
+            ≡ or_place (place_beside other self.old)
+            (if bytes_eq name.entry.now other then Some place else None)) }
+    {
+        match self.by_name.get(name) {
+            Some(_) => Ok(()),
+            None => {
+                self.by_name.insert(name, place)?;
+                Ok(())
+            }
+        }
+    }
+}
