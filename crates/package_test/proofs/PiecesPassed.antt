@@ -99,8 +99,7 @@ told : (h later : List TreeState) (name : List ℕ) (len : ℕ) (begun now new :
     → ((pkg : List ℕ) → (all : PiecesRead) × IsReading begun pkg all × (refusal_in all ≡ FaultIn pkg))
     → IsFaultTold h name len (offset_of begun) FaultIn fault
 told h later name len begun now new bytes result fault FaultIn same named long passed (seen, is_seen, ends, each) says starts =
-    let to = both_seen h later name len begun now seen same named long passed is_seen in
-    (
+    let to = both_seen h later name len begun now seen same named long passed is_seen in (
       to.all,
       to.is_seen,
       λ pkg is has.

@@ -37,21 +37,27 @@ IsWholeTold h name front fault = (seen : List ℕ)
 
 pub whole_by_values : (h : List TreeState) (name : List ℕ) (front : Front) (cause first : Cause) (why : PackageFault) → cause ≡ first → why ≡ PackageFaults.Bad first → front_end front ≤ front_file_len front → IsFaultOf why (payload_fault Package (front_payload front)) → IsWholeTold h name front (Some cause)
 whole_by_values h name front cause first why same is within of =
-    let bad : payload_fault Package (front_payload front) ≡ Some first = subst (λ (f : PackageFault). IsFaultOf f (payload_fault Package (front_payload front))) is of in
-    ([], nothing_seen h name (front_file_len front) (front_end front) within, λ pkg front_of has.
-        whole_by_front pkg front front_of
-        ∙ ap (λ (f : Option Cause). or_else f (contents_fault (expected_contents (root_value Package (front_payload front))) (reading_of (behind_front front pkg)))) (bad ∙ ap (λ (c : Cause). Some c) (sym same)))
+    let bad : payload_fault Package (front_payload front) ≡ Some first = subst (λ (f : PackageFault). IsFaultOf f (payload_fault Package (front_payload front))) is of in (
+      [],
+      nothing_seen h name (front_file_len front) (front_end front) within,
+      λ pkg front_of has.
+          whole_by_front pkg front front_of
+          ∙ ap (λ (f : Option Cause). or_else f (contents_fault (expected_contents (root_value Package (front_payload front))) (reading_of (behind_front front pkg)))) (bad ∙ ap (λ (c : Cause). Some c) (sym same)),
+    )
 
 pub whole_by_contents : (h : List TreeState) (name : List ℕ) (front : Front) (value : Plain) (result : Result (Option Cause) TreeFault) → payload_fault Package (front_payload front) ≡ None → value ≡ root_value Package (front_payload front)
     → IfOk result (λ fault. (seen : List ℕ) × IsSeenIn h name (front_file_len front) (front_end front) seen × ((pkg : List ℕ) → length pkg ≡ front_file_len front → HasAt pkg (front_end front) seen → contents_fault (expected_contents value) (reading_of (behind_front front pkg)) ≡ fault))
     → IfOk result (IsWholeTold h name front)
 whole_by_contents h name front value (Err fault) sound is told = tt
-whole_by_contents h name front value (Ok fault) sound is (seen, is_seen, each) =
-    (seen, is_seen, λ pkg of has.
-        whole_by_front pkg front of
-        ∙ (ap (λ (f : Option Cause). or_else f (contents_fault (expected_contents (root_value Package (front_payload front))) (reading_of (behind_front front pkg)))) sound
-        ∙ (ap (λ (v : Plain). contents_fault (expected_contents v) (reading_of (behind_front front pkg))) (sym is)
-        ∙ each pkg of.long has)))
+whole_by_contents h name front value (Ok fault) sound is (seen, is_seen, each) = (
+  seen,
+  is_seen,
+  λ pkg of has.
+      whole_by_front pkg front of
+      ∙ (ap (λ (f : Option Cause). or_else f (contents_fault (expected_contents (root_value Package (front_payload front))) (reading_of (behind_front front pkg)))) sound
+      ∙ (ap (λ (v : Plain). contents_fault (expected_contents v) (reading_of (behind_front front pkg))) (sym is)
+      ∙ each pkg of.long has)),
+)
 
 -- ---- of some file, the one under the name where the tree tells it
 
