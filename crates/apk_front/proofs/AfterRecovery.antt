@@ -1,28 +1,28 @@
 -- A run behind a recovery.
-use Rattle.std.proofs.Common.{◌≡◌, inl, inr, ⊎_elim, ℕ, Bool, true, false, List, [], ◌∷◌, ◌++◌, append_assoc, Option, None, Some, IsSome, Err, refl, sym, ap, subst, ◌∙◌, arith}
+use Rattle.std.proofs.Common.{◌≡◌, inl, inr, ℕ, Bool, true, false, List, [], ◌∷◌, ◌++◌, append_assoc, Option, None, Some, IsSome, Err, refl, sym, ap, subst, ◌∙◌, arith}
 use Rattle.std.specs.Prelude.{is_some, All, IsErrOf, OnOk}
 use Rattle.std.proofs.lemmas.Bool.{false≢true}
 use Rattle.std.proofs.lemmas.List.{append_cancel_right}
 use Rattle.std.proofs.lemmas.List.Elements.{All-append, All-cons, All-head, All-nil, All-tail, All-weaker}
 use Rattle.base_core.specs.Calls.{HasNow}
 use Rattle.base_core.specs.Crash.{IsOrderly, Since}
-use Rattle.base_core.specs.Files.{Files, NameMap}
+use Rattle.base_core.specs.Files.{Files}
 use Rattle.base_core.specs.Restart.{EachMoment}
-use Rattle.base_core.specs.Tree.{IsMapOf, TreeState, files_of}
+use Rattle.base_core.specs.Tree.{TreeState, files_of}
 use Rattle.base_core.specs.declared.cause.Cause.{Cause}
 use Rattle.base_core.specs.declared.tree.TreeFault.{TreeFault}
 use Rattle.base_core.specs.declared.tree.TreeFault.TheVariants.{Memory as NoMemory}
 use Rattle.journal_core.specs.Kept.{IsLessWaiting, KeepsMapsBut, ShownNamesLast}
 use Rattle.journal_core.specs.Quiet.{IsQuiet, IsStill}
 use Rattle.journal_core.specs.Recovery.{IsOldOrNew, IsSettled, RestsOn, intent_name, intent_of, state_of}
-use Rattle.journal_core.specs.Replacing.{IsReplacing, scratch_of}
+use Rattle.journal_core.specs.Replacing.{IsReplacing}
 use Rattle.journal_core.specs.Staged.{IsEmptyStage, IsOnTheWay, unstaged_files}
 use Rattle.outcome.specs.Effect.{Effect, Makes, does_recover}
 use Rattle.outcome.specs.Outcome.{Outcome}
 use Rattle.outcome.specs.Work.{recovery_fault, work_files}
 use Rattle.apk_front.specs.Moments.{AreOnTheWay, AreReadOnTheWay, AreSafe, CanRecover, HasNothingToRecover, IsAtRest, IsBehindRecovery, IsReadAtWork, IsRecovering, Settles, SettlesUnrecovered, UnreadNamesLast, ignored_but, output_names}
 use Rattle.apk_front.specs.Runs.{AreReadApart, IsReadApart, IsRun, IsWholeRun, IsWithoutCommit}
-use Rattle.apk_front.proofs.Runs.{History, Judged, Leaves, err_ok, off_scratch, ok_always, on_ok, settled_before}
+use Rattle.apk_front.proofs.Runs.{History, Judged, Leaves, err_ok, off_scratch, on_ok, settled_before}
 
 -- ---- laws
 

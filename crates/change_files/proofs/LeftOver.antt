@@ -1,16 +1,19 @@
 -- What is left over goes, unless the user changed it.
-use Rattle.std.proofs.Common.{◌≡◌, ◌⊎◌, inl, inr, ◌∙◌, ℕ, Bool, true, false, List, Option, Some, None, refl, ap, sym, true≢false}
-use Rattle.std.specs.Prelude.{not, ◌&&◌}
+use Rattle.std.proofs.Common.{◌≡◌, ◌⊎◌, inl, inr, ◌∙◌, ℕ, suc, Bool, true, false, List, [], ◌∷◌, map, Option, Some, None, refl, ap, sym, true≢false, arith}
+use Rattle.std.specs.Prelude.{All, not, ◌&&◌}
 use Rattle.std.proofs.lemmas.Bool.{and_from, and_parts, not_from_false}
+use Rattle.adb_rules.specs.Reserved.{is_reserved}
 use Rattle.adb_view.specs.Plain.{Plain}
 use Rattle.base_core.specs.Files.{Files}
+use Rattle.base_core.proofs.Rising.{IsIn}
+use Rattle.db_core.specs.Members.{Listing}
 use Rattle.file_guard.specs.AsListed.{is_as_listed}
 use Rattle.change_files.specs.Fate.{is_guarded}
-use Rattle.change_files.specs.FileChange.{FileChange, old_entry}
+use Rattle.change_files.specs.FileChange.{FileChange, old_entry, old_listings}
 use Rattle.change_files.specs.FilesAfter.{is_changed, is_kept, is_left_over, is_removed, may_stay}
 use Rattle.change_files.specs.Touched.{IsUsersFile}
-use Rattle.change_files.proofs.Owned.{claimed_by_owner, coming_is}
-use Rattle.change_files.proofs.Untouched.{IsLeftOver, kept_is, left_over_is}
+use Rattle.change_files.proofs.Owned.{claimed_by_owner, coming_is, in_old_paths}
+use Rattle.change_files.proofs.Untouched.{IsLeftOver, kept_is, left_over_is, removed_is}
 
 not_so : (b : Bool) → not b ≡ true → b ≡ false
 not_so true e = sym e
@@ -57,3 +60,15 @@ pub kept_is_users : (change : FileChange) (files : Files) (path : List ℕ) → 
     → ((bytes : List ℕ) × IsUsersFile change files path bytes) × (change.purge ≡ false)
 kept_is_users change files path kept =
     let (left, stays) = kept_is change files path kept in stays_is_users change files path left stays
+
+-- ---- it is not reserved where no package before lists a reserved path
+
+path_of_all : (listings : List Listing) → All (λ l. is_reserved l.path ≡ false) listings → (path : List ℕ) → IsIn path (map (λ l. l.path) listings) → is_reserved path ≡ false
+path_of_all [] free path here = absurd here
+path_of_all (l ∷ listings) free path (inl is) = ap is_reserved is ∙ free 0 l (omega arith)
+path_of_all (l ∷ listings) free path (inr more) = path_of_all listings (λ k d below. free (suc k) d (omega (arith, below))) path more
+
+pub removed_unreserved : (change : FileChange) (files : Files) (path : List ℕ) → All (λ l. is_reserved l.path ≡ false) (old_listings change) → is_removed change files path ≡ true → is_reserved path ≡ false
+removed_unreserved change files path free removed =
+    let (left, gone) = removed_is change files path removed in
+    path_of_all (old_listings change) free path (in_old_paths change path left.listed)

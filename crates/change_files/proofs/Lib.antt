@@ -1,4 +1,5 @@
 pub mod AfterNames
+pub mod Brought
 pub mod Coming
 pub mod InOrder
 pub mod LeftOver

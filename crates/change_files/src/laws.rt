@@ -1,16 +1,20 @@
 //! What follows from the definitions, for all changes and files.
 
-ghost use Rattle.std.specs.Prelude.{◌≡◌, ◌≢◌, ◌⊎◌, ◌↔◌, ℕ, Bool, true, false, List, [], None, Some, IsSome, map, is_some, Contains};
+ghost use Rattle.std.specs.Prelude.{◌≡◌, ◌≢◌, ◌⊎◌, ◌↔◌, ℕ, Bool, true, false, List, [], None, Some, IsSome, map, is_some, All, Contains};
 ghost use Rattle.adb_rules.specs.Reserved.{is_reserved};
+ghost use Rattle.adb_rules.specs.Texts.{is_with_contents};
 ghost use Rattle.base_core.specs.Files.{Files};
 ghost use Rattle.base_core.specs.Listed.{IsRising};
 ghost use Rattle.base_core.specs.Name.{IsName};
-ghost use Rattle.db_core.specs.Members.{Listing, is_coming, member_listings};
+ghost use Rattle.db_core.specs.Members.{Listing, Member, is_coming, member_listings};
+ghost use Rattle.file_guard.specs.AsListed.{has_target, is_as_listed};
 ghost use Rattle.file_owners.specs.Owners.{owner_of_path};
 ghost use Rattle.path_clashes.specs.Clash.{is_name_after};
+ghost use Rattle.pkg_core.specs.Contents.{Contents, expected_contents};
+ghost use Rattle.pkg_core.specs.GoodContents.{AreContentsOf, HaveDigests};
 ghost use Rattle.change_files.specs.Fate.{aside_name};
-ghost use Rattle.change_files.specs.FileChange.{FileChange, coming_owner, is_claimed, owner_listing, was_listed};
-ghost use Rattle.change_files.specs.FilesAfter.{Records, changed_files, database_name, is_kept, is_left_over, is_removed, is_written, laid_beside, text_database_name, world_name, written_as};
+ghost use Rattle.change_files.specs.FileChange.{FileChange, coming_owner, is_claimed, old_listings, owner_listing, was_listed};
+ghost use Rattle.change_files.specs.FilesAfter.{Records, changed_files, database_name, is_kept, is_left_over, is_removed, is_written, laid_beside, listing_bytes, text_database_name, world_name, written_as};
 ghost use Rattle.change_files.specs.NamesAfter.{is_let_go, name_change};
 ghost use Rattle.change_files.specs.PlanLists.{FileWrite, aside_of, first_reserved, kept_of, removals_of, writes_of};
 ghost use Rattle.change_files.specs.Touched.{IsNewEntry, IsUsersFile, IsWriteOf, is_aside_name, is_coming_path, is_record_name};
@@ -54,6 +58,19 @@ pub fn what_differs_lies_beside_the_users_file()
         × IsNewEntry change path l.entry × (is_claimed change (aside_name path) ≡ false) }
 {}
 
+/// What a package brings under a path is as its entry says: a link's text; contents of its size and
+/// its digest; or an empty file, where its entry tells that. The contents are those of a package in
+/// which no test fails, for each member that comes.
+pub fn what_a_package_brings_is_as_listed()
+    ensures { (contents : ℕ → List Contents) (members : List Member) (l : Listing)
+        → Contains (member_listings members) l
+        → HaveDigests (expected_contents l.member.pkg)
+        → AreContentsOf (expected_contents l.member.pkg) (contents l.place)
+        → (is_with_contents l.entry ≡ false → has_target l.entry ≡ false
+        → is_as_listed l.entry [] ≡ true)
+        → is_as_listed l.entry (listing_bytes contents l) ≡ true }
+{}
+
 /// Where something is written the file has those bytes after the change.
 pub fn what_is_written_takes_its_name()
     ensures { (change : FileChange) (bytes_of : Listing → List ℕ) (records : Records)
@@ -83,6 +100,13 @@ pub fn what_is_removed_was_listed_before()
         (files : Files) (path : List ℕ) → is_removed change files path ≡ true
         → is_record_name records path ≡ false
         → changed_files change bytes_of records files path ≡ None }
+{}
+
+/// No name that is removed is reserved, where the packages before list no reserved path.
+pub fn what_is_removed_is_not_reserved()
+    ensures { (change : FileChange) (files : Files) (path : List ℕ)
+        → All (λ l. is_reserved l.path ≡ false) (old_listings change)
+        → is_removed change files path ≡ true → is_reserved path ≡ false }
 {}
 
 /// What was listed before, and where no package lists it now and nothing is written, goes, unless

@@ -6,7 +6,7 @@ use Rattle.pool_core.specs.Rank.{SealedPool}
 use Rattle.pool_core.proofs.OptionLists.{in_places}
 use Rattle.report_core.specs.declared.refusal.Refusal.{Refusal}
 use Rattle.solve_core.specs.Choices.{HasOptions}
-use Rattle.solve_core.specs.Selection.{IsFirstSelection, IsSatisfying}
+use Rattle.solve_core.specs.Selection.{IsFirstSelection}
 use Rattle.solve_core.proofs.Existence.{first_or_none}
 use Rattle.solve_core.proofs.FirstFound.{none_satisfies}
 use Rattle.solve_core.proofs.PoolFacts.{pool_facts}
