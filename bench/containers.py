@@ -100,6 +100,21 @@ def best_of(times, command, folder):
     return best
 
 
+def greatest_memory(command, folder):
+    """The greatest memory in kB that a command has taken (VmHWM), as it was last told before the command ended."""
+    greatest = 0
+    with subprocess.Popen(command, cwd=folder, stdout=subprocess.DEVNULL) as process:
+        while process.poll() is None:
+            with open("/proc/%d/status" % process.pid) as status:
+                for line in status:
+                    if line.startswith("VmHWM:"):
+                        greatest = int(line.split()[1])
+            time.sleep(0.001)
+        if process.returncode != 0:
+            raise subprocess.CalledProcessError(process.returncode, command)
+    return greatest
+
+
 def best_wall_of(times, run):
     """The least time on the clock in seconds that a call takes of so many."""
     best = None

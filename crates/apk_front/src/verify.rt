@@ -14,6 +14,7 @@ ghost use Rattle.outcome.specs.Verify.{file_refusal, sound_lines, verify, verify
 use crate::answer::Verdict;
 use base_core::{Name, Text, Tree, TreeFault, read_all, readings_in_a_row_join};
 use command_core::Operands;
+use package_test::{PackageTest, test_package};
 use pkg_core::PackageFault;
 use report_core::Refusal;
 use std::alloc::{AllocError, Global};
@@ -55,7 +56,7 @@ fn verdict_by(
     }
 }
 
-// The refusal of the first operand whose file is no sound container. The bytes of each file are
+// The refusal of the first operand whose file is no sound container. What is held of a file is
 // dropped before the next is read.
 fn first_refusal<T: Tree>(
     alloc: Global,
@@ -81,8 +82,32 @@ fn first_refusal<T: Tree>(
     Ok(None)
 }
 
-// Reads the file that the argument at a place names, and tests it.
+// Tests the file that the argument at a place names: a package piece by piece, another container
+// whole.
 fn test_file<T: Tree>(
+    alloc: Global,
+    place: u32,
+    file: &Name,
+    tree: &mut T,
+) -> Result<Option<Refusal>, TreeFault>
+    ensures found { IfOk result (λ refusal. IfObservable (T.history tree.old) (λ v.
+        refusal ≡ file_refusal place (files_of v file.now))) }
+    ensures by_reads { IfOk result (λ refusal. (found : Option (List ℕ))
+        × (refusal ≡ file_refusal place found)) }
+    ensures tree { OnlyReads TreeFault.Disk (T.history tree.old) (T.history tree.new)
+        (T.counts tree.old) (T.counts tree.new) result }
+{
+    readings_in_a_row_join::<PackageTest, Option<Refusal>, TreeFault>();
+    match test_package(alloc, tree, file)? {
+        PackageTest::Absent => Ok(Some(Refusal::FileMissing { place })),
+        PackageTest::OtherSchema => test_whole(alloc, place, file, tree),
+        PackageTest::Sound => Ok(None),
+        PackageTest::Bad(cause) => Ok(Some(Refusal::FileBad { place, cause })),
+    }
+}
+
+// Reads the file that the argument at a place names, and tests it.
+fn test_whole<T: Tree>(
     alloc: Global,
     place: u32,
     file: &Name,

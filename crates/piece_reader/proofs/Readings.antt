@@ -1,6 +1,7 @@
 -- Where a reader of pieces stands.
-use Rattle.std.proofs.Common.{◌≡◌, ℕ, ◌+◌, ◌≤◌, min, List, [], ◌++◌, length, Option, Some, None, Result, Ok, Err, drop, refl, ap, sym, subst, ◌∙◌, arith}
+use Rattle.std.proofs.Common.{◌≡◌, ℕ, ◌+◌, ◌≤◌, min, false, List, [], ◌++◌, length, Option, Some, None, Result, Ok, Err, drop, refl, ap, sym, subst, ◌∙◌, arith}
 use Rattle.std.specs.Prelude.{IsErrAnd}
+use Rattle.std.proofs.lemmas.Bool.{false≢true}
 use Rattle.base_core.specs.declared.cause.Cause.{Cause}
 use Rattle.base_core.specs.Faults.{Counts}
 use Rattle.base_core.specs.Tree.{TreeState}
@@ -63,6 +64,11 @@ behind place o (Some further) part n room few is = omega (arith, is.2)
 pub behind_within : (place : BlockPlace) (o : OpenFile) (rest : Option OpenFile) (part : Part) (n : ℕ) → o.at + file_bytes_left o.file ≤ place.at → place.at ≤ place.len → n ≤ file_bytes_left o.file → IsPieceOf o n (part, rest) → offset_in place rest ≤ place.len
 behind_within place o None part n room within few is = within
 behind_within place o (Some further) part n room within few is = omega (arith, is.2, room, within, few)
+
+-- behind a piece that is not the last one of its file
+pub behind_part : (place : BlockPlace) (o : OpenFile) (rest : Option OpenFile) (part : Part) (n at : ℕ) → at ≤ o.at → IsPieceOf o n (part, rest) → part.last ≡ false → at + n ≤ offset_in place rest
+behind_part place o None part n at before is more = absurd (false≢true (sym more ∙ ap (λ (p : Part). p.last) is))
+behind_part place o (Some further) part n at before is more = omega (arith, before, is.2)
 
 -- ---- a piece
 

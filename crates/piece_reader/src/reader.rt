@@ -40,7 +40,7 @@ pub struct PieceReader<'a> {
 }
 
 impl<'a> PieceReader<'a> {
-    ghost use Rattle.std.specs.Prelude.{◌≡◌, ◌+◌, ℕ, List, None, is_none, length, IfErr, IfOk, IfSome};
+    ghost use Rattle.std.specs.Prelude.{◌≡◌, ◌≤◌, ◌+◌, ℕ, List, None, false, is_none, length, IfErr, IfOk, IfSome};
     ghost use Rattle.adb_block.specs.Reading.{reading_of};
     ghost use Rattle.pkg_core.specs.Contents.{expected_contents};
     ghost use Rattle.pkg_core.specs.Opened.{left_in};
@@ -122,6 +122,8 @@ impl<'a> PieceReader<'a> {
             ComesInOrder (due_files self.old) found (due_files self.new)) }
         ensures goes_on { IfOk result (λ found. IfSome found (λ part.
             GoesOnBehind part self.old self.new)) }
+        ensures bytes { IfOk result (λ found. IfSome found (λ part. part.last ≡ false
+            → offset_of self.old + length piece.new ≤ offset_of self.new)) }
         ensures refused { IfErr result (λ fault. HasRefused fault self.new) }
         ensures name { name_in_tree self.new ≡ name_in_tree self.old }
         ensures len { package_len self.new ≡ package_len self.old }
@@ -157,6 +159,8 @@ impl<'a> PieceReader<'a> {
             ComesInOrder (due_files self.old) found (due_files self.new)) }
         ensures goes_on { IfOk result (λ found. IfSome found (λ part.
             GoesOnBehind part self.old self.new)) }
+        ensures bytes { IfOk result (λ found. IfSome found (λ part. part.last ≡ false
+            → offset_of self.old + length piece.new ≤ offset_of self.new)) }
         ensures refused { IfErr result (λ fault. HasRefused fault self.new) }
         ensures name { name_in_tree self.new ≡ name_in_tree self.old }
         ensures len { package_len self.new ≡ package_len self.old }
@@ -196,6 +200,8 @@ impl<'a> PieceReader<'a> {
             × IfOk result (λ found. KeepsBlock self.old pkg before found self.new)) }
         ensures order { IfOk result (λ found. ComesInOrder
             (due_in self.old.place self.old.opened) found (due_in self.new.place self.new.opened)) }
+        ensures bytes { IfOk result (λ found. IfSome found (λ part. part.last ≡ false
+            → offset_of self.old + length piece.new ≤ offset_of self.new)) }
         ensures due { self.new.due ≡ self.old.due }
         ensures open { IfOk result (λ found. IfSome found (λ part.
             is_none self.new.opened ≡ part.last)) }

@@ -6,7 +6,7 @@ use Rattle.piece_reader.specs.declared.fault.PieceFault.TheVariants.{Disk as Dis
 use Rattle.pkg_pieces.proofs.SeenBytes.{reads_err, reads_in_a_row, reads_ok}
 use Rattle.piece_reader.proofs.BlockSeen.{not_ok}
 use Rattle.piece_reader.proofs.FilesFound.{seen_up_to}
-use Rattle.piece_reader.proofs.Readings.{behind, behind_within, read_err, read_some, renamed, seen_unless_disk}
+use Rattle.piece_reader.proofs.Readings.{behind, behind_part, behind_within, read_err, read_some, renamed, seen_unless_disk}
 use Rattle.piece_reader.proofs.reader.PieceReader.read_next.Goals as goal
 
 pub next_piece-requires : goal.next_piece-requires
@@ -80,3 +80,9 @@ returns-clause-tree g c =
     let len : mid.place.len ≡ old.place.len = c.open_next.ensures.len in
     let fits : o.at + file_bytes_left o.file ≤ package_len old = omega (arith, room, len, mid.within) in
     reads_in_a_row _ _ DiskFault DiskFault _ _ _ _ _ _ _ _ c.in_ok-file.ensures.tree (reads_ok _ _ DiskFault _ _ _ _ _ _ (renamed _ _ _ _ _ _ _ _ _ c.open_next.ensures.name (c.in_ok-part.ensures.tree (package_len old) fits)))
+
+pub returns-clause-bytes : goal.returns-clause-bytes
+returns-clause-bytes g c =
+    let b = rw c.in-Some.is at c.in_ok-file.ensures.file in
+    let ends = b.2 in
+    λ more. behind_part c.open_next.new.self.place c.in-Some.file c.in_ok-part.rest c.in_ok-part.part (length c.next_piece.new.piece) (offset_of c.args.self.now) (omega (arith, ends)) c.in_ok-part.ensures.part more

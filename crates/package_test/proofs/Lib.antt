@@ -1,0 +1,3 @@
+pub mod FullPieces
+pub mod PiecesPassed
+pub mod WholeTested

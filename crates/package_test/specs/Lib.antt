@@ -1,0 +1,3 @@
+-- what the contract of `apk` says: nothing
+-- what only inner contracts and proofs use
+pub mod Tests
