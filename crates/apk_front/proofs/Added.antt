@@ -17,7 +17,8 @@ use Rattle.command_core.specs.declared.command.Applet.TheVariants.{Add}
 use Rattle.command_core.specs.declared.command.Flags.{Flags}
 use Rattle.engine_core.specs.Choice.{IsChoiceFrom}
 use Rattle.engine_core.specs.Decided.{IsDecided, report_as_is}
-use Rattle.engine_core.specs.Simulated.{pool_for, simulated}
+use Rattle.engine_core.specs.Selecting.{pool_for}
+use Rattle.engine_core.specs.Simulated.{simulated}
 use Rattle.make_info.specs.Reads.{Reads}
 use Rattle.make_package.specs.Runs.{AreObserved, Explains}
 use Rattle.pool_core.specs.Rank.{SealedPool}

@@ -5,7 +5,7 @@ use Rattle.change_inputs.specs.declared.refused.Refused.{Refused}
 use Rattle.change_inputs.specs.declared.refused.Refused.TheVariants.{Disk, Memory, Refusal}
 use Rattle.command_core.specs.Command.{CommandLine}
 use Rattle.engine_core.specs.Choice.{IsChoiceFrom}
-use Rattle.engine_core.specs.Simulated.{pool_for}
+use Rattle.engine_core.specs.Selecting.{pool_for}
 use Rattle.make_info.specs.Reads.{Reads}
 use Rattle.outcome.specs.Changing.{add}
 use Rattle.outcome.specs.Outcome.{just_refusal, just_report}

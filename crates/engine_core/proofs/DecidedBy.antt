@@ -22,7 +22,8 @@ use Rattle.report_core.specs.declared.refusal.Refusal.TheVariants.{Unsatisfied}
 use Rattle.solve_core.specs.Selection.{IsFirstSelection}
 use Rattle.engine_core.specs.Choice.{IsChoice, IsChoiceFrom}
 use Rattle.engine_core.specs.Decided.{IsDecided, IsDecidedBy, report_as_is}
-use Rattle.engine_core.specs.Simulated.{choice_report, pool_by, replacement_of_choice, report_by}
+use Rattle.engine_core.specs.Selecting.{pool_by, replacement_of_choice}
+use Rattle.engine_core.specs.Simulated.{choice_report, report_by}
 
 abbrev pub HaveChoice : Type 0
 HaveChoice = (pool : Result SealedPool Refusal) → (chosen : Option (List ℕ)) × IsChoiceFrom pool chosen

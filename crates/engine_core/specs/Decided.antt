@@ -6,7 +6,8 @@ use Rattle.change_inputs.specs.declared.refused.Refused.{Refused}
 use Rattle.command_core.specs.Command.{CommandLine}
 use Rattle.make_info.specs.Reads.{Reads}
 use Rattle.engine_core.specs.Choice.{IsChoiceFrom}
-use Rattle.engine_core.specs.Simulated.{pool_by, pool_for, report_by, simulated}
+use Rattle.engine_core.specs.Selecting.{pool_by, pool_for}
+use Rattle.engine_core.specs.Simulated.{report_by, simulated}
 
 abbrev pub report_as_is : List ℕ → List ℕ
 report_as_is report = report

@@ -2,7 +2,7 @@
 ghost use Rattle.base_core.specs.Read.{OnlyReads};
 ghost use Rattle.change_inputs.specs.Seen.{inputs_seen};
 ghost use Rattle.engine_core.specs.Decided.{IsDecided, IsDecidedBy};
-ghost use Rattle.engine_core.specs.Simulated.{pool_by, replacement_of_choice};
+ghost use Rattle.engine_core.specs.Selecting.{pool_by, replacement_of_choice};
 ghost use Rattle.make_package.specs.Runs.{Explains};
 ghost use Rattle.package_changes.specs.Report.{simulated_report};
 ghost use Rattle.std.specs.Prelude.{◌≡◌, [], Ok, IfOk};

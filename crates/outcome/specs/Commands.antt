@@ -13,7 +13,7 @@ use Rattle.words_core.specs.Grammar.{command_of}
 use Rattle.command_core.specs.declared.command.Applet.{Applet}
 use Rattle.command_core.specs.declared.command.Applet.TheVariants.{Adbdump, Add, Mkndx, Mkpkg, Verify, Version}
 use Rattle.engine_core.specs.Choice.{IsChoiceFrom}
-use Rattle.engine_core.specs.Simulated.{pool_for}
+use Rattle.engine_core.specs.Selecting.{pool_for}
 use Rattle.outcome.specs.Changing.{add}
 use Rattle.outcome.specs.Dump.{adbdump}
 use Rattle.outcome.specs.Effect.{does_recover, effect_of}

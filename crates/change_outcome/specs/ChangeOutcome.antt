@@ -1,0 +1,209 @@
+-- What a command that changes the installed packages comes to.
+use Rattle.std.specs.Prelude.{◌≡◌, ℕ, ◌==◌, Bool, true, false, not, ◌||◌, if◌then◌else◌, List, [], ◌∷◌, ◌++◌, length, map, sum_by, codes, Option, Some, None, Result, Ok, Err, bytes_eq, slice_get}
+use Rattle.std.specs.Option.{option_map_or}
+use Rattle.std.specs.List.{flat_map}
+use Rattle.adb_tables.specs.Values.{entry_in, int_in}
+use Rattle.adb_write.specs.Canonical.{PayloadCounts, overflow_of}
+use Rattle.base_core.specs.Files.{Files}
+use Rattle.change_files.specs.FileChange.{FileChange}
+use Rattle.change_files.specs.FilesAfter.{Records, changed_files, listing_bytes}
+use Rattle.change_files.specs.Fate.{aside_name}
+use Rattle.change_files.specs.NamesAfter.{name_change}
+use Rattle.change_files.specs.PlanLists.{aside_of, first_reserved, kept_of, names_in_order, removals_of, writes_of}
+use Rattle.change_inputs.specs.Chains.{and_then}
+use Rattle.change_inputs.specs.Inputs.{Inputs}
+use Rattle.db_core.specs.Members.{Member, member_name}
+use Rattle.db_write.specs.NewDatabase.{database_of}
+use Rattle.dep_core.specs.World.{world_text}
+use Rattle.file_owners.specs.Owners.{contested_of, owned_of}
+use Rattle.journal_intent.specs.IntentValue.{intent_of_lists, value_of_intent}
+use Rattle.make_info.specs.Reads.{Reads}
+use Rattle.package_changes.specs.Changes.{Replacement, changes_of}
+use Rattle.package_changes.specs.Report.{stay_lines}
+use Rattle.path_claims.specs.Claims.{ContestedPath}
+use Rattle.path_clashes.specs.Clash.{NamePair}
+use Rattle.path_clashes.specs.FirstClash.{IsClashOf}
+use Rattle.report_core.specs.Reports.{change_lines, report_line, sum_text}
+use Rattle.report_core.specs.declared.refusal.Refusal.{Refusal}
+use Rattle.report_core.specs.declared.refusal.Refusal.TheVariants.{Owned, PathClash, Reserved, ResultTooLarge}
+use Rattle.root_names.specs.RootNames.{database_name, text_database_name, world_name}
+use Rattle.change_outcome.specs.MembersAfter.{MemberFound, contents_found, members_after, members_found}
+use Rattle.change_outcome.specs.Triggers.{trigger_lines, unless_trigger}
+
+-- what the command says of a change: whether changed configuration goes too, whether scripts are
+-- left out, and the names that were to go
+pub record ChangeWishes : Type 0 where
+  pub purge : Bool
+  pub no_scripts : Bool
+  pub to_go : List (List ℕ)
+
+-- ---- the files
+
+abbrev pub file_change : Inputs → ChangeWishes → List MemberFound → FileChange
+file_change inputs wishes found = record {
+  old = inputs.root.database.packages;
+  members = members_found found;
+  purge = wishes.purge;
+}
+
+abbrev pub unless_reserved_path : {A : Type 0} → Option (List ℕ) → Result A Refusal → Result A Refusal
+unless_reserved_path None next = next
+unless_reserved_path (Some path) next = Err (Reserved path)
+
+abbrev pub unless_clash : {A : Type 0} → Option NamePair → Result A Refusal → Result A Refusal
+unless_clash None next = next
+unless_clash (Some pair) next = Err (PathClash pair.path pair.other)
+
+-- the name of the member at a place
+abbrev pub name_at_place : List Member → ℕ → List ℕ
+name_at_place members place = option_map_or member_name (slice_get members place) []
+
+abbrev pub unless_contested :
+    {A : Type 0} → List Member → Option ContestedPath → Result A Refusal → Result A Refusal
+unless_contested members None next = next
+unless_contested members (Some c) next =
+    Err (Owned c.path (name_at_place members c.rivals.first)
+    (name_at_place members c.rivals.second))
+
+-- ---- the database and world
+
+abbrev pub unless_large : {A : Type 0} → Result A PayloadCounts → Result A Refusal
+unless_large (Ok a) = Ok a
+unless_large (Err counts) = Err (ResultTooLarge counts.0 counts.1)
+
+abbrev pub unless_overflow : {A : Type 0} → Option PayloadCounts → A → Result A Refusal
+unless_overflow None a = Ok a
+unless_overflow (Some counts) a = Err (ResultTooLarge counts.0 counts.1)
+
+-- a file that is absent or has other bytes is written
+abbrev pub is_other_file : Option (List ℕ) → List ℕ → Bool
+is_other_file None bytes = true
+is_other_file (Some old) bytes = not (bytes_eq old bytes)
+
+-- what the change does to the database and to world
+abbrev pub records_of : Inputs → List ℕ → Records
+records_of inputs database = record {
+  database = database;
+  world = world_text inputs.root.new_world;
+  takes_text_over = inputs.root.database.from_text;
+}
+
+abbrev pub name_if_needed : Bool → List ℕ → List (List ℕ)
+name_if_needed true name = name ∷ []
+name_if_needed false name = []
+
+-- world is written where its text differs, and an absent file counts as empty
+abbrev pub written_records : Inputs → Files → Records → List (List ℕ)
+written_records inputs files records =
+    name_if_needed (is_other_file (files database_name) records.database) database_name
+    ++ name_if_needed (not (bytes_eq inputs.root.world_text records.world)) world_name
+
+-- ---- what is done, as two lists of names in byte order
+
+pub record Actions : Type 0 where
+  pub removals : List (List ℕ)
+  pub writes : List (List ℕ)
+
+abbrev pub actions_of : Inputs → FileChange → Files → Records → Actions
+actions_of inputs change files records = record {
+  removals = names_in_order (removals_of change files
+    ++ name_if_needed records.takes_text_over text_database_name);
+  writes = names_in_order (map (λ w. w.name) (writes_of change files)
+    ++ written_records inputs files records);
+}
+
+abbrev pub does_something : Actions → Bool
+does_something actions = not (length actions.removals == 0) || not (length actions.writes == 0)
+
+-- ---- the report
+
+abbrev pub aside_line : List ℕ → List ℕ
+aside_line path =
+    report_line (aside_name path ++ codes " installed; " ++ path ++ codes " was changed")
+
+abbrev pub kept_line : List ℕ → List ℕ
+kept_line path = report_line (path ++ codes " kept; it was changed")
+
+abbrev pub member_size : Member → ℕ
+member_size m = int_in (entry_in (entry_in m.pkg 0) 11)
+
+abbrev pub member_sum_line : List Member → List ℕ
+member_sum_line members = report_line (sum_text (sum_by member_size members) (length members))
+
+-- the files whose folders may have a trigger: those that packages have written and removed
+abbrev pub touched_paths : FileChange → Files → List (List ℕ)
+touched_paths change files = map (λ w. w.name) (writes_of change files) ++ removals_of change files
+
+abbrev pub change_report : Replacement → ChangeWishes → FileChange → Files → List ℕ
+change_report r wishes change files =
+    change_lines (changes_of r) ++ stay_lines r.before r.selected wishes.to_go
+    ++ flat_map aside_line (aside_of change files) ++ flat_map kept_line (kept_of change files)
+    ++ trigger_lines (touched_paths change files) change.members ++ member_sum_line change.members
+
+-- ---- the change
+
+-- what a change leaves and prints, and whether it writes or removes anything
+pub record ChangeDone : Type 0 where
+  pub report : List ℕ
+  pub files : Files
+  pub commits : Bool
+
+abbrev pub change_done :
+    Inputs → Replacement → ChangeWishes → List MemberFound → Files → Records → ChangeDone
+change_done inputs r wishes found files records =
+    let change = file_change inputs wishes found in
+    record {
+      report = change_report r wishes change files;
+      files = changed_files change (listing_bytes (contents_found found)) records files;
+      commits = does_something (actions_of inputs change files records);
+    }
+
+-- no limit of the writer is passed, first by the database and then by the intent
+abbrev pub unless_too_large :
+    Inputs → Replacement → ChangeWishes → List MemberFound → Files → Result ChangeDone Refusal
+unless_too_large inputs r wishes found files =
+    let change = file_change inputs wishes found in
+    and_then (unless_large (database_of change.members (owned_of change.members))) (λ database.
+    let records = records_of inputs database in
+    let actions = actions_of inputs change files records in
+    unless_overflow
+    (overflow_of (value_of_intent (intent_of_lists actions.removals actions.writes)))
+    (change_done inputs r wishes found files records))
+
+-- by the packages after the change, and the first clash of its names, if there is one
+abbrev pub change_with_members :
+    Inputs → Replacement → ChangeWishes → Option NamePair → Files → List MemberFound
+    → Result ChangeDone Refusal
+change_with_members inputs r wishes clash files found =
+    let change = file_change inputs wishes found in
+    unless_reserved_path (first_reserved change.members)
+    (unless_clash clash
+    (unless_contested change.members (contested_of change.members)
+    (and_then (unless_trigger wishes.no_scripts (touched_paths change files) change.members)
+    (λ is_allowed. unless_too_large inputs r wishes found files))))
+
+-- the packages after it, or the first refusal of one
+abbrev pub change_members : Inputs → Replacement → ChangeWishes → Reads → Result (List MemberFound) Refusal
+change_members inputs r wishes read =
+    members_after r read inputs.root.repositories wishes.no_scripts
+
+-- A selection takes the place of the packages before: the change, or its first refusal.
+unfoldable pub change_of :
+    Inputs → Replacement → ChangeWishes → Reads → Option NamePair → Files
+    → Result ChangeDone Refusal
+change_of inputs r wishes read clash files =
+    and_then (change_members inputs r wishes read)
+    (change_with_members inputs r wishes clash files)
+
+-- it is the first clash of the names after the change, where the packages after it are found; else
+-- nothing is asked, and there is none
+abbrev pub IsClashFound :
+    Inputs → ChangeWishes → Files → Result (List MemberFound) Refusal → Option NamePair → Type 0
+IsClashFound inputs wishes files (Ok found) clash =
+    IsClashOf (name_change (file_change inputs wishes found) files) files clash
+IsClashFound inputs wishes files (Err refusal) clash = clash ≡ None
+
+abbrev pub IsClashOfChange :
+    Inputs → Replacement → ChangeWishes → Reads → Files → Option NamePair → Type 0
+IsClashOfChange inputs r wishes read files clash =
+    IsClashFound inputs wishes files (change_members inputs r wishes read) clash

@@ -1,0 +1,5 @@
+-- what the contract of `apk` says
+pub mod ChangeOutcome
+pub mod MembersAfter
+pub mod PackageFiles
+pub mod Triggers

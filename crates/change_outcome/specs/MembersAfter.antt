@@ -1,0 +1,115 @@
+-- The packages after a change, name by name.
+use Rattle.std.specs.Prelude.{ℕ, ◌+◌, Bool, List, [], ◌∷◌, length, map, Option, Some, None, Result, Ok, slice_get}
+use Rattle.std.specs.Option.{option_map_or}
+use Rattle.std.specs.List.{find}
+use Rattle.adb_view.specs.Plain.{Plain}
+use Rattle.change_inputs.specs.Chains.{and_then}
+use Rattle.change_inputs.specs.Inputs.{first_index_read}
+use Rattle.db_core.specs.Members.{Member, coming_member, staying_member}
+use Rattle.db_core.specs.Packages.{is_package_named}
+use Rattle.dep_core.specs.Repositories.{Repository}
+use Rattle.make_info.specs.Reads.{Reads}
+use Rattle.package_changes.specs.Changes.{Replacement, change_of_name, is_selected_named, names_on_both_sides}
+use Rattle.pkg_core.specs.Contents.{Contents}
+use Rattle.pool_core.specs.Candidates.{Candidate}
+use Rattle.report_core.specs.Reports.{Change}
+use Rattle.report_core.specs.declared.refusal.Refusal.{Refusal}
+use Rattle.change_outcome.specs.PackageFiles.{ComingPackage, package_file_of, package_found, scripts_of_change, unless_script}
+
+-- a package after the change, and the contents of the files of one that comes
+pub record MemberFound : Type 0 where
+  pub member : Member
+  pub contents : List Contents
+
+abbrev pub staying_found : Plain → MemberFound
+staying_found pkg = record { member = staying_member pkg; contents = [] }
+
+abbrev pub coming_found : ComingPackage → MemberFound
+coming_found pkg = record { member = coming_member pkg.value pkg.id; contents = pkg.contents }
+
+-- what a name comes to: a package or none, and how many files of packages were read
+pub record NameFound : Type 0 where
+  pub found : Option MemberFound
+  pub reads : ℕ
+
+abbrev pub name_found : Option MemberFound → ℕ → NameFound
+name_found found reads = record { found = found; reads = reads }
+
+-- by what a read finds under the name of its file, if it has one
+abbrev pub coming_by_path :
+    Reads → ℕ → Candidate → Option (List ℕ) → Result ComingPackage Refusal
+coming_by_path read n c None = package_found c None
+coming_by_path read n c (Some path) = package_found c (read n path)
+
+abbrev pub reads_of_path : Option (List ℕ) → ℕ
+reads_of_path None = 0
+reads_of_path (Some path) = 1
+
+-- a candidate that comes; its file is the read with this number
+abbrev pub name_that_comes :
+    Reads → List Repository → Bool → ℕ → List ℕ → Change → Candidate → Result NameFound Refusal
+name_that_comes read repositories no_scripts n name change c =
+    and_then (coming_by_path read n c (package_file_of repositories c)) (λ pkg.
+    unless_script no_scripts name pkg.value (scripts_of_change change)
+    (name_found (Some (coming_found pkg)) (reads_of_path (package_file_of repositories c))))
+
+abbrev pub name_that_goes : Bool → List ℕ → Change → Option Plain → Result NameFound Refusal
+name_that_goes no_scripts name change None = Ok (name_found None 0)
+name_that_goes no_scripts name change (Some pkg) =
+    unless_script no_scripts name pkg (scripts_of_change change) (name_found None 0)
+
+abbrev pub name_that_stays : Option Plain → NameFound
+name_that_stays None = name_found None 0
+name_that_stays (Some pkg) = name_found (Some (staying_found pkg)) 0
+
+abbrev pub name_by_selected :
+    Reads → List Repository → Bool → ℕ → List ℕ → Change → Option Plain → Option Candidate
+    → Result NameFound Refusal
+name_by_selected read repositories no_scripts n name change before None =
+    name_that_goes no_scripts name change before
+name_by_selected read repositories no_scripts n name change before (Some c) =
+    name_that_comes read repositories no_scripts n name change c
+
+abbrev pub name_by_change :
+    Reads → List Repository → Bool → ℕ → List ℕ → Option Change → Option Plain
+    → Option Candidate → Result NameFound Refusal
+name_by_change read repositories no_scripts n name None before selected =
+    Ok (name_that_stays before)
+name_by_change read repositories no_scripts n name (Some change) before selected =
+    name_by_selected read repositories no_scripts n name change before selected
+
+-- a package that changes is as its file has it, one that does not is as before
+abbrev pub name_after :
+    Replacement → Reads → List Repository → Bool → ℕ → List ℕ → Result NameFound Refusal
+name_after r read repositories no_scripts n name =
+    name_by_change read repositories no_scripts n name (change_of_name r name)
+    (find (is_package_named name) r.before) (find (is_selected_named name) r.selected)
+
+abbrev pub with_found : Option MemberFound → List MemberFound → List MemberFound
+with_found None members = members
+with_found (Some m) members = m ∷ members
+
+-- of names in byte order, or the first refusal; the file of the first package that comes is the read
+-- with this number
+abbrev pub names_after :
+    Replacement → Reads → List Repository → Bool → ℕ → List (List ℕ)
+    → Result (List MemberFound) Refusal
+names_after r read repositories no_scripts n [] = Ok []
+names_after r read repositories no_scripts n (name ∷ names) =
+    and_then (name_after r read repositories no_scripts n name) (λ first.
+    and_then (names_after r read repositories no_scripts (n + first.reads) names) (λ others.
+    Ok (with_found first.found others)))
+
+-- the packages after a change, in byte order of names, or the first refusal of one
+unfoldable pub members_after :
+    Replacement → Reads → List Repository → Bool → Result (List MemberFound) Refusal
+members_after r read repositories no_scripts =
+    names_after r read repositories no_scripts (first_index_read + length repositories)
+    (names_on_both_sides r)
+
+abbrev pub members_found : List MemberFound → List Member
+members_found found = map (λ m. m.member) found
+
+-- the contents of the package of the member at a place
+abbrev pub contents_found : List MemberFound → ℕ → List Contents
+contents_found found place = option_map_or (λ m. m.contents) (slice_get found place) []

@@ -1,0 +1,142 @@
+-- The files of the packages that come with a change, and why one of them is refused.
+use Rattle.std.specs.Prelude.{ℕ, ◌==◌, ◌-◌, Bool, true, false, not, if◌then◌else◌, List, [], ◌∷◌, ◌++◌, length, codes, Option, Some, None, Result, Ok, Err, bytes_eq, slice_get}
+use Rattle.std.specs.List.{list_any}
+use Rattle.adb_schema.specs.Soundness.{payload_in, root_value}
+use Rattle.adb_tables.specs.Values.{entry_in, text_in}
+use Rattle.adb_tables.specs.declared.tables.Which.TheVariants as Tables
+use Rattle.adb_view.specs.Plain.{Plain}
+use Rattle.base_core.specs.Name.{is_name}
+use Rattle.base_core.specs.declared.cause.Cause.{Cause}
+use Rattle.adb_fields.specs.Repeated.{package_name}
+use Rattle.dep_core.specs.Repositories.{Repository}
+use Rattle.file_owners.specs.Replaces.{version_text}
+use Rattle.package_changes.specs.Changes.{selected_version}
+use Rattle.pkg_core.specs.Contents.{Contents, contents_in}
+use Rattle.pkg_core.specs.Whole.{files_in_file, package_fault, package_id}
+use Rattle.pool_core.specs.Candidates.{Candidate, is_same_id}
+use Rattle.report_core.specs.Reports.{Change, Downgrade, Install, Purge, Reinstall, Replace, Upgrade, name_version}
+use Rattle.report_core.specs.declared.refusal.Refusal.{Refusal}
+use Rattle.report_core.specs.declared.refusal.Refusal.TheVariants.{PackageBad, PackageDiffers, PackageMissing, ScriptNeeded}
+
+-- ---- where it lies
+
+abbrev pub has_slash : List ℕ → Bool
+has_slash path = list_any (λ b. b == 47) path
+
+-- a path up to its last slash, with it
+abbrev pub folder_prefix : List ℕ → List ℕ
+folder_prefix [] = []
+folder_prefix (b ∷ bytes) = if has_slash (b ∷ bytes) then b ∷ folder_prefix bytes else []
+
+-- NAME-VERSION.apk, beside the index
+abbrev pub package_path : List ℕ → List ℕ → List ℕ → List ℕ
+package_path index name version =
+    folder_prefix index ++ name_version name version ++ codes ".apk"
+
+abbrev pub if_name : List ℕ → Option (List ℕ)
+if_name path = if is_name path then Some path else None
+
+abbrev pub path_beside_index : List ℕ → List ℕ → Option Repository → Option (List ℕ)
+path_beside_index name version None = None
+path_beside_index name version (Some repository) =
+    if_name (package_path repository.path name version)
+
+-- Repositories count from 1. A package of none has no file.
+abbrev pub package_file_of : List Repository → Candidate → Option (List ℕ)
+package_file_of repositories c = by_number c.repository
+  where
+    by_number : Option ℕ → Option (List ℕ)
+    by_number None = None
+    by_number (Some n) =
+        path_beside_index c.name (selected_version c) (slice_get repositories (n - 1))
+
+-- ---- what it has to be
+
+-- a package that comes: its value, its identity, and the contents of its files
+pub record ComingPackage : Type 0 where
+  pub value : Plain
+  pub id : List ℕ
+  pub contents : List Contents
+
+abbrev pub package_in_file : List ℕ → ComingPackage
+package_in_file file = record {
+  value = root_value Tables.Package (payload_in file);
+  id = package_id file;
+  contents = contents_in (files_in_file file);
+}
+
+-- the numbers of the fields that have to agree with the index
+abbrev pub name_field : ℕ
+name_field = 1
+
+abbrev pub version_field : ℕ
+version_field = 2
+
+abbrev pub id_field : ℕ
+id_field = 3
+
+-- first its identity, then its name, then its version is the candidate's
+abbrev pub unless_different : Candidate → ComingPackage → Result ComingPackage Refusal
+unless_different c pkg =
+    if not (is_same_id c.id pkg.id)
+    then Err (PackageDiffers c.name (selected_version c) id_field c.id pkg.id)
+    else if not (bytes_eq c.name (package_name pkg.value))
+    then Err (PackageDiffers c.name (selected_version c) name_field c.name (package_name pkg.value))
+    else if not (bytes_eq (selected_version c) (version_text pkg.value))
+    then Err (PackageDiffers c.name (selected_version c) version_field (selected_version c)
+        (version_text pkg.value))
+    else Ok pkg
+
+abbrev pub unless_bad : Candidate → Option Cause → ComingPackage → Result ComingPackage Refusal
+unless_bad c None pkg = unless_different c pkg
+unless_bad c (Some cause) pkg = Err (PackageBad c.name (selected_version c) cause)
+
+-- by what is found under the name of its file
+abbrev pub package_found : Candidate → Option (List ℕ) → Result ComingPackage Refusal
+package_found c None = Err (PackageMissing c.name (selected_version c))
+package_found c (Some file) = unless_bad c (package_fault file) (package_in_file file)
+
+-- ---- scripts
+
+-- the script with this number, or no bytes
+abbrev pub script_of : Plain → ℕ → List ℕ
+script_of pkg number = text_in (entry_in (entry_in pkg 2) (number - 1))
+
+abbrev pub has_script_of : Plain → ℕ → Bool
+has_script_of pkg number = not (length (script_of pkg number) == 0)
+
+abbrev pub first_script_of : Plain → List ℕ → Option ℕ
+first_script_of pkg [] = None
+first_script_of pkg (number ∷ numbers) =
+    if has_script_of pkg number then Some number else first_script_of pkg numbers
+
+abbrev pub trigger_script : ℕ
+trigger_script = 1
+
+abbrev pub install_scripts : List ℕ
+install_scripts = 2 ∷ 3 ∷ []
+
+abbrev pub deinstall_scripts : List ℕ
+deinstall_scripts = 4 ∷ 5 ∷ []
+
+abbrev pub upgrade_scripts : List ℕ
+upgrade_scripts = 6 ∷ 7 ∷ []
+
+-- the scripts that the change of a package would run
+abbrev pub scripts_of_change : Change → List ℕ
+scripts_of_change (Install name version) = install_scripts
+scripts_of_change (Reinstall name version) = upgrade_scripts
+scripts_of_change (Purge name version) = deinstall_scripts
+scripts_of_change (Upgrade name old new) = upgrade_scripts
+scripts_of_change (Downgrade name old new) = upgrade_scripts
+scripts_of_change (Replace name old new) = upgrade_scripts
+
+abbrev pub unless_number : {A : Type 0} → List ℕ → Option ℕ → A → Result A Refusal
+unless_number name None a = Ok a
+unless_number name (Some number) a = Err (ScriptNeeded name number)
+
+-- none of these scripts of a package would run, or there is leave not to run them
+abbrev pub unless_script :
+    {A : Type 0} → Bool → List ℕ → Plain → List ℕ → A → Result A Refusal
+unless_script true name pkg numbers a = Ok a
+unless_script false name pkg numbers a = unless_number name (first_script_of pkg numbers) a

@@ -1,0 +1,43 @@
+-- What a change makes of a tree in which no intent is read: its files wait, the intent is published,
+-- and all its actions are done.
+use Rattle.std.specs.Prelude.{◌≡◌, ◌⊎◌, ℕ, Bool, false, List, None, IsSome}
+use Rattle.base_core.specs.Calls.{HasNow}
+use Rattle.base_core.specs.Crash.{IsOrderly, Since}
+use Rattle.base_core.specs.Files.{Files}
+use Rattle.base_core.specs.Restart.{SinceBy}
+use Rattle.base_core.specs.Tree.{TreeState, files_of}
+use Rattle.journal_core.specs.Kept.{ShownNamesLast}
+use Rattle.journal_core.specs.Recovery.{IsSettled, RestsOn, intent_name, is_staged}
+use Rattle.journal_core.specs.Staged.{IsOnTheWay, unstaged_files}
+
+-- the files as read are these, but for what waits
+abbrev pub IsReadButWaiting : Files → TreeState → Type 0
+IsReadButWaiting files w = (q : List ℕ) → is_staged q ≡ false → files_of w q ≡ files q
+
+-- an intent is read, and a recovery leaves these files
+abbrev pub LeadsByIntent : Files → TreeState → Type 0
+LeadsByIntent files w = IsSome (w.names intent_name) × (unstaged_files (files_of w) ≡ files)
+
+-- the files as read are the old ones, but for what waits; or an intent that is read leads to the new
+-- ones; or they are the new ones
+abbrev pub IsReadInChange : Files → Files → TreeState → Type 0
+IsReadInChange new old w = IsReadButWaiting old w ⊎ (LeadsByIntent new w ⊎ (files_of w ≡ new))
+
+-- where no intent is read, a crash undoes no change of a name that does not wait
+abbrev pub LastsUnread : TreeState → Type 0
+LastsUnread w = w.names intent_name ≡ None → ShownNamesLast w
+
+-- A change that leads to these files, from a state v on. At each moment the tree is orderly, a crash
+-- leaves a state from before or that of the files, and one from before as long as no intent is
+-- published.
+pub record IsStageRun (files : Files) (v : TreeState) (old now : List TreeState) : Type 0 where
+  pub moments : (ignored : List ℕ → Bool) → IsOrderly (RestsOn ignored) v
+      → SinceBy (IsOnTheWay ignored files v) old now
+  pub reads : Since (IsReadInChange files (files_of v)) old now
+  pub last : ShownNamesLast v → Since LastsUnread old now
+
+-- and it has come to its end
+pub record IsStageRunDone (files : Files) (v : TreeState) (now : List TreeState) : Type 0 where
+  pub files : HasNow now (λ w. (files_of w ≡ files) × (w.names intent_name ≡ None))
+  pub settled : (ignored : List ℕ → Bool) → IsOrderly (RestsOn ignored) v
+      → HasNow now (IsSettled ignored files)
