@@ -8,7 +8,7 @@ use Rattle.pool_core.specs.Candidates.{Candidate}
 use Rattle.pool_core.specs.Rank.{SealedPool, candidate_at, is_at}
 use Rattle.report_core.specs.Reports.{Change}
 use Rattle.package_changes.specs.Changes.{change_between, change_of_name, changes_of, is_selected_named, names_on_both_sides}
-use Rattle.package_changes.specs.Placed.{PlacedChange, PlacedReplacement, candidates_at, change_in, placed_change_of, placed_changes_of, placed_name_of, placed_name_with, placed_names_of, replacement_of, selected_place}
+use Rattle.package_changes.specs.Placed.{PlacedChange, PlacedReplacement, candidates_at, change_in, new_candidate, old_package, placed_change_of, placed_changes_of, placed_name_of, placed_name_with, placed_names_of, replacement_of, selected_place}
 use Rattle.package_changes.specs.SelectedNames.{place_beside, placed_name_at}
 
 -- ---- the first by its place
@@ -105,3 +105,23 @@ change_in_name p name = refl
 pub changes_among : (p : PlacedReplacement) → filter_map change_in (placed_names_of p) ≡ placed_changes_of p
 unfolding placed_names_of placed_changes_of
 changes_among p = changes_of_map change_in (placed_name_of p) (placed_change_of p) (change_in_name p) (names_on_both_sides (replacement_of p))
+
+-- ---- what the places of a name lead to
+
+pub own_name : (p : PlacedReplacement) (name : List ℕ) → (placed_name_of p name).name ≡ name
+unfolding placed_name_of
+own_name p name = refl
+
+pub own_change : (p : PlacedReplacement) (name : List ℕ) → (placed_name_of p name).change ≡ change_of_name (replacement_of p) name
+unfolding placed_name_of change_of_name
+own_change p name =
+    ap (λ o. change_between (list_any (bytes_eq name) p.again) name o (option_and_then (candidate_at p.pool) (selected_place p.pool p.trace name))) (found_at_position (is_package_named name) p.before)
+    ∙ ap (λ o. change_between (list_any (bytes_eq name) p.again) name (find (is_package_named name) p.before) o) (found_at_place p.pool (is_selected_named name) p.trace)
+
+pub own_package : (p : PlacedReplacement) (name : List ℕ) → old_package p.before (placed_name_of p name) ≡ find (is_package_named name) p.before
+unfolding placed_name_of
+own_package p name = found_at_position (is_package_named name) p.before
+
+pub own_candidate : (p : PlacedReplacement) (name : List ℕ) → new_candidate p.pool (placed_name_of p name) ≡ find (is_selected_named name) (candidates_at p.pool p.trace)
+unfolding placed_name_of
+own_candidate p name = found_at_place p.pool (is_selected_named name) p.trace

@@ -83,6 +83,13 @@ placed_name_of p name =
 unfoldable pub placed_names_of : PlacedReplacement → List PlacedName
 placed_names_of p = map (placed_name_of p) (names_on_both_sides (replacement_of p))
 
+-- the package before that its place leads to, and the candidate
+abbrev pub old_package : List Plain → PlacedName → Option Plain
+old_package before n = option_and_then (slice_get before) n.old
+
+abbrev pub new_candidate : SealedPool → PlacedName → Option Candidate
+new_candidate pool n = option_and_then (candidate_at pool) n.new
+
 -- the change of a name, if there is one
 abbrev pub change_in : PlacedName → Option PlacedChange
 change_in n = option_map (λ change. record { change = change; old = n.old; new = n.new }) n.change
