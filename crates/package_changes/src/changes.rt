@@ -1,3 +1,4 @@
+<<<<<<< HEAD
 //! What becomes of each package.
 ghost use Rattle.adb_fields.specs.Repeated.{package_name};
 ghost use Rattle.adb_schema.specs.Views.{package_value};
@@ -14,17 +15,22 @@ ghost use Rattle.pool_core.specs.Values.{candidate_value};
 ghost use Rattle.std.specs.Option.{ForSome};
 ghost use Rattle.std.specs.List.{filter_map, list_any, position_from};
 ghost use Rattle.std.specs.Prelude.{◌≡◌, ◌<◌, ◌==◌, ◌++◌, Some, length, map, bytes_eq, option_map, option_and_then, option_to_list, slice_get, IfOk, OnOk};
+=======
+//! What becomes of each package that changes.
+ghost use Rattle.package_changes.specs.Changes.{changes_of};
+ghost use Rattle.package_changes.specs.Placed.{change_in, placed_changes_of, replacement_of};
+ghost use Rattle.package_changes.specs.Seen.{changes_seen, placed_change_seen, placed_name_seen, placed_names_seen, replacement_by};
+ghost use Rattle.std.specs.List.{filter_map};
+ghost use Rattle.std.specs.Prelude.{◌≡◌, ◌<◌, ◌==◌, ◌++◌, Some, length, map, option_to_list, slice_get, IfOk, OnOk};
+>>>>>>> origin/arrivals
 
-use crate::change::{Change, PlacedChange, install, purge, replace};
-use crate::names::names_in_order;
-use crate::selected::{SelectedNames, candidate_at};
-use adb_schema::PackageView;
+use crate::change::PlacedChange;
+use crate::placed::{PlacedName, PlacedNames};
 use base_core::Words;
 use db_core::Db;
-use pool_core::{CandId, Candidate, Sealed};
+use pool_core::Sealed;
 use solve_core::Trace;
 use std::alloc::{AllocError, Global};
-use std::marker::PhantomData;
 
 /// The changes that a selection leads to, in byte order of names.
 #[derive(Drop)]
@@ -34,9 +40,8 @@ pub struct Changes<'a> {
 
 impl<'a> Changes<'a> {
     /// What becomes of each package where the candidates of a selection take the place of the
-    /// packages of a database, and some names are to be installed again. It takes time in
-    /// proportion to n log n in the number of packages and candidates, and to the names that are to
-    /// be installed again for each package that stays.
+    /// packages of a database, and some names are to be installed again. It takes as long as
+    /// `PlacedNames::of`.
     pub fn of(
         alloc: Global,
         db: &Db<'a>,
@@ -49,9 +54,19 @@ impl<'a> Changes<'a> {
         ensures places { IfOk result (λ changes. changes_seen changes
             ≡ placed_changes_of (replacement_by db.now pool.now trace.now again.now)) }
     {
-        let selected = SelectedNames::of(alloc, pool, trace)?;
-        let names = names_on_both_sides(alloc, db, pool, trace)?;
-        let list = changes_of_names(alloc, db, pool, again, &selected, &names)?;
+        let names = PlacedNames::of(alloc, db, pool, trace, again)?;
+        Changes::of_names(alloc, &names)
+    }
+
+    /// The changes among names.
+    pub fn of_names(alloc: Global, names: &PlacedNames<'a>) -> Result<Changes<'a>, AllocError>
+        ensures { IfOk result (λ changes. changes_seen changes
+            ≡ filter_map change_in (placed_names_seen names.now)) }
+    {
+        let mut list = Vec::new(alloc);
+        for name in &names.list {
+            push_change(&mut list, name)?;
+        }
         Ok(Changes { list })
     }
 
@@ -78,6 +93,7 @@ impl<'a> Changes<'a> {
     }
 }
 
+<<<<<<< HEAD
 /// The names of the packages of a database and of the selected candidates, in byte order.
 fn names_on_both_sides<'a>(
     alloc: Global,
@@ -181,71 +197,23 @@ fn changes_of_names<'a>(
 
 /// Adds what becomes of the package with this name, whose candidate has this place, if anything
 /// does.
+=======
+/// Adds the change of a name, if there is one.
+>>>>>>> origin/arrivals
 fn push_change<'a>(
     list: &mut Vec<PlacedChange<'a>>,
-    db: &Db<'a>,
-    pool: &Sealed<'a>,
-    again: &Words,
-    name: &'a [u8],
-    new: Option<u32>,
+    name: &PlacedName<'a>,
 ) -> Result<(), AllocError>
     ensures { OnOk result (map placed_change_seen list.new.items
         ≡ map placed_change_seen list.old.items
-        ++ option_to_list (placed_change_with (packages_of db.now) pool.now again.now name.entry.now
-        (position_from (is_package_named name.entry.now) 0 (packages_of db.now)) new)) }
+        ++ option_to_list (change_in (placed_name_seen name.now))) }
 {
-    let old = db.find(name);
-    match change_between(db, pool, again, name, old, new) {
+    match name.change {
         None => Ok(()),
         Some(change) => {
+            let (old, new) = (name.old, name.new);
             list.push(PlacedChange { change, old, new })?;
             Ok(())
         }
     }
-}
-
-/// What becomes of the package with this name, which has these places.
-fn change_between<'a>(
-    db: &Db<'a>,
-    pool: &Sealed<'a>,
-    again: &Words,
-    name: &'a [u8],
-    old: Option<usize>,
-    new: Option<u32>,
-) -> Option<Change<'a>>
-    requires { ForSome old (λ i. i < length (packages_of db.now)) }
-    ensures { option_map change_seen result
-        ≡ change_between (list_any (bytes_eq name.entry.now) again.now) name.entry.now
-        (option_and_then (slice_get (packages_of db.now)) old)
-        (option_and_then (candidate_at pool.now) new) }
-{
-    match (old, candidate_of(pool, new)) {
-        (None, None) => None,
-        (None, Some(c)) => Some(install(name, &c)),
-        (Some(i), None) => Some(purge(name, db, i, PhantomData)),
-        (Some(i), Some(c)) => replace(name, db, i, &c, is_word(again, name), PhantomData),
-    }
-}
-
-/// The candidate at a place, if there is one.
-fn candidate_of<'a>(pool: &Sealed<'a>, place: Option<u32>) -> Option<Candidate<'a>>
-    ensures { option_map candidate_value result
-        ≡ option_and_then (candidate_at pool.now) place }
-{
-    match place {
-        None => None,
-        Some(place) => candidate_at(pool, CandId { place }),
-    }
-}
-
-/// Whether a text is one of the words.
-fn is_word(words: &Words, text: &[u8]) -> bool
-    ensures { result ≡ list_any (bytes_eq text.now) words.now }
-{
-    for i in 0..words.len() {
-        if text == words.word(i) {
-            return true;
-        }
-    }
-    false
 }
