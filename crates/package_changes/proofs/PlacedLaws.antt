@@ -8,13 +8,8 @@ use Rattle.pool_core.specs.Candidates.{Candidate}
 use Rattle.pool_core.specs.Rank.{SealedPool, candidate_at, is_at}
 use Rattle.report_core.specs.Reports.{Change}
 use Rattle.package_changes.specs.Changes.{change_between, change_of_name, changes_of, is_selected_named, names_on_both_sides}
-<<<<<<< HEAD
-use Rattle.package_changes.specs.Placed.{PlacedChange, PlacedReplacement, candidates_at, placed_change_of, placed_change_with, placed_changes_of, replacement_of, selected_place}
-use Rattle.package_changes.specs.SelectedNames.{place_beside, placed_change_at}
-=======
 use Rattle.package_changes.specs.Placed.{PlacedChange, PlacedReplacement, candidates_at, change_in, new_candidate, old_package, placed_change_of, placed_changes_of, placed_name_of, placed_name_with, placed_names_of, replacement_of, selected_place}
 use Rattle.package_changes.specs.SelectedNames.{place_beside, placed_name_at}
->>>>>>> origin/arrivals
 
 -- ---- the first by its place
 
@@ -90,13 +85,6 @@ changes_alone p = mapped (λ (c : PlacedChange). c.change) (placed_change_of p) 
 -- ---- names with their places
 
 -- the table leads to the places of the selected candidates
-<<<<<<< HEAD
-pub by_table : (p : PlacedReplacement) (table : List (List ℕ × ℕ)) → ((name : List ℕ) → place_beside name table ≡ selected_place p.pool p.trace name) → (names : List (List ℕ)) → filter_map (placed_change_at p.before p.pool p.again table) names ≡ filter_map (placed_change_of p) names
-unfolding placed_change_of
-by_table p table leads names =
-    same_options (placed_change_at p.before p.pool p.again table) (placed_change_of p)
-    (λ name. ap (placed_change_with p.before p.pool p.again name (position_from (is_package_named name) 0 p.before)) (leads name)) names
-=======
 pub by_table : (p : PlacedReplacement) (table : List (List ℕ × ℕ)) → ((name : List ℕ) → place_beside name table ≡ selected_place p.pool p.trace name) → (names : List (List ℕ)) → map (placed_name_at p.before p.pool p.again table) names ≡ map (placed_name_of p) names
 unfolding placed_name_of
 by_table p table leads [] = refl
@@ -137,4 +125,3 @@ own_package p name = found_at_position (is_package_named name) p.before
 pub own_candidate : (p : PlacedReplacement) (name : List ℕ) → new_candidate p.pool (placed_name_of p name) ≡ find (is_selected_named name) (candidates_at p.pool p.trace)
 unfolding placed_name_of
 own_candidate p name = found_at_place p.pool (is_selected_named name) p.trace
->>>>>>> origin/arrivals

@@ -1,28 +1,9 @@
-<<<<<<< HEAD
-//! What becomes of each package.
-ghost use Rattle.adb_fields.specs.Repeated.{package_name};
-ghost use Rattle.adb_schema.specs.Views.{package_value};
-ghost use Rattle.change_files.specs.PlanLists.{names_in_order};
-ghost use Rattle.db_core.specs.Packages.{is_package_named};
-ghost use Rattle.db_core.specs.Seen.{packages_of};
-ghost use Rattle.package_changes.specs.Changes.{change_between, changes_of};
-ghost use Rattle.package_changes.specs.Placed.{candidates_at, placed_change_with, placed_changes_of, replacement_of};
-ghost use Rattle.package_changes.specs.Seen.{change_seen, changes_seen, placed_change_seen, replacement_by};
-ghost use Rattle.package_changes.specs.SelectedNames.{placed_change_at};
-ghost use Rattle.pool_core.specs.Candidates.{Candidate as CandidateValue};
-ghost use Rattle.pool_core.specs.Rank.{candidate_at};
-ghost use Rattle.pool_core.specs.Values.{candidate_value};
-ghost use Rattle.std.specs.Option.{ForSome};
-ghost use Rattle.std.specs.List.{filter_map, list_any, position_from};
-ghost use Rattle.std.specs.Prelude.{◌≡◌, ◌<◌, ◌==◌, ◌++◌, Some, length, map, bytes_eq, option_map, option_and_then, option_to_list, slice_get, IfOk, OnOk};
-=======
 //! What becomes of each package that changes.
 ghost use Rattle.package_changes.specs.Changes.{changes_of};
 ghost use Rattle.package_changes.specs.Placed.{change_in, placed_changes_of, replacement_of};
 ghost use Rattle.package_changes.specs.Seen.{changes_seen, placed_change_seen, placed_name_seen, placed_names_seen, replacement_by};
 ghost use Rattle.std.specs.List.{filter_map};
 ghost use Rattle.std.specs.Prelude.{◌≡◌, ◌<◌, ◌==◌, ◌++◌, Some, length, map, option_to_list, slice_get, IfOk, OnOk};
->>>>>>> origin/arrivals
 
 use crate::change::PlacedChange;
 use crate::placed::{PlacedName, PlacedNames};
@@ -93,113 +74,7 @@ impl<'a> Changes<'a> {
     }
 }
 
-<<<<<<< HEAD
-/// The names of the packages of a database and of the selected candidates, in byte order.
-fn names_on_both_sides<'a>(
-    alloc: Global,
-    db: &Db<'a>,
-    pool: &Sealed<'a>,
-    trace: &Trace,
-) -> Result<Vec<&'a [u8]>, AllocError>
-    ensures { IfOk result (λ names. map (λ n. n.now) names.items
-        ≡ names_in_order (map package_name (packages_of db.now)
-        ++ map (λ (c : CandidateValue). c.name) (candidates_at pool.now trace.now))) }
-{
-    let mut names = Vec::new(alloc);
-    push_old_names(&mut names, db)?;
-    push_selected_names(&mut names, pool, trace)?;
-    names_in_order(names)
-}
-
-/// Adds the names of the packages of a database.
-fn push_old_names<'a>(names: &mut Vec<&'a [u8]>, db: &Db<'a>) -> Result<(), AllocError>
-    ensures { OnOk result (map (λ n. n.now) names.new.items
-        ≡ map (λ n. n.now) names.old.items ++ map package_name (packages_of db.now)) }
-{
-    for i in 0..db.len() {
-        names.push(name_at(db, i, PhantomData))?;
-    }
-    Ok(())
-}
-
-/// The name of the package at a place. The mark serves the borrow checker alone, which does not
-/// know the parts of a view that is made and lent here unless the signature names the view.
-fn name_at<'a>(db: &Db<'a>, i: usize, _mark: PhantomData<PackageView<'a>>) -> &'a [u8]
-    requires { i < length (packages_of db.now) }
-    ensures { option_map package_name (slice_get (packages_of db.now) i) ≡ Some result.now }
-{
-    let pkg = db.package(i);
-    name_of(&pkg, PhantomData)
-}
-
-/// The name of a package.
-fn name_of<'a>(pkg: &PackageView<'a>, _mark: PhantomData<PackageView<'a>>) -> &'a [u8]
-    ensures { result.now ≡ package_name (package_value pkg.now) }
-{
-    let info = pkg.info();
-    info.name()
-}
-
-/// Adds the names of the selected candidates.
-fn push_selected_names<'a>(
-    names: &mut Vec<&'a [u8]>,
-    pool: &Sealed<'a>,
-    trace: &Trace,
-) -> Result<(), AllocError>
-    ensures { OnOk result (map (λ n. n.now) names.new.items
-        ≡ map (λ n. n.now) names.old.items
-        ++ map (λ (c : CandidateValue). c.name) (candidates_at pool.now trace.now)) }
-{
-    for i in 0..trace.len() {
-        push_selected_name(names, pool, trace.get(i))?;
-    }
-    Ok(())
-}
-
-/// Adds the name of the candidate at a place, if there is one.
-fn push_selected_name<'a>(
-    names: &mut Vec<&'a [u8]>,
-    pool: &Sealed<'a>,
-    id: CandId,
-) -> Result<(), AllocError>
-    ensures { OnOk result (map (λ n. n.now) names.new.items
-        ≡ map (λ n. n.now) names.old.items
-        ++ map (λ (c : CandidateValue). c.name) (option_to_list (candidate_at pool.now id))) }
-{
-    match pool.at(id) {
-        None => Ok(()),
-        Some(details) => {
-            names.push(details.name())?;
-            Ok(())
-        }
-    }
-}
-
-/// What becomes of the packages with these names.
-fn changes_of_names<'a>(
-    alloc: Global,
-    db: &Db<'a>,
-    pool: &Sealed<'a>,
-    again: &Words,
-    selected: &SelectedNames<'a>,
-    names: &[&'a [u8]],
-) -> Result<Vec<PlacedChange<'a>>, AllocError>
-    ensures { IfOk result (λ list. map placed_change_seen list.items
-        ≡ filter_map (placed_change_at (packages_of db.now) pool.now again.now selected.now)
-        (map (λ n. n.now) names.now)) }
-{
-    let mut list = Vec::new(alloc);
-    for name in names {
-        push_change(&mut list, db, pool, again, name, selected.place_of(name))?;
-    }
-    Ok(list)
-}
-
-/// Adds what becomes of the package with this name, whose candidate has this place, if anything
-/// does.
-=======
 /// Adds the change of a name, if there is one.
->>>>>>> origin/arrivals
 fn push_change<'a>(
     list: &mut Vec<PlacedChange<'a>>,
     name: &PlacedName<'a>,
