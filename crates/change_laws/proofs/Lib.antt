@@ -1,0 +1,8 @@
+pub mod ActionNames
+pub mod ChangeLeads
+pub mod ChangeNames
+pub mod ClashExists
+pub mod Emptied
+pub mod FreeNames
+pub mod Leading
+pub mod Room

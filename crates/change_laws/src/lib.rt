@@ -1,0 +1,2 @@
+//! What follows from the definitions of a change.
+#![tactic(auto)]
