@@ -1,8 +1,7 @@
 -- The names that a change removes and writes.
-use Rattle.std.proofs.Common.{◌≡◌, ◌≢◌, ◌⊎◌, inl, inr, ◌∙◌, ◌||◌, ℕ, Bool, true, false, List, [], ◌∷◌, ◌++◌, map, Option, Some, None, refl, sym, ap, subst, true≢false}
+use Rattle.std.proofs.Common.{◌≡◌, ◌⊎◌, inl, inr, ◌∙◌, ℕ, Bool, true, false, List, ◌++◌, map, Option, Some, None, refl, sym, ap, true≢false}
 use Rattle.std.specs.Prelude.{not, is_some}
 use Rattle.std.specs.Str.{bytes_eq}
-use Rattle.std.specs.List.{list_any}
 use Rattle.std.proofs.lemmas.Bool.{false_from_ne_true}
 use Rattle.std.proofs.lemmas.Slice.Eq.{bytes_eq-Decides}
 use Rattle.adb_rules.specs.Reserved.{is_intent_or_stage_name, is_reserved}
@@ -10,7 +9,7 @@ use Rattle.base_core.specs.Files.{Files}
 use Rattle.base_core.proofs.Rising.{IsIn, contains_from_in, in_from_contains}
 use Rattle.change_files.specs.FileChange.{FileChange}
 use Rattle.change_files.specs.FilesAfter.{Records, database_name, is_removed, is_written, text_database_name, world_name, written_as}
-use Rattle.change_files.specs.PlanLists.{names_in_order, removals_of, writes_of}
+use Rattle.change_files.specs.PlanLists.{removals_of, writes_of}
 use Rattle.change_files.proofs.InOrder.{from_order, in_left, in_order, in_right, order_rises}
 use Rattle.change_files.proofs.LeftOver.{removed_unreserved}
 use Rattle.change_files.proofs.Lists.{any_name}
@@ -19,7 +18,7 @@ use Rattle.change_files.proofs.Reserved.{written_unreserved}
 use Rattle.change_inputs.specs.Inputs.{Inputs}
 use Rattle.change_outcome.specs.ChangeOutcome.{Actions, actions_of, is_other_file, name_if_needed, written_records}
 use Rattle.db_core.specs.Members.{Listing}
-use Rattle.journal_intent.specs.FreeNames.{AreFreeNames, AreOnce, HasFreeNames, IsFreeName, IsNoneOf, IsOneOf}
+use Rattle.journal_intent.specs.FreeNames.{HasFreeNames, IsNoneOf, IsOneOf}
 use Rattle.journal_intent.specs.IntentValue.{intent_of_lists}
 use Rattle.change_laws.specs.Premises.{HasNoReservedPath}
 use Rattle.change_laws.proofs.FreeNames.{free_outside, frees, name_of_any, none_of, once_rising, outside_unreserved, split_in}
@@ -48,13 +47,13 @@ module _ (inputs : Inputs) (change : FileChange) (files : Files) (records : Reco
   plan_writes = map (λ w. w.name) (writes_of change files)
 
   abbrev database_write : List (List ℕ)
-  database_write = name_if_needed (is_other_file (files database_name) records.database) database_name
+  database_write = name_if_needed (is_other_file inputs.root.database.file records.database) database_name
 
   abbrev world_write : List (List ℕ)
   world_write = name_if_needed (not (bytes_eq inputs.root.world_text records.world)) world_name
 
   abbrev own_writes : List (List ℕ)
-  own_writes = written_records inputs files records
+  own_writes = written_records inputs records
 
   abbrev text_removal : List (List ℕ)
   text_removal = name_if_needed records.takes_text_over text_database_name
@@ -96,7 +95,7 @@ module _ (inputs : Inputs) (change : FileChange) (files : Files) (records : Reco
   pub record_names : (q : List ℕ) → IsIn q own_writes → (q ≡ database_name) ⊎ (q ≡ world_name)
   record_names q here =
       elim (split_in q database_write world_write here) [
-        | inl database ↦ inl (needed (is_other_file (files database_name) records.database) database_name q database).0
+        | inl database ↦ inl (needed (is_other_file inputs.root.database.file records.database) database_name q database).0
         | inr world ↦ inr (needed (not (bytes_eq inputs.root.world_text records.world)) world_name q world).0
       ]
 

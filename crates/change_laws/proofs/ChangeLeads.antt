@@ -1,9 +1,9 @@
 -- A change leads to the files that its definition says.
-use Rattle.std.proofs.Common.{◌≡◌, ◌≢◌, ◌⊎◌, inl, inr, ◌∙◌, ◌<◌, ◌^◌, ℕ, suc, arith, Bool, true, false, List, [], ◌∷◌, ◌++◌, length, map, Option, Some, None, refl, sym, ap, subst, true≢false}
+use Rattle.std.proofs.Common.{◌≡◌, ◌≢◌, ◌⊎◌, inl, inr, ◌∙◌, ◌<◌, ◌^◌, ℕ, suc, arith, Bool, true, false, List, [], ◌∷◌, length, Option, Some, None, refl, sym, ap, true≢false}
 use Rattle.std.specs.Prelude.{IsSome, not, ◌&&◌, ◌||◌, ◌==◌, is_some}
 use Rattle.std.specs.Str.{bytes_eq}
 use Rattle.std.specs.List.{list_any}
-use Rattle.std.proofs.lemmas.Bool.{eqb-true, and_parts, and_left, and_right, or_from, or_parts, false_from_ne_true}
+use Rattle.std.proofs.lemmas.Bool.{eqb-true, and_parts, or_from, or_parts, false_from_ne_true}
 use Rattle.std.proofs.lemmas.Slice.Eq.{bytes_eq-Decides}
 use Rattle.adb_rules.specs.Reserved.{is_reserved}
 use Rattle.base_core.specs.Files.{Files}
@@ -17,14 +17,14 @@ use Rattle.change_files.proofs.Reserved.{records_reserved}
 use Rattle.change_files.proofs.Untouched.{changed_so, is_gone, takes_its_path}
 use Rattle.change_inputs.specs.Inputs.{Inputs}
 use Rattle.change_inputs.specs.World.{text_found}
-use Rattle.change_outcome.specs.ChangeOutcome.{Actions, actions_of, does_something, is_other_file, name_if_needed, records_of, written_records}
+use Rattle.change_outcome.specs.ChangeOutcome.{Actions, actions_of, does_something, is_other_file, name_if_needed, new_records, written_records}
 use Rattle.db_core.specs.Members.{Listing}
 use Rattle.journal_core.specs.Staged.{IsEmptyStage}
 use Rattle.journal_intent.proofs.AtName.{name_cases}
 use Rattle.journal_intent.specs.FreeNames.{IsNoneOf, IsOneOf}
 use Rattle.change_laws.specs.Leading.{LeadsTo}
-use Rattle.change_laws.specs.Premises.{HasNoReservedPath, IsRootOf}
-use Rattle.change_laws.proofs.ActionNames.{free_names, from_removals, from_writes, if_needed, needed, none_removed, none_written, record_names, removed_free, written_free}
+use Rattle.change_laws.specs.Premises.{HasNoReservedPath, IsRootOfFiles}
+use Rattle.change_laws.proofs.ActionNames.{free_names, from_removals, from_writes, if_needed, needed, none_removed, none_written, removed_free, written_free}
 use Rattle.change_laws.proofs.FreeNames.{split_in}
 
 some_there : (o : Option (List ℕ)) (bytes : List ℕ) → o ≡ Some bytes → IsSome o
@@ -56,15 +56,15 @@ other_world None [] text is other = absurd (true≢false (sym other ∙ ap (λ (
 other_world None (b ∷ world) text is other = inl (λ e. cc (e))
 other_world (Some old) world text is other = inr refl
 
-module _ (inputs : Inputs) (change : FileChange) (bytes_of : Listing → List ℕ) (database : List ℕ) (files : Files) (free : HasNoReservedPath change) (root : IsRootOf files inputs.root) where
+module _ (inputs : Inputs) (change : FileChange) (bytes_of : Listing → List ℕ) (database : List ℕ) (files : Files) (root : IsRootOfFiles files inputs.root) where
   abbrev records : Records
-  records = records_of inputs database
+  records = new_records inputs database
 
   abbrev actions : Actions
   actions = actions_of inputs change files records
 
   abbrev database_write : List (List ℕ)
-  database_write = name_if_needed (is_other_file (files database_name) records.database) database_name
+  database_write = name_if_needed (is_other_file inputs.root.database.file records.database) database_name
 
   abbrev world_write : List (List ℕ)
   world_write = name_if_needed (not (bytes_eq inputs.root.world_text records.world)) world_name
@@ -72,52 +72,19 @@ module _ (inputs : Inputs) (change : FileChange) (bytes_of : Listing → List �
   abbrev after : Files
   after = changed_files change bytes_of records files
 
-  unreserved_no_record : (q : List ℕ) → is_reserved q ≡ false → is_record_name records q ≡ false
-  unreserved_no_record q unreserved = false_from_ne_true (is_record_name records q) (λ is. true≢false (sym (records_reserved records q is) ∙ unreserved))
-
-  -- ---- what is written is there
-
-  written_there : (q : List ℕ) → is_written change files q ≡ true → IsSome (after q)
-  written_there q written = by_listing (written_as change files q) refl written
-    where
-      by_listing : (o : Option Listing) → written_as change files q ≡ o → is_some o ≡ true → IsSome (after q)
-      by_listing None is e = absurd (true≢false (sym e))
-      by_listing (Some l) is e =
-          some_there (after q) (bytes_of l) (takes_its_path change bytes_of records files q l is (unreserved_no_record q (written_free inputs change files records free q written)))
-
-  record_there : (q : List ℕ) → IsIn q (written_records inputs files records) → IsSome (after q)
-  record_there q here =
-      elim (split_in q database_write world_write here) [
-        | inl own ↦ (let is = needed (is_other_file (files database_name) records.database) database_name q own in some_there (after q) records.database (ap after is.0 ∙ database_after change bytes_of records files))
-        | inr own ↦ (let is = needed (not (bytes_eq inputs.root.world_text records.world)) world_name q own in
-            some_there (after q) records.world (ap after is.0 ∙ world_after change bytes_of records files (other_world (files world_name) records.world inputs.root.world_text root.world is.1)))
-      ]
-
-  pub gives : (q : List ℕ) → IsOneOf q actions.writes → IsSome (after q)
-  gives q among = elim (from_writes inputs change files records q among) [ inl written ↦ written_there q written | inr own ↦ record_there q own ]
-
-  -- ---- what is removed is absent
-
-  pub removes : (q : List ℕ) → IsOneOf q actions.removals → after q ≡ None
-  removes q among =
-      elim (from_removals inputs change files records q among) [
-        | inl removed ↦ is_gone change bytes_of records files q removed (unreserved_no_record q (removed_free inputs change files records free q removed))
-        | inr text ↦ ap after text.0 ∙ no_text_after change bytes_of records files text.1
-      ]
-
   -- ---- all else stays
 
-  kept_database : (q : List ℕ) → (IsIn q (written_records inputs files records) → ⊥) → q ≡ database_name → after q ≡ files q
+  kept_database : (q : List ℕ) → (IsIn q (written_records inputs records) → ⊥) → q ≡ database_name → after q ≡ files q
   kept_database q none is =
       ap after is ∙ (database_after change bytes_of records files
-      ∙ (sym (same_file (files database_name) records.database (false_from_ne_true (is_other_file (files database_name) records.database) (λ other. none (in_left q database_write world_write (if_needed (is_other_file (files database_name) records.database) database_name q is other)))))
+      ∙ (sym (sym root.database ∙ same_file inputs.root.database.file records.database (false_from_ne_true (is_other_file inputs.root.database.file records.database) (λ other. none (in_left q database_write world_write (if_needed (is_other_file inputs.root.database.file records.database) database_name q is other)))))
       ∙ sym (ap files is)))
 
   world_by : after world_name ≡ world_bytes_after records.world (files world_name)
   unfolding changed_files
   world_by = refl
 
-  kept_world : (q : List ℕ) → (IsIn q (written_records inputs files records) → ⊥) → q ≡ world_name → after q ≡ files q
+  kept_world : (q : List ℕ) → (IsIn q (written_records inputs records) → ⊥) → q ≡ world_name → after q ≡ files q
   kept_world q none is =
       ap after is ∙ (world_by
       ∙ (same_world (files world_name) records.world (sym root.world ∙ (bytes_eq-Decides inputs.root.world_text records.world).0 (same (bytes_eq inputs.root.world_text records.world) refl))
@@ -152,16 +119,6 @@ module _ (inputs : Inputs) (change : FileChange) (bytes_of : Listing → List �
         ]
       ]
 
-  pub leads : IsEmptyStage files → length actions.writes < 2 ^ 63 → LeadsTo actions.removals actions.writes files after
-  leads empty few = record {
-    free = free_names inputs change files records free;
-    few = few;
-    empty = empty;
-    gives = gives;
-    removes = removes;
-    keeps = keeps;
-  }
-
   -- ---- a change that does nothing
 
   no_names : (names : List (List ℕ)) → not (length names == 0) ≡ false → names ≡ []
@@ -172,3 +129,47 @@ module _ (inputs : Inputs) (change : FileChange) (bytes_of : Listing → List �
   does_nothing nothing i q =
       let parts = or_parts (not (length actions.removals == 0)) (not (length actions.writes == 0)) nothing in
       keeps q (ap (λ (names : List (List ℕ)). list_any (bytes_eq q) names) (no_names actions.removals parts.0)) (ap (λ (names : List (List ℕ)). list_any (bytes_eq q) names) (no_names actions.writes parts.1)) i
+
+  module _ (free : HasNoReservedPath change) where
+    unreserved_no_record : (q : List ℕ) → is_reserved q ≡ false → is_record_name records q ≡ false
+    unreserved_no_record q unreserved = false_from_ne_true (is_record_name records q) (λ is. true≢false (sym (records_reserved records q is) ∙ unreserved))
+
+    -- ---- what is written is there
+
+    written_there : (q : List ℕ) → is_written change files q ≡ true → IsSome (after q)
+    written_there q written = by_listing (written_as change files q) refl written
+      where
+        by_listing : (o : Option Listing) → written_as change files q ≡ o → is_some o ≡ true → IsSome (after q)
+        by_listing None is e = absurd (true≢false (sym e))
+        by_listing (Some l) is e =
+            some_there (after q) (bytes_of l) (takes_its_path change bytes_of records files q l is (unreserved_no_record q (written_free inputs change files records free q written)))
+
+    record_there : (q : List ℕ) → IsIn q (written_records inputs records) → IsSome (after q)
+    record_there q here =
+        elim (split_in q database_write world_write here) [
+          | inl own ↦ (let is = needed (is_other_file inputs.root.database.file records.database) database_name q own in some_there (after q) records.database (ap after is.0 ∙ database_after change bytes_of records files))
+          | inr own ↦ (let is = needed (not (bytes_eq inputs.root.world_text records.world)) world_name q own in
+              some_there (after q) records.world (ap after is.0 ∙ world_after change bytes_of records files (other_world (files world_name) records.world inputs.root.world_text root.world is.1)))
+        ]
+
+    pub gives : (q : List ℕ) → IsOneOf q actions.writes → IsSome (after q)
+    gives q among = elim (from_writes inputs change files records q among) [ inl written ↦ written_there q written | inr own ↦ record_there q own ]
+
+    -- ---- what is removed is absent
+
+    pub removes : (q : List ℕ) → IsOneOf q actions.removals → after q ≡ None
+    removes q among =
+        elim (from_removals inputs change files records q among) [
+          | inl removed ↦ is_gone change bytes_of records files q removed (unreserved_no_record q (removed_free inputs change files records free q removed))
+          | inr text ↦ ap after text.0 ∙ no_text_after change bytes_of records files text.1
+        ]
+
+    pub leads : IsEmptyStage files → length actions.writes < 2 ^ 63 → LeadsTo actions.removals actions.writes files after
+    leads empty few = record {
+      free = free_names inputs change files records free;
+      few = few;
+      empty = empty;
+      gives = gives;
+      removes = removes;
+      keeps = keeps;
+    }

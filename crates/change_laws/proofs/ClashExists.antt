@@ -1,6 +1,6 @@
 -- Over files under finitely many names a change has a first clash, or none.
 use Rattle.std.proofs.Common.{◌≡◌, ◌⊎◌, inl, inr, ◌∙◌, ℕ, Bool, true, false, List, [], ◌∷◌, ◌++◌, map, eqb, Option, Some, None, refl, sym, ap, subst, true≢false}
-use Rattle.std.specs.Prelude.{IsSome, not, ◌&&◌, ◌||◌, is_some, option_and_then}
+use Rattle.std.specs.Prelude.{not, ◌&&◌, ◌||◌, is_some, option_and_then}
 use Rattle.std.specs.Str.{bytes_eq}
 use Rattle.std.specs.List.{list_any}
 use Rattle.std.proofs.lemmas.Bool.{and_parts, eq-eqb, eqb-true, or_cases}
@@ -15,7 +15,7 @@ use Rattle.change_files.proofs.Owned.{aside_found, beside_is, in_coming_paths}
 use Rattle.db_core.specs.Members.{Listing}
 use Rattle.path_clashes.specs.Clash.{IsClash, NameChange, NamePair, is_name_after, precedes_pair}
 use Rattle.path_clashes.specs.FirstClash.{IsClashOf}
-use Rattle.path_clashes.specs.NearName.{IsClashIfSome, IsNoEarlierClash, IsNotBefore}
+use Rattle.path_clashes.specs.NearName.{IsClashIfSome, IsNoEarlierClash}
 use Rattle.path_clashes.proofs.PairOrder.{pairs_chain, pairs_one_way}
 use Rattle.change_laws.proofs.FreeNames.{name_of_any}
 

@@ -1,11 +1,11 @@
 -- Nothing waits once the actions of an intent are done.
-use Rattle.std.proofs.Common.{◌≡◌, ◌≢◌, ◌⊎◌, inl, inr, ⊎_elim, ◌||◌, ℕ, zero, suc, ◌+◌, ◌<◌, ◌^◌, Bool, true, false, cond, List, [], ◌∷◌, length, Option, None, Some, refl, sym, ap, ◌∙◌, arith}
+use Rattle.std.proofs.Common.{◌≡◌, ◌≢◌, ◌⊎◌, inl, inr, ℕ, zero, suc, ◌+◌, ◌<◌, Bool, true, false, cond, List, [], ◌∷◌, length, Option, None, Some, refl, sym, ap, ◌∙◌, arith}
 use Rattle.std.specs.Str.{bytes_eq}
 use Rattle.std.specs.List.{list_any}
-use Rattle.base_core.specs.Files.{Files, drop_name, move_name, put_name}
-use Rattle.journal_core.specs.Recovery.{Intent, after_actions, after_moves, is_staged, move_if, stage_name, without_names}
-use Rattle.journal_core.specs.Staged.{IsEmptyStage, with_staged}
-use Rattle.journal_intent.proofs.AtName.{drop_name-at, drop_name-off, name_cases, off_name, put_name-off}
+use Rattle.base_core.specs.Files.{Files, drop_name, put_name}
+use Rattle.journal_core.specs.Recovery.{after_actions, after_moves, is_staged, move_if, stage_name, without_names}
+use Rattle.journal_core.specs.Staged.{with_staged}
+use Rattle.journal_intent.proofs.AtName.{drop_name-at, name_cases, off_name, put_name-off}
 use Rattle.journal_intent.specs.FreeNames.{AreFreeNames, HasFreeNames, IsFreeName}
 use Rattle.journal_intent.specs.IntentValue.{intent_of_lists}
 

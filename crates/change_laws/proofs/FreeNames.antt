@@ -1,5 +1,5 @@
 -- Names that a change may have, and lists of them in byte order.
-use Rattle.std.proofs.Common.{◌≡◌, ◌≢◌, ◌⊎◌, inl, inr, ◌∙◌, ◌||◌, ℕ, Bool, true, false, List, [], ◌∷◌, ◌++◌, refl, sym, ap, subst, Less}
+use Rattle.std.proofs.Common.{◌≡◌, ◌⊎◌, inl, inr, ◌∙◌, ◌||◌, ℕ, Bool, true, false, List, [], ◌∷◌, ◌++◌, refl, sym, ap, Less}
 use Rattle.std.specs.List.{list_any}
 use Rattle.std.specs.Str.{bytes_eq}
 use Rattle.std.proofs.lemmas.Bool.{or_cases}
@@ -9,7 +9,7 @@ use Rattle.adb_rules.specs.Reserved.{is_at_or_below, is_intent_or_stage_name, is
 use Rattle.base_core.proofs.Rising.{IsIn, Rises, order}
 use Rattle.journal_intent.specs.FreeNames.{AreFreeNames, AreOnce, IsFreeName, IsNoneOf, IsOneOf}
 use Rattle.journal_intent.specs.Intent.{intent_name, is_staged, stage_folder, stage_name}
-use Rattle.journal_intent.proofs.AtName.{name_cases, other_name}
+use Rattle.journal_intent.proofs.AtName.{other_name}
 
 true_false : true ≡ false → ⊥
 true_false e = cc

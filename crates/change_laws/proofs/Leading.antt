@@ -1,19 +1,19 @@
 -- The actions of two lists, done on what is staged for them, lead to given files.
-use Rattle.std.proofs.Common.{◌≡◌, ◌≢◌, ◌⊎◌, inl, inr, ℕ, zero, suc, ◌+◌, ◌<◌, ◌^◌, Bool, true, false, cond, ◌||◌, List, [], ◌∷◌, length, map, slice_get, Option, None, Some, refl, sym, ap, ◌∙◌, arith}
+use Rattle.std.proofs.Common.{◌≡◌, ◌≢◌, ◌⊎◌, inl, inr, ℕ, zero, suc, ◌+◌, Bool, true, false, ◌||◌, List, [], ◌∷◌, length, map, slice_get, Option, None, Some, refl, sym, ap, ◌∙◌}
 use Rattle.std.specs.Prelude.{IsSome, unwrap_or}
 use Rattle.std.specs.Str.{bytes_eq}
 use Rattle.std.specs.List.{list_any}
 use Rattle.base_core.specs.Files.{Files, put_name}
-use Rattle.journal_core.specs.Recovery.{after_actions, is_staged, stage_name, without_names}
-use Rattle.journal_core.specs.Staged.{IsEmptyStage, with_staged}
+use Rattle.journal_core.specs.Recovery.{after_actions, is_staged, stage_name}
+use Rattle.journal_core.specs.Staged.{with_staged}
 use Rattle.journal_core.proofs.Contents.{own_bytes, removed_absent, untouched_others}
 use Rattle.journal_intent.proofs.AtName.{name_cases, put_name-off}
 use Rattle.journal_intent.proofs.StageNames.{stage_name_staged}
-use Rattle.journal_intent.specs.FreeNames.{HasFreeNames, IsNoneOf, IsOneOf}
+use Rattle.journal_intent.specs.FreeNames.{IsNoneOf, IsOneOf}
 use Rattle.journal_intent.specs.IntentValue.{intent_of_lists}
 use Rattle.change_outcome.specs.ChangeOutcome.{bytes_under}
 use Rattle.change_laws.specs.Leading.{LeadsTo}
-use Rattle.change_laws.proofs.Emptied.{acted_empty, staged_where}
+use Rattle.change_laws.proofs.Emptied.{acted_empty}
 
 true_false : true ≡ false → ⊥
 true_false e = cc

@@ -5,4 +5,6 @@ pub mod ClashExists
 pub mod Emptied
 pub mod FreeNames
 pub mod Leading
+pub mod Made
+pub mod ReadRoot
 pub mod Room

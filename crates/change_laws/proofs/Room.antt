@@ -1,5 +1,5 @@
 -- Files that leave room for a stage leave it after a change too.
-use Rattle.std.proofs.Common.{◌≡◌, ◌≢◌, ◌⊎◌, inl, inr, ◌∙◌, ◌<◌, ℕ, Bool, true, false, List, [], ◌∷◌, ◌++◌, length, get_or, codes, eqb, Option, Some, None, refl, sym, ap, subst, arith, true≢false}
+use Rattle.std.proofs.Common.{◌≡◌, ◌⊎◌, inl, inr, ◌∙◌, ℕ, Bool, true, false, List, [], ◌∷◌, ◌++◌, get_or, codes, eqb, Option, Some, None, refl, sym, ap, subst, arith, true≢false}
 use Rattle.std.specs.Prelude.{IsSome, not, ◌&&◌, ◌||◌, if◌then◌else◌, is_some, option_and_then}
 use Rattle.std.specs.Str.{bytes_eq}
 use Rattle.std.specs.List.{filter, list_any}
@@ -21,7 +21,7 @@ use Rattle.change_files.proofs.Untouched.{changed_so}
 use Rattle.db_core.specs.Members.{Listing}
 use Rattle.journal_core.specs.Staged.{HasRoomBeside, HasRoomToStage, IsEmptyStage, MayBePresent}
 use Rattle.journal_intent.specs.FreeNames.{IsTakenName}
-use Rattle.journal_intent.specs.Intent.{intent_name, is_staged, stage_name}
+use Rattle.journal_intent.specs.Intent.{is_staged, stage_name}
 use Rattle.list_order.specs.ByteOrder.{precedes, smaller, smallest}
 use Rattle.path_clashes.specs.Clash.{HasNoClash, is_name_after}
 use Rattle.path_clashes.proofs.FolderLike.{folder_like}

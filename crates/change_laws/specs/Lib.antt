@@ -1,2 +1,3 @@
-pub mod Leading
 pub mod Premises
+pub mod Made
+pub mod Leading
