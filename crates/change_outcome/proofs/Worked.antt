@@ -1,5 +1,5 @@
 -- Rows worked by hand: where a package's file lies, and which folders a pattern matches.
-use Rattle.std.proofs.Common.{◌≡◌, refl, true, false, List, [], ◌∷◌, codes}
+use Rattle.std.proofs.Common.{◌≡◌, refl, true, false, [], codes}
 use Rattle.change_outcome.specs.PackageFiles.{package_path}
 use Rattle.change_outcome.specs.Triggers.{folder_of_path, is_folder_matched}
 
