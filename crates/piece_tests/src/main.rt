@@ -20,7 +20,7 @@ use adb_schema::Checked;
 use adb_tables::{Which, shape};
 use adb_view::Adb;
 use base_core::{Cause, Words};
-use piece_core::{FilePieces, Part, open_file};
+use piece_core::{FileCheck, Part, open_file};
 use pkg_core::Walk;
 use row_lines::{Subject, add_number, add_word, number_of, run_lines, value_named, word_at};
 use sha1::Sha1;
@@ -155,7 +155,7 @@ fn add_pieces(alloc: Global, words: &Words, answer: &mut Vec<u8>) -> Result<(), 
 /// Adds each piece of a file, and what is answered behind the last.
 fn add_each(
     alloc: Global,
-    file: FilePieces<'_>,
+    file: FileCheck<'_>,
     bytes: &[u8],
     answer: &mut Vec<u8>,
 ) -> Result<(), AllocError> {

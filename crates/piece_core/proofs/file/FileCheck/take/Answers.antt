@@ -6,7 +6,7 @@ use Rattle.pkg_core.specs.Opened.{expected_of}
 use Rattle.piece_core.specs.Pieces.{piece, pieces_from, whole_pieces}
 use Rattle.piece_core.specs.declared.part.Part.{Part}
 use Rattle.piece_core.proofs.Taken.{more_left}
-use Rattle.piece_core.proofs.file.FilePieces.take.Goals as goal
+use Rattle.piece_core.proofs.file.FileCheck.take.Goals as goal
 
 pub returns-then-len-left-clause-taken : goal.returns-then-len-left-clause-taken
 returns-then-len-left-clause-taken c = λ so_far left further taken long.
