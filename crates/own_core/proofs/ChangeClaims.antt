@@ -1,17 +1,15 @@
 -- What a search among the claims of a change finds.
-use Rattle.std.proofs.Common.{◌≡◌, ◌⊎◌, inl, inr, ℕ, suc, zero, ◌+◌, ◌<◌, ◌≤◌, Bool, true, false, cond, List, [], ◌∷◌, ◌++◌, length, map, Option, Some, None, refl, ap, sym, ◌∙◌, subst, arith, true≢false, Ordering, Less}
-use Rattle.std.specs.Prelude.{IfSome, slice_get, slice_index_or, option_map, option_and_then, bytes_eq, is_none, is_some, not, ◌&&◌, nat_le}
+use Rattle.std.proofs.Common.{◌≡◌, ℕ, suc, zero, ◌+◌, ◌<◌, ◌≤◌, Bool, true, false, List, [], ◌∷◌, length, map, Option, Some, None, refl, ap, sym, ◌∙◌, subst, arith, Less}
+use Rattle.std.specs.Prelude.{IfSome, slice_get, slice_index_or, option_map, option_and_then, is_some, not, ◌&&◌, nat_le}
 use Rattle.std.specs.List.{find}
 use Rattle.std.specs.List.Sorted.{IsSorted}
 use Rattle.std.specs.Ordering.{is_lt, ordering_reverse}
 use Rattle.std.proofs.lemmas.Cmp.{nat_list_cmp_total}
 use Rattle.std.proofs.lemmas.Bool.{le-leb}
 use Rattle.base_core.specs.Listed.{IsRising}
-use Rattle.adb_view.specs.Plain.{Plain}
 use Rattle.list_order.specs.ByteOrder.{bytes_cmp}
 use Rattle.list_order.proofs.Sorting.{sorted_up}
-use Rattle.db_core.specs.Members.{member_listings, staying_member}
-use Rattle.db_core.specs.Seen.{members_of, packages_of}
+use Rattle.db_core.specs.Seen.{members_of}
 use Rattle.path_claims.specs.Claims.{PathClaim, claim_cmp, is_of_path}
 use Rattle.path_claims.specs.Seen.{claim_seen}
 use Rattle.path_claims.specs.declared.claim.Claim.{Claim}
@@ -20,7 +18,7 @@ use Rattle.path_claims.proofs.Places.{map_len, seen_at}
 use Rattle.file_guard.specs.Listed.{IsOfEntry}
 use Rattle.file_guard.specs.declared.listed.ListedFile.{ListedFile}
 use Rattle.file_owners.specs.Owners.{claims_in}
-use Rattle.change_files.specs.FileChange.{FileChange, is_claimed, old_entry, old_listings}
+use Rattle.change_files.specs.FileChange.{is_claimed, old_entry, old_listings}
 use Rattle.own_core.specs.ClaimEntries.{claim_entry, members_before}
 use Rattle.own_core.specs.Fates.{IsOfEntryIfAny}
 use Rattle.own_core.specs.Sides.{HasClaims, claims_after, claims_before, file_change_of}

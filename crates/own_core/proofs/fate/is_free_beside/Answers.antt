@@ -1,4 +1,4 @@
-use Rattle.std.proofs.Common.{◌≡◌, ◌∙◌, ◌≤◌, List, ℕ, ap, subst, sym, length, arith}
+use Rattle.std.proofs.Common.{◌≡◌, ◌∙◌, ◌≤◌, List, ℕ, ap, subst, length, arith}
 use Rattle.std.specs.Prelude.{not}
 use Rattle.change_files.specs.Fate.{aside_name}
 use Rattle.change_files.specs.FileChange.{is_claimed}
