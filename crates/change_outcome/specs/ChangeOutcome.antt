@@ -1,5 +1,5 @@
 -- What a command that changes the installed packages comes to.
-use Rattle.std.specs.Prelude.{◌≡◌, ℕ, ◌==◌, Bool, true, false, not, ◌||◌, if◌then◌else◌, List, [], ◌∷◌, ◌++◌, length, map, sum_by, codes, Option, Some, None, Result, Ok, Err, bytes_eq, slice_get}
+use Rattle.std.specs.Prelude.{◌≡◌, ℕ, ◌==◌, Bool, true, false, not, ◌||◌, if◌then◌else◌, List, [], ◌∷◌, ◌++◌, length, map, sum_by, codes, Option, Some, None, Result, Ok, Err, bytes_eq, slice_get, unwrap_or}
 use Rattle.std.specs.Option.{option_map_or}
 use Rattle.std.specs.List.{flat_map}
 use Rattle.adb_tables.specs.Values.{entry_in, int_in}
@@ -111,6 +111,11 @@ actions_of inputs change files records = record {
   writes = names_in_order (map (λ w. w.name) (writes_of change files)
     ++ written_records inputs files records);
 }
+
+-- the bytes of a file, or none. What is staged for each write are those that the files afterwards
+-- have under its name.
+abbrev pub bytes_under : Files → List ℕ → List ℕ
+bytes_under files name = unwrap_or (files name) []
 
 abbrev pub does_something : Actions → Bool
 does_something actions = not (length actions.removals == 0) || not (length actions.writes == 0)
