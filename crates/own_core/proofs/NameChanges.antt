@@ -27,7 +27,7 @@ use Rattle.own_core.specs.ClaimEntries.{claim_entry, comes_at, comes_if_any, is_
 use Rattle.own_core.specs.Fates.{is_flag}
 use Rattle.own_core.specs.Going.{is_beside}
 use Rattle.own_core.specs.Parts.{AreParts, asides_of, kept_of_parts}
-use Rattle.own_core.specs.Sides.{HasClaims, change_of, claims_after, claims_before}
+use Rattle.own_core.specs.Sides.{HasClaims, claims_after, claims_before, file_change_of}
 use Rattle.own_core.specs.declared.change.Change.{Change}
 use Rattle.own_core.specs.declared.planning.Parts.{Parts}
 use Rattle.own_core.proofs.ChangeClaims.{claimed_after}
@@ -146,7 +146,7 @@ all_written change besides =
 
 module _ (change : Change) (claims : HasClaims change) (coming : List PathClaim) (firsts : HasFirsts (filter (is_of_coming_owner (members_of change.members.now)) (claims_after change)) coming)
     (parts : Parts) (v : TreeState) (earlier : List TreeState) (are : AreParts change (v ∷ earlier) coming parts) where
-  written_is : (name : List ℕ) → list_any (bytes_eq name) (sorted_by bytes_cmp (all_written change (map (λ c. aside_name c.path) (asides_of parts)))) ≡ counts_as_written (change_of change) (files_of v) name
+  written_is : (name : List ℕ) → list_any (bytes_eq name) (sorted_by bytes_cmp (all_written change (map (λ c. aside_name c.path) (asides_of parts)))) ≡ counts_as_written (file_change_of change) (files_of v) name
   unfolding counts_as_written
   written_is name =
       any_sorted bytes_cmp (bytes_eq name) (all_written change (map (λ c. aside_name c.path) (asides_of parts)))
@@ -157,24 +157,24 @@ module _ (change : Change) (claims : HasClaims change) (coming : List PathClaim)
           ≡ list_any (bytes_eq name) (database_name ∷ world_name ∷ coming_paths (members_of change.members.now))
       front = ap (λ r. bytes_eq name database_name || (bytes_eq name world_name || r)) (any_coming (members_of change.members.now) (bytes_eq name) (claims_after change) claims.after)
 
-      back : list_any (bytes_eq name) (map (λ c. aside_name c.path) (asides_of parts)) ≡ is_some (option_and_then (laid_beside (change_of change) (files_of v)) (path_beside name))
+      back : list_any (bytes_eq name) (map (λ c. aside_name c.path) (asides_of parts)) ≡ is_some (option_and_then (laid_beside (file_change_of change) (files_of v)) (path_beside name))
       back = any_beside name (asides_of parts) ∙ beside_parts change claims coming firsts parts v earlier are name
 
   goes_is : (name : List ℕ) → (is_some (find (is_of_path name) (claims_before change))
-      && not (is_some (find (is_of_path name) (claims_after change)) || is_some (find (is_of_path name) (kept_of_parts parts)))) ≡ is_let_go (change_of change) (files_of v) name
+      && not (is_some (find (is_of_path name) (claims_after change)) || is_some (find (is_of_path name) (kept_of_parts parts)))) ≡ is_let_go (file_change_of change) (files_of v) name
   unfolding is_let_go is_kept
   goes_is name =
       (λ j. listed j && not (claimed_after change claims name j || kept j))
     where
-      listed : is_some (find (is_of_path name) (claims_before change)) ≡ was_listed (change_of change) name
-      listed = sym (mapped_some (claim_entry (old_members (change_of change))) (find (is_of_path name) (claims_before change)))
-          ∙ ap is_some (entries_are (change_of change) (files_of v) (claims_before change) (before_up change claims coming firsts parts v earlier are) (before_each change claims coming firsts parts v earlier are) (asides_of parts) (beside_parts change claims coming firsts parts v earlier are) name)
+      listed : is_some (find (is_of_path name) (claims_before change)) ≡ was_listed (file_change_of change) name
+      listed = sym (mapped_some (claim_entry (old_members (file_change_of change))) (find (is_of_path name) (claims_before change)))
+          ∙ ap is_some (entries_are (file_change_of change) (files_of v) (claims_before change) (before_up change claims coming firsts parts v earlier are) (before_each change claims coming firsts parts v earlier are) (asides_of parts) (beside_parts change claims coming firsts parts v earlier are) name)
 
-      kept : is_some (find (is_of_path name) (kept_of_parts parts)) ≡ (is_left_over (change_of change) (files_of v) name && may_stay (change_of change) name (files_of v name) (old_entry (change_of change) name))
+      kept : is_some (find (is_of_path name) (kept_of_parts parts)) ≡ (is_left_over (file_change_of change) (files_of v) name && may_stay (file_change_of change) name (files_of v name) (old_entry (file_change_of change) name))
       kept = ap (λ cs. is_some (find (is_of_path name) cs)) (kept_parts change claims coming firsts parts v earlier are)
-          ∙ going_is (change_of change) (files_of v) (claims_before change) (before_up change claims coming firsts parts v earlier are) (before_each change claims coming firsts parts v earlier are) (asides_of parts) (beside_parts change claims coming firsts parts v earlier are) true name
+          ∙ going_is (file_change_of change) (files_of v) (claims_before change) (before_up change claims coming firsts parts v earlier are) (before_each change claims coming firsts parts v earlier are) (asides_of parts) (beside_parts change claims coming firsts parts v earlier are) true name
 
   pub same_names : (counts lets : List ℕ → Bool) → ((name : List ℕ) → counts name ≡ list_any (bytes_eq name) (sorted_by bytes_cmp (all_written change (map (λ c. aside_name c.path) (asides_of parts)))))
       → ((name : List ℕ) → lets name ≡ (is_some (find (is_of_path name) (claims_before change)) && not (is_some (find (is_of_path name) (claims_after change)) || is_some (find (is_of_path name) (kept_of_parts parts)))))
-      → record { counts_as_written = counts; lets_go = lets } ≡ name_change (change_of change) (files_of v)
+      → record { counts_as_written = counts; lets_go = lets } ≡ name_change (file_change_of change) (files_of v)
   same_names counts lets c l = (λ j. record { counts_as_written = λ name. (c name ∙ written_is name) j; lets_go = λ name. (l name ∙ goes_is name) j })

@@ -23,15 +23,15 @@ use Rattle.change_files.specs.Fate.{aside_name, gives_way, goes_aside, goes_in}
 use Rattle.change_files.specs.FileChange.{FileChange, is_claimed}
 use Rattle.change_files.specs.FilesAfter.{laid_beside, path_beside}
 use Rattle.change_files.specs.NamesAfter.{name_change}
-use Rattle.change_files.specs.PlanLists.{aside_of, kept_of, removals_of, writes_of}
+use Rattle.change_files.specs.PlanLists.{aside_of, file_writes_of, kept_of, removals_of}
 use Rattle.path_clashes.specs.Clash.{HasNoClash}
 use Rattle.own_core.specs.ClaimEntries.{AreClaimsOf, IsClaimOf, is_of_coming_owner, members_before, old_members}
-use Rattle.own_core.specs.Fates.{HaveRoomBeside, claim_fate, is_fate, is_flag, is_free_beside, marked_claims}
+use Rattle.own_core.specs.Fates.{HaveFreeNamesBeside, claim_fate, is_fate, is_flag, is_free_beside, marked_claims}
 use Rattle.own_core.specs.Going.{does_stay, is_beside, is_left}
 use Rattle.own_core.specs.ListsSeen.{AreListsOf}
 use Rattle.own_core.specs.Parts.{AreParts, asides_of, ins_of, kept_of_parts, left_claims_by, removed_of}
 use Rattle.own_core.specs.Planned.{IsPlanOf}
-use Rattle.own_core.specs.Sides.{HasClaims, change_of, claims_after, claims_before}
+use Rattle.own_core.specs.Sides.{HasClaims, claims_after, claims_before, file_change_of}
 use Rattle.own_core.specs.WritesSeen.{HasNameBeside, HaveNamesBeside, aside_write, claim_write, write_cmp}
 use Rattle.own_core.specs.declared.change.Change.{Change}
 use Rattle.own_core.specs.declared.planning.FilePlan.{FilePlan}
@@ -133,7 +133,7 @@ ins_named change history coming parts h p = names_marked (is_fate goes_in) comin
 
 left_named : (change : Change) → HasClaims change → (asides : List PathClaim) → HaveNames (left_claims_by change asides)
 left_named change h asides i c g =
-    let f = filter_from (λ d. is_left (change_of change) asides d.path) (claims_before change) i c g in (h.old_files f.0 c f.1).name
+    let f = filter_from (λ d. is_left (file_change_of change) asides d.path) (claims_before change) i c g in (h.old_files f.0 c f.1).name
 
 pub removed_named : (change : Change) (history : List TreeState) (coming : List PathClaim) (parts : Parts) → HasClaims change → AreParts change history coming parts → HaveNames (removed_of parts)
 removed_named change history coming parts h p = names_marked (is_flag false) (left_claims_by change (asides_of parts)) (removed_of parts) p.stays (left_named change h (asides_of parts)) p.removed
@@ -141,7 +141,7 @@ removed_named change history coming parts h p = names_marked (is_flag false) (le
 pub kept_named : (change : Change) (history : List TreeState) (coming : List PathClaim) (parts : Parts) → HasClaims change → AreParts change history coming parts → HaveNames (kept_of_parts parts)
 kept_named change history coming parts h p = names_marked (is_flag true) (left_claims_by change (asides_of parts)) (kept_of_parts parts) p.stays (left_named change h (asides_of parts)) p.kept
 
-room_of : (change : FileChange) (cs : List PathClaim) (fs : List Fates.Fate) → HaveRoomBeside change cs fs → (i : ℕ) (c : PathClaim) → slice_get (marked_claims (is_fate goes_aside) cs fs) i ≡ Some c → is_free_beside change c.path ≡ true
+room_of : (change : FileChange) (cs : List PathClaim) (fs : List Fates.Fate) → HaveFreeNamesBeside change cs fs → (i : ℕ) (c : PathClaim) → slice_get (marked_claims (is_fate goes_aside) cs fs) i ≡ Some c → is_free_beside change c.path ≡ true
 room_of change [] fs h i c g = absurd (no_some c g)
 room_of change (d ∷ cs) [] h i c g = absurd h
 room_of change (d ∷ cs) (f ∷ fs) h i c g = go (is_fate goes_aside f) refl i (λ j k. room_of change cs fs h.1 j c k) g
@@ -161,7 +161,7 @@ pub asides_named : (change : Change) (history : List TreeState) (coming : List P
 asides_named change history coming parts h p i c g =
     let k = ap (λ ys. slice_get ys i) (sym p.asides) ∙ g in
     let f = marked_from (is_fate goes_aside) coming p.fates i c k in
-    let room = and_parts (nat_le (length (aside_name c.path)) 1024) (not (is_claimed (change_of change) (aside_name c.path))) (room_of (change_of change) coming p.fates p.room i c k) in
+    let room = and_parts (nat_le (length (aside_name c.path)) 1024) (not (is_claimed (file_change_of change) (aside_name c.path))) (room_of (file_change_of change) coming p.fates p.room i c k) in
     let long : length (c.path ++ ending) ≡ length c.path + 8 = length-append c.path ending in
     let short : length (aside_name c.path) ≤ 1024 = leb-true (length (aside_name c.path)) 1024 room.0 in
     record { name = (h f.0 c f.1).name; short = omega (arith, long, short) }
@@ -172,7 +172,7 @@ kept_sorted change history coming parts h p =
     (Names.pairs_from_rises (paths (kept_of_parts parts))
     (subst (λ cs. Names.Rises (paths cs)) (sym p.kept)
     (marked_rises (is_flag true) (left_claims_by change (asides_of parts)) p.stays
-    (filtered_rises (λ c. is_left (change_of change) (asides_of parts) c.path) (claims_before change) (Names.rises_from_pairs (paths (claims_before change)) h.before.rising)))))
+    (filtered_rises (λ c. is_left (file_change_of change) (asides_of parts) c.path) (claims_before change) (Names.rises_from_pairs (paths (claims_before change)) h.before.rising)))))
 
 -- ---- over the files of the tree
 
@@ -184,40 +184,40 @@ module _ (change : Change) (claims : HasClaims change) (coming : List PathClaim)
   pub each : (q : List ℕ) → find (is_of_path q) coming ≡ find (is_of_path q) (filter (is_of_coming_owner (members_of change.members.now)) (sorted_by claim_cmp (claims_in (members_of change.members.now))))
   each q = firsts.each q ∙ ap (λ cs. find (is_of_path q) (filter (is_of_coming_owner (members_of change.members.now)) cs)) claims.after
 
-  by_fate : (f : Fates.Fate) (xs : List PathClaim) → xs ≡ marked_claims (is_fate f) coming are.fates → xs ≡ with_fate (change_of change) (files_of v) coming up each f
-  by_fate f xs e = e ∙ (ap (marked_claims (is_fate f) coming) are.told.0 ∙ marked_by (is_fate f) (claim_fate (change_of change) (files_of v)) coming)
+  by_fate : (f : Fates.Fate) (xs : List PathClaim) → xs ≡ marked_claims (is_fate f) coming are.fates → xs ≡ with_fate (file_change_of change) (files_of v) coming up each f
+  by_fate f xs e = e ∙ (ap (marked_claims (is_fate f) coming) are.told.0 ∙ marked_by (is_fate f) (claim_fate (file_change_of change) (files_of v)) coming)
 
-  pub asides_are : asides_of parts ≡ with_fate (change_of change) (files_of v) coming up each goes_aside
+  pub asides_are : asides_of parts ≡ with_fate (file_change_of change) (files_of v) coming up each goes_aside
   asides_are = by_fate goes_aside (asides_of parts) are.asides
 
-  pub ins_are : ins_of parts ≡ with_fate (change_of change) (files_of v) coming up each goes_in
+  pub ins_are : ins_of parts ≡ with_fate (file_change_of change) (files_of v) coming up each goes_in
   ins_are = by_fate goes_in (ins_of parts) are.ins
 
-  pub beside_parts : (q : List ℕ) → is_beside (asides_of parts) q ≡ is_some (option_and_then (laid_beside (change_of change) (files_of v)) (path_beside q))
-  beside_parts q = ap (λ cs. is_beside cs q) asides_are ∙ beside_is (change_of change) (files_of v) coming up each q
+  pub beside_parts : (q : List ℕ) → is_beside (asides_of parts) q ≡ is_some (option_and_then (laid_beside (file_change_of change) (files_of v)) (path_beside q))
+  beside_parts q = ap (λ cs. is_beside cs q) asides_are ∙ beside_is (file_change_of change) (files_of v) coming up each q
 
   pub before_up : Names.Rises (paths (claims_before change))
   before_up = Names.rises_from_pairs (paths (claims_before change)) claims.before.rising
 
-  pub before_each : (q : List ℕ) → find (is_of_path q) (claims_before change) ≡ find (is_of_path q) (sorted_by claim_cmp (claims_in (old_members (change_of change))))
+  pub before_each : (q : List ℕ) → find (is_of_path q) (claims_before change) ≡ find (is_of_path q) (sorted_by claim_cmp (claims_in (old_members (file_change_of change))))
   before_each q = claims.before.each q
 
   by_flag : (b : Bool) (xs : List PathClaim) → xs ≡ marked_claims (is_flag b) (left_claims_by change (asides_of parts)) are.stays
-      → xs ≡ going (change_of change) (files_of v) (claims_before change) before_up before_each (asides_of parts) beside_parts b
+      → xs ≡ going (file_change_of change) (files_of v) (claims_before change) before_up before_each (asides_of parts) beside_parts b
   by_flag b xs e =
-      e ∙ (ap (marked_claims (is_flag b) (left_claims_by change (asides_of parts))) are.told.1 ∙ marked_by (is_flag b) (does_stay (change_of change) (files_of v)) (left_claims_by change (asides_of parts)))
+      e ∙ (ap (marked_claims (is_flag b) (left_claims_by change (asides_of parts))) are.told.1 ∙ marked_by (is_flag b) (does_stay (file_change_of change) (files_of v)) (left_claims_by change (asides_of parts)))
 
-  pub kept_parts : kept_of_parts parts ≡ going (change_of change) (files_of v) (claims_before change) before_up before_each (asides_of parts) beside_parts true
+  pub kept_parts : kept_of_parts parts ≡ going (file_change_of change) (files_of v) (claims_before change) before_up before_each (asides_of parts) beside_parts true
   kept_parts = by_flag true (kept_of_parts parts) are.kept
 
-  pub removed_parts : removed_of parts ≡ going (change_of change) (files_of v) (claims_before change) before_up before_each (asides_of parts) beside_parts false
+  pub removed_parts : removed_of parts ≡ going (file_change_of change) (files_of v) (claims_before change) before_up before_each (asides_of parts) beside_parts false
   removed_parts = by_flag false (removed_of parts) are.removed
 
-  pub planned : (owned : List Bool) (plan : FilePlan) → AreListsOf parts owned plan → HasNoClash (name_change (change_of change) (files_of v)) (files_of v) → IsPlanOf (change_of change) (files_of v) plan
+  pub planned : (owned : List Bool) (plan : FilePlan) → AreListsOf parts owned plan → HasNoClash (name_change (file_change_of change) (files_of v)) (files_of v) → IsPlanOf (file_change_of change) (files_of v) plan
   planned owned plan lists none = record {
-    removals = lists.removals ∙ (ap paths removed_parts ∙ removals_are (change_of change) (files_of v) (claims_before change) before_up before_each (asides_of parts) beside_parts);
-    writes = lists.writes ∙ ((λ j. sorted_by write_cmp (map claim_write (ins_are j) ++ map aside_write (asides_are j))) ∙ writes_are (change_of change) (files_of v) coming up each);
-    aside = lists.aside ∙ (ap paths asides_are ∙ aside_are (change_of change) (files_of v) coming up each);
-    kept = lists.kept ∙ (ap paths kept_parts ∙ kept_are (change_of change) (files_of v) (claims_before change) before_up before_each (asides_of parts) beside_parts);
+    removals = lists.removals ∙ (ap paths removed_parts ∙ removals_are (file_change_of change) (files_of v) (claims_before change) before_up before_each (asides_of parts) beside_parts);
+    writes = lists.writes ∙ ((λ j. sorted_by write_cmp (map claim_write (ins_are j) ++ map aside_write (asides_are j))) ∙ writes_are (file_change_of change) (files_of v) coming up each);
+    aside = lists.aside ∙ (ap paths asides_are ∙ aside_are (file_change_of change) (files_of v) coming up each);
+    kept = lists.kept ∙ (ap paths kept_parts ∙ kept_are (file_change_of change) (files_of v) (claims_before change) before_up before_each (asides_of parts) beside_parts);
     no_clash = none;
   }

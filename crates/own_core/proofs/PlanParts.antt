@@ -33,9 +33,9 @@ use Rattle.change_files.specs.FileChange.{FileChange}
 use Rattle.change_files.specs.FilesAfter.{database_name, world_name}
 use Rattle.change_files.specs.NamesAfter.{name_change}
 use Rattle.own_core.specs.ClaimEntries.{AreClaimsOf, IsClaimOf, comes_at, is_of_coming_owner, members_before}
-use Rattle.own_core.specs.Fates.{HaveRoomBeside, fate_seen, marked_claims}
+use Rattle.own_core.specs.Fates.{HaveFreeNamesBeside, fate_seen, marked_claims}
 use Rattle.own_core.specs.Parts.{AreParts, asides_of, kept_of_parts}
-use Rattle.own_core.specs.Sides.{HasClaims, change_of, claims_after, claims_before}
+use Rattle.own_core.specs.Sides.{HasClaims, claims_after, claims_before, file_change_of}
 use Rattle.own_core.specs.WritesSeen.{HaveNamesBeside}
 use Rattle.own_core.specs.declared.change.Change.{Change}
 use Rattle.own_core.specs.declared.fate.Fate.{Fate}
@@ -50,7 +50,7 @@ use Rattle.own_core.proofs.WritesMeaning.{each_finds_itself}
 
 -- ---- parts
 
-pub fates_len : (change : FileChange) (xs : List Claim) (fs : List Fate) → HaveRoomBeside change (map claim_seen xs) (map fate_seen fs) → length fs ≡ length xs
+pub fates_len : (change : FileChange) (xs : List Claim) (fs : List Fate) → HaveFreeNamesBeside change (map claim_seen xs) (map fate_seen fs) → length fs ≡ length xs
 fates_len change xs fs h = sym (map_len fate_seen fs) ∙ (room_len change (map claim_seen xs) (map fate_seen fs) h ∙ map_len claim_seen xs)
 
 pub marked_sorted : {Y : Type 0} (test : Y → Bool) (cs xs : List PathClaim) (ms : List Y) → Names.Rises (paths cs) → xs ≡ marked_claims test cs ms → IsSorted claim_cmp xs
@@ -118,7 +118,7 @@ pub clash_is : (change : Change) → HasClaims change → (coming : List PathCla
     → ((name : List ℕ) → lets name ≡ (is_some (find (is_of_path name) (claims_before change)) && not (is_some (find (is_of_path name) (claims_after change)) || is_some (find (is_of_path name) (kept_of_parts parts)))))
     → (r : Result (Option Clash) TreeFault)
     → IfOk r (λ found. IfObservable h (λ v. IsClashOf (record { counts_as_written = counts; lets_go = lets }) (files_of v) (option_map clash_seen found)))
-    → IfOk r (λ found. IfObservable h (λ v. IsClashOf (name_change (change_of change) (files_of v)) (files_of v) (option_map clash_seen found)))
+    → IfOk r (λ found. IfObservable h (λ v. IsClashOf (name_change (file_change_of change) (files_of v)) (files_of v) (option_map clash_seen found)))
 clash_is change claims coming firsts parts h are counts lets c l (Err fault) told = tt
 clash_is change claims coming firsts parts [] are counts lets c l (Ok found) told = tt
 clash_is change claims coming firsts parts (v ∷ earlier) are counts lets c l (Ok found) told =

@@ -12,7 +12,7 @@ use Rattle.path_claims.specs.declared.claim.Claim.{Claim}
 use Rattle.claim_lists.proofs.Lists.{take_at, take_whole}
 use Rattle.change_files.specs.Fate as Fates
 use Rattle.change_files.specs.FileChange.{FileChange}
-use Rattle.own_core.specs.Fates.{HasRoomBeside, HaveRoomBeside}
+use Rattle.own_core.specs.Fates.{HasFreeNameBeside, HaveFreeNamesBeside}
 use Rattle.own_core.proofs.Kept.{map_more, same_map}
 
 any_answer : {A B E : Type 0} (disk : E) (h0 h1 : List TreeState) (a b : Counts) (x : A) (y : B) → OnlyReads disk h0 h1 a b (Ok x) → OnlyReads disk h0 h1 a b (Ok y)
@@ -59,30 +59,30 @@ pub found_all : {Y Z : Type 0} (f : Z → Y) (g : TreeState → PathClaim → Y)
     → IfObservable h (λ v. map f ys ≡ map (g v) (map claim_seen (take i xs))) → IfObservable h (λ v. map f ys ≡ map (g v) (map claim_seen xs))
 found_all f g h xs i ys l inv = subst (λ (zs : List Claim). IfObservable h (λ v. map f ys ≡ map (g v) (map claim_seen zs))) (take_whole xs i l) inv
 
-room_behind : (change : FileChange) (cs : List PathClaim) (fs : List Fates.Fate) (c : PathClaim) (f : Fates.Fate) → HaveRoomBeside change cs fs → HasRoomBeside change c.path f → HaveRoomBeside change (cs ++ c ∷ []) (fs ++ f ∷ [])
+room_behind : (change : FileChange) (cs : List PathClaim) (fs : List Fates.Fate) (c : PathClaim) (f : Fates.Fate) → HaveFreeNamesBeside change cs fs → HasFreeNameBeside change c.path f → HaveFreeNamesBeside change (cs ++ c ∷ []) (fs ++ f ∷ [])
 room_behind change [] [] c f h r = (r, tt)
 room_behind change [] (g ∷ fs) c f h r = absurd h
 room_behind change (d ∷ cs) [] c f h r = absurd h
 room_behind change (d ∷ cs) (g ∷ fs) c f h r = (h.0, room_behind change cs fs c f h.1 r)
 
 pub room_more : {Z : Type 0} (s : Z → Fates.Fate) (change : FileChange) (xs : List Claim) (i : ℕ) (d : Claim) (ys zs : List Z) (z : Z) → i < length xs → zs ≡ ys ++ z ∷ []
-    → HaveRoomBeside change (map claim_seen (take i xs)) (map s ys) → HasRoomBeside change (claim_seen (slice_index_or xs i d)).path (s z)
-    → HaveRoomBeside change (map claim_seen (take (i + 1) xs)) (map s zs)
+    → HaveFreeNamesBeside change (map claim_seen (take i xs)) (map s ys) → HasFreeNameBeside change (claim_seen (slice_index_or xs i d)).path (s z)
+    → HaveFreeNamesBeside change (map claim_seen (take (i + 1) xs)) (map s zs)
 room_more s change xs i d ys zs z l e h r =
     let n : i + 1 ≡ suc i = omega arith in
     let cs : map claim_seen (take (i + 1) xs) ≡ map claim_seen (take i xs) ++ claim_seen (slice_index_or xs i d) ∷ [] =
     ap (λ k. map claim_seen (take k xs)) n ∙ (ap (map claim_seen) (take_at xs i (slice_index_or xs i d) (there xs i d l)) ∙ map_more claim_seen (take i xs) (slice_index_or xs i d)) in
     let fs : map s zs ≡ map s ys ++ s z ∷ [] = ap (map s) e ∙ map_more s ys z in
-    subst (λ (ks : List PathClaim). HaveRoomBeside change ks (map s zs)) (sym cs)
-    (subst (HaveRoomBeside change (map claim_seen (take i xs) ++ claim_seen (slice_index_or xs i d) ∷ [])) (sym fs) (room_behind change (map claim_seen (take i xs)) (map s ys) (claim_seen (slice_index_or xs i d)) (s z) h r))
+    subst (λ (ks : List PathClaim). HaveFreeNamesBeside change ks (map s zs)) (sym cs)
+    (subst (HaveFreeNamesBeside change (map claim_seen (take i xs) ++ claim_seen (slice_index_or xs i d) ∷ [])) (sym fs) (room_behind change (map claim_seen (take i xs)) (map s ys) (claim_seen (slice_index_or xs i d)) (s z) h r))
   where
     there : (xs : List Claim) (i : ℕ) (d : Claim) → i < length xs → slice_get xs i ≡ Some (slice_index_or xs i d)
     there [] i d l = absurd (omega arith)
     there (x ∷ xs) zero d l = refl
     there (x ∷ xs) (suc i) d l = there xs i d (omega arith)
 
-pub room_all : (change : FileChange) (xs : List Claim) (i : ℕ) (fs : List Fates.Fate) → length xs ≤ i → HaveRoomBeside change (map claim_seen (take i xs)) fs → HaveRoomBeside change (map claim_seen xs) fs
-room_all change xs i fs l h = subst (λ (zs : List Claim). HaveRoomBeside change (map claim_seen zs) fs) (take_whole xs i l) h
+pub room_all : (change : FileChange) (xs : List Claim) (i : ℕ) (fs : List Fates.Fate) → length xs ≤ i → HaveFreeNamesBeside change (map claim_seen (take i xs)) fs → HaveFreeNamesBeside change (map claim_seen xs) fs
+room_all change xs i fs l h = subst (λ (zs : List Claim). HaveFreeNamesBeside change (map claim_seen zs) fs) (take_whole xs i l) h
 
 pub one_longer : {Z : Type 0} (ys zs : List Z) (z : Z) (n : ℕ) → zs ≡ ys ++ z ∷ [] → length ys ≡ n → length zs ≡ n + 1
 one_longer ys zs z n e h = ap length e ∙ (more ys z ∙ ap (λ k. k + 1) h)
@@ -96,7 +96,7 @@ pub found_plain : (g : TreeState → PathClaim → Bool) (h : List TreeState) (x
 found_plain g [] xs i ys l inv = tt
 found_plain g (v ∷ earlier) xs i ys l inv = sym (same_map ys) ∙ (inv ∙ ap (λ (zs : List Claim). map (g v) (map claim_seen zs)) (take_whole xs i l))
 
-pub room_len : (change : FileChange) (cs : List PathClaim) (fs : List Fates.Fate) → HaveRoomBeside change cs fs → length fs ≡ length cs
+pub room_len : (change : FileChange) (cs : List PathClaim) (fs : List Fates.Fate) → HaveFreeNamesBeside change cs fs → length fs ≡ length cs
 room_len change [] [] h = refl
 room_len change [] (f ∷ fs) h = absurd h
 room_len change (c ∷ cs) [] h = absurd h

@@ -23,7 +23,7 @@ use Rattle.own_core.specs.ClaimEntries.{AreClaimsOf, is_of_coming_owner}
 use Rattle.own_core.specs.ListsSeen.{AreListsOf}
 use Rattle.own_core.specs.Parts.{AreParts}
 use Rattle.own_core.specs.Planned.{IsPlanOf}
-use Rattle.own_core.specs.Sides.{HasClaims, change_of, claims_after}
+use Rattle.own_core.specs.Sides.{HasClaims, claims_after, file_change_of}
 use Rattle.own_core.specs.declared.change.Change.{Change}
 use Rattle.own_core.specs.declared.planning.FilePlan.{FilePlan}
 use Rattle.own_core.specs.declared.planning.Parts.{Parts}
@@ -49,7 +49,7 @@ no_clash_told change h h1 same found none told =
 
 pub plan_is : (change : Change) → HasClaims change → (coming : List PathClaim) → HasFirsts (filter (is_of_coming_owner (members_of change.members.now)) (claims_after change)) coming
     → (parts : Parts) (h : List TreeState) → AreParts change h coming parts → (flags : List Bool) (plan : FilePlan) → AreListsOf parts flags plan
-    → IfObservable h (λ v. HasNoClash (name_change (change_of change) (files_of v)) (files_of v)) → IfObservable h (λ v. IsPlanOf (change_of change) (files_of v) plan)
+    → IfObservable h (λ v. HasNoClash (name_change (file_change_of change) (files_of v)) (files_of v)) → IfObservable h (λ v. IsPlanOf (file_change_of change) (files_of v) plan)
 plan_is change claims coming firsts parts [] are flags plan lists none = tt
 plan_is change claims coming firsts parts (v ∷ earlier) are flags plan lists none = planned change claims coming firsts parts v earlier are flags plan lists none
 

@@ -25,7 +25,7 @@ use Rattle.file_guard.specs.AsListed.{is_as_listed}
 use Rattle.change_files.specs.FileChange.{FileChange, coming_owner, is_claimed, old_entry}
 use Rattle.change_files.specs.FilesAfter.{if_aside, if_in, laid_beside, or_beside, path_beside, written_as, written_in}
 use Rattle.change_files.specs.NamesAfter.{coming_paths}
-use Rattle.change_files.specs.PlanLists.{FileWrite, names_in_order, write_to, writes_of}
+use Rattle.change_files.specs.PlanLists.{FileWrite, file_writes_of, names_in_order, write_to}
 use Rattle.own_core.specs.ClaimEntries.{claim_entry, is_of_coming_owner}
 use Rattle.own_core.specs.Fates.{claim_fate, is_fate}
 use Rattle.own_core.specs.WritesSeen.{aside_write, claim_write, write_by, write_cmp}
@@ -398,8 +398,8 @@ module _ (change : FileChange) (files : Files) (coming : List PathClaim) (up : N
       by_in true e = inl (there_is ins q (sym (in_is change files coming up each q) ∙ e))
       by_in false e = inr (by_front (path_beside q) refl (skip (written_in change files q) (option_and_then (laid_beside change files) (path_beside q)) e w))
 
-  pub writes_are : sorted_by write_cmp all_writes ≡ writes_of change files
-  unfolding writes_of
+  pub writes_are : sorted_by write_cmp all_writes ≡ file_writes_of change files
+  unfolding file_writes_of
   writes_are =
       let rises = writes_rise change ins asides (kept_rises (λ c. is_fate goes_in (claim_fate change files c)) coming up) (kept_rises (λ c. is_fate goes_aside (claim_fate change files c)) coming up) claimed_in free_in in
       sym (by_names as_written (sorted_by write_cmp all_writes) (each_sorted (λ w. as_written w.name ≡ Some w) all_writes all_as_written))

@@ -28,14 +28,14 @@ is_free_beside change path =
     nat_le (length (aside_name path)) 1024 && not (is_claimed change (aside_name path))
 
 -- a file that goes aside has a name there
-abbrev pub HasRoomBeside : FileChange → List ℕ → Fates.Fate → Type 0
-HasRoomBeside change path fate = fate ≡ goes_aside → is_free_beside change path ≡ true
+abbrev pub HasFreeNameBeside : FileChange → List ℕ → Fates.Fate → Type 0
+HasFreeNameBeside change path fate = fate ≡ goes_aside → is_free_beside change path ≡ true
 
-abbrev pub HaveRoomBeside : FileChange → List PathClaim → List Fates.Fate → Type 0
-HaveRoomBeside change [] [] = Unit {0}
-HaveRoomBeside change [] (f ∷ fates) = ⊥
-HaveRoomBeside change (c ∷ cs) [] = ⊥
-HaveRoomBeside change (c ∷ cs) (f ∷ fates) = HasRoomBeside change c.path f × HaveRoomBeside change cs fates
+abbrev pub HaveFreeNamesBeside : FileChange → List PathClaim → List Fates.Fate → Type 0
+HaveFreeNamesBeside change [] [] = Unit {0}
+HaveFreeNamesBeside change [] (f ∷ fates) = ⊥
+HaveFreeNamesBeside change (c ∷ cs) [] = ⊥
+HaveFreeNamesBeside change (c ∷ cs) (f ∷ fates) = HasFreeNameBeside change c.path f × HaveFreeNamesBeside change cs fates
 
 -- what is read of an entry, where there is one
 abbrev pub IsOfEntryIfAny : Option ListedFile → Option Plain → Type 0

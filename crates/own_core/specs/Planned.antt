@@ -11,7 +11,7 @@ use Rattle.path_clashes.specs.Clash.{HasNoClash, IsFirstClash}
 use Rattle.file_owners.specs.Owners.{contested_of, owned_of}
 use Rattle.change_files.specs.FileChange.{FileChange}
 use Rattle.change_files.specs.NamesAfter.{name_change}
-use Rattle.change_files.specs.PlanLists.{aside_of, first_reserved, kept_of, removals_of, writes_of}
+use Rattle.change_files.specs.PlanLists.{aside_of, file_writes_of, first_reserved, kept_of, removals_of}
 use Rattle.own_core.specs.WritesSeen.{writes_in}
 use Rattle.own_core.specs.declared.fault.PlanFault.{PlanFault}
 use Rattle.own_core.specs.declared.fault.PlanFault.TheVariants.{Disk, Memory, Owned, PathClash, Reserved}
@@ -26,7 +26,7 @@ change_by old after purge =
 -- over these files the lists are the change's, and no name is a folder of another
 pub record IsPlanOf (change : FileChange) (files : Files) (plan : FilePlan) : Type 0 where
   pub removals : plan.removals ≡ removals_of change files
-  pub writes : writes_in plan.writes ≡ writes_of change files
+  pub writes : writes_in plan.writes ≡ file_writes_of change files
   pub aside : plan.aside ≡ aside_of change files
   pub kept : plan.kept ≡ kept_of change files
   pub no_clash : HasNoClash (name_change change files) files

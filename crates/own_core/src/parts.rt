@@ -13,7 +13,7 @@ ghost use Rattle.path_claims.specs.Seen.{claim_seen};
 ghost use Rattle.own_core.specs.ClaimEntries.{AreClaimsOf, IsClaimOf, members_before};
 ghost use Rattle.own_core.specs.Fates.{fate_seen, is_fate, is_flag, marked_claims};
 ghost use Rattle.own_core.specs.Going.{does_stay, is_beside, is_left};
-ghost use Rattle.own_core.specs.Sides.{HasClaims, change_of, claims_before};
+ghost use Rattle.own_core.specs.Sides.{HasClaims, claims_before, file_change_of};
 
 use crate::change::Change;
 use crate::entries::listed_before;
@@ -74,7 +74,7 @@ fn is_beside(asides: &[Claim<'_>], path: &FilePath<'_>) -> bool
 fn is_left(change: &Change<'_, '_, '_>, asides: &[Claim<'_>], path: &FilePath<'_>) -> bool
     requires claims { HasClaims change.now }
     requires sorted { IsSorted claim_cmp (map claim_seen asides.now) }
-    ensures { result ≡ is_left (change_of change.now) (map claim_seen asides.now)
+    ensures { result ≡ is_left (file_change_of change.now) (map claim_seen asides.now)
         (joined_path path.now) }
 {
     if find_claim(change.after, path).is_some() {
@@ -93,7 +93,7 @@ pub(crate) fn left_claims<'o>(
     requires claims { HasClaims change.now }
     requires sorted { IsSorted claim_cmp (map claim_seen asides.now) }
     ensures { IfOk result (λ left. map claim_seen left.items
-        ≡ filter (λ c. is_left (change_of change.now) (map claim_seen asides.now) c.path)
+        ≡ filter (λ c. is_left (file_change_of change.now) (map claim_seen asides.now) c.path)
         (claims_before change.now)) }
 {
     let mut left = Vec::new(alloc);
@@ -114,7 +114,7 @@ fn does_stay<T: Tree>(
 ) -> Result<bool, TreeFault>
     requires { IsClaimOf (members_before change.now.db.now) (claim_seen claim.now) }
     ensures stays { IfOk result (λ stays. IfObservable (T.history tree.old) (λ v. stays
-        ≡ does_stay (change_of change.now) (files_of v) (claim_seen claim.now))) }
+        ≡ does_stay (file_change_of change.now) (files_of v) (claim_seen claim.now))) }
     ensures tree { OnlyReads TreeFault.Disk (T.history tree.old) (T.history tree.new)
         (T.counts tree.old) (T.counts tree.new) result }
 {
@@ -144,7 +144,7 @@ pub(crate) fn stays_of<T: Tree>(
     requires { AreClaimsOf (members_before change.now.db.now) (map claim_seen left.now) }
     ensures len { IfOk result (λ stays. length stays.items ≡ length left.now) }
     ensures stays { IfOk result (λ stays. IfObservable (T.history tree.old) (λ v. stays.items
-        ≡ map (does_stay (change_of change.now) (files_of v)) (map claim_seen left.now))) }
+        ≡ map (does_stay (file_change_of change.now) (files_of v)) (map claim_seen left.now))) }
     ensures tree { OnlyReads TreeFault.Disk (T.history tree.old) (T.history tree.new)
         (T.counts tree.old) (T.counts tree.new) result }
 {

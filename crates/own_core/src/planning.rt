@@ -25,7 +25,7 @@ ghost use Rattle.own_core.specs.ClaimEntries.{AreClaimsOf, IsClaimOf, is_of_comi
 ghost use Rattle.own_core.specs.ListsSeen.{AreListsOf};
 ghost use Rattle.own_core.specs.Parts.{AreParts, asides_of, ins_of, kept_of_parts, removed_of};
 ghost use Rattle.own_core.specs.Planned.{IsOwnedBy, IsPlanFor, IsPlanOf, IsRefusalFor, IsRefusalOf, change_by, member_name_at};
-ghost use Rattle.own_core.specs.Sides.{HasClaims, change_of, claims_after};
+ghost use Rattle.own_core.specs.Sides.{HasClaims, claims_after, file_change_of};
 ghost use Rattle.own_core.specs.WritesSeen.{HaveNamesBeside};
 
 use crate::change::Change;
@@ -146,7 +146,7 @@ fn clash_of<T: Tree>(
     requires parts { AreParts change.now (T.history tree.old) (map claim_seen coming.now)
         parts.now }
     ensures clash { IfOk result (λ found. IfObservable (T.history tree.old) (λ v. IsClashOf
-        (name_change (change_of change.now) (files_of v)) (files_of v)
+        (name_change (file_change_of change.now) (files_of v)) (files_of v)
         (option_map clash_seen found))) }
     ensures tree { OnlyReads TreeFault.Disk (T.history tree.old) (T.history tree.new)
         (T.counts tree.old) (T.counts tree.new) result }

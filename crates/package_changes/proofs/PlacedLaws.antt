@@ -9,7 +9,7 @@ use Rattle.pool_core.specs.Rank.{SealedPool, candidate_at, is_at}
 use Rattle.report_core.specs.Reports.{Change}
 use Rattle.package_changes.specs.Changes.{change_between, change_of_name, changes_of, is_selected_named, names_on_both_sides}
 use Rattle.package_changes.specs.Placed.{PlacedChange, PlacedReplacement, candidates_at, placed_change_of, placed_change_with, placed_changes_of, replacement_of, selected_place}
-use Rattle.package_changes.specs.SelectedNames.{change_at, place_beside}
+use Rattle.package_changes.specs.SelectedNames.{place_beside, placed_change_at}
 
 -- ---- the first by its place
 
@@ -87,8 +87,8 @@ same_options g h same [] = refl
 same_options g h same (a ∷ xs) = ap (λ o. cons_option o (filter_map g xs)) (same a) ∙ ap (cons_option (h a)) (same_options g h same xs)
 
 -- the table leads to the places of the selected candidates
-pub by_table : (p : PlacedReplacement) (table : List (List ℕ × ℕ)) → ((name : List ℕ) → place_beside name table ≡ selected_place p.pool p.trace name) → (names : List (List ℕ)) → filter_map (change_at p.before p.pool p.again table) names ≡ filter_map (placed_change_of p) names
+pub by_table : (p : PlacedReplacement) (table : List (List ℕ × ℕ)) → ((name : List ℕ) → place_beside name table ≡ selected_place p.pool p.trace name) → (names : List (List ℕ)) → filter_map (placed_change_at p.before p.pool p.again table) names ≡ filter_map (placed_change_of p) names
 unfolding placed_change_of
 by_table p table leads names =
-    same_options (change_at p.before p.pool p.again table) (placed_change_of p)
+    same_options (placed_change_at p.before p.pool p.again table) (placed_change_of p)
     (λ name. ap (placed_change_with p.before p.pool p.again name (position_from (is_package_named name) 0 p.before)) (leads name)) names

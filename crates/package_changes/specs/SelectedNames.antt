@@ -16,9 +16,9 @@ place_beside name [] = None
 place_beside name (e ∷ es) = if bytes_eq e.0 name then Some e.1 else place_beside name es
 
 -- what becomes of the package of a name, where the selected candidates have these names and places
-abbrev pub change_at :
+abbrev pub placed_change_at :
     List Plain → SealedPool → List (List ℕ) → List (List ℕ × ℕ) → List ℕ → Option PlacedChange
-change_at before pool again selected name =
+placed_change_at before pool again selected name =
     placed_change_with before pool again name (position_from (is_package_named name) 0 before)
     (place_beside name selected)
 

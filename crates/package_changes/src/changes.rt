@@ -7,7 +7,7 @@ ghost use Rattle.db_core.specs.Seen.{packages_of};
 ghost use Rattle.package_changes.specs.Changes.{change_between, changes_of};
 ghost use Rattle.package_changes.specs.Placed.{candidates_at, placed_change_with, placed_changes_of, replacement_of};
 ghost use Rattle.package_changes.specs.Seen.{change_seen, changes_seen, placed_change_seen, replacement_by};
-ghost use Rattle.package_changes.specs.SelectedNames.{change_at};
+ghost use Rattle.package_changes.specs.SelectedNames.{placed_change_at};
 ghost use Rattle.pool_core.specs.Candidates.{Candidate as CandidateValue};
 ghost use Rattle.pool_core.specs.Rank.{candidate_at};
 ghost use Rattle.pool_core.specs.Values.{candidate_value};
@@ -169,7 +169,7 @@ fn changes_of_names<'a>(
     names: &[&'a [u8]],
 ) -> Result<Vec<PlacedChange<'a>>, AllocError>
     ensures { IfOk result (λ list. map placed_change_seen list.items
-        ≡ filter_map (change_at (packages_of db.now) pool.now again.now selected.now)
+        ≡ filter_map (placed_change_at (packages_of db.now) pool.now again.now selected.now)
         (map (λ n. n.now) names.now)) }
 {
     let mut list = Vec::new(alloc);

@@ -9,7 +9,7 @@ use Rattle.path_claims.specs.Seen.{claim_seen}
 use Rattle.path_claims.specs.declared.claim.Claim.{Claim}
 use Rattle.path_claims.proofs.Whole.{is_sorted}
 use Rattle.own_core.specs.ClaimEntries.{AreClaimsOf, is_of_coming_owner, members_before}
-use Rattle.own_core.specs.Sides.{HasClaims, change_of}
+use Rattle.own_core.specs.Sides.{HasClaims, file_change_of}
 use Rattle.own_core.specs.declared.change.Change.{Change}
 use Rattle.own_core.specs.declared.fault.PlanFault.TheVariants.{Disk}
 use Rattle.own_core.proofs.Listings.{are_claims}
@@ -173,7 +173,7 @@ returns-clause-plan g c =
     let firsts : HasFirsts (filter (is_of_coming_owner (members_of c.args.after.now)) (map claim_seen c.deref-4.result.now)) (map claim_seen c.deref-7.result.now) =
     firsts_over (members_of c.args.after.now) c.deref-4.result.now c.deref-5.result.now c.in_ok-coming.coming.items c.deref-7.result.now (c.deref-5.ensures.value ∙ sym c.deref-4.ensures.value) c.deref-7.ensures.value c.in_ok-coming.ensures in
     plan_is change claims (map claim_seen c.deref-7.result.now) firsts c.in_ok-parts.parts _ c.in_ok-parts.ensures.parts c.in_ok-found.found.owned.items c.in_ok-plan.plan c.in_ok-plan.ensures
-    (no_clash_told (change_of change) _ _ c.in_ok-parts.ensures.tree.same c.in_ok-clash.clash c.in_default-clash.is c.in_ok-clash.ensures.clash)
+    (no_clash_told (file_change_of change) _ _ c.in_ok-parts.ensures.tree.same c.in_ok-clash.clash c.in_default-clash.is c.in_ok-clash.ensures.clash)
 
 pub returns-clause-tree : goal.returns-clause-tree
 returns-clause-tree g c =

@@ -3,7 +3,7 @@ use Rattle.std.specs.List.{filter_map}
 use Rattle.db_core.specs.Seen.{packages_of}
 use Rattle.package_changes.specs.Placed.{PlacedChange, placed_changes_of}
 use Rattle.package_changes.specs.Seen.{replacement_by}
-use Rattle.package_changes.specs.SelectedNames.{change_at}
+use Rattle.package_changes.specs.SelectedNames.{placed_change_at}
 use Rattle.package_changes.proofs.PlacedLaws.{by_table, changes_alone}
 use Rattle.package_changes.proofs.changes.Changes.of.Goals as goal
 
@@ -12,7 +12,7 @@ unfolding placed_changes_of
 places c =
     let p = replacement_by c.args.db.now c.args.pool.now c.args.trace.now c.args.again.now in
     c.in_ok-list.ensures
-    ∙ (ap (filter_map (change_at (packages_of c.args.db.now) c.args.pool.now c.args.again.now c.in_ok-selected.selected)) (ap (map (λ (n : Bor (List ℕ)). n.now)) c.deref.ensures.value ∙ c.in_ok-names.ensures)
+    ∙ (ap (filter_map (placed_change_at (packages_of c.args.db.now) c.args.pool.now c.args.again.now c.in_ok-selected.selected)) (ap (map (λ (n : Bor (List ℕ)). n.now)) c.deref.ensures.value ∙ c.in_ok-names.ensures)
     ∙ by_table p c.in_ok-selected.selected c.in_ok-selected.ensures _)
 
 pub returns-clause-places : goal.returns-clause-places
