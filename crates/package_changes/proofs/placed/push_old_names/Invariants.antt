@@ -2,7 +2,7 @@
 use Rattle.std.proofs.Common.{◌≡◌, ◌++◌, map, drop}
 use Rattle.adb_fields.specs.Repeated.{package_name}
 use Rattle.db_core.specs.Seen.{packages_of}
-use Rattle.package_changes.proofs.changes.push_old_names.Given as goal
+use Rattle.package_changes.proofs.placed.push_old_names.Given as goal
 
 abbrev pub invariant-loop-i : goal.invariant-loop-i
 invariant-loop-i l =

@@ -1,7 +1,7 @@
 use Rattle.std.proofs.Common.{◌∙◌, arith, sym}
 use Rattle.std.specs.Prelude.{bytes_eq}
 use Rattle.package_changes.proofs.Lists.{any_here, any_later, any_none}
-use Rattle.package_changes.proofs.changes.is_word.Goals as goal
+use Rattle.package_changes.proofs.placed.is_word.Goals as goal
 
 pub returns-then-eq : goal.returns-then-eq
 returns-then-eq c =

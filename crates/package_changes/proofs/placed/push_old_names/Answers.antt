@@ -4,7 +4,7 @@ use Rattle.adb_view.specs.Plain.{Plain}
 use Rattle.adb_fields.specs.Repeated.{package_name}
 use Rattle.db_core.specs.Seen.{packages_of}
 use Rattle.package_changes.proofs.Lists.{all_told, left_at, none_left, pushed}
-use Rattle.package_changes.proofs.changes.push_old_names.Goals as goal
+use Rattle.package_changes.proofs.placed.push_old_names.Goals as goal
 
 -- the name of the package at a place stands in front of the names of those behind it
 name_here : (pkgs : List Plain) (i : ℕ) (name : List ℕ) (o : Option Plain) → slice_get pkgs i ≡ o → option_map package_name o ≡ Some name → map package_name (drop i pkgs) ≡ name ∷ map package_name (drop (i + 1) pkgs)

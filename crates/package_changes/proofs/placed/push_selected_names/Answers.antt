@@ -4,7 +4,7 @@ use Rattle.pool_core.specs.Candidates.{Candidate}
 use Rattle.pool_core.specs.Rank.{candidate_at}
 use Rattle.package_changes.specs.Placed.{candidates_at}
 use Rattle.package_changes.proofs.Lists.{all_told, left_at, option_mapped, told}
-use Rattle.package_changes.proofs.changes.push_selected_names.Goals as goal
+use Rattle.package_changes.proofs.placed.push_selected_names.Goals as goal
 
 pub loop-i-preserved : goal.loop-i-preserved
 loop-i-preserved c =

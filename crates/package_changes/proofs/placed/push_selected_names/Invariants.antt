@@ -2,7 +2,7 @@
 use Rattle.std.proofs.Common.{◌≡◌, ◌++◌, map, drop}
 use Rattle.pool_core.specs.Candidates.{Candidate}
 use Rattle.package_changes.specs.Placed.{candidates_at}
-use Rattle.package_changes.proofs.changes.push_selected_names.Given as goal
+use Rattle.package_changes.proofs.placed.push_selected_names.Given as goal
 
 abbrev pub invariant-loop-i : goal.invariant-loop-i
 invariant-loop-i l =
