@@ -66,7 +66,7 @@ within_files v names within q is = within q (by_number (v.names q) is)
   where
     by_number : (n : Option ℕ) → IsSome (bytes_at v.files n) → IsSome n
     by_number None is = is
-    by_number (Some n) is = tt
+    by_number (Some n) is = refl
 
 pub seen_any : HaveClash → (command : CommandLine) (selected : Result Selected Refusal) (old : List TreeState) → All IsWhole old → Seen command selected old
 seen_any have command selected [] whole = record {

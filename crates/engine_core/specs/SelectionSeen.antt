@@ -1,6 +1,8 @@
 -- What a selection of the program stands for.
+use Rattle.std.specs.Prelude.{◌≡◌}
 use Rattle.change_inputs.specs.Inputs.{Inputs}
 use Rattle.change_inputs.specs.Seen.{inputs_seen}
+use Rattle.db_core.specs.Seen.{packages_of}
 use Rattle.package_changes.specs.Changes.{Replacement}
 use Rattle.engine_core.specs.Changed.{Selected}
 use Rattle.engine_core.specs.Selecting.{replacement_of_choice}
@@ -15,3 +17,7 @@ replacement_seen s = replacement_of_choice (inputs_of_selection s) s.pool.now s.
 abbrev pub selection_seen : Selection → Selected
 selection_seen s =
     record { inputs = inputs_of_selection s; replacement = replacement_seen s }
+
+-- its database is that of the inputs
+abbrev pub HasItsDatabase : Selection → Type 0
+HasItsDatabase s = packages_of s.db.now ≡ (inputs_of_selection s).root.database.packages

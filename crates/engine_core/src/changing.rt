@@ -3,17 +3,17 @@ ghost use Rattle.change_inputs.specs.Seen.{inputs_seen};
 ghost use Rattle.engine_core.specs.ChangeRun.{IsChangeRun};
 ghost use Rattle.engine_core.specs.Runs.{IsRunBy, IsRunCounted, IsSelectedRun};
 ghost use Rattle.engine_core.specs.Selecting.{pool_by};
-ghost use Rattle.engine_core.specs.SelectionSeen.{selection_seen};
+ghost use Rattle.engine_core.specs.SelectionSeen.{HasItsDatabase, selection_seen};
 ghost use Rattle.std.specs.Prelude.{◌≡◌, Ok};
 
 use crate::choosing::choose;
-use crate::laws::a_choice_exists;
+use crate::laws::{a_choice_exists, a_first_clash_exists};
 use crate::making::make_change;
-use crate::selection::{Selection, simulate};
+use crate::selection::Selection;
+use crate::simulating::simulate;
 use crate::wishes::unknown_operand;
 use base_core::Tree;
 use change_inputs::{Loaded, Refused, inputs_rest_on_their_own_reads};
-use change_laws::a_first_clash_exists;
 use command_core::Command;
 use pool_core::{Sealed, Upgrade};
 use report_core::{Refusal, Report};
@@ -97,6 +97,7 @@ fn change_selected<T: Tree>(
     selection: &Selection<'_, '_>,
     tree: &mut T,
 ) -> Result<Report, Refused>
+    requires { HasItsDatabase selection.now }
     ensures run { IsSelectedRun command.now (Ok (selection_seen selection.now))
         (T.history tree.old) (T.history tree.new) (T.counts tree.old) (T.counts tree.new) result }
     ensures counts { IsRunCounted (T.counts tree.old) (T.counts tree.new) result }
