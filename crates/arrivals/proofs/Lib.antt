@@ -1,2 +1,5 @@
 mod Prefixes
 mod ToldRefusals
+mod NameAnswers
+mod PackageAnswers
+mod NameSteps

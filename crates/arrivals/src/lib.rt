@@ -7,7 +7,10 @@
 //! that a package that was read is the one that the definition finds.
 #![tactic(auto)]
 
+mod arrivals;
+mod package;
 mod path;
 mod same;
 mod scripts;
+mod standin;
 mod told;

@@ -1,0 +1,95 @@
+//! The packages after a change, as they are read.
+ghost use Rattle.arrivals.specs.Arrivals.{IsMemberRead};
+ghost use Rattle.arrivals.specs.NameReads.{IsAnswerByRead, IsNameRead, IsStaying, name_read};
+ghost use Rattle.base_core.specs.Read.{OnlyReads};
+ghost use Rattle.change_inputs.specs.Answers.{Agrees};
+ghost use Rattle.change_outcome.specs.MembersAfter.{name_that_goes, staying_found};
+ghost use Rattle.db_core.specs.Seen.{packages_of};
+ghost use Rattle.package_changes.specs.Placed.{old_package};
+ghost use Rattle.package_changes.specs.Seen.{change_seen, placed_name_seen};
+ghost use Rattle.std.specs.Prelude.{◌≡◌, ℕ, List, Option, Some, None, true, IfOk, option_and_then, option_map, slice_get};
+
+use crate::package::read_coming;
+use crate::scripts::test_scripts;
+use crate::standin::TestedPackage;
+use adb_schema::PackageView;
+use base_core::{Tree, readings_in_a_row_join};
+use change_inputs::Refused;
+use db_core::Db;
+use dep_core::Repos;
+use package_changes::{Change, PlacedName};
+use pool_core::Sealed;
+use std::alloc::{AllocError, Global};
+use std::marker::PhantomData;
+
+/// A package after the change.
+#[derive(Drop)]
+pub(crate) enum MemberRead {
+    /// It stays: its place in the database, counted from 0.
+    Stays(usize),
+    /// It comes.
+    Comes(TestedPackage),
+}
+
+/// Reads what a name comes to: a package after the change, or none.
+fn read_name<T: Tree>(
+    alloc: Global,
+    tree: &mut T,
+    db: &Db<'_>,
+    pool: &Sealed<'_>,
+    name: &PlacedName<'_>,
+    repositories: &Repos,
+    no_scripts: bool,
+) -> Result<Option<MemberRead>, Refused>
+    ensures found { IsAnswerByRead (IsNameRead (T.history tree.old) (packages_of db.now))
+        (T.history tree.old) (name_read (packages_of db.now) pool.now repositories.now no_scripts
+        (placed_name_seen name.now)) result }
+    ensures tree { OnlyReads Refused.Disk (T.history tree.old) (T.history tree.new)
+        (T.counts tree.old) (T.counts tree.new) result }
+{
+    readings_in_a_row_join::<TestedPackage, Option<MemberRead>, Refused>();
+    let Some(change) = name.change else {
+        return Ok(staying(db, name.old));
+    };
+    match name.candidate(pool) {
+        None => {
+            test_leaving(alloc, no_scripts, db, name, &change)?;
+            Ok(None)
+        }
+        Some(c) => {
+            let pkg =
+                read_coming(alloc, tree, repositories, no_scripts, name.name, &change, &c)?;
+            Ok(Some(MemberRead::Comes(pkg)))
+        }
+    }
+}
+
+/// The package at a place of the database, which stays, if there is one.
+fn staying(db: &Db<'_>, place: Option<usize>) -> Option<MemberRead>
+    ensures { IsStaying (packages_of db.now) (option_and_then (slice_get (packages_of db.now)) place) result }
+{
+    match place {
+        Some(i) if i < db.len() => Some(MemberRead::Stays(i)),
+        _ => None,
+    }
+}
+
+/// Refuses a package of the database that goes, and has a script which would run.
+fn test_leaving(
+    alloc: Global,
+    no_scripts: bool,
+    db: &Db<'_>,
+    name: &PlacedName<'_>,
+    change: &Change<'_>,
+) -> Result<(), Refused>
+    ensures { Agrees (λ _. None) result (name_that_goes no_scripts (placed_name_seen name.now).name
+        (change_seen change.now) (old_package (packages_of db.now) (placed_name_seen name.now))) }
+{
+    match name.old {
+        Some(i) if i < db.len() => {
+            let pkg = db.package(i);
+            test_scripts(alloc, no_scripts, name.name, change, &pkg, PhantomData)
+        }
+        _ => Ok(()),
+    }
+}
