@@ -3,3 +3,5 @@ mod ToldRefusals
 mod NameAnswers
 mod PackageAnswers
 mod NameSteps
+pub mod ArrivalSteps
+pub mod MembersFound

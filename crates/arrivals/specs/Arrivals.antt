@@ -9,6 +9,7 @@ use Rattle.change_outcome.specs.PackageFiles.{ComingPackage, package_in_file}
 use Rattle.db_core.specs.Members.{Member, coming_member, staying_member}
 use Rattle.arrivals.specs.StandIn.{IsTestedOf, tested_id, tested_name, tested_value}
 use Rattle.arrivals.specs.declared.standin.TestedPackage.{TestedPackage}
+use Rattle.arrivals.specs.declared.arrivals.Arrivals.{Arrivals}
 use Rattle.arrivals.specs.declared.arrivals.MemberRead.{MemberRead}
 use Rattle.arrivals.specs.declared.arrivals.MemberRead.TheVariants.{Comes, Stays}
 
@@ -36,6 +37,9 @@ AreMembersRead history before [] (m ∷ found) = ⊥
 AreMembersRead history before (r ∷ reads) [] = ⊥
 AreMembersRead history before (r ∷ reads) (m ∷ found) =
     IsMemberRead history before r m × AreMembersRead history before reads found
+
+abbrev pub reads_in : Arrivals → List MemberRead
+reads_in arrivals = arrivals.members.items
 
 -- ---- without their files
 

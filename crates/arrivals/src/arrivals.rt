@@ -1,13 +1,15 @@
 //! The packages after a change, as they are read.
-ghost use Rattle.arrivals.specs.Arrivals.{IsMemberRead};
+ghost use Rattle.arrivals.specs.Answered.{StandsUnlessDisk};
+ghost use Rattle.arrivals.specs.Arrivals.{AreMembersRead, reads_in};
 ghost use Rattle.arrivals.specs.NameReads.{IsAnswerByRead, IsNameRead, IsStaying, name_read};
 ghost use Rattle.base_core.specs.Read.{OnlyReads};
 ghost use Rattle.change_inputs.specs.Answers.{Agrees};
-ghost use Rattle.change_outcome.specs.MembersAfter.{name_that_goes, staying_found};
+ghost use Rattle.change_outcome.specs.MembersAfter.{members_after, name_that_goes};
 ghost use Rattle.db_core.specs.Seen.{packages_of};
-ghost use Rattle.package_changes.specs.Placed.{old_package};
-ghost use Rattle.package_changes.specs.Seen.{change_seen, placed_name_seen};
-ghost use Rattle.std.specs.Prelude.{◌≡◌, ℕ, List, Option, Some, None, true, IfOk, option_and_then, option_map, slice_get};
+ghost use Rattle.make_package.specs.Runs.{Explains};
+ghost use Rattle.package_changes.specs.Placed.{old_package, placed_names_of, replacement_of};
+ghost use Rattle.package_changes.specs.Seen.{change_seen, placed_name_seen, placed_names_seen, replacement_by};
+ghost use Rattle.std.specs.Prelude.{◌≡◌, ◌++◌, ℕ, List, None, OnOk, option_and_then, option_to_list, slice_get};
 
 use crate::package::read_coming;
 use crate::scripts::test_scripts;
@@ -17,7 +19,7 @@ use base_core::{Tree, readings_in_a_row_join};
 use change_inputs::Refused;
 use db_core::Db;
 use dep_core::Repos;
-use package_changes::{Change, PlacedName};
+use package_changes::{Change, PlacedName, PlacedNames, places_lead_to_packages_and_candidates};
 use pool_core::Sealed;
 use std::alloc::{AllocError, Global};
 use std::marker::PhantomData;
@@ -29,6 +31,66 @@ pub(crate) enum MemberRead {
     Stays(usize),
     /// It comes.
     Comes(TestedPackage),
+}
+
+/// The packages after a change as they were read, in byte order of names. Contracts see, by
+/// `Arrivals` of `specs/`, the place in the database of each that stays, and each that comes.
+#[derive(Drop)]
+pub struct Arrivals {
+    pub(crate) members: Vec<MemberRead>,
+}
+
+/// Reads the packages that come where the candidates of a selection take the place of the packages
+/// of a database, as `names` says. Each file is read and tested once, in byte order of names. The
+/// tree stays as it is, whatever the answer.
+///
+/// # Errors
+///
+/// For the first package that is refused: `PackageMissing`, `PackageBad`, `PackageDiffers` or
+/// `ScriptNeeded`. `Disk` where the tree failed, or `Memory`.
+pub fn read_arrivals<T: Tree>(
+    alloc: Global,
+    tree: &mut T,
+    db: &Db<'_>,
+    pool: &Sealed<'_>,
+    names: &PlacedNames<'_>,
+    repositories: &Repos,
+    no_scripts: bool,
+) -> Result<Arrivals, Refused>
+    // Of each selection, and names to be installed again, that these names are of.
+    ensures found { (trace : List ℕ) (again : List (List ℕ))
+        → placed_names_seen names.now
+        ≡ placed_names_of (replacement_by db.now pool.now trace again)
+        → Explains (T.history tree.old) (λ read. StandsUnlessDisk (λ arrivals found.
+        AreMembersRead (T.history tree.old) (packages_of db.now) (reads_in arrivals) found) result
+        (members_after (replacement_of (replacement_by db.now pool.now trace again)) read
+        repositories.now no_scripts)) }
+    ensures tree { OnlyReads Refused.Disk (T.history tree.old) (T.history tree.new)
+        (T.counts tree.old) (T.counts tree.new) result }
+{
+    places_lead_to_packages_and_candidates();
+    readings_in_a_row_join::<u8, Option<MemberRead>, Refused>();
+    readings_in_a_row_join::<u8, Arrivals, Refused>();
+    let mut members = Vec::new(alloc);
+    for i in 0..names.len() {
+        let name = names.get(i);
+        let member = read_name(alloc, tree, db, pool, name, repositories, no_scripts)?;
+        push_member(&mut members, member)?;
+    }
+    Ok(Arrivals { members })
+}
+
+/// Adds a package, if there is one.
+fn push_member(members: &mut Vec<MemberRead>, member: Option<MemberRead>) -> Result<(), AllocError>
+    ensures { OnOk result (members.new.items ≡ members.old.items ++ option_to_list member) }
+{
+    match member {
+        None => Ok(()),
+        Some(member) => {
+            members.push(member)?;
+            Ok(())
+        }
+    }
 }
 
 /// Reads what a name comes to: a package after the change, or none.
