@@ -5,3 +5,5 @@ mod PackageAnswers
 mod NameSteps
 pub mod ArrivalSteps
 pub mod MembersFound
+pub mod MembersInOrder
+pub mod ReadMembers

@@ -11,6 +11,7 @@ use Rattle.change_inputs.specs.declared.refused.Refused.{Refused}
 use Rattle.change_inputs.specs.declared.refused.Refused.TheVariants.{Disk, Memory, Refusal}
 use Rattle.change_outcome.specs.MembersAfter.{MemberFound, members_after, name_after, name_by_change, names_after}
 use Rattle.db_core.specs.Packages.{is_package_named}
+use Rattle.db_core.specs.declared.members.TheConstants.{MOST_MEMBERS}
 use Rattle.dep_core.specs.Repositories.{Repository}
 use Rattle.make_info.specs.Reads.{Reads}
 use Rattle.make_package.specs.Runs.{Explains}
@@ -19,10 +20,11 @@ use Rattle.package_changes.specs.Placed.{PlacedName, PlacedReplacement, candidat
 use Rattle.pool_core.specs.Rank.{SealedPool}
 use Rattle.report_core.specs.declared.refusal.Refusal as Refusals
 use Rattle.arrivals.specs.Answered.{StandsUnlessDisk}
-use Rattle.arrivals.specs.Arrivals.{AreMembersRead}
+use Rattle.arrivals.specs.Arrivals.{AreMembersRead, CanBeMembers}
 use Rattle.arrivals.specs.NameReads.{IsAnswerByRead, IsNameRead, name_read}
 use Rattle.arrivals.specs.declared.arrivals.MemberRead.{MemberRead}
 use Rattle.arrivals.proofs.ArrivalSteps.{IsReadTo, names_read, read_all, read_refused, reads_are, reads_by}
+use Rattle.arrivals.proofs.ReadMembers.{can_be}
 
 -- where the places of a name lead
 pub record PlacesLead : Type 0 where
@@ -99,6 +101,13 @@ module _ (law : PlacesLead) (p : PlacedReplacement) (repositories : List Reposit
             subst (λ z. AreMembersRead h p.before z all.1) (sym has) all.3,
           );
         }
+
+-- the packages that were read can be members
+pub can_be_members : PlacesLead → (p : PlacedReplacement) (repositories : List Repository) (no_scripts : Bool) (h : List TreeState) (names : List PlacedName) → names ≡ placed_names_of p → (i : ℕ) (reads : List MemberRead) → length names ≤ i
+    → IsReadTo p.before p.pool repositories no_scripts h (first_index_read + length repositories) names i reads → length p.pool.candidates ≤ MOST_MEMBERS → CanBeMembers p.before reads
+can_be_members law p repositories no_scripts h names are i reads past so_far few =
+    let all = read_all p.before p.pool repositories no_scripts h (first_index_read + length repositories) names i reads past so_far in
+    can_be h p (reads_by h all.0) repositories no_scripts reads all.1 (members_are law p repositories no_scripts (reads_by h all.0) names are ∙ all.2) all.3 few
 
 -- what is answered of a tree that is as it was
 pub answer_as_before : (now old : List TreeState) (before : List Plain) (by : Reads → ℕ → Result (Option MemberFound) Refusals.Refusal) (r : Result (Option MemberRead) Refused) → now ≡ old → IsAnswerByRead (IsNameRead now before) now by r → IsAnswerByRead (IsNameRead old before) old by r

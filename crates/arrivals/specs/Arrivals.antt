@@ -1,12 +1,15 @@
 -- The packages after a change as they were read, and that each is the one that the definition finds.
-use Rattle.std.specs.Prelude.{◌≡◌, ℕ, List, [], ◌∷◌, Option, Some, None, option_map, slice_get}
+use Rattle.std.specs.Prelude.{◌≡◌, ◌<◌, ◌≤◌, ℕ, List, [], ◌∷◌, length, Option, Some, None, option_map, slice_get}
 use Rattle.std.specs.List.{filter_map}
 use Rattle.adb_view.specs.Plain.{Plain}
 use Rattle.base_core.specs.Tree.{TreeState}
 use Rattle.change_inputs.specs.Answers.{StandsAt}
-use Rattle.change_outcome.specs.MembersAfter.{MemberFound, coming_found, staying_found}
+use Rattle.change_outcome.specs.MembersAfter.{MemberFound, coming_found, contents_found, staying_found}
 use Rattle.change_outcome.specs.PackageFiles.{ComingPackage, package_in_file}
-use Rattle.db_core.specs.Members.{Member, coming_member, staying_member}
+use Rattle.db_core.specs.Members.{AreInOrder, Member, coming_member, staying_member}
+use Rattle.db_core.specs.declared.members.TheConstants.{MOST_MEMBERS}
+use Rattle.pkg_core.specs.Contents.{contents_in}
+use Rattle.pkg_core.specs.Whole.{files_in_file}
 use Rattle.arrivals.specs.StandIn.{IsTestedOf, tested_id, tested_name, tested_value}
 use Rattle.arrivals.specs.declared.standin.TestedPackage.{TestedPackage}
 use Rattle.arrivals.specs.declared.arrivals.Arrivals.{Arrivals}
@@ -50,3 +53,32 @@ member_read before (Comes pkg) = Some (coming_member (tested_value pkg) (tested_
 -- in their order
 abbrev pub members_read : List Plain → List MemberRead → List Member
 members_read before reads = filter_map (member_read before) reads
+
+-- ---- as members
+
+abbrev pub IsPlaced : List Plain → MemberRead → Type 0
+IsPlaced before (Stays place) = place < length before
+IsPlaced before (Comes pkg) = Unit {0}
+
+abbrev pub ArePlaced : List Plain → List MemberRead → Type 0
+ArePlaced before [] = Unit {0}
+ArePlaced before (r ∷ reads) = IsPlaced before r × ArePlaced before reads
+
+-- each that stays has a place in the database, they stand in byte order of names, and are few enough
+pub record CanBeMembers (before : List Plain) (reads : List MemberRead) : Type 0 where
+  pub placed : ArePlaced before reads
+  pub in_order : AreInOrder (members_read before reads)
+  pub few : length reads ≤ MOST_MEMBERS
+
+-- the package that comes, if it is one
+abbrev pub package_in : MemberRead → Option TestedPackage
+package_in (Stays place) = None
+package_in (Comes pkg) = Some pkg
+
+-- a package that comes, and the file that was found for the member at a place
+pub record IsFileFound (history : List TreeState) (found : List MemberFound) (place : ℕ)
+    (pkg : TestedPackage) : Type 0 where
+  pub file : List ℕ
+  pub stands : StandsAt history (tested_name pkg) (Some file)
+  pub tested : IsTestedOf (tested_name pkg) file pkg
+  pub contents : contents_found found place ≡ contents_in (files_in_file file)

@@ -1,15 +1,16 @@
 //! The packages after a change, as they are read.
 ghost use Rattle.arrivals.specs.Answered.{StandsUnlessDisk};
-ghost use Rattle.arrivals.specs.Arrivals.{AreMembersRead, reads_in};
+ghost use Rattle.arrivals.specs.Arrivals.{AreMembersRead, CanBeMembers, reads_in};
 ghost use Rattle.arrivals.specs.NameReads.{IsAnswerByRead, IsNameRead, IsStaying, name_read};
 ghost use Rattle.base_core.specs.Read.{OnlyReads};
 ghost use Rattle.change_inputs.specs.Answers.{Agrees};
 ghost use Rattle.change_outcome.specs.MembersAfter.{members_after, name_that_goes};
 ghost use Rattle.db_core.specs.Seen.{packages_of};
+ghost use Rattle.db_core.specs.declared.members.TheConstants.{MOST_MEMBERS};
 ghost use Rattle.make_package.specs.Runs.{Explains};
 ghost use Rattle.package_changes.specs.Placed.{old_package, placed_names_of, replacement_of};
 ghost use Rattle.package_changes.specs.Seen.{change_seen, placed_name_seen, placed_names_seen, replacement_by};
-ghost use Rattle.std.specs.Prelude.{◌≡◌, ◌++◌, ℕ, List, None, OnOk, option_and_then, option_to_list, slice_get};
+ghost use Rattle.std.specs.Prelude.{◌≡◌, ◌≤◌, ◌++◌, ℕ, List, None, length, IfOk, OnOk, option_and_then, option_to_list, slice_get};
 
 use crate::package::read_coming;
 use crate::scripts::test_scripts;
@@ -65,6 +66,11 @@ pub fn read_arrivals<T: Tree>(
         AreMembersRead (T.history tree.old) (packages_of db.now) (reads_in arrivals) found) result
         (members_after (replacement_of (replacement_by db.now pool.now trace again)) read
         repositories.now no_scripts)) }
+    ensures members { (trace : List ℕ) (again : List (List ℕ))
+        → placed_names_seen names.now
+        ≡ placed_names_of (replacement_by db.now pool.now trace again)
+        → length pool.now.candidates ≤ MOST_MEMBERS
+        → IfOk result (λ arrivals. CanBeMembers (packages_of db.now) (reads_in arrivals)) }
     ensures tree { OnlyReads Refused.Disk (T.history tree.old) (T.history tree.new)
         (T.counts tree.old) (T.counts tree.new) result }
 {

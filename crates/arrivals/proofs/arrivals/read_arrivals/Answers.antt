@@ -6,7 +6,7 @@ use Rattle.arrivals.specs.Arrivals.{reads_in}
 use Rattle.arrivals.specs.NameReads.{name_read}
 use Rattle.arrivals.specs.declared.arrivals.Arrivals.{Arrivals}
 use Rattle.arrivals.proofs.ArrivalSteps.{read_more, read_none}
-use Rattle.arrivals.proofs.MembersFound.{PlacesLead, answer_as_before, explained_all, explained_failure, explained_refusal}
+use Rattle.arrivals.proofs.MembersFound.{PlacesLead, answer_as_before, can_be_members, explained_all, explained_failure, explained_refusal}
 use Rattle.arrivals.proofs.NameAnswers.{no_memory}
 use Rattle.arrivals.proofs.arrivals.read_arrivals.Goals as goal
 
@@ -62,3 +62,15 @@ returns-clause-found g c =
     λ trace again are.
         explained_all law (replacement_by c.args.db.now c.args.pool.now trace again) c.args.repositories.now c.args.no_scripts reads_in (g.T.Tree.history c.args.tree.now) (placed_names_seen c.args.names.now) are c.loop-i.i arrivals c.loop-i.members.items refl
         (omega (arith, c.len-i-end.ensures, c.loop-i-test.false)) c.loop-i.invariant.so_far
+
+pub returns-clause-members : goal.returns-clause-members
+returns-clause-members g c =
+    let law : PlacesLead = record {
+      name = c.places_lead_to_packages_and_candidates.ensures.name;
+      change = c.places_lead_to_packages_and_candidates.ensures.change;
+      old = c.places_lead_to_packages_and_candidates.ensures.old;
+      new = c.places_lead_to_packages_and_candidates.ensures.new;
+    } in
+    λ trace again are few.
+        can_be_members law (replacement_by c.args.db.now c.args.pool.now trace again) c.args.repositories.now c.args.no_scripts (g.T.Tree.history c.args.tree.now) (placed_names_seen c.args.names.now) are c.loop-i.i c.loop-i.members.items
+        (omega (arith, c.len-i-end.ensures, c.loop-i-test.false)) c.loop-i.invariant.so_far few
