@@ -7,3 +7,4 @@ pub mod ArrivalSteps
 pub mod MembersFound
 pub mod MembersInOrder
 pub mod ReadMembers
+pub mod LaterReads

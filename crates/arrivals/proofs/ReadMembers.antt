@@ -1,17 +1,17 @@
 -- Packages that were read, as members.
-use Rattle.std.proofs.Common.{◌≡◌, ℕ, zero, suc, ◌<◌, ◌≤◌, Bool, List, [], ◌∷◌, map, length, Option, Some, None, Result, Ok, refl, sym, ap, ◌∙◌, subst, arith}
-use Rattle.std.specs.Prelude.{option_map}
+use Rattle.std.proofs.Common.{◌≡◌, ℕ, zero, suc, ◌<◌, ◌≤◌, Bool, true, false, true≢false, List, [], ◌∷◌, map, length, Option, Some, None, Result, Ok, refl, sym, ap, ◌∙◌, subst, arith}
+use Rattle.std.specs.Prelude.{is_some, option_and_then, option_map}
 use Rattle.std.specs.List.{cons_option, slice_get}
 use Rattle.adb_view.specs.Plain.{Plain}
 use Rattle.base_core.specs.Tree.{TreeState}
 use Rattle.change_outcome.specs.MembersAfter.{MemberFound, coming_found, contents_found, members_after, members_found, staying_found}
 use Rattle.change_outcome.specs.PackageFiles.{ComingPackage}
-use Rattle.db_core.specs.Members.{AreInOrder, Member, coming_member, staying_member}
+use Rattle.db_core.specs.Members.{AreInOrder, Member, coming_member, is_coming, staying_member}
 use Rattle.db_core.specs.declared.members.TheConstants.{MOST_MEMBERS}
 use Rattle.dep_core.specs.Repositories.{Repository}
 use Rattle.make_info.specs.Reads.{Reads}
 use Rattle.package_changes.specs.Placed.{PlacedReplacement, replacement_of}
-use Rattle.arrivals.specs.Arrivals.{AreMembersRead, ArePlaced, CanBeMembers, IsFileFound, IsMemberRead, IsPackageRead, IsPlaced, member_read, members_read}
+use Rattle.arrivals.specs.Arrivals.{AreMembersRead, ArePlaced, CanBeMembers, IsFileFound, IsMemberRead, IsPackageRead, IsPlaced, member_read, members_read, package_in}
 use Rattle.arrivals.specs.StandIn.{tested_id, tested_value}
 use Rattle.arrivals.specs.declared.standin.TestedPackage.{TestedPackage}
 use Rattle.arrivals.specs.declared.arrivals.MemberRead.{MemberRead}
@@ -94,3 +94,29 @@ can_be h p read repositories no_scripts reads found is are few = record {
       let most = members_few p read repositories no_scripts found is in
       omega (arith, many, most, few));
 }
+
+-- ---- the package at a place
+
+comes_here : (o : Option MemberRead) (pkg : TestedPackage) → option_and_then package_in o ≡ Some pkg → o ≡ Some (Comes pkg)
+comes_here None pkg is = absurd (cc)
+comes_here (Some (Stays place)) pkg is = absurd (cc)
+comes_here (Some (Comes p)) pkg is = let same : p ≡ pkg = cc in ap (λ z. Some (Comes z)) same
+
+pub file_of_package : (h : List TreeState) (before : List Plain) (reads : List MemberRead) (found : List MemberFound) → AreMembersRead h before reads found → (place : ℕ) (pkg : TestedPackage) → option_and_then package_in (slice_get reads place) ≡ Some pkg → IsFileFound h found place pkg
+file_of_package h before reads found are place pkg here = file_found h before reads found are place pkg (comes_here (slice_get reads place) pkg here)
+
+no_stay : (o : Option Plain) (m : MemberFound) → Some m ≡ option_map staying_found o → is_coming m.member ≡ true → ⊥
+no_stay None m is comes = cc
+no_stay (Some pkg) m is comes =
+    let same : m ≡ staying_found pkg = cc in
+    let stays : is_coming m.member ≡ false = ap (λ (x : MemberFound). is_coming x.member) same in
+    true≢false (sym comes ∙ stays)
+
+pub package_comes : (h : List TreeState) (before : List Plain) (reads : List MemberRead) (found : List MemberFound) → AreMembersRead h before reads found → (place : ℕ) (m : Member) → slice_get (members_found found) place ≡ Some m → is_coming m ≡ true → is_some (option_and_then package_in (slice_get reads place)) ≡ true
+package_comes h before [] [] are place m here comes = absurd (cc)
+package_comes h before [] (x ∷ found) are place m here comes = absurd are
+package_comes h before (r ∷ reads) [] are place m here comes = absurd are
+package_comes h before (Stays i ∷ reads) (x ∷ found) are zero m here comes =
+    let same : x.member ≡ m = cc in absurd (no_stay (slice_get before i) x are.0 (ap is_coming same ∙ comes))
+package_comes h before (Comes pkg ∷ reads) (x ∷ found) are zero m here comes = refl
+package_comes h before (r ∷ reads) (x ∷ found) are (suc place) m here comes = package_comes h before reads found are.1 place m here comes

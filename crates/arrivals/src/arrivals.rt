@@ -10,7 +10,7 @@ ghost use Rattle.db_core.specs.declared.members.TheConstants.{MOST_MEMBERS};
 ghost use Rattle.make_package.specs.Runs.{Explains};
 ghost use Rattle.package_changes.specs.Placed.{old_package, placed_names_of, replacement_of};
 ghost use Rattle.package_changes.specs.Seen.{change_seen, placed_name_seen, placed_names_seen, replacement_by};
-ghost use Rattle.std.specs.Prelude.{◌≡◌, ◌≤◌, ◌++◌, ℕ, List, None, length, IfOk, OnOk, option_and_then, option_to_list, slice_get};
+ghost use Rattle.std.specs.Prelude.{◌≡◌, ◌≤◌, ◌==◌, ◌++◌, ℕ, List, None, length, IfOk, OnOk, option_copied, option_and_then, option_to_list, slice_get};
 
 use crate::package::read_coming;
 use crate::scripts::test_scripts;
@@ -39,6 +39,38 @@ pub(crate) enum MemberRead {
 #[derive(Drop)]
 pub struct Arrivals {
     pub(crate) members: Vec<MemberRead>,
+}
+
+impl Arrivals {
+    ghost use Rattle.arrivals.specs.Arrivals.{package_in};
+
+    /// How many packages there are after the change.
+    pub fn len(&self) -> usize
+        ensures { result ≡ length (reads_in self.now) }
+    {
+        self.members.len()
+    }
+
+    /// Whether there is none.
+    pub fn is_empty(&self) -> bool
+        ensures { result ≡ (length (reads_in self.now) == 0) }
+    {
+        self.members.is_empty()
+    }
+
+    /// The package of the member at a place, counted from 0, if it comes.
+    pub fn package(&self, place: usize) -> Option<&TestedPackage>
+        ensures { option_copied result
+            ≡ option_and_then package_in (slice_get (reads_in self.now) place) }
+    {
+        if place >= self.members.len() {
+            return None;
+        }
+        match &self.members[place] {
+            MemberRead::Stays(_) => None,
+            MemberRead::Comes(pkg) => Some(pkg),
+        }
+    }
 }
 
 /// Reads the packages that come where the candidates of a selection take the place of the packages

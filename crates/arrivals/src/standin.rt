@@ -34,3 +34,11 @@ pub fn read_package<T: Tree>(
 {
     Err(TreeFault::Memory)
 }
+
+impl TestedPackage {
+    pub fn name(&self) -> &Name
+        ensures { result.now ≡ self.now.name }
+    {
+        &self.name
+    }
+}
