@@ -8,3 +8,4 @@ pub mod MembersFound
 pub mod MembersInOrder
 pub mod ReadMembers
 pub mod LaterReads
+pub mod Behind

@@ -16,7 +16,7 @@ pub fn members_of_change<'a>(
     db: &Db<'a>,
     arrivals: &'a Arrivals,
 ) -> Result<Members<'a>, AllocError>
-    requires { CanBeMembers (packages_of db.now) (reads_in arrivals.entry.now) }
+    requires { CanBeMembers (packages_of db.now) (reads_in arrivals.now) }
     ensures { IfOk result (λ members. members_of members
         ≡ members_read (packages_of db.now) (reads_in arrivals.entry.now)) }
 {
@@ -33,9 +33,9 @@ fn push_read<'a>(
     db: &Db<'a>,
     read: &'a MemberRead,
 ) -> Result<(), AllocError>
-    requires behind { (m : Member) → member_read (packages_of db.now) read.entry.now ≡ Some m
+    requires behind { (m : Member) → member_read (packages_of db.now) read.now ≡ Some m
         → comes_behind (member_name m) (members_of members.old) ≡ true }
-    requires placed { IsPlaced (packages_of db.now) read.entry.now }
+    requires placed { IsPlaced (packages_of db.now) read.now }
     requires few { length (members_of members.old) < MOST_MEMBERS }
     ensures { OnOk result (members_of members.new ≡ members_of members.old
         ++ option_to_list (member_read (packages_of db.now) read.entry.now)) }
