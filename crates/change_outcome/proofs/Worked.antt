@@ -3,6 +3,7 @@ use Rattle.std.proofs.Common.{◌≡◌, refl, true, false, ℕ, List, [], ◌�
 use Rattle.adb_view.specs.Plain.{Plains, arr, blob, blob_value, more, none, null, obj}
 use Rattle.change_files.specs.PlanLists.{names_in_order}
 use Rattle.db_core.specs.Members.{Member, staying_member}
+use Rattle.change_outcome.specs.ConfigurationLines.{configuration_lines}
 use Rattle.change_outcome.specs.PackageFiles.{package_path}
 use Rattle.make_package.specs.Folders.{folder_of}
 use Rattle.change_outcome.specs.Triggers.{is_folder_matched, trigger_lines}
@@ -98,6 +99,13 @@ one_star_is_one_folder = refl
 folder_below : is_folder_matched (codes "usr/share/man/man1") (codes "/usr/share/man") ≡ false
 unfolding is_folder_matched
 folder_below = refl
+
+-- ---- the lines of configuration that the user changed
+
+by_path : configuration_lines (codes "etc/a" ∷ (codes "etc/c" ∷ [])) (codes "etc/b" ∷ [])
+    ≡ codes "etc/a.apk-new installed; etc/a was changed\netc/b kept; it was changed\netc/c.apk-new installed; etc/c was changed\n"
+unfolding configuration_lines
+by_path = refl
 
 -- ---- the lines of due triggers
 
