@@ -157,8 +157,15 @@ fn read_name<T: Tree>(
             Ok(None)
         }
         Some(c) => {
-            let pkg =
-                read_coming(alloc, tree, repositories, no_scripts, name.name, &change, &c)?;
+            let pkg = read_coming(
+                alloc,
+                tree,
+                repositories,
+                no_scripts,
+                name.name,
+                &change,
+                &c,
+            )?;
             Ok(Some(MemberRead::Comes(pkg)))
         }
     }

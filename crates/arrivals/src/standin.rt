@@ -5,6 +5,7 @@ ghost use Rattle.base_core.specs.Tree.{files_of};
 ghost use Rattle.base_core.specs.declared.tree.TreeFault.TheVariants.{Disk as DiskFault};
 ghost use Rattle.std.specs.Prelude.{◌≡◌, ℕ, List, Option, Some, length, IfOk};
 ghost use Rattle.arrivals.specs.StandIn.{IsReadOf};
+
 use base_core::{Cause, Name, Tree, TreeFault, readings_in_a_row_join};
 use std::alloc::Global;
 

@@ -106,9 +106,9 @@ pub record Actions : Type 0 where
 abbrev pub actions_of : Inputs → FileChange → Files → Records → Actions
 actions_of inputs change files records = record {
   removals = names_in_order (removals_of change files
-    ++ name_if_needed records.takes_text_over text_database_name);
+      ++ name_if_needed records.takes_text_over text_database_name);
   writes = names_in_order (map (λ w. w.name) (file_writes_of change files)
-    ++ written_records inputs records);
+      ++ written_records inputs records);
 }
 
 -- the bytes of a file, or none. What is staged for each write are those that the files afterwards
