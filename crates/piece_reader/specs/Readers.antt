@@ -164,7 +164,7 @@ IsFileOpened old pkg before (Err Disk) new = Unit {0}
 -- the file begins there, in front of as many bytes as were handed out
 pub record IsStartOf (old : PieceReader) (o : OpenFile) (start : ℕ) : Type 0 where
   pub stands : o.at ≡ start + handed_out old
-  pub same : IfSome old.opened (λ open. start ≡ start_of_file old)
+  pub same : IfSome old.opened (λ o. start ≡ start_of_file old)
 
 -- as AnswersNext, but for what comes after a failed test
 abbrev pub IsPieceRead : PieceReader → List ℕ → PiecesRead → List ℕ

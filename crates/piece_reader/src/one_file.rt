@@ -8,7 +8,7 @@ ghost use Rattle.piece_core.specs.Taking.{file_bytes_left};
 use crate::fault::PieceFault;
 use crate::open::OpenFile;
 use crate::piece::Piece;
-use base_core::{Name, Tree};
+use base_core::{Cause, Name, Tree};
 use piece_core::FileCheck;
 use pkg_core::Wanted;
 
@@ -20,7 +20,7 @@ pub struct FilePieces<'a> {
     pub(crate) name: &'a Name,
     pub(crate) len: u64,
     pub(crate) opened: Option<OpenFile<'a>>,
-    pub(crate) failed: Option<PieceFault>,
+    pub(crate) refused: Option<Cause>,
     ghost within: { open_end opened ≤ len },
     ghost more: { ForSome opened (λ o. 0 < file_bytes_left o.file) },
 }
@@ -31,8 +31,8 @@ impl<'a> FilePieces<'a> {
     ghost use Rattle.base_core.specs.Tree.{files_of};
     ghost use Rattle.pkg_core.specs.Contents.{hash_fault};
     ghost use Rattle.pkg_pieces.specs.Seen.{HasAt, ReadsFile};
-    ghost use Rattle.piece_reader.specs.FileReading.{AreTestedFrom, GivesBytes, HasFewerLeft, HaveCome, IsFileReading, bytes_left_of, len_around_file, package_of_file};
-    ghost use Rattle.piece_reader.specs.declared.fault.PieceFault.TheVariants.{Disk as DiskFault};
+    ghost use Rattle.piece_reader.specs.FileReading.{AreTestedFrom, GivesBytes, HasFewerLeft, HasRefusedFile, HaveCome, IsFileReading, bytes_left_of, len_around_file, package_of_file};
+    ghost use Rattle.piece_reader.specs.declared.fault.PieceFault.TheVariants.{Bad, Disk as DiskFault};
 
     /// A file that has no contents, of a package of this name and with so many bytes: no piece comes.
     pub fn none(name: &'a Name, len: u64) -> FilePieces<'a>
@@ -44,7 +44,7 @@ impl<'a> FilePieces<'a> {
             name,
             len,
             opened: None,
-            failed: None,
+            refused: None,
         }
     }
 
@@ -65,7 +65,7 @@ impl<'a> FilePieces<'a> {
             name,
             len,
             opened: Some(OpenFile { file, at }),
-            failed: None,
+            refused: None,
         }
     }
 
@@ -75,7 +75,8 @@ impl<'a> FilePieces<'a> {
     /// # Errors
     ///
     /// `Bad` with `HashDiffers`, before the last piece is handed out, where all bytes together do not
-    /// have the file's digest, or `Disk` where the tree failed; and the same again from then on.
+    /// have the file's digest, and again from then on; or `Disk` where the tree failed: then the
+    /// reader may only be dropped.
     pub fn next_piece<T: Tree>(
         &mut self,
         tree: &mut T,
@@ -84,37 +85,37 @@ impl<'a> FilePieces<'a> {
         // Where the tree shows the package.
         ensures piece { IfObservable (T.history tree.old) (λ v. (pkg left : List ℕ)
             → files_of v (package_of_file self.old) ≡ Some pkg → IsFileReading self.old pkg left
-            → GivesBytes self.new pkg left piece.new result) }
+            → GivesBytes (IsFileReading self.new pkg) left piece.new result) }
         // Of each package, also of one that was changed since.
         ensures tested { (so_far : List ℕ) → HaveCome self.old so_far → IfOk result (λ _.
             AreTestedFrom self.old.opened (so_far ++ piece.new) self.new.opened) }
         ensures left { IfOk result (HasFewerLeft self.old (length piece.new) self.new) }
-        ensures failed { IfErr result (λ fault. self.new.failed ≡ Some fault) }
-        ensures again { IfSome self.old.failed (λ fault. result ≡ Err fault) }
+        ensures refused { IfErr result (λ fault. HasRefusedFile fault self.new) }
+        ensures again { IfSome self.old.refused (λ cause. result ≡ Err (Bad cause)) }
         ensures name { package_of_file self.new ≡ package_of_file self.old }
         ensures len { len_around_file self.new ≡ len_around_file self.old }
         ensures tree { ReadsFile (package_of_file self.old) (len_around_file self.old) DiskFault
             (T.history tree.old) (T.history tree.new) (T.counts tree.old) (T.counts tree.new)
             result }
     {
-        if let Some(fault) = self.failed {
-            return Err(fault);
+        if let Some(cause) = self.refused {
+            return Err(PieceFault::Bad(cause));
         }
         match self.read_next(tree, piece) {
-            Ok(came) => Ok(came),
-            Err(fault) => {
-                self.failed = Some(fault);
-                Err(fault)
+            Err(PieceFault::Bad(cause)) => {
+                self.refused = Some(cause);
+                Err(PieceFault::Bad(cause))
             }
+            other => other,
         }
     }
 
-    /// Reads the next piece, where no call failed.
+    /// Reads the next piece, where no test failed.
     fn read_next<T: Tree>(&mut self, tree: &mut T, piece: &mut Piece) -> Result<bool, PieceFault>
-        requires { self.old.failed ≡ None }
+        requires { self.old.refused ≡ None }
         ensures piece { IfObservable (T.history tree.old) (λ v. (pkg left : List ℕ)
             → files_of v (package_of_file self.old) ≡ Some pkg → IsFileReading self.old pkg left
-            → GivesBytes self.new pkg left piece.new result) }
+            → GivesBytes (IsFileReading self.new pkg) left piece.new result) }
         ensures tested { (so_far : List ℕ) → HaveCome self.old so_far → IfOk result (λ _.
             AreTestedFrom self.old.opened (so_far ++ piece.new) self.new.opened) }
         ensures left { IfOk result (HasFewerLeft self.old (length piece.new) self.new) }
@@ -124,6 +125,8 @@ impl<'a> FilePieces<'a> {
             (T.history tree.old) (T.history tree.new) (T.counts tree.old) (T.counts tree.new)
             result }
     {
+        // The file ends within the package.
+        let _len = self.len;
         let Some(file) = self.opened.take() else {
             return Ok(false);
         };
