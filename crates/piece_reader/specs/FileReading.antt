@@ -1,8 +1,7 @@
 -- A single file of a package that is read in pieces.
-use Rattle.std.specs.Prelude.{◌≡◌, ◌<◌, ℕ, ◌+◌, Bool, true, false, List, [], ◌++◌, length, Option, Some, None, Result, Ok, Err}
-use Rattle.pkg_core.specs.Contents.{hash_fault}
+use Rattle.std.specs.Prelude.{◌≡◌, ◌<◌, ℕ, ◌+◌, Bool, true, false, List, [], ◌++◌, Option, Some, None, Result, Ok, Err}
 use Rattle.piece_core.specs.Taking.{HasTaken, file_bytes_left}
-use Rattle.piece_reader.specs.Opened.{AreTestedSoFar, bytes_to_come}
+use Rattle.piece_reader.specs.Opened.{AreTestedSoFar, AreToCome}
 use Rattle.piece_reader.specs.declared.fault.PieceFault.{PieceFault}
 use Rattle.piece_reader.specs.declared.fault.PieceFault.TheVariants.{Bad, Disk}
 use Rattle.piece_reader.specs.declared.one_file.FilePieces.{FilePieces}
@@ -27,18 +26,6 @@ abbrev pub bytes_left_of : FilePieces → ℕ
 bytes_left_of file = bytes_left_in file.opened
 
 -- ---- which bytes of the package are still to come
-
--- those from the offset on; and with the ones that were handed out they have the file's digest
-pub record AreLeftOf (o : OpenFile) (pkg left : List ℕ) : Type 0 where
-  pub so_far : List ℕ
-  pub taken : HasTaken o.file so_far
-  pub long : length (so_far ++ left) ≡ o.file.wanted.size
-  pub come : left ≡ bytes_to_come o pkg
-  pub good : hash_fault o.file.wanted.hash.now (so_far ++ left) ≡ None
-
-abbrev pub AreToCome : Option OpenFile → List ℕ → List ℕ → Type 0
-AreToCome None pkg left = left ≡ []
-AreToCome (Some o) pkg left = AreLeftOf o pkg left
 
 -- no test failed, and of a package of these bytes those of the file that are left are still to come
 abbrev pub IsFileReading : FilePieces → List ℕ → List ℕ → Type 0

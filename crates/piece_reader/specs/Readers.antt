@@ -124,9 +124,9 @@ abbrev pub handed_out : PieceReader → ℕ
 handed_out reader = handed_out_from reader.start reader.opened
 
 -- the bytes of a piece stand in the package, behind those of its file that were handed out before
-abbrev pub StandsAt : PieceReader → List ℕ → List ℕ → Option Part → PieceReader → Type 0
-StandsAt old pkg bytes None new = Unit {0}
-StandsAt old pkg bytes (Some part) new = HasAt pkg (start_of_file new + handed_out old) bytes
+abbrev pub HasPieceAt : PieceReader → List ℕ → List ℕ → Option Part → PieceReader → Type 0
+HasPieceAt old pkg bytes None new = Unit {0}
+HasPieceAt old pkg bytes (Some part) new = HasAt pkg (start_of_file new + handed_out old) bytes
 
 -- a piece of so many bytes more was handed out of the file that is open; a file that is open stays
 -- where it begins

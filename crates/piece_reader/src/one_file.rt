@@ -1,16 +1,16 @@
 //! The pieces of a single file of a package.
 
 ghost use Rattle.std.specs.Option.{ForSome};
-ghost use Rattle.std.specs.Prelude.{◌≡◌, ◌<◌, ◌≤◌};
+ghost use Rattle.std.specs.Prelude.{◌<◌, ◌≤◌};
 ghost use Rattle.piece_reader.specs.Opened.{open_end};
 ghost use Rattle.piece_core.specs.Taking.{file_bytes_left};
 
 use crate::fault::PieceFault;
-use crate::open::OpenFile;
+use crate::open::{OpenFile, open_at};
 use crate::piece::Piece;
 use base_core::{Cause, Name, Tree};
-use piece_core::FileCheck;
-use pkg_core::Wanted;
+use pkg_core::wanted_file;
+use pkg_pieces::Contents;
 
 /// The bytes of a single file of a package in pieces, read from the package at the offset at which
 /// the file begins. All is tested anew. It takes no memory. Contracts see, by `FileReading` of
@@ -19,6 +19,8 @@ use pkg_core::Wanted;
 pub struct FilePieces<'a> {
     pub(crate) name: &'a Name,
     pub(crate) len: u64,
+    // They tell the file's size and digest.
+    pub(crate) contents: Contents<'a>,
     pub(crate) opened: Option<OpenFile<'a>>,
     pub(crate) refused: Option<Cause>,
     ghost within: { open_end opened ≤ len },
@@ -26,16 +28,19 @@ pub struct FilePieces<'a> {
 }
 
 impl<'a> FilePieces<'a> {
-    ghost use Rattle.std.specs.Prelude.{◌≡◌, ◌<◌, ◌++◌, [], ℕ, List, None, Some, length, IfErr, IfOk, IfSome, Err};
+    ghost use Rattle.std.specs.Prelude.{◌≡◌, ◌++◌, [], ℕ, List, None, Some, length, IfErr, IfOk, IfSome, Err};
     ghost use Rattle.base_core.specs.Calls.{IfObservable};
     ghost use Rattle.base_core.specs.Tree.{files_of};
-    ghost use Rattle.pkg_core.specs.Contents.{hash_fault};
+    ghost use Rattle.pkg_core.specs.Contents.{Expected, expected_contents, hash_fault};
+    ghost use Rattle.pkg_core.specs.Opened.{expected_with_positions};
     ghost use Rattle.pkg_pieces.specs.Seen.{HasAt, ReadsFile};
+    ghost use Rattle.pkg_pieces.specs.Values.{value_of_contents};
     ghost use Rattle.piece_reader.specs.FileReading.{AreTestedFrom, GivesBytes, HasFewerLeft, HasRefusedFile, HaveCome, IsFileReading, bytes_left_of, len_around_file, package_of_file};
     ghost use Rattle.piece_reader.specs.declared.fault.PieceFault.TheVariants.{Bad, Disk as DiskFault};
 
-    /// A file that has no contents, of a package of this name and with so many bytes: no piece comes.
-    pub fn none(name: &'a Name, len: u64) -> FilePieces<'a>
+    /// A file that has no contents, of a package of this name and with so many bytes and these
+    /// values: no piece comes.
+    pub fn none(name: &'a Name, len: u64, contents: Contents<'a>) -> FilePieces<'a>
         ensures name { package_of_file result ≡ name.entry.now }
         ensures len { len_around_file result ≡ len }
         ensures reading { (pkg : List ℕ) → IsFileReading result pkg [] }
@@ -43,28 +48,41 @@ impl<'a> FilePieces<'a> {
         FilePieces {
             name,
             len,
+            contents,
             opened: None,
             refused: None,
         }
     }
 
-    /// The file whose contents are due, which begins at this offset in the package of this name and
-    /// with so many bytes. Where the package is too short for it, no piece comes.
-    pub fn new(name: &'a Name, len: u64, at: u64, wanted: Wanted<'a>) -> FilePieces<'a>
+    /// The file with these positions, which begins at this offset in the package of this name and
+    /// with so many bytes and these values. No piece comes where it has no contents, or the package is
+    /// too short for them.
+    pub fn new(
+        name: &'a Name,
+        len: u64,
+        contents: Contents<'a>,
+        folder: u32,
+        file: u32,
+        at: u64,
+    ) -> FilePieces<'a>
         ensures name { package_of_file result ≡ name.entry.now }
         ensures len { len_around_file result ≡ len }
-        ensures reading { (pkg bytes : List ℕ) → length pkg ≡ len → HasAt pkg at bytes
-            → 0 < length bytes → length bytes ≡ wanted.entry.size
-            → hash_fault wanted.entry.hash.now bytes ≡ None → IsFileReading result pkg bytes }
+        ensures reading { (pkg bytes : List ℕ) (e : Expected) → length pkg ≡ len
+            → expected_with_positions folder file
+            (expected_contents (value_of_contents contents.entry)) ≡ Some e
+            → HasAt pkg at bytes → length bytes ≡ e.size → hash_fault e.hash bytes ≡ None
+            → IsFileReading result pkg bytes }
     {
-        if wanted.size == 0 || at > len || wanted.size > len - at {
-            return FilePieces::none(name, len);
-        }
-        let file = FileCheck::new(wanted);
+        let view = contents.view();
+        let opened = match wanted_file(&view, folder, file) {
+            Some(wanted) => open_at(wanted, at, len),
+            None => None,
+        };
         FilePieces {
             name,
             len,
-            opened: Some(OpenFile { file, at }),
+            contents,
+            opened,
             refused: None,
         }
     }
