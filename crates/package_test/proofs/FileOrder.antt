@@ -102,9 +102,9 @@ find_off folder file (p ∷ ps) others =
     ap (λ (b : Bool). cond b (Some p) (find (is_place_of folder file) ps)) (others 0 p (omega arith))
     ∙ find_off folder file ps (λ k d within. others (suc k) d (omega (arith, within)))
 
-pub offset_there : (folder file : ℕ) (ps : List FilePlace) (k : ℕ) (place : FilePlace) → AreInFileOrder ps → k < length ps → place ≡ get_or ps k place → place.folder ≡ folder → place.file ≡ file → Some place.at ≡ offset_of_file folder file ps
-offset_there folder file ps k place order within is same too =
-    sym (ap (option_map (λ (p : FilePlace). p.at)) (find_at folder file ps k place order within (ap (is_place_of folder file) (sym is) ∙ there_is folder file place same too) ∙ ap (λ (p : FilePlace). Some p) (sym is)))
+pub offset_there : (folder file : ℕ) (ps : List FilePlace) (k : ℕ) (d : FilePlace) → AreInFileOrder ps → k < length ps → (get_or ps k d).folder ≡ folder → (get_or ps k d).file ≡ file → Some (get_or ps k d).at ≡ offset_of_file folder file ps
+offset_there folder file ps k d order within same too =
+    sym (ap (option_map (λ (p : FilePlace). p.at)) (find_at folder file ps k d order within (there_is folder file (get_or ps k d) same too)))
 
 -- none stands elsewhere than at the point
 off_point : (folder file : ℕ) (ps : List FilePlace) (n : ℕ) → AreInFileOrder ps → IsPointFor folder file ps n → ((d : FilePlace) → n < length ps → is_place_of folder file (get_or ps n d) ≡ false) → (k : ℕ) (d : FilePlace) → k < length ps → is_place_of folder file (get_or ps k d) ≡ false
@@ -128,9 +128,9 @@ none_there folder file ps n order point there = sym (ap (option_map (λ (p : Fil
 pub offset_at_end : (folder file : ℕ) (ps : List FilePlace) (n : ℕ) → AreInFileOrder ps → IsPointFor folder file ps n → n ≡ length ps → None ≡ offset_of_file folder file ps
 offset_at_end folder file ps n order point end = none_there folder file ps n order point (λ d within. absurd (omega (arith, end, within)))
 
-pub offset_off : (folder file : ℕ) (ps : List FilePlace) (n : ℕ) (place : FilePlace) → AreInFileOrder ps → IsPointFor folder file ps n → n < length ps → place ≡ get_or ps n place → is_place_of folder file place ≡ false → None ≡ offset_of_file folder file ps
-offset_off folder file ps n place order point within is other =
-    none_there folder file ps n order point (λ d less. ap (is_place_of folder file) (same_at ps n d place within ∙ sym is) ∙ other)
+pub offset_off : (folder file : ℕ) (ps : List FilePlace) (n : ℕ) (d : FilePlace) → AreInFileOrder ps → IsPointFor folder file ps n → n < length ps → is_place_of folder file (get_or ps n d) ≡ false → None ≡ offset_of_file folder file ps
+offset_off folder file ps n d order point within other =
+    none_there folder file ps n order point (λ e less. ap (is_place_of folder file) (same_at ps n e d within) ∙ other)
   where
     same_at : (xs : List FilePlace) (i : ℕ) (d e : FilePlace) → i < length xs → get_or xs i d ≡ get_or xs i e
     same_at [] i d e less = absurd (omega (arith, less))

@@ -17,11 +17,7 @@ pub(crate) struct FilePlace {
 }
 
 /// Keeps where a file begins, once its last piece came.
-pub(crate) fn keep_place(
-    places: &mut Vec<FilePlace>,
-    part: Part,
-    at: u64,
-) -> Result<(), AllocError>
+pub(crate) fn keep_place(places: &mut Vec<FilePlace>, part: Part, at: u64) -> Result<(), AllocError>
     ensures { OnOk result (places.new.items ≡ (if part.last
         then places.old.items ++ place_of_part part at ∷ [] else places.old.items)) }
 {

@@ -1,12 +1,12 @@
 //! How a package in a tree is read and tested: its front, its values, and then piece by piece what
 //! stands behind them.
 
-ghost use Rattle.std.specs.Prelude.{◌≡◌, ℕ, List, Option, Some, IfErr, IfOk};
+ghost use Rattle.std.specs.Prelude.{◌≡◌, ℕ, List, Option, Some, IfOk};
 ghost use Rattle.adb_schema.specs.declared.read.TheConstants.{PACKAGE_WORD};
 ghost use Rattle.base_core.specs.Calls.{IfObservable};
 ghost use Rattle.base_core.specs.Read.{OnlyReads};
 ghost use Rattle.base_core.specs.Tree.{files_of};
-ghost use Rattle.base_core.specs.declared.tree.TreeFault.TheVariants.{Disk as DiskFault, Memory};
+ghost use Rattle.base_core.specs.declared.tree.TreeFault.TheVariants.{Disk as DiskFault};
 ghost use Rattle.package_test.specs.Places.{HasSoundPayload, IsWholeTested};
 ghost use Rattle.package_test.specs.Tested.{IsReadOf};
 ghost use Rattle.pkg_pieces.specs.Front.{IsFrontOf, front_end, front_file_len, front_payload};
@@ -50,10 +50,28 @@ pub fn read_package<T: Tree>(
     ensures tree { OnlyReads DiskFault (T.history tree.old) (T.history tree.new)
         (T.counts tree.old) (T.counts tree.new) result }
 {
+    let own_name = name.copy(alloc)?;
+    read_named(alloc, tree, name, own_name)
+}
+
+/// The same, with a copy of the name.
+fn read_named<T: Tree>(
+    alloc: Global,
+    tree: &mut T,
+    name: &Name,
+    own_name: Name,
+) -> Result<PackageRead, TreeFault>
+    requires { own_name ≡ name.now }
+    ensures read { IfOk result (λ read. (found : Option (List ℕ))
+        × IfObservable (T.history tree.old) (λ v. found ≡ files_of v name.now)
+        × IsReadOf name.now found read) }
+    ensures tree { OnlyReads DiskFault (T.history tree.old) (T.history tree.new)
+        (T.counts tree.old) (T.counts tree.new) result }
+{
     match read_front(alloc, tree, name, PACKAGE_WORD) {
         Ok(Some(front)) => {
             let test = read_behind(alloc, tree, name, &front)?;
-            read_by(alloc, name, front, test)
+            Ok(read_by(own_name, front, test))
         }
         Ok(None) => Ok(PackageRead::Absent),
         Err(FrontFault::Bad(cause)) => Ok(PackageRead::Bad(cause)),
@@ -62,28 +80,19 @@ pub fn read_package<T: Tree>(
     }
 }
 
-/// What is read of a package with this front, by its tests.
-fn read_by(
-    alloc: Global,
-    name: &Name,
-    front: Front,
-    test: FilesTest,
-) -> Result<PackageRead, TreeFault>
+/// What is read of a package of this name with this front, by its tests.
+fn read_by(name: Name, front: Front, test: FilesTest) -> PackageRead
     requires { HasSoundPayload front test }
-    ensures read { IfOk result (λ read. (pkg : List ℕ) → IsFrontOf PACKAGE_WORD pkg front
-        → IsWholeTested pkg test → IsReadOf name.now (Some pkg) read) }
-    ensures memory { IfErr result (λ fault. fault ≡ Memory) }
+    ensures { (pkg : List ℕ) → IsFrontOf PACKAGE_WORD pkg front → IsWholeTested pkg test
+        → IsReadOf name (Some pkg) result }
 {
     match test {
-        FilesTest::Sound(places) => {
-            let name = name.copy(alloc)?;
-            Ok(PackageRead::Sound(TestedPackage {
-                name,
-                front,
-                places,
-            }))
-        }
-        FilesTest::Bad(cause) => Ok(PackageRead::Bad(cause)),
+        FilesTest::Sound(places) => PackageRead::Sound(TestedPackage {
+            name,
+            front,
+            places,
+        }),
+        FilesTest::Bad(cause) => PackageRead::Bad(cause),
     }
 }
 

@@ -1,10 +1,11 @@
 //! What the tests of a package in a tree say.
 
-ghost use Rattle.std.specs.Prelude.{◌≡◌, ℕ, List, Option, IfOk};
+ghost use Rattle.std.specs.Prelude.{◌≡◌, ℕ, List, Option, Some, IfOk};
 ghost use Rattle.base_core.specs.Calls.{IfObservable};
 ghost use Rattle.base_core.specs.Read.{OnlyReads};
 ghost use Rattle.base_core.specs.Tree.{files_of};
 ghost use Rattle.base_core.specs.declared.tree.TreeFault.TheVariants.{Disk as DiskFault};
+ghost use Rattle.pkg_core.specs.Whole.{package_fault};
 ghost use Rattle.package_test.specs.Tested.{IsReadOf};
 ghost use Rattle.package_test.specs.Tests.{IsTestOf};
 
@@ -56,7 +57,16 @@ fn test_of(read: &PackageRead) -> PackageTest
     match read {
         PackageRead::Absent => PackageTest::Absent,
         PackageRead::Sound(_) => PackageTest::Sound,
-        PackageRead::Bad(Cause::WrongSchema { .. }) => PackageTest::OtherSchema,
-        PackageRead::Bad(cause) => PackageTest::Bad(*cause),
+        PackageRead::Bad(cause) => test_by(*cause),
+    }
+}
+
+/// What the first failed test of a package says.
+fn test_by(cause: Cause) -> PackageTest
+    ensures { (file : List ℕ) → package_fault file ≡ Some cause → IsTestOf (Some file) result }
+{
+    match cause {
+        Cause::WrongSchema { .. } => PackageTest::OtherSchema,
+        cause => PackageTest::Bad(cause),
     }
 }

@@ -97,11 +97,7 @@ impl<'a> Walk<'a> {
 
 /// The file of a package with these positions, where it has contents: at once, however many there
 /// are. None comes exactly where there is no such file, or it has no contents.
-pub fn wanted_file<'a>(
-    view: &PackageView<'a>,
-    folder: u32,
-    file: u32,
-) -> Option<Wanted<'a>>
+pub fn wanted_file<'a>(view: &PackageView<'a>, folder: u32, file: u32) -> Option<Wanted<'a>>
     ensures { option_map expected_of result ≡ expected_with_positions folder file
         (expected_contents (package_value view.now)) }
 {
