@@ -4,7 +4,7 @@ use Rattle.std.specs.Prelude.{◌≡◌, ℕ, Bool, true, false, if◌then◌els
 use Rattle.base_core.specs.Files.{Files}
 use Rattle.change_inputs.specs.Chains.{and_then}
 use Rattle.change_inputs.specs.Inputs.{Inputs, inputs_of}
-use Rattle.change_outcome.specs.ChangeOutcome.{ChangeDone, ChangeWishes, IsClashOfChange, change_of}
+use Rattle.change_outcome.specs.ChangeOutcome.{ChangeDone, ChangeWishes, IsClashOfChange, change_or_refusal}
 use Rattle.command_core.specs.Command.{CommandLine}
 use Rattle.make_info.specs.Reads.{Reads}
 use Rattle.package_changes.specs.Changes.{Replacement}
@@ -52,7 +52,7 @@ abbrev pub change_of_selected :
     CommandLine → Reads → Files → Option NamePair → Selected → Result ChangeDone Refusal
 change_of_selected command read files clash s =
     if command.flags.simulate then Ok (simulated_change s.replacement (wishes_of command) files) else
-    change_of s.inputs s.replacement (wishes_of command) read clash files
+    change_or_refusal s.inputs s.replacement (wishes_of command) read clash files
 
 -- what the command comes to, or its first refusal
 unfoldable pub changed :

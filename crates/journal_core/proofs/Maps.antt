@@ -38,6 +38,10 @@ maps_more name these old new told = observable_map old _ _ told (λ v t.
     since_weaker (KeepsMapsBut these v) (KeepsMapsBut (name ∷ these) v) old new
     (λ w keeps map among. let (was, is_was, same) = keeps map among in (was, is_was, λ q off. same q (off_rest q name these off))) t)
 
+-- the same name, told otherwise
+pub maps_at : (name place : List ℕ) → name ≡ place → (old new : History) → Keeps (name ∷ []) old new → Keeps (place ∷ []) old new
+maps_at name place is old new told = subst (λ (p : List ℕ). Keeps (p ∷ []) old new) is told
+
 -- ---- one call
 
 changed_maps : (these : List (List ℕ)) (change : File → File) (v : TreeState) (o : Option ℕ) → KeepsMapsBut these v (change_at change v o)

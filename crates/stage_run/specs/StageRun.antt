@@ -38,6 +38,6 @@ pub record IsStageRun (files : Files) (v : TreeState) (old now : List TreeState)
 
 -- and it has come to its end
 pub record IsStageRunDone (files : Files) (v : TreeState) (now : List TreeState) : Type 0 where
-  pub files : HasNow now (λ w. (files_of w ≡ files) × (w.names intent_name ≡ None))
+  pub reads : HasNow now (λ w. (files_of w ≡ files) × (w.names intent_name ≡ None))
   pub settled : (ignored : List ℕ → Bool) → IsOrderly (RestsOn ignored) v
       → HasNow now (IsSettled ignored files)
