@@ -1,0 +1,47 @@
+-- Members whose packages come out of sound containers, and files that a database may list.
+use Rattle.std.specs.Prelude.{◌≡◌, ℕ, true, false, List, [], ◌∷◌, length, map, Option, Some, None}
+use Rattle.adb_view.specs.Plain.{Plain, IsNormal}
+use Rattle.adb_tables.specs.declared.tables.Which.TheVariants.{Idb, Package}
+use Rattle.adb_rules.specs.Reserved.{is_reserved}
+use Rattle.adb_rules.specs.Rules.{is_digest_length}
+use Rattle.adb_fields.specs.FirstPair.{IsIn}
+use Rattle.adb_fields.specs.Repeated.{entries_at}
+use Rattle.adb_schema.specs.SoundContainers.{IsSoundValue}
+use Rattle.db_core.specs.Members.{Listing, Member}
+use Rattle.db_core.specs.OwnedListings.{HaveOneOwner}
+
+-- a package of the value of a sound database
+pub record IsOfSoundDatabase (pkg : Plain) : Type 0 where
+  pub database : Plain
+  pub sound : IsSoundValue Idb database
+  pub normal : IsNormal database
+  pub listed : IsIn pkg (entries_at 0 database)
+
+-- the value of a sound package, with a digest as its id
+pub record IsOfSoundPackage (pkg : Plain) (id : List ℕ) : Type 0 where
+  pub sound : IsSoundValue Package pkg
+  pub normal : IsNormal pkg
+  pub digest : is_digest_length (length id) ≡ true
+
+-- the value of a database, if there is one, is sound
+abbrev pub IsSoundDatabaseIfAny : Option Plain → Type 0
+IsSoundDatabaseIfAny None = Unit {0}
+IsSoundDatabaseIfAny (Some database) = IsSoundValue Idb database × IsNormal database
+
+-- one that has no id stays, and one with an id comes
+abbrev pub IsOfSoundContainer : Plain → Option (List ℕ) → Type 0
+IsOfSoundContainer pkg None = IsOfSoundDatabase pkg
+IsOfSoundContainer pkg (Some id) = IsOfSoundPackage pkg id
+
+abbrev pub AreOfSoundContainers : List Member → Type 0
+AreOfSoundContainers [] = Unit {0}
+AreOfSoundContainers (m ∷ members) = IsOfSoundContainer m.pkg m.id × AreOfSoundContainers members
+
+abbrev pub NoneReserved : List (List ℕ) → Type 0
+NoneReserved [] = Unit {0}
+NoneReserved (path ∷ paths) = (is_reserved path ≡ false) × NoneReserved paths
+
+-- each path has one owner, and none is reserved
+pub record MayBeListed (listings : List Listing) : Type 0 where
+  pub one_owner : HaveOneOwner listings
+  pub free : NoneReserved (map (λ l. l.path) listings)
