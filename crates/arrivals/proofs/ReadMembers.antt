@@ -12,8 +12,8 @@ use Rattle.dep_core.specs.Repositories.{Repository}
 use Rattle.make_info.specs.Reads.{Reads}
 use Rattle.package_changes.specs.Placed.{PlacedReplacement, replacement_of}
 use Rattle.arrivals.specs.Arrivals.{AreMembersRead, ArePlaced, CanBeMembers, IsFileFound, IsMemberRead, IsPackageRead, IsPlaced, member_read, members_read, package_in}
-use Rattle.arrivals.specs.StandIn.{tested_id, tested_value}
-use Rattle.arrivals.specs.declared.standin.TestedPackage.{TestedPackage}
+use Rattle.package_test.specs.Tested.{tested_id, tested_value}
+use Rattle.package_test.specs.declared.package.TestedPackage.{TestedPackage}
 use Rattle.arrivals.specs.declared.arrivals.MemberRead.{MemberRead}
 use Rattle.arrivals.specs.declared.arrivals.MemberRead.TheVariants.{Comes, Stays}
 use Rattle.arrivals.proofs.MembersInOrder.{members_few, members_rise}

@@ -10,8 +10,8 @@ use Rattle.db_core.specs.Members.{AreInOrder, Member, coming_member, staying_mem
 use Rattle.db_core.specs.declared.members.TheConstants.{MOST_MEMBERS}
 use Rattle.pkg_core.specs.Contents.{contents_in}
 use Rattle.pkg_core.specs.Whole.{files_in_file}
-use Rattle.arrivals.specs.StandIn.{IsTestedOf, tested_id, tested_name, tested_value}
-use Rattle.arrivals.specs.declared.standin.TestedPackage.{TestedPackage}
+use Rattle.package_test.specs.Tested.{IsTestedOf, tested_id, tested_name, tested_value}
+use Rattle.package_test.specs.declared.package.TestedPackage.{TestedPackage}
 use Rattle.arrivals.specs.declared.arrivals.Arrivals.{Arrivals}
 use Rattle.arrivals.specs.declared.arrivals.MemberRead.{MemberRead}
 use Rattle.arrivals.specs.declared.arrivals.MemberRead.TheVariants.{Comes, Stays}

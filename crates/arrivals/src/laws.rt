@@ -3,7 +3,7 @@
 ghost use Rattle.adb_view.specs.Plain.{Plain};
 ghost use Rattle.arrivals.specs.Arrivals.{AreMembersRead, IsFileFound, members_read, package_in};
 ghost use Rattle.arrivals.specs.declared.arrivals.MemberRead.{MemberRead};
-ghost use Rattle.arrivals.specs.declared.standin.TestedPackage.{TestedPackage};
+ghost use Rattle.package_test.specs.declared.package.TestedPackage.{TestedPackage};
 ghost use Rattle.base_core.specs.Tree.{TreeState};
 ghost use Rattle.change_inputs.specs.Inputs.{first_index_read};
 ghost use Rattle.change_outcome.specs.MembersAfter.{MemberFound, members_after, members_found};

@@ -14,7 +14,6 @@ mod package;
 mod path;
 mod same;
 mod scripts;
-mod standin;
 mod told;
 
 pub use arrivals::{Arrivals, read_arrivals};

@@ -42,6 +42,6 @@ fn push_read<'a>(
 {
     match read {
         MemberRead::Stays(place) => members.stays(db, *place),
-        MemberRead::Comes(_) => Err(AllocError),
+        MemberRead::Comes(pkg) => members.comes_in_pieces(&pkg.contents()),
     }
 }

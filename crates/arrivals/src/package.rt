@@ -1,7 +1,7 @@
 //! The package of a candidate: its file is read and tested once.
 ghost use Rattle.arrivals.specs.Arrivals.{IsPackageRead};
 ghost use Rattle.arrivals.specs.NameReads.{IsAnswerByRead, candidate_read, coming_read, file_read};
-ghost use Rattle.arrivals.specs.StandIn.{tested_id, tested_value};
+ghost use Rattle.package_test.specs.Tested.{tested_id, tested_value};
 ghost use Rattle.arrivals.specs.Told.{IsToldAs};
 ghost use Rattle.base_core.specs.Read.{OnlyReads};
 ghost use Rattle.change_inputs.specs.Answers.{Agrees};
@@ -15,7 +15,7 @@ ghost use Rattle.std.specs.Prelude.{◌≡◌, true, IfOk};
 use crate::path::package_file_of;
 use crate::same::test_same;
 use crate::scripts::test_scripts;
-use crate::standin::{PackageRead, TestedPackage, read_package};
+use package_test::{PackageRead, TestedPackage, read_package};
 use crate::told::told;
 use adb_schema::PackageView;
 use base_core::{Cause, Name, Text, Tree};
@@ -65,7 +65,9 @@ fn test_own_scripts(
     ensures { Agrees (λ _. true) result (unless_script no_scripts name.now (tested_value pkg.now)
         (scripts_of_change (change_seen change.now)) true) }
 {
-    Err(Refused::Memory)
+    let contents = pkg.contents();
+    let view = contents.view();
+    test_scripts(alloc, no_scripts, name, change, &view, PhantomData)
 }
 
 /// Reads the package of a candidate, and tests its file and whether it is as its index says.
@@ -114,7 +116,9 @@ fn test_as_indexed(alloc: Global, c: &Candidate<'_>, pkg: &TestedPackage) -> Res
         → coming.id ≡ tested_id pkg.now
         → Agrees (λ _. coming) result (unless_different (candidate_value c.now) coming) }
 {
-    Err(Refused::Memory)
+    let contents = pkg.contents();
+    let view = contents.view();
+    test_same(alloc, c, &view, &contents.id())
 }
 
 /// That the file of a package is absent.
