@@ -104,14 +104,19 @@ fn read_beside<T: Tree>(
         PackageRead::Absent => Err(missing(alloc, c)),
         PackageRead::Bad(cause) => Err(bad(alloc, c, cause)),
         PackageRead::Sound(pkg) => {
-            test_as_indexed(alloc, c, &pkg)?;
+            test_as_indexed(alloc, c, &pkg, PhantomData)?;
             Ok(pkg)
         }
     }
 }
 
-/// Tests that a tested package is as its index says.
-fn test_as_indexed(alloc: Global, c: &Candidate<'_>, pkg: &TestedPackage) -> Result<(), Refused>
+/// Tests that a tested package is as its index says. The mark serves the borrow checker alone.
+fn test_as_indexed<'a>(
+    alloc: Global,
+    c: &Candidate<'_>,
+    pkg: &'a TestedPackage,
+    _mark: PhantomData<PackageView<'a>>,
+) -> Result<(), Refused>
     ensures { (coming : ComingPackage) → coming.value ≡ tested_value pkg.now
         → coming.id ≡ tested_id pkg.now
         → Agrees (λ _. coming) result (unless_different (candidate_value c.now) coming) }
