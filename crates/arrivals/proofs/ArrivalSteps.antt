@@ -42,13 +42,13 @@ with_at at n found k = if k == n then found else at k
 
 at_itself : (at : ℕ → Option (List ℕ)) (n : ℕ) (found : Option (List ℕ)) → with_at at n found n ≡ found
 at_itself at n found = elim (eqb_tells n n) [
-  inl p ↦ ap (λ t. if t then found else at n) p.0
+  | inl p ↦ ap (λ t. if t then found else at n) p.0
   | inr p ↦ absurd (p.1 refl)
 ]
 
 at_others : (at : ℕ → Option (List ℕ)) (n : ℕ) (found : Option (List ℕ)) (k : ℕ) → k < n → with_at at n found k ≡ at k
 at_others at n found k lt = elim (eqb_tells k n) [
-  inl p ↦ (let same : k ≡ n = p.1 in absurd (omega (arith, same, lt)))
+  | inl p ↦ (let same : k ≡ n = p.1 in absurd (omega (arith, same, lt)))
   | inr p ↦ ap (λ t. if t then found else at k) p.0
 ]
 
@@ -134,7 +134,7 @@ module _ (before : List Plain) (pool : SealedPool) (repositories : List Reposito
       so_far.at,
       so_far.found,
       so_far.leads so_far.at (λ k lt. refl)
-      ∙ (ap (λ z. in_front so_far.found (names_read (reads_by h so_far.at) (first + i) z)) (drop_of_length-le names past)
-      ∙ ap (λ z. Ok z) (append-nil so_far.found)),
+          ∙ (ap (λ z. in_front so_far.found (names_read (reads_by h so_far.at) (first + i) z)) (drop_of_length-le names past)
+          ∙ ap (λ z. Ok z) (append-nil so_far.found)),
       so_far.are,
     )

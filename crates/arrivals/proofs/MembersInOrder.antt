@@ -140,10 +140,9 @@ module _ (r : Replacement) (read : Reads) (repositories : List Repository) (no_s
   unfolding change_of_name
   one_named n name m is =
       let new : (c : Candidate) → find (is_selected_named name) r.selected ≡ Some c → c.name ≡ name = λ c e. (bytes_decides c.name name).0 (found_passes (is_selected_named name) r.selected c e) in
-      let picked = chosen read repositories no_scripts n name _ (find (is_package_named name) r.before) (find (is_selected_named name) r.selected) m is in
-      (
+      let picked = chosen read repositories no_scripts n name _ (find (is_package_named name) r.before) (find (is_selected_named name) r.selected) m is in (
         named read repositories no_scripts n name (change_of_name r name) (find (is_package_named name) r.before) (find (is_selected_named name) r.selected) m
-        (λ pkg e. (bytes_decides (package_name pkg) name).0 (found_passes (is_package_named name) r.before pkg e)) new is,
+            (λ pkg e. (bytes_decides (package_name pkg) name).0 (found_passes (is_package_named name) r.before pkg e)) new is,
         subst (λ x. IsIn x (names_of_selected r.selected)) (new picked.0 picked.1) (in_selected (is_selected_named name) r.selected picked.0 picked.1),
       )
 
@@ -170,7 +169,7 @@ module _ (r : Replacement) (read : Reads) (repositories : List Repository) (no_s
             rises = (λ q here. subst (λ x. order x q ≡ Less) (sym one.0) (rises.0 q (rest.among q here)), rest.rises);
             among = λ q here. elim here [ inl e ↦ inl (e ∙ one.0) | inr more ↦ inr (rest.among q more) ];
             selected = λ q here. elim here [
-              inl e ↦ subst (λ x. IsIn x (names_of_selected r.selected)) (sym (e ∙ one.0)) one.1
+              | inl e ↦ subst (λ x. IsIn x (names_of_selected r.selected)) (sym (e ∙ one.0)) one.1
               | inr more ↦ rest.selected q more
             ];
           }

@@ -62,6 +62,6 @@ prefix_at_slash bytes i d lt is =
 -- another byte makes it no longer
 pub prefix_at_other : (bytes : List ℕ) (i d : ℕ) → i < length bytes → get_or bytes i d ≢ 47 → folder_prefix (take (i + 1) bytes) ≡ folder_prefix (take i bytes)
 prefix_at_other bytes i d lt other = elim (eqb_tells (get_or bytes i d) 47) [
-  inl p ↦ absurd (other p.1)
+  | inl p ↦ absurd (other p.1)
   | inr p ↦ prefix_at bytes i d false lt p.0
 ]

@@ -14,13 +14,13 @@ ghost use Rattle.std.specs.Prelude.{◌≡◌, ◌≤◌, ◌==◌, ◌++◌, �
 
 use crate::package::read_coming;
 use crate::scripts::test_scripts;
-use package_test::TestedPackage;
 use adb_schema::PackageView;
 use base_core::{Tree, readings_in_a_row_join};
 use change_inputs::Refused;
 use db_core::Db;
 use dep_core::Repos;
 use package_changes::{Change, PlacedName, PlacedNames, places_lead_to_packages_and_candidates};
+use package_test::TestedPackage;
 use pool_core::Sealed;
 use std::alloc::{AllocError, Global};
 use std::marker::PhantomData;
@@ -157,8 +157,15 @@ fn read_name<T: Tree>(
             Ok(None)
         }
         Some(c) => {
-            let pkg =
-                read_coming(alloc, tree, repositories, no_scripts, name.name, &change, &c)?;
+            let pkg = read_coming(
+                alloc,
+                tree,
+                repositories,
+                no_scripts,
+                name.name,
+                &change,
+                &c,
+            )?;
             Ok(Some(MemberRead::Comes(pkg)))
         }
     }

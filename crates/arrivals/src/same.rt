@@ -19,7 +19,9 @@ use std::alloc::{AllocError, Global};
 
 // The numbers of the fields of a package's information that have to agree with the index.
 const NAME_FIELD: u16 = 1;
+
 const VERSION_FIELD: u16 = 2;
+
 const ID_FIELD: u16 = 3;
 
 /// Tests that a package has the id, the name and the version of its candidate.
@@ -50,13 +52,7 @@ pub(crate) fn test_same(
 }
 
 /// That a package has something else in a field than its index says.
-fn differs(
-    alloc: Global,
-    c: &Candidate<'_>,
-    field: u16,
-    wanted: &[u8],
-    found: &[u8],
-) -> Refused
+fn differs(alloc: Global, c: &Candidate<'_>, field: u16, wanted: &[u8], found: &[u8]) -> Refused
     ensures { IsToldAs (PackageDiffers (candidate_value c.now).name
         (selected_version (candidate_value c.now)) field wanted.now found.now) result }
 {

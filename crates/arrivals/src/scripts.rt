@@ -20,7 +20,9 @@ use std::marker::PhantomData;
 
 // The numbers of the scripts of a package; each is followed by the one that runs behind it.
 const PRE_INSTALL: u16 = 2;
+
 const PRE_DEINSTALL: u16 = 4;
+
 const PRE_UPGRADE: u16 = 6;
 
 /// Refuses a package that has a script which its change would run, unless scripts are left out. The
@@ -70,7 +72,11 @@ fn first_script(change: &Change<'_>, scripts: &ScriptsView<'_>) -> Option<u16>
             first_of_two(PRE_INSTALL, scripts.pre_install(), scripts.post_install())
         }
         Change::Purge(_, _) => {
-            first_of_two(PRE_DEINSTALL, scripts.pre_deinstall(), scripts.post_deinstall())
+            first_of_two(
+                PRE_DEINSTALL,
+                scripts.pre_deinstall(),
+                scripts.post_deinstall(),
+            )
         }
         Change::Reinstall(_, _)
         | Change::Upgrade(_, _, _)

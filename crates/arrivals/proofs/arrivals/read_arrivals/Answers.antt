@@ -19,9 +19,9 @@ returns-in_err-member-clause-found g c =
       new = c.places_lead_to_packages_and_candidates.ensures.new;
     } in
     λ trace again are.
-        explained_refusal law (replacement_by c.args.db.now c.args.pool.now trace again) c.args.repositories.now c.args.no_scripts reads_in (g.T.Tree.history c.args.tree.now) (placed_names_seen c.args.names.now) are c.loop-i.i (placed_name_seen c.get-name.result.now) c.loop-i.members.items
-        c.from_residual.result c.in_err-member.field-0.0 c.from_residual.ensures.1 c.get-name.ensures c.loop-i.invariant.so_far
-        (answer_as_before _ _ (packages_of c.args.db.now) (name_read (packages_of c.args.db.now) c.args.pool.now c.args.repositories.now c.args.no_scripts (placed_name_seen c.get-name.result.now)) (Err c.in_err-member.field-0.0) c.loop-i.invariant.tree.same c.in_err-member.ensures.found)
+    explained_refusal law (replacement_by c.args.db.now c.args.pool.now trace again) c.args.repositories.now c.args.no_scripts reads_in (g.T.Tree.history c.args.tree.now) (placed_names_seen c.args.names.now) are c.loop-i.i (placed_name_seen c.get-name.result.now) c.loop-i.members.items
+    c.from_residual.result c.in_err-member.field-0.0 c.from_residual.ensures.1 c.get-name.ensures c.loop-i.invariant.so_far
+    (answer_as_before _ _ (packages_of c.args.db.now) (name_read (packages_of c.args.db.now) c.args.pool.now c.args.repositories.now c.args.no_scripts (placed_name_seen c.get-name.result.now)) (Err c.in_err-member.field-0.0) c.loop-i.invariant.tree.same c.in_err-member.ensures.found)
 
 pub returns-in_err-push_member-clause-found : goal.returns-in_err-push_member-clause-found
 returns-in_err-push_member-clause-found g c =
@@ -32,8 +32,8 @@ returns-in_err-push_member-clause-found g c =
       new = c.places_lead_to_packages_and_candidates.ensures.new;
     } in
     λ trace again are.
-        explained_failure law (replacement_by c.args.db.now c.args.pool.now trace again) c.args.repositories.now c.args.no_scripts reads_in (g.T.Tree.history c.args.tree.now) (placed_names_seen c.args.names.now) are _
-        c.from_residual-in_err-push_member.result no_memory c.from_residual-in_err-push_member.ensures.1
+    explained_failure law (replacement_by c.args.db.now c.args.pool.now trace again) c.args.repositories.now c.args.no_scripts reads_in (g.T.Tree.history c.args.tree.now) (placed_names_seen c.args.names.now) are _
+    c.from_residual-in_err-push_member.result no_memory c.from_residual-in_err-push_member.ensures.1
 
 pub loop-i-init : goal.loop-i-init
 loop-i-init g c = record {
@@ -60,8 +60,8 @@ returns-clause-found g c =
     } in
     let arrivals : Arrivals = record { members = c.loop-i.members } in
     λ trace again are.
-        explained_all law (replacement_by c.args.db.now c.args.pool.now trace again) c.args.repositories.now c.args.no_scripts reads_in (g.T.Tree.history c.args.tree.now) (placed_names_seen c.args.names.now) are c.loop-i.i arrivals c.loop-i.members.items refl
-        (omega (arith, c.len-i-end.ensures, c.loop-i-test.false)) c.loop-i.invariant.so_far
+    explained_all law (replacement_by c.args.db.now c.args.pool.now trace again) c.args.repositories.now c.args.no_scripts reads_in (g.T.Tree.history c.args.tree.now) (placed_names_seen c.args.names.now) are c.loop-i.i arrivals c.loop-i.members.items refl
+    (omega (arith, c.len-i-end.ensures, c.loop-i-test.false)) c.loop-i.invariant.so_far
 
 pub returns-clause-members : goal.returns-clause-members
 returns-clause-members g c =
@@ -72,5 +72,5 @@ returns-clause-members g c =
       new = c.places_lead_to_packages_and_candidates.ensures.new;
     } in
     λ trace again are few.
-        can_be_members law (replacement_by c.args.db.now c.args.pool.now trace again) c.args.repositories.now c.args.no_scripts (g.T.Tree.history c.args.tree.now) (placed_names_seen c.args.names.now) are c.loop-i.i c.loop-i.members.items
-        (omega (arith, c.len-i-end.ensures, c.loop-i-test.false)) c.loop-i.invariant.so_far few
+    can_be_members law (replacement_by c.args.db.now c.args.pool.now trace again) c.args.repositories.now c.args.no_scripts (g.T.Tree.history c.args.tree.now) (placed_names_seen c.args.names.now) are c.loop-i.i c.loop-i.members.items
+    (omega (arith, c.len-i-end.ensures, c.loop-i-test.false)) c.loop-i.invariant.so_far few

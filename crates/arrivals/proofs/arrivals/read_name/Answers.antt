@@ -14,8 +14,7 @@ use Rattle.arrivals.proofs.arrivals.read_name.Goals as goal
 pub returns-in_default-clause-found : goal.returns-in_default-clause-found
 returns-in_default-clause-found g c =
     let h = g.T.Tree.history c.args.tree.now in
-    let n = placed_name_seen c.args.name.now in
-    (
+    let n = placed_name_seen c.args.name.now in (
       option_map staying_found (old_package (packages_of c.args.db.now) n),
       by_none (packages_of c.args.db.now) c.args.pool.now c.args.repositories.now c.args.no_scripts n h (ap (option_map change_seen) c.in_default.is),
       c.staying.ensures h,
@@ -46,8 +45,7 @@ pub returns-in_ok-test_leaving-in-None-clause-found : goal.returns-in_ok-test_le
 returns-in_ok-test_leaving-in-None-clause-found g c =
     let h = g.T.Tree.history c.args.tree.now in
     let before = packages_of c.args.db.now in
-    let n = placed_name_seen c.args.name.now in
-    (
+    let n = placed_name_seen c.args.name.now in (
       None,
       by_any_read h _ _ (λ read k. goes before c.args.pool.now c.args.repositories.now c.args.no_scripts n (change_seen c.in-Some.change) (ap (option_map change_seen) c.in-Some.is) (sym c.candidate.ensures ∙ ap (option_map candidate_value) c.in-None.is) read k ∙ c.in_ok-test_leaving-in-None.ensures),
       tt,

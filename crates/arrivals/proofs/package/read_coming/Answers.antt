@@ -31,8 +31,7 @@ returns-in_err-test_own_scripts-clause-found g c =
 pub returns-clause-found : goal.returns-clause-found
 returns-clause-found g c =
     let h = g.T.Tree.history c.args.tree.now in
-    let found = c.in_ok-pkg.ensures.found in
-    (
+    let found = c.in_ok-pkg.ensures.found in (
       found.0,
       passed_scripts c.args.repositories.now c.args.no_scripts c.args.name.now (change_seen c.args.change.now) (candidate_value c.args.c.now) h c.in_ok-pkg.pkg found.0 found.2 c.in_ok-test_own_scripts.ensures found.1,
       found.2,

@@ -9,7 +9,7 @@ loop-i-preserved c =
     let path = c.args.path.now in
     let i = c.loop-i.i in
     elim c.if-byte-eq47.branch [
-      then-byte-eq47 w ↦ record {
+      | then-byte-eq47 w ↦ record {
         within = omega arith;
         prefix = prefix_at_slash path i 0 c.loop-i-test.true w.if-byte-eq47.true ∙ ap (λ n. take n path) (sym w.end-is);
       }
