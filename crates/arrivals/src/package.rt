@@ -2,7 +2,7 @@
 ghost use Rattle.arrivals.specs.Arrivals.{IsPackageRead};
 ghost use Rattle.arrivals.specs.NameReads.{IsAnswerByRead, candidate_read, coming_read, file_read};
 ghost use Rattle.package_test.specs.Tested.{tested_id, tested_value};
-ghost use Rattle.arrivals.specs.Told.{IsToldAs};
+ghost use Rattle.arrivals.specs.Told.{IsRefusalTold};
 ghost use Rattle.base_core.specs.Read.{OnlyReads};
 ghost use Rattle.change_inputs.specs.Answers.{Agrees};
 ghost use Rattle.change_outcome.specs.PackageFiles.{ComingPackage, scripts_of_change, unless_different, unless_script};
@@ -128,7 +128,7 @@ fn test_as_indexed<'a>(
 
 /// That the file of a package is absent.
 fn missing(alloc: Global, c: &Candidate<'_>) -> Refused
-    ensures { IsToldAs (PackageMissing (candidate_value c.now).name
+    ensures { IsRefusalTold (PackageMissing (candidate_value c.now).name
         (selected_version (candidate_value c.now))) result }
 {
     told(package_missing(alloc, c))
@@ -147,7 +147,7 @@ fn package_missing(alloc: Global, c: &Candidate<'_>) -> Result<Refusal, AllocErr
 
 /// That the file of a package fails a test.
 fn bad(alloc: Global, c: &Candidate<'_>, cause: Cause) -> Refused
-    ensures { IsToldAs (PackageBad (candidate_value c.now).name
+    ensures { IsRefusalTold (PackageBad (candidate_value c.now).name
         (selected_version (candidate_value c.now)) cause) result }
 {
     told(package_bad(alloc, c, cause))
