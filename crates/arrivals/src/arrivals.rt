@@ -14,7 +14,6 @@ ghost use Rattle.std.specs.Prelude.{◌≡◌, ◌≤◌, ◌==◌, ◌++◌, �
 
 use crate::package::read_coming;
 use crate::scripts::test_scripts;
-use adb_schema::PackageView;
 use base_core::{Tree, readings_in_a_row_join};
 use change_inputs::Refused;
 use db_core::Db;
