@@ -7,12 +7,14 @@ use Rattle.std.specs.List.{cons_option, filter_map, slice_get}
 use Rattle.std.specs.Ordering.{is_lt}
 use Rattle.adb_view.specs.Plain.{Plain}
 use Rattle.base_core.proofs.Rising.{IsIn, Rises, order, rises_from_pairs}
-use Rattle.db_core.specs.Members.{AreInOrder, Member, comes_behind, member_name, staying_member}
+use Rattle.db_core.specs.Members.{AreInOrder, Member, comes_behind, coming_member, member_name, staying_member}
 use Rattle.db_core.specs.declared.members.TheConstants.{MOST_MEMBERS}
 use Rattle.package_changes.proofs.Lists.{item_at, option_in_front}
+use Rattle.package_test.specs.Tested.{tested_id, tested_value}
+use Rattle.package_test.specs.declared.package.TestedPackage.{TestedPackage}
 use Rattle.arrivals.specs.Arrivals.{ArePlaced, CanBeMembers, IsPlaced, member_read, members_read}
 use Rattle.arrivals.specs.declared.arrivals.MemberRead.{MemberRead}
-use Rattle.arrivals.specs.declared.arrivals.MemberRead.TheVariants.{Stays}
+use Rattle.arrivals.specs.declared.arrivals.MemberRead.TheVariants.{Comes, Stays}
 
 behind_all : (name : List ℕ) (members : List Member) → ((q : List ℕ) → IsIn q (map member_name members) → order q name ≡ Less) → comes_behind name members ≡ true
 behind_all name [] each = refl
@@ -118,3 +120,9 @@ all_taken before reads i past = ap (members_read before) (go reads i past)
     go [] (suc i) past = refl
     go (r ∷ reads) zero past = absurd (omega arith)
     go (r ∷ reads) (suc i) past = ap (λ z. r ∷ z) (go reads i (omega arith))
+
+-- ---- one that comes
+
+pub comes_next : (before : List Plain) (members : List Member) (read : MemberRead) (pkg : TestedPackage) (value : Plain) → read ≡ Comes pkg → value ≡ tested_value pkg → ((m : Member) → member_read before read ≡ Some m → comes_behind (member_name m) members ≡ true) → comes_behind (package_name value) members ≡ true
+comes_next before members read pkg value is same behind =
+    ap (λ v. comes_behind (package_name v) members) same ∙ behind (coming_member (tested_value pkg) (tested_id pkg)) (ap (member_read before) is)

@@ -14,7 +14,7 @@ use Rattle.change_files.specs.PlanLists.{names_in_order}
 use Rattle.change_inputs.specs.Chains.{and_then}
 use Rattle.change_inputs.specs.Inputs.{first_index_read}
 use Rattle.change_outcome.specs.MembersAfter.{MemberFound, coming_by_path, coming_found, members_after, members_found, name_after, name_by_change, name_that_goes, names_after, staying_found}
-use Rattle.change_outcome.specs.PackageFiles.{ComingPackage, first_script_of, package_file_of, package_found, package_in_file, scripts_of_change, unless_bad, unless_different, unless_number, unless_script}
+use Rattle.change_outcome.specs.PackageFiles.{ComingPackage, first_script_of, package_file_of, package_found, package_in_file, scripts_of_change, unless_package_bad, unless_different, unless_number, unless_script}
 use Rattle.db_core.specs.Members.{AreInOrder, Member, member_name}
 use Rattle.db_core.specs.Packages.{is_package_named}
 use Rattle.dep_core.specs.Repositories.{Repository}
@@ -50,7 +50,7 @@ named_by_file : (c : Candidate) (file : Option (List ℕ)) (p : ComingPackage) �
 named_by_file c None p is = absurd (cc)
 named_by_file c (Some file) p is = go (package_fault file) is
   where
-    go : (fault : Option Cause) → unless_bad c fault (package_in_file file) ≡ Ok p → package_name p.value ≡ c.name
+    go : (fault : Option Cause) → unless_package_bad c fault (package_in_file file) ≡ Ok p → package_name p.value ≡ c.name
     go None is = same_name c (package_in_file file) p is
     go (Some cause) is = absurd (cc)
 

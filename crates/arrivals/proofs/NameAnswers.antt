@@ -15,7 +15,7 @@ use Rattle.change_inputs.specs.declared.refused.Refused.TheVariants.{Disk, Memor
 use Rattle.make_info.specs.Reads.{Reads}
 use Rattle.report_core.specs.declared.refusal.Refusal as Refusals
 use Rattle.arrivals.specs.NameReads.{FindsAt, IsAnswerByRead, IsByRead}
-use Rattle.arrivals.specs.Told.{IsToldAs}
+use Rattle.arrivals.specs.Told.{IsRefusalTold}
 
 -- a read finds under a name what stands there
 pub finds_it : (h : List TreeState) (read : Reads) (n : ℕ) (name : List ℕ) (found : Option (List ℕ)) → StandsAt h name found → FindsAt h read n found → read n name ≡ found
@@ -41,7 +41,7 @@ module _ {A B : Type 0} (StandsFor : A → B → Type 0) (h : List TreeState) (b
   answer_handed (Ok a) fault is answers = absurd is
   answer_handed (Err e) fault is answers = let P : Refused → Type 0 = λ x. IsAnswerByRead StandsFor h by (Err x) in subst P (sym is) answers
 
-  pub told_answers : (wanted : Refusals.Refusal) (fault : Refused) → IsToldAs wanted fault → IsByRead h by (Err wanted) → IsAnswerByRead StandsFor h by (Err fault)
+  pub told_answers : (wanted : Refusals.Refusal) (fault : Refused) → IsRefusalTold wanted fault → IsByRead h by (Err wanted) → IsAnswerByRead StandsFor h by (Err fault)
   told_answers wanted (Refusal refusal) told is = let P : Refusals.Refusal → Type 0 = λ x. IsByRead h by (Err x) in subst P (sym told) is
   told_answers wanted Disk told is = tt
   told_answers wanted Memory told is = tt

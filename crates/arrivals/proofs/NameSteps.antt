@@ -15,7 +15,7 @@ use Rattle.report_core.specs.Reports.{Change}
 use Rattle.report_core.specs.declared.refusal.Refusal as Refusals
 use Rattle.arrivals.specs.Arrivals.{IsMemberRead, IsPackageRead}
 use Rattle.arrivals.specs.NameReads.{IsAnswerByRead, IsByRead, IsNameRead, coming_read, name_read}
-use Rattle.arrivals.specs.declared.standin.TestedPackage.{TestedPackage}
+use Rattle.package_test.specs.declared.package.TestedPackage.{TestedPackage}
 use Rattle.arrivals.specs.declared.arrivals.MemberRead.TheVariants.{Comes}
 use Rattle.arrivals.proofs.NameAnswers.{by_any_read}
 

@@ -8,7 +8,7 @@ use Rattle.change_inputs.specs.Answers.{Agrees, StandsAt}
 use Rattle.change_inputs.specs.Chains.{and_then}
 use Rattle.change_inputs.specs.declared.refused.Refused.{Refused}
 use Rattle.change_outcome.specs.MembersAfter.{coming_by_path}
-use Rattle.change_outcome.specs.PackageFiles.{ComingPackage, package_file_of, package_found, package_in_file, scripts_of_change, unless_bad, unless_different, unless_number, unless_script, first_script_of}
+use Rattle.change_outcome.specs.PackageFiles.{ComingPackage, package_file_of, package_found, package_in_file, scripts_of_change, unless_package_bad, unless_different, unless_number, unless_script, first_script_of}
 use Rattle.dep_core.specs.Repositories.{Repository}
 use Rattle.make_info.specs.Reads.{Reads}
 use Rattle.pkg_core.specs.Whole.{package_fault}
@@ -19,10 +19,10 @@ use Rattle.report_core.specs.declared.refusal.Refusal.TheVariants.{PackageBad, P
 use Rattle.package_changes.specs.Changes.{selected_version}
 use Rattle.arrivals.specs.Arrivals.{IsPackageRead}
 use Rattle.arrivals.specs.NameReads.{FindsAt, IsAnswerByRead, IsByRead, candidate_read, coming_read, file_read}
-use Rattle.arrivals.specs.StandIn.{IsReadOf, IsTestedOf, tested_id, tested_name, tested_value}
-use Rattle.arrivals.specs.declared.standin.PackageRead.{PackageRead}
-use Rattle.arrivals.specs.declared.standin.PackageRead.TheVariants.{Absent, Bad, Sound}
-use Rattle.arrivals.specs.declared.standin.TestedPackage.{TestedPackage}
+use Rattle.package_test.specs.Tested.{IsReadOf, IsTestedOf, tested_id, tested_name, tested_value}
+use Rattle.package_test.specs.declared.read.PackageRead.{PackageRead}
+use Rattle.package_test.specs.declared.read.PackageRead.TheVariants.{Absent, Bad, Sound}
+use Rattle.package_test.specs.declared.package.TestedPackage.{TestedPackage}
 use Rattle.arrivals.proofs.NameAnswers.{finds_it}
 
 -- what stands under the name of a package's file was read
@@ -45,7 +45,7 @@ module _ (h : List TreeState) (path : List ℕ) (c : Candidate) where
     where
       go : (found : Option (List ℕ)) → StandsAt h path found → IsReadOf path found (Bad cause) → IsByRead h (file_read c path) (Err (PackageBad c.name (selected_version c) cause))
       go None stands read = absurd read
-      go (Some file) stands read = by_file (Some file) stands _ (ap (λ fault. unless_bad c fault (package_in_file file)) read)
+      go (Some file) stands read = by_file (Some file) stands _ (ap (λ fault. unless_package_bad c fault (package_in_file file)) read)
 
   -- a tested file: what its test gives is what the definition gives
   pub record IsSoundRead (pkg : TestedPackage) : Type 0 where
@@ -64,11 +64,11 @@ module _ (h : List TreeState) (path : List ℕ) (c : Candidate) where
         coming = package_in_file file;
         value = sym read.value;
         id = sym read.id;
-        by = by_file (Some file) stands _ (ap (λ fault. unless_bad c fault (package_in_file file)) read.sound);
+        by = by_file (Some file) stands _ (ap (λ fault. unless_package_bad c fault (package_in_file file)) read.sound);
         read = record {
           file = file;
-          stands = subst (λ q. StandsAt h q (Some file)) (sym read.name_in_tree) stands;
-          tested = subst (λ q. IsTestedOf q file pkg) (sym read.name_in_tree) read;
+          stands = subst (λ q. StandsAt h q (Some file)) (sym read.named) stands;
+          tested = subst (λ q. IsTestedOf q file pkg) (sym read.named) read;
           is = refl;
         };
       }

@@ -11,9 +11,9 @@ use Rattle.db_core.specs.declared.members.TheConstants.{MOST_MEMBERS}
 use Rattle.dep_core.specs.Repositories.{Repository}
 use Rattle.make_info.specs.Reads.{Reads}
 use Rattle.package_changes.specs.Placed.{PlacedReplacement, replacement_of}
-use Rattle.arrivals.specs.Arrivals.{AreMembersRead, ArePlaced, CanBeMembers, IsFileFound, IsMemberRead, IsPackageRead, IsPlaced, member_read, members_read, package_in}
-use Rattle.arrivals.specs.StandIn.{tested_id, tested_value}
-use Rattle.arrivals.specs.declared.standin.TestedPackage.{TestedPackage}
+use Rattle.arrivals.specs.Arrivals.{AreMembersRead, ArePlaced, CanBeMembers, IsFileOfMember, IsMemberRead, IsPackageRead, IsPlaced, member_read, members_read, package_in}
+use Rattle.package_test.specs.Tested.{tested_id, tested_value}
+use Rattle.package_test.specs.declared.package.TestedPackage.{TestedPackage}
 use Rattle.arrivals.specs.declared.arrivals.MemberRead.{MemberRead}
 use Rattle.arrivals.specs.declared.arrivals.MemberRead.TheVariants.{Comes, Stays}
 use Rattle.arrivals.proofs.MembersInOrder.{members_few, members_rise}
@@ -65,7 +65,7 @@ module _ (h : List TreeState) (before : List Plain) where
   all_placed (r ∷ reads) [] are = absurd are
   all_placed (r ∷ reads) (m ∷ found) are = (one_placed r m are.0, all_placed reads found are.1)
 
-  pub file_found : (reads : List MemberRead) (found : List MemberFound) → AreMembersRead h before reads found → (place : ℕ) (pkg : TestedPackage) → slice_get reads place ≡ Some (Comes pkg) → IsFileFound h found place pkg
+  pub file_found : (reads : List MemberRead) (found : List MemberFound) → AreMembersRead h before reads found → (place : ℕ) (pkg : TestedPackage) → slice_get reads place ≡ Some (Comes pkg) → IsFileOfMember h found place pkg
   file_found [] [] are place pkg here = absurd (cc)
   file_found [] (m ∷ found) are place pkg here = absurd are
   file_found (r ∷ reads) [] are place pkg here = absurd are
@@ -73,7 +73,7 @@ module _ (h : List TreeState) (before : List Plain) where
       let same : r ≡ Comes pkg = cc in
       go (subst (λ z. IsMemberRead h before z m) same are.0)
     where
-      go : (coming : ComingPackage) × IsPackageRead h pkg coming × (m ≡ coming_found coming) → IsFileFound h (m ∷ found) 0 pkg
+      go : (coming : ComingPackage) × IsPackageRead h pkg coming × (m ≡ coming_found coming) → IsFileOfMember h (m ∷ found) 0 pkg
       go (coming, r, is) = record {
         file = r.file;
         stands = r.stands;
@@ -102,7 +102,7 @@ comes_here None pkg is = absurd (cc)
 comes_here (Some (Stays place)) pkg is = absurd (cc)
 comes_here (Some (Comes p)) pkg is = let same : p ≡ pkg = cc in ap (λ z. Some (Comes z)) same
 
-pub file_of_package : (h : List TreeState) (before : List Plain) (reads : List MemberRead) (found : List MemberFound) → AreMembersRead h before reads found → (place : ℕ) (pkg : TestedPackage) → option_and_then package_in (slice_get reads place) ≡ Some pkg → IsFileFound h found place pkg
+pub file_of_package : (h : List TreeState) (before : List Plain) (reads : List MemberRead) (found : List MemberFound) → AreMembersRead h before reads found → (place : ℕ) (pkg : TestedPackage) → option_and_then package_in (slice_get reads place) ≡ Some pkg → IsFileOfMember h found place pkg
 file_of_package h before reads found are place pkg here = file_found h before reads found are place pkg (comes_here (slice_get reads place) pkg here)
 
 no_stay : (o : Option Plain) (m : MemberFound) → Some m ≡ option_map staying_found o → is_coming m.member ≡ true → ⊥

@@ -1,4 +1,4 @@
--- The packages after a change as they were read, and that each is the one that the definition finds.
+-- The packages after a change as they were read, each the one that the definition finds.
 use Rattle.std.specs.Prelude.{◌≡◌, ◌<◌, ◌≤◌, ℕ, List, [], ◌∷◌, length, Option, Some, None, option_map, slice_get}
 use Rattle.std.specs.List.{filter_map}
 use Rattle.adb_view.specs.Plain.{Plain}
@@ -10,8 +10,8 @@ use Rattle.db_core.specs.Members.{AreInOrder, Member, coming_member, staying_mem
 use Rattle.db_core.specs.declared.members.TheConstants.{MOST_MEMBERS}
 use Rattle.pkg_core.specs.Contents.{contents_in}
 use Rattle.pkg_core.specs.Whole.{files_in_file}
-use Rattle.arrivals.specs.StandIn.{IsTestedOf, tested_id, tested_name, tested_value}
-use Rattle.arrivals.specs.declared.standin.TestedPackage.{TestedPackage}
+use Rattle.package_test.specs.Tested.{IsTestedOf, tested_id, tested_name, tested_value}
+use Rattle.package_test.specs.declared.package.TestedPackage.{TestedPackage}
 use Rattle.arrivals.specs.declared.arrivals.Arrivals.{Arrivals}
 use Rattle.arrivals.specs.declared.arrivals.MemberRead.{MemberRead}
 use Rattle.arrivals.specs.declared.arrivals.MemberRead.TheVariants.{Comes, Stays}
@@ -41,8 +41,8 @@ AreMembersRead history before (r ∷ reads) [] = ⊥
 AreMembersRead history before (r ∷ reads) (m ∷ found) =
     IsMemberRead history before r m × AreMembersRead history before reads found
 
-abbrev pub reads_in : Arrivals → List MemberRead
-reads_in arrivals = arrivals.members.items
+abbrev pub arrivals_seen : Arrivals → List MemberRead
+arrivals_seen arrivals = arrivals.members.items
 
 -- ---- without their files
 
@@ -76,7 +76,7 @@ package_in (Stays place) = None
 package_in (Comes pkg) = Some pkg
 
 -- a package that comes, and the file that was found for the member at a place
-pub record IsFileFound (history : List TreeState) (found : List MemberFound) (place : ℕ)
+pub record IsFileOfMember (history : List TreeState) (found : List MemberFound) (place : ℕ)
     (pkg : TestedPackage) : Type 0 where
   pub file : List ℕ
   pub stands : StandsAt history (tested_name pkg) (Some file)

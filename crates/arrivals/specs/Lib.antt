@@ -4,4 +4,3 @@ pub mod Arrivals
 -- what only inner contracts and proofs use
 pub mod Told
 pub mod NameReads
-pub mod StandIn

@@ -17,8 +17,8 @@ use Rattle.report_core.specs.declared.refusal.Refusal as Refusals
 use Rattle.arrivals.specs.Arrivals.{IsMemberRead}
 use Rattle.arrivals.specs.declared.arrivals.MemberRead.{MemberRead}
 
--- the read with this number finds under each name what stands there, where the tree shows its files,
--- and else this
+-- the read with this number finds under each name what stands there, where the tree shows its
+-- files, and else this
 abbrev pub FindsAt : List TreeState → Reads → ℕ → Option (List ℕ) → Type 0
 FindsAt [] read n found = (name : List ℕ) → read n name ≡ found
 FindsAt (v ∷ earlier) read n found = (name : List ℕ) → read n name ≡ files_of v name
@@ -75,4 +75,5 @@ IsNameRead history before (Some r) (Some m) = IsMemberRead history before r m
 
 -- a package that stays, or none where there is none before
 abbrev pub IsStaying : List Plain → Option Plain → Option MemberRead → Type 0
-IsStaying before old r = (history : List TreeState) → IsNameRead history before r (option_map staying_found old)
+IsStaying before old r =
+    (history : List TreeState) → IsNameRead history before r (option_map staying_found old)

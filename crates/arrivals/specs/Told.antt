@@ -6,7 +6,7 @@ use Rattle.change_inputs.specs.declared.refused.Refused.TheVariants as Commands
 use Rattle.report_core.specs.declared.refusal.Refusal.{Refusal}
 
 -- this refusal, or want of memory
-abbrev pub IsToldAs : Refusal → Refused → Type 0
-IsToldAs wanted (Commands.Refusal refusal) = refusal ≡ wanted
-IsToldAs wanted Commands.Disk = ⊥
-IsToldAs wanted Commands.Memory = Unit {0}
+abbrev pub IsRefusalTold : Refusal → Refused → Type 0
+IsRefusalTold wanted (Commands.Refusal refusal) = refusal ≡ wanted
+IsRefusalTold wanted Commands.Disk = ⊥
+IsRefusalTold wanted Commands.Memory = Unit {0}

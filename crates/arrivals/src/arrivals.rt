@@ -1,6 +1,6 @@
 //! The packages after a change, as they are read.
 ghost use Rattle.arrivals.specs.Answered.{StandsUnlessDisk};
-ghost use Rattle.arrivals.specs.Arrivals.{AreMembersRead, CanBeMembers, reads_in};
+ghost use Rattle.arrivals.specs.Arrivals.{AreMembersRead, CanBeMembers, arrivals_seen};
 ghost use Rattle.arrivals.specs.NameReads.{IsAnswerByRead, IsNameRead, IsStaying, name_read};
 ghost use Rattle.base_core.specs.Read.{OnlyReads};
 ghost use Rattle.change_inputs.specs.Answers.{Agrees};
@@ -14,13 +14,12 @@ ghost use Rattle.std.specs.Prelude.{◌≡◌, ◌≤◌, ◌==◌, ◌++◌, �
 
 use crate::package::read_coming;
 use crate::scripts::test_scripts;
-use crate::standin::TestedPackage;
-use adb_schema::PackageView;
 use base_core::{Tree, readings_in_a_row_join};
 use change_inputs::Refused;
 use db_core::Db;
 use dep_core::Repos;
 use package_changes::{Change, PlacedName, PlacedNames, places_lead_to_packages_and_candidates};
+use package_test::TestedPackage;
 use pool_core::Sealed;
 use std::alloc::{AllocError, Global};
 use std::marker::PhantomData;
@@ -46,14 +45,14 @@ impl Arrivals {
 
     /// How many packages there are after the change.
     pub fn len(&self) -> usize
-        ensures { result ≡ length (reads_in self.now) }
+        ensures { result ≡ length (arrivals_seen self.now) }
     {
         self.members.len()
     }
 
     /// Whether there is none.
     pub fn is_empty(&self) -> bool
-        ensures { result ≡ (length (reads_in self.now) == 0) }
+        ensures { result ≡ (length (arrivals_seen self.now) == 0) }
     {
         self.members.is_empty()
     }
@@ -61,7 +60,7 @@ impl Arrivals {
     /// The package of the member at a place, counted from 0, if it comes.
     pub fn package(&self, place: usize) -> Option<&TestedPackage>
         ensures { option_copied result
-            ≡ option_and_then package_in (slice_get (reads_in self.now) place) }
+            ≡ option_and_then package_in (slice_get (arrivals_seen self.now) place) }
     {
         if place >= self.members.len() {
             return None;
@@ -95,14 +94,14 @@ pub fn read_arrivals<T: Tree>(
         → placed_names_seen names.now
         ≡ placed_names_of (replacement_by db.now pool.now trace again)
         → Explains (T.history tree.old) (λ read. StandsUnlessDisk (λ arrivals found.
-        AreMembersRead (T.history tree.old) (packages_of db.now) (reads_in arrivals) found) result
+        AreMembersRead (T.history tree.old) (packages_of db.now) (arrivals_seen arrivals) found) result
         (members_after (replacement_of (replacement_by db.now pool.now trace again)) read
         repositories.now no_scripts)) }
     ensures members { (trace : List ℕ) (again : List (List ℕ))
         → placed_names_seen names.now
         ≡ placed_names_of (replacement_by db.now pool.now trace again)
         → length pool.now.candidates ≤ MOST_MEMBERS
-        → IfOk result (λ arrivals. CanBeMembers (packages_of db.now) (reads_in arrivals)) }
+        → IfOk result (λ arrivals. CanBeMembers (packages_of db.now) (arrivals_seen arrivals)) }
     ensures tree { OnlyReads Refused.Disk (T.history tree.old) (T.history tree.new)
         (T.counts tree.old) (T.counts tree.new) result }
 {
@@ -173,7 +172,8 @@ fn read_name<T: Tree>(
 
 /// The package at a place of the database, which stays, if there is one.
 fn staying(db: &Db<'_>, place: Option<usize>) -> Option<MemberRead>
-    ensures { IsStaying (packages_of db.now) (option_and_then (slice_get (packages_of db.now)) place) result }
+    ensures { IsStaying (packages_of db.now)
+        (option_and_then (slice_get (packages_of db.now)) place) result }
 {
     match place {
         Some(i) if i < db.len() => Some(MemberRead::Stays(i)),

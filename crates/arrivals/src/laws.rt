@@ -1,9 +1,9 @@
 //! What follows from the definitions: a law is a function that does nothing, and its contract says
 //! it.
 ghost use Rattle.adb_view.specs.Plain.{Plain};
-ghost use Rattle.arrivals.specs.Arrivals.{AreMembersRead, IsFileFound, members_read, package_in};
+ghost use Rattle.arrivals.specs.Arrivals.{AreMembersRead, IsFileOfMember, members_read, package_in};
 ghost use Rattle.arrivals.specs.declared.arrivals.MemberRead.{MemberRead};
-ghost use Rattle.arrivals.specs.declared.standin.TestedPackage.{TestedPackage};
+ghost use Rattle.package_test.specs.declared.package.TestedPackage.{TestedPackage};
 ghost use Rattle.base_core.specs.Tree.{TreeState};
 ghost use Rattle.change_inputs.specs.Inputs.{first_index_read};
 ghost use Rattle.change_outcome.specs.MembersAfter.{MemberFound, members_after, members_found};
@@ -27,7 +27,7 @@ pub fn a_package_that_was_read_is_that_of_its_file()
         (found : List MemberFound) → AreMembersRead history before reads found
         → (place : ℕ) (pkg : TestedPackage)
         → option_and_then package_in (slice_get reads place) ≡ Some pkg
-        → IsFileFound history found place pkg }
+        → IsFileOfMember history found place pkg }
     ensures comes { (history : List TreeState) (before : List Plain) (reads : List MemberRead)
         (found : List MemberFound) → AreMembersRead history before reads found
         → (place : ℕ) (m : Member) → slice_get (members_found found) place ≡ Some m

@@ -2,9 +2,10 @@
 //! repositories, and each is tested once, piece by piece.
 //!
 //! What becomes of each name comes in (crate `package_changes`). `read_arrivals` gives the packages
-//! after the change, each as it stays in the database or as its file has it, or the first refusal of
-//! one. The contracts cite `members_after` of crate `change_outcome`, and `Arrivals` of `specs/`:
-//! that a package that was read is the one that the definition finds.
+//! after the change, each as it stays in the database or as its file has it, or the first refusal
+//! of one; `members_of_change` makes members of them. The contracts cite `members_after` of crate
+//! `change_outcome`, and `Arrivals` of `specs/`: that a package that was read is the one that the
+//! definition finds.
 #![tactic(auto)]
 
 mod arrivals;
@@ -14,7 +15,6 @@ mod package;
 mod path;
 mod same;
 mod scripts;
-mod standin;
 mod told;
 
 pub use arrivals::{Arrivals, read_arrivals};

@@ -1,5 +1,5 @@
 //! The packages that were read, as members.
-ghost use Rattle.arrivals.specs.Arrivals.{CanBeMembers, IsPlaced, member_read, members_read, reads_in};
+ghost use Rattle.arrivals.specs.Arrivals.{CanBeMembers, IsPlaced, member_read, members_read, arrivals_seen};
 ghost use Rattle.db_core.specs.Members.{Member, comes_behind, member_name};
 ghost use Rattle.db_core.specs.Seen.{members_of, packages_of};
 ghost use Rattle.db_core.specs.declared.members.TheConstants.{MOST_MEMBERS};
@@ -16,9 +16,9 @@ pub fn members_of_change<'a>(
     db: &Db<'a>,
     arrivals: &'a Arrivals,
 ) -> Result<Members<'a>, AllocError>
-    requires { CanBeMembers (packages_of db.now) (reads_in arrivals.now) }
+    requires { CanBeMembers (packages_of db.now) (arrivals_seen arrivals.now) }
     ensures { IfOk result (λ members. members_of members
-        ≡ members_read (packages_of db.now) (reads_in arrivals.entry.now)) }
+        ≡ members_read (packages_of db.now) (arrivals_seen arrivals.entry.now)) }
 {
     let mut members = Members::new(alloc);
     for read in &arrivals.members {
@@ -42,6 +42,6 @@ fn push_read<'a>(
 {
     match read {
         MemberRead::Stays(place) => members.stays(db, *place),
-        MemberRead::Comes(_) => Err(AllocError),
+        MemberRead::Comes(pkg) => members.comes_in_pieces(&pkg.contents()),
     }
 }

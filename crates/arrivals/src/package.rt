@@ -1,8 +1,8 @@
 //! The package of a candidate: its file is read and tested once.
 ghost use Rattle.arrivals.specs.Arrivals.{IsPackageRead};
 ghost use Rattle.arrivals.specs.NameReads.{IsAnswerByRead, candidate_read, coming_read, file_read};
-ghost use Rattle.arrivals.specs.StandIn.{tested_id, tested_value};
-ghost use Rattle.arrivals.specs.Told.{IsToldAs};
+ghost use Rattle.package_test.specs.Tested.{tested_id, tested_value};
+ghost use Rattle.arrivals.specs.Told.{IsRefusalTold};
 ghost use Rattle.base_core.specs.Read.{OnlyReads};
 ghost use Rattle.change_inputs.specs.Answers.{Agrees};
 ghost use Rattle.change_outcome.specs.PackageFiles.{ComingPackage, scripts_of_change, unless_different, unless_script};
@@ -15,13 +15,13 @@ ghost use Rattle.std.specs.Prelude.{◌≡◌, true, IfOk};
 use crate::path::package_file_of;
 use crate::same::test_same;
 use crate::scripts::test_scripts;
-use crate::standin::{PackageRead, TestedPackage, read_package};
 use crate::told::told;
 use adb_schema::PackageView;
 use base_core::{Cause, Name, Text, Tree};
 use change_inputs::Refused;
 use dep_core::Repos;
 use package_changes::Change;
+use package_test::{PackageRead, TestedPackage, read_package};
 use pool_core::Candidate;
 use report_core::Refusal;
 use std::alloc::{AllocError, Global};
@@ -65,7 +65,9 @@ fn test_own_scripts(
     ensures { Agrees (λ _. true) result (unless_script no_scripts name.now (tested_value pkg.now)
         (scripts_of_change (change_seen change.now)) true) }
 {
-    Err(Refused::Memory)
+    let contents = pkg.contents();
+    let view = contents.view();
+    test_scripts(alloc, no_scripts, name, change, &view, PhantomData)
 }
 
 /// Reads the package of a candidate, and tests its file and whether it is as its index says.
@@ -102,24 +104,31 @@ fn read_beside<T: Tree>(
         PackageRead::Absent => Err(missing(alloc, c)),
         PackageRead::Bad(cause) => Err(bad(alloc, c, cause)),
         PackageRead::Sound(pkg) => {
-            test_as_indexed(alloc, c, &pkg)?;
+            test_as_indexed(alloc, c, &pkg, PhantomData)?;
             Ok(pkg)
         }
     }
 }
 
-/// Tests that a tested package is as its index says.
-fn test_as_indexed(alloc: Global, c: &Candidate<'_>, pkg: &TestedPackage) -> Result<(), Refused>
+/// Tests that a tested package is as its index says. The mark serves the borrow checker alone.
+fn test_as_indexed<'a>(
+    alloc: Global,
+    c: &Candidate<'_>,
+    pkg: &'a TestedPackage,
+    _mark: PhantomData<PackageView<'a>>,
+) -> Result<(), Refused>
     ensures { (coming : ComingPackage) → coming.value ≡ tested_value pkg.now
         → coming.id ≡ tested_id pkg.now
         → Agrees (λ _. coming) result (unless_different (candidate_value c.now) coming) }
 {
-    Err(Refused::Memory)
+    let contents = pkg.contents();
+    let view = contents.view();
+    test_same(alloc, c, &view, &contents.id())
 }
 
 /// That the file of a package is absent.
 fn missing(alloc: Global, c: &Candidate<'_>) -> Refused
-    ensures { IsToldAs (PackageMissing (candidate_value c.now).name
+    ensures { IsRefusalTold (PackageMissing (candidate_value c.now).name
         (selected_version (candidate_value c.now))) result }
 {
     told(package_missing(alloc, c))
@@ -138,7 +147,7 @@ fn package_missing(alloc: Global, c: &Candidate<'_>) -> Result<Refusal, AllocErr
 
 /// That the file of a package fails a test.
 fn bad(alloc: Global, c: &Candidate<'_>, cause: Cause) -> Refused
-    ensures { IsToldAs (PackageBad (candidate_value c.now).name
+    ensures { IsRefusalTold (PackageBad (candidate_value c.now).name
         (selected_version (candidate_value c.now)) cause) result }
 {
     told(package_bad(alloc, c, cause))

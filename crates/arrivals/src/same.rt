@@ -1,6 +1,6 @@
 //! Whether the file of a package has what its index says of it.
 ghost use Rattle.adb_schema.specs.Views.{package_value};
-ghost use Rattle.arrivals.specs.Told.{IsToldAs};
+ghost use Rattle.arrivals.specs.Told.{IsRefusalTold};
 ghost use Rattle.change_inputs.specs.Answers.{Agrees};
 ghost use Rattle.change_outcome.specs.PackageFiles.{ComingPackage, unless_different};
 ghost use Rattle.package_changes.specs.Changes.{selected_version};
@@ -53,7 +53,7 @@ pub(crate) fn test_same(
 
 /// That a package has something else in a field than its index says.
 fn differs(alloc: Global, c: &Candidate<'_>, field: u16, wanted: &[u8], found: &[u8]) -> Refused
-    ensures { IsToldAs (PackageDiffers (candidate_value c.now).name
+    ensures { IsRefusalTold (PackageDiffers (candidate_value c.now).name
         (selected_version (candidate_value c.now)) field wanted.now found.now) result }
 {
     told(package_differs(alloc, c, field, wanted, found))

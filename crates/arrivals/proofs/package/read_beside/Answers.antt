@@ -17,30 +17,30 @@ pub returns-in-Absent-clause-found : goal.returns-in-Absent-clause-found
 returns-in-Absent-clause-found g c =
     let h = g.T.Tree.history c.args.tree.now in
     told_answers (IsPackageRead h) h (file_read (candidate_value c.args.c.now) c.args.path.now) _ c.missing.result c.missing.ensures
-    (absent_read h c.args.path.now (candidate_value c.args.c.now) _ c.in-Absent.is c.in_ok-read_package.ensures.tests)
+    (absent_read h c.args.path.now (candidate_value c.args.c.now) _ c.in-Absent.is c.in_ok-read_package.ensures.read)
 
 pub returns-in-Bad-clause-found : goal.returns-in-Bad-clause-found
 returns-in-Bad-clause-found g c =
     let h = g.T.Tree.history c.args.tree.now in
     told_answers (IsPackageRead h) h (file_read (candidate_value c.args.c.now) c.args.path.now) _ c.bad.result c.bad.ensures
-    (bad_read h c.args.path.now (candidate_value c.args.c.now) _ c.in-Bad.cause c.in-Bad.is c.in_ok-read_package.ensures.tests)
+    (bad_read h c.args.path.now (candidate_value c.args.c.now) _ c.in-Bad.cause c.in-Bad.is c.in_ok-read_package.ensures.read)
 
 pub returns-in_err-test_as_indexed-in-Sound-clause-found : goal.returns-in_err-test_as_indexed-in-Sound-clause-found
 returns-in_err-test_as_indexed-in-Sound-clause-found g c =
     let h = g.T.Tree.history c.args.tree.now in
-    let s = sound_read h c.args.path.now (candidate_value c.args.c.now) _ c.in-Sound.pkg c.in-Sound.is c.in_ok-read_package.ensures.tests in
+    let s = sound_read h c.args.path.now (candidate_value c.args.c.now) _ c.in-Sound.pkg c.in-Sound.is c.in_ok-read_package.ensures.read in
     test_refused {U = Unit {0}} (λ _. s.coming) (IsPackageRead h) h (file_read (candidate_value c.args.c.now) c.args.path.now) (file_read (candidate_value c.args.c.now) c.args.path.now) _ (unless_different (candidate_value c.args.c.now) s.coming) c.from_residual-in_err-test_as_indexed-in-Sound.result _
     c.from_residual-in_err-test_as_indexed-in-Sound.ensures.1 s.by (c.in_err-test_as_indexed-in-Sound.ensures s.coming s.value s.id)
     (λ read n refusal is test. is ∙ test)
 
 pub returns-in_err-test_as_indexed-in-Sound-clause-tree : goal.returns-in_err-test_as_indexed-in-Sound-clause-tree
 returns-in_err-test_as_indexed-in-Sound-clause-tree g c =
-    let s = sound_read (g.T.Tree.history c.args.tree.now) c.args.path.now (candidate_value c.args.c.now) _ c.in-Sound.pkg c.in-Sound.is c.in_ok-read_package.ensures.tests in
+    let s = sound_read (g.T.Tree.history c.args.tree.now) c.args.path.now (candidate_value c.args.c.now) _ c.in-Sound.pkg c.in-Sound.is c.in_ok-read_package.ensures.read in
     then_refused {U = Unit {0}} (λ _. s.coming) (unless_different (candidate_value c.args.c.now) s.coming) _ _ _ _ _ _ _ _ c.from_residual-in_err-test_as_indexed-in-Sound.ensures.1
     (c.in_err-test_as_indexed-in-Sound.ensures s.coming s.value s.id) c.in_ok-read_package.ensures.tree
 
 pub returns-in_ok-test_as_indexed-in-Sound-clause-found : goal.returns-in_ok-test_as_indexed-in-Sound-clause-found
 returns-in_ok-test_as_indexed-in-Sound-clause-found g c =
     let h = g.T.Tree.history c.args.tree.now in
-    let s = sound_read h c.args.path.now (candidate_value c.args.c.now) _ c.in-Sound.pkg c.in-Sound.is c.in_ok-read_package.ensures.tests in
+    let s = sound_read h c.args.path.now (candidate_value c.args.c.now) _ c.in-Sound.pkg c.in-Sound.is c.in_ok-read_package.ensures.read in
     sound_answer h c.args.path.now (candidate_value c.args.c.now) c.in-Sound.pkg s (c.in_ok-test_as_indexed-in-Sound.ensures s.coming s.value s.id)

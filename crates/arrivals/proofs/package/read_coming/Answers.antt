@@ -4,7 +4,7 @@ use Rattle.package_changes.specs.Seen.{change_seen}
 use Rattle.pool_core.specs.Values.{candidate_value}
 use Rattle.arrivals.specs.Arrivals.{IsPackageRead}
 use Rattle.arrivals.specs.NameReads.{candidate_read, coming_read}
-use Rattle.arrivals.specs.StandIn.{tested_value}
+use Rattle.package_test.specs.Tested.{tested_value}
 use Rattle.arrivals.proofs.NameAnswers.{answer_handed, part_refused, test_refused}
 use Rattle.arrivals.proofs.PackageAnswers.{passed_scripts, refused_before, refused_by_script}
 use Rattle.arrivals.proofs.package.read_coming.Goals as goal
