@@ -1,4 +1,4 @@
 mod LastSlash
-mod Loops
+pub mod Loops
 mod Stars
 mod Watching

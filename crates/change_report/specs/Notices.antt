@@ -1,0 +1,10 @@
+-- What a notice of the program says.
+use Rattle.std.specs.Prelude.{if◌then◌else◌}
+use Rattle.change_outcome.specs.ConfigurationLines.{PathLine, aside_line, kept_line}
+use Rattle.change_report.specs.declared.configuration.Notice.{Notice}
+
+abbrev pub notice_seen : Notice → PathLine
+notice_seen n = record {
+  path = n.path.now;
+  line = (if n.is_kept then kept_line else aside_line) n.path.now;
+}

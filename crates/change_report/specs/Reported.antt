@@ -1,0 +1,25 @@
+-- The change that a report speaks of.
+use Rattle.std.specs.Prelude.{◌≡◌, ℕ, List, map}
+use Rattle.base_core.specs.Files.{Files}
+use Rattle.change_files.specs.FileChange.{FileChange}
+use Rattle.change_outcome.specs.ChangeOutcome.{ChangeWishes}
+use Rattle.db_core.specs.Seen.{members_of}
+use Rattle.own_core.specs.Planned.{ArePlanLists}
+use Rattle.package_changes.specs.Changes.{Replacement, changes_of}
+use Rattle.package_changes.specs.Placed.{PlacedChange, replacement_of}
+use Rattle.package_changes.specs.Seen.{changes_seen, replacement_by}
+use Rattle.change_report.specs.declared.reporting.ReportedChange.{ReportedChange}
+
+-- the selection takes the place of the packages before, and these names are to be installed again
+abbrev pub replacement_reported : ReportedChange → List (List ℕ) → Replacement
+replacement_reported c again =
+    replacement_of (replacement_by c.db.now c.pool.now c.trace.now again)
+
+-- the changes are those of the replacement, and the plan is that of the change over these files
+pub record IsReportedOf (c : ReportedChange) (again : List (List ℕ)) (wishes : ChangeWishes)
+    (change : FileChange) (files : Files) : Type 0 where
+  pub changes : map (λ (p : PlacedChange). p.change) (changes_seen c.changes.now)
+      ≡ changes_of (replacement_reported c again)
+  pub to_go : wishes.to_go ≡ c.to_go.now
+  pub members : change.members ≡ members_of c.members.now
+  pub plan : ArePlanLists change files c.plan.now

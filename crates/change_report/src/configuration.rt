@@ -1,0 +1,106 @@
+//! The lines on configuration that the user changed.
+ghost use Rattle.change_outcome.specs.ConfigurationLines.{aside_line, configuration_lines, kept_line, path_line, path_line_cmp};
+ghost use Rattle.change_report.specs.Notices.{notice_seen};
+ghost use Rattle.list_order.specs.Sorted.{sorted_by};
+ghost use Rattle.std.specs.List.{flat_map};
+ghost use Rattle.std.specs.Prelude.{◌≡◌, ◌++◌, ◌∷◌, [], map, if◌then◌else◌, IfOk, OnOk};
+
+use base_core::Names;
+use own_core::FilePlan;
+use report_core::Report;
+use std::alloc::{AllocError, Global};
+
+/// A path of configuration that the user changed.
+#[derive(Clone, Copy)]
+pub(crate) struct Notice<'p> {
+    pub(crate) path: &'p [u8],
+    /// The user's file stays though its package is gone; else a new file is laid beside it.
+    pub(crate) is_kept: bool,
+}
+
+/// Adds a line for each path beside which a file is laid, and for each at which the user's file stays,
+/// in byte order of the paths.
+#[tactic(auto, unfolding(change_outcome::specs::ConfigurationLines::configuration_lines))]
+pub(crate) fn push_configuration_lines(
+    alloc: Global,
+    report: &mut Report,
+    plan: &FilePlan,
+) -> Result<(), AllocError>
+    ensures { OnOk result (report.new
+        ≡ report.old ++ configuration_lines plan.now.aside plan.now.kept) }
+{
+    let mut notices = Vec::new(alloc);
+    push_notices(&mut notices, plan.aside(), false)?;
+    push_notices(&mut notices, plan.kept(), true)?;
+    sort_notices(&mut notices)?;
+    push_lines(report, &notices)?;
+    Ok(())
+}
+
+/// Adds paths of one kind.
+fn push_notices<'p>(
+    notices: &mut Vec<Notice<'p>>,
+    paths: &'p Names,
+    is_kept: bool,
+) -> Result<(), AllocError>
+    ensures { OnOk result (map notice_seen notices.new.items ≡ map notice_seen notices.old.items
+        ++ map (path_line (if is_kept then kept_line else aside_line)) paths.entry.now) }
+{
+    for i in 0..paths.len() {
+        let path = paths.get(i).as_bytes();
+        notices.push(Notice { path, is_kept })?;
+    }
+    Ok(())
+}
+
+/// Puts them into byte order of their paths.
+fn sort_notices(notices: &mut Vec<Notice<'_>>) -> Result<(), AllocError>
+    ensures { OnOk result (map notice_seen notices.new.items
+        ≡ sorted_by path_line_cmp (map notice_seen notices.old.items)) }
+{
+    notices.sort_by(|one, other| one.path.cmp(other.path))?;
+    Ok(())
+}
+
+/// Adds their lines.
+fn push_lines(report: &mut Report, notices: &[Notice<'_>]) -> Result<(), AllocError>
+    ensures { OnOk result (report.new
+        ≡ report.old ++ flat_map (λ l. l.line) (map notice_seen notices.now)) }
+{
+    for notice in notices {
+        push_line(report, notice)?;
+    }
+    Ok(())
+}
+
+/// Adds the line of one of them.
+fn push_line(report: &mut Report, notice: &Notice<'_>) -> Result<(), AllocError>
+    ensures { OnOk result (report.new ≡ report.old ++ (notice_seen notice.now).line) }
+{
+    if notice.is_kept {
+        return push_kept_line(report, notice.path);
+    }
+    push_aside_line(report, notice.path)
+}
+
+/// Adds that a file is laid beside the user's.
+fn push_aside_line(report: &mut Report, path: &[u8]) -> Result<(), AllocError>
+    ensures { OnOk result (report.new ≡ report.old ++ aside_line path.now) }
+{
+    report.push(path)?;
+    report.push(b".apk-new installed; ")?;
+    report.push(path)?;
+    report.push(b" was changed")?;
+    report.push(b"\n")?;
+    Ok(())
+}
+
+/// Adds that the user's file stays.
+fn push_kept_line(report: &mut Report, path: &[u8]) -> Result<(), AllocError>
+    ensures { OnOk result (report.new ≡ report.old ++ kept_line path.now) }
+{
+    report.push(path)?;
+    report.push(b" kept; it was changed")?;
+    report.push(b"\n")?;
+    Ok(())
+}

@@ -1,0 +1,83 @@
+//! The whole report.
+ghost use Rattle.base_core.specs.Files.{Files};
+ghost use Rattle.change_files.specs.FileChange.{FileChange};
+ghost use Rattle.change_outcome.specs.ChangeOutcome.{ChangeWishes, change_report};
+ghost use Rattle.change_outcome.specs.Triggers.{trigger_lines};
+ghost use Rattle.change_report.specs.Reported.{IsReportedOf, replacement_reported};
+ghost use Rattle.db_core.specs.Seen.{members_of};
+ghost use Rattle.due_triggers.specs.Due.{planned_paths};
+ghost use Rattle.std.specs.Prelude.{◌≡◌, ◌++◌, ℕ, List, IfOk, OnOk};
+
+use crate::configuration::push_configuration_lines;
+use crate::sum::push_member_sum;
+use base_core::Words;
+use db_core::{Db, Members};
+use due_triggers::{push_trigger_lines, touched_folders};
+use own_core::FilePlan;
+use package_changes::{Changes, push_change_lines, push_stay_lines};
+use pool_core::Sealed;
+use report_core::Report;
+use solve_core::Trace;
+use std::alloc::{AllocError, Global};
+
+/// What a report speaks of.
+#[derive(Clone, Copy)]
+pub struct ReportedChange<'c, 'd, 'm> {
+    /// The packages before the change.
+    pub db: &'c Db<'d>,
+    /// The candidates, of which `trace` are selected.
+    pub pool: &'c Sealed<'d>,
+    pub trace: &'c Trace,
+    /// What becomes of each package.
+    pub changes: &'c Changes<'d>,
+    /// The names that were to go.
+    pub to_go: &'c Words,
+    /// The packages after the change, and the plan of its files.
+    pub members: &'c Members<'m>,
+    pub plan: &'c FilePlan,
+}
+
+/// The report of a change that is carried out. It takes all its memory before anything is written.
+///
+/// # Errors
+///
+/// Want of memory.
+pub fn change_report(
+    alloc: Global,
+    reported: &ReportedChange<'_, '_, '_>,
+) -> Result<Report, AllocError>
+    ensures { IfOk result (λ report. (again : List (List ℕ)) (wishes : ChangeWishes)
+        (change : FileChange) (files : Files)
+        → IsReportedOf reported.now again wishes change files
+        → report ≡ change_report (replacement_reported reported.now again) wishes change files) }
+{
+    let mut report = Report::new(alloc);
+    push_change_lines(&mut report, reported.changes)?;
+    push_stay_lines(
+        alloc,
+        &mut report,
+        reported.db,
+        reported.pool,
+        reported.trace,
+        reported.to_go,
+    )?;
+    push_configuration_lines(alloc, &mut report, reported.plan)?;
+    push_planned_triggers(alloc, &mut report, reported.plan, reported.members)?;
+    push_member_sum(&mut report, reported.members)?;
+    Ok(report)
+}
+
+/// Adds the lines of the triggers that the plan of a change makes due.
+fn push_planned_triggers(
+    alloc: Global,
+    report: &mut Report,
+    plan: &FilePlan,
+    members: &Members<'_>,
+) -> Result<(), AllocError>
+    ensures { OnOk result (report.new ≡ report.old
+        ++ trigger_lines (planned_paths plan.now) (members_of members.now)) }
+{
+    let folders = touched_folders(alloc, plan)?;
+    push_trigger_lines(report, members, &folders)?;
+    Ok(())
+}
