@@ -11,23 +11,26 @@ use Rattle.v2_core.specs.declared.fault.V2Fault.{V2Fault}
 use Rattle.v2_core.specs.declared.fault.V2Fault.TheVariants.{Bad, Memory, TooLarge}
 use Rattle.change_inputs.specs.Chains.{unless_cause}
 
--- the packages, and whether a text database says them
+-- the packages, the bytes of the container that has them, where there is one, and whether a text
+-- database says them
 pub record Database : Type 0 where
   pub packages : List Plain
+  pub file : Option (List ℕ)
   pub from_text : Bool
 
-abbrev pub database_by : List Plain → Bool → Database
-database_by packages from_text = record { packages = packages; from_text = from_text }
+abbrev pub database_by : List Plain → Option (List ℕ) → Bool → Database
+database_by packages file from_text =
+    record { packages = packages; file = file; from_text = from_text }
 
 -- the database in a container
 abbrev pub container_database : List ℕ → Result Database Refusal
 container_database file =
     unless_cause DatabaseBad (first_fault Idb file)
-    (database_by (entries_at 0 (root_value Idb (payload_in file))) false)
+    (database_by (entries_at 0 (root_value Idb (payload_in file))) (Some file) false)
 
 -- what a text database says, as a payload
 abbrev pub payload_database : Result (List ℕ) V2Fault → Result Database Refusal
-payload_database (Ok payload) = Ok (database_by (entries_at 0 (root_value Idb payload)) true)
+payload_database (Ok payload) = Ok (database_by (entries_at 0 (root_value Idb payload)) None true)
 payload_database (Err (Bad cause)) = Err (DatabaseBad cause)
 payload_database (Err (TooLarge bytes values)) = Err (ResultTooLarge bytes values)
 -- no text gives this
@@ -39,7 +42,7 @@ text_database text = payload_database (payload_of_text text)
 
 -- where there is none, one without packages may be begun
 abbrev pub new_database : Bool → Result Database Refusal
-new_database true = Ok (database_by [] false)
+new_database true = Ok (database_by [] None false)
 new_database false = Err NoDatabase
 
 -- by what is found under the two names of a database, of which the text is looked at last, and

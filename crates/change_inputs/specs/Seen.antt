@@ -1,5 +1,5 @@
 -- What the values of the program stand for.
-use Rattle.std.specs.Prelude.{true, false, List, [], map}
+use Rattle.std.specs.Prelude.{true, false, List, [], Some, None, map}
 use Rattle.adb_fields.specs.Repeated.{entries_at}
 use Rattle.adb_schema.specs.Soundness.{payload_in, root_value}
 use Rattle.adb_tables.specs.declared.tables.Which.TheVariants.{Idb}
@@ -14,12 +14,13 @@ use Rattle.change_inputs.specs.declared.installed.Installed.{Installed}
 use Rattle.change_inputs.specs.declared.loaded.Loaded.{Loaded}
 use Rattle.change_inputs.specs.declared.root.TestedRoot.{TestedRoot}
 
--- the packages that it has, and whether a text says them
+-- the packages that it has, its bytes, and whether a text says them
 abbrev pub database_seen : DatabaseFile → Database
 database_seen (Container own) =
-    database_by (entries_at 0 (root_value Idb (payload_in own.file.items))) false
-database_seen (Payload own) = database_by (entries_at 0 (root_value Idb own.payload.items)) true
-database_seen New = database_by [] false
+    database_by (entries_at 0 (root_value Idb (payload_in own.file.items))) (Some own.file.items) false
+database_seen (Payload own) =
+    database_by (entries_at 0 (root_value Idb own.payload.items)) None true
+database_seen New = database_by [] None false
 
 abbrev pub installed_seen : Installed → Database
 installed_seen installed = database_seen installed.database

@@ -12,6 +12,7 @@ ghost use Rattle.change_inputs.specs.Database.{container_database, new_database,
 ghost use Rattle.db_core.specs.Seen.{packages_of};
 ghost use Rattle.pool_core.specs.Values.{IsPoolFault};
 ghost use Rattle.pool_core.specs.declared.pool.TheConstants.{MOST_CANDIDATES};
+ghost use Rattle.std.specs.Option.{option_copied};
 ghost use Rattle.std.specs.Prelude.{◌≡◌, ◌≤◌, true, None, Ok, is_none, IfErr, IfOk, OnOk, length};
 ghost use Rattle.v2_core.specs.Payload.{IsV2Fault, payload_of_text};
 
@@ -149,6 +150,16 @@ impl DatabaseFile {
             DatabaseFile::Container(own) => add_packages(pool, &own.idb().packages()),
             DatabaseFile::Payload(own) => add_packages(pool, &own.idb().packages()),
             DatabaseFile::New => Ok(()),
+        }
+    }
+
+    /// The bytes of the container, where there is one.
+    pub(crate) fn file(&self) -> Option<&[u8]>
+        ensures { option_copied result ≡ (database_seen self.now).file }
+    {
+        match self {
+            DatabaseFile::Container(own) => Some(&own.file),
+            DatabaseFile::Payload(_) | DatabaseFile::New => None,
         }
     }
 

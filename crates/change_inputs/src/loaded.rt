@@ -8,6 +8,7 @@ ghost use Rattle.db_core.specs.Seen.{packages_of};
 ghost use Rattle.make_package.specs.Runs.{Explains};
 ghost use Rattle.pool_core.specs.declared.pool.TheConstants.{MOST_CANDIDATES};
 ghost use Rattle.pool_core.specs.Values.{IsPoolFault, names_upgraded_by};
+ghost use Rattle.std.specs.Option.{option_copied};
 ghost use Rattle.std.specs.Prelude.{◌≡◌, ◌≤◌, [], IfErr, IfOk, OnOk, length};
 
 use crate::index::{IndexFiles, read_index_files};
@@ -78,6 +79,13 @@ impl Loaded {
             packages_of db ≡ (inputs_seen self.now).root.database.packages) }
     {
         self.root.database.open(alloc)
+    }
+
+    /// The bytes of the database's file, and None where it is absent.
+    pub fn database_file(&self) -> Option<&[u8]>
+        ensures { option_copied result ≡ (inputs_seen self.now).root.database.file }
+    {
+        self.root.database.file()
     }
 
     /// Whether a text database says what is installed, which a change takes over.

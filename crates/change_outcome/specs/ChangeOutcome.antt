@@ -1,15 +1,13 @@
 -- What a command that changes the installed packages comes to.
-use Rattle.std.specs.Prelude.{◌≡◌, ℕ, ◌==◌, Bool, true, false, not, ◌||◌, if◌then◌else◌, List, [], ◌∷◌, ◌++◌, length, map, sum_by, codes, Option, Some, None, Result, Ok, Err, bytes_eq, slice_get}
+use Rattle.std.specs.Prelude.{◌≡◌, ℕ, ◌==◌, Bool, true, false, not, ◌||◌, List, [], ◌∷◌, ◌++◌, length, map, sum_by, Option, Some, None, Result, Ok, Err, bytes_eq, slice_get, unwrap_or}
 use Rattle.std.specs.Option.{option_map_or}
-use Rattle.std.specs.List.{flat_map}
 use Rattle.adb_tables.specs.Values.{entry_in, int_in}
 use Rattle.adb_write.specs.Canonical.{PayloadCounts, overflow_of}
 use Rattle.base_core.specs.Files.{Files}
 use Rattle.change_files.specs.FileChange.{FileChange}
 use Rattle.change_files.specs.FilesAfter.{Records, changed_files, listing_bytes}
-use Rattle.change_files.specs.Fate.{aside_name}
 use Rattle.change_files.specs.NamesAfter.{name_change}
-use Rattle.change_files.specs.PlanLists.{aside_of, first_reserved, kept_of, names_in_order, removals_of, writes_of}
+use Rattle.change_files.specs.PlanLists.{aside_of, file_writes_of, first_reserved, kept_of, names_in_order, removals_of}
 use Rattle.change_inputs.specs.Chains.{and_then}
 use Rattle.change_inputs.specs.Inputs.{Inputs}
 use Rattle.db_core.specs.Members.{Member, member_name}
@@ -27,6 +25,7 @@ use Rattle.report_core.specs.Reports.{change_lines, report_line, sum_text}
 use Rattle.report_core.specs.declared.refusal.Refusal.{Refusal}
 use Rattle.report_core.specs.declared.refusal.Refusal.TheVariants.{Owned, PathClash, Reserved, ResultTooLarge}
 use Rattle.root_names.specs.RootNames.{database_name, text_database_name, world_name}
+use Rattle.change_outcome.specs.ConfigurationLines.{configuration_lines}
 use Rattle.change_outcome.specs.MembersAfter.{MemberFound, contents_found, members_after, members_found}
 use Rattle.change_outcome.specs.Triggers.{trigger_lines, unless_trigger}
 
@@ -81,8 +80,8 @@ is_other_file None bytes = true
 is_other_file (Some old) bytes = not (bytes_eq old bytes)
 
 -- what the change does to the database and to world
-abbrev pub records_of : Inputs → List ℕ → Records
-records_of inputs database = record {
+abbrev pub new_records : Inputs → List ℕ → Records
+new_records inputs database = record {
   database = database;
   world = world_text inputs.root.new_world;
   takes_text_over = inputs.root.database.from_text;
@@ -93,9 +92,9 @@ name_if_needed true name = name ∷ []
 name_if_needed false name = []
 
 -- world is written where its text differs, and an absent file counts as empty
-abbrev pub written_records : Inputs → Files → Records → List (List ℕ)
-written_records inputs files records =
-    name_if_needed (is_other_file (files database_name) records.database) database_name
+abbrev pub written_records : Inputs → Records → List (List ℕ)
+written_records inputs records =
+    name_if_needed (is_other_file inputs.root.database.file records.database) database_name
     ++ name_if_needed (not (bytes_eq inputs.root.world_text records.world)) world_name
 
 -- ---- what is done, as two lists of names in byte order
@@ -107,22 +106,20 @@ pub record Actions : Type 0 where
 abbrev pub actions_of : Inputs → FileChange → Files → Records → Actions
 actions_of inputs change files records = record {
   removals = names_in_order (removals_of change files
-    ++ name_if_needed records.takes_text_over text_database_name);
-  writes = names_in_order (map (λ w. w.name) (writes_of change files)
-    ++ written_records inputs files records);
+      ++ name_if_needed records.takes_text_over text_database_name);
+  writes = names_in_order (map (λ w. w.name) (file_writes_of change files)
+      ++ written_records inputs records);
 }
+
+-- the bytes of a file, or none. What is staged for each write are those that the files afterwards
+-- have under its name.
+abbrev pub bytes_under : Files → List ℕ → List ℕ
+bytes_under files name = unwrap_or (files name) []
 
 abbrev pub does_something : Actions → Bool
 does_something actions = not (length actions.removals == 0) || not (length actions.writes == 0)
 
 -- ---- the report
-
-abbrev pub aside_line : List ℕ → List ℕ
-aside_line path =
-    report_line (aside_name path ++ codes " installed; " ++ path ++ codes " was changed")
-
-abbrev pub kept_line : List ℕ → List ℕ
-kept_line path = report_line (path ++ codes " kept; it was changed")
 
 abbrev pub member_size : Member → ℕ
 member_size m = int_in (entry_in (entry_in m.pkg 0) 11)
@@ -132,12 +129,12 @@ member_sum_line members = report_line (sum_text (sum_by member_size members) (le
 
 -- the files whose folders may have a trigger: those that packages have written and removed
 abbrev pub touched_paths : FileChange → Files → List (List ℕ)
-touched_paths change files = map (λ w. w.name) (writes_of change files) ++ removals_of change files
+touched_paths change files = map (λ w. w.name) (file_writes_of change files) ++ removals_of change files
 
 abbrev pub change_report : Replacement → ChangeWishes → FileChange → Files → List ℕ
 change_report r wishes change files =
     change_lines (changes_of r) ++ stay_lines r.before r.selected wishes.to_go
-    ++ flat_map aside_line (aside_of change files) ++ flat_map kept_line (kept_of change files)
+    ++ configuration_lines (aside_of change files) (kept_of change files)
     ++ trigger_lines (touched_paths change files) change.members ++ member_sum_line change.members
 
 -- ---- the change
@@ -164,7 +161,7 @@ abbrev pub unless_too_large :
 unless_too_large inputs r wishes found files =
     let change = file_change inputs wishes found in
     and_then (unless_large (database_of change.members (owned_of change.members))) (λ database.
-    let records = records_of inputs database in
+    let records = new_records inputs database in
     let actions = actions_of inputs change files records in
     unless_overflow
     (overflow_of (value_of_intent (intent_of_lists actions.removals actions.writes)))
@@ -188,10 +185,10 @@ change_members inputs r wishes read =
     members_after r read inputs.root.repositories wishes.no_scripts
 
 -- A selection takes the place of the packages before: the change, or its first refusal.
-unfoldable pub change_of :
+unfoldable pub change_or_refusal :
     Inputs → Replacement → ChangeWishes → Reads → Option NamePair → Files
     → Result ChangeDone Refusal
-change_of inputs r wishes read clash files =
+change_or_refusal inputs r wishes read clash files =
     and_then (change_members inputs r wishes read)
     (change_with_members inputs r wishes clash files)
 

@@ -84,17 +84,17 @@ unless_different c pkg =
     then Err (PackageDiffers c.name (selected_version c) name_field c.name (package_name pkg.value))
     else if not (bytes_eq (selected_version c) (version_text pkg.value))
     then Err (PackageDiffers c.name (selected_version c) version_field (selected_version c)
-        (version_text pkg.value))
+    (version_text pkg.value))
     else Ok pkg
 
-abbrev pub unless_bad : Candidate → Option Cause → ComingPackage → Result ComingPackage Refusal
-unless_bad c None pkg = unless_different c pkg
-unless_bad c (Some cause) pkg = Err (PackageBad c.name (selected_version c) cause)
+abbrev pub unless_package_bad : Candidate → Option Cause → ComingPackage → Result ComingPackage Refusal
+unless_package_bad c None pkg = unless_different c pkg
+unless_package_bad c (Some cause) pkg = Err (PackageBad c.name (selected_version c) cause)
 
 -- by what is found under the name of its file
 abbrev pub package_found : Candidate → Option (List ℕ) → Result ComingPackage Refusal
 package_found c None = Err (PackageMissing c.name (selected_version c))
-package_found c (Some file) = unless_bad c (package_fault file) (package_in_file file)
+package_found c (Some file) = unless_package_bad c (package_fault file) (package_in_file file)
 
 -- ---- scripts
 

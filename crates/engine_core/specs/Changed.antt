@@ -4,7 +4,7 @@ use Rattle.std.specs.Prelude.{◌≡◌, ℕ, Bool, true, false, if◌then◌els
 use Rattle.base_core.specs.Files.{Files}
 use Rattle.change_inputs.specs.Chains.{and_then}
 use Rattle.change_inputs.specs.Inputs.{Inputs, inputs_of}
-use Rattle.change_outcome.specs.ChangeOutcome.{ChangeDone, ChangeWishes, IsClashOfChange, change_of}
+use Rattle.change_outcome.specs.ChangeOutcome.{ChangeDone, ChangeWishes, IsClashOfChange, change_or_refusal}
 use Rattle.command_core.specs.Command.{CommandLine}
 use Rattle.make_info.specs.Reads.{Reads}
 use Rattle.package_changes.specs.Changes.{Replacement}
@@ -14,7 +14,7 @@ use Rattle.pool_core.specs.Rank.{SealedPool}
 use Rattle.report_core.specs.declared.refusal.Refusal.{Refusal}
 use Rattle.report_core.specs.declared.refusal.Refusal.TheVariants.{Unsatisfied}
 use Rattle.engine_core.specs.Selecting.{pool_by, replacement_of_choice}
-use Rattle.engine_core.specs.Wishes.{unless_unknown, wishes_of}
+use Rattle.engine_core.specs.Wishes.{unknown_place, unless_place, wishes_of}
 
 -- ---- the selection
 
@@ -33,7 +33,8 @@ abbrev pub selected_of_inputs :
     CommandLine → Option (List ℕ) → Inputs → Result Selected Refusal
 selected_of_inputs command chosen inputs =
     and_then (pool_by inputs) (λ pool.
-    unless_unknown command.applet inputs command.operands (selected_by inputs pool chosen))
+    unless_place (unknown_place command.applet inputs command.operands)
+    (selected_by inputs pool chosen))
 
 -- by what reads find, and by the candidates that are chosen
 abbrev pub selected_for : CommandLine → Reads → Option (List ℕ) → Result Selected Refusal
@@ -52,7 +53,7 @@ abbrev pub change_of_selected :
     CommandLine → Reads → Files → Option NamePair → Selected → Result ChangeDone Refusal
 change_of_selected command read files clash s =
     if command.flags.simulate then Ok (simulated_change s.replacement (wishes_of command) files) else
-    change_of s.inputs s.replacement (wishes_of command) read clash files
+    change_or_refusal s.inputs s.replacement (wishes_of command) read clash files
 
 -- what the command comes to, or its first refusal
 unfoldable pub changed :

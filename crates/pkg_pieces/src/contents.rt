@@ -97,7 +97,7 @@ fn check_payload<'a>(alloc: Global, payload: &'a [u8]) -> Result<Adb<'a>, ReadFa
 {
     let adb = Adb::new(payload)?;
     let shaped = shape(adb, Which::Package)?;
-    let checked = Checked::new(shaped)?;
+    let checked = Checked::new(alloc, shaped)?;
     match repeated(alloc, &checked)? {
         Some(cause) => Err(ReadFault::Bad(cause)),
         None => Ok(adb),

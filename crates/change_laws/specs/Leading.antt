@@ -1,0 +1,16 @@
+-- What is staged for a change, and where its actions lead.
+use Rattle.std.specs.Prelude.{◌≡◌, ℕ, ◌<◌, ◌^◌, List, length, None, IsSome}
+use Rattle.base_core.specs.Files.{Files}
+use Rattle.journal_core.specs.Staged.{IsEmptyStage}
+use Rattle.journal_intent.specs.FreeNames.{HasFreeNames, IsNoneOf, IsOneOf}
+use Rattle.journal_intent.specs.IntentValue.{intent_of_lists}
+
+-- where these names are removed and written, and the others stay, the files are these
+pub record LeadsTo (removals writes : List (List ℕ)) (files after : Files) : Type 0 where
+  pub free : HasFreeNames (intent_of_lists removals writes)
+  pub few : length writes < 2 ^ 63
+  pub empty : IsEmptyStage files
+  pub gives : (name : List ℕ) → IsOneOf name writes → IsSome (after name)
+  pub removes : (name : List ℕ) → IsOneOf name removals → after name ≡ None
+  pub keeps : (name : List ℕ) → IsNoneOf name removals → IsNoneOf name writes
+      → after name ≡ files name

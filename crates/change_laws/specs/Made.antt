@@ -1,0 +1,30 @@
+-- A change that nothing refuses.
+use Rattle.std.specs.Prelude.{◌≡◌, ℕ, List, Option, None, Ok}
+use Rattle.adb_write.specs.Canonical.{overflow_of}
+use Rattle.base_core.specs.Files.{Files}
+use Rattle.change_files.specs.PlanLists.{first_reserved}
+use Rattle.change_inputs.specs.Inputs.{Inputs}
+use Rattle.change_outcome.specs.ChangeOutcome.{ChangeDone, ChangeWishes, actions_of, change_done, change_members, file_change, new_records}
+use Rattle.change_outcome.specs.MembersAfter.{MemberFound, members_found}
+use Rattle.db_write.specs.NewDatabase.{database_of}
+use Rattle.file_owners.specs.Owners.{contested_of, owned_of}
+use Rattle.journal_intent.specs.IntentValue.{intent_of_lists, value_of_intent}
+use Rattle.make_info.specs.Reads.{Reads}
+use Rattle.package_changes.specs.Changes.{Replacement}
+use Rattle.path_clashes.specs.Clash.{NamePair}
+
+-- the packages after it are found, it passes each test, and this comes of it
+pub record IsChangeMade (inputs : Inputs) (r : Replacement) (wishes : ChangeWishes) (read : Reads)
+    (clash : Option NamePair) (files : Files) (done : ChangeDone) : Type 0 where
+  pub found : List MemberFound
+  pub members : change_members inputs r wishes read ≡ Ok found
+  pub unreserved : first_reserved (members_found found) ≡ None
+  pub no_clash : clash ≡ None
+  pub uncontested : contested_of (members_found found) ≡ None
+  pub database : List ℕ
+  pub new_database : database_of (members_found found) (owned_of (members_found found))
+      ≡ Ok database
+  pub fits : (let actions = actions_of inputs (file_change inputs wishes found) files
+      (new_records inputs database) in
+      overflow_of (value_of_intent (intent_of_lists actions.removals actions.writes)) ≡ None)
+  pub is : done ≡ change_done inputs r wishes found files (new_records inputs database)

@@ -1,0 +1,4 @@
+mod LastSlash
+mod Loops
+mod Stars
+mod Watching
