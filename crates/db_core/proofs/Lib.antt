@@ -7,3 +7,4 @@ pub mod Opened
 pub mod Ordered
 pub mod PathParts
 pub mod Places
+mod SoundEntries

@@ -20,8 +20,8 @@ use Rattle.adb_rules.specs.Reserved.{is_reserved}
 use Rattle.adb_rules.specs.Rules.{is_file_name, is_folder_name, is_one_part}
 use Rattle.adb_rules.specs.SoundValues.{IsFileOf, IsFolder, IsPackage}
 use Rattle.db_core.specs.EntrySeen.{member_by}
-use Rattle.db_core.specs.Members.{Member, listings_by, listings_from, listings_in_folder, listings_in_folders, member_listings, staying_member}
-use Rattle.db_core.specs.Packages.{lists_names, lists_no_reserved}
+use Rattle.db_core.specs.Members.{Member, is_coming, listings_by, listings_from, listings_in_folder, listings_in_folders, member_listings, staying_member}
+use Rattle.db_core.specs.Packages.{comes_or_lists_no_reserved, lists_names, lists_no_reserved}
 
 -- ---- a name behind another one and a slash
 
@@ -140,31 +140,31 @@ passes_at p [] all k d l = absurd (omega arith)
 passes_at p (x ∷ xs) all zero d l = (and_parts (p x) (list_all p xs) all).0
 passes_at p (x ∷ xs) all (suc k) d l = passes_at p xs (and_parts (p x) (list_all p xs) all).1 k d (omega arith)
 
-module _ (p : List ℕ → Bool) where
+module _ (q : Member → List ℕ → Bool) where
   in_folder : (m : Member) (place folder i : ℕ) (above : List ℕ) (entries : List Plain)
-      → list_all (λ l. p l.path) (listings_in_folder m place folder i above entries) ≡ list_all p (map (λ file. path_of above (name_of file)) entries)
+      → list_all (λ l. q l.member l.path) (listings_in_folder m place folder i above entries) ≡ list_all (q m) (map (λ file. path_of above (name_of file)) entries)
   in_folder m place folder i above [] = refl
-  in_folder m place folder i above (e ∷ es) = ap (λ b. p (path_of above (name_of e)) && b) (in_folder m place folder (i + 1) above es)
+  in_folder m place folder i above (e ∷ es) = ap (λ b. q m (path_of above (name_of e)) && b) (in_folder m place folder (i + 1) above es)
 
-  in_folders : (m : Member) (place i : ℕ) (folders : List Plain) → list_all (λ l. p l.path) (listings_in_folders m place i folders) ≡ list_all p (flat_map paths_under folders)
+  in_folders : (m : Member) (place i : ℕ) (folders : List Plain) → list_all (λ l. q l.member l.path) (listings_in_folders m place i folders) ≡ list_all (q m) (flat_map paths_under folders)
   in_folders m place i [] = refl
   in_folders m place i (f ∷ fs) =
-      list_all-append (λ l. p l.path) (listings_in_folder m place i 1 (name_of f) (files_in f)) (listings_in_folders m place (i + 1) fs)
+      list_all-append (λ l. q l.member l.path) (listings_in_folder m place i 1 (name_of f) (files_in f)) (listings_in_folders m place (i + 1) fs)
       ∙ ((λ j. in_folder m place i 1 (name_of f) (files_in f) j && in_folders m place (i + 1) fs j)
-      ∙ sym (list_all-append p (paths_under f) (flat_map paths_under fs)))
+      ∙ sym (list_all-append (q m) (paths_under f) (flat_map paths_under fs)))
 
-  in_members : (place : ℕ) (ms : List Member) → list_all (λ l. p l.path) (listings_from place ms) ≡ list_all (λ m. list_all p (paths_in m.pkg)) ms
+  in_members : (place : ℕ) (ms : List Member) → list_all (λ l. q l.member l.path) (listings_from place ms) ≡ list_all (λ m. list_all (q m) (paths_in m.pkg)) ms
   in_members place [] = refl
   in_members place (m ∷ ms) =
-      list_all-append (λ l. p l.path) (listings_by place m) (listings_from (place + 1) ms)
+      list_all-append (λ l. q l.member l.path) (listings_by place m) (listings_from (place + 1) ms)
       ∙ (λ j. in_folders m place 1 (folders_in m.pkg) j && in_members (place + 1) ms j)
 
-  all_pass : (ms : List Member) → list_all (λ m. list_all p (paths_in m.pkg)) ms ≡ true → All (λ l. p l.path ≡ true) (member_listings ms)
+  all_pass : (ms : List Member) → list_all (λ m. list_all (q m) (paths_in m.pkg)) ms ≡ true → All (λ l. q l.member l.path ≡ true) (member_listings ms)
   unfolding member_listings
-  all_pass ms h k d l = passes_at (λ l. p l.path) (listings_from 0 ms) (in_members 0 ms ∙ h) k d l
+  all_pass ms h k d l = passes_at (λ l. q l.member l.path) (listings_from 0 ms) (in_members 0 ms ∙ h) k d l
 
-  packages_all_pass : (pkgs : List Plain) → list_all (λ v. list_all p (paths_in v)) pkgs ≡ true → All (λ l. p l.path ≡ true) (member_listings (map staying_member pkgs))
-  packages_all_pass pkgs h = all_pass (map staying_member pkgs) (list_all-map (λ (m : Member). list_all p (paths_in m.pkg)) staying_member pkgs ∙ h)
+packages_all_pass : (p : List ℕ → Bool) (pkgs : List Plain) → list_all (λ v. list_all p (paths_in v)) pkgs ≡ true → All (λ l. p l.path ≡ true) (member_listings (map staying_member pkgs))
+packages_all_pass p pkgs h = all_pass (λ m. p) (map staying_member pkgs) (list_all-map (λ (m : Member). list_all p (paths_in m.pkg)) staying_member pkgs ∙ h)
 
 pub packages_named : (pkgs : List Plain) → list_all lists_names pkgs ≡ true → All (λ l. IsName l.path) (member_listings (map staying_member pkgs))
 packages_named pkgs h = packages_all_pass is_name pkgs h
@@ -180,12 +180,35 @@ abbrev pub Kept : Type 0
 Kept = List ℕ × ℕ × Option (List ℕ)
 
 pub members_named : (es : List Kept) → list_all (λ e. lists_names (member_by e).pkg) es ≡ true → All (λ l. IsName l.path) (member_listings (map member_by es))
-members_named es h = all_pass is_name (map member_by es) (list_all-map (λ (m : Member). lists_names m.pkg) member_by es ∙ h)
+members_named es h = all_pass (λ m. is_name) (map member_by es) (list_all-map (λ (m : Member). lists_names m.pkg) member_by es ∙ h)
 
-pub named_more : {A B : Type 0} (r : Result A B) (es new : List Kept) (e : Kept) → new ≡ (if is_ok r then es ++ e ∷ [] else es)
-    → list_all (λ e. lists_names (member_by e).pkg) es ≡ true → lists_names (member_by e).pkg ≡ true → list_all (λ e. lists_names (member_by e).pkg) new ≡ true
-named_more (Ok x) es new e is all one =
-    ap (list_all (λ (k : Kept). lists_names (member_by k).pkg)) is
-    ∙ (list_all-append (λ (k : Kept). lists_names (member_by k).pkg) es (e ∷ [])
-    ∙ both_true (list_all (λ (k : Kept). lists_names (member_by k).pkg) es) (lists_names (member_by e).pkg && true) all (both_true (lists_names (member_by e).pkg) true one refl))
-named_more (Err x) es new e is all one = ap (list_all (λ (k : Kept). lists_names (member_by k).pkg)) is ∙ all
+pub passed_more : (p : Kept → Bool) {A B : Type 0} (r : Result A B) (es new : List Kept) (e : Kept) → new ≡ (if is_ok r then es ++ e ∷ [] else es) → list_all p es ≡ true → p e ≡ true → list_all p new ≡ true
+passed_more p (Ok x) es new e is all one =
+    ap (list_all p) is ∙ (list_all-append p es (e ∷ []) ∙ both_true (list_all p es) (p e && true) all (both_true (p e) true one refl))
+passed_more p (Err x) es new e is all one = ap (list_all p) is ∙ all
+
+-- ---- what stays lists no reserved path
+
+either : (a b : Bool) → (a || b) ≡ true → a ≡ false → b ≡ true
+either true b h off = absurd (true≢false off)
+either false b h off = h
+
+comes_or_free : Member → List ℕ → Bool
+comes_or_free m path = is_coming m || not (is_reserved path)
+
+paths_free : (b : Bool) (paths : List (List ℕ)) → (b || list_all (λ path. not (is_reserved path)) paths) ≡ true → list_all (λ path. b || not (is_reserved path)) paths ≡ true
+paths_free true [] h = refl
+paths_free true (path ∷ paths) h = paths_free true paths h
+paths_free false paths h = h
+
+members_free : (ms : List Member) → list_all comes_or_lists_no_reserved ms ≡ true → list_all (λ m. list_all (comes_or_free m) (paths_in m.pkg)) ms ≡ true
+unfolding comes_or_free
+members_free [] h = refl
+members_free (m ∷ ms) h =
+    let parts = and_parts (comes_or_lists_no_reserved m) (list_all comes_or_lists_no_reserved ms) h in
+    both_true _ _ (paths_free (is_coming m) (paths_in m.pkg) parts.0) (members_free ms parts.1)
+
+pub stays_unreserved : (es : List Kept) → list_all (λ e. comes_or_lists_no_reserved (member_by e)) es ≡ true → All (λ l. is_coming l.member ≡ false → is_reserved l.path ≡ false) (member_listings (map member_by es))
+unfolding comes_or_free
+stays_unreserved es h k d l stays =
+    absent _ (either _ _ (all_pass comes_or_free (map member_by es) (members_free (map member_by es) (list_all-map comes_or_lists_no_reserved member_by es ∙ h)) k d l) stays)

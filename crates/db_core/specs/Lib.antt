@@ -8,3 +8,4 @@ pub mod ListedAt
 pub mod NamePlaces
 pub mod NameSeen
 pub mod Seen
+pub mod SoundMembers

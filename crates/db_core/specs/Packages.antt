@@ -1,10 +1,11 @@
 -- The packages of a database, and who of them lists a file.
-use Rattle.std.specs.Prelude.{ℕ, Bool, List, [], Option, Some, None, not, bytes_eq}
+use Rattle.std.specs.Prelude.{ℕ, Bool, List, [], Option, Some, None, not, ◌||◌, bytes_eq}
 use Rattle.std.specs.List.{list_all, list_any}
 use Rattle.base_core.specs.Name.{is_name}
 use Rattle.adb_view.specs.Plain.{Plain}
 use Rattle.adb_rules.specs.Reserved.{is_reserved}
 use Rattle.adb_fields.specs.Repeated.{entries_at, package_name, paths_in}
+use Rattle.db_core.specs.Members.{Member, is_coming}
 
 abbrev pub is_package_named : List ℕ → Plain → Bool
 is_package_named name pkg = bytes_eq (package_name pkg) name
@@ -20,6 +21,10 @@ lists_names pkg = list_all is_name (paths_in pkg)
 -- no path that it lists is reserved
 abbrev pub lists_no_reserved : Plain → Bool
 lists_no_reserved pkg = list_all (λ path. not (is_reserved path)) (paths_in pkg)
+
+-- a member comes, or lists no reserved path
+abbrev pub comes_or_lists_no_reserved : Member → Bool
+comes_or_lists_no_reserved m = is_coming m || lists_no_reserved m.pkg
 
 -- the packages of the value of a database, or of none
 abbrev pub packages_by : Option Plain → List Plain

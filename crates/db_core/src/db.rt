@@ -11,16 +11,19 @@ ghost use Rattle.adb_view.specs.Head.{head_fault, root_of};
 ghost use Rattle.db_core.specs.NamePlaces.{placed_names_in_order};
 ghost use Rattle.db_core.specs.NameSeen.{name_seen};
 ghost use Rattle.db_core.specs.Packages.{is_package_named, lists_names, lists_no_reserved, lists_path, packages_by};
+ghost use Rattle.db_core.specs.SoundMembers.{IsSoundDatabaseIfAny};
 ghost use Rattle.std.specs.List.{list_all, position_from};
 ghost use Rattle.std.specs.Prelude.{◌≡◌, ◌<◌, ◌^◌, ◌==◌, true, false, [], All, Some, None, IfSome, length, map, option_map, slice_get, IfOk, IfErr, is_none};
 
 use crate::listed_paths::is_path_listed;
 use crate::name_places::{NamePlace, place_of, sorted_names};
+use adb_block::Blocks;
 use adb_rules::no_text_is_bad_where_each_keeps_its_rule;
 use adb_schema::{IdbView, List, PackageView, ReadFault, View, Which, read_adb};
 use adb_tables::values_of_few_visits_have_no_fault;
 use adb_view::Adb;
 use base_core::Name;
+use pkg_pieces::{bytes_are_small, tested_payloads_hold_sound_values};
 use std::alloc::{AllocError, Global};
 
 /// The packages of an installed database, in its order. All is lent from the file's bytes; the
@@ -33,6 +36,7 @@ pub struct Db<'a> {
         ≡ placed_names_in_order (packages_by (option_map idb_value idb)) },
     ghost named: { list_all lists_names (packages_by (option_map idb_value idb)) ≡ true },
     ghost free: { list_all lists_no_reserved (packages_by (option_map idb_value idb)) ≡ true },
+    ghost sound: { ∥ IsSoundDatabaseIfAny (option_map idb_value idb) ∥₁ },
 }
 
 impl<'a> Db<'a> {
@@ -63,14 +67,9 @@ impl<'a> Db<'a> {
         ensures packages { IfOk result (λ db. packages_of db
             ≡ entries_at 0 (root_value Tables.Idb (payload_in bytes.entry.now))) }
     {
-        let checked = read_adb(alloc, bytes, Which::Idb)?;
-        checked.values_keep_their_rules();
-        let idb = checked.idb();
-        let names = sorted_names(alloc, &idb.packages())?;
-        Ok(Db {
-            idb: Some(idb),
-            names,
-        })
+        read_adb(alloc, bytes, Which::Idb)?;
+        let db = Db::open(alloc, first_payload(bytes))?;
+        Ok(db)
     }
 
     /// The database in a payload that passes all tests of one. They are not made again. It takes a
@@ -85,6 +84,8 @@ impl<'a> Db<'a> {
             ≡ entries_at 0 (root_value Tables.Idb payload.entry.now)) }
     {
         no_text_is_bad_where_each_keeps_its_rule();
+        bytes_are_small(payload);
+        tested_payloads_hold_sound_values();
         let idb = open_idb(payload);
         let names = sorted_names(alloc, &idb.packages())?;
         Ok(Db {
@@ -155,6 +156,21 @@ impl<'a> Db<'a> {
         ensures { All (λ l. is_reserved l.path ≡ false)
             (member_listings (map staying_member (packages_of self.now))) }
     {}
+}
+
+/// The payload of the first block of a database's file.
+#[tactic(auto, unfolding(adb_schema::specs::Soundness::first_fault, adb_schema::specs::Soundness::payload_in))]
+fn first_payload(bytes: &[u8]) -> &[u8]
+    requires { first_fault Tables.Idb bytes.now ≡ None }
+    ensures { result.now ≡ payload_in bytes.entry.now }
+{
+    let Ok(mut blocks) = Blocks::new(bytes) else {
+        unreachable!()
+    };
+    match blocks.next() {
+        Ok(Some(block)) => block.payload,
+        _ => unreachable!(),
+    }
 }
 
 /// A view of the database in a payload that passes all tests of one, which are not made again.

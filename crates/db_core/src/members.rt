@@ -4,12 +4,12 @@ ghost use Rattle.adb_schema.specs.Views.{package_value};
 ghost use Rattle.adb_view.specs.Plain.{Plain};
 ghost use Rattle.base_core.specs.Listed.{IsRising};
 ghost use Rattle.db_core.specs.EntrySeen.{member_by};
-ghost use Rattle.db_core.specs.Members.{Member, comes_behind, coming_member, is_place, member_name, staying_member};
+ghost use Rattle.db_core.specs.Members.{Member, comes_behind, coming_member, is_coming, is_place, member_name, staying_member};
 ghost use Rattle.list_order.specs.ByteOrder.{precedes};
 ghost use Rattle.std.specs.List.Sorted.{IsPartitionPoint};
-ghost use Rattle.db_core.specs.Packages.{lists_names};
+ghost use Rattle.db_core.specs.Packages.{comes_or_lists_no_reserved, lists_names};
+ghost use Rattle.db_core.specs.SoundMembers.{AreOfSoundContainers};
 ghost use Rattle.db_core.specs.declared.members.TheConstants.{MOST_MEMBERS};
-ghost use Rattle.pkg_core.specs.Opened.{opened_payload, opened_value};
 ghost use Rattle.pkg_pieces.specs.Values.{payload_of_contents, value_of_contents};
 ghost use Rattle.sha2.specs.Sha256.{sha256};
 ghost use Rattle.std.specs.List.{list_all};
@@ -17,7 +17,6 @@ ghost use Rattle.std.specs.Prelude.{◌≡◌, ◌<◌, ◌≤◌, ◌++◌, ◌
 
 use crate::db::Db;
 use adb_schema::PackageView;
-use pkg_core::Package;
 use pkg_pieces::Contents;
 use std::alloc::{AllocError, Global};
 use std::marker::Model;
@@ -55,6 +54,8 @@ pub struct Members<'a> {
     ghost in_order: { IsRising (map (λ e. member_name (member_by e)) entries.items) },
     ghost few: { length entries.items ≤ MOST_MEMBERS },
     ghost named: { list_all (λ e. lists_names (member_by e).pkg) entries.items ≡ true },
+    ghost free: { list_all (λ e. comes_or_lists_no_reserved (member_by e)) entries.items ≡ true },
+    ghost sound: { ∥ AreOfSoundContainers (map member_by entries.items) ∥₁ },
 }
 
 /// Whether the name of a package comes before another one.
@@ -66,6 +67,7 @@ fn is_before(entry: &Entry<'_>, name: &[u8]) -> bool
 }
 
 impl<'a> Members<'a> {
+    ghost use Rattle.adb_rules.specs.Reserved.{is_reserved};
     ghost use Rattle.base_core.specs.Name.{IsName};
     ghost use Rattle.db_core.specs.Members.{AreInOrder, member_listings};
     ghost use Rattle.db_core.specs.Seen.{members_of, packages_of};
@@ -104,27 +106,6 @@ impl<'a> Members<'a> {
     /// # Errors
     ///
     /// Want of memory.
-    pub fn comes(&mut self, pkg: &Package<'a>) -> Result<(), AllocError>
-        requires behind { comes_behind (package_name (opened_value pkg.now)) (members_of self.old)
-            ≡ true }
-        requires few { length (members_of self.old) < MOST_MEMBERS }
-        ensures ok { OnOk result (members_of self.new ≡ members_of self.old
-            ++ coming_member (opened_value pkg.now) (sha256 (opened_payload pkg.now)) ∷ []) }
-        ensures err { OnErr result (members_of self.new ≡ members_of self.old) }
-    {
-        pkg.values_keep_their_rules();
-        let view = pkg.view();
-        let id = pkg.id();
-        self.entries.push(Entry { view, id: Some(id) })?;
-        Ok(())
-    }
-
-    /// Adds a package that comes and whose files are read in pieces, with its id. A refused call
-    /// changes nothing.
-    ///
-    /// # Errors
-    ///
-    /// Want of memory.
     pub fn comes_in_pieces(&mut self, contents: &Contents<'a>) -> Result<(), AllocError>
         requires behind { comes_behind (package_name (value_of_contents contents.now))
             (members_of self.old) ≡ true }
@@ -135,6 +116,7 @@ impl<'a> Members<'a> {
         ensures err { OnErr result (members_of self.new ≡ members_of self.old) }
     {
         contents.values_keep_their_rules();
+        contents.values_are_sound();
         let view = contents.view();
         let id = contents.id();
         self.entries.push(Entry { view, id: Some(id) })?;
@@ -221,5 +203,16 @@ impl<'a> Members<'a> {
     /// Each path that a member lists is a name.
     pub fn listed_paths_are_names(&self)
         ensures { All (λ l. IsName l.path) (member_listings (members_of self.now)) }
+    {}
+
+    /// No path that a member which stays lists is reserved.
+    pub fn no_path_that_stays_is_reserved(&self)
+        ensures { All (λ l. is_coming l.member ≡ false → is_reserved l.path ≡ false)
+            (member_listings (members_of self.now)) }
+    {}
+
+    /// The packages come out of sound containers.
+    pub fn packages_are_sound(&self)
+        ensures { ∥ AreOfSoundContainers (members_of self.now) ∥₁ }
     {}
 }

@@ -1,16 +1,25 @@
 -- What is written is sound, and is read back.
-use Rattle.std.proofs.Common.{◌≡◌, ◌≢◌, ℕ, Bool, List, Option, Some, None, Ok, refl, ap, sym, subst, ◌∙◌}
+use Rattle.std.proofs.Common.{lit<, ◌≡◌, ◌≢◌, ℕ, ◌^◌, ◌<◌, ◌≤◌, Bool, List, [], ◌∷◌, length, Option, Some, None, Ok, refl, ap, sym, subst, ◌∙◌}
+use Rattle.std.proofs.lemmas.Grind.{not_there}
+use Rattle.base_core.specs.declared.cause.Cause.{Cause}
+use Rattle.adb_block.specs.Header.{header_of}
+use Rattle.adb_block.specs.AllBlocks.{blocks_of}
+use Rattle.adb_block.specs.Container.{Spells}
+use Rattle.adb_block.specs.Piece.{Piece}
 use Rattle.adb_view.specs.Plain.{Plain, none, more, arr_value}
 use Rattle.adb_tables.specs.Values.{entries_in}
 use Rattle.adb_tables.specs.declared.tables.Which.{Which}
 use Rattle.adb_tables.specs.declared.tables.Which.TheVariants.{Idb, Package}
 use Rattle.adb_fields.specs.Repeated.{entries_at, list_of}
-use Rattle.adb_schema.specs.Soundness.{payload_in, root_value, schema_word}
+use Rattle.adb_schema.specs.SoundContainers.{IsSound}
+use Rattle.adb_schema.specs.Soundness.{first_fault, payload_in, root_value, schema_word}
 use Rattle.adb_schema.specs.declared.read.TheConstants.{IDB_WORD}
-use Rattle.adb_write.specs.Canonical.{PayloadCounts, canonical, or_overflow, overflow_of, written_of}
-use Rattle.adb_write.specs.File.{file_of}
+use Rattle.adb_write.specs.Size.{size_of}
+use Rattle.adb_write.specs.Canonical.{MOST_BYTES, PayloadCounts, canonical, empty_layout, write, or_overflow, overflow_of, written_of}
+use Rattle.adb_write.specs.File.{adb_piece, file_of}
 use Rattle.adb_sound.specs.Root.{IsRootOf}
-use Rattle.pkg_core.specs.Whole.{container_fault}
+use Rattle.adb_sound.proofs.Payloads.{payload_long}
+use Rattle.pkg_core.specs.Whole.{container_fault, fault_by_header, whole_fault}
 use Rattle.adb_tables.proofs.ValueEntries.{entries_arr, nth_obj}
 use Rattle.db_core.specs.Members.{Member}
 use Rattle.db_write.specs.NewDatabase.{database_container, database_of, database_value, packages_after}
@@ -47,3 +56,34 @@ pub is_read_back : Back → (members : List Member) (flags : List Bool) (bytes :
 is_read_back law members flags bytes root h =
     let back : root_value Idb (payload_in (file_of IDB_WORD (canonical (database_value members flags)))) ≡ database_value members flags = law Idb IDB_WORD (database_value members flags) refl root in
     ap (λ (file : List ℕ). entries_at 0 (root_value Idb (payload_in file))) (sym (is_file members flags bytes h)) ∙ (ap (entries_at 0) back ∙ packages_in members flags)
+
+-- ---- it passes the tests of a database
+
+abbrev pub Spelled : Type 0
+Spelled = (schema : ℕ) (payload : List ℕ) → schema < 2 ^ 32 → 8 ≤ length payload → length payload ≤ MOST_BYTES → Spells (file_of schema payload) schema (adb_piece payload ∷ [])
+
+abbrev pub ReadAs : Type 0
+ReadAs = (file : List ℕ) (schema : ℕ) (pieces : List Piece) → Spells file schema pieces → (header_of file ≡ Ok schema) × (blocks_of file ≡ Ok pieces)
+
+database_header : Spelled → ReadAs → (v : Plain) → size_of v ≤ MOST_BYTES → header_of (file_of IDB_WORD (canonical v)) ≡ Ok IDB_WORD
+database_header spelled read v fits =
+    (read (file_of IDB_WORD (canonical v)) IDB_WORD (adb_piece (canonical v) ∷ [])
+    (spelled IDB_WORD (canonical v) (lit< tt) (payload_long (write v empty_layout).0 (write v empty_layout).1) fits)).0
+
+whole_is_first : (file : List ℕ) → header_of file ≡ Ok IDB_WORD → container_fault file ≡ None → first_fault Idb file ≡ None
+unfolding container_fault whole_fault first_fault
+whole_is_first file header sound = sym (ap (fault_by_header file) header) ∙ sound
+
+pub is_sound_database : Spelled → ReadAs → Sound → (members : List Member) (flags : List Bool) (bytes : List ℕ) → IsRootOf Idb (database_value members flags) → database_of members flags ≡ Ok bytes → IsSound Idb bytes
+is_sound_database spelled read law members flags bytes root h =
+    subst (λ (file : List ℕ). first_fault Idb file ≡ None) (is_file members flags bytes h)
+    (whole_is_first (file_of IDB_WORD (canonical (database_value members flags))) (database_header spelled read (database_value members flags) root.fits)
+    (law Idb IDB_WORD (database_value members flags) refl not_package root))
+
+-- a fact that merely holds tells that there is no cause
+pub no_cause : {P : Type 0} (o : Option Cause) → ∥ P ∥₁ → (P → o ≡ None) → o ≡ None
+no_cause None fact from = refl
+no_cause (Some c) fact from = absurd (not_there fact (λ p. some_cause c (from p)))
+  where
+    some_cause : (c : Cause) → Some c ≡ None → ⊥
+    some_cause c e = (cc)

@@ -15,7 +15,7 @@ use Rattle.adb_sound.specs.Root.{IsRootOf}
 use Rattle.db_core.specs.Members.{AreInOrder, Member, member_listings}
 use Rattle.db_write.specs.NewDatabase.{database_container, database_of, database_value}
 use Rattle.db_core.specs.OwnedListings.{owned_listings}
-use Rattle.db_write.specs.SoundMembers.{AreOfSoundContainers, MayBeListed}
+use Rattle.db_core.specs.SoundMembers.{AreOfSoundContainers, MayBeListed}
 use Rattle.db_write.proofs.RootNames.{names_once}
 use Rattle.db_write.proofs.RootParts.{EachIn, database_normal, database_shape, members_enter}
 use Rattle.db_write.proofs.RootRules.{rules_kept}

@@ -16,7 +16,7 @@ use Rattle.adb_copy.proofs.Shapes.{entries_shape, nth_shape}
 use Rattle.adb_copy.proofs.WithoutZeros.{HasInts, HaveInts, each_ints, entries_ints, int_normal, int_shape, nth_ints, placed_normal, placed_shape, read_small, zeros_normal, zeros_shape}
 use Rattle.db_core.specs.Members.{Member}
 use Rattle.db_write.specs.NewDatabase.{database_value, each_by_flags, file_count, folder_after, folders_after, info_after, member_file_count, owned_entries, package_after, packages_after}
-use Rattle.db_write.specs.SoundMembers.{AreOfSoundContainers}
+use Rattle.db_core.specs.SoundMembers.{AreOfSoundContainers}
 use Rattle.db_write.proofs.SoundPackages.{MayEnter, member_enters}
 use Rattle.db_write.proofs.Unchanged.{array_entries}
 

@@ -18,7 +18,7 @@ use Rattle.adb_rules.specs.Texts.{is_with_contents, needs_hash}
 use Rattle.adb_schema.specs.SoundContainers.{IsSound, IsSoundValue}
 use Rattle.adb_schema.specs.Soundness.{payload_in, root_value}
 use Rattle.adb_copy.proofs.Shapes.{entries_shape, nth_shape}
-use Rattle.db_write.specs.SoundMembers.{IsOfSoundContainer, IsOfSoundDatabase, IsOfSoundPackage}
+use Rattle.db_core.specs.SoundMembers.{IsOfSoundContainer, IsOfSoundDatabase, IsOfSoundPackage}
 use Rattle.db_write.proofs.Unchanged.{array_entries}
 use Rattle.adb_copy.proofs.WithoutZeros.{HasInts, each_ints, entries_ints, normal_ints, nth_ints}
 

@@ -2,6 +2,5 @@
 pub mod NewDatabase
 -- what only inner contracts and proofs use
 pub mod Information
-pub mod SoundMembers
 pub mod Unchanged
 pub mod Written

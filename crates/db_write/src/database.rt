@@ -1,11 +1,19 @@
 //! The database's container.
 ghost use Rattle.adb_write.specs.Canonical.{written_of, MOST_BYTES};
 ghost use Rattle.adb_write.specs.DepthFirst.{WritesValue};
+ghost use Rattle.adb_schema.specs.SoundContainers.{IsSound};
+ghost use Rattle.adb_tables.specs.declared.tables.Which.TheVariants as Tables;
+ghost use Rattle.db_core.specs.Members.{member_listings};
+ghost use Rattle.db_core.specs.OwnedListings.{owned_listings};
 ghost use Rattle.db_core.specs.Seen.{members_of};
+ghost use Rattle.db_core.specs.SoundMembers.{MayBeListed};
 ghost use Rattle.db_write.specs.NewDatabase.{database_of, database_value};
 ghost use Rattle.db_write.specs.Written.{IsWrittenAs};
 ghost use Rattle.std.specs.Prelude.{◌≡◌, ◌≤◌, IfOk, length};
 
+use crate::laws::{
+    a_database_of_sound_packages_may_stand_at_the_root, a_written_database_is_read_back,
+};
 use crate::packages::write_packages;
 use adb_schema::IDB_WORD;
 use adb_view::Val;
@@ -18,15 +26,23 @@ use std::alloc::{AllocError, Global};
 
 /// Writes the database that lists these members, and of their files those that are theirs, by one
 /// flag for each in the order of members, folders and files: the container's bytes. A file without
-/// a flag is not theirs.
+/// a flag is not theirs. It passes all tests of a database where no path is theirs of two members,
+/// and none is reserved.
 ///
 /// # Errors
 ///
 /// `TooLarge` where the database passes a limit of the writer, or `Memory`.
 pub fn write_db(alloc: Global, members: &Members<'_>, owned: &Owned) -> Result<Vec<u8>, WriteFault>
-    ensures { IsWrittenAs (λ file. file.items) result
+    ensures written { IsWrittenAs (λ file. file.items) result
         (database_of (members_of members.now) owned.now) }
+    ensures sound { IfOk result (λ file.
+        MayBeListed (owned_listings (member_listings (members_of members.now)) owned.now)
+        → IsSound Tables.Idb file.items) }
 {
+    members.members_are_in_order();
+    members.packages_are_sound();
+    a_database_of_sound_packages_may_stand_at_the_root();
+    a_written_database_is_read_back();
     let payload = match database_payload(alloc, members, owned.as_slice()) {
         Ok(payload) => payload,
         Err(fault) => return Err(fault),

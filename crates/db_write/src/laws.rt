@@ -20,21 +20,25 @@ ghost use Rattle.db_core.specs.Members.{AreInOrder, Member, coming_member, membe
 ghost use Rattle.db_write.specs.Information.{FILE_SIZE, HASHES, file_size_of, hashes_of};
 ghost use Rattle.db_write.specs.NewDatabase.{database_of, database_value, package_after, packages_after};
 ghost use Rattle.db_core.specs.OwnedListings.{owned_listings, owned_paths};
-ghost use Rattle.db_write.specs.SoundMembers.{AreOfSoundContainers, IsOfSoundContainer, MayBeListed};
+ghost use Rattle.db_core.specs.SoundMembers.{AreOfSoundContainers, IsOfSoundContainer, MayBeListed};
 ghost use Rattle.db_write.specs.Unchanged.{all_owned, staying_members};
 ghost use Rattle.pkg_core.specs.Whole.{container_fault};
 ghost use Rattle.std.specs.List.{flat_map};
 ghost use Rattle.std.specs.Prelude.{◌≡◌, ◌≢◌, ◌<◌, ℕ, All, Bool, List, None, Ok, Some, length, map, true};
 
+use adb_block::what_is_spelled_is_read;
 use adb_fields::no_name_is_repeated_where_each_stands_once;
 use adb_rules::no_text_is_bad_where_each_keeps_its_rule;
 use adb_schema::sound_containers_hold_sound_values;
 use adb_sound::{a_container_of_a_good_value_is_sound, what_a_container_is_made_of_is_read_back};
-use adb_write::a_value_overflows_exactly_past_a_limit;
+use adb_write::{a_file_is_spelled, a_value_overflows_exactly_past_a_limit};
 
 /// A database whose value may stand at the root of a container passes all tests when it is written,
 /// and its packages are read back: those of the members, each with the files that it owns.
 pub fn a_written_database_is_read_back()
+    ensures database { (members : List Member) (flags : List Bool) (bytes : List ℕ)
+        → IsRootOf Tables.Idb (database_value members flags) → database_of members flags ≡ Ok bytes
+        → IsSound Tables.Idb bytes }
     ensures sound { (members : List Member) (flags : List Bool) (bytes : List ℕ)
         → IsRootOf Tables.Idb (database_value members flags) → database_of members flags ≡ Ok bytes
         → container_fault bytes ≡ None }
@@ -43,6 +47,8 @@ pub fn a_written_database_is_read_back()
         → entries_at 0 (root_value Tables.Idb (payload_in bytes))
         ≡ list_of (packages_after members flags) }
 {
+    a_file_is_spelled();
+    what_is_spelled_is_read();
     a_container_of_a_good_value_is_sound();
     what_a_container_is_made_of_is_read_back();
 }

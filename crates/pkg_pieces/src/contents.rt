@@ -7,6 +7,7 @@ ghost use Rattle.adb_tables.specs.declared.tables.Which.TheVariants as Tables;
 ghost use Rattle.adb_view.specs.Adb.{payload_of};
 
 use crate::front::Front;
+use crate::laws::{bytes_are_small, tested_payloads_hold_sound_values};
 use adb_rules::no_text_is_bad_where_each_keeps_its_rule;
 use adb_schema::{Checked, PackageView, ReadFault, View, repeated};
 use adb_tables::{Which, shape, values_of_few_visits_have_no_fault};
@@ -26,6 +27,8 @@ pub struct Contents<'a> {
 impl<'a> Contents<'a> {
     ghost use Rattle.adb_rules.specs.SoundValues.{KeepsRules};
     ghost use Rattle.adb_schema.specs.Views.{package_value};
+    ghost use Rattle.adb_schema.specs.SoundContainers.{IsSoundValue};
+    ghost use Rattle.adb_view.specs.Plain.{IsNormal};
     ghost use Rattle.pkg_core.specs.Refusals.{IsFaultOf};
     ghost use Rattle.pkg_pieces.specs.Front.{front_payload};
     ghost use Rattle.pkg_pieces.specs.Values.{payload_of_contents, value_of_contents};
@@ -70,6 +73,15 @@ impl<'a> Contents<'a> {
         ensures { KeepsRules Tables.Package (value_of_contents self.now) }
     {
         no_text_is_bad_where_each_keeps_its_rule();
+    }
+
+    /// The value of a package is sound and normal.
+    pub fn values_are_sound(&self)
+        ensures sound { IsSoundValue Tables.Package (value_of_contents self.now) }
+        ensures normal { IsNormal (value_of_contents self.now) }
+    {
+        bytes_are_small(self.adb.payload());
+        tested_payloads_hold_sound_values();
     }
 
     /// The package's values.

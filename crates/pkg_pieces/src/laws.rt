@@ -1,16 +1,24 @@
 //! What follows from the definitions, for every package.
-ghost use Rattle.std.specs.Prelude.{◌≡◌, ◌≢◌, ℕ, List, Some};
+ghost use Rattle.std.specs.Prelude.{◌≡◌, ◌≢◌, ◌<◌, ℕ, All, List, None, Some};
 ghost use Rattle.adb_block.specs.Reading.{reading_of};
+ghost use Rattle.adb_schema.specs.SoundContainers.{IsSoundValue};
 ghost use Rattle.adb_schema.specs.Soundness.{first_fault, payload_fault, payload_in, root_value};
 ghost use Rattle.adb_tables.specs.Walk.{or_else};
 ghost use Rattle.adb_schema.specs.declared.read.TheConstants.{PACKAGE_WORD};
+ghost use Rattle.adb_tables.specs.declared.tables.Which.{Which};
 ghost use Rattle.adb_tables.specs.declared.tables.Which.TheVariants as Tables;
+ghost use Rattle.adb_view.specs.Plain.{IsNormal};
 ghost use Rattle.base_core.specs.declared.cause.Cause.{Cause};
 ghost use Rattle.base_core.specs.declared.cause.Cause.TheVariants.{WrongSchema};
 ghost use Rattle.pkg_core.specs.Contents.{contents_fault, expected_contents};
 ghost use Rattle.pkg_core.specs.Whole.{container_fault};
 ghost use Rattle.pkg_pieces.specs.Front.{IsFrontOf, behind_front, front_fault, front_payload};
 ghost use Rattle.pkg_pieces.specs.declared.front.Front.{Front};
+
+use adb_fields::no_name_is_repeated_where_each_stands_once;
+use adb_rules::no_text_is_bad_where_each_keeps_its_rule;
+use adb_tables::values_of_few_visits_have_no_fault;
+use adb_view::{values_are_normal, values_have_their_shape};
 
 /// The tests of a package's front, and then those of its values, are the tests that a package is
 /// read whole by: a failed test of the front is the first one of the file, and where the front is
@@ -38,4 +46,25 @@ pub fn a_package_is_tested_by_its_front_and_then_by_its_contents()
         ≡ or_else (payload_fault Tables.Package (front_payload front))
         (contents_fault (expected_contents (root_value Tables.Package (front_payload front)))
         (reading_of (behind_front front file))) }
+{}
+
+/// What a payload that passes every test holds: a value that has the shape of its table, in which
+/// each text and number keeps the rule of its field and no name stands twice; of bytes, it is
+/// normal.
+pub fn tested_payloads_hold_sound_values()
+    ensures value { (which : Which) (payload : List ℕ) → payload_fault which payload ≡ None
+        → IsSoundValue which (root_value which payload) }
+    ensures normal { (which : Which) (payload : List ℕ) → payload_fault which payload ≡ None
+        → All (λ b. b < 256) payload → IsNormal (root_value which payload) }
+{
+    values_of_few_visits_have_no_fault();
+    values_have_their_shape();
+    values_are_normal();
+    no_text_is_bad_where_each_keeps_its_rule();
+    no_name_is_repeated_where_each_stands_once();
+}
+
+/// Each byte is below 256.
+pub fn bytes_are_small(bytes: &[u8])
+    ensures { All (λ b. b < 256) bytes.now }
 {}

@@ -18,6 +18,7 @@ pub use front::{Front, FrontFault};
 pub use head::HeadBytes;
 pub use laws::{
     a_front_and_its_values_are_tested_as_a_whole_package, a_front_holds_the_payload_of_its_file,
-    a_package_is_tested_by_its_front_and_then_by_its_contents,
+    a_package_is_tested_by_its_front_and_then_by_its_contents, bytes_are_small,
+    tested_payloads_hold_sound_values,
 };
 pub use read::read_front;

@@ -1,10 +1,11 @@
-use Rattle.std.proofs.Common.{◌∙◌, ap}
+use Rattle.std.proofs.Common.{◌∙◌, Some, ap, subst, sym}
 use Rattle.std.specs.List.{list_all}
 use Rattle.adb_fields.specs.Repeated.{entries_at}
 use Rattle.adb_schema.specs.Soundness.{root_value}
 use Rattle.adb_tables.specs.Values.{entries_in, entry_in}
 use Rattle.adb_tables.specs.declared.tables.Which.TheVariants.{Idb}
 use Rattle.db_core.specs.Packages.{lists_names, lists_no_reserved}
+use Rattle.db_core.specs.SoundMembers.{IsSoundDatabaseIfAny}
 use Rattle.db_core.proofs.ListedNames.{packages_list_names, packages_list_no_reserved}
 use Rattle.db_core.proofs.Opened.{payload_rules}
 use Rattle.db_core.proofs.db.Db.open.Goals as goal
@@ -20,3 +21,11 @@ invariant_of-result-clause-free c =
     let p = c.args.payload.now in
     ap (λ v. list_all lists_no_reserved (entries_at 0 v)) c.open_idb-idb.ensures
     ∙ packages_list_no_reserved (entries_in (entry_in (root_value Idb p) 0)) (payload_rules c.no_text_is_bad_where_each_keeps_its_rule.ensures Idb p c.requires)
+
+pub invariant_of-result-clause-sound : goal.invariant_of-result-clause-sound
+invariant_of-result-clause-sound c =
+    let p = c.args.payload.now in
+    ∣ subst IsSoundDatabaseIfAny (ap Some (sym c.open_idb-idb.ensures)) (
+      c.tested_payloads_hold_sound_values.ensures.value Idb p c.requires,
+      c.tested_payloads_hold_sound_values.ensures.normal Idb p c.requires c.bytes_are_small.ensures,
+    ) ∣₁

@@ -1,17 +1,23 @@
-use Rattle.std.proofs.Common.{◌∙◌, ap}
+use Rattle.std.proofs.Common.{◌∙◌, ap, refl}
 use Rattle.adb_fields.specs.Repeated.{package_name}
 use Rattle.adb_tables.specs.declared.tables.Which.TheVariants.{Package}
+use Rattle.db_core.specs.EntrySeen.{member_by}
 use Rattle.db_core.specs.Members.{comes_behind}
-use Rattle.db_core.specs.Packages.{lists_names}
+use Rattle.db_core.specs.Packages.{comes_or_lists_no_reserved, lists_names}
 use Rattle.db_core.specs.Seen.{members_of}
-use Rattle.pkg_pieces.specs.Values.{value_of_contents}
-use Rattle.db_core.proofs.ListedNames.{named_more, package_lists_names}
+use Rattle.pkg_pieces.specs.Values.{payload_of_contents, value_of_contents}
+use Rattle.db_core.proofs.ListedNames.{package_lists_names, passed_more}
 use Rattle.db_core.proofs.Ordered.{few_more, kept_more}
+use Rattle.db_core.proofs.SoundEntries.{comes_sound, sound_more}
 use Rattle.db_core.proofs.members.Members.comes_in_pieces.Goals as goal
 
 pub invariant_of-self : goal.invariant_of-self
 invariant_of-self c = record {
   in_order = kept_more c.push.result _ _ _ c.push.ensures.items c.args.self.now.in_order (ap (λ v. comes_behind (package_name v) (members_of c.args.self.now)) c.view-view.ensures ∙ c.requires.behind);
   few = few_more c.push.result _ _ _ _ c.push.ensures.items c.args.self.now.few c.requires.few;
-  named = named_more c.push.result _ _ _ c.push.ensures.items c.args.self.now.named (ap lists_names c.view-view.ensures ∙ package_lists_names Package (value_of_contents c.args.contents.now) c.values_keep_their_rules.ensures);
+  named = passed_more (λ e. lists_names (member_by e).pkg) c.push.result _ _ _ c.push.ensures.items c.args.self.now.named
+      (ap lists_names c.view-view.ensures ∙ package_lists_names Package (value_of_contents c.args.contents.now) c.values_keep_their_rules.ensures);
+  free = passed_more (λ e. comes_or_lists_no_reserved (member_by e)) c.push.result _ _ _ c.push.ensures.items c.args.self.now.free refl;
+  sound = sound_more c.push.result _ _ _ c.push.ensures.items c.args.self.now.sound
+      (comes_sound _ (value_of_contents c.args.contents.now) c.id-id.result (payload_of_contents c.args.contents.now) c.view-view.ensures c.id-id.ensures c.values_are_sound.ensures.sound c.values_are_sound.ensures.normal);
 }

@@ -23,6 +23,11 @@ pub record IsOfSoundPackage (pkg : Plain) (id : List ℕ) : Type 0 where
   pub normal : IsNormal pkg
   pub digest : is_digest_length (length id) ≡ true
 
+-- the value of a database, if there is one, is sound
+abbrev pub IsSoundDatabaseIfAny : Option Plain → Type 0
+IsSoundDatabaseIfAny None = Unit {0}
+IsSoundDatabaseIfAny (Some database) = IsSoundValue Idb database × IsNormal database
+
 -- one that has no id stays, and one with an id comes
 abbrev pub IsOfSoundContainer : Plain → Option (List ℕ) → Type 0
 IsOfSoundContainer pkg None = IsOfSoundDatabase pkg

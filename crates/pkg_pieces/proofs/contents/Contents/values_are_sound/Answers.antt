@@ -1,0 +1,16 @@
+-- The payload passes its tests, and is of bytes.
+use Rattle.adb_schema.specs.Soundness.{payload_fault}
+use Rattle.adb_tables.specs.declared.tables.Which.TheVariants.{Package}
+use Rattle.pkg_pieces.specs.Values.{payload_of_contents}
+use Rattle.pkg_pieces.proofs.Opened.{none_of}
+use Rattle.pkg_pieces.proofs.contents.Contents.values_are_sound.Goals as goal
+
+pub returns-clause-sound : goal.returns-clause-sound
+returns-clause-sound c =
+    let p = payload_of_contents c.args.self.now in
+    c.tested_payloads_hold_sound_values.ensures.value Package p (none_of (payload_fault Package p) c.args.self.now.tested)
+
+pub returns-clause-normal : goal.returns-clause-normal
+returns-clause-normal c =
+    let p = payload_of_contents c.args.self.now in
+    c.tested_payloads_hold_sound_values.ensures.normal Package p (none_of (payload_fault Package p) c.args.self.now.tested) c.bytes_are_small.ensures
