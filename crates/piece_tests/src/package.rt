@@ -57,8 +57,8 @@ pub(crate) fn add_shortened(
     add_package(alloc, &file, None, 0, false, answer)
 }
 
-/// The pieces of a package, and then how long those of each file are once more, from one that is not
-/// there to the first: `back SIZES`.
+/// The pieces of a package, and then how long those of each file are once more, from one that is
+/// not there to the first: `back SIZES`.
 pub(crate) fn add_back(
     alloc: Global,
     words: &Words,
@@ -69,8 +69,8 @@ pub(crate) fn add_back(
     add_package(alloc, &file, None, low_word(sizes.len()) + 1, false, answer)
 }
 
-/// The pieces of a package, and then how long those of each file are once more, from the last to the
-/// first, where a byte of the last file was changed in between: `change AT SIZES`.
+/// The pieces of a package, and then how long those of each file are once more, from the last to
+/// the first, where a byte of the last file was changed in between: `change AT SIZES`.
 pub(crate) fn add_changed(
     alloc: Global,
     words: &Words,
