@@ -1,6 +1,7 @@
-//! Answers questions to `piece_core`, `pkg_pieces` and `piece_reader`: a file's contents piece by
-//! piece, the front of a block against the next file, the front of a package, and the pieces of all
-//! files of a package in a tree. Its stored run has all rows; `tests/lines.md` describes their form.
+//! Answers questions to `piece_core`, `pkg_pieces`, `piece_reader` and `package_test`: a file's
+//! contents piece by piece, the front of a block against the next file, the front of a package, and
+//! the pieces of a package's files in a tree. Its stored run has all rows; `tests/lines.md` describes
+//! their form.
 #![tactic(auto)]
 
 ghost use Rattle.std.specs.Prelude.{◌≡◌, IfSome};

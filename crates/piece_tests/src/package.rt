@@ -1,13 +1,11 @@
 //! Packages in a tree whose files are read in pieces.
 
-ghost use Rattle.std.specs.Prelude.{◌≡◌, Ok, true};
-ghost use Rattle.piece_reader.specs.Passes.{HasEnded};
-
 use crate::made::{Flaw, low_word, package_of};
 use crate::{add_cause, add_part, small_number};
 use adb_schema::PACKAGE_WORD;
-use base_core::{Name, Words};
-use piece_reader::{PackagePieces, Piece, PieceFault};
+use base_core::{Name, TreeFault, Words};
+use package_test::{PackageRead, read_package};
+use piece_reader::{FilePieces, Piece, PieceFault, PieceReader};
 use pkg_core::PackageFault;
 use pkg_pieces::{Contents, Front, FrontFault, read_front};
 use row_lines::{add_number, add_word, word_at};
@@ -59,8 +57,8 @@ pub(crate) fn add_shortened(
     add_package(alloc, &file, None, 0, false, answer)
 }
 
-/// The pieces of a package, and then of each file once more, from one that is not there to the
-/// first: `back SIZES`.
+/// The pieces of a package, and then how long those of each file are once more, from one that is
+/// not there to the first: `back SIZES`.
 pub(crate) fn add_back(
     alloc: Global,
     words: &Words,
@@ -71,8 +69,8 @@ pub(crate) fn add_back(
     add_package(alloc, &file, None, low_word(sizes.len()) + 1, false, answer)
 }
 
-/// The pieces of a package, and then of each file once more, from the last to the first, where a
-/// byte of the last file was changed in between: `change AT SIZES`.
+/// The pieces of a package, and then how long those of each file are once more, from the last to
+/// the first, where a byte of the last file was changed in between: `change AT SIZES`.
 pub(crate) fn add_changed(
     alloc: Global,
     words: &Words,
@@ -199,35 +197,26 @@ fn add_passes(
         Err(PackageFault::Bad(cause)) => return add_cause(alloc, cause, answer),
         Err(PackageFault::Memory) => return Err(AllocError),
     };
-    let mut pieces = PackagePieces::new(alloc, front, &contents, name)?;
-    let mut piece = Piece::new();
-    if !add_all(alloc, tree, &mut pieces, &mut piece, answer)? {
-        return add_next(alloc, tree, &mut pieces, &mut piece, answer);
+    let mut reader = PieceReader::new(front, &contents, name);
+    if !add_all(alloc, tree, &mut reader, answer)? {
+        return add_next(alloc, tree, &mut reader, answer);
     }
-    if let Some(bytes) = changed {
-        put(tree, name, bytes)?;
+    if back == 0 {
+        return Ok(());
     }
-    'files: for i in 0..back {
-        pieces.go_to(1, back - i);
-        if !add_all(alloc, tree, &mut pieces, &mut piece, answer)? {
-            return add_next(alloc, tree, &mut pieces, &mut piece, answer);
-        }
-    }
-    Ok(())
+    add_again(alloc, tree, name, changed, back, answer)
 }
 
 /// Adds all pieces that are still to come, and tells whether the end came.
 fn add_all(
     alloc: Global,
     tree: &mut MemoryTree,
-    pieces: &mut PackagePieces<'_>,
-    piece: &mut Piece,
+    reader: &mut PieceReader<'_>,
     answer: &mut Vec<u8>,
-) -> Result<bool, AllocError>
-    ensures { result ≡ Ok true → HasEnded pieces.new }
-{
+) -> Result<bool, AllocError> {
+    let mut piece = Piece::new();
     for _ in 0..MOST {
-        match pieces.next_piece(tree, piece) {
+        match reader.next_piece(tree, &mut piece) {
             Ok(Some(part)) => add_part(alloc, part, piece.bytes().len(), answer)?,
             Ok(None) => {
                 add_word(answer, b"end")?;
@@ -246,13 +235,81 @@ fn add_all(
 fn add_next(
     alloc: Global,
     tree: &mut MemoryTree,
-    pieces: &mut PackagePieces<'_>,
-    piece: &mut Piece,
+    reader: &mut PieceReader<'_>,
     answer: &mut Vec<u8>,
 ) -> Result<(), AllocError> {
-    match pieces.next_piece(tree, piece) {
+    let mut piece = Piece::new();
+    match reader.next_piece(tree, &mut piece) {
         Ok(Some(part)) => add_part(alloc, part, piece.bytes().len(), answer),
         Ok(None) => add_word(answer, b"end"),
+        Err(fault) => add_fault(alloc, fault, answer),
+    }
+}
+
+/// Adds how long the pieces of each of the first `back` files of a package are that is read once,
+/// from the last file to the first; of the changed bytes if there are any.
+fn add_again(
+    alloc: Global,
+    tree: &mut MemoryTree,
+    name: &Name,
+    changed: Option<&[u8]>,
+    back: u32,
+    answer: &mut Vec<u8>,
+) -> Result<(), AllocError> {
+    let package = match read_package(alloc, tree, name) {
+        Ok(PackageRead::Sound(package)) => package,
+        Ok(PackageRead::Bad(cause)) => return add_cause(alloc, cause, answer),
+        Ok(PackageRead::Absent) => return add_word(answer, b"no file"),
+        Err(TreeFault::Disk) => return add_word(answer, b"a fault"),
+        Err(TreeFault::Memory) => return Err(AllocError),
+    };
+    if let Some(bytes) = changed {
+        put(tree, name, bytes)?;
+    }
+    for i in 0..back {
+        let mut file = package.file(1, back - i);
+        if !add_file(alloc, tree, &mut file, answer)? {
+            return add_next_of_file(alloc, tree, &mut file, answer);
+        }
+    }
+    Ok(())
+}
+
+/// Adds how long the pieces of a file are, and tells whether the end came.
+fn add_file(
+    alloc: Global,
+    tree: &mut MemoryTree,
+    file: &mut FilePieces<'_>,
+    answer: &mut Vec<u8>,
+) -> Result<bool, AllocError> {
+    let mut piece = Piece::new();
+    for _ in 0..MOST {
+        match file.next_piece(tree, &mut piece) {
+            Ok(true) => add_number(alloc, answer, piece.bytes().len() as u128)?,
+            Ok(false) => {
+                add_word(answer, b"end")?;
+                return Ok(true);
+            }
+            Err(fault) => {
+                add_fault(alloc, fault, answer)?;
+                return Ok(false);
+            }
+        }
+    }
+    Ok(false)
+}
+
+/// Adds what one more call for a file answers.
+fn add_next_of_file(
+    alloc: Global,
+    tree: &mut MemoryTree,
+    file: &mut FilePieces<'_>,
+    answer: &mut Vec<u8>,
+) -> Result<(), AllocError> {
+    let mut piece = Piece::new();
+    match file.next_piece(tree, &mut piece) {
+        Ok(true) => add_number(alloc, answer, piece.bytes().len() as u128),
+        Ok(false) => add_word(answer, b"end"),
         Err(fault) => add_fault(alloc, fault, answer),
     }
 }
