@@ -1,5 +1,5 @@
 -- What each call keeps while an intent comes to stand under its name.
-use Rattle.std.proofs.Common.{◌≡◌, ◌≢◌, ◌⊎◌, ◌||◌, inl, inr, ⊎_elim, ℕ, ◌≤◌, ◌+◌, Bool, true, false, cond, List, [], ◌∷◌, Option, None, Some, Result, Ok, Err, OnOk, refl, sym, ap, subst, ◌∙◌, arith}
+use Rattle.std.proofs.Common.{◌≡◌, ◌≢◌, ◌⊎◌, ◌||◌, inl, inr, ⊎_elim, ℕ, ◌≤◌, ◌+◌, Bool, true, false, cond, List, [], ◌∷◌, Option, None, Some, IsSome, Result, Ok, Err, OnOk, refl, sym, ap, subst, ◌∙◌, arith}
 use Rattle.std.specs.List.{list_any}
 use Rattle.std.specs.Str.{bytes_eq}
 use Rattle.base_core.specs.Files.{Files, NameMap, put_name, drop_name, move_name}
@@ -9,6 +9,7 @@ use Rattle.base_core.specs.Crash.{IsImage, IsOrderly, Since}
 use Rattle.journal_core.specs.Entering.{IsEntered, IsEntering, IsReady}
 use Rattle.journal_core.specs.Acting.{acting_stage}
 use Rattle.journal_core.specs.Recovery.{Intent, IsPlaceOf, RestsOn, after_actions, intent_name, intent_at, intent_of, is_staged, read_intent, recovered_files, recovered_files_by, stage_name, state_of, after_moves, without_names}
+use Rattle.journal_core.specs.Kept.{RecoversTo}
 use Rattle.journal_core.specs.Quiet.{IsStill}
 use Rattle.journal_core.specs.Staged.{IsActing, Publishes}
 use Rattle.journal_core.proofs.Agree.{agree-without, agree-unstaged}
@@ -17,6 +18,7 @@ use Rattle.journal_core.proofs.Acts.{files-moved, state_same, still_on, sync_act
 use Rattle.journal_core.proofs.Chain.{Runs, run_begun, run_failed, run_called, run_done, step_now, step_called}
 use Rattle.journal_core.proofs.History.{History}
 use Rattle.journal_core.proofs.Images.{CrashLaws, old_or_new_by_maps, old_or_new_from_quiet, settled_by_maps}
+use Rattle.journal_core.proofs.Lasting.{some_none}
 use Rattle.journal_core.proofs.OneCall.{now_is}
 use Rattle.journal_intent.specs.FreeNames.{AreFreeNames}
 use Rattle.journal_core.proofs.Replayed.{IsProper, proper_of, move_if-off}
@@ -292,3 +294,32 @@ module _ (intent : Intent) (base : Files) (made : ℕ) (start : TreeState) (read
       let a = step_now (IsReady intent base made) (IsReady intent base made) h x old (now_is old start rest (IsReady intent base made) is ready) first ready_synced in
       let b = step_now (IsReady intent base made) After k y h a second (acting_renamed place name place_is name_is) in
       step_called After After new r k b last (λ v q. sync_acting (acting_stage intent 0) (after_actions intent base) v q)
+
+  -- ---- at each moment at which the intent is read
+
+  abbrev R : TreeState → Type 0
+  R w = IsSome (w.names intent_name) → RecoversTo (after_actions intent base) w
+
+  unread_moment : (v : TreeState) → IsReady intent base made v → R v
+  unread_moment v b some = absurd (some_none (v.names intent_name) b.absent some)
+
+  module _ (old rest : History) (is : old ≡ start ∷ rest) where
+    read_begun : Runs R (IsReady intent base made) old old
+    read_begun = run_begun R (IsReady intent base made) old start rest is ready
+
+    module _ {T E : Type 0} (h new : History) where
+      pub read_sync_failed : (e : E) → Moves {T = T} Anywhere after_sync_names same_state old new (Err e) → Since R old new
+      read_sync_failed e moves = run_failed R (IsReady intent base made) old old new e read_begun moves (λ v may b. unread_moment v b)
+
+      pub read_synced : (x : T) → Moves {E = E} Anywhere after_sync_names same_state old new (Ok x) → Runs R (IsReady intent base made) old new
+      read_synced x moves = run_done R (IsReady intent base made) (IsReady intent base made) old old new x read_begun moves unread_moment ready_synced
+
+      pub read_last : (r : Result T E) → Runs R After old h → Moves Anywhere after_sync_names same_state h new r → Since R old new
+      read_last r runs moves = run_called R After old h new r runs moves (λ v a some. a.reads) (λ v may a some. a.reads)
+
+    module _ {T E : Type 0} (place name : List ℕ) (place_is : place ≡ stage_name 0) (name_is : name ≡ intent_name) (h new : History) where
+      pub read_rename_failed : (e : E) → Runs R (IsReady intent base made) old h → Moves {T = T} (CanRename place name) (after_rename place name) (after_rename place name) h new (Err e) → Since R old new
+      read_rename_failed e runs moves = run_failed R (IsReady intent base made) old h new e runs moves (λ v may b some. (acting_renamed place name place_is name_is v b).reads)
+
+      pub read_renamed : (x : T) → Runs R (IsReady intent base made) old h → Moves {E = E} (CanRename place name) (after_rename place name) (after_rename place name) h new (Ok x) → Runs R After old new
+      read_renamed x runs moves = run_done R (IsReady intent base made) After old h new x runs moves (λ v a some. a.reads) (acting_renamed place name place_is name_is)

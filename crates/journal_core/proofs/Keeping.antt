@@ -1,19 +1,20 @@
 -- What each call leaves of the files as read.
-use Rattle.std.proofs.Common.{◌≡◌, ◌⊎◌, ◌≢◌, inl, inr, ⊎_elim, ℕ, ◌+◌, eqb, Bool, true, false, cond, List, ◌∷◌, [], ◌++◌, length, slice_get, Option, None, Some, Result, Ok, Err, OnOk, refl, sym, ap, subst, ◌∙◌}
+use Rattle.std.proofs.Common.{◌≡◌, ◌⊎◌, ◌≢◌, inl, inr, ⊎_elim, ℕ, ◌+◌, eqb, Bool, true, false, cond, List, ◌∷◌, [], ◌++◌, length, slice_get, Option, None, Some, Result, Ok, Err, refl, sym, ap, subst, ◌∙◌}
 use Rattle.std.specs.List.{All}
 use Rattle.std.proofs.lemmas.Bool.{eqb-true}
 use Rattle.base_core.specs.Calls.{IfObservable, HasNow, Moves}
+use Rattle.base_core.specs.Crash.{Since}
 use Rattle.base_core.specs.Files.{drop_name}
-use Rattle.base_core.specs.Tree.{TreeState, File, IsWhole, after_append, after_create, after_failed_append, after_remove, after_rename, after_sync, after_sync_names, bytes_at, change_at, files_of, move_at, same_state, set_file, Anywhere, CanCreate, CanRename, HasName}
+use Rattle.base_core.specs.Tree.{TreeState, File, IsWhole, after_append, after_create, after_failed_append, after_remove, after_rename, after_sync, after_sync_names, bytes_at, change_at, files_of, move_at, same_state, set_file, Anywhere, CanCreate, HasName}
 use Rattle.journal_core.specs.Acting.{MovesIfThere}
 use Rattle.journal_core.specs.Kept.{IsOfAction, KeepsFilesBut}
-use Rattle.journal_core.specs.Recovery.{Intent, intent_name, stage_name}
+use Rattle.journal_core.specs.Recovery.{Intent, stage_name}
 use Rattle.journal_core.specs.Staged.{IsAlone}
-use Rattle.journal_core.proofs.Chain.{by_now, now_both}
-use Rattle.journal_core.proofs.History.{History, now_map, observable_at, observable_map, on_observable}
-use Rattle.journal_core.proofs.OneCall.{now_called, now_done, now_is, whole_now}
+use Rattle.journal_core.proofs.Chain.{Runs, run_called, run_done, run_failed}
+use Rattle.journal_core.proofs.History.{History, observable_at, on_observable}
+use Rattle.journal_core.proofs.OneCall.{now_done, now_is, one_called, one_done, whole_now}
 use Rattle.journal_core.proofs.Steps.{bytes_at-set_file, create_alone, create_others, remove_others, set_file-at}
-use Rattle.journal_intent.proofs.AtName.{name_cases, off_name, put_name-at, put_name-off, drop_name-off}
+use Rattle.journal_intent.proofs.AtName.{put_name-at, put_name-off, drop_name-off}
 
 -- ---- the newest state behind a call, whatever it answers
 
@@ -54,22 +55,21 @@ change_others change name v n there alone q off =
 -- ---- one call
 
 module _ {T E : Type 0} (old new : History) (name place : List ℕ) (name_is : name ≡ place) (r : Result T E) where
-  pub create_keeps : Moves (CanCreate name) (after_create name) (after_create name) old new r → All IsWhole old → IfObservable old (λ v. HasNow new (KeepsFilesBut (λ q. q ≡ place) v))
+  pub create_keeps : Moves (CanCreate name) (after_create name) (after_create name) old new r → All IsWhole old → IfObservable old (λ v. Since (KeepsFilesBut (λ q. q ≡ place) v) old new)
   create_keeps moves whole = on_observable old _ (λ v rest is.
       let others : KeepsFilesBut (λ q. q ≡ place) v (after_create name v) = λ q off. create_others name v (whole_now old v rest is whole) q (λ e. off (e ∙ name_is)) in
-      now_called old new v rest is (KeepsFilesBut (λ q. q ≡ place) v) r moves others (λ q off. refl) (λ may. others))
+      one_called old new v rest is (KeepsFilesBut (λ q. q ≡ place) v) r moves others (λ may. others))
 
-  pub append_keeps : (piece : List ℕ) → Moves (HasName name) (after_append name piece) (after_failed_append name) old new r → IfObservable old (λ v. IsAlone place v → HasNow new (KeepsFilesBut (λ q. q ≡ place) v))
+  pub append_keeps : (piece : List ℕ) → Moves (HasName name) (after_append name piece) (after_failed_append name) old new r → IfObservable old (λ v. IsAlone place v → Since (KeepsFilesBut (λ q. q ≡ place) v) old new)
   append_keeps piece moves = on_observable old _ (λ v rest is alone.
       let own : (q : List ℕ) → v.names q ≡ Some alone.number → q ≡ name = λ q at. alone.alone v.names (inl refl) q at ∙ sym name_is in
       let there : v.names name ≡ Some alone.number = ap v.names name_is ∙ alone.there in
-      now_called old new v rest is (KeepsFilesBut (λ q. q ≡ place) v) r moves
+      one_called old new v rest is (KeepsFilesBut (λ q. q ≡ place) v) r moves
       (λ q off. change_others (λ f. record { bytes = f.bytes ++ piece; synced = false }) name v alone.number there own q (λ e. off (e ∙ name_is)))
-      (λ q off. refl)
       (λ may q off. change_others (λ f. record { bytes = f.bytes; synced = false }) name v alone.number there own q (λ e. off (e ∙ name_is))))
 
-pub sync_keeps : {T E : Type 0} (old new : History) (name : List ℕ) (r : Result T E) → Moves (HasName name) (after_sync name) same_state old new r → IfObservable old (λ v. HasNow new (λ w. files_of w ≡ files_of v))
-sync_keeps old new name r moves = on_observable old _ (λ v rest is. now_called old new v rest is (λ w. files_of w ≡ files_of v) r moves (λ i q. sync_reads_at v (v.names name) q i) refl (λ may. refl))
+pub sync_keeps : {T E : Type 0} (old new : History) (name : List ℕ) (r : Result T E) → Moves (HasName name) (after_sync name) same_state old new r → IfObservable old (λ v. Since (λ w. files_of w ≡ files_of v) old new)
+sync_keeps old new name r moves = on_observable old _ (λ v rest is. one_called old new v rest is (λ w. files_of w ≡ files_of v) r moves (λ i q. sync_reads_at v (v.names name) q i) (λ may. refl))
 
 -- ---- a waiting file is made, filled and synced
 
@@ -99,23 +99,24 @@ module _ {T E : Type 0} (name : List ℕ) (v : TreeState) (whole : IsWhole v) (o
   begun_now : HasNow h (Begun name v)
   begun_now = now_done old h v rest is (Begun name v) x first (begun_created name v whole)
 
+  abbrev P : TreeState → Type 0
+  P = KeepsFilesBut (λ q. q ≡ name) v
+
+  begun_run : Runs P (Begun name v) old h
+  begun_run = record { since = one_done old h v rest is P x first (begun_created name v whole).kept; now = begun_now }
+
   module _ (piece : List ℕ) (k : History) where
-    pub append_keeps_waiting : {T E : Type 0} (e : E) → Moves {T = T} (HasName name) (after_append name piece) (after_failed_append name) h k (Err e) → HasNow k (KeepsFilesBut (λ q. q ≡ name) v)
-    append_keeps_waiting e second =
-        keep_called (Begun name v) (KeepsFilesBut (λ q. q ≡ name) v) k h (Err e) begun_now second
-        (λ u b. (begun_changed (λ f. record { bytes = f.bytes ++ piece; synced = false }) name v u b).kept) (λ u b. b.kept) (λ u b. (begun_changed (λ f. record { bytes = f.bytes; synced = false }) name v u b).kept)
+    pub append_keeps_waiting : {T E : Type 0} (e : E) → Moves {T = T} (HasName name) (after_append name piece) (after_failed_append name) h k (Err e) → Since P old k
+    append_keeps_waiting e second = run_failed P (Begun name v) old h k e begun_run second (λ u may b. (begun_changed (λ f. record { bytes = f.bytes; synced = false }) name v u b).kept)
 
     pub sync_keeps_waiting : {T E A B : Type 0} (new : History) (y : T) (r : Result A B) → Moves {E = E} (HasName name) (after_append name piece) (after_failed_append name) h k (Ok y) → Moves (HasName name) (after_sync name) same_state k new r
-        → HasNow new (KeepsFilesBut (λ q. q ≡ name) v)
+        → Since P old new
     sync_keeps_waiting new y r second last =
-        keep_called (Begun name v) (KeepsFilesBut (λ q. q ≡ name) v) new k r
-        (keep_called (Begun name v) (Begun name v) k h (Ok y) begun_now second (begun_changed (λ f. record { bytes = f.bytes ++ piece; synced = false }) name v) (λ u b. b) (begun_changed (λ f. record { bytes = f.bytes; synced = false }) name v))
-        last (λ u b. (begun_changed (λ f. record { bytes = f.bytes; synced = true }) name v u b).kept) (λ u b. b.kept) (λ u b. b.kept)
+        run_called P (Begun name v) old k new r
+        (run_done P (Begun name v) (Begun name v) old h k y begun_run second (λ u b. b.kept) (begun_changed (λ f. record { bytes = f.bytes ++ piece; synced = false }) name v))
+        last (λ u b. (begun_changed (λ f. record { bytes = f.bytes; synced = true }) name v u b).kept) (λ u may b. b.kept)
 
--- ---- the intent moves to its name
-
-abbrev pub KeepsFree : TreeState → TreeState → Type 0
-KeepsFree = KeepsFilesBut (λ q. (q ≡ intent_name) ⊎ (q ≡ stage_name 0))
+-- ---- the newest state keeps them
 
 pub keeps_now : (these : List ℕ → Type 0) (old : History) (v : TreeState) (rest : History) → old ≡ v ∷ rest → HasNow old (KeepsFilesBut these v)
 keeps_now these old v rest is = now_is old v rest (KeepsFilesBut these v) is (λ q off. refl)
@@ -128,38 +129,6 @@ module _ {T E : Type 0} (these : List ℕ → Type 0) (start : TreeState) (h new
   keeps_removed name among moves =
       let step : (u : TreeState) → KeepsFilesBut these start u → KeepsFilesBut these start (after_remove name u) = λ u k q off. remove_others name u (u.names name) q (λ e. off (subst these (sym e) among)) ∙ k q off in
       keep_called (KeepsFilesBut these start) (KeepsFilesBut these start) new h r now moves step (λ u k. k) step
-
-  pub keeps_renamed : (from to : List ℕ) → these from → these to → Moves (CanRename from to) (after_rename from to) (after_rename from to) h new r → HasNow new (KeepsFilesBut these start)
-  keeps_renamed from to among_from among_to moves =
-      let step : (u : TreeState) → KeepsFilesBut these start u → KeepsFilesBut these start (after_rename from to u) =
-      λ u k q off. moved_others from to u (u.names from) q (λ e. off (subst these (sym e) among_from)) (λ e. off (subst these (sym e) among_to)) ∙ k q off in
-      keep_called (KeepsFilesBut these start) (KeepsFilesBut these start) new h r now moves step (λ u k. k) step
-
--- both calls, and what then stands under the name of the waiting intent
-module _ (place : List ℕ) (place_is : place ≡ stage_name 0) (old mid new : History) where
-  pub written_keeps : IfObservable old (λ v. HasNow mid (KeepsFilesBut (λ q. q ≡ place) v)) → IfObservable old (λ v. HasNow mid (KeepsFree v))
-  written_keeps told = observable_map old _ _ told (λ v now. now_map mid (KeepsFilesBut (λ q. q ≡ place) v) (KeepsFree v) now (λ w k q off. k q (λ e. off (inr (e ∙ place_is)))))
-
-  pub published_keeps : IfObservable old (λ v. HasNow mid (KeepsFilesBut (λ q. q ≡ place) v)) → IfObservable mid (λ u. HasNow new (KeepsFree u)) → IfObservable old (λ v. HasNow new (KeepsFree v))
-  published_keeps first then = observable_map old _ _ (written_keeps first) (λ v now.
-      by_now mid (KeepsFree v) (HasNow new (KeepsFree v)) now
-      (observable_map mid _ (λ u. KeepsFree v u → HasNow new (KeepsFree v)) then (λ u more k. now_map new (KeepsFree u) (KeepsFree v) more (λ w l q off. l q off ∙ k q off))))
-
-  absent_both : (v w : TreeState) → v.names (stage_name 0) ≡ None → w.names (stage_name 0) ≡ None → KeepsFree v w → KeepsFilesBut (λ q. q ≡ intent_name) v w
-  absent_both v w none_v none_w k q off = ⊎_elim
-      (λ is. ap (files_of w) is ∙ ap (bytes_at w.files) none_w ∙ sym (ap (files_of v) is ∙ ap (bytes_at v.files) none_v))
-      (λ away. k q (λ either. ⊎_elim off (off_name q (stage_name 0) away) either))
-      (name_cases q (stage_name 0))
-
-  absent_now : (h : History) (v : TreeState) → v.names (stage_name 0) ≡ None → HasNow h (KeepsFree v) → IfObservable h (λ w. w.names (stage_name 0) ≡ None) → HasNow h (KeepsFilesBut (λ q. q ≡ intent_name) v)
-  absent_now [] v none_v now none_w = absurd now
-  absent_now (w ∷ h) v none_v now none_w = absent_both v w none_v none_w now
-
-  pub published_reads : {T E : Type 0} (r : Result T E) → IfObservable old (λ v. v.names place ≡ None) → IfObservable old (λ v. HasNow new (KeepsFree v)) → OnOk r (IfObservable new (λ w. w.names (stage_name 0) ≡ None))
-      → IfObservable old (λ v. OnOk r (HasNow new (KeepsFilesBut (λ q. q ≡ intent_name) v)))
-  published_reads (Err e) absent keeps moved = on_observable old _ (λ v rest is. tt)
-  published_reads (Ok x) absent keeps moved = on_observable old _ (λ v rest is.
-      absent_now new v (ap v.names (sym place_is) ∙ observable_at old v rest is (λ u. u.names place ≡ None) absent) (observable_at old v rest is (λ u. HasNow new (KeepsFree u)) keeps) moved)
 
 -- ---- an action
 

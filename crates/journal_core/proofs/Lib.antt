@@ -37,6 +37,7 @@ pub mod Settle
 pub mod Simulate
 pub mod Steps
 pub mod Suffix
+pub mod Throughout
 pub mod Vacant
 pub mod Waiting
 pub mod Worked

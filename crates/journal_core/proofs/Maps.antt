@@ -1,19 +1,16 @@
 -- Each map of names that a crash may leave is one from before, but for some names.
-use Rattle.std.proofs.Common.{◌≡◌, ◌||◌, inl, inr, ℕ, Bool, true, false, List, ◌∷◌, [], ◌++◌, Option, None, Some, Result, Ok, Err, refl, sym, ap, subst, ◌∙◌}
-use Rattle.std.specs.List.{list_any}
-use Rattle.std.specs.Str.{bytes_eq}
+use Rattle.std.proofs.Common.{◌≡◌, inl, inr, ℕ, true, false, List, ◌∷◌, [], ◌++◌, Option, None, Some, Result, refl, ap, subst, ◌∙◌}
 use Rattle.base_core.specs.Calls.{IfObservable, HasNow, Moves}
 use Rattle.base_core.specs.Crash.{Since}
 use Rattle.base_core.specs.Files.{NameMap, drop_name}
-use Rattle.base_core.specs.Tree.{TreeState, File, IsMapOf, after_append, after_create, after_failed_append, after_remove, after_rename, after_sync, after_sync_names, change_at, move_at, remove_at, same_state, Anywhere, CanCreate, CanRename, HasName}
+use Rattle.base_core.specs.Tree.{TreeState, File, after_append, after_create, after_failed_append, after_remove, after_rename, after_sync, after_sync_names, change_at, move_at, remove_at, same_state, Anywhere, CanCreate, CanRename, HasName}
 use Rattle.journal_core.specs.Filling.{IsLasting}
 use Rattle.journal_core.specs.Kept.{IsSyncedAt, KeepsMapsBut}
 use Rattle.journal_core.specs.Replacing.{scratch_of}
-use Rattle.journal_core.proofs.History.{History, no_more, none_since, now_map, observable_at, observable_map, on_observable, since_weaker}
+use Rattle.journal_core.proofs.History.{History, no_more, none_since, now_map, observable_map, on_observable, since_weaker}
 use Rattle.journal_core.proofs.Lasting.{off_first, off_rest}
 use Rattle.journal_core.proofs.Leaving.{told_called, told_on}
 use Rattle.journal_intent.proofs.AtName.{put_name-off, drop_name-off}
-use Rattle.journal_intent.specs.FreeNames.{IsNoneOf}
 
 abbrev pub Keeps : List (List ℕ) → History → History → Type 0
 Keeps these old new = IfObservable old (λ v. Since (KeepsMapsBut these v) old new)
@@ -37,6 +34,10 @@ pub maps_more : (name : List ℕ) (these : List (List ℕ)) (old new : History) 
 maps_more name these old new told = observable_map old _ _ told (λ v t.
     since_weaker (KeepsMapsBut these v) (KeepsMapsBut (name ∷ these) v) old new
     (λ w keeps map among. let (was, is_was, same) = keeps map among in (was, is_was, λ q off. same q (off_rest q name these off))) t)
+
+-- the same name, told otherwise
+pub maps_at : (name place : List ℕ) → name ≡ place → (old new : History) → Keeps (name ∷ []) old new → Keeps (place ∷ []) old new
+maps_at name place is old new told = subst (λ (p : List ℕ). Keeps (p ∷ []) old new) is told
 
 -- ---- one call
 

@@ -12,6 +12,7 @@ use Rattle.journal_core.specs.Entering.{IsEntered, IsEntering, IsReady, IsWritte
 use Rattle.journal_core.specs.Filling.{synced_file}
 use Rattle.journal_core.specs.Acting.{acting_stage}
 use Rattle.journal_core.specs.Recovery.{Intent, IsSettled, RestsOn, after_actions, intent_name, read_intent, stage_name}
+use Rattle.journal_core.specs.Kept.{RecoversTo}
 use Rattle.journal_core.specs.Quiet.{IsStill}
 use Rattle.journal_intent.specs.FreeNames.{HasFreeNames}
 use Rattle.journal_core.specs.Staged.{Staging, HasPublished, HasRoomToStage, IsActing, MayBePresent, IsOnTheWay, IsStaged, PublishedBy, Publishes}
@@ -23,6 +24,7 @@ use Rattle.journal_core.proofs.Chain.{by_now, now_both}
 use Rattle.journal_core.proofs.Compose.{quiet_then}
 use Rattle.journal_core.proofs.History.{History, now_map, now_since, since_on, since_weaker, observable_at, observable_map}
 use Rattle.journal_core.proofs.Images.{old_or_new_from_quiet, quiet_on}
+use Rattle.journal_core.proofs.Lasting.{some_none}
 use Rattle.journal_intent.proofs.StageNames.{stage_names_apart, stage_name_no_intent}
 use Rattle.journal_core.proofs.Waiting.{still_self}
 
@@ -170,6 +172,30 @@ module _ (stage : Staging) (contents : List (List ℕ)) (base : Files) (v : Tree
         by : (s : Result T E) → OnOk s (HasNow new (IsActing (acting_stage stage.intent 0) G)) → OnOk s (HasNow new (IsActing now G))
         by (Ok x) at = now_map new (IsActing (acting_stage stage.intent 0) G) (IsActing now G) at (λ w. acting_as (acting_stage stage.intent 0) now G w (sym same) (sym acted_none))
         by (Err e) at = tt
+
+    -- ---- at each moment at which the intent is read
+
+    abbrev R : TreeState → Type 0
+    R w = IsSome (w.names intent_name) → RecoversTo G w
+
+    abbrev Unread : TreeState → Type 0
+    Unread w = w.names intent_name ≡ None
+
+    abbrev Unreads : Type 0
+    Unreads = IfObservable old (λ u. Unread u → Since Unread old mid)
+
+    pub write_reads : Unreads → Since R old mid
+    write_reads unread =
+        since_weaker Unread R old mid (λ w none some. absurd (some_none (w.names intent_name) none some))
+        (observable_at old v rest is (λ u. Unread u → Since Unread old mid) unread (absent_read v.files (v.names intent_name) none_read))
+
+    pub enter_reads : Unreads → Written
+        → IfObservable mid (λ u. (intent : Intent) (files : Files) (made : ℕ) → IsReady intent files made u → Since (λ w. IsSome (w.names intent_name) → RecoversTo (after_actions intent files) w) mid new)
+        → Since R old new
+    enter_reads unread written reads =
+        since_on R old mid new (write_reads unread)
+        (by_now mid (IsReady stage.intent (files_of v) v.made) (Since R mid new) (ready_now written)
+        (observable_map mid _ (λ u. IsReady stage.intent (files_of v) v.made u → Since R mid new) reads (λ u t ready. t stage.intent (files_of v) v.made ready)))
 
     -- ---- no misuse
     module _ (room : HasRoomToStage base) where

@@ -28,6 +28,6 @@ pub use laws::{
     the_actions_touch_the_names_of_their_intent, the_files_as_read_have_the_settled_state,
     what_is_not_synced_is_not_safe,
 };
-pub use recovering::{RecoverFault, recover};
+pub use recovering::{RecoverFault, apply_all, recover};
 pub use replacing::replace;
 pub use stage::Stage;

@@ -9,7 +9,7 @@ ghost use Rattle.base_core.specs.Tree.{CanCreate, CanRename, files_of};
 ghost use Rattle.journal_core.specs.Acting.{acting_stage, full_stage};
 ghost use Rattle.journal_core.specs.Entering.{IsEntered, IsEntering, IsReady, IsWritten};
 ghost use Rattle.journal_core.specs.Filling.{synced_file};
-ghost use Rattle.journal_core.specs.Kept.{KeepsFilesBut, NamesLastBut};
+ghost use Rattle.journal_core.specs.Kept.{KeepsFilesBut, KeepsMapsBut, NamesLastBut, RecoversTo};
 ghost use Rattle.journal_core.specs.Quiet.{IsStill};
 ghost use Rattle.journal_core.specs.Recovery.{Intent, IsSettled, RestsOn, after_actions, intent_name, stage_name};
 ghost use Rattle.journal_core.specs.Staged.{HasRoomToStage, IsActing, IsOnTheWay, IsStaged, PublishedBy};
@@ -44,9 +44,18 @@ pub(crate) fn publish_intent<T: Tree>(tree: &mut T, intent: &PreparedIntent) -> 
         → Since (λ w. IsSome (w.names intent_name)
         → NamesLastBut (intent_name ∷ stage_name 0 ∷ []) w)
         (T.history tree.old) (T.history tree.new)) }
-    ensures others { IfObservable (T.history tree.old) (λ v. HasNow (T.history tree.new)
-        (KeepsFilesBut (λ q. (q ≡ intent_name) ⊎ (q ≡ stage_name 0)) v)) }
-    ensures reads { IfObservable (T.history tree.old) (λ v. OnOk result
+    ensures reads { IfObservable (T.history tree.old) (λ v. (contents : List (List ℕ))
+        (base : Files) → IsStaged (full_stage intent.now) contents None base v
+        → Since (λ w. IsSome (w.names intent_name)
+        → RecoversTo (after_actions intent.now (files_of v)) w)
+        (T.history tree.old) (T.history tree.new)) }
+    ensures others { IfObservable (T.history tree.old) (λ v.
+        Since (KeepsFilesBut (λ q. (q ≡ intent_name) ⊎ (q ≡ stage_name 0)) v)
+        (T.history tree.old) (T.history tree.new)) }
+    ensures maps { IfObservable (T.history tree.old) (λ v.
+        Since (KeepsMapsBut (intent_name ∷ stage_name 0 ∷ []) v)
+        (T.history tree.old) (T.history tree.new)) }
+    ensures only_intent { IfObservable (T.history tree.old) (λ v. OnOk result
         (HasNow (T.history tree.new) (KeepsFilesBut (λ q. q ≡ intent_name) v))) }
     ensures goes_on { GoesOn (T.counts tree.old) (T.counts tree.new) }
     ensures cause { OnErr result (HasCause (T.counts tree.old) (T.counts tree.new)) }
@@ -71,8 +80,10 @@ fn write_waiting<T: Tree>(tree: &mut T, place: &Name, bytes: &[u8]) -> Result<()
         (IsWritten place.now (synced_file bytes.now) v))) }
     ensures unread { IfObservable (T.history tree.old) (λ v. v.names intent_name ≡ None
         → Since (λ w. w.names intent_name ≡ None) (T.history tree.old) (T.history tree.new)) }
-    ensures others { IfObservable (T.history tree.old)
-        (λ v. HasNow (T.history tree.new) (KeepsFilesBut (λ q. q ≡ place.now) v)) }
+    ensures others { IfObservable (T.history tree.old) (λ v.
+        Since (KeepsFilesBut (λ q. q ≡ place.now) v) (T.history tree.old) (T.history tree.new)) }
+    ensures maps { IfObservable (T.history tree.old) (λ v.
+        Since (KeepsMapsBut (stage_name 0 ∷ []) v) (T.history tree.old) (T.history tree.new)) }
     ensures absent { OnOk result
         (IfObservable (T.history tree.old) (λ v. v.names place.now ≡ None)) }
     ensures goes_on { GoesOn (T.counts tree.old) (T.counts tree.new) }
@@ -108,8 +119,15 @@ fn enter<T: Tree>(tree: &mut T, place: &Name, name: &Name) -> Result<(), Disk>
         → Since (λ w. IsSome (w.names intent_name)
         → NamesLastBut (intent_name ∷ stage_name 0 ∷ []) w)
         (T.history tree.old) (T.history tree.new)) }
-    ensures others { IfObservable (T.history tree.old) (λ v. HasNow (T.history tree.new)
-        (KeepsFilesBut (λ q. (q ≡ intent_name) ⊎ (q ≡ stage_name 0)) v)) }
+    ensures reads { IfObservable (T.history tree.old) (λ v. (intent : Intent) (base : Files)
+        (made : ℕ) → IsReady intent base made v → Since (λ w. IsSome (w.names intent_name)
+        → RecoversTo (after_actions intent base) w) (T.history tree.old) (T.history tree.new)) }
+    ensures others { IfObservable (T.history tree.old) (λ v.
+        Since (KeepsFilesBut (λ q. (q ≡ intent_name) ⊎ (q ≡ stage_name 0)) v)
+        (T.history tree.old) (T.history tree.new)) }
+    ensures maps { IfObservable (T.history tree.old) (λ v.
+        Since (KeepsMapsBut (intent_name ∷ stage_name 0 ∷ []) v)
+        (T.history tree.old) (T.history tree.new)) }
     ensures moved { OnOk result
         (IfObservable (T.history tree.new) (λ w. w.names (stage_name 0) ≡ None)) }
     ensures goes_on { GoesOn (T.counts tree.old) (T.counts tree.new) }

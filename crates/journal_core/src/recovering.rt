@@ -248,8 +248,8 @@ fn replay_file<T: Tree>(alloc: Global, tree: &mut T, file: Vec<u8>) -> Result<()
     Ok(())
 }
 
-/// All actions that are left.
-fn apply_all<T: Tree>(stage: &mut Stage, tree: &mut T) -> Result<(), Disk>
+/// Does all actions that are left.
+pub fn apply_all<T: Tree>(stage: &mut Stage, tree: &mut T) -> Result<(), Disk>
     requires published { stage.old.published ≡ true }
     requires within { stage.old.acted ≤ action_count stage.old.intent }
     ensures moments { IfObservable (T.history tree.old) (λ v. (ignored : List ℕ

@@ -11,10 +11,11 @@ ghost use Rattle.base_core.specs.Restart.{SinceBy};
 ghost use Rattle.base_core.specs.Tree.{files_of};
 ghost use Rattle.base_core.specs.declared.cause.Cause.{Cause};
 ghost use Rattle.journal_core.specs.Acting.{IsNextName};
-ghost use Rattle.journal_core.specs.Kept.{IsInNoMap, IsLessWaiting, IsOfAction, KeepsFilesBut, KeepsIntent, NamesLastBut, RecoversTo};
+ghost use Rattle.journal_core.specs.Kept.{IsInNoMap, IsLessWaiting, IsOfAction, KeepsFilesBut, KeepsIntent, KeepsMapsBut, NamesLastBut, RecoversTo};
 ghost use Rattle.journal_core.specs.Quiet.{IsStill};
 ghost use Rattle.journal_core.specs.Recovery.{IsSettled, RestsOn, after_actions, intent_name, read_intent, stage_name};
 ghost use Rattle.journal_core.specs.Staged.{Staging, HasRoomBeside, HasRoomToStage, IsActing, IsAlone, IsOnTheWay, IsStaged, PublishedBy, action_count, new_stage};
+ghost use Rattle.journal_intent.specs.FreeNames.{HasFreeNames};
 ghost use Rattle.journal_intent.specs.Intent.{AreChangeNames};
 ghost use Rattle.journal_intent.specs.IntentValue.{intent_of_lists, value_of_intent};
 
@@ -124,6 +125,14 @@ impl Stage {
         self.acted < self.intent.removals_len() + self.intent.writes_len()
     }
 
+    /// The names of its actions are free, and no write stands twice.
+    pub fn names_are_free(&self)
+        ensures free { HasFreeNames self.now.intent }
+        ensures few { action_count self.now.intent < 2 ^ 63 }
+    {
+        self.intent.names_are_free();
+    }
+
     /// The name of the next write's file.
     fn next_name(&self) -> &Name
         requires { self.now.staged < length self.now.intent.writes }
@@ -157,9 +166,14 @@ impl Stage {
             → OnOk result (HasNow (T.history tree.new)
             (IsStaged self.new contents (Some []) base))) }
 
-        // Whatever it answers, the files as read stay as they are under every other name.
-        ensures others { IfObservable (T.history tree.old) (λ v. HasNow (T.history tree.new)
-            (KeepsFilesBut (λ q. q ≡ stage_name (self.old.staged + 1)) v)) }
+        // At each moment, whatever it answers, the files as read stay as they are under every other
+        // name, and so does what a crash leaves of the names.
+        ensures others { IfObservable (T.history tree.old) (λ v.
+            Since (KeepsFilesBut (λ q. q ≡ stage_name (self.old.staged + 1)) v)
+            (T.history tree.old) (T.history tree.new)) }
+        ensures maps { IfObservable (T.history tree.old) (λ v.
+            Since (KeepsMapsBut (stage_name (self.old.staged + 1) ∷ []) v)
+            (T.history tree.old) (T.history tree.new)) }
         ensures view { OnOk result (self.new ≡ record self.old { is_open = true }) }
         ensures err { OnErr result (self.new ≡ self.old) }
         ensures goes_on { GoesOn (T.counts tree.old) (T.counts tree.new) }
@@ -188,10 +202,14 @@ impl Stage {
             → OnOk result (HasNow (T.history tree.new)
             (IsStaged self.new contents (Some (so_far ++ piece.now)) base))) }
 
-        // Where the file stands under no other name, the files as read stay as they are under each.
+        // Where the file stands under no other name, the files as read stay as they are under each,
+        // at each moment; and no name changes.
         ensures others { IfObservable (T.history tree.old) (λ v.
-            IsAlone (stage_name (self.old.staged + 1)) v → HasNow (T.history tree.new)
-            (KeepsFilesBut (λ q. q ≡ stage_name (self.old.staged + 1)) v)) }
+            IsAlone (stage_name (self.old.staged + 1)) v
+            → Since (KeepsFilesBut (λ q. q ≡ stage_name (self.old.staged + 1)) v)
+            (T.history tree.old) (T.history tree.new)) }
+        ensures maps { IfObservable (T.history tree.old) (λ v.
+            Since (KeepsMapsBut [] v) (T.history tree.old) (T.history tree.new)) }
         ensures view { OnOk result (self.new ≡ self.old) }
         ensures err { OnErr result (self.new ≡ self.old) }
         ensures goes_on { GoesOn (T.counts tree.old) (T.counts tree.new) }
@@ -217,8 +235,10 @@ impl Stage {
             (so_far : List ℕ) (base : Files) → IsStaged self.old contents (Some so_far) base v
             → OnOk result (HasNow (T.history tree.new)
             (IsStaged self.new (contents ++ so_far ∷ []) None base))) }
-        ensures others { IfObservable (T.history tree.old)
-            (λ v. HasNow (T.history tree.new) (λ w. files_of w ≡ files_of v)) }
+        ensures others { IfObservable (T.history tree.old) (λ v.
+            Since (λ w. files_of w ≡ files_of v) (T.history tree.old) (T.history tree.new)) }
+        ensures maps { IfObservable (T.history tree.old) (λ v.
+            Since (KeepsMapsBut [] v) (T.history tree.old) (T.history tree.new)) }
         ensures view { OnOk result
             (self.new ≡ record self.old { staged = self.old.staged + 1; is_open = false }) }
         ensures err { OnErr result (self.new ≡ self.old) }
@@ -272,11 +292,24 @@ impl Stage {
             → NamesLastBut (intent_name ∷ stage_name 0 ∷ []) w)
             (T.history tree.old) (T.history tree.new)) }
 
-        // Whatever it answers, the files as read stay as they are under every name but the
-        // intent's and that under which it is written; once it has answered Ok, under this too.
-        ensures others { IfObservable (T.history tree.old) (λ v. HasNow (T.history tree.new)
-            (KeepsFilesBut (λ q. (q ≡ intent_name) ⊎ (q ≡ stage_name 0)) v)) }
-        ensures reads { IfObservable (T.history tree.old) (λ v. OnOk result
+        // At each moment at which it is read, the files as read stand for those of the actions
+        // done.
+        ensures reads { IfObservable (T.history tree.old) (λ v. (contents : List (List ℕ))
+            (base : Files) → IsStaged self.old contents None base v
+            → Since (λ w. IsSome (w.names intent_name)
+            → RecoversTo (after_actions self.old.intent (files_of v)) w)
+            (T.history tree.old) (T.history tree.new)) }
+
+        // At each moment, whatever it answers, the files as read stay as they are under every name
+        // but the intent's and that under which it is written, and so does what a crash leaves of
+        // the names; once it has answered Ok, the files stay under this name too.
+        ensures others { IfObservable (T.history tree.old) (λ v.
+            Since (KeepsFilesBut (λ q. (q ≡ intent_name) ⊎ (q ≡ stage_name 0)) v)
+            (T.history tree.old) (T.history tree.new)) }
+        ensures maps { IfObservable (T.history tree.old) (λ v.
+            Since (KeepsMapsBut (intent_name ∷ stage_name 0 ∷ []) v)
+            (T.history tree.old) (T.history tree.new)) }
+        ensures only_intent { IfObservable (T.history tree.old) (λ v. OnOk result
             (HasNow (T.history tree.new) (KeepsFilesBut (λ q. q ≡ intent_name) v))) }
         ensures view { OnOk result (self.new ≡ record self.old { published = true; acted = 0 }) }
         ensures err { OnErr result (self.new ≡ self.old) }

@@ -1,12 +1,13 @@
-use Rattle.std.proofs.Common.{◌∙◌, ◌≡◌, ◌⊎◌, inl, inr}
+use Rattle.std.proofs.Common.{◌∙◌, ◌∷◌, []}
 use Rattle.journal_core.specs.Recovery.{intent_name, stage_name}
 use Rattle.base_core.specs.Tree.{CanRename}
 use Rattle.journal_core.proofs.History.{on_observable}
 use Rattle.journal_core.proofs.OneCall.{now_is}
 use Rattle.journal_core.proofs.Chain.{IsAny, any_now, proper_now, step_now}
-use Rattle.journal_core.proofs.Entered.{first_failed, first_done, rename_failed, rename_done, last_called, last_entered, last_acting}
-use Rattle.journal_core.proofs.Keeping.{keeps_now, keeps_renamed, keeps_synced}
+use Rattle.journal_core.proofs.Entered.{first_failed, first_done, rename_failed, rename_done, last_called, last_entered, last_acting, read_last, read_rename_failed, read_renamed, read_sync_failed, read_synced}
 use Rattle.journal_core.proofs.Lasting.{enter_last, enter_moved, enter_rename_failed, enter_renamed, enter_sync_failed, enter_synced}
+use Rattle.journal_core.proofs.Maps.{maps_on, names_maps, rename_maps}
+use Rattle.journal_core.proofs.Throughout.{free_on, free_renamed, free_synced, maps_moved}
 use Rattle.journal_core.proofs.publishing.enter.Goals as goal
 
 pub returns-in_err-sync_all_names-clause-moments : goal.returns-in_err-sync_all_names-clause-moments
@@ -72,24 +73,48 @@ returns-clause-last g c =
     (enter_synced _ _ c.requires.place c.requires.name v _ rest is none (g.T.Tree.history c.args.tree.now) _ _ c.in_ok-sync_all_names.ensures.moves) c.in_ok-rename.ensures.moves) c.sync_all_names-2.ensures.moves)
 
 pub returns-in_err-sync_all_names-clause-others : goal.returns-in_err-sync_all_names-clause-others
-returns-in_err-sync_all_names-clause-others g c =
-    on_observable (g.T.Tree.history c.args.tree.now) _ (λ v rest is.
-    keeps_synced (λ q. (q ≡ intent_name) ⊎ (q ≡ stage_name 0)) v _ _ _ (keeps_now (λ q. (q ≡ intent_name) ⊎ (q ≡ stage_name 0)) _ v rest is) c.in_err-sync_all_names.ensures.moves)
+returns-in_err-sync_all_names-clause-others g c = free_synced _ _ _ c.in_err-sync_all_names.ensures.moves
 
 pub returns-in_err-rename-clause-others : goal.returns-in_err-rename-clause-others
 returns-in_err-rename-clause-others g c =
-    on_observable (g.T.Tree.history c.args.tree.now) _ (λ v rest is.
-    keeps_renamed (λ q. (q ≡ intent_name) ⊎ (q ≡ stage_name 0)) v _ _ _
-    (keeps_synced (λ q. (q ≡ intent_name) ⊎ (q ≡ stage_name 0)) v _ _ _ (keeps_now (λ q. (q ≡ intent_name) ⊎ (q ≡ stage_name 0)) _ v rest is) c.in_ok-sync_all_names.ensures.moves)
-    _ _ (inr c.requires.place) (inl c.requires.name) c.in_err-rename.ensures.moves)
+    free_on _ _ _ (free_synced (g.T.Tree.history c.args.tree.now) _ _ c.in_ok-sync_all_names.ensures.moves) (free_renamed _ _ _ _ _ c.requires.place c.requires.name c.in_err-rename.ensures.moves)
 
 pub returns-clause-others : goal.returns-clause-others
 returns-clause-others g c =
-    on_observable (g.T.Tree.history c.args.tree.now) _ (λ v rest is.
-    keeps_synced (λ q. (q ≡ intent_name) ⊎ (q ≡ stage_name 0)) v _ _ c.sync_all_names-2.result
-    (keeps_renamed (λ q. (q ≡ intent_name) ⊎ (q ≡ stage_name 0)) v _ _ _
-    (keeps_synced (λ q. (q ≡ intent_name) ⊎ (q ≡ stage_name 0)) v _ _ _ (keeps_now (λ q. (q ≡ intent_name) ⊎ (q ≡ stage_name 0)) _ v rest is) c.in_ok-sync_all_names.ensures.moves)
-    _ _ (inr c.requires.place) (inl c.requires.name) c.in_ok-rename.ensures.moves) c.sync_all_names-2.ensures.moves)
+    free_on _ _ _ (free_on _ _ _ (free_synced (g.T.Tree.history c.args.tree.now) _ _ c.in_ok-sync_all_names.ensures.moves) (free_renamed _ _ _ _ _ c.requires.place c.requires.name c.in_ok-rename.ensures.moves))
+    (free_synced _ _ c.sync_all_names-2.result c.sync_all_names-2.ensures.moves)
+
+pub returns-in_err-sync_all_names-clause-maps : goal.returns-in_err-sync_all_names-clause-maps
+returns-in_err-sync_all_names-clause-maps g c = names_maps _ _ _ (intent_name ∷ stage_name 0 ∷ []) c.in_err-sync_all_names.ensures.moves
+
+pub returns-in_err-rename-clause-maps : goal.returns-in_err-rename-clause-maps
+returns-in_err-rename-clause-maps g c =
+    maps_on (intent_name ∷ stage_name 0 ∷ []) _ _ _ (names_maps (g.T.Tree.history c.args.tree.now) _ _ (intent_name ∷ stage_name 0 ∷ []) c.in_ok-sync_all_names.ensures.moves)
+    (maps_moved _ _ c.requires.place c.requires.name _ _ (rename_maps _ _ _ c.args.place.now c.args.name.now c.in_err-rename.ensures.moves))
+
+pub returns-clause-maps : goal.returns-clause-maps
+returns-clause-maps g c =
+    maps_on (intent_name ∷ stage_name 0 ∷ []) _ _ _ (maps_on (intent_name ∷ stage_name 0 ∷ []) _ _ _ (names_maps (g.T.Tree.history c.args.tree.now) _ _ (intent_name ∷ stage_name 0 ∷ []) c.in_ok-sync_all_names.ensures.moves)
+    (maps_moved _ _ c.requires.place c.requires.name _ _ (rename_maps _ _ _ c.args.place.now c.args.name.now c.in_ok-rename.ensures.moves)))
+    (names_maps _ _ c.sync_all_names-2.result (intent_name ∷ stage_name 0 ∷ []) c.sync_all_names-2.ensures.moves)
+
+pub returns-in_err-sync_all_names-clause-reads : goal.returns-in_err-sync_all_names-clause-reads
+returns-in_err-sync_all_names-clause-reads g c =
+    on_observable (g.T.Tree.history c.args.tree.now) _ (λ v rest is intent base made ready.
+    read_sync_failed intent base made v ready _ rest is (g.T.Tree.history c.args.tree.now) _ _ c.in_err-sync_all_names.ensures.moves)
+
+pub returns-in_err-rename-clause-reads : goal.returns-in_err-rename-clause-reads
+returns-in_err-rename-clause-reads g c =
+    on_observable (g.T.Tree.history c.args.tree.now) _ (λ v rest is intent base made ready.
+    read_rename_failed intent base made v ready _ rest is _ _ c.requires.place c.requires.name _ _ _
+    (read_synced intent base made v ready _ rest is (g.T.Tree.history c.args.tree.now) _ _ c.in_ok-sync_all_names.ensures.moves) c.in_err-rename.ensures.moves)
+
+pub returns-clause-reads : goal.returns-clause-reads
+returns-clause-reads g c =
+    on_observable (g.T.Tree.history c.args.tree.now) _ (λ v rest is intent base made ready.
+    read_last intent base made v ready _ rest is _ _ c.sync_all_names-2.result
+    (read_renamed intent base made v ready _ rest is _ _ c.requires.place c.requires.name _ _ _
+    (read_synced intent base made v ready _ rest is (g.T.Tree.history c.args.tree.now) _ _ c.in_ok-sync_all_names.ensures.moves) c.in_ok-rename.ensures.moves) c.sync_all_names-2.ensures.moves)
 
 pub returns-clause-moved : goal.returns-clause-moved
 returns-clause-moved g c = enter_moved _ _ c.requires.place c.requires.name _ _ _ _ c.in_ok-rename.ensures.moves c.sync_all_names-2.result c.sync_all_names-2.ensures.moves

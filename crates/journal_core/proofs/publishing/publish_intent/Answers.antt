@@ -1,10 +1,12 @@
-use Rattle.std.proofs.Common.{◌∙◌, refl}
+use Rattle.std.proofs.Common.{◌∙◌, ◌∷◌, [], refl}
 use Rattle.journal_core.specs.Acting.{acting_stage, full_stage}
+use Rattle.journal_core.specs.Recovery.{intent_name, stage_name}
 use Rattle.journal_core.proofs.History.{on_observable, observable_at}
-use Rattle.journal_core.proofs.Published.{few_writes, write_moments, enter_moments, enter_settled, enter_published, enter_acting, write_may, enter_proper}
+use Rattle.journal_core.proofs.Published.{few_writes, write_moments, write_reads, enter_moments, enter_reads, enter_settled, enter_published, enter_acting, write_may, enter_proper}
 use Rattle.base_core.specs.Tree.{CanCreate}
-use Rattle.journal_core.proofs.Keeping.{published_keeps, published_reads, written_keeps}
 use Rattle.journal_core.proofs.Lasting.{published_last, written_last}
+use Rattle.journal_core.proofs.Maps.{maps_on}
+use Rattle.journal_core.proofs.Throughout.{free_but_intent, free_on, free_written, maps_written}
 use Rattle.journal_core.proofs.publishing.publish_intent.Goals as goal
 
 pub returns-in_err-write_waiting-clause-moments : goal.returns-in_err-write_waiting-clause-moments
@@ -50,12 +52,28 @@ pub returns-clause-last : goal.returns-clause-last
 returns-clause-last g c = published_last _ _ _ c.write_waiting.ensures.unread c.enter.ensures.last
 
 pub returns-in_err-write_waiting-clause-others : goal.returns-in_err-write_waiting-clause-others
-returns-in_err-write_waiting-clause-others g c = written_keeps _ c.stage_name.ensures _ _ (g.T.Tree.history c.args.tree.now) c.write_waiting.ensures.others
+returns-in_err-write_waiting-clause-others g c = free_written _ c.stage_name.ensures (g.T.Tree.history c.args.tree.now) _ c.write_waiting.ensures.others
 
 pub returns-clause-others : goal.returns-clause-others
-returns-clause-others g c = published_keeps _ c.stage_name.ensures _ _ _ c.write_waiting.ensures.others c.enter.ensures.others
+returns-clause-others g c = free_on _ _ _ (free_written _ c.stage_name.ensures (g.T.Tree.history c.args.tree.now) _ c.write_waiting.ensures.others) c.enter.ensures.others
+
+pub returns-in_err-write_waiting-clause-maps : goal.returns-in_err-write_waiting-clause-maps
+returns-in_err-write_waiting-clause-maps g c = maps_written _ _ c.write_waiting.ensures.maps
+
+pub returns-clause-maps : goal.returns-clause-maps
+returns-clause-maps g c = maps_on (intent_name ∷ stage_name 0 ∷ []) _ _ _ (maps_written (g.T.Tree.history c.args.tree.now) _ c.write_waiting.ensures.maps) c.enter.ensures.maps
+
+pub returns-clause-only_intent : goal.returns-clause-only_intent
+returns-clause-only_intent g c =
+    free_but_intent _ c.stage_name.ensures (g.T.Tree.history c.args.tree.now) _ c.enter.result c.in_ok-write_waiting.ensures.absent
+    (free_on _ _ _ (free_written _ c.stage_name.ensures (g.T.Tree.history c.args.tree.now) _ c.write_waiting.ensures.others) c.enter.ensures.others) c.enter.ensures.moved
+
+pub returns-in_err-write_waiting-clause-reads : goal.returns-in_err-write_waiting-clause-reads
+returns-in_err-write_waiting-clause-reads g c =
+    on_observable (g.T.Tree.history c.args.tree.now) _ (λ v rest is contents base staged.
+    write_reads (full_stage c.args.intent.now) contents base v staged refl (few_writes _ _ c.names_are_free.ensures.few) c.names_are_free.ensures.free _ c.file.ensures _ c.stage_name.ensures _ rest _ (g.T.Tree.history c.args.tree.now) is c.write_waiting.ensures.unread)
 
 pub returns-clause-reads : goal.returns-clause-reads
 returns-clause-reads g c =
-    published_reads _ c.stage_name.ensures _ (g.T.Tree.history c.args.tree.now) _ c.enter.result c.in_ok-write_waiting.ensures.absent
-    (published_keeps _ c.stage_name.ensures _ _ _ c.write_waiting.ensures.others c.enter.ensures.others) c.enter.ensures.moved
+    on_observable (g.T.Tree.history c.args.tree.now) _ (λ v rest is contents base staged.
+    enter_reads (full_stage c.args.intent.now) contents base v staged refl (few_writes _ _ c.names_are_free.ensures.few) c.names_are_free.ensures.free _ c.file.ensures _ c.stage_name.ensures _ rest _ _ is c.write_waiting.ensures.unread c.in_ok-write_waiting.ensures.written c.enter.ensures.reads)

@@ -1,4 +1,4 @@
-use Rattle.std.proofs.Common.{◌∙◌, ◌++◌, false, refl}
+use Rattle.std.proofs.Common.{◌∙◌, ◌++◌, ◌∷◌, [], false, refl}
 use Rattle.base_core.specs.Tree.{CanCreate, HasName, File}
 use Rattle.journal_core.proofs.History.{on_observable, observable_at}
 use Rattle.journal_core.proofs.OneCall.{now_is, whole_now}
@@ -6,6 +6,8 @@ use Rattle.journal_core.proofs.Chain.{proper_now, step_now}
 use Rattle.journal_core.proofs.Written.{make_failed, make_done, extend_failed, extend_done, sync_called, last_written, some_created, some_changed}
 use Rattle.journal_core.proofs.Keeping.{append_keeps_waiting, create_keeps, sync_keeps_waiting}
 use Rattle.journal_core.proofs.Lasting.{fill_done as unread_filled, fill_failed as unread_fill_failed, make_done as unread_made, make_failed as unread_make_failed, ok_absent, sync_done as unread_synced}
+use Rattle.journal_core.proofs.Maps.{append_maps, create_maps, maps_at, maps_on, sync_maps}
+use Rattle.journal_core.specs.Recovery.{stage_name}
 use Rattle.journal_core.proofs.publishing.write_waiting.Goals as goal
 
 pub returns-in_err-create-clause-moments : goal.returns-in_err-create-clause-moments
@@ -87,3 +89,17 @@ returns-clause-others g c =
 
 pub returns-clause-absent : goal.returns-clause-absent
 returns-clause-absent g c = ok_absent c.sync_file.result _ c.args.place.now c.in_ok-create.ensures.counts.allowed
+
+pub returns-in_err-create-clause-maps : goal.returns-in_err-create-clause-maps
+returns-in_err-create-clause-maps g c = maps_at _ _ c.requires _ _ (create_maps _ _ _ c.args.place.now c.in_err-create.ensures.moves)
+
+pub returns-in_err-append-clause-maps : goal.returns-in_err-append-clause-maps
+returns-in_err-append-clause-maps g c =
+    maps_on (stage_name 0 ∷ []) _ _ _ (maps_at _ _ c.requires _ _ (create_maps (g.T.Tree.history c.args.tree.now) _ _ c.args.place.now c.in_ok-create.ensures.moves))
+    (append_maps _ _ _ (stage_name 0 ∷ []) c.args.place.now c.args.bytes.now c.in_err-append.ensures.moves)
+
+pub returns-clause-maps : goal.returns-clause-maps
+returns-clause-maps g c =
+    maps_on (stage_name 0 ∷ []) _ _ _ (maps_on (stage_name 0 ∷ []) _ _ _ (maps_at _ _ c.requires _ _ (create_maps (g.T.Tree.history c.args.tree.now) _ _ c.args.place.now c.in_ok-create.ensures.moves))
+    (append_maps _ _ _ (stage_name 0 ∷ []) c.args.place.now c.args.bytes.now c.in_ok-append.ensures.moves))
+    (sync_maps _ _ c.sync_file.result (stage_name 0 ∷ []) c.args.place.now c.sync_file.ensures.moves)

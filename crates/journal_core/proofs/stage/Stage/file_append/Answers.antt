@@ -1,5 +1,7 @@
+use Rattle.std.proofs.Common.{[]}
 use Rattle.journal_core.proofs.Filed.{append_moments, append_staged_called, append_proper}
 use Rattle.journal_core.proofs.Keeping.{append_keeps}
+use Rattle.journal_core.proofs.Maps.{append_maps}
 use Rattle.journal_core.proofs.stage.Stage.file_append.Goals as goal
 
 pub returns-clause-moments : goal.returns-clause-moments
@@ -16,3 +18,6 @@ returns-clause-others g c = append_keeps _ _ _ _ c.open_name.ensures.is _ c.args
 pub returns-clause-proper : goal.returns-clause-proper
 returns-clause-proper g c =
     append_proper (record { left = c.a_crash_may_leave_the_files_as_read.ensures.by_map; outlasts = c.order_outlasts_a_crash.ensures }) _ (g.T.Tree.history c.args.tree.now) _ _ c.open_name.ensures _ _ _ c.append.ensures.counts
+
+pub returns-clause-maps : goal.returns-clause-maps
+returns-clause-maps g c = append_maps _ _ _ [] _ c.args.piece.now c.append.ensures.moves

@@ -2,6 +2,7 @@ use Rattle.std.proofs.Common.{ap}
 use Rattle.journal_core.specs.Staged.{Staging}
 use Rattle.journal_core.proofs.Filed.{begin_moments, begin_staged, begin_proper}
 use Rattle.journal_core.proofs.Keeping.{create_keeps}
+use Rattle.journal_core.proofs.Maps.{create_maps, maps_at}
 use Rattle.journal_core.proofs.stage.Stage.file_begin.Goals as goal
 
 pub returns-in_err-create-clause-moments : goal.returns-in_err-create-clause-moments
@@ -25,3 +26,9 @@ returns-clause-others g c = create_keeps _ _ _ _ c.next_name.ensures.is _ c.in_o
 pub returns-clause-staged : goal.returns-clause-staged
 returns-clause-staged g c =
     begin_staged (record { left = c.a_crash_may_leave_the_files_as_read.ensures.by_map; outlasts = c.order_outlasts_a_crash.ensures }) _ _ _ _ _ c.next_name.ensures _ c.in_ok-create.ensures.moves (g.met.T.Tree.whole c.args.tree.now) (ap (λ (s : Staging). s.staged) c.self.view_is)
+
+pub returns-in_err-create-clause-maps : goal.returns-in_err-create-clause-maps
+returns-in_err-create-clause-maps g c = maps_at _ _ c.next_name.ensures.is _ _ (create_maps _ _ _ _ c.in_err-create.ensures.moves)
+
+pub returns-clause-maps : goal.returns-clause-maps
+returns-clause-maps g c = maps_at _ _ c.next_name.ensures.is _ _ (create_maps _ _ _ _ c.in_ok-create.ensures.moves)

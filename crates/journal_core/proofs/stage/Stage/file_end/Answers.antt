@@ -1,7 +1,8 @@
-use Rattle.std.proofs.Common.{ap, ◌+◌}
+use Rattle.std.proofs.Common.{ap, ◌+◌, []}
 use Rattle.journal_core.specs.Staged.{Staging}
 use Rattle.journal_core.proofs.Filed.{end_moments, end_staged, append_proper}
 use Rattle.journal_core.proofs.Keeping.{sync_keeps}
+use Rattle.journal_core.proofs.Maps.{sync_maps}
 use Rattle.journal_core.proofs.stage.Stage.file_end.Goals as goal
 
 pub returns-in_err-sync_file-clause-moments : goal.returns-in_err-sync_file-clause-moments
@@ -25,3 +26,9 @@ returns-in_err-sync_file-clause-others g c = sync_keeps _ _ _ _ c.in_err-sync_fi
 
 pub returns-clause-others : goal.returns-clause-others
 returns-clause-others g c = sync_keeps _ _ _ _ c.in_ok-sync_file.ensures.moves
+
+pub returns-in_err-sync_file-clause-maps : goal.returns-in_err-sync_file-clause-maps
+returns-in_err-sync_file-clause-maps g c = sync_maps _ _ _ [] _ c.in_err-sync_file.ensures.moves
+
+pub returns-clause-maps : goal.returns-clause-maps
+returns-clause-maps g c = sync_maps _ _ _ [] _ c.in_ok-sync_file.ensures.moves

@@ -1,9 +1,11 @@
-use Rattle.std.proofs.Common.{ap, ◌≡◌, refl}
+use Rattle.std.proofs.Common.{ap, ◌≡◌, IsSome, refl}
 use Rattle.base_core.specs.Calls.{HasNow}
+use Rattle.base_core.specs.Crash.{Since}
 use Rattle.base_core.specs.Restart.{SinceBy}
 use Rattle.base_core.specs.Tree.{files_of}
 use Rattle.journal_core.specs.Acting.{acting_stage}
-use Rattle.journal_core.specs.Recovery.{IsSettled, after_actions}
+use Rattle.journal_core.specs.Recovery.{IsSettled, after_actions, intent_name}
+use Rattle.journal_core.specs.Kept.{RecoversTo}
 use Rattle.journal_core.specs.Staged.{Staging, HasRoomToStage, IsActing, IsOnTheWay, PublishedBy}
 use Rattle.journal_core.proofs.Again.{acting_published, publish_as, publish_orderly}
 use Rattle.journal_core.proofs.stage.Stage.publish.Goals as goal
@@ -35,3 +37,11 @@ returns-clause-settled g c =
 pub returns-clause-acting : goal.returns-clause-acting
 returns-clause-acting g c =
     acting_published c.args.self.now _ _ _ (ap (λ (s : Staging). s.intent) c.self.view_is) refl (publish_as (λ i base v. HasNow (g.T.Tree.history c.publish_intent.new.tree) (IsActing (acting_stage i 0) (after_actions i (files_of v)))) c.self.inside.intent c.args.self.now _ (ap (λ (s : Staging). s.intent) c.self.view_is) c.requires.all c.in_ok-publish_intent.ensures.acting)
+
+pub returns-in_err-publish_intent-clause-reads : goal.returns-in_err-publish_intent-clause-reads
+returns-in_err-publish_intent-clause-reads g c =
+    publish_as (λ i base v. Since (λ w. IsSome (w.names intent_name) → RecoversTo (after_actions i (files_of v)) w) (g.T.Tree.history c.args.tree.now) (g.T.Tree.history c.publish_intent.new.tree)) c.self.inside.intent c.args.self.now _ (ap (λ (s : Staging). s.intent) c.self.view_is) c.requires.all c.in_err-publish_intent.ensures.reads
+
+pub returns-clause-reads : goal.returns-clause-reads
+returns-clause-reads g c =
+    publish_as (λ i base v. Since (λ w. IsSome (w.names intent_name) → RecoversTo (after_actions i (files_of v)) w) (g.T.Tree.history c.args.tree.now) (g.T.Tree.history c.publish_intent.new.tree)) c.self.inside.intent c.args.self.now _ (ap (λ (s : Staging). s.intent) c.self.view_is) c.requires.all c.in_ok-publish_intent.ensures.reads
