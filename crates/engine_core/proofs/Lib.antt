@@ -1,2 +1,2 @@
 pub mod Choices
-pub mod DecidedBy
+pub mod StandIn

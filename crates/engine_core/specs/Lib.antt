@@ -1,9 +1,6 @@
--- what the contract of `apk` says
 pub mod Choice
 pub mod Selecting
 pub mod Wishes
 pub mod Changed
--- what a change is only simulated to come to
-pub mod Simulated
--- what only inner contracts and proofs use
-pub mod Decided
+pub mod ChangeRun
+pub mod Runs

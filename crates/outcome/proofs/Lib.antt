@@ -1,3 +1,4 @@
+pub mod Clashes
 pub mod Listings
 pub mod Recovered
 pub mod Existing

@@ -17,7 +17,7 @@ use Rattle.engine_core.specs.Changed.{selected_for}
 use Rattle.outcome.specs.Changing.{change}
 use Rattle.outcome.specs.Dump.{adbdump}
 use Rattle.outcome.specs.Effect.{Changes, does_recover, effect_of}
-use Rattle.outcome.specs.Given.{Given, IsChosenFor, IsGiven, MayBeGiven}
+use Rattle.outcome.specs.Given.{Given, IsGiven, MayBeGiven}
 use Rattle.outcome.specs.Make.{mkndx, mkpkg}
 use Rattle.outcome.specs.Outcome.{Outcome, just_refusal, just_report}
 use Rattle.outcome.specs.Verify.{verify}
@@ -73,31 +73,27 @@ IsOutcome words files outcome = IsOutcomeOf (command_of words) files outcome
 
 -- ---- over a tree whose files no contract knows, as a folder of the host
 
+-- The file of a package that comes is read once more when a change is carried out. Where it is not
+-- what it was when it was tested, the change is refused.
+pub record IsSpoiled (command : CommandLine) (read : Reads) (given : Given) (files : Files)
+    (outcome : Outcome) : Type 0 where
+  pub changes : effect_of command.applet ≡ Changes
+  pub commits : (command_outcome command given read files).commits ≡ true
+  pub candidate : Candidate
+  pub selects : Contains (selected_in (selected_for command read given.chosen)) candidate
+  pub cause : Cause
+  pub refusal : outcome
+      ≡ just_refusal files (PackageBad candidate.name (selected_version candidate) cause)
+
 -- the outcome for some listing, some contents at each read, and some files
-abbrev pub IsFoundBy : CommandLine → Outcome → Type 0
-IsFoundBy command outcome =
+abbrev pub IsFoundOver : CommandLine → Outcome → Type 0
+IsFoundOver command outcome =
     (given : Given)
     × (read : Reads)
     × (files : Files)
     × MayBeGiven command read given
-    × (outcome ≡ command_outcome command given read files)
-
--- the file of a package that comes is read once more when the change is carried out, and fails a
--- test then
-abbrev pub IsFoundSpoiled : CommandLine → Outcome → Type 0
-IsFoundSpoiled command outcome =
-    (read : Reads)
-    × (chosen : Option (List ℕ))
-    × IsChosenFor command.applet command read chosen
-    × (c : Candidate)
-    × Contains (selected_in (selected_for command read chosen)) c
-    × (cause : Cause)
-    × (outcome ≡ just_refusal no_names (PackageBad c.name (selected_version c) cause))
-
-abbrev pub IsFoundOver : CommandLine → Outcome → Type 0
-IsFoundOver command outcome =
-    IsFoundBy command outcome
-    ⊎ ((effect_of command.applet ≡ Changes) × IsFoundSpoiled command outcome)
+    × ((outcome ≡ command_outcome command given read files)
+    ⊎ IsSpoiled command read given files outcome)
 
 -- some file is no intent container, and that is refused
 abbrev pub IsFoundUnrecovered : Outcome → Type 0
@@ -113,7 +109,7 @@ IsFoundOutcomeOf (Ok command) outcome =
     IsFoundOver command outcome
     ⊎ ((does_recover (effect_of command.applet) ≡ true) × IsFoundUnrecovered outcome)
 
--- the outcome of a command line for some listing, and for some contents, or none, at each read and
--- of the intent; nothing is said of the files afterwards
+-- the outcome of a command line for some listing, for some contents, or none, at each read and of the
+-- intent, and for some files; nothing is said of the files afterwards
 abbrev pub IsFoundOutcome : List (List ℕ) → Outcome → Type 0
 IsFoundOutcome words outcome = IsFoundOutcomeOf (command_of words) outcome

@@ -21,6 +21,7 @@ ghost use Rattle.words_core.specs.Grammar.{command_of};
 
 use adb_schema::sound_containers_hold_sound_values;
 use base_core::{files_have_one_list_of_names, the_files_of_a_whole_state_are_named_files};
+use change_laws::a_change_has_a_first_clash_or_none;
 use engine_core::{a_choice_exists, a_choice_is_unique};
 use journal_intent::an_intent_is_read_from_a_sound_container;
 use make_core::{a_made_index_is_sound, a_made_package_is_sound};
@@ -32,6 +33,7 @@ pub fn an_outcome_exists()
 {
     files_have_one_list_of_names();
     a_choice_exists();
+    a_change_has_a_first_clash_or_none();
 }
 
 /// A command line has one outcome over some files, and no second one.
@@ -41,6 +43,7 @@ pub fn an_outcome_is_unique()
 {
     files_have_one_list_of_names();
     a_choice_is_unique();
+    a_change_has_a_first_clash_or_none();
 }
 
 /// A command that only reads leaves the files as they are, and commits nothing.
