@@ -1,12 +1,12 @@
 -- A command has one first clash of names, or none.
-use Rattle.std.proofs.Common.{◌≡◌, ◌∙◌, ℕ, Bool, true, false, List, Option, Some, None, Result, Ok, Err, refl, sym}
+use Rattle.std.proofs.Common.{◌≡◌, ◌∙◌, ℕ, Bool, true, false, List, Option, None, Result, Ok, Err, refl, sym}
 use Rattle.base_core.specs.Files.{Files, IsWithin}
 use Rattle.change_inputs.specs.Inputs.{Inputs}
 use Rattle.change_outcome.specs.ChangeOutcome.{ChangeWishes, IsClashOfChange}
 use Rattle.command_core.specs.Command.{CommandLine}
 use Rattle.command_core.specs.declared.command.Applet.{Applet}
 use Rattle.command_core.specs.declared.command.Applet.TheVariants.{Add, Del}
-use Rattle.engine_core.specs.Changed.{IsClashFor, IsClashOfSelected, IsClashUnlessSimulated, Selected, selected_for}
+use Rattle.engine_core.specs.Changed.{IsClashOfSelected, IsClashUnlessSimulated, Selected, selected_for}
 use Rattle.engine_core.specs.Wishes.{wishes_of}
 use Rattle.make_info.specs.Reads.{Reads}
 use Rattle.package_changes.specs.Changes.{Replacement}

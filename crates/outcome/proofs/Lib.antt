@@ -4,3 +4,4 @@ pub mod Recovered
 pub mod Existing
 pub mod MadeSound
 pub mod Commits
+pub mod Idle
