@@ -40,10 +40,12 @@ DoesCommit (Ok done) = done.commits ≡ true
 DoesCommit (Err refusal) = ⊥
 
 -- The file of a package is not what it was when it was tested, as its contents are read once more.
--- Where a tree shows its files this does not happen.
+-- Where a tree shows its files, and neither an intent is read nor anything waits, this does not
+-- happen.
 pub record IsFoundChanged (selected : List Candidate) (wanted : Result ChangeDone Refusal)
     (history : List TreeState) (result : Result (List ℕ) Refused) : Type 0 where
-  pub unobservable : history ≡ []
+  pub unseen : IfObservable history (λ v. v.names intent_name ≡ None → IsEmptyStage (files_of v)
+      → ⊥)
   pub commits : DoesCommit wanted
   pub candidate : Candidate
   pub selects : Contains selected candidate

@@ -116,7 +116,7 @@ given_one one choice clashes command read files a b x y =
     (subst (λ (c : Option (List ℕ)). IsClashOfApplet command.applet command read files c b.clash) (sym chosen) y.clash) in
     λ i. record { names = names i; chosen = chosen i; clash = clash i }
 
-over_one : HaveOneList → HaveOneChoice → HaveOneClash → (command : CommandLine) (files : Files) (a b : Outcome) → IsOutcomeOver command files a → IsOutcomeOver command files b → a ≡ b
+pub over_one : HaveOneList → HaveOneChoice → HaveOneClash → (command : CommandLine) (files : Files) (a b : Outcome) → IsOutcomeOver command files a → IsOutcomeOver command files b → a ≡ b
 over_one one choice clashes command files a b (g, is_g, x) (h, is_h, y) =
     x
     ∙ ap (λ given. command_outcome command given (reads_in files) files) (given_one one choice clashes command (reads_in files) files g h is_g is_h)

@@ -51,6 +51,16 @@ pub fn an_outcome_is_unique()
     a_change_has_a_first_clash_or_none();
 }
 
+/// So it is with a command over the files on which it works.
+pub fn an_outcome_over_files_is_unique()
+    ensures { (command : CommandLine) (files : Files) (a b : Outcome)
+        → IsOutcomeOver command files a → IsOutcomeOver command files b → a ≡ b }
+{
+    files_have_one_list_of_names();
+    a_choice_is_unique();
+    a_change_has_a_first_clash_or_none();
+}
+
 /// A command that only reads leaves the files as they are, and commits nothing.
 pub fn a_command_that_reads_leaves_the_files()
     ensures files { (words : List (List ℕ)) (files : Files) (o : Outcome)
