@@ -1,9 +1,9 @@
 -- No text is bad exactly where each keeps the rule of its field.
-use Rattle.std.proofs.Common.{◌≡◌, ℕ, zero, suc, ◌+◌, Bool, true, false, ◌&&◌, List, [], ◌∷◌, ◌++◌, length, Option, Some, None, refl, sym, ap, ◌∙◌, ◌↔◌, ◌<◌, arith}
+use Rattle.std.proofs.Common.{◌≡◌, ℕ, zero, suc, ◌+◌, Bool, true, false, ◌&&◌, List, ◌++◌, Option, Some, None, refl, sym, ap, ◌∙◌, ◌↔◌, ◌<◌, arith}
 use Rattle.std.specs.Prelude.{if◌then◌else◌}
 use Rattle.base_core.specs.declared.cause.Cause.{Cause}
 use Rattle.base_core.specs.declared.cause.Cause.TheVariants.{BadText}
-use Rattle.adb_view.specs.Plain.{Plain, null, Plains, none, more, Shape, number, text, hash, array, object, Fields, no_fields, field}
+use Rattle.adb_view.specs.Plain.{Plain, Plains, none, more, Shape, text, hash, Fields, no_fields, field}
 use Rattle.adb_view.specs.Shaped.{Each}
 use Rattle.adb_tables.specs.Walk.{or_else}
 use Rattle.adb_tables.specs.Values.{nth, count_of, entries_in, entry_in, int_in, text_in}
@@ -11,7 +11,7 @@ use Rattle.adb_tables.specs.Schema.{shape_of, shapes_of, table}
 use Rattle.adb_tables.specs.declared.tables.Which.{Which}
 use Rattle.adb_tables.specs.declared.tables.Which.TheVariants as Tables
 use Rattle.adb_tables.specs.declared.tables.Kind.TheVariants.{Obj, ObjArr, TextArr}
-use Rattle.adb_rules.specs.Texts.{Surroundings, Leaf, number_leaf, text_leaf, keeps_rule, number_of_leaf, each_leaf, leaves, field_leaves, first_bad, text_fault, text_rule, at_root, inside_of, may_list}
+use Rattle.adb_rules.specs.Texts.{Surroundings, Leaf, each_leaf, leaves, field_leaves, first_bad, text_fault, text_rule, at_root, inside_of, may_list}
 use Rattle.dep_core.specs.Value.{is_matching}
 use Rattle.adb_fields.specs.Paths.{path_of}
 use Rattle.adb_rules.specs.Rules.{is_file_name}

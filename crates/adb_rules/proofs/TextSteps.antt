@@ -1,6 +1,6 @@
 -- Steps of the text walk, as the code makes them.
 use Rattle.std.proofs.Common.{◌≡◌, ℕ, zero, suc, ◌+◌, ◌*◌, ◌<◌, ◌≤◌, Bool, true, false, List, [], ◌∷◌, ◌++◌, length, get_or, drop, Option, Some, None, option_map, refl, sym, ap, subst, ◌∙◌, arith, lit<}
-use Rattle.std.specs.Prelude.{is_some, slice_get, if◌then◌else◌}
+use Rattle.std.specs.Prelude.{is_some, slice_get, if◌then◌else◌, Result, IfOk}
 use Rattle.std.proofs.lemmas.List.{drop_more, drop_all}
 use Rattle.base_core.specs.declared.cause.Cause.{Cause}
 use Rattle.base_core.specs.declared.cause.Cause.TheVariants.{BadText}
@@ -249,30 +249,39 @@ field_bad_of p which w i word d field_number a c fs e lt is bad =
 at_kind : (p : List ℕ) (k j : Kind) (field_number : ℕ) (a : Surroundings) (w : ℕ) → k ≡ j → first_bad (leaves (shape_of j) field_number a (value_at p j w)) ≡ first_bad (leaves (shape_of k) field_number a (value_at p k w))
 at_kind p k j field_number a w e = sym (ap (λ (x : Kind). first_bad (leaves (shape_of x) field_number a (value_at p x w))) e)
 
+-- what is answered, if memory sufficed
+along : {E : Type 0} (r : Result (Option Cause) E) (x y : Option Cause) → x ≡ y → IfOk r (λ o. o ≡ x) → IfOk r (λ o. o ≡ y)
+along r x y e h = subst (λ (z : Option Cause). IfOk r (λ o. o ≡ z)) e h
+
+-- a hash is read as a text is
+pub hash_is_text : (p : List ℕ) (w : ℕ) → value_at p Hash w ≡ value_at p Text w
+unfolding value_at plain_of shape_of
+hash_is_text p w = refl
+
 pub int_done : (p : List ℕ) (k : Kind) (field_number : ℕ) (a : Surroundings) (w n : ℕ) (o : Option Cause) → k ≡ Int → n ≡ int_in (value_at p Int w) → o ≡ first_bad (number_leaf field_number n ∷ []) → o ≡ first_bad (leaves (shape_of k) field_number a (value_at p k w))
 int_done p k field_number a w n o is read e =
     e ∙ ap (λ (m : ℕ). first_bad (number_leaf field_number m ∷ [])) read ∙ ap first_bad (sym (int_leaves field_number a (value_at p Int w))) ∙ at_kind p k Int field_number a w is
 
-pub text_done : (p : List ℕ) (k : Kind) (field_number : ℕ) (a : Surroundings) (w : ℕ) (bs : List ℕ) (o : Option Cause) → k ≡ Text → bs ≡ text_in (value_at p Text w) → o ≡ first_bad (text_leaf field_number a bs ∷ []) → o ≡ first_bad (leaves (shape_of k) field_number a (value_at p k w))
-text_done p k field_number a w bs o is read e =
-    e ∙ ap (λ (b : List ℕ). first_bad (text_leaf field_number a b ∷ [])) read ∙ ap first_bad (sym (text_leaves field_number a (value_at p Text w))) ∙ at_kind p k Text field_number a w is
+pub text_done : (p : List ℕ) (k : Kind) (field_number : ℕ) (a : Surroundings) (w : ℕ) (bs : List ℕ) {E : Type 0} (r : Result (Option Cause) E) → k ≡ Text → bs ≡ text_in (value_at p Text w) → IfOk r (λ o. o ≡ first_bad (text_leaf field_number a bs ∷ [])) → IfOk r (λ o. o ≡ first_bad (leaves (shape_of k) field_number a (value_at p k w)))
+text_done p k field_number a w bs r is read e =
+    along r _ _ (ap (λ (b : List ℕ). first_bad (text_leaf field_number a b ∷ [])) read ∙ ap first_bad (sym (text_leaves field_number a (value_at p Text w))) ∙ at_kind p k Text field_number a w is) e
 
-pub hash_done : (p : List ℕ) (k : Kind) (field_number : ℕ) (a : Surroundings) (w : ℕ) (bs : List ℕ) (o : Option Cause) → k ≡ Hash → bs ≡ text_in (value_at p Hash w) → o ≡ first_bad (text_leaf field_number a bs ∷ []) → o ≡ first_bad (leaves (shape_of k) field_number a (value_at p k w))
-hash_done p k field_number a w bs o is read e =
-    e ∙ ap (λ (b : List ℕ). first_bad (text_leaf field_number a b ∷ [])) read ∙ ap first_bad (sym (hash_leaves field_number a (value_at p Hash w))) ∙ at_kind p k Hash field_number a w is
+pub hash_done : (p : List ℕ) (k : Kind) (field_number : ℕ) (a : Surroundings) (w : ℕ) (bs : List ℕ) {E : Type 0} (r : Result (Option Cause) E) → k ≡ Hash → bs ≡ text_in (value_at p Hash w) → IfOk r (λ o. o ≡ first_bad (text_leaf field_number a bs ∷ [])) → IfOk r (λ o. o ≡ first_bad (leaves (shape_of k) field_number a (value_at p k w)))
+hash_done p k field_number a w bs r is read e =
+    along r _ _ (ap (λ (b : List ℕ). first_bad (text_leaf field_number a b ∷ [])) read ∙ ap first_bad (sym (hash_leaves field_number a (value_at p Hash w))) ∙ at_kind p k Hash field_number a w is) e
 
-pub texts_done : (p : List ℕ) (k : Kind) (field_number : ℕ) (a : Surroundings) (w : ℕ) (ws : List ℕ) (o : Option Cause) → k ≡ TextArr → array_at p Text ws ≡ value_at p TextArr w → o ≡ first_bad (each_leaf (leaves (shape_of Text) field_number a) (values_at p Text ws))
-    → o ≡ first_bad (leaves (shape_of k) field_number a (value_at p k w))
-texts_done p k field_number a w ws o is read e =
-    e ∙ ap (λ vs. first_bad (each_leaf (leaves (shape_of Text) field_number a) vs)) (sym (entries_arr (values_at p Text ws)) ∙ ap entries_in read) ∙ ap first_bad (sym (texts_leaves field_number a (value_at p TextArr w))) ∙ at_kind p k TextArr field_number a w is
+pub texts_done : (p : List ℕ) (k : Kind) (field_number : ℕ) (a : Surroundings) (w : ℕ) (ws : List ℕ) {E : Type 0} (r : Result (Option Cause) E) → k ≡ TextArr → array_at p Text ws ≡ value_at p TextArr w → IfOk r (λ o. o ≡ first_bad (each_leaf (leaves (shape_of Text) field_number a) (values_at p Text ws)))
+    → IfOk r (λ o. o ≡ first_bad (leaves (shape_of k) field_number a (value_at p k w)))
+texts_done p k field_number a w ws r is read e =
+    along r _ _ (ap (λ vs. first_bad (each_leaf (leaves (shape_of Text) field_number a) vs)) (sym (entries_arr (values_at p Text ws)) ∙ ap entries_in read) ∙ ap first_bad (sym (texts_leaves field_number a (value_at p TextArr w))) ∙ at_kind p k TextArr field_number a w is) e
 
-pub objects_done : (p : List ℕ) (k : Kind) (which : Which) (field_number : ℕ) (a : Surroundings) (w : ℕ) (ws : List ℕ) (o : Option Cause) → k ≡ ObjArr which → array_at p (Obj which) ws ≡ value_at p (ObjArr which) w
-    → o ≡ first_bad (each_leaf (leaves (shape_of (Obj which)) field_number a) (values_at p (Obj which) ws)) → o ≡ first_bad (leaves (shape_of k) field_number a (value_at p k w))
-objects_done p k which field_number a w ws o is read e =
-    e ∙ ap (λ vs. first_bad (each_leaf (leaves (shape_of (Obj which)) field_number a) vs)) (sym (entries_arr (values_at p (Obj which) ws)) ∙ ap entries_in read) ∙ ap first_bad (sym (objects_leaves which field_number a (value_at p (ObjArr which) w))) ∙ at_kind p k (ObjArr which) field_number a w is
+pub objects_done : (p : List ℕ) (k : Kind) (which : Which) (field_number : ℕ) (a : Surroundings) (w : ℕ) (ws : List ℕ) {E : Type 0} (r : Result (Option Cause) E) → k ≡ ObjArr which → array_at p (Obj which) ws ≡ value_at p (ObjArr which) w
+    → IfOk r (λ o. o ≡ first_bad (each_leaf (leaves (shape_of (Obj which)) field_number a) (values_at p (Obj which) ws))) → IfOk r (λ o. o ≡ first_bad (leaves (shape_of k) field_number a (value_at p k w)))
+objects_done p k which field_number a w ws r is read e =
+    along r _ _ (ap (λ vs. first_bad (each_leaf (leaves (shape_of (Obj which)) field_number a) vs)) (sym (entries_arr (values_at p (Obj which) ws)) ∙ ap entries_in read) ∙ ap first_bad (sym (objects_leaves which field_number a (value_at p (ObjArr which) w))) ∙ at_kind p k (ObjArr which) field_number a w is) e
 
-pub object_done : (p : List ℕ) (k : Kind) (which : Which) (field_number : ℕ) (a inside : Surroundings) (w : ℕ) (o : Option Cause) → k ≡ Obj which → inside ≡ inside_of (schema_number which) a (value_at p (Obj which) w)
-    → o ≡ first_bad (field_leaves (shapes_of (table which)) (100 * schema_number which + 1) inside (entries_in (value_at p (Obj which) w))) → o ≡ first_bad (leaves (shape_of k) field_number a (value_at p k w))
-object_done p k which field_number a inside w o is made e =
-    e ∙ ap (λ (b : Surroundings). first_bad (field_leaves (shapes_of (table which)) (100 * schema_number which + 1) b (entries_in (value_at p (Obj which) w)))) made
-    ∙ ap first_bad (sym (object_leaves which field_number a (value_at p (Obj which) w))) ∙ at_kind p k (Obj which) field_number a w is
+pub object_done : (p : List ℕ) (k : Kind) (which : Which) (field_number : ℕ) (a inside : Surroundings) (w : ℕ) {E : Type 0} (r : Result (Option Cause) E) → k ≡ Obj which → inside ≡ inside_of (schema_number which) a (value_at p (Obj which) w)
+    → IfOk r (λ o. o ≡ first_bad (field_leaves (shapes_of (table which)) (100 * schema_number which + 1) inside (entries_in (value_at p (Obj which) w)))) → IfOk r (λ o. o ≡ first_bad (leaves (shape_of k) field_number a (value_at p k w)))
+object_done p k which field_number a inside w r is made e =
+    along r _ _ (ap (λ (b : Surroundings). first_bad (field_leaves (shapes_of (table which)) (100 * schema_number which + 1) b (entries_in (value_at p (Obj which) w)))) made
+    ∙ ap first_bad (sym (object_leaves which field_number a (value_at p (Obj which) w))) ∙ at_kind p k (Obj which) field_number a w is) e

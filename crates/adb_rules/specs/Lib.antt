@@ -6,3 +6,4 @@ pub mod Texts
 pub mod SoundValues
 pub mod FirstBad
 pub mod Surroundings
+pub mod TextRules

@@ -7,6 +7,7 @@
 //! first that is broken).
 #![tactic(auto)]
 
+mod judged;
 mod rules;
 mod text_walk;
 

@@ -7,7 +7,7 @@ ghost use Rattle.std.specs.List.{list_any};
 ghost use Rattle.version_core.specs.Order.{is_version};
 ghost use Rattle.dep_core.specs.Value.{is_matching, is_version_or_empty};
 ghost use Rattle.adb_fields.specs.Paths.{path_of};
-ghost use Rattle.adb_rules.specs.Rules.{is_change_name, is_digest_length, is_digest_length_or_none, is_file_name, is_folder_name, is_id_length, is_link, is_name_pattern, is_one_part, is_target};
+ghost use Rattle.adb_rules.specs.Rules.{is_digest_length, is_digest_length_or_none, is_folder_name, is_id_length, is_link, is_name_pattern, is_one_part, is_target};
 ghost use Rattle.adb_rules.specs.Reserved.{is_at_or_below, is_intent_or_stage_name, is_reserved};
 
 use base_core::is_name;
@@ -84,7 +84,7 @@ pub(crate) fn is_folder_name(name: &[u8]) -> bool
 }
 
 /// Whether the bytes are one part of a path.
-fn is_one_part(name: &[u8]) -> bool
+pub(crate) fn is_one_part(name: &[u8]) -> bool
     ensures { result ≡ is_one_part name.now }
 {
     is_name(name) && !has_slash(name)
@@ -96,29 +96,14 @@ fn has_slash(name: &[u8]) -> bool
     name.contains(&b'/')
 }
 
-/// Whether the bytes are one part of a path, with which a file of this folder has a path of at most
-/// 1,024 bytes.
-pub(crate) fn is_file_name(folder: &[u8], name: &[u8]) -> bool
-    ensures { result ≡ is_file_name folder.now name.now }
-{
-    is_one_part(name) && fits_in(folder, name)
-}
-
-fn fits_in(folder: &[u8], name: &[u8]) -> bool
+/// Whether a file of this name has a path of at most 1,024 bytes in the folder.
+pub(crate) fn fits_in(folder: &[u8], name: &[u8]) -> bool
     ensures { result ≡ nat_le (length (path_of folder.now name.now)) 1024 }
 {
     if folder.is_empty() {
         return name.len() <= MOST;
     }
     name.len() < MOST && folder.len() < MOST - name.len()
-}
-
-/// Whether the bytes are what a change may remove or write: a path, but none that the change itself
-/// is kept in.
-pub(crate) fn is_change_name(path: &[u8]) -> bool
-    ensures { result ≡ is_change_name path.now }
-{
-    is_name(path) && !is_intent_or_stage_name(path)
 }
 
 /// Whether the bytes are a file's target: empty, or a link's.

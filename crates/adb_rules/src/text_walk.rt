@@ -5,20 +5,22 @@ ghost use Rattle.adb_view.specs.Adb.{payload_of};
 ghost use Rattle.adb_tables.specs.Schema.{schema_number, shape_of, shapes_of, table};
 ghost use Rattle.adb_tables.specs.Values.{is_sound, value_at, entries_in, entry_in, count_of};
 ghost use Rattle.adb_fields.specs.Paths.{path_of};
+ghost use Rattle.adb_rules.specs.Rules.{is_change_name, is_one_part};
 ghost use Rattle.adb_rules.specs.Surroundings.{surroundings_of};
+ghost use Rattle.adb_rules.specs.TextRules.{text_at};
 ghost use Rattle.adb_tables.specs.Shaped.{shaped_value, table_of};
 ghost use Rattle.adb_view.specs.Shaped.{Each};
 ghost use Rattle.adb_rules.specs.SoundValues.{IsChangeName, IsSoundDependency, IsFileOf, IsFolder, IsInformation, IsPackage, KeepsRules};
 ghost use Rattle.adb_rules.specs.Texts.{at_root, inside_of, is_file_hash, is_listed_file, is_package_hash, is_with_contents, may_list, needs_hash, number_rule, text_rule, each_leaf, field_leaves, first_bad, leaves, number_leaf, text_leaf, leaves_of, text_fault};
 ghost use Rattle.adb_rules.specs.FirstBad.{IsFirstBadOf};
 ghost use Rattle.adb_view.specs.Entries.{array_entries};
-ghost use Rattle.adb_view.specs.Gives.{cause_of};
 ghost use Rattle.adb_fields.specs.Fields.{are_all_sound, values_at};
 ghost use Rattle.adb_view.specs.Plain.{Plain};
 ghost use Rattle.adb_tables.specs.declared.tables.Which.{Which};
 ghost use Rattle.adb_tables.specs.declared.tables.Kind.TheVariants as Kinds;
 ghost use Rattle.adb_tables.specs.declared.tables.Which.TheVariants as Tables;
 
+use crate::judged::{Judged, TextRule};
 use crate::rules::*;
 use adb_fields::{
     field_word, hash_word, int_field, int_word, objects_word, text_field, text_word, texts_word,
@@ -26,7 +28,7 @@ use adb_fields::{
 use adb_tables::{Kind, Shaped, Which, entry_word, fields_of, number_of};
 use adb_view::{Adb, Arr, Val};
 use base_core::Cause;
-use dep_core::{is_dep_name, is_package_name};
+use std::alloc::{AllocError, Global};
 
 /// The numbers of the fields that have a rule: 100 times the number of the table plus that of the
 /// field.
@@ -103,11 +105,12 @@ impl<'a> Surroundings<'a> {
         }
     }
 
-    /// Whether a file of the folder may have this name.
+    /// Whether a file of the folder may have this name, which is one part of a path.
     fn takes_file_name(&self, name: &[u8]) -> bool
+        requires { is_one_part name.now ≡ true }
         ensures { result ≡ is_listed_file (surroundings_of self.now) name.now }
     {
-        is_file_name(self.folder, name) && self.may_list(name)
+        fits_in(self.folder, name) && self.may_list(name)
     }
 
     /// Whether the container may list a file of this name in the folder: a database none under a
@@ -163,41 +166,83 @@ pub(crate) fn keeps_number_rule(field_number: u16, n: u64) -> bool
     }
 }
 
-/// Whether the bytes keep the rule of their field.
+/// Whether the text of a word keeps the rule of its field.
 #[tactic(auto, unfolding(crate::specs::Texts::text_rule))]
-pub(crate) fn keeps_text_rule(field_number: u16, around: &Surroundings<'_>, bytes: &[u8]) -> bool
-    ensures { result ≡ text_rule field_number (surroundings_of around.now) bytes.now }
+fn keeps_rule_of_field(
+    judged: &mut Judged<'_>,
+    field_number: u16,
+    around: &Surroundings<'_>,
+    word: Val,
+    text: &[u8],
+) -> Result<bool, AllocError>
+    requires { text.now ≡ text_at (payload_of judged.old.adb) word }
+    ensures value { IfOk result (λ kept.
+        kept ≡ text_rule field_number (surroundings_of around.now) text.now) }
+    ensures payload { judged.new.adb ≡ judged.old.adb }
 {
     match field_number {
-        field_number::DEP_NAME => is_dep_name(bytes),
-        field_number::DEP_VERSION => is_version_or_empty(bytes),
-        field_number::PKGINFO_NAME => is_package_name(bytes),
-        field_number::PKGINFO_VERSION => is_version(bytes),
-        field_number::PKGINFO_HASHES => around.takes_package_hash(bytes.len()),
-        field_number::FILE_NAME => around.takes_file_name(bytes),
-        field_number::FILE_HASHES => around.takes_file_hash(bytes.len()),
-        field_number::FILE_TARGET => is_target(bytes),
-        field_number::DIR_NAME => is_folder_name(bytes),
-        field_number::INDEX_PKGNAME_SPEC => is_name_pattern(bytes),
-        field_number::INTENT_REMOVALS | field_number::INTENT_WRITES => is_change_name(bytes),
-        _ => true,
+        field_number::DEP_NAME => judged.keeps(TextRule::DependencyName, word, text),
+        field_number::DEP_VERSION => judged.keeps(TextRule::VersionOrEmpty, word, text),
+        field_number::PKGINFO_NAME => judged.keeps(TextRule::PackageName, word, text),
+        field_number::PKGINFO_VERSION => judged.keeps(TextRule::Version, word, text),
+        field_number::PKGINFO_HASHES => Ok(around.takes_package_hash(text.len())),
+        field_number::FILE_NAME => keeps_file_name(judged, around, word, text),
+        field_number::FILE_HASHES => Ok(around.takes_file_hash(text.len())),
+        field_number::FILE_TARGET => judged.keeps(TextRule::Target, word, text),
+        field_number::DIR_NAME => judged.keeps(TextRule::FolderName, word, text),
+        field_number::INDEX_PKGNAME_SPEC => Ok(is_name_pattern(text)),
+        field_number::INTENT_REMOVALS | field_number::INTENT_WRITES => {
+            keeps_change_name(judged, word, text)
+        }
+        _ => Ok(true),
     }
 }
 
-/// Tests each text and number of a walked payload against the rule of its field. It takes no
-/// memory.
-///
-/// # Errors
-///
-/// `BadText` with the number of the first field that breaks its rule, depth first and field by
-/// field; a missing field counts as Null.
-pub fn check_texts(shaped: Shaped<'_>) -> Result<(), Cause>
-    ensures { cause_of result ≡ text_fault (table_of shaped.entry) (shaped_value shaped.entry) }
+/// Whether the text of a word is a name that a file of the folder may have.
+fn keeps_file_name(
+    judged: &mut Judged<'_>,
+    around: &Surroundings<'_>,
+    word: Val,
+    text: &[u8],
+) -> Result<bool, AllocError>
+    requires { text.now ≡ text_at (payload_of judged.old.adb) word }
+    ensures value { IfOk result (λ kept.
+        kept ≡ is_listed_file (surroundings_of around.now) text.now) }
+    ensures payload { judged.new.adb ≡ judged.old.adb }
+{
+    if !judged.keeps(TextRule::OnePart, word, text)? {
+        return Ok(false);
+    }
+    Ok(around.takes_file_name(text))
+}
+
+/// Whether the text of a word is what a change may remove or write: a path, but none that the
+/// change itself is kept in.
+fn keeps_change_name(judged: &mut Judged<'_>, word: Val, text: &[u8]) -> Result<bool, AllocError>
+    requires { text.now ≡ text_at (payload_of judged.old.adb) word }
+    ensures value { IfOk result (λ kept. kept ≡ is_change_name text.now) }
+    ensures payload { judged.new.adb ≡ judged.old.adb }
+{
+    if !judged.keeps(TextRule::Name, word, text)? {
+        return Ok(false);
+    }
+    Ok(!is_intent_or_stage_name(text))
+}
+
+/// Tests each text and number of a walked payload against the rule of its field, and answers the
+/// cause `BadText` with the number of the first field that breaks its rule, depth first and field
+/// by field, or None exactly where each keeps its own; a missing field counts as Null. A text of
+/// more than 64 bytes is judged once, however many places share it.
+pub fn check_texts(alloc: Global, shaped: Shaped<'_>) -> Result<Option<Cause>, AllocError>
+    ensures { IfOk result (λ cause. cause
+        ≡ text_fault (table_of shaped.entry) (shaped_value shaped.entry)) }
 {
     let adb = shaped.adb();
     let which = shaped.which();
+    let mut judged = Judged::new(alloc, adb);
     check_value(
         adb,
+        &mut judged,
         Kind::Obj(which),
         0,
         Surroundings::at_root(which),
@@ -209,31 +254,34 @@ pub fn check_texts(shaped: Shaped<'_>) -> Result<(), Cause>
 #[cycle(check)]
 fn check_value<'a>(
     adb: Adb<'a>,
+    judged: &mut Judged<'a>,
     kind: Kind,
     field_number: u16,
     around: Surroundings<'a>,
     word: Val,
-) -> Result<(), Cause>
-    requires { is_sound (payload_of adb) kind word ≡ true }
-    ensures { cause_of result
+) -> Result<Option<Cause>, AllocError>
+    requires sound { is_sound (payload_of adb) kind word ≡ true }
+    requires payload { payload_of judged.old.adb ≡ payload_of adb }
+    ensures cause { IfOk result (λ cause. cause
         ≡ first_bad (leaves (shape_of kind) field_number (surroundings_of around.entry)
-        (value_at (payload_of adb.entry) kind word)) }
+        (value_at (payload_of adb.entry) kind word))) }
+    ensures payload { judged.new.adb ≡ judged.old.adb }
 {
     match kind {
-        Kind::Int => check_number(field_number, int_word(adb, word)),
-        Kind::Text => check_text(field_number, &around, text_word(adb, word)),
-        Kind::Hash => check_text(field_number, &around, hash_word(adb, word)),
+        Kind::Int => Ok(check_number(field_number, int_word(adb, word))),
+        Kind::Text => check_text(judged, field_number, &around, word, text_word(adb, word)),
+        Kind::Hash => check_text(judged, field_number, &around, word, hash_word(adb, word)),
         Kind::TextArr => {
             let texts = texts_word(adb, word);
-            check_entries(adb, Kind::Text, field_number, around, texts)
+            check_entries(adb, judged, Kind::Text, field_number, around, texts)
         }
         Kind::ObjArr(which) => {
             let objects = objects_word(adb, which, word);
-            check_entries(adb, Kind::Obj(which), field_number, around, objects)
+            check_entries(adb, judged, Kind::Obj(which), field_number, around, objects)
         }
         Kind::Obj(which) => {
             let inside = around.inside(adb, which, word);
-            check_fields(adb, which, inside, word)
+            check_fields(adb, judged, which, inside, word)
         }
     }
 }
@@ -242,67 +290,86 @@ fn check_value<'a>(
 #[cycle(check)]
 fn check_entries<'a>(
     adb: Adb<'a>,
+    judged: &mut Judged<'a>,
     kind: Kind,
     field_number: u16,
     around: Surroundings<'a>,
     entries: Arr<'a>,
-) -> Result<(), Cause>
-    requires { are_all_sound (payload_of adb) kind (array_entries entries) ≡ true }
-    ensures { cause_of result
+) -> Result<Option<Cause>, AllocError>
+    requires sound { are_all_sound (payload_of adb) kind (array_entries entries) ≡ true }
+    requires payload { payload_of judged.old.adb ≡ payload_of adb }
+    ensures cause { IfOk result (λ cause. cause
         ≡ first_bad (each_leaf (leaves (shape_of kind) field_number (surroundings_of around.entry))
-        (values_at (payload_of adb.entry) kind (array_entries entries.entry))) }
+        (values_at (payload_of adb.entry) kind (array_entries entries.entry)))) }
+    ensures payload { judged.new.adb ≡ judged.old.adb }
 {
     for i in 0..entries.len() {
-        check_value(adb, kind, field_number, around, entry_word(entries, i))?;
+        let word = entry_word(entries, i);
+        if let Some(cause) = check_value(adb, judged, kind, field_number, around, word)? {
+            return Ok(Some(cause));
+        }
     }
-    Ok(())
+    Ok(None)
 }
 
 /// Checks the fields of an object, each of those of its table.
 #[cycle(check)]
 fn check_fields<'a>(
     adb: Adb<'a>,
+    judged: &mut Judged<'a>,
     which: Which,
     around: Surroundings<'a>,
     object: Val,
-) -> Result<(), Cause>
-    requires { is_sound (payload_of adb) (Kinds.Obj which) object ≡ true }
-    ensures { cause_of result
+) -> Result<Option<Cause>, AllocError>
+    requires sound { is_sound (payload_of adb) (Kinds.Obj which) object ≡ true }
+    requires payload { payload_of judged.old.adb ≡ payload_of adb }
+    ensures cause { IfOk result (λ cause. cause
         ≡ first_bad (field_leaves (shapes_of (table which)) (100 * schema_number which + 1)
         (surroundings_of around.entry)
-        (entries_in (value_at (payload_of adb.entry) (Kinds.Obj which) object))) }
+        (entries_in (value_at (payload_of adb.entry) (Kinds.Obj which) object)))) }
+    ensures payload { judged.new.adb ≡ judged.old.adb }
 {
     let mut field_number = 100 * number_of(which);
     for (i, field) in fields_of(which).iter().enumerate() {
         field_number += 1;
         let word = field_word(adb, which, object, i);
-        check_value(adb, field.kind, field_number, around, word)?;
+        if let Some(cause) = check_value(adb, judged, field.kind, field_number, around, word)? {
+            return Ok(Some(cause));
+        }
     }
-    Ok(())
+    Ok(None)
 }
 
-fn check_number(field_number: u16, n: u64) -> Result<(), Cause>
-    ensures { cause_of result ≡ first_bad (number_leaf field_number n ∷ []) }
+fn check_number(field_number: u16, n: u64) -> Option<Cause>
+    ensures { result ≡ first_bad (number_leaf field_number n ∷ []) }
 {
     if keeps_number_rule(field_number, n) {
-        Ok(())
+        None
     } else {
-        Err(Cause::BadText {
+        Some(Cause::BadText {
             place: field_number,
         })
     }
 }
 
-fn check_text(field_number: u16, around: &Surroundings<'_>, bytes: &[u8]) -> Result<(), Cause>
-    ensures { cause_of result
-        ≡ first_bad (text_leaf field_number (surroundings_of around.now) bytes.now ∷ []) }
+fn check_text(
+    judged: &mut Judged<'_>,
+    field_number: u16,
+    around: &Surroundings<'_>,
+    word: Val,
+    text: &[u8],
+) -> Result<Option<Cause>, AllocError>
+    requires { text.now ≡ text_at (payload_of judged.old.adb) word }
+    ensures cause { IfOk result (λ cause. cause
+        ≡ first_bad (text_leaf field_number (surroundings_of around.now) text.now ∷ [])) }
+    ensures payload { judged.new.adb ≡ judged.old.adb }
 {
-    if keeps_text_rule(field_number, around, bytes) {
-        Ok(())
+    if keeps_rule_of_field(judged, field_number, around, word, text)? {
+        Ok(None)
     } else {
-        Err(Cause::BadText {
+        Ok(Some(Cause::BadText {
             place: field_number,
-        })
+        }))
     }
 }
 

@@ -1,8 +1,7 @@
 //! A checked payload, the four views of its root.
 
-ghost use Rattle.std.specs.Prelude.{◌≡◌, true, is_none, IfOk};
+ghost use Rattle.std.specs.Prelude.{◌≡◌, true, is_none, None, IfErr, IfOk};
 ghost use Rattle.adb_view.specs.Adb.{payload_of};
-ghost use Rattle.adb_view.specs.Gives.{cause_of};
 ghost use Rattle.adb_tables.specs.Values.{is_sound, value_at};
 ghost use Rattle.adb_tables.specs.Shaped.{shaped_value, table_of};
 ghost use Rattle.adb_tables.specs.declared.tables.Kind.TheVariants as Kinds;
@@ -11,11 +10,12 @@ ghost use Rattle.adb_rules.specs.Texts.{text_fault};
 
 use crate::package::PackageView;
 use crate::package_info::PkgInfo;
+use crate::read::ReadFault;
 use adb_fields::{Kinded, List, View, objects_field, text_field, texts_field};
 use adb_rules::{check_texts, no_text_is_bad_where_each_keeps_its_rule};
 use adb_tables::{Shaped, Which};
 use adb_view::{Adb, Val};
-use base_core::Cause;
+use std::alloc::Global;
 
 /// A payload of the shape of a table, each of whose texts keeps the rule of its field.
 #[derive(Clone, Copy)]
@@ -28,24 +28,29 @@ impl<'a> Checked<'a> {
     ghost use Rattle.adb_tables.specs.Shaped.{adb_of};
     ghost use Rattle.adb_rules.specs.SoundValues.{KeepsRules};
     ghost use Rattle.adb_schema.specs.Checked.{which_of, checked_value};
+    ghost use Rattle.adb_schema.specs.ReadFaults.{IsReadFault};
     ghost use Rattle.adb_schema.specs.Views.{package_value, index_value, idb_value, intent_value};
 
-    /// Tests each text and number of a walked payload against the rule of its field. It takes no
-    /// memory.
+    /// Tests each text and number of a walked payload against the rule of its field. It takes memory
+    /// for long texts alone, which are judged once.
     ///
     /// # Errors
     ///
-    /// `BadText` with the number of the first field that breaks its rule, depth first and field by
-    /// field; a missing field counts as Null.
-    pub fn new(shaped: Shaped<'a>) -> Result<Checked<'a>, Cause>
-        ensures exact { cause_of result
-            ≡ text_fault (table_of shaped.entry) (shaped_value shaped.entry) }
+    /// `Bad` with the cause `BadText` and the number of the first field that breaks its rule, depth
+    /// first and field by field, where a missing field counts as Null; or `Memory`.
+    pub fn new(alloc: Global, shaped: Shaped<'a>) -> Result<Checked<'a>, ReadFault>
+        ensures bad { IfErr result (λ fault.
+            IsReadFault fault (text_fault (table_of shaped.entry) (shaped_value shaped.entry))) }
+        ensures sound { IfOk result (λ _.
+            text_fault (table_of shaped.entry) (shaped_value shaped.entry) ≡ None) }
         ensures which { IfOk result (λ checked. which_of checked ≡ table_of shaped.entry) }
         ensures value { IfOk result (λ checked. checked_value checked ≡ shaped_value shaped.entry) }
         ensures payload { IfOk result (λ checked. adb_of checked.shaped ≡ adb_of shaped.entry) }
     {
-        check_texts(shaped)?;
-        Ok(Checked { shaped })
+        match check_texts(alloc, shaped)? {
+            Some(cause) => Err(ReadFault::Bad(cause)),
+            None => Ok(Checked { shaped }),
+        }
     }
 
     /// The payload as it was walked.

@@ -172,7 +172,7 @@ fn check_payload<'a>(
 {
     let adb = Adb::new(payload)?;
     let shaped = shape(adb, which)?;
-    let checked = Checked::new(shaped)?;
+    let checked = Checked::new(alloc, shaped)?;
     match repeated(alloc, &checked)? {
         Some(cause) => Err(ReadFault::Bad(cause)),
         None => Ok(checked),

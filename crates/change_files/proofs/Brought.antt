@@ -9,12 +9,12 @@ use Rattle.adb_tables.specs.Values.{entry_in, int_in}
 use Rattle.adb_fields.specs.Repeated.{files_in, folders_in, name_of}
 use Rattle.adb_rules.specs.Rules.{is_digest_length}
 use Rattle.adb_rules.specs.Texts.{is_with_contents}
-use Rattle.pkg_core.specs.Contents.{Contents, Expected, expected_contents, expected_files, expected_folders}
+use Rattle.pkg_core.specs.Contents.{Contents, Expected, bytes_or_none, expected_contents, expected_files, expected_folders, is_of_file}
 use Rattle.pkg_core.specs.GoodContents.{AreContentsOf, HaveDigests, IsContentsOf}
 use Rattle.db_core.specs.Members.{Listing, Member, listings_by, listings_from, listings_in_folder, listings_in_folders, member_listings}
 use Rattle.file_guard.specs.AsListed.{file_hash, file_size, file_target, has_target, is_as_listed, link_bytes, link_to}
 use Rattle.file_guard.proofs.Told.{told_hash, told_link}
-use Rattle.change_files.specs.FilesAfter.{bytes_or_none, is_of_file, listing_bytes}
+use Rattle.change_files.specs.FilesAfter.{listing_bytes}
 use Rattle.change_files.proofs.Lists.{IsOneOf, one_from_contains}
 
 -- ---- the first one that passes

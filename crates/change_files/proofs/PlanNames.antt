@@ -11,7 +11,7 @@ use Rattle.change_files.specs.Fate.{aside_name}
 use Rattle.change_files.specs.FileChange.{FileChange}
 use Rattle.change_files.specs.FilesAfter.{is_kept, is_removed, is_written, laid_beside, written_as}
 use Rattle.change_files.specs.NamesAfter.{coming_paths}
-use Rattle.change_files.specs.PlanLists.{FileWrite, aside_of, kept_of, names_in_order, old_paths, removals_of, write_to, writes_of}
+use Rattle.change_files.specs.PlanLists.{FileWrite, aside_of, file_writes_of, kept_of, names_in_order, old_paths, removals_of, write_to}
 use Rattle.change_files.specs.Touched.{IsWriteOf}
 use Rattle.change_files.proofs.InOrder.{filter_rises, from_filter, in_filter, in_left, in_map, in_order, in_right, order_rises}
 use Rattle.change_files.proofs.Lists.{IsOneOf, any_is, contains_from_one, one_from_contains}
@@ -70,16 +70,16 @@ some_listing : (o : Option Listing) → is_some o ≡ true → (l : Listing) × 
 some_listing None e = absurd (true≢false (sym e))
 some_listing (Some l) e = (l, refl)
 
-pub writes_names : (change : FileChange) (files : Files) → map (λ w. w.name) (writes_of change files) ≡ filter (is_written change files) (written_names change)
-unfolding writes_of
+pub writes_names : (change : FileChange) (files : Files) → map (λ w. w.name) (file_writes_of change files) ≡ filter (is_written change files) (written_names change)
+unfolding file_writes_of
 writes_names change files = names_written (written_as change files) (written_names change)
 
-pub writes_rise : (change : FileChange) (files : Files) → IsRising (map (λ w. w.name) (writes_of change files))
+pub writes_rise : (change : FileChange) (files : Files) → IsRising (map (λ w. w.name) (file_writes_of change files))
 writes_rise change files =
     subst IsRising (sym (writes_names change files))
     (pairs_from_rises _ (filter_rises (is_written change files) (written_names change) (order_rises (coming_paths change.members ++ map aside_name (coming_paths change.members)))))
 
-pub writes_hold : (change : FileChange) (files : Files) (name : List ℕ) → Contains (map (λ w. w.name) (writes_of change files)) name ↔ (is_written change files name ≡ true)
+pub writes_hold : (change : FileChange) (files : Files) (name : List ℕ) → Contains (map (λ w. w.name) (file_writes_of change files)) name ↔ (is_written change files name ≡ true)
 writes_hold change files name = (
   λ here. (from_filter (is_written change files) (written_names change) name
       (in_from_contains _ name (subst (λ (names : List (List ℕ)). Contains names name) (writes_names change files) here))).1,
@@ -94,8 +94,8 @@ write_is change files q w (Some l) is e =
     let same : w ≡ write_to q l = (cc) in
     subst (IsWriteOf change files) (sym same) (record { listing = l; written = is; shown = refl })
 
-pub writes_are : (change : FileChange) (files : Files) (w : FileWrite) → Contains (writes_of change files) w ↔ IsWriteOf change files w
-unfolding writes_of
+pub writes_are : (change : FileChange) (files : Files) (w : FileWrite) → Contains (file_writes_of change files) w ↔ IsWriteOf change files w
+unfolding file_writes_of
 writes_are change files w = (
   λ here. (let found = one_written (written_as change files) (written_names change) w (one_from_contains _ w here) in
       write_is change files found.0 w (written_as change files found.0) refl found.1),
@@ -151,9 +151,9 @@ removed_or_kept change files name removed kept = true≢false (sym ((kept_is cha
 
 -- ---- as tests on names
 
-pub written_any : (change : FileChange) (files : Files) (name : List ℕ) → list_any (bytes_eq name) (map (λ w. w.name) (writes_of change files)) ≡ is_written change files name
+pub written_any : (change : FileChange) (files : Files) (name : List ℕ) → list_any (bytes_eq name) (map (λ w. w.name) (file_writes_of change files)) ≡ is_written change files name
 written_any change files name =
-    any_is name (map (λ w. w.name) (writes_of change files)) (is_written change files name)
+    any_is name (map (λ w. w.name) (file_writes_of change files)) (is_written change files name)
     (λ here. (writes_hold change files name).0 (contains_from_in _ name here))
     (λ written. in_from_contains _ name ((writes_hold change files name).1 written))
 

@@ -14,7 +14,7 @@ use Rattle.change_files.specs.Fate.{fate_of}
 use Rattle.change_files.specs.FileChange.{FileChange, is_claimed, old_entry, old_listings, owner_listing}
 use Rattle.change_files.specs.FilesAfter.{is_kept, is_removed, written_as}
 use Rattle.change_files.specs.NamesAfter.{is_let_go, counts_as_written, name_change}
-use Rattle.change_files.specs.PlanLists.{first_reserved, names_in_order, removals_of, writes_of}
+use Rattle.change_files.specs.PlanLists.{file_writes_of, first_reserved, names_in_order, removals_of}
 use Rattle.file_guard.proofs.Sample.{plain_file}
 use Rattle.change_files.proofs.Sample.{folder, info, need, package_with, with_file}
 
@@ -37,18 +37,18 @@ abbrev change : List Plain → List Member → FileChange
 change old members = record { old = old; members = members; purge = false }
 
 -- neither replaces the other: nobody owns it
-nobody : writes_of (change [] (coming_member p1 [] ∷ coming_member q1 [] ∷ [])) no_names ≡ []
-unfolding member_listings claims_of member_beats owner_of_path winner takes_over names_package is_preferred_to is_version tokens next_lexeme component_lexeme number_lexeme suffix_rank hash_lexeme revision_lexeme dependency_of_value old_listings old_entry is_claimed owner_listing fate_of written_as names_in_order writes_of
+nobody : file_writes_of (change [] (coming_member p1 [] ∷ coming_member q1 [] ∷ [])) no_names ≡ []
+unfolding member_listings claims_of member_beats owner_of_path winner takes_over names_package is_preferred_to is_version tokens next_lexeme component_lexeme number_lexeme suffix_rank hash_lexeme revision_lexeme dependency_of_value old_listings old_entry is_claimed owner_listing fate_of written_as names_in_order file_writes_of
 nobody = refl
 
 -- the second replaces the first
-one_write : writes_of (change [] (coming_member p1 [] ∷ coming_member q2 [] ∷ [])) no_names ≡ record { name = codes "usr/x"; member = 1; folder = 1; file = 1 } ∷ []
-unfolding member_listings claims_of member_beats owner_of_path winner takes_over names_package is_preferred_to is_version tokens next_lexeme component_lexeme number_lexeme suffix_rank hash_lexeme revision_lexeme dependency_of_value old_listings old_entry is_claimed owner_listing fate_of written_as names_in_order writes_of
+one_write : file_writes_of (change [] (coming_member p1 [] ∷ coming_member q2 [] ∷ [])) no_names ≡ record { name = codes "usr/x"; member = 1; folder = 1; file = 1 } ∷ []
+unfolding member_listings claims_of member_beats owner_of_path winner takes_over names_package is_preferred_to is_version tokens next_lexeme component_lexeme number_lexeme suffix_rank hash_lexeme revision_lexeme dependency_of_value old_listings old_entry is_claimed owner_listing fate_of written_as names_in_order file_writes_of
 one_write = refl
 
 -- the first one stays and keeps its file, which the second does not replace: nothing is written
-stays : writes_of (change (p1 ∷ []) (staying_member p1 ∷ [])) (with_file (codes "usr/x") (codes "1")) ≡ []
-unfolding member_listings claims_of member_beats owner_of_path winner takes_over names_package is_preferred_to is_version tokens next_lexeme component_lexeme number_lexeme suffix_rank hash_lexeme revision_lexeme dependency_of_value old_listings old_entry is_claimed owner_listing fate_of written_as names_in_order writes_of
+stays : file_writes_of (change (p1 ∷ []) (staying_member p1 ∷ [])) (with_file (codes "usr/x") (codes "1")) ≡ []
+unfolding member_listings claims_of member_beats owner_of_path winner takes_over names_package is_preferred_to is_version tokens next_lexeme component_lexeme number_lexeme suffix_rank hash_lexeme revision_lexeme dependency_of_value old_listings old_entry is_claimed owner_listing fate_of written_as names_in_order file_writes_of
 stays = refl
 
 -- it goes: its file is removed

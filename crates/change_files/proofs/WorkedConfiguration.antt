@@ -9,7 +9,7 @@ use Rattle.file_guard.specs.AsListed.{do_entries_agree, is_as_listed_by}
 use Rattle.change_files.specs.Fate.{fate_of, is_guarded}
 use Rattle.change_files.specs.FileChange.{FileChange, is_claimed, old_entry, old_listings, owner_listing}
 use Rattle.change_files.specs.FilesAfter.{Records, changed_files, is_kept, is_removed, written_as}
-use Rattle.change_files.specs.PlanLists.{aside_of, kept_of, names_in_order, removals_of, writes_of}
+use Rattle.change_files.specs.PlanLists.{aside_of, file_writes_of, kept_of, names_in_order, removals_of}
 use Rattle.file_guard.proofs.Sample.{link}
 use Rattle.change_files.proofs.Sample.{folder, info, new_bytes, package_with, with_file}
 
@@ -38,8 +38,8 @@ aside : aside_of upgrade changed ≡ conf ∷ []
 unfolding member_listings claims_of owner_of_path winner old_listings old_entry is_claimed owner_listing is_as_listed_by do_entries_agree fate_of written_as names_in_order aside_of
 aside = refl
 
-aside_write : writes_of upgrade changed ≡ record { name = codes "etc/c.conf.apk-new"; member = 0; folder = 1; file = 1 } ∷ []
-unfolding member_listings claims_of owner_of_path winner old_listings old_entry is_claimed owner_listing is_as_listed_by do_entries_agree fate_of written_as names_in_order writes_of
+aside_write : file_writes_of upgrade changed ≡ record { name = codes "etc/c.conf.apk-new"; member = 0; folder = 1; file = 1 } ∷ []
+unfolding member_listings claims_of owner_of_path winner old_listings old_entry is_claimed owner_listing is_as_listed_by do_entries_agree fate_of written_as names_in_order file_writes_of
 aside_write = refl
 
 own_file : changed_files upgrade new_bytes records changed conf ≡ Some (codes "x")
@@ -56,13 +56,13 @@ unfolding member_listings claims_of owner_of_path winner old_listings old_entry 
 purged_upgrade = refl
 
 -- unchanged: it is replaced
-replaced : writes_of upgrade unchanged ≡ record { name = conf; member = 0; folder = 1; file = 1 } ∷ []
-unfolding member_listings claims_of owner_of_path winner old_listings old_entry is_claimed owner_listing is_as_listed_by do_entries_agree fate_of written_as names_in_order writes_of
+replaced : file_writes_of upgrade unchanged ≡ record { name = conf; member = 0; folder = 1; file = 1 } ∷ []
+unfolding member_listings claims_of owner_of_path winner old_listings old_entry is_claimed owner_listing is_as_listed_by do_entries_agree fate_of written_as names_in_order file_writes_of
 replaced = refl
 
 -- as the new entry lists it: it is replaced too, and nothing is laid beside it
-as_new : writes_of upgrade (with_file conf (codes "!<symlink>2")) ≡ record { name = conf; member = 0; folder = 1; file = 1 } ∷ []
-unfolding member_listings claims_of owner_of_path winner old_listings old_entry is_claimed owner_listing is_as_listed_by do_entries_agree fate_of written_as names_in_order writes_of
+as_new : file_writes_of upgrade (with_file conf (codes "!<symlink>2")) ≡ record { name = conf; member = 0; folder = 1; file = 1 } ∷ []
+unfolding member_listings claims_of owner_of_path winner old_listings old_entry is_claimed owner_listing is_as_listed_by do_entries_agree fate_of written_as names_in_order file_writes_of
 as_new = refl
 
 -- ---- nobody listed the path before
@@ -75,8 +75,8 @@ fresh_aside : aside_of fresh changed ≡ conf ∷ []
 unfolding member_listings claims_of owner_of_path winner old_listings old_entry is_claimed owner_listing is_as_listed_by do_entries_agree fate_of written_as names_in_order aside_of
 fresh_aside = refl
 
-fresh_write : writes_of fresh no_names ≡ record { name = conf; member = 0; folder = 1; file = 1 } ∷ []
-unfolding member_listings claims_of owner_of_path winner old_listings old_entry is_claimed owner_listing is_as_listed_by do_entries_agree fate_of written_as names_in_order writes_of
+fresh_write : file_writes_of fresh no_names ≡ record { name = conf; member = 0; folder = 1; file = 1 } ∷ []
+unfolding member_listings claims_of owner_of_path winner old_listings old_entry is_claimed owner_listing is_as_listed_by do_entries_agree fate_of written_as names_in_order file_writes_of
 fresh_write = refl
 
 -- ---- what is configuration
@@ -121,6 +121,6 @@ absent_kept = refl
 abbrev reinstall : FileChange
 reinstall = record { old = c (codes "2") ∷ []; members = coming_member (c (codes "2")) [] ∷ []; purge = false }
 
-nothing_new : writes_of reinstall changed ≡ []
-unfolding member_listings claims_of owner_of_path winner old_listings old_entry is_claimed owner_listing is_as_listed_by do_entries_agree fate_of written_as names_in_order writes_of
+nothing_new : file_writes_of reinstall changed ≡ []
+unfolding member_listings claims_of owner_of_path winner old_listings old_entry is_claimed owner_listing is_as_listed_by do_entries_agree fate_of written_as names_in_order file_writes_of
 nothing_new = refl

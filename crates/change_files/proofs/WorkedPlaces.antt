@@ -9,7 +9,7 @@ use Rattle.file_owners.specs.Owners.{owner_of_path}
 use Rattle.change_files.specs.Fate.{fate_of}
 use Rattle.change_files.specs.FileChange.{FileChange, is_claimed, old_entry, old_listings, owner_listing}
 use Rattle.change_files.specs.FilesAfter.{listing_bytes, written_as}
-use Rattle.change_files.specs.PlanLists.{names_in_order, writes_of}
+use Rattle.change_files.specs.PlanLists.{file_writes_of, names_in_order}
 use Rattle.file_guard.proofs.Sample.{link, plain_file}
 use Rattle.change_files.proofs.Sample.{folder, info, package_with}
 
@@ -21,8 +21,8 @@ comes = record { old = []; members = coming_member two [] ∷ []; purge = false 
 
 -- ---- where a plan finds the files
 
-two_writes : writes_of comes no_names ≡ record { name = codes "a/x"; member = 0; folder = 1; file = 1 } ∷ record { name = codes "a/y"; member = 0; folder = 1; file = 2 } ∷ []
-unfolding member_listings claims_of owner_of_path winner old_listings old_entry is_claimed owner_listing fate_of written_as names_in_order writes_of
+two_writes : file_writes_of comes no_names ≡ record { name = codes "a/x"; member = 0; folder = 1; file = 1 } ∷ record { name = codes "a/y"; member = 0; folder = 1; file = 2 } ∷ []
+unfolding member_listings claims_of owner_of_path winner old_listings old_entry is_claimed owner_listing fate_of written_as names_in_order file_writes_of
 two_writes = refl
 
 -- ---- what they have

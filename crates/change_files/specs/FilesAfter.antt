@@ -1,6 +1,6 @@
 -- The files after a change, name by name.
 use Rattle.std.specs.Prelude.{ℕ, ◌==◌, ◌-◌, Bool, true, false, not, ◌&&◌, if◌then◌else◌, List, [], ◌∷◌, length, take, codes, Option, Some, None, is_some, option_and_then, bytes_eq, nat_eq}
-use Rattle.std.specs.List.{ends_with, find}
+use Rattle.std.specs.List.{ends_with}
 use Rattle.adb_view.specs.Plain.{Plain}
 use Rattle.base_core.specs.Files.{Files}
 use Rattle.db_core.specs.Members.{Listing}
@@ -80,19 +80,11 @@ is_removed change files path =
 
 -- ---- the contents of a file that comes
 
-abbrev pub is_of_file : ℕ → ℕ → Packages.Contents → Bool
-is_of_file folder file contents = (contents.folder == folder) && (contents.file == file)
-
--- a file without contents is empty
-abbrev pub bytes_or_none : Option Packages.Contents → List ℕ
-bytes_or_none None = []
-bytes_or_none (Some contents) = contents.bytes
-
 -- where each member that comes has these contents
 unfoldable pub listing_bytes : (ℕ → List Packages.Contents) → Listing → List ℕ
 listing_bytes contents l =
     if has_target l.entry then link_bytes l.entry
-    else bytes_or_none (find (is_of_file l.folder l.file) (contents l.place))
+    else Packages.bytes_of_file l.folder l.file (contents l.place)
 
 -- ---- all names
 

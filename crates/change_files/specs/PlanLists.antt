@@ -42,8 +42,8 @@ abbrev pub write_to : List ℕ → Listing → FileWrite
 write_to name l = record { name = name; member = l.place; folder = l.folder; file = l.file }
 
 -- each name at which something is written
-unfoldable pub writes_of : FileChange → Files → List FileWrite
-writes_of change files =
+unfoldable pub file_writes_of : FileChange → Files → List FileWrite
+file_writes_of change files =
     filter_map (λ name. option_map (write_to name) (written_as change files name))
     (names_in_order (coming_paths change.members ++ map aside_name (coming_paths change.members)))
 

@@ -16,7 +16,7 @@ ghost use Rattle.change_files.specs.Fate.{aside_name};
 ghost use Rattle.change_files.specs.FileChange.{FileChange, coming_owner, is_claimed, old_listings, owner_listing, was_listed};
 ghost use Rattle.change_files.specs.FilesAfter.{Records, changed_files, database_name, is_kept, is_left_over, is_removed, is_written, laid_beside, listing_bytes, text_database_name, world_name, written_as};
 ghost use Rattle.change_files.specs.NamesAfter.{is_let_go, name_change};
-ghost use Rattle.change_files.specs.PlanLists.{FileWrite, aside_of, first_reserved, kept_of, removals_of, writes_of};
+ghost use Rattle.change_files.specs.PlanLists.{FileWrite, aside_of, file_writes_of, first_reserved, kept_of, removals_of};
 ghost use Rattle.change_files.specs.Touched.{IsNewEntry, IsUsersFile, IsWriteOf, is_aside_name, is_coming_path, is_record_name};
 
 // ---- what is written
@@ -213,9 +213,9 @@ pub fn the_records_of_a_change_stand_under_their_names()
 /// The lists of a plan hold just the names that are written, removed, kept and laid aside.
 pub fn the_lists_of_a_plan_hold_just_its_names()
     ensures writes { (change : FileChange) (files : Files) (write : FileWrite)
-        → Contains (writes_of change files) write ↔ IsWriteOf change files write }
+        → Contains (file_writes_of change files) write ↔ IsWriteOf change files write }
     ensures written { (change : FileChange) (files : Files) (name : List ℕ)
-        → Contains (map (λ write. write.name) (writes_of change files)) name
+        → Contains (map (λ write. write.name) (file_writes_of change files)) name
         ↔ (is_written change files name ≡ true) }
     ensures removed { (change : FileChange) (files : Files) (path : List ℕ)
         → Contains (removals_of change files) path ↔ (is_removed change files path ≡ true) }
@@ -229,7 +229,7 @@ pub fn the_lists_of_a_plan_hold_just_its_names()
 /// Each list of a plan is in byte order, and no name stands in it twice.
 pub fn the_lists_of_a_plan_rise()
     ensures writes { (change : FileChange) (files : Files)
-        → IsRising (map (λ write. write.name) (writes_of change files)) }
+        → IsRising (map (λ write. write.name) (file_writes_of change files)) }
     ensures removals { (change : FileChange) (files : Files) → IsRising (removals_of change files) }
     ensures kept { (change : FileChange) (files : Files) → IsRising (kept_of change files) }
     ensures aside { (change : FileChange) (files : Files) → IsRising (aside_of change files) }

@@ -17,7 +17,7 @@ use Rattle.change_inputs.specs.Answers.{Agrees, AgreesUnlessDisk, IsFailure, Sta
 use Rattle.change_inputs.specs.Chains.{and_then}
 use Rattle.change_inputs.specs.Database.{Database, root_database}
 use Rattle.change_inputs.specs.Indexes.{index_files_from, indexes_in_files, root_indexes}
-use Rattle.change_inputs.specs.Inputs.{Inputs, Root, database_of, index_reads_from, indexes_of, inputs_by, inputs_of, root_found, root_of}
+use Rattle.change_inputs.specs.Inputs.{Inputs, Root, database_for, index_reads_from, indexes_of, inputs_by, inputs_of, root_for, root_found}
 use Rattle.change_inputs.specs.RootFiles.{StandInRoot}
 use Rattle.change_inputs.specs.declared.refused.Refused.{Refused}
 use Rattle.change_inputs.specs.declared.root.RootFiles.{RootFiles}
@@ -119,7 +119,7 @@ same_root command history text (Some file) world repositories = refl
 
 -- the database alone
 pub explained_database : (history : List TreeState) (command : CommandLine) (file text : Option (List ℕ)) → StandsAt history database_name file → (file ≡ None → StandsAt history text_database_name text)
-    → Explains history (λ read. database_of command read ≡ root_database command.flags.initdb file text)
+    → Explains history (λ read. database_for command read ≡ root_database command.flags.initdb file text)
 explained_database history command file text stands text_stand =
     let e = explained_root history file (text_or history text file) (unread history world_name) (unread history repositories_name) [] [] stands (text_stands history text file text_stand) (unread_stands history world_name) (unread_stands history repositories_name) tt in
     record {
@@ -129,27 +129,27 @@ explained_database history command file text stands text_stand =
     }
 
 pub database_failed : {A : Type 0} (view : A → Database) (history : List TreeState) (command : CommandLine) (r : Result A Refused) (fault : Refused) → IsErrAnd r (λ e. e ≡ fault) → IsFailure fault
-    → Explains history (λ read. AgreesUnlessDisk view r (database_of command read))
-database_failed view history command r fault is failed = explained history (λ read. AgreesUnlessDisk view r (database_of command read)) (λ read. failure_agrees view (database_of command read) r fault is failed)
+    → Explains history (λ read. AgreesUnlessDisk view r (database_for command read))
+database_failed view history command r fault is failed = explained history (λ read. AgreesUnlessDisk view r (database_for command read)) (λ read. failure_agrees view (database_for command read) r fault is failed)
 
 pub database_refused : {A B : Type 0} (view : A → Database) (seen : B → Database) (history : List TreeState) (command : CommandLine) (file text : Option (List ℕ)) (r : Result A Refused) (fault : Refused) → StandsAt history database_name file → (file ≡ None → StandsAt history text_database_name text)
-    → IsErrAnd r (λ e. e ≡ fault) → Agrees seen (Err fault) (root_database command.flags.initdb file text) → Explains history (λ read. AgreesUnlessDisk view r (database_of command read))
+    → IsErrAnd r (λ e. e ≡ fault) → Agrees seen (Err fault) (root_database command.flags.initdb file text) → Explains history (λ read. AgreesUnlessDisk view r (database_for command read))
 database_refused view seen history command file text r fault stands text_stand is h =
     let e = explained_database history command file text stands text_stand in
     record {
       read = e.read;
       observed = e.observed;
-      is = handed_on_disk view (database_of command e.read) r fault is (unless_disk view (database_of command e.read) (Err fault) (subst (λ x. Agrees seen (Err fault) x) (sym e.is) h));
+      is = handed_on_disk view (database_for command e.read) r fault is (unless_disk view (database_for command e.read) (Err fault) (subst (λ x. Agrees seen (Err fault) x) (sym e.is) h));
     }
 
 pub database_given : (history : List TreeState) (command : CommandLine) (file text : Option (List ℕ)) (database : Database) → StandsAt history database_name file → (file ≡ None → StandsAt history text_database_name text)
-    → root_database command.flags.initdb file text ≡ Ok database → Explains history (λ read. database_of command read ≡ Ok database)
+    → root_database command.flags.initdb file text ≡ Ok database → Explains history (λ read. database_for command read ≡ Ok database)
 database_given history command file text database stands text_stand is =
     let e = explained_database history command file text stands text_stand in
     record { read = e.read; observed = e.observed; is = e.is ∙ is }
 
 pub explained_files : (history : List TreeState) (command : CommandLine) (files : RootFiles) (rs : List Repository) (fs : List (Option (List ℕ))) → StandInRoot history files → StandAt history rs fs
-    → Explains history (λ read. (root_of command read ≡ root_found command (bytes_in files.database) (bytes_in files.text_database) (bytes_in files.world) (bytes_in files.repositories)) × (index_reads_from read 4 rs ≡ fs))
+    → Explains history (λ read. (root_for command read ≡ root_found command (bytes_in files.database) (bytes_in files.text_database) (bytes_in files.world) (bytes_in files.repositories)) × (index_reads_from read 4 rs ≡ fs))
 explained_files history command files rs fs stand indexes =
     let file = bytes_in files.database in
     let e = explained_root history file (text_or history (bytes_in files.text_database) file) (bytes_in files.world) (bytes_in files.repositories) rs fs stand.database (text_stands history (bytes_in files.text_database) file stand.text_database) stand.world stand.repositories indexes in
@@ -184,7 +184,7 @@ explained_refusal view seen history command files r fault stand is h =
       observed = e.observed;
       is = handed_on_disk view _ r fault is
           (unless_disk view _ (Err fault)
-          (refused_part seen view (then_indexes e.read) fault (root_of command e.read) (subst (λ x. Agrees seen (Err fault) x) (sym e.is.0) h)));
+          (refused_part seen view (then_indexes e.read) fault (root_for command e.read) (subst (λ x. Agrees seen (Err fault) x) (sym e.is.0) h)));
     }
 
 -- a root that is good, and what comes of its indexes

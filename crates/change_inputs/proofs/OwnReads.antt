@@ -8,7 +8,7 @@ use Rattle.report_core.specs.declared.refusal.Refusal as Refusals
 use Rattle.root_names.specs.RootNames.{database_name, repositories_name, text_database_name, world_name}
 use Rattle.change_inputs.specs.Chains.{and_then}
 use Rattle.change_inputs.specs.Indexes.{root_indexes}
-use Rattle.change_inputs.specs.Inputs.{Inputs, Root, index_reads_from, indexes_of, inputs_by, inputs_of, root_found, root_of}
+use Rattle.change_inputs.specs.Inputs.{Inputs, Root, index_reads_from, indexes_of, inputs_by, inputs_of, root_for, root_found}
 
 same_index_reads : (read other : Reads) (n : ℕ) (rs : List Repository) → ((k : ℕ) (name : List ℕ) → k < n + length rs → read k name ≡ other k name) → index_reads_from read n rs ≡ index_reads_from other n rs
 same_index_reads read other n [] h = refl
@@ -22,7 +22,7 @@ given (Ok a) next b is = (a, refl, is)
 given (Err refusal) next b is = absurd (cc)
 
 module _ (command : CommandLine) (read other : Reads) where
-  same_inputs : (root : Root) (indexes : List Plain) → root_of command read ≡ Ok root → indexes_of read root.repositories ≡ Ok indexes
+  same_inputs : (root : Root) (indexes : List Plain) → root_for command read ≡ Ok root → indexes_of read root.repositories ≡ Ok indexes
       → ((n : ℕ) (name : List ℕ) → n < 4 + length root.repositories → read n name ≡ other n name) → inputs_of command other ≡ Ok (inputs_by root indexes)
   unfolding inputs_of
   same_inputs root indexes good those h =
@@ -30,7 +30,7 @@ module _ (command : CommandLine) (read other : Reads) where
       let e1 : read 1 text_database_name ≡ other 1 text_database_name = h 1 text_database_name (omega arith) in
       let e2 : read 2 world_name ≡ other 2 world_name = h 2 world_name (omega arith) in
       let e3 : read 3 repositories_name ≡ other 3 repositories_name = h 3 repositories_name (omega arith) in
-      let roots : root_of command other ≡ Ok root = sym (λ i. root_found command (e0 i) (e1 i) (e2 i) (e3 i)) ∙ good in
+      let roots : root_for command other ≡ Ok root = sym (λ i. root_found command (e0 i) (e1 i) (e2 i) (e3 i)) ∙ good in
       let all : indexes_of other root.repositories ≡ Ok indexes = ap root_indexes (sym (same_index_reads read other 4 root.repositories h)) ∙ those in
       ap (λ r. and_then r (λ root. and_then (indexes_of other root.repositories) (λ indexes. Ok (inputs_by root indexes)))) roots
       ∙ ap (λ r. and_then r (λ indexes. Ok (inputs_by root indexes))) all
@@ -38,7 +38,7 @@ module _ (command : CommandLine) (read other : Reads) where
   pub own_reads : (inputs : Inputs) → inputs_of command read ≡ Ok inputs → ((n : ℕ) (name : List ℕ) → n < 4 + length inputs.root.repositories → read n name ≡ other n name) → inputs_of command other ≡ Ok inputs
   unfolding inputs_of
   own_reads inputs is h =
-      let p = given (root_of command read) (λ root. and_then (indexes_of read root.repositories) (λ indexes. Ok (inputs_by root indexes))) inputs is in
+      let p = given (root_for command read) (λ root. and_then (indexes_of read root.repositories) (λ indexes. Ok (inputs_by root indexes))) inputs is in
       let q = given (indexes_of read p.0.repositories) (λ indexes. Ok (inputs_by p.0 indexes)) inputs p.2 in
       let are : inputs_by p.0 q.0 ≡ inputs = cc (q.2) in
       let P : Inputs → Type 0 = λ x. ((n : ℕ) (name : List ℕ) → n < 4 + length x.root.repositories → read n name ≡ other n name) → inputs_of command other ≡ Ok x in

@@ -80,13 +80,13 @@ index_reads_from read n (repository ∷ repositories) =
 -- ---- the inputs
 
 -- the database alone
-abbrev pub database_of : CommandLine → Reads → Result Database Refusal
-database_of command read =
+abbrev pub database_for : CommandLine → Reads → Result Database Refusal
+database_for command read =
     root_database command.flags.initdb (read database_read database_name)
     (read text_database_read text_database_name)
 
-abbrev pub root_of : CommandLine → Reads → Result Root Refusal
-root_of command read =
+abbrev pub root_for : CommandLine → Reads → Result Root Refusal
+root_for command read =
     root_found command (read database_read database_name)
     (read text_database_read text_database_name) (read world_read world_name)
     (read repositories_read repositories_name)
@@ -98,5 +98,5 @@ indexes_of read repositories =
 -- the inputs of a command that changes what is installed, or its first refusal
 unfoldable pub inputs_of : CommandLine → Reads → Result Inputs Refusal
 inputs_of command read =
-    and_then (root_of command read) (λ root.
+    and_then (root_for command read) (λ root.
     and_then (indexes_of read root.repositories) (λ indexes. Ok (inputs_by root indexes)))

@@ -1,7 +1,7 @@
 //! The database of a root alone.
 ghost use Rattle.base_core.specs.Read.{OnlyReads};
 ghost use Rattle.change_inputs.specs.Answers.{AgreesUnlessDisk};
-ghost use Rattle.change_inputs.specs.Inputs.{database_of};
+ghost use Rattle.change_inputs.specs.Inputs.{database_for};
 ghost use Rattle.change_inputs.specs.Seen.{installed_seen};
 ghost use Rattle.db_core.specs.Seen.{packages_of};
 ghost use Rattle.make_package.specs.Runs.{Explains};
@@ -36,7 +36,7 @@ impl Installed {
         tree: &mut T,
     ) -> Result<Installed, Refused>
         ensures found { Explains (T.history tree.old) (λ read.
-            AgreesUnlessDisk installed_seen result (database_of command.now read)) }
+            AgreesUnlessDisk installed_seen result (database_for command.now read)) }
         ensures tree { OnlyReads Refused.Disk (T.history tree.old) (T.history tree.new)
             (T.counts tree.old) (T.counts tree.new) result }
     {

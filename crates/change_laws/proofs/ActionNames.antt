@@ -9,7 +9,7 @@ use Rattle.base_core.specs.Files.{Files}
 use Rattle.base_core.proofs.Rising.{IsIn, contains_from_in, in_from_contains}
 use Rattle.change_files.specs.FileChange.{FileChange}
 use Rattle.change_files.specs.FilesAfter.{Records, database_name, is_removed, is_written, text_database_name, world_name, written_as}
-use Rattle.change_files.specs.PlanLists.{removals_of, writes_of}
+use Rattle.change_files.specs.PlanLists.{removals_of, file_writes_of}
 use Rattle.change_files.proofs.InOrder.{from_order, in_left, in_order, in_right, order_rises}
 use Rattle.change_files.proofs.LeftOver.{removed_unreserved}
 use Rattle.change_files.proofs.Lists.{any_name}
@@ -44,7 +44,7 @@ module _ (inputs : Inputs) (change : FileChange) (files : Files) (records : Reco
   actions = actions_of inputs change files records
 
   abbrev plan_writes : List (List ℕ)
-  plan_writes = map (λ w. w.name) (writes_of change files)
+  plan_writes = map (λ w. w.name) (file_writes_of change files)
 
   abbrev database_write : List (List ℕ)
   database_write = name_if_needed (is_other_file inputs.root.database.file records.database) database_name

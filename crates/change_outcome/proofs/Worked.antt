@@ -1,7 +1,8 @@
 -- Rows worked by hand: where a package's file lies, and which folders a pattern matches.
 use Rattle.std.proofs.Common.{◌≡◌, refl, true, false, [], codes}
 use Rattle.change_outcome.specs.PackageFiles.{package_path}
-use Rattle.change_outcome.specs.Triggers.{folder_of_path, is_folder_matched}
+use Rattle.make_package.specs.Folders.{folder_of}
+use Rattle.change_outcome.specs.Triggers.{is_folder_matched}
 
 beside_the_index : package_path (codes "repo/index.adb") (codes "hello") (codes "1.0-r0") ≡ codes "repo/hello-1.0-r0.apk"
 beside_the_index = refl
@@ -9,10 +10,10 @@ beside_the_index = refl
 in_the_root : package_path (codes "index.adb") (codes "a") (codes "1") ≡ codes "a-1.apk"
 in_the_root = refl
 
-deep_folder : folder_of_path (codes "usr/share/man/man1/d") ≡ codes "usr/share/man/man1"
+deep_folder : folder_of (codes "usr/share/man/man1/d") ≡ codes "usr/share/man/man1"
 deep_folder = refl
 
-root_folder : folder_of_path (codes "d") ≡ []
+root_folder : folder_of (codes "d") ≡ []
 root_folder = refl
 
 star_is_one_part : is_folder_matched (codes "usr/share/man/man1") (codes "/usr/share/man/*") ≡ true

@@ -9,7 +9,7 @@ use Rattle.change_files.specs.FileChange.{FileChange}
 use Rattle.change_files.specs.FilesAfter.{Records, changed_files, listing_bytes}
 use Rattle.change_files.specs.Fate.{aside_name}
 use Rattle.change_files.specs.NamesAfter.{name_change}
-use Rattle.change_files.specs.PlanLists.{aside_of, first_reserved, kept_of, names_in_order, removals_of, writes_of}
+use Rattle.change_files.specs.PlanLists.{aside_of, file_writes_of, first_reserved, kept_of, names_in_order, removals_of}
 use Rattle.change_inputs.specs.Chains.{and_then}
 use Rattle.change_inputs.specs.Inputs.{Inputs}
 use Rattle.db_core.specs.Members.{Member, member_name}
@@ -108,7 +108,7 @@ abbrev pub actions_of : Inputs → FileChange → Files → Records → Actions
 actions_of inputs change files records = record {
   removals = names_in_order (removals_of change files
     ++ name_if_needed records.takes_text_over text_database_name);
-  writes = names_in_order (map (λ w. w.name) (writes_of change files)
+  writes = names_in_order (map (λ w. w.name) (file_writes_of change files)
     ++ written_records inputs records);
 }
 
@@ -137,7 +137,7 @@ member_sum_line members = report_line (sum_text (sum_by member_size members) (le
 
 -- the files whose folders may have a trigger: those that packages have written and removed
 abbrev pub touched_paths : FileChange → Files → List (List ℕ)
-touched_paths change files = map (λ w. w.name) (writes_of change files) ++ removals_of change files
+touched_paths change files = map (λ w. w.name) (file_writes_of change files) ++ removals_of change files
 
 abbrev pub change_report : Replacement → ChangeWishes → FileChange → Files → List ℕ
 change_report r wishes change files =

@@ -1,7 +1,7 @@
 -- The packages after a change, name by name.
-use Rattle.std.specs.Prelude.{ℕ, ◌+◌, Bool, List, [], ◌∷◌, length, map, Option, Some, None, Result, Ok, slice_get}
+use Rattle.std.specs.Prelude.{ℕ, suc, ◌+◌, Bool, List, [], ◌∷◌, length, map, Option, Some, None, Result, Ok, option_map, slice_get}
 use Rattle.std.specs.Option.{option_map_or}
-use Rattle.std.specs.List.{find}
+use Rattle.std.specs.List.{cons_option, find}
 use Rattle.adb_view.specs.Plain.{Plain}
 use Rattle.change_inputs.specs.Chains.{and_then}
 use Rattle.change_inputs.specs.Inputs.{first_index_read}
@@ -27,78 +27,61 @@ staying_found pkg = record { member = staying_member pkg; contents = [] }
 abbrev pub coming_found : ComingPackage → MemberFound
 coming_found pkg = record { member = coming_member pkg.value pkg.id; contents = pkg.contents }
 
--- what a name comes to: a package or none, and how many files of packages were read
-pub record NameFound : Type 0 where
-  pub found : Option MemberFound
-  pub reads : ℕ
-
-abbrev pub name_found : Option MemberFound → ℕ → NameFound
-name_found found reads = record { found = found; reads = reads }
-
 -- by what a read finds under the name of its file, if it has one
 abbrev pub coming_by_path :
     Reads → ℕ → Candidate → Option (List ℕ) → Result ComingPackage Refusal
 coming_by_path read n c None = package_found c None
 coming_by_path read n c (Some path) = package_found c (read n path)
 
-abbrev pub reads_of_path : Option (List ℕ) → ℕ
-reads_of_path None = 0
-reads_of_path (Some path) = 1
-
 -- a candidate that comes; its file is the read with this number
 abbrev pub name_that_comes :
-    Reads → List Repository → Bool → ℕ → List ℕ → Change → Candidate → Result NameFound Refusal
+    Reads → List Repository → Bool → ℕ → List ℕ → Change → Candidate
+    → Result (Option MemberFound) Refusal
 name_that_comes read repositories no_scripts n name change c =
     and_then (coming_by_path read n c (package_file_of repositories c)) (λ pkg.
-    unless_script no_scripts name pkg.value (scripts_of_change change)
-    (name_found (Some (coming_found pkg)) (reads_of_path (package_file_of repositories c))))
+    unless_script no_scripts name pkg.value (scripts_of_change change) (Some (coming_found pkg)))
 
-abbrev pub name_that_goes : Bool → List ℕ → Change → Option Plain → Result NameFound Refusal
-name_that_goes no_scripts name change None = Ok (name_found None 0)
+abbrev pub name_that_goes :
+    Bool → List ℕ → Change → Option Plain → Result (Option MemberFound) Refusal
+name_that_goes no_scripts name change None = Ok None
 name_that_goes no_scripts name change (Some pkg) =
-    unless_script no_scripts name pkg (scripts_of_change change) (name_found None 0)
-
-abbrev pub name_that_stays : Option Plain → NameFound
-name_that_stays None = name_found None 0
-name_that_stays (Some pkg) = name_found (Some (staying_found pkg)) 0
+    unless_script no_scripts name pkg (scripts_of_change change) None
 
 abbrev pub name_by_selected :
     Reads → List Repository → Bool → ℕ → List ℕ → Change → Option Plain → Option Candidate
-    → Result NameFound Refusal
+    → Result (Option MemberFound) Refusal
 name_by_selected read repositories no_scripts n name change before None =
     name_that_goes no_scripts name change before
 name_by_selected read repositories no_scripts n name change before (Some c) =
     name_that_comes read repositories no_scripts n name change c
 
+-- what a name comes to, a package or none
 abbrev pub name_by_change :
     Reads → List Repository → Bool → ℕ → List ℕ → Option Change → Option Plain
-    → Option Candidate → Result NameFound Refusal
+    → Option Candidate → Result (Option MemberFound) Refusal
 name_by_change read repositories no_scripts n name None before selected =
-    Ok (name_that_stays before)
+    Ok (option_map staying_found before)
 name_by_change read repositories no_scripts n name (Some change) before selected =
     name_by_selected read repositories no_scripts n name change before selected
 
 -- a package that changes is as its file has it, one that does not is as before
 abbrev pub name_after :
-    Replacement → Reads → List Repository → Bool → ℕ → List ℕ → Result NameFound Refusal
+    Replacement → Reads → List Repository → Bool → ℕ → List ℕ
+    → Result (Option MemberFound) Refusal
 name_after r read repositories no_scripts n name =
     name_by_change read repositories no_scripts n name (change_of_name r name)
     (find (is_package_named name) r.before) (find (is_selected_named name) r.selected)
 
-abbrev pub with_found : Option MemberFound → List MemberFound → List MemberFound
-with_found None members = members
-with_found (Some m) members = m ∷ members
-
--- of names in byte order, or the first refusal; the file of the first package that comes is the read
--- with this number
+-- of names in byte order, or the first refusal; each name has a number for a read, and that of the
+-- first of these names is this one
 abbrev pub names_after :
     Replacement → Reads → List Repository → Bool → ℕ → List (List ℕ)
     → Result (List MemberFound) Refusal
 names_after r read repositories no_scripts n [] = Ok []
 names_after r read repositories no_scripts n (name ∷ names) =
     and_then (name_after r read repositories no_scripts n name) (λ first.
-    and_then (names_after r read repositories no_scripts (n + first.reads) names) (λ others.
-    Ok (with_found first.found others)))
+    and_then (names_after r read repositories no_scripts (suc n) names) (λ others.
+    Ok (cons_option first others)))
 
 -- the packages after a change, in byte order of names, or the first refusal of one
 unfoldable pub members_after :

@@ -1,52 +1,38 @@
 -- The triggers that a change makes due.
 use Rattle.std.specs.Prelude.{ℕ, ◌==◌, Bool, true, false, not, ◌&&◌, if◌then◌else◌, List, [], ◌∷◌, length, map, codes, Result, Ok, Err, bytes_eq}
 use Rattle.std.specs.List.{filter, flat_map, list_any}
+use Rattle.base_core.specs.Name.{parts_of}
 use Rattle.adb_fields.specs.Repeated.{entries_at}
 use Rattle.adb_tables.specs.Values.{text_in}
 use Rattle.adb_view.specs.Plain.{Plain}
 use Rattle.change_files.specs.PlanLists.{names_in_order}
 use Rattle.db_core.specs.Members.{Member, member_name}
+use Rattle.dep_core.specs.LeadingSlash.{without_slash}
+use Rattle.make_package.specs.Folders.{folder_of}
 use Rattle.report_core.specs.Reports.{report_line, trigger_text}
 use Rattle.report_core.specs.declared.refusal.Refusal.{Refusal}
 use Rattle.report_core.specs.declared.refusal.Refusal.TheVariants.{TriggerNeeded}
-use Rattle.change_outcome.specs.PackageFiles.{has_script_of, has_slash, trigger_script}
-
--- ---- folders
-
--- the folder of a file: its path without the last part
-abbrev pub folder_of_path : List ℕ → List ℕ
-folder_of_path [] = []
-folder_of_path (b ∷ bytes) =
-    if b == 47 && not (has_slash bytes) then []
-    else if has_slash (b ∷ bytes) then b ∷ folder_of_path bytes else []
+use Rattle.change_outcome.specs.PackageFiles.{has_script_of, trigger_script}
 
 -- ---- patterns
-
--- the parts between slashes, of which there is one at least
-abbrev pub parts_of : List ℕ → List (List ℕ)
-parts_of [] = [] ∷ []
-parts_of (b ∷ bytes) = if b == 47 then [] ∷ parts_of bytes else with_byte b (parts_of bytes)
-  where
-    with_byte : ℕ → List (List ℕ) → List (List ℕ)
-    with_byte x [] = (x ∷ []) ∷ []
-    with_byte x (part ∷ parts) = (x ∷ part) ∷ parts
 
 abbrev pub suffixes_of : List ℕ → List (List ℕ)
 suffixes_of [] = [] ∷ []
 suffixes_of (b ∷ bytes) = (b ∷ bytes) ∷ suffixes_of bytes
 
--- the byte, and then what is left
-abbrev pub begins_with : ℕ → (List ℕ → Bool) → List ℕ → Bool
-begins_with p is_rest [] = false
-begins_with p is_rest (b ∷ bytes) = (p == b) && is_rest bytes
+-- this byte, and then what is left
+abbrev pub is_byte_then : ℕ → (List ℕ → Bool) → List ℕ → Bool
+is_byte_then p is_rest [] = false
+is_byte_then p is_rest (b ∷ bytes) = (p == b) && is_rest bytes
 
--- a `*` of the pattern stands for any bytes
+-- a `*` (42) of the pattern stands for any bytes
 abbrev pub is_part_matched : List ℕ → List ℕ → Bool
 is_part_matched [] bytes = length bytes == 0
 is_part_matched (p ∷ pattern) bytes =
     if p == 42 then list_any (is_part_matched pattern) (suffixes_of bytes)
-    else begins_with p (is_part_matched pattern) bytes
+    else is_byte_then p (is_part_matched pattern) bytes
 
+-- part by part, and of as many parts
 abbrev pub are_parts_matched : List (List ℕ) → List (List ℕ) → Bool
 are_parts_matched [] [] = true
 are_parts_matched [] (part ∷ parts) = false
@@ -54,15 +40,12 @@ are_parts_matched (p ∷ patterns) [] = false
 are_parts_matched (p ∷ patterns) (part ∷ parts) =
     is_part_matched p part && are_parts_matched patterns parts
 
-abbrev pub without_first_slash : List ℕ → List ℕ
-without_first_slash [] = []
-without_first_slash (b ∷ bytes) = if b == 47 then bytes else b ∷ bytes
-
--- only the pattern `/` matches the root folder
+-- One leading `/` of a pattern is dropped. The root folder, which has the empty name, is matched by
+-- the pattern `/` alone.
 unfoldable pub is_folder_matched : List ℕ → List ℕ → Bool
 is_folder_matched folder pattern =
     if length folder == 0 then bytes_eq pattern (codes "/")
-    else are_parts_matched (parts_of (without_first_slash pattern)) (parts_of folder)
+    else are_parts_matched (parts_of (without_slash pattern)) (parts_of folder)
 
 abbrev pub patterns_of : Plain → List (List ℕ)
 patterns_of pkg = map text_in (entries_at 3 pkg)
@@ -75,9 +58,13 @@ is_due m folder =
     has_script_of m.pkg trigger_script
     && list_any (is_folder_matched folder) (patterns_of m.pkg)
 
+-- the folders of files, in byte order, each once; folders further up do not count
+abbrev pub folders_of_paths : List (List ℕ) → List (List ℕ)
+folders_of_paths paths = names_in_order (map folder_of paths)
+
 -- of the folders of files that are written or removed
 abbrev pub due_folders : List (List ℕ) → Member → List (List ℕ)
-due_folders paths m = filter (is_due m) (names_in_order (map folder_of_path paths))
+due_folders paths m = filter (is_due m) (folders_of_paths paths)
 
 abbrev pub trigger_lines_of : List (List ℕ) → Member → List ℕ
 trigger_lines_of paths m =

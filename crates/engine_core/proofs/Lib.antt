@@ -1,2 +1,4 @@
 pub mod Choices
-pub mod StandIn
+pub mod Early
+pub mod Known
+pub mod Pools

@@ -1,8 +1,17 @@
-//! A change of what is installed: what it comes to is decided by what the root has.
+//! A change of what is installed: `add` and `del`, from their words to their end.
+//!
+//! The contract of `change` cites `ChangeRun` of `specs/` (what a run answers, and what it makes of
+//! the tree), `Changed` (what a command comes to, by what is read and by what is chosen) and `Choice`
+//! (which candidates are chosen). `laws` says that there is one choice.
 #![tactic(auto)]
 
 mod changing;
+mod choosing;
 mod laws;
+mod making;
+mod selection;
+mod simulating;
+mod wishes;
 
 pub use change_inputs::Refused;
 pub use changing::change;

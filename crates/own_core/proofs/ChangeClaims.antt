@@ -1,17 +1,15 @@
 -- What a search among the claims of a change finds.
-use Rattle.std.proofs.Common.{◌≡◌, ◌⊎◌, inl, inr, ℕ, suc, zero, ◌+◌, ◌<◌, ◌≤◌, Bool, true, false, cond, List, [], ◌∷◌, ◌++◌, length, map, Option, Some, None, refl, ap, sym, ◌∙◌, subst, arith, true≢false, Ordering, Less}
-use Rattle.std.specs.Prelude.{IfSome, slice_get, slice_index_or, option_map, option_and_then, bytes_eq, is_none, is_some, not, ◌&&◌, nat_le}
+use Rattle.std.proofs.Common.{◌≡◌, ℕ, suc, zero, ◌+◌, ◌<◌, ◌≤◌, Bool, true, false, List, [], ◌∷◌, length, map, Option, Some, None, refl, ap, sym, ◌∙◌, subst, arith, Less}
+use Rattle.std.specs.Prelude.{IfSome, slice_get, slice_index_or, option_map, option_and_then, is_some, not, ◌&&◌, nat_le}
 use Rattle.std.specs.List.{find}
 use Rattle.std.specs.List.Sorted.{IsSorted}
 use Rattle.std.specs.Ordering.{is_lt, ordering_reverse}
 use Rattle.std.proofs.lemmas.Cmp.{nat_list_cmp_total}
 use Rattle.std.proofs.lemmas.Bool.{le-leb}
 use Rattle.base_core.specs.Listed.{IsRising}
-use Rattle.adb_view.specs.Plain.{Plain}
 use Rattle.list_order.specs.ByteOrder.{bytes_cmp}
 use Rattle.list_order.proofs.Sorting.{sorted_up}
-use Rattle.db_core.specs.Members.{member_listings, staying_member}
-use Rattle.db_core.specs.Seen.{members_of, packages_of}
+use Rattle.db_core.specs.Seen.{members_of}
 use Rattle.path_claims.specs.Claims.{PathClaim, claim_cmp, is_of_path}
 use Rattle.path_claims.specs.Seen.{claim_seen}
 use Rattle.path_claims.specs.declared.claim.Claim.{Claim}
@@ -20,10 +18,10 @@ use Rattle.path_claims.proofs.Places.{map_len, seen_at}
 use Rattle.file_guard.specs.Listed.{IsOfEntry}
 use Rattle.file_guard.specs.declared.listed.ListedFile.{ListedFile}
 use Rattle.file_owners.specs.Owners.{claims_in}
-use Rattle.change_files.specs.FileChange.{FileChange, is_claimed, old_entry, old_listings}
+use Rattle.change_files.specs.FileChange.{is_claimed, old_entry, old_listings}
 use Rattle.own_core.specs.ClaimEntries.{claim_entry, members_before}
 use Rattle.own_core.specs.Fates.{IsOfEntryIfAny}
-use Rattle.own_core.specs.Sides.{HasClaims, change_of, claims_after, claims_before}
+use Rattle.own_core.specs.Sides.{HasClaims, claims_after, claims_before, file_change_of}
 use Rattle.own_core.specs.declared.change.Change.{Change}
 use Rattle.own_core.proofs.Listings.{claimed_is, old_entry_is, same_found}
 
@@ -60,27 +58,27 @@ after_sorted change h = subst (IsSorted claim_cmp) (sym h.after) (sorted_up clai
 
 -- ---- before
 
-pub old_entries : (change : Change) → HasClaims change → (path : List ℕ) → option_map (claim_entry (members_before change.db.now)) (find (is_of_path path) (claims_before change)) ≡ old_entry (change_of change) path
+pub old_entries : (change : Change) → HasClaims change → (path : List ℕ) → option_map (claim_entry (members_before change.db.now)) (find (is_of_path path) (claims_before change)) ≡ old_entry (file_change_of change) path
 unfolding old_listings
 old_entries change h path =
     ap (option_map (claim_entry (members_before change.db.now))) (h.before.each path ∙ same_found (claims_in (members_before change.db.now)) path)
-    ∙ old_entry_is (change_of change) (members_before change.db.now) refl path
+    ∙ old_entry_is (file_change_of change) (members_before change.db.now) refl path
 
 -- the entry of the claim that was found
 pub entry_found : (change : Change) → HasClaims change → (path : List ℕ) (listed : ListedFile) (xs : List Claim) (i : ℕ) (d : Claim) → xs ≡ change.before.now → i < length xs
     → option_and_then (slice_get (claims_before change)) (Some i) ≡ find (is_of_path path) (claims_before change)
-    → IsOfEntry listed (claim_entry (members_before change.db.now) (claim_seen (slice_index_or xs i d))) → IsOfEntryIfAny (Some listed) (old_entry (change_of change) path)
+    → IsOfEntry listed (claim_entry (members_before change.db.now) (claim_seen (slice_index_or xs i d))) → IsOfEntryIfAny (Some listed) (old_entry (file_change_of change) path)
 entry_found change h path listed xs i d is l f e =
     subst (IsOfEntryIfAny (Some listed))
     (ap (option_map (claim_entry (members_before change.db.now))) (sym (seen_at claim_seen xs i d l) ∙ (ap (λ ys. slice_get (map claim_seen ys) i) is ∙ f)) ∙ old_entries change h path) e
 
-pub none_found : (change : Change) → HasClaims change → (path : List ℕ) → None ≡ find (is_of_path path) (claims_before change) → IsOfEntryIfAny None (old_entry (change_of change) path)
+pub none_found : (change : Change) → HasClaims change → (path : List ℕ) → None ≡ find (is_of_path path) (claims_before change) → IsOfEntryIfAny None (old_entry (file_change_of change) path)
 none_found change h path f = subst (IsOfEntryIfAny None) (ap (option_map (claim_entry (members_before change.db.now))) f ∙ old_entries change h path) tt
 
 -- ---- after
 
-pub claimed_after : (change : Change) → HasClaims change → (path : List ℕ) → is_some (find (is_of_path path) (claims_after change)) ≡ is_claimed (change_of change) path
-claimed_after change h path = ap (λ cs. is_some (find (is_of_path path) cs)) h.after ∙ claimed_is (change_of change) path
+pub claimed_after : (change : Change) → HasClaims change → (path : List ℕ) → is_some (find (is_of_path path) (claims_after change)) ≡ is_claimed (file_change_of change) path
+claimed_after change h path = ap (λ cs. is_some (find (is_of_path path) cs)) h.after ∙ claimed_is (file_change_of change) path
 
 is_one : {X : Type 0} (xs : List X) (i : Option ℕ) (o : Option X) → ((k : ℕ) → i ≡ Some k → k < length xs) → option_and_then (slice_get xs) i ≡ o → is_some i ≡ is_some o
 is_one xs None o h e = ap is_some e
@@ -108,7 +106,7 @@ not_some i true e = ap not (sym e)
 not_some i false e = ap not (sym e)
 
 pub free_there : (change : Change) → HasClaims change → (beside : List ℕ) (b : Bool) (i : Option ℕ) → is_some i ≡ not b → IfSome i (λ k. k < length change.after.now)
-    → option_and_then (slice_get (claims_after change)) i ≡ find (is_of_path beside) (claims_after change) → b ≡ not (is_claimed (change_of change) beside)
+    → option_and_then (slice_get (claims_after change)) i ≡ find (is_of_path beside) (claims_after change) → b ≡ not (is_claimed (file_change_of change) beside)
 free_there change h beside b i e w f =
     not_some i b e ∙ ap not (found_or_not change.after.now beside i w f ∙ claimed_after change h beside)
 
@@ -117,7 +115,7 @@ short_and n a b l e = e ∙ sym (ap (λ t. t && b) (le-leb n 1024 l))
 
 -- whether a package lists the path after the change
 pub claimed_there : (change : Change) → HasClaims change → (path : List ℕ) (b : Bool) (i : Option ℕ) → is_some i ≡ b → IfSome i (λ k. k < length change.after.now)
-    → option_and_then (slice_get (claims_after change)) i ≡ find (is_of_path path) (claims_after change) → is_claimed (change_of change) path ≡ b
+    → option_and_then (slice_get (claims_after change)) i ≡ find (is_of_path path) (claims_after change) → is_claimed (file_change_of change) path ≡ b
 claimed_there change h path b i e w f = sym (found_or_not change.after.now path i w f ∙ claimed_after change h path) ∙ e
 
 pub left_by : (claimed beside : Bool) → claimed ≡ true → false ≡ (not claimed && not beside)

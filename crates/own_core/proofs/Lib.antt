@@ -4,7 +4,10 @@ pub mod Written
 pub mod Listings
 pub mod ChangeClaims
 pub mod TreeLoops
+pub mod FoundFiles
+pub mod OneFile
 pub mod NamesOnce
+pub mod OwnNames
 pub mod Meaning
 pub mod WritesMeaning
 pub mod PartsMeaning

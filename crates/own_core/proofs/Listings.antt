@@ -1,15 +1,15 @@
 -- Claims, and the listings of which they speak.
-use Rattle.std.proofs.Common.{◌≡◌, ℕ, suc, zero, ◌+◌, ◌-◌, ◌<◌, ◌≤◌, Bool, true, false, cond, List, [], ◌∷◌, ◌++◌, length, map, Option, Some, None, All, refl, ap, sym, ◌∙◌, subst, arith, true≢false}
-use Rattle.std.specs.Prelude.{◌&&◌, ◌||◌, ◌==◌, slice_get, option_map, option_and_then, bytes_eq, is_some, if◌then◌else◌, not}
+use Rattle.std.proofs.Common.{◌≡◌, ℕ, suc, zero, ◌+◌, ◌-◌, ◌<◌, ◌≤◌, Bool, true, false, cond, List, [], ◌∷◌, ◌++◌, Option, Some, None, All, refl, ap, sym, ◌∙◌, subst, arith, true≢false}
+use Rattle.std.specs.Prelude.{◌&&◌, ◌||◌, ◌==◌, slice_get, option_map, option_and_then, bytes_eq, is_some, if◌then◌else◌}
 use Rattle.std.specs.Cmp.Lexicographic.{bytes_decides}
 use Rattle.std.specs.List.{filter, find, list_any}
 use Rattle.std.specs.List.Sorted.{ties}
 use Rattle.std.specs.Ordering.{is_lt}
 use borrow.Author.Tests.{eqb-true}
 use Rattle.base_core.specs.Name.{IsName}
-use Rattle.adb_view.specs.Plain.{Plain, Plains, none, more}
+use Rattle.adb_view.specs.Plain.{Plains, none, more}
 use Rattle.adb_tables.specs.Values.{count_of, entries_in, entry_in, nth}
-use Rattle.adb_fields.specs.Repeated.{files_in, folders_in, list_of, name_of}
+use Rattle.adb_fields.specs.Repeated.{files_in, list_of, name_of}
 use Rattle.list_order.specs.Sorted.{sorted_by}
 use Rattle.list_order.proofs.Sorting.{Each, stable_in_order}
 use Rattle.db_core.specs.Members.{Listing, Member, claims_of, is_coming, listings_by, listings_from, listings_in_folder, listings_in_folders, member_listing, member_listings}
@@ -19,7 +19,7 @@ use Rattle.path_claims.proofs.Owned.{ties_path}
 use Rattle.path_claims.proofs.Places.{no_some, value_or}
 use Rattle.path_claims.proofs.Runs.{filter_ext}
 use Rattle.path_claims.proofs.Whole.{from_sorted}
-use Rattle.claim_lists.proofs.Lists.{found_ext, found_filtered, found_first, found_is, found_none, first_of}
+use Rattle.claim_lists.proofs.Lists.{found_ext, found_filtered, found_first, found_is, first_of}
 use Rattle.file_owners.specs.Owners.{claim_by, claims_from, claims_in, owner_of_path}
 use Rattle.change_files.specs.FileChange.{FileChange, coming_owner, if_it_comes, is_claimed, old_entry, old_listings, owner_listing}
 use Rattle.own_core.specs.ClaimEntries.{AreClaimsOf, HasFileAt, IsClaimOf, claim_entry, comes_at, comes_if_any, listed_file_at, folders_if_any, is_of_coming_owner}

@@ -1,17 +1,15 @@
 -- The lists of the program are the change's, over the files of the tree.
-use Rattle.std.proofs.Common.{◌≡◌, ◌⊎◌, inl, inr, ℕ, suc, zero, ◌+◌, ◌<◌, Bool, true, false, cond, List, [], ◌∷◌, ◌++◌, length, map, Option, Some, None, refl, ap, sym, ◌∙◌, subst, arith, true≢false}
-use Rattle.std.specs.Prelude.{◌&&◌, ◌||◌, ◌==◌, slice_get, option_map, option_and_then, bytes_eq, is_some, if◌then◌else◌, not}
+use Rattle.std.proofs.Common.{◌≡◌, ◌⊎◌, inl, inr, ℕ, Bool, true, false, cond, List, [], ◌∷◌, map, Option, Some, None, refl, ap, sym, ◌∙◌, subst, true≢false}
+use Rattle.std.specs.Prelude.{◌&&◌, ◌||◌, ◌==◌, option_map, option_and_then, bytes_eq, is_some, if◌then◌else◌, not}
 use Rattle.std.specs.Cmp.Lexicographic.{bytes_decides}
 use Rattle.std.specs.List.{filter, find, list_any}
 use Rattle.base_core.specs.Files.{Files}
 use Rattle.base_core.proofs.Rising as Names
-use Rattle.adb_view.specs.Plain.{Plain}
 use Rattle.list_order.specs.Sorted.{sorted_by}
-use Rattle.db_core.specs.Members.{Listing, Member, claims_of, is_coming, member_listings}
+use Rattle.db_core.specs.Members.{Listing, claims_of, is_coming, member_listings}
 use Rattle.path_claims.specs.Claims.{PathClaim, claim_cmp, is_of_path}
 use Rattle.path_claims.specs.Contest.{beats_each, winner}
 use Rattle.path_claims.proofs.Places.{no_some, value_or}
-use Rattle.claim_lists.specs.Once.{HasFirsts}
 use Rattle.claim_lists.proofs.Firsts.{found_in, in_found, paths}
 use Rattle.claim_lists.proofs.Lists.{found_passes}
 use Rattle.file_owners.specs.Owners.{claims_in, member_beats, owner_of_path}
@@ -24,8 +22,8 @@ use Rattle.change_files.specs.PlanLists.{aside_of, kept_of, old_paths, removals_
 use Rattle.own_core.specs.ClaimEntries.{claim_entry, is_of_coming_owner, old_members}
 use Rattle.own_core.specs.Fates.{claim_fate, is_fate, is_flag}
 use Rattle.own_core.specs.Going.{does_stay, is_beside, is_left}
-use Rattle.own_core.proofs.Listings.{GoTogether, IsClaimFor, IsPlaced, coming_is, coming_placed, entry_of, old_entry_is, same_found}
-use Rattle.own_core.proofs.NamesOnce.{found_kept, in_passing, keep_if, kept_rises, passing_in, same_names}
+use Rattle.own_core.proofs.Listings.{GoTogether, IsClaimFor, coming_is, coming_placed, entry_of, old_entry_is, same_found}
+use Rattle.own_core.proofs.NamesOnce.{found_kept, keep_if, kept_rises, same_names}
 
 -- ---- what a path of the program's claims is
 
@@ -99,7 +97,7 @@ in_coming_paths change q h = go (coming_owner change q) refl h
 
 -- ---- fates
 
-pub same_fate : (change : FileChange) (files : Files) (q : List ℕ) (l : Listing) (c : PathClaim) → coming_owner change q ≡ Some l → IsClaimFor l c → claim_fate change files c ≡ fate_of change files l
+pub same_fate : (change : FileChange) (files : Files) (q : List ℕ) (l : Listing) (c : PathClaim) → coming_owner change q ≡ Some l → IsClaimFor l c → claim_fate change c (files c.path) ≡ fate_of change files l
 unfolding fate_of
 same_fate change files q l c e h =
     (λ j. fate_by change (h.path j) (claim_entry change.members c) (files (h.path j)))
@@ -111,7 +109,7 @@ module _ (change : FileChange) (files : Files) (coming : List PathClaim) (up : N
   together q = subst (GoTogether (coming_owner change q)) (sym (each q)) (coming_is change q)
 
   abbrev pub with_fate : Fates.Fate → List PathClaim
-  with_fate f = filter (λ c. is_fate f (claim_fate change files c)) coming
+  with_fate f = filter (λ c. is_fate f (claim_fate change c (files c.path))) coming
 
   aside_test : (l : Listing) (f : Fates.Fate) → is_some (if_aside l f) ≡ is_fate goes_aside f
   aside_test l goes_in = refl
@@ -128,26 +126,26 @@ module _ (change : FileChange) (files : Files) (coming : List PathClaim) (up : N
   some_if false c = refl
 
   pub laid_is : (q : List ℕ) → is_some (laid_beside change files q) ≡ is_some (find (is_of_path q) (with_fate goes_aside))
-  laid_is q = go (coming_owner change q) (find (is_of_path q) coming) refl refl (together q) ∙ sym (ap is_some (found_kept (λ c. is_fate goes_aside (claim_fate change files c)) coming up q))
+  laid_is q = go (coming_owner change q) (find (is_of_path q) coming) refl refl (together q) ∙ sym (ap is_some (found_kept (λ c. is_fate goes_aside (claim_fate change c (files c.path))) coming up q))
     where
       go : (a : Option Listing) (b : Option PathClaim) → coming_owner change q ≡ a → find (is_of_path q) coming ≡ b → GoTogether a b
-          → is_some (option_and_then (λ l. if_aside l (fate_of change files l)) a) ≡ is_some (keep_if (λ c. is_fate goes_aside (claim_fate change files c)) b)
+          → is_some (option_and_then (λ l. if_aside l (fate_of change files l)) a) ≡ is_some (keep_if (λ c. is_fate goes_aside (claim_fate change c (files c.path))) b)
       go None None e f h = refl
       go None (Some c) e f h = absurd h
       go (Some l) None e f h = absurd h
       go (Some l) (Some c) e f h =
-          aside_test l (fate_of change files l) ∙ (ap (is_fate goes_aside) (sym (same_fate change files q l c e h)) ∙ sym (some_if (is_fate goes_aside (claim_fate change files c)) c))
+          aside_test l (fate_of change files l) ∙ (ap (is_fate goes_aside) (sym (same_fate change files q l c e h)) ∙ sym (some_if (is_fate goes_aside (claim_fate change c (files c.path))) c))
 
   pub in_is : (q : List ℕ) → is_some (written_in change files q) ≡ is_some (find (is_of_path q) (with_fate goes_in))
-  in_is q = go (coming_owner change q) (find (is_of_path q) coming) refl refl (together q) ∙ sym (ap is_some (found_kept (λ c. is_fate goes_in (claim_fate change files c)) coming up q))
+  in_is q = go (coming_owner change q) (find (is_of_path q) coming) refl refl (together q) ∙ sym (ap is_some (found_kept (λ c. is_fate goes_in (claim_fate change c (files c.path))) coming up q))
     where
       go : (a : Option Listing) (b : Option PathClaim) → coming_owner change q ≡ a → find (is_of_path q) coming ≡ b → GoTogether a b
-          → is_some (option_and_then (λ l. if_in l (fate_of change files l)) a) ≡ is_some (keep_if (λ c. is_fate goes_in (claim_fate change files c)) b)
+          → is_some (option_and_then (λ l. if_in l (fate_of change files l)) a) ≡ is_some (keep_if (λ c. is_fate goes_in (claim_fate change c (files c.path))) b)
       go None None e f h = refl
       go None (Some c) e f h = absurd h
       go (Some l) None e f h = absurd h
       go (Some l) (Some c) e f h =
-          in_test l (fate_of change files l) ∙ (ap (is_fate goes_in) (sym (same_fate change files q l c e h)) ∙ sym (some_if (is_fate goes_in (claim_fate change files c)) c))
+          in_test l (fate_of change files l) ∙ (ap (is_fate goes_in) (sym (same_fate change files q l c e h)) ∙ sym (some_if (is_fate goes_in (claim_fate change c (files c.path))) c))
 
   laid_comes : (q : List ℕ) → is_some (laid_beside change files q) ≡ true → is_some (coming_owner change q) ≡ true
   laid_comes q h = go (coming_owner change q) h
@@ -160,7 +158,7 @@ module _ (change : FileChange) (files : Files) (coming : List PathClaim) (up : N
   pub aside_are : paths (with_fate goes_aside) ≡ aside_of change files
   unfolding aside_of
   aside_are = same_names (λ path. is_some (laid_beside change files path)) (paths (with_fate goes_aside)) (coming_paths change.members)
-      (kept_rises (λ c. is_fate goes_aside (claim_fate change files c)) coming up)
+      (kept_rises (λ c. is_fate goes_aside (claim_fate change c (files c.path))) coming up)
       (λ q here. (let t = laid_is q ∙ is_there (with_fate goes_aside) q here in (in_coming_paths change q (laid_comes q t), t)))
       (λ q here t. there_is (with_fate goes_aside) q (sym (laid_is q) ∙ t))
 
@@ -209,26 +207,26 @@ module _ (change : FileChange) (files : Files) (before : List PathClaim) (up : N
   left_over = filter (λ c. is_left change asides c.path) before
 
   abbrev pub going : Bool → List PathClaim
-  going stays = filter (λ c. is_flag stays (does_stay change files c)) left_over
+  going stays = filter (λ c. is_flag stays (does_stay change c (files c.path))) left_over
 
   -- by the test of a path that is listed
   pub going_is : (stays : Bool) (q : List ℕ) → is_some (find (is_of_path q) (going stays))
       ≡ (is_left_over change files q && is_flag stays (may_stay change q (files q) (old_entry change q)))
   going_is stays q =
-      ap is_some (found_kept (λ c. is_flag stays (does_stay change files c)) left_over (kept_rises (λ c. is_left change asides c.path) before up) q)
-      ∙ (ap (λ o. is_some (keep_if (λ c. is_flag stays (does_stay change files c)) o)) (found_kept (λ c. is_left change asides c.path) before up q)
+      ap is_some (found_kept (λ c. is_flag stays (does_stay change c (files c.path))) left_over (kept_rises (λ c. is_left change asides c.path) before up) q)
+      ∙ (ap (λ o. is_some (keep_if (λ c. is_flag stays (does_stay change c (files c.path))) o)) (found_kept (λ c. is_left change asides c.path) before up q)
       ∙ (go (find (is_of_path q) before) refl
       ∙ (λ j. (is_some (entries_are q j) && (not (is_claimed change q) && not (is_written change files q))) && is_flag stays (may_stay change q (files q) (entries_are q j)))))
     where
-      by_tests : (a s : Bool) (c : PathClaim) → is_some (keep_if (λ c. is_flag stays (does_stay change files c)) (cond a (Some c) None)) ≡ (a && is_flag stays (does_stay change files c))
-      by_tests true s c = some_cond (is_flag stays (does_stay change files c)) c
+      by_tests : (a s : Bool) (c : PathClaim) → is_some (keep_if (λ c. is_flag stays (does_stay change c (files c.path))) (cond a (Some c) None)) ≡ (a && is_flag stays (does_stay change c (files c.path)))
+      by_tests true s c = some_cond (is_flag stays (does_stay change c (files c.path))) c
         where
           some_cond : (t : Bool) (c : PathClaim) → is_some (cond t (Some c) None) ≡ t
           some_cond true c = refl
           some_cond false c = refl
       by_tests false s c = refl
 
-      go : (o : Option PathClaim) → find (is_of_path q) before ≡ o → is_some (keep_if (λ c. is_flag stays (does_stay change files c)) (keep_if (λ c. is_left change asides c.path) o))
+      go : (o : Option PathClaim) → find (is_of_path q) before ≡ o → is_some (keep_if (λ c. is_flag stays (does_stay change c (files c.path))) (keep_if (λ c. is_left change asides c.path) o))
           ≡ ((is_some (option_map (claim_entry (old_members change)) o) && (not (is_claimed change q) && not (is_written change files q))) && is_flag stays (may_stay change q (files q) (option_map (claim_entry (old_members change)) o)))
       go None e = refl
       go (Some c) e =
@@ -258,13 +256,13 @@ module _ (change : FileChange) (files : Files) (before : List PathClaim) (up : N
   pub kept_are : paths (going true) ≡ kept_of change files
   unfolding kept_of is_kept
   kept_are = same_names (is_kept change files) (paths (going true)) (old_paths change)
-      (kept_rises (λ c. is_flag true (does_stay change files c)) left_over (kept_rises (λ c. is_left change asides c.path) before up))
+      (kept_rises (λ c. is_flag true (does_stay change c (files c.path))) left_over (kept_rises (λ c. is_left change asides c.path) before up))
       (λ q here. (let t = sym (going_is true q) ∙ is_there (going true) q here in (old_path q (front (is_left_over change files q) _ t), t)))
       (λ q here t. there_is (going true) q (going_is true q ∙ t))
 
   pub removals_are : paths (going false) ≡ removals_of change files
   unfolding removals_of is_removed
   removals_are = same_names (is_removed change files) (paths (going false)) (old_paths change)
-      (kept_rises (λ c. is_flag false (does_stay change files c)) left_over (kept_rises (λ c. is_left change asides c.path) before up))
+      (kept_rises (λ c. is_flag false (does_stay change c (files c.path))) left_over (kept_rises (λ c. is_left change asides c.path) before up))
       (λ q here. (let t = sym (going_is false q) ∙ is_there (going false) q here in (old_path q (front (is_left_over change files q) _ t), t)))
       (λ q here t. there_is (going false) q (going_is false q ∙ t))

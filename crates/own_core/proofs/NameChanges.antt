@@ -1,13 +1,12 @@
 -- The change of names that the program asks of is the change's.
-use Rattle.std.proofs.Common.{◌≡◌, ◌⊎◌, inl, inr, ℕ, suc, zero, ◌+◌, ◌<◌, Bool, true, false, cond, List, [], ◌∷◌, ◌++◌, length, map, Option, Some, None, refl, ap, sym, ◌∙◌, subst, arith, true≢false}
-use Rattle.std.specs.Prelude.{◌&&◌, ◌||◌, not, slice_get, option_map, option_and_then, is_some, bytes_eq, if◌then◌else◌}
+use Rattle.std.proofs.Common.{◌≡◌, ℕ, ◌+◌, Bool, true, false, cond, List, [], ◌∷◌, ◌++◌, map, Option, Some, None, refl, ap, sym, ◌∙◌, true≢false}
+use Rattle.std.specs.Prelude.{◌&&◌, ◌||◌, not, option_map, option_and_then, is_some, bytes_eq, if◌then◌else◌}
 use Rattle.std.specs.Cmp.Lexicographic.{bytes_decides}
 use Rattle.std.specs.List.{filter, find, list_any}
 use Rattle.std.specs.Ordering.{is_gt}
 use Rattle.std.specs.declared.cmp.Ordering.{Ordering}
 use Rattle.base_core.specs.Files.{Files}
-use Rattle.base_core.specs.Tree.{TreeState, files_of}
-use Rattle.base_core.proofs.Rising as Names
+use Rattle.base_core.specs.Tree.{TreeState}
 use Rattle.adb_view.specs.Plain.{Plain}
 use Rattle.list_order.specs.ByteOrder.{bytes_cmp}
 use Rattle.list_order.specs.Sorted.{sorted_by, with_element}
@@ -16,24 +15,23 @@ use Rattle.db_core.specs.Members.{Listing, Member, is_coming, member_listings}
 use Rattle.db_core.specs.Seen.{members_of}
 use Rattle.path_claims.specs.Claims.{PathClaim, claim_cmp, is_of_path}
 use Rattle.claim_lists.specs.Once.{HasFirsts}
-use Rattle.claim_lists.proofs.Firsts.{paths}
-use Rattle.file_owners.specs.Owners.{claim_by, claims_from, claims_in}
-use Rattle.path_clashes.specs.Clash.{NameChange}
+use Rattle.file_owners.specs.Owners.{claims_from, claims_in}
 use Rattle.change_files.specs.Fate.{aside_name}
-use Rattle.change_files.specs.FileChange.{FileChange, is_claimed, old_entry, was_listed}
+use Rattle.change_files.specs.FileChange.{old_entry, was_listed}
 use Rattle.change_files.specs.FilesAfter.{database_name, is_kept, is_left_over, laid_beside, may_stay, path_beside, world_name}
 use Rattle.change_files.specs.NamesAfter.{coming_paths, is_let_go, counts_as_written, name_change}
 use Rattle.own_core.specs.ClaimEntries.{claim_entry, comes_at, comes_if_any, is_of_coming_owner, old_members}
-use Rattle.own_core.specs.Fates.{is_flag}
-use Rattle.own_core.specs.Going.{is_beside}
-use Rattle.own_core.specs.Parts.{AreParts, asides_of, kept_of_parts}
-use Rattle.own_core.specs.Sides.{HasClaims, change_of, claims_after, claims_before}
+use Rattle.own_core.specs.Fates.{claim_fate}
+use Rattle.own_core.specs.Found.{said_of}
+use Rattle.own_core.specs.Going.{does_stay, is_beside}
+use Rattle.own_core.specs.Parts.{AreParts, asides_of, kept_of_parts, left_claims_by}
+use Rattle.own_core.specs.Sides.{HasClaims, claims_after, claims_before, file_change_of}
 use Rattle.own_core.specs.declared.change.Change.{Change}
 use Rattle.own_core.specs.declared.planning.Parts.{Parts}
 use Rattle.own_core.proofs.ChangeClaims.{claimed_after}
 use Rattle.own_core.proofs.Endings.{ending, found_front, front_of}
 use Rattle.own_core.proofs.Listings.{IsPlaced, each_placed}
-use Rattle.own_core.proofs.Meaning.{entries_are, going, going_is}
+use Rattle.own_core.proofs.Meaning.{entries_are, going_is}
 use Rattle.own_core.proofs.PartsMeaning.{before_each, before_up, beside_parts, kept_parts}
 
 -- ---- whether some element passes
@@ -145,8 +143,9 @@ all_written change besides =
     (database_name ∷ world_name ∷ []) ++ map (λ c. c.path) (filter (λ c. comes_at (members_of change.members.now) c.member) (claims_after change)) ++ besides
 
 module _ (change : Change) (claims : HasClaims change) (coming : List PathClaim) (firsts : HasFirsts (filter (is_of_coming_owner (members_of change.members.now)) (claims_after change)) coming)
-    (parts : Parts) (v : TreeState) (earlier : List TreeState) (are : AreParts change (v ∷ earlier) coming parts) where
-  written_is : (name : List ℕ) → list_any (bytes_eq name) (sorted_by bytes_cmp (all_written change (map (λ c. aside_name c.path) (asides_of parts)))) ≡ counts_as_written (change_of change) (files_of v) name
+    (parts : Parts) (history : List TreeState) (are : AreParts change history coming parts) (files : Files)
+    (fates_are : are.fates ≡ said_of (claim_fate (file_change_of change)) files coming) (stays_are : are.stays ≡ said_of (does_stay (file_change_of change)) files (left_claims_by change (asides_of parts))) where
+  written_is : (name : List ℕ) → list_any (bytes_eq name) (sorted_by bytes_cmp (all_written change (map (λ c. aside_name c.path) (asides_of parts)))) ≡ counts_as_written (file_change_of change) files name
   unfolding counts_as_written
   written_is name =
       any_sorted bytes_cmp (bytes_eq name) (all_written change (map (λ c. aside_name c.path) (asides_of parts)))
@@ -157,24 +156,24 @@ module _ (change : Change) (claims : HasClaims change) (coming : List PathClaim)
           ≡ list_any (bytes_eq name) (database_name ∷ world_name ∷ coming_paths (members_of change.members.now))
       front = ap (λ r. bytes_eq name database_name || (bytes_eq name world_name || r)) (any_coming (members_of change.members.now) (bytes_eq name) (claims_after change) claims.after)
 
-      back : list_any (bytes_eq name) (map (λ c. aside_name c.path) (asides_of parts)) ≡ is_some (option_and_then (laid_beside (change_of change) (files_of v)) (path_beside name))
-      back = any_beside name (asides_of parts) ∙ beside_parts change claims coming firsts parts v earlier are name
+      back : list_any (bytes_eq name) (map (λ c. aside_name c.path) (asides_of parts)) ≡ is_some (option_and_then (laid_beside (file_change_of change) files) (path_beside name))
+      back = any_beside name (asides_of parts) ∙ beside_parts change claims coming firsts parts history are files fates_are stays_are name
 
   goes_is : (name : List ℕ) → (is_some (find (is_of_path name) (claims_before change))
-      && not (is_some (find (is_of_path name) (claims_after change)) || is_some (find (is_of_path name) (kept_of_parts parts)))) ≡ is_let_go (change_of change) (files_of v) name
+      && not (is_some (find (is_of_path name) (claims_after change)) || is_some (find (is_of_path name) (kept_of_parts parts)))) ≡ is_let_go (file_change_of change) files name
   unfolding is_let_go is_kept
   goes_is name =
       (λ j. listed j && not (claimed_after change claims name j || kept j))
     where
-      listed : is_some (find (is_of_path name) (claims_before change)) ≡ was_listed (change_of change) name
-      listed = sym (mapped_some (claim_entry (old_members (change_of change))) (find (is_of_path name) (claims_before change)))
-          ∙ ap is_some (entries_are (change_of change) (files_of v) (claims_before change) (before_up change claims coming firsts parts v earlier are) (before_each change claims coming firsts parts v earlier are) (asides_of parts) (beside_parts change claims coming firsts parts v earlier are) name)
+      listed : is_some (find (is_of_path name) (claims_before change)) ≡ was_listed (file_change_of change) name
+      listed = sym (mapped_some (claim_entry (old_members (file_change_of change))) (find (is_of_path name) (claims_before change)))
+          ∙ ap is_some (entries_are (file_change_of change) files (claims_before change) (before_up change claims coming firsts parts history are files fates_are stays_are) (before_each change claims coming firsts parts history are files fates_are stays_are) (asides_of parts) (beside_parts change claims coming firsts parts history are files fates_are stays_are) name)
 
-      kept : is_some (find (is_of_path name) (kept_of_parts parts)) ≡ (is_left_over (change_of change) (files_of v) name && may_stay (change_of change) name (files_of v name) (old_entry (change_of change) name))
-      kept = ap (λ cs. is_some (find (is_of_path name) cs)) (kept_parts change claims coming firsts parts v earlier are)
-          ∙ going_is (change_of change) (files_of v) (claims_before change) (before_up change claims coming firsts parts v earlier are) (before_each change claims coming firsts parts v earlier are) (asides_of parts) (beside_parts change claims coming firsts parts v earlier are) true name
+      kept : is_some (find (is_of_path name) (kept_of_parts parts)) ≡ (is_left_over (file_change_of change) files name && may_stay (file_change_of change) name (files name) (old_entry (file_change_of change) name))
+      kept = ap (λ cs. is_some (find (is_of_path name) cs)) (kept_parts change claims coming firsts parts history are files fates_are stays_are)
+          ∙ going_is (file_change_of change) files (claims_before change) (before_up change claims coming firsts parts history are files fates_are stays_are) (before_each change claims coming firsts parts history are files fates_are stays_are) (asides_of parts) (beside_parts change claims coming firsts parts history are files fates_are stays_are) true name
 
   pub same_names : (counts lets : List ℕ → Bool) → ((name : List ℕ) → counts name ≡ list_any (bytes_eq name) (sorted_by bytes_cmp (all_written change (map (λ c. aside_name c.path) (asides_of parts)))))
       → ((name : List ℕ) → lets name ≡ (is_some (find (is_of_path name) (claims_before change)) && not (is_some (find (is_of_path name) (claims_after change)) || is_some (find (is_of_path name) (kept_of_parts parts)))))
-      → record { counts_as_written = counts; lets_go = lets } ≡ name_change (change_of change) (files_of v)
+      → record { counts_as_written = counts; lets_go = lets } ≡ name_change (file_change_of change) files
   same_names counts lets c l = (λ j. record { counts_as_written = λ name. (c name ∙ written_is name) j; lets_go = λ name. (l name ∙ goes_is name) j })

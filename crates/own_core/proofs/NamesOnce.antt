@@ -1,19 +1,17 @@
 -- Names in byte order, each once, and the paths of claims.
-use Rattle.std.proofs.Common.{◌≡◌, ◌⊎◌, inl, inr, ℕ, suc, zero, ◌<◌, Bool, true, false, cond, List, [], ◌∷◌, ◌++◌, length, map, Option, Some, None, refl, ap, sym, ◌∙◌, subst, arith, true≢false, Ordering, Less, Equal, Greater}
-use Rattle.std.specs.Prelude.{bytes_eq, is_some, ◌&&◌, not, if◌then◌else◌}
+use Rattle.std.proofs.Common.{◌≡◌, ◌⊎◌, inl, inr, ℕ, Bool, true, false, cond, List, [], ◌∷◌, Option, Some, None, refl, ap, sym, ◌∙◌, true≢false, Ordering, Less, Equal, Greater}
+use Rattle.std.specs.Prelude.{bytes_eq, if◌then◌else◌}
 use Rattle.std.specs.Cmp.Lexicographic.{bytes_decides}
 use Rattle.std.specs.List.{filter, find}
 use Rattle.std.specs.Ordering.{is_gt, is_lt}
 use Rattle.std.proofs.lemmas.Cmp.{nat_list_cmp_total}
-use Rattle.base_core.specs.Listed.{IsRising}
 use Rattle.base_core.proofs.Rising as Names
 use Rattle.list_order.specs.ByteOrder.{bytes_cmp, precedes}
 use Rattle.list_order.specs.Sorted.{sorted_by, with_element}
 use Rattle.list_order.proofs.Sorting as Sorting
 use Rattle.path_claims.specs.Claims.{PathClaim, is_of_path}
-use Rattle.path_claims.proofs.Places.{no_some, value_or}
 use Rattle.claim_lists.proofs.Firsts.{paths}
-use Rattle.claim_lists.proofs.PathOrder.{behind, less_apart}
+use Rattle.claim_lists.proofs.PathOrder.{behind}
 use Rattle.change_files.specs.PlanLists.{names_in_order, unless_next, without_repeats}
 
 -- ---- names of a sorted list

@@ -1,13 +1,10 @@
 -- The parts of a change and their lists, over the files of the tree, and what is known of them over any tree.
-use Rattle.std.proofs.Common.{◌≡◌, ◌⊎◌, inl, inr, ℕ, suc, zero, ◌+◌, ◌<◌, ◌≤◌, Bool, true, false, cond, List, [], ◌∷◌, ◌++◌, length, map, Option, Some, None, refl, ap, sym, ◌∙◌, subst, arith, true≢false, length-append}
-use Rattle.std.specs.Prelude.{◌&&◌, not, slice_get, option_and_then, is_some, nat_le}
+use Rattle.std.proofs.Common.{◌≡◌, inl, inr, ℕ, suc, zero, Bool, true, false, cond, List, [], ◌∷◌, ◌++◌, map, Some, refl, ap, sym, ◌∙◌, subst, true≢false}
+use Rattle.std.specs.Prelude.{slice_get, option_and_then, is_some}
 use Rattle.std.specs.List.{filter, find}
 use Rattle.std.specs.List.Sorted.{IsSorted}
-use Rattle.std.proofs.lemmas.Bool.{and_parts, leb-true}
-use Rattle.base_core.specs.Calls.{IfObservable}
 use Rattle.base_core.specs.Files.{Files}
-use Rattle.base_core.specs.Listed.{IsRising}
-use Rattle.base_core.specs.Tree.{TreeState, files_of}
+use Rattle.base_core.specs.Tree.{TreeState}
 use Rattle.base_core.proofs.Rising as Names
 use Rattle.list_order.specs.Sorted.{sorted_by}
 use Rattle.list_order.proofs.Sorting.{Each}
@@ -19,26 +16,24 @@ use Rattle.claim_lists.specs.Once.{HasFirsts}
 use Rattle.claim_lists.proofs.Firsts.{paths}
 use Rattle.file_owners.specs.Owners.{claims_in}
 use Rattle.change_files.specs.Fate as Fates
-use Rattle.change_files.specs.Fate.{aside_name, gives_way, goes_aside, goes_in}
-use Rattle.change_files.specs.FileChange.{FileChange, is_claimed}
+use Rattle.change_files.specs.Fate.{gives_way, goes_aside, goes_in}
+use Rattle.change_files.specs.FileChange.{FileChange}
 use Rattle.change_files.specs.FilesAfter.{laid_beside, path_beside}
-use Rattle.change_files.specs.NamesAfter.{name_change}
-use Rattle.change_files.specs.PlanLists.{aside_of, kept_of, removals_of, writes_of}
-use Rattle.path_clashes.specs.Clash.{HasNoClash}
-use Rattle.own_core.specs.ClaimEntries.{AreClaimsOf, IsClaimOf, is_of_coming_owner, members_before, old_members}
-use Rattle.own_core.specs.Fates.{HaveRoomBeside, claim_fate, is_fate, is_flag, is_free_beside, marked_claims}
+use Rattle.own_core.specs.ClaimEntries.{AreClaimsOf, claim_entry, is_of_coming_owner, old_members}
+use Rattle.own_core.specs.Fates.{claim_fate, is_fate, is_flag, is_free_beside, marked_claims}
+use Rattle.own_core.specs.Found.{AreByFiles, said_of}
 use Rattle.own_core.specs.Going.{does_stay, is_beside, is_left}
 use Rattle.own_core.specs.ListsSeen.{AreListsOf}
 use Rattle.own_core.specs.Parts.{AreParts, asides_of, ins_of, kept_of_parts, left_claims_by, removed_of}
-use Rattle.own_core.specs.Planned.{IsPlanOf}
-use Rattle.own_core.specs.Sides.{HasClaims, change_of, claims_after, claims_before}
-use Rattle.own_core.specs.WritesSeen.{HasNameBeside, HaveNamesBeside, aside_write, claim_write, write_cmp}
+use Rattle.own_core.specs.Planned.{ArePlanLists}
+use Rattle.own_core.specs.Sides.{HasClaims, claims_after, claims_before, file_change_of}
+use Rattle.own_core.specs.WritesSeen.{HaveNamesBeside, aside_write, claim_write, write_cmp}
 use Rattle.own_core.specs.declared.change.Change.{Change}
 use Rattle.own_core.specs.declared.planning.FilePlan.{FilePlan}
 use Rattle.own_core.specs.declared.planning.Parts.{Parts}
 use Rattle.own_core.proofs.ChangeClaims.{rising_sorted}
-use Rattle.own_core.proofs.Endings.{ending}
 use Rattle.own_core.proofs.Kept.{marked_by}
+use Rattle.own_core.proofs.OwnNames.{aside_free, is_short}
 use Rattle.own_core.proofs.Meaning.{aside_are, beside_is, going, kept_are, removals_are, with_fate}
 use Rattle.own_core.proofs.WritesMeaning.{each_finds_itself, writes_are}
 
@@ -100,7 +95,7 @@ in_filtered t (c ∷ cs) q here = go (t c) (in_filtered t cs q) here
     go true rest (inr old) = inr (rest old)
     go false rest old = inr (rest old)
 
-filtered_rises : (t : PathClaim → Bool) (cs : List PathClaim) → Names.Rises (paths cs) → Names.Rises (paths (filter t cs))
+pub filtered_rises : (t : PathClaim → Bool) (cs : List PathClaim) → Names.Rises (paths cs) → Names.Rises (paths (filter t cs))
 filtered_rises t [] r = tt
 filtered_rises t (c ∷ cs) r = go (t c) (filtered_rises t cs r.1)
   where
@@ -133,7 +128,7 @@ ins_named change history coming parts h p = names_marked (is_fate goes_in) comin
 
 left_named : (change : Change) → HasClaims change → (asides : List PathClaim) → HaveNames (left_claims_by change asides)
 left_named change h asides i c g =
-    let f = filter_from (λ d. is_left (change_of change) asides d.path) (claims_before change) i c g in (h.old_files f.0 c f.1).name
+    let f = filter_from (λ d. is_left (file_change_of change) asides d.path) (claims_before change) i c g in (h.old_files f.0 c f.1).name
 
 pub removed_named : (change : Change) (history : List TreeState) (coming : List PathClaim) (parts : Parts) → HasClaims change → AreParts change history coming parts → HaveNames (removed_of parts)
 removed_named change history coming parts h p = names_marked (is_flag false) (left_claims_by change (asides_of parts)) (removed_of parts) p.stays (left_named change h (asides_of parts)) p.removed
@@ -141,10 +136,11 @@ removed_named change history coming parts h p = names_marked (is_flag false) (le
 pub kept_named : (change : Change) (history : List TreeState) (coming : List PathClaim) (parts : Parts) → HasClaims change → AreParts change history coming parts → HaveNames (kept_of_parts parts)
 kept_named change history coming parts h p = names_marked (is_flag true) (left_claims_by change (asides_of parts)) (kept_of_parts parts) p.stays (left_named change h (asides_of parts)) p.kept
 
-room_of : (change : FileChange) (cs : List PathClaim) (fs : List Fates.Fate) → HaveRoomBeside change cs fs → (i : ℕ) (c : PathClaim) → slice_get (marked_claims (is_fate goes_aside) cs fs) i ≡ Some c → is_free_beside change c.path ≡ true
-room_of change [] fs h i c g = absurd (no_some c g)
-room_of change (d ∷ cs) [] h i c g = absurd h
-room_of change (d ∷ cs) (f ∷ fs) h i c g = go (is_fate goes_aside f) refl i (λ j k. room_of change cs fs h.1 j c k) g
+room_of : (change : FileChange) (h : List TreeState) (cs : List PathClaim) (fs : List Fates.Fate) → AreByFiles (claim_fate change) h cs fs
+    → (i : ℕ) (c : PathClaim) → slice_get (marked_claims (is_fate goes_aside) cs fs) i ≡ Some c → is_free_beside change c.path ≡ true
+room_of change h [] fs are i c g = absurd (no_some c g)
+room_of change h (d ∷ cs) [] are i c g = absurd are
+room_of change h (d ∷ cs) (f ∷ fs) are i c g = go (is_fate goes_aside f) refl i (λ j k. room_of change h cs fs are.1 j c k) g
   where
     is_it : (f : Fates.Fate) → is_fate goes_aside f ≡ true → f ≡ goes_aside
     is_it goes_in e = absurd (true≢false (sym e))
@@ -153,7 +149,7 @@ room_of change (d ∷ cs) (f ∷ fs) h i c g = go (is_fate goes_aside f) refl i 
 
     go : (b : Bool) → is_fate goes_aside f ≡ b → (i : ℕ) → ((j : ℕ) → slice_get (marked_claims (is_fate goes_aside) cs fs) j ≡ Some c → is_free_beside change c.path ≡ true)
         → slice_get (cond b (d ∷ marked_claims (is_fate goes_aside) cs fs) (marked_claims (is_fate goes_aside) cs fs)) i ≡ Some c → is_free_beside change c.path ≡ true
-    go true e zero rest k = ap (λ x. is_free_beside change x.path) (sym (ap (value_or d) k)) ∙ h.0 (is_it f e)
+    go true e zero rest k = ap (λ x. is_free_beside change x.path) (sym (ap (value_or d) k)) ∙ aside_free change d.path (claim_entry change.members d) are.0.found (sym are.0.is ∙ is_it f e)
     go true e (suc i) rest k = rest i k
     go false e i rest k = rest i k
 
@@ -161,10 +157,7 @@ pub asides_named : (change : Change) (history : List TreeState) (coming : List P
 asides_named change history coming parts h p i c g =
     let k = ap (λ ys. slice_get ys i) (sym p.asides) ∙ g in
     let f = marked_from (is_fate goes_aside) coming p.fates i c k in
-    let room = and_parts (nat_le (length (aside_name c.path)) 1024) (not (is_claimed (change_of change) (aside_name c.path))) (room_of (change_of change) coming p.fates p.room i c k) in
-    let long : length (c.path ++ ending) ≡ length c.path + 8 = length-append c.path ending in
-    let short : length (aside_name c.path) ≤ 1024 = leb-true (length (aside_name c.path)) 1024 room.0 in
-    record { name = (h f.0 c f.1).name; short = omega (arith, long, short) }
+    record { name = (h f.0 c f.1).name; short = is_short (file_change_of change) c.path (room_of (file_change_of change) history coming p.fates p.fates_found i c k) }
 
 pub kept_sorted : (change : Change) (history : List TreeState) (coming : List PathClaim) (parts : Parts) → HasClaims change → AreParts change history coming parts → IsSorted claim_cmp (kept_of_parts parts)
 kept_sorted change history coming parts h p =
@@ -172,52 +165,52 @@ kept_sorted change history coming parts h p =
     (Names.pairs_from_rises (paths (kept_of_parts parts))
     (subst (λ cs. Names.Rises (paths cs)) (sym p.kept)
     (marked_rises (is_flag true) (left_claims_by change (asides_of parts)) p.stays
-    (filtered_rises (λ c. is_left (change_of change) (asides_of parts) c.path) (claims_before change) (Names.rises_from_pairs (paths (claims_before change)) h.before.rising)))))
+    (filtered_rises (λ c. is_left (file_change_of change) (asides_of parts) c.path) (claims_before change) (Names.rises_from_pairs (paths (claims_before change)) h.before.rising)))))
 
--- ---- over the files of the tree
+-- ---- over files under whose paths the values were found
 
 module _ (change : Change) (claims : HasClaims change) (coming : List PathClaim) (firsts : HasFirsts (filter (is_of_coming_owner (members_of change.members.now)) (claims_after change)) coming)
-    (parts : Parts) (v : TreeState) (earlier : List TreeState) (are : AreParts change (v ∷ earlier) coming parts) where
+    (parts : Parts) (history : List TreeState) (are : AreParts change history coming parts) (files : Files)
+    (fates_are : are.fates ≡ said_of (claim_fate (file_change_of change)) files coming) (stays_are : are.stays ≡ said_of (does_stay (file_change_of change)) files (left_claims_by change (asides_of parts))) where
   pub up : Names.Rises (paths coming)
   up = Names.rises_from_pairs (paths coming) firsts.rising
 
   pub each : (q : List ℕ) → find (is_of_path q) coming ≡ find (is_of_path q) (filter (is_of_coming_owner (members_of change.members.now)) (sorted_by claim_cmp (claims_in (members_of change.members.now))))
   each q = firsts.each q ∙ ap (λ cs. find (is_of_path q) (filter (is_of_coming_owner (members_of change.members.now)) cs)) claims.after
 
-  by_fate : (f : Fates.Fate) (xs : List PathClaim) → xs ≡ marked_claims (is_fate f) coming are.fates → xs ≡ with_fate (change_of change) (files_of v) coming up each f
-  by_fate f xs e = e ∙ (ap (marked_claims (is_fate f) coming) are.told.0 ∙ marked_by (is_fate f) (claim_fate (change_of change) (files_of v)) coming)
+  by_fate : (f : Fates.Fate) (xs : List PathClaim) → xs ≡ marked_claims (is_fate f) coming are.fates → xs ≡ with_fate (file_change_of change) files coming up each f
+  by_fate f xs e = e ∙ (ap (marked_claims (is_fate f) coming) fates_are ∙ marked_by (is_fate f) (λ c. claim_fate (file_change_of change) c (files c.path)) coming)
 
-  pub asides_are : asides_of parts ≡ with_fate (change_of change) (files_of v) coming up each goes_aside
+  pub asides_are : asides_of parts ≡ with_fate (file_change_of change) files coming up each goes_aside
   asides_are = by_fate goes_aside (asides_of parts) are.asides
 
-  pub ins_are : ins_of parts ≡ with_fate (change_of change) (files_of v) coming up each goes_in
+  pub ins_are : ins_of parts ≡ with_fate (file_change_of change) files coming up each goes_in
   ins_are = by_fate goes_in (ins_of parts) are.ins
 
-  pub beside_parts : (q : List ℕ) → is_beside (asides_of parts) q ≡ is_some (option_and_then (laid_beside (change_of change) (files_of v)) (path_beside q))
-  beside_parts q = ap (λ cs. is_beside cs q) asides_are ∙ beside_is (change_of change) (files_of v) coming up each q
+  pub beside_parts : (q : List ℕ) → is_beside (asides_of parts) q ≡ is_some (option_and_then (laid_beside (file_change_of change) files) (path_beside q))
+  beside_parts q = ap (λ cs. is_beside cs q) asides_are ∙ beside_is (file_change_of change) files coming up each q
 
   pub before_up : Names.Rises (paths (claims_before change))
   before_up = Names.rises_from_pairs (paths (claims_before change)) claims.before.rising
 
-  pub before_each : (q : List ℕ) → find (is_of_path q) (claims_before change) ≡ find (is_of_path q) (sorted_by claim_cmp (claims_in (old_members (change_of change))))
+  pub before_each : (q : List ℕ) → find (is_of_path q) (claims_before change) ≡ find (is_of_path q) (sorted_by claim_cmp (claims_in (old_members (file_change_of change))))
   before_each q = claims.before.each q
 
   by_flag : (b : Bool) (xs : List PathClaim) → xs ≡ marked_claims (is_flag b) (left_claims_by change (asides_of parts)) are.stays
-      → xs ≡ going (change_of change) (files_of v) (claims_before change) before_up before_each (asides_of parts) beside_parts b
+      → xs ≡ going (file_change_of change) files (claims_before change) before_up before_each (asides_of parts) beside_parts b
   by_flag b xs e =
-      e ∙ (ap (marked_claims (is_flag b) (left_claims_by change (asides_of parts))) are.told.1 ∙ marked_by (is_flag b) (does_stay (change_of change) (files_of v)) (left_claims_by change (asides_of parts)))
+      e ∙ (ap (marked_claims (is_flag b) (left_claims_by change (asides_of parts))) stays_are ∙ marked_by (is_flag b) (λ c. does_stay (file_change_of change) c (files c.path)) (left_claims_by change (asides_of parts)))
 
-  pub kept_parts : kept_of_parts parts ≡ going (change_of change) (files_of v) (claims_before change) before_up before_each (asides_of parts) beside_parts true
+  pub kept_parts : kept_of_parts parts ≡ going (file_change_of change) files (claims_before change) before_up before_each (asides_of parts) beside_parts true
   kept_parts = by_flag true (kept_of_parts parts) are.kept
 
-  pub removed_parts : removed_of parts ≡ going (change_of change) (files_of v) (claims_before change) before_up before_each (asides_of parts) beside_parts false
+  pub removed_parts : removed_of parts ≡ going (file_change_of change) files (claims_before change) before_up before_each (asides_of parts) beside_parts false
   removed_parts = by_flag false (removed_of parts) are.removed
 
-  pub planned : (owned : List Bool) (plan : FilePlan) → AreListsOf parts owned plan → HasNoClash (name_change (change_of change) (files_of v)) (files_of v) → IsPlanOf (change_of change) (files_of v) plan
-  planned owned plan lists none = record {
-    removals = lists.removals ∙ (ap paths removed_parts ∙ removals_are (change_of change) (files_of v) (claims_before change) before_up before_each (asides_of parts) beside_parts);
-    writes = lists.writes ∙ ((λ j. sorted_by write_cmp (map claim_write (ins_are j) ++ map aside_write (asides_are j))) ∙ writes_are (change_of change) (files_of v) coming up each);
-    aside = lists.aside ∙ (ap paths asides_are ∙ aside_are (change_of change) (files_of v) coming up each);
-    kept = lists.kept ∙ (ap paths kept_parts ∙ kept_are (change_of change) (files_of v) (claims_before change) before_up before_each (asides_of parts) beside_parts);
-    no_clash = none;
+  pub planned : (owned : List Bool) (plan : FilePlan) → AreListsOf parts owned plan → ArePlanLists (file_change_of change) files plan
+  planned owned plan lists = record {
+    removals = lists.removals ∙ (ap paths removed_parts ∙ removals_are (file_change_of change) files (claims_before change) before_up before_each (asides_of parts) beside_parts);
+    writes = lists.writes ∙ ((λ j. sorted_by write_cmp (map claim_write (ins_are j) ++ map aside_write (asides_are j))) ∙ writes_are (file_change_of change) files coming up each);
+    aside = lists.aside ∙ (ap paths asides_are ∙ aside_are (file_change_of change) files coming up each);
+    kept = lists.kept ∙ (ap paths kept_parts ∙ kept_are (file_change_of change) files (claims_before change) before_up before_each (asides_of parts) beside_parts);
   }

@@ -1,5 +1,5 @@
 -- What the parts of a change ask for, and what they give.
-use Rattle.std.proofs.Common.{◌≡◌, ◌⊎◌, ℕ, suc, zero, ◌+◌, ◌<◌, ◌≤◌, Bool, true, false, cond, List, [], ◌∷◌, ◌++◌, length, map, All, Option, Some, None, Result, Ok, Err, refl, ap, sym, ◌∙◌, subst, arith}
+use Rattle.std.proofs.Common.{◌≡◌, ℕ, suc, zero, Bool, true, false, List, [], ◌∷◌, ◌++◌, length, map, All, Option, Some, Result, Ok, Err, refl, ap, sym, ◌∙◌, subst, arith}
 use Rattle.std.specs.Prelude.{◌&&◌, ◌||◌, not, slice_get, option_map, is_some, bytes_eq, if◌then◌else◌, IfOk}
 use Rattle.std.specs.List.{filter, find, list_any}
 use Rattle.std.specs.List.Sorted.{IsSorted}
@@ -19,7 +19,7 @@ use Rattle.path_claims.specs.Claims.{PathClaim, claim_cmp, is_of_path}
 use Rattle.path_claims.specs.Seen.{claim_seen}
 use Rattle.path_claims.specs.declared.claim.Claim.{Claim}
 use Rattle.path_claims.proofs.ClaimOrder.{paths_total}
-use Rattle.path_claims.proofs.Places.{map_len, no_some, value_or}
+use Rattle.path_claims.proofs.Places.{map_len}
 use Rattle.path_clashes.specs.Clash.{NameChange}
 use Rattle.path_clashes.specs.ClashSeen.{clash_seen}
 use Rattle.path_clashes.specs.FirstClash.{IsClashOf}
@@ -27,31 +27,34 @@ use Rattle.path_clashes.specs.declared.clash.Clash.{Clash}
 use Rattle.claim_lists.specs.Once.{HasFirsts}
 use Rattle.claim_lists.proofs.Firsts.{paths}
 use Rattle.file_owners.specs.Owners.{claims_in}
-use Rattle.change_files.specs.Fate as Fates
 use Rattle.change_files.specs.Fate.{aside_name}
-use Rattle.change_files.specs.FileChange.{FileChange}
 use Rattle.change_files.specs.FilesAfter.{database_name, world_name}
 use Rattle.change_files.specs.NamesAfter.{name_change}
-use Rattle.own_core.specs.ClaimEntries.{AreClaimsOf, IsClaimOf, comes_at, is_of_coming_owner, members_before}
-use Rattle.own_core.specs.Fates.{HaveRoomBeside, fate_seen, marked_claims}
-use Rattle.own_core.specs.Parts.{AreParts, asides_of, kept_of_parts}
-use Rattle.own_core.specs.Sides.{HasClaims, change_of, claims_after, claims_before}
+use Rattle.own_core.specs.ClaimEntries.{AreClaimsOf, comes_at, is_of_coming_owner, members_before}
+use Rattle.own_core.specs.Fates.{claim_fate, marked_claims}
+use Rattle.own_core.specs.Found.{AreByFiles}
+use Rattle.own_core.specs.Going.{does_stay}
+use Rattle.own_core.specs.Parts.{AreParts, asides_of, kept_of_parts, left_claims_by}
+use Rattle.own_core.specs.Sides.{HasClaims, claims_after, claims_before, file_change_of}
 use Rattle.own_core.specs.WritesSeen.{HaveNamesBeside}
 use Rattle.own_core.specs.declared.change.Change.{Change}
-use Rattle.own_core.specs.declared.fate.Fate.{Fate}
 use Rattle.own_core.specs.declared.planning.Parts.{Parts}
 use Rattle.own_core.proofs.ChangeClaims.{rising_sorted}
 use Rattle.own_core.proofs.Endings.{aside_is_name}
+use Rattle.own_core.proofs.FoundFiles.{by_tree}
 use Rattle.own_core.proofs.Listings.{are_claims, each_both}
 use Rattle.own_core.proofs.NameChanges.{all_written, same_names}
 use Rattle.own_core.proofs.PartsMeaning.{each_at, filter_from, found_from, marked_rises}
-use Rattle.own_core.proofs.TreeLoops.{room_len}
+use Rattle.own_core.proofs.TreeLoops.{found_len}
 use Rattle.own_core.proofs.WritesMeaning.{each_finds_itself}
 
 -- ---- parts
 
-pub fates_len : (change : FileChange) (xs : List Claim) (fs : List Fate) → HaveRoomBeside change (map claim_seen xs) (map fate_seen fs) → length fs ≡ length xs
-fates_len change xs fs h = sym (map_len fate_seen fs) ∙ (room_len change (map claim_seen xs) (map fate_seen fs) h ∙ map_len claim_seen xs)
+pub marks_len : {Y Z : Type 0} (s : Z → Y) (said : PathClaim → Option (List ℕ) → Y) (h : List TreeState) (xs : List Claim) (fs : List Z) → AreByFiles said h (map claim_seen xs) (map s fs) → length fs ≡ length xs
+marks_len s said h xs fs are = sym (map_len s fs) ∙ (found_len said h (map claim_seen xs) (map s fs) are ∙ map_len claim_seen xs)
+
+pub flags_len : (said : PathClaim → Option (List ℕ) → Bool) (h : List TreeState) (xs : List Claim) (fs : List Bool) → AreByFiles said h (map claim_seen xs) fs → length fs ≡ length xs
+flags_len said h xs fs are = found_len said h (map claim_seen xs) fs are ∙ map_len claim_seen xs
 
 pub marked_sorted : {Y : Type 0} (test : Y → Bool) (cs xs : List PathClaim) (ms : List Y) → Names.Rises (paths cs) → xs ≡ marked_claims test cs ms → IsSorted claim_cmp xs
 marked_sorted test cs xs ms r e =
@@ -59,13 +62,6 @@ marked_sorted test cs xs ms r e =
 
 pub files_kept : (members : List Member) (p : PathClaim → Bool) (cs xs : List PathClaim) → AreClaimsOf members cs → xs ≡ filter p cs → AreClaimsOf members xs
 files_kept members p cs xs h e i c g = let f = filter_from p cs i c (ap (λ ys. slice_get ys i) (sym e) ∙ g) in h f.0 c f.1
-
-pub told_both : (A B C : TreeState → Type 0) (h h1 : List TreeState) → h1 ≡ h → IfObservable h A → IfObservable h1 B → ((v : TreeState) → B v → C v) → IfObservable h (λ v. A v × C v)
-told_both A B C h h1 same a b f = go h a (subst (λ (k : List TreeState). IfObservable k B) same b)
-  where
-    go : (h : List TreeState) → IfObservable h A → IfObservable h B → IfObservable h (λ v. A v × C v)
-    go [] a b = tt
-    go (v ∷ earlier) a b = (a, f v b)
 
 -- ---- names that are written
 
@@ -118,11 +114,13 @@ pub clash_is : (change : Change) → HasClaims change → (coming : List PathCla
     → ((name : List ℕ) → lets name ≡ (is_some (find (is_of_path name) (claims_before change)) && not (is_some (find (is_of_path name) (claims_after change)) || is_some (find (is_of_path name) (kept_of_parts parts)))))
     → (r : Result (Option Clash) TreeFault)
     → IfOk r (λ found. IfObservable h (λ v. IsClashOf (record { counts_as_written = counts; lets_go = lets }) (files_of v) (option_map clash_seen found)))
-    → IfOk r (λ found. IfObservable h (λ v. IsClashOf (name_change (change_of change) (files_of v)) (files_of v) (option_map clash_seen found)))
+    → IfOk r (λ found. IfObservable h (λ v. IsClashOf (name_change (file_change_of change) (files_of v)) (files_of v) (option_map clash_seen found)))
 clash_is change claims coming firsts parts h are counts lets c l (Err fault) told = tt
 clash_is change claims coming firsts parts [] are counts lets c l (Ok found) told = tt
 clash_is change claims coming firsts parts (v ∷ earlier) are counts lets c l (Ok found) told =
-    subst (λ (n : NameChange). IsClashOf n (files_of v) (option_map clash_seen found)) (same_names change claims coming firsts parts v earlier are counts lets c l) told
+    subst (λ (n : NameChange). IsClashOf n (files_of v) (option_map clash_seen found))
+    (same_names change claims coming firsts parts (v ∷ earlier) are (files_of v) (by_tree (claim_fate (file_change_of change)) v earlier coming are.fates are.fates_found)
+    (by_tree (does_stay (file_change_of change)) v earlier (left_claims_by change (asides_of parts)) are.stays are.stays_found) counts lets c l) told
 
 -- ---- the claims of a change
 

@@ -1,6 +1,6 @@
 -- The first reserved path, and the first path that no package owns.
-use Rattle.std.proofs.Common.{◌≡◌, ◌⊎◌, inl, inr, ℕ, suc, zero, ◌+◌, ◌<◌, ◌≤◌, Bool, true, false, cond, List, [], ◌∷◌, ◌++◌, length, map, drop, take, All, Option, Some, None, refl, ap, sym, ◌∙◌, subst, arith, true≢false}
-use Rattle.std.specs.Prelude.{◌&&◌, ◌||◌, ◌==◌, not, slice_get, slice_index_or, option_map, option_and_then, is_none, is_some, bytes_eq}
+use Rattle.std.proofs.Common.{◌≡◌, inl, inr, ℕ, suc, zero, ◌+◌, ◌<◌, ◌≤◌, Bool, true, false, cond, List, [], ◌∷◌, length, map, take, All, Option, Some, None, refl, ap, sym, ◌∙◌, subst, arith, true≢false}
+use Rattle.std.specs.Prelude.{◌&&◌, ◌||◌, ◌==◌, not, slice_get, slice_index_or, option_map, option_and_then, is_none, bytes_eq}
 use Rattle.std.specs.Cmp.{IsTotalOrder}
 use Rattle.std.specs.List.{filter, find}
 use Rattle.std.specs.List.Sorted.{ties}
@@ -21,9 +21,8 @@ use Rattle.path_claims.specs.declared.claim.Claim.{Claim}
 use Rattle.path_claims.specs.declared.contest.Rivals.{Rivals}
 use Rattle.path_claims.proofs.ClaimOrder.{claims_total, paths_total}
 use Rattle.path_claims.proofs.Places.{map_len, no_some, seen_at, value_or}
-use Rattle.claim_lists.proofs.Lists.{drop_at, filter_swap, first_of, found_both, found_first, found_is, or_found, take_at, take_whole}
+use Rattle.claim_lists.proofs.Lists.{filter_swap, first_of, found_both, found_first, found_is, or_found, take_at, take_whole}
 use Rattle.file_owners.specs.Owners.{claim_by, claims_from, claims_in, contested_of, member_beats}
-use Rattle.change_files.specs.NamesAfter.{coming_paths}
 use Rattle.change_files.specs.PlanLists.{first_reserved}
 use Rattle.own_core.specs.ClaimEntries.{comes_at, comes_if_any, is_reserved_coming}
 use Rattle.own_core.proofs.Listings.{IsPlaced, each_all, each_placed}

@@ -1,15 +1,18 @@
 -- The plan as a whole.
-use Rattle.std.proofs.Common.{◌≡◌, ℕ, Bool, List, [], ◌∷◌, map, Option, Some, None, Result, Ok, Err, refl, ap, sym, ◌∙◌, subst}
-use Rattle.std.specs.Prelude.{option_map}
+use Rattle.std.proofs.Common.{◌≡◌, inl, inr, ℕ, Bool, true, false, cond, List, [], ◌∷◌, map, Option, None, Ok, refl, ap, sym, ◌∙◌, subst, true≢false}
+use Rattle.std.specs.Prelude.{not, is_some, option_map}
 use Rattle.std.specs.List.{filter}
+use Rattle.std.proofs.lemmas.Bool.{and_parts}
 use Rattle.base_core.specs.Calls.{IfObservable}
 use Rattle.base_core.specs.Faults.{Counts}
 use Rattle.base_core.specs.Read.{OnlyReads}
 use Rattle.base_core.specs.Tree.{TreeState, files_of}
+use Rattle.base_core.specs.Files.{Files}
+use Rattle.base_core.proofs.Rising as Names
 use Rattle.base_core.proofs.Counting.{readings_two}
 use Rattle.db_core.specs.Members.{Member}
 use Rattle.db_core.specs.Seen.{members_of}
-use Rattle.path_claims.specs.Claims.{PathClaim}
+use Rattle.path_claims.specs.Claims.{PathClaim, is_of_path}
 use Rattle.path_claims.specs.Seen.{claim_seen}
 use Rattle.path_claims.specs.declared.claim.Claim.{Claim}
 use Rattle.path_clashes.specs.Clash.{HasNoClash}
@@ -17,17 +20,23 @@ use Rattle.path_clashes.specs.ClashSeen.{clash_seen}
 use Rattle.path_clashes.specs.FirstClash.{IsClashOf}
 use Rattle.path_clashes.specs.declared.clash.Clash.{Clash}
 use Rattle.claim_lists.specs.Once.{HasFirsts}
-use Rattle.change_files.specs.FileChange.{FileChange}
+use Rattle.claim_lists.proofs.Firsts.{found_in, paths}
+use Rattle.claim_lists.proofs.Lists.{found_passes, found_some}
+use Rattle.change_files.specs.FileChange.{is_claimed}
 use Rattle.change_files.specs.NamesAfter.{name_change}
 use Rattle.own_core.specs.ClaimEntries.{AreClaimsOf, is_of_coming_owner}
+use Rattle.own_core.specs.Fates.{claim_fate}
+use Rattle.own_core.specs.Going.{does_stay, is_beside, is_left}
 use Rattle.own_core.specs.ListsSeen.{AreListsOf}
-use Rattle.own_core.specs.Parts.{AreParts}
+use Rattle.own_core.specs.Parts.{AreParts, asides_of, left_claims_by}
 use Rattle.own_core.specs.Planned.{IsPlanOf}
-use Rattle.own_core.specs.Sides.{HasClaims, change_of, claims_after}
+use Rattle.own_core.specs.Sides.{HasClaims, claims_after, claims_before, file_change_of}
 use Rattle.own_core.specs.declared.change.Change.{Change}
 use Rattle.own_core.specs.declared.planning.FilePlan.{FilePlan}
 use Rattle.own_core.specs.declared.planning.Parts.{Parts}
-use Rattle.own_core.proofs.PartsMeaning.{planned}
+use Rattle.own_core.proofs.ChangeClaims.{claimed_after}
+use Rattle.own_core.proofs.FoundFiles.{AreFilesFound, files_found}
+use Rattle.own_core.proofs.PartsMeaning.{filter_from, filtered_rises, found_from, planned}
 use Rattle.own_core.proofs.PlanParts.{files_first, files_kept}
 
 -- the claims of owners that come, over other copies of the lists
@@ -41,17 +50,61 @@ pub coming_files_of : (members : List Member) (all : List PathClaim) (coming : L
 coming_files_of members all coming h firsts =
     files_first members (filter (is_of_coming_owner members) all) coming (files_kept members (is_of_coming_owner members) all (filter (is_of_coming_owner members) all) h refl) firsts
 
-pub no_clash_told : (change : FileChange) (h h1 : List TreeState) → h1 ≡ h → (found : Option Clash) → found ≡ None
-    → IfObservable h1 (λ v. IsClashOf (name_change change (files_of v)) (files_of v) (option_map clash_seen found)) → IfObservable h (λ v. HasNoClash (name_change change (files_of v)) (files_of v))
-no_clash_told change h h1 same found none told =
-    subst (λ (k : List TreeState). IfObservable k (λ v. HasNoClash (name_change change (files_of v)) (files_of v))) same
-    (subst (λ (o : Option Clash). IfObservable h1 (λ v. IsClashOf (name_change change (files_of v)) (files_of v) (option_map clash_seen o))) none told)
+left_passes : (p : PathClaim → Bool) (cs : List PathClaim) (q : List ℕ) → Names.IsIn q (paths (filter p cs)) → (c : PathClaim) × (c.path ≡ q) × (p c ≡ true)
+left_passes p [] q here = absurd here
+left_passes p (c ∷ cs) q here = go (p c) refl (left_passes p cs q) here
+  where
+    go : (b : Bool) → p c ≡ b → (Names.IsIn q (paths (filter p cs)) → (d : PathClaim) × (d.path ≡ q) × (p d ≡ true)) → Names.IsIn q (paths (cond b (c ∷ filter p cs) (filter p cs))) → (d : PathClaim) × (d.path ≡ q) × (p d ≡ true)
+    go true e rest (inl is) = (c, sym is, e)
+    go true e rest (inr old) = rest old
+    go false e rest old = rest old
 
-pub plan_is : (change : Change) → HasClaims change → (coming : List PathClaim) → HasFirsts (filter (is_of_coming_owner (members_of change.members.now)) (claims_after change)) coming
-    → (parts : Parts) (h : List TreeState) → AreParts change h coming parts → (flags : List Bool) (plan : FilePlan) → AreListsOf parts flags plan
-    → IfObservable h (λ v. HasNoClash (name_change (change_of change) (files_of v)) (files_of v)) → IfObservable h (λ v. IsPlanOf (change_of change) (files_of v) plan)
-plan_is change claims coming firsts parts [] are flags plan lists none = tt
-plan_is change claims coming firsts parts (v ∷ earlier) are flags plan lists none = planned change claims coming firsts parts v earlier are flags plan lists none
+not_both : (b : Bool) → b ≡ true → not b ≡ true → ⊥
+not_both b is off = true≢false (sym off ∙ ap not is)
+
+-- a path of a file that comes is listed after the change, and one that is left over is not
+listed_after : (change : Change) → HasClaims change → (coming : List PathClaim) → HasFirsts (filter (is_of_coming_owner (members_of change.members.now)) (claims_after change)) coming
+    → (q : List ℕ) → Names.IsIn q (paths coming) → is_claimed (file_change_of change) q ≡ true
+listed_after change claims coming firsts q here =
+    let one = found_in coming q here in
+    let all = sym (firsts.each q) ∙ one.1 in
+    let kept = found_from (is_of_path q) (filter (is_of_coming_owner (members_of change.members.now)) (claims_after change)) one.0 all in
+    let at = filter_from (is_of_coming_owner (members_of change.members.now)) (claims_after change) kept.0 one.0 kept.1 in
+    let some = found_some (is_of_path q) (claims_after change) at.0 one.0 at.1 (found_passes (is_of_path q) coming one.0 one.1) in
+    sym (claimed_after change claims q) ∙ ap is_some some.1
+
+left_unlisted : (change : Change) (asides : List PathClaim) (q : List ℕ) → Names.IsIn q (paths (left_claims_by change asides)) → not (is_claimed (file_change_of change) q) ≡ true
+left_unlisted change asides q here =
+    let (c, is, left) = left_passes (λ c. is_left (file_change_of change) asides c.path) (claims_before change) q here in
+    ap (λ path. not (is_claimed (file_change_of change) path)) (sym is) ∙ (and_parts (not (is_claimed (file_change_of change) c.path)) (not (is_beside asides c.path)) left).0
+
+-- ---- the plan
+
+module _ (change : Change) (claims : HasClaims change) (coming : List PathClaim) (firsts : HasFirsts (filter (is_of_coming_owner (members_of change.members.now)) (claims_after change)) coming)
+    (parts : Parts) (h : List TreeState) (are : AreParts change h coming parts) where
+  over_files : AreFilesFound (claim_fate (file_change_of change)) (does_stay (file_change_of change)) h coming (left_claims_by change (asides_of parts)) are.fates are.stays
+  over_files = files_found (claim_fate (file_change_of change)) (does_stay (file_change_of change)) h coming (left_claims_by change (asides_of parts)) are.fates are.stays
+      (Names.rises_from_pairs (paths coming) firsts.rising)
+      (filtered_rises (λ c. is_left (file_change_of change) (asides_of parts) c.path) (claims_before change) (Names.rises_from_pairs (paths (claims_before change)) claims.before.rising))
+      (λ q here there. not_both (is_claimed (file_change_of change) q) (listed_after change claims coming firsts q here) (left_unlisted change (asides_of parts) q there))
+      are.fates_found are.stays_found
+
+  no_clash_over : (h : List TreeState) (files : Files) → IfObservable h (λ v. files ≡ files_of v) → (found : Option Clash) → found ≡ None
+      → IfObservable h (λ v. IsClashOf (name_change (file_change_of change) (files_of v)) (files_of v) (option_map clash_seen found)) → IfObservable h (λ v. HasNoClash (name_change (file_change_of change) files) files)
+  no_clash_over [] files is found none told = tt
+  no_clash_over (v ∷ earlier) files is found none told =
+      subst (λ (g : Files). HasNoClash (name_change (file_change_of change) g) g) (sym is)
+      (subst (λ (o : Option Clash). IsClashOf (name_change (file_change_of change) (files_of v)) (files_of v) (option_map clash_seen o)) none told)
+
+  pub plan_is : (flags : List Bool) (plan : FilePlan) → AreListsOf parts flags plan → (h1 : List TreeState) → h1 ≡ h → (found : Option Clash) → found ≡ None
+      → IfObservable h1 (λ v. IsClashOf (name_change (file_change_of change) (files_of v)) (files_of v) (option_map clash_seen found)) → IsPlanOf (file_change_of change) h plan
+  plan_is flags plan lists h1 same found none told = record {
+    files = over_files.files;
+    told = over_files.told;
+    lists = planned change claims coming firsts parts h are over_files.files over_files.one over_files.other flags plan lists;
+    no_clash = no_clash_over h over_files.files over_files.told found none
+        (subst (λ (k : List TreeState). IfObservable k (λ v. IsClashOf (name_change (file_change_of change) (files_of v)) (files_of v) (option_map clash_seen found))) same told);
+  }
 
 pub both_read : {A B C D E : Type 0} (disk : D) (fault : E) (h0 h1 h2 : List TreeState) (a b c : Counts) (x : A) (y : B) (z : C)
     → OnlyReads disk h0 h1 a b (Ok x) → OnlyReads disk h1 h2 b c (Ok y) → OnlyReads fault h0 h2 a c (Ok z)

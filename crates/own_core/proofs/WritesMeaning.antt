@@ -1,5 +1,5 @@
 -- The writes of the program are the change's.
-use Rattle.std.proofs.Common.{◌≡◌, ◌⊎◌, inl, inr, ℕ, suc, zero, ◌+◌, ◌<◌, Bool, true, false, cond, List, [], ◌∷◌, ◌++◌, length, map, Option, Some, None, refl, ap, sym, ◌∙◌, subst, arith, true≢false, Ordering, Less}
+use Rattle.std.proofs.Common.{◌≡◌, ◌⊎◌, inl, inr, ℕ, Bool, true, false, cond, List, [], ◌∷◌, ◌++◌, length, map, Option, Some, None, refl, ap, sym, ◌∙◌, subst, true≢false, Less}
 use Rattle.std.specs.Prelude.{◌&&◌, ◌||◌, option_map, option_and_then, bytes_eq, is_some, if◌then◌else◌, not, nat_le}
 use Rattle.std.specs.Cmp.{IsTotalOrder}
 use Rattle.std.specs.Cmp.Lexicographic.{bytes_decides}
@@ -8,13 +8,12 @@ use Rattle.std.specs.Ordering.{is_gt, is_lt}
 use Rattle.std.proofs.lemmas.Cmp.{nat_list_cmp_total, on_total}
 use Rattle.base_core.specs.Files.{Files}
 use Rattle.base_core.proofs.Rising as Names
-use Rattle.list_order.specs.ByteOrder.{bytes_cmp, precedes}
+use Rattle.list_order.specs.ByteOrder.{bytes_cmp}
 use Rattle.list_order.specs.Sorted.{sorted_by, with_element}
 use Rattle.list_order.proofs.Sorting as Sorting
 use Rattle.list_order.proofs.Sorting.{Each, sort_seen, sorted_up, stable}
 use Rattle.db_core.specs.Members.{Listing}
 use Rattle.path_claims.specs.Claims.{PathClaim, claim_cmp, is_of_path}
-use Rattle.path_claims.proofs.Places.{no_some, value_or}
 use Rattle.claim_lists.proofs.Firsts.{found_in, paths}
 use Rattle.claim_lists.proofs.Lists.{found_is}
 use Rattle.claim_lists.proofs.PathOrder.{behind, less_apart}
@@ -25,11 +24,11 @@ use Rattle.file_guard.specs.AsListed.{is_as_listed}
 use Rattle.change_files.specs.FileChange.{FileChange, coming_owner, is_claimed, old_entry}
 use Rattle.change_files.specs.FilesAfter.{if_aside, if_in, laid_beside, or_beside, path_beside, written_as, written_in}
 use Rattle.change_files.specs.NamesAfter.{coming_paths}
-use Rattle.change_files.specs.PlanLists.{FileWrite, names_in_order, write_to, writes_of}
+use Rattle.change_files.specs.PlanLists.{FileWrite, file_writes_of, names_in_order, write_to}
 use Rattle.own_core.specs.ClaimEntries.{claim_entry, is_of_coming_owner}
 use Rattle.own_core.specs.Fates.{claim_fate, is_fate}
 use Rattle.own_core.specs.WritesSeen.{aside_write, claim_write, write_by, write_cmp}
-use Rattle.own_core.proofs.Endings.{ending, found_front, front_of}
+use Rattle.own_core.proofs.Endings.{found_front, front_of}
 use Rattle.own_core.proofs.Listings.{GoTogether, IsClaimFor}
 use Rattle.own_core.proofs.Meaning.{in_coming_paths, in_is, is_there, laid_is, no_owner, same_fate, there_is, together, with_fate}
 use Rattle.own_core.proofs.NamesOnce.{in_sorted_names, kept_rises, not_below, same_names, sorted_names_in, is_less}
@@ -235,7 +234,7 @@ is_aside gives_way h = absurd (true≢false (sym h))
 is_aside goes_aside h = refl
 
 -- a file goes aside only where nobody lists the name beside
-pub free_beside : (change : FileChange) (files : Files) (c : PathClaim) → is_fate goes_aside (claim_fate change files c) ≡ true → is_claimed change (aside_name c.path) ≡ false
+pub free_beside : (change : FileChange) (files : Files) (c : PathClaim) → is_fate goes_aside (claim_fate change c (files c.path)) ≡ true → is_claimed change (aside_name c.path) ≡ false
 free_beside change files c h = by_file (files c.path) h
   where
     third : (a b d : Bool) → is_fate goes_aside (if a && (b && not d) then goes_aside else gives_way) ≡ true → d ≡ false
@@ -271,7 +270,7 @@ module _ (change : FileChange) (files : Files) (coming : List PathClaim) (up : N
   owner_claim : (c : PathClaim) → find (is_of_path c.path) coming ≡ Some c → GoTogether (coming_owner change c.path) (Some c)
   owner_claim c f = subst (GoTogether (coming_owner change c.path)) f (together change files coming up each c.path)
 
-  in_as_written : (c : PathClaim) → (find (is_of_path c.path) coming ≡ Some c) × (is_fate goes_in (claim_fate change files c) ≡ true) → as_written c.path ≡ Some (claim_write c)
+  in_as_written : (c : PathClaim) → (find (is_of_path c.path) coming ≡ Some c) × (is_fate goes_in (claim_fate change c (files c.path)) ≡ true) → as_written c.path ≡ Some (claim_write c)
   unfolding written_as
   in_as_written c h = go (coming_owner change c.path) refl (owner_claim c h.0)
     where
@@ -279,10 +278,10 @@ module _ (change : FileChange) (files : Files) (coming : List PathClaim) (up : N
           → option_map (write_to c.path) (or_beside (option_and_then (λ l. if_in l (fate_of change files l)) a) (option_and_then (laid_beside change files) (path_beside c.path))) ≡ Some (claim_write c)
       go None e k = absurd k
       go (Some l) e k =
-          ap (λ f. option_map (write_to c.path) (or_beside (if_in l f) (option_and_then (laid_beside change files) (path_beside c.path)))) (sym (same_fate change files c.path l c e k) ∙ is_in (claim_fate change files c) h.1)
+          ap (λ f. option_map (write_to c.path) (or_beside (if_in l f) (option_and_then (laid_beside change files) (path_beside c.path)))) (sym (same_fate change files c.path l c e k) ∙ is_in (claim_fate change c (files c.path)) h.1)
           ∙ ap Some (same_write c.path l c k)
 
-  aside_as_written : (c : PathClaim) → (find (is_of_path c.path) coming ≡ Some c) × (is_fate goes_aside (claim_fate change files c) ≡ true) → as_written (aside_name c.path) ≡ Some (aside_write c)
+  aside_as_written : (c : PathClaim) → (find (is_of_path c.path) coming ≡ Some c) × (is_fate goes_aside (claim_fate change c (files c.path)) ≡ true) → as_written (aside_name c.path) ≡ Some (aside_write c)
   unfolding written_as
   aside_as_written c h =
       (λ j. option_map (write_to (aside_name c.path)) (or_beside (option_and_then (λ l. if_in l (fate_of change files l)) (no_owner change (aside_name c.path) (free_beside change files c h.1) j)) (option_and_then (laid_beside change files) (front_of c.path j))))
@@ -292,7 +291,7 @@ module _ (change : FileChange) (files : Files) (coming : List PathClaim) (up : N
           → option_map (write_to (aside_name c.path)) (option_and_then (λ l. if_aside l (fate_of change files l)) a) ≡ Some (aside_write c)
       go None e k = absurd k
       go (Some l) e k =
-          ap (λ f. option_map (write_to (aside_name c.path)) (if_aside l f)) (sym (same_fate change files c.path l c e k) ∙ is_aside (claim_fate change files c) h.1)
+          ap (λ f. option_map (write_to (aside_name c.path)) (if_aside l f)) (sym (same_fate change files c.path l c e k) ∙ is_aside (claim_fate change c (files c.path)) h.1)
           ∙ ap Some (same_write (aside_name c.path) l c k)
 
   abbrev pub all_writes : List FileWrite
@@ -300,10 +299,10 @@ module _ (change : FileChange) (files : Files) (coming : List PathClaim) (up : N
 
   all_as_written : Each (λ w. as_written w.name ≡ Some w) all_writes
   all_as_written = each_joined (λ w. as_written w.name ≡ Some w) (map claim_write ins) (map aside_write asides)
-      (each_written (λ c. (find (is_of_path c.path) coming ≡ Some c) × (is_fate goes_in (claim_fate change files c) ≡ true)) (λ w. as_written w.name ≡ Some w) claim_write in_as_written ins
-      (each_passing (λ c. find (is_of_path c.path) coming ≡ Some c) (λ c. is_fate goes_in (claim_fate change files c)) coming (each_finds_itself coming up)))
-      (each_written (λ c. (find (is_of_path c.path) coming ≡ Some c) × (is_fate goes_aside (claim_fate change files c) ≡ true)) (λ w. as_written w.name ≡ Some w) aside_write aside_as_written asides
-      (each_passing (λ c. find (is_of_path c.path) coming ≡ Some c) (λ c. is_fate goes_aside (claim_fate change files c)) coming (each_finds_itself coming up)))
+      (each_written (λ c. (find (is_of_path c.path) coming ≡ Some c) × (is_fate goes_in (claim_fate change c (files c.path)) ≡ true)) (λ w. as_written w.name ≡ Some w) claim_write in_as_written ins
+      (each_passing (λ c. find (is_of_path c.path) coming ≡ Some c) (λ c. is_fate goes_in (claim_fate change c (files c.path))) coming (each_finds_itself coming up)))
+      (each_written (λ c. (find (is_of_path c.path) coming ≡ Some c) × (is_fate goes_aside (claim_fate change c (files c.path)) ≡ true)) (λ w. as_written w.name ≡ Some w) aside_write aside_as_written asides
+      (each_passing (λ c. find (is_of_path c.path) coming ≡ Some c) (λ c. is_fate goes_aside (claim_fate change c (files c.path))) coming (each_finds_itself coming up)))
 
   claimed_in : (q : List ℕ) → Names.IsIn q (paths ins) → is_claimed change q ≡ true
   claimed_in q here = go (is_claimed change q) refl
@@ -322,8 +321,8 @@ module _ (change : FileChange) (files : Files) (coming : List PathClaim) (up : N
   free_in : (q : List ℕ) → Names.IsIn q (paths asides) → is_claimed change (aside_name q) ≡ false
   free_in q here =
       let f = found_in asides q here in
-      let t = found_is (is_of_path q) (λ c. (find (is_of_path c.path) coming ≡ Some c) × (is_fate goes_aside (claim_fate change files c) ≡ true)) asides f.0
-      (each_passing (λ c. find (is_of_path c.path) coming ≡ Some c) (λ c. is_fate goes_aside (claim_fate change files c)) coming (each_finds_itself coming up)) f.1 in
+      let t = found_is (is_of_path q) (λ c. (find (is_of_path c.path) coming ≡ Some c) × (is_fate goes_aside (claim_fate change c (files c.path)) ≡ true)) asides f.0
+      (each_passing (λ c. find (is_of_path c.path) coming ≡ Some c) (λ c. is_fate goes_aside (claim_fate change c (files c.path))) coming (each_finds_itself coming up)) f.1 in
       ap (λ p. is_claimed change (aside_name p)) (sym ((bytes_decides f.0.path q).0 t.1)) ∙ free_beside change files f.0 t.0.1
 
   in_write_names : (q : List ℕ) → Names.IsIn q (paths ins) ⊎ Names.IsIn q (map aside_name (paths asides)) → Names.IsIn q (write_names (sorted_by write_cmp all_writes))
@@ -398,10 +397,10 @@ module _ (change : FileChange) (files : Files) (coming : List PathClaim) (up : N
       by_in true e = inl (there_is ins q (sym (in_is change files coming up each q) ∙ e))
       by_in false e = inr (by_front (path_beside q) refl (skip (written_in change files q) (option_and_then (laid_beside change files) (path_beside q)) e w))
 
-  pub writes_are : sorted_by write_cmp all_writes ≡ writes_of change files
-  unfolding writes_of
+  pub writes_are : sorted_by write_cmp all_writes ≡ file_writes_of change files
+  unfolding file_writes_of
   writes_are =
-      let rises = writes_rise change ins asides (kept_rises (λ c. is_fate goes_in (claim_fate change files c)) coming up) (kept_rises (λ c. is_fate goes_aside (claim_fate change files c)) coming up) claimed_in free_in in
+      let rises = writes_rise change ins asides (kept_rises (λ c. is_fate goes_in (claim_fate change c (files c.path))) coming up) (kept_rises (λ c. is_fate goes_aside (claim_fate change c (files c.path))) coming up) claimed_in free_in in
       sym (by_names as_written (sorted_by write_cmp all_writes) (each_sorted (λ w. as_written w.name ≡ Some w) all_writes all_as_written))
       ∙ (ap (filter_map as_written) (same_names (λ q. is_some (as_written q)) (write_names (sorted_by write_cmp all_writes)) places rises there back)
       ∙ those_only as_written (names_in_order places))

@@ -1,13 +1,11 @@
 -- What becomes of files that come, claim by claim.
-use Rattle.std.specs.Prelude.{◌≡◌, ℕ, Bool, true, false, not, ◌&&◌, nat_le, List, [], ◌∷◌, map, length, Option, Some, None, cond, is_some}
-use Rattle.std.specs.List.{find}
-use Rattle.base_core.specs.Files.{Files}
+use Rattle.std.specs.Prelude.{ℕ, Bool, true, false, not, ◌&&◌, nat_le, List, [], ◌∷◌, length, Option, Some, None, cond}
 use Rattle.adb_view.specs.Plain.{Plain}
-use Rattle.path_claims.specs.Claims.{PathClaim, is_of_path}
+use Rattle.path_claims.specs.Claims.{PathClaim}
 use Rattle.file_guard.specs.Listed.{IsOfEntry}
 use Rattle.file_guard.specs.declared.listed.ListedFile.{ListedFile}
 use Rattle.change_files.specs.Fate as Fates
-use Rattle.change_files.specs.Fate.{aside_name, fate_by, goes_aside, goes_in, gives_way}
+use Rattle.change_files.specs.Fate.{aside_name, fate_by, gives_way, goes_aside, goes_in}
 use Rattle.change_files.specs.FileChange.{FileChange, is_claimed}
 use Rattle.own_core.specs.ClaimEntries.{claim_entry}
 use Rattle.own_core.specs.declared.fate.Fate.{Fate}
@@ -18,24 +16,14 @@ fate_seen GoesIn = goes_in
 fate_seen GivesWay = gives_way
 fate_seen GoesAside = goes_aside
 
--- of the file that a claim of a coming owner speaks of
-abbrev pub claim_fate : FileChange → Files → PathClaim → Fates.Fate
-claim_fate change files c = fate_by change c.path (claim_entry change.members c) (files c.path)
+-- of the file that a claim of a coming owner speaks of, by what stands under its path
+abbrev pub claim_fate : FileChange → PathClaim → Option (List ℕ) → Fates.Fate
+claim_fate change c found = fate_by change c.path (claim_entry change.members c) found
 
 -- no package lists the name beside a path, and it is short enough
 abbrev pub is_free_beside : FileChange → List ℕ → Bool
 is_free_beside change path =
     nat_le (length (aside_name path)) 1024 && not (is_claimed change (aside_name path))
-
--- a file that goes aside has a name there
-abbrev pub HasRoomBeside : FileChange → List ℕ → Fates.Fate → Type 0
-HasRoomBeside change path fate = fate ≡ goes_aside → is_free_beside change path ≡ true
-
-abbrev pub HaveRoomBeside : FileChange → List PathClaim → List Fates.Fate → Type 0
-HaveRoomBeside change [] [] = Unit {0}
-HaveRoomBeside change [] (f ∷ fates) = ⊥
-HaveRoomBeside change (c ∷ cs) [] = ⊥
-HaveRoomBeside change (c ∷ cs) (f ∷ fates) = HasRoomBeside change c.path f × HaveRoomBeside change cs fates
 
 -- what is read of an entry, where there is one
 abbrev pub IsOfEntryIfAny : Option ListedFile → Option Plain → Type 0

@@ -1,7 +1,6 @@
 -- What becomes of the files that were listed before, claim by claim.
-use Rattle.std.specs.Prelude.{ℕ, Bool, not, ◌&&◌, List, option_and_then, is_some}
+use Rattle.std.specs.Prelude.{ℕ, Bool, not, ◌&&◌, List, Option, option_and_then, is_some}
 use Rattle.std.specs.List.{find}
-use Rattle.base_core.specs.Files.{Files}
 use Rattle.path_claims.specs.Claims.{PathClaim, is_of_path}
 use Rattle.change_files.specs.Fate.{is_guarded}
 use Rattle.change_files.specs.FileChange.{FileChange, is_claimed}
@@ -17,8 +16,9 @@ is_beside asides name =
 abbrev pub is_left : FileChange → List PathClaim → List ℕ → Bool
 is_left change asides path = not (is_claimed change path) && not (is_beside asides path)
 
--- a file of configuration that the user changed stays, unless all goes with the package
-abbrev pub does_stay : FileChange → Files → PathClaim → Bool
-does_stay change files c =
+-- a file of configuration that the user changed stays, unless all goes with the package; by what
+-- stands under the path of its claim
+abbrev pub does_stay : FileChange → PathClaim → Option (List ℕ) → Bool
+does_stay change c found =
     is_guarded c.path
-    && (not change.purge && is_changed (claim_entry (old_members change) c) (files c.path))
+    && (not change.purge && is_changed (claim_entry (old_members change) c) found)

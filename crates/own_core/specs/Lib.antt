@@ -5,6 +5,7 @@ pub mod Planned
 pub mod ClaimEntries
 pub mod Sides
 pub mod Fates
+pub mod Found
 pub mod Going
 pub mod Parts
 pub mod ListsSeen

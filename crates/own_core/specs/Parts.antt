@@ -1,15 +1,15 @@
 -- The files that come and those that go, as the program holds them.
 use Rattle.std.specs.Prelude.{◌≡◌, Bool, true, false, List, map}
 use Rattle.std.specs.List.{filter}
-use Rattle.base_core.specs.Calls.{IfObservable}
-use Rattle.base_core.specs.Tree.{TreeState, files_of}
+use Rattle.base_core.specs.Tree.{TreeState}
 use Rattle.path_claims.specs.Claims.{PathClaim}
 use Rattle.path_claims.specs.Seen.{claim_seen}
 use Rattle.change_files.specs.Fate as Fates
 use Rattle.change_files.specs.Fate.{goes_aside, goes_in}
-use Rattle.own_core.specs.Fates.{HaveRoomBeside, claim_fate, is_fate, is_flag, marked_claims}
+use Rattle.own_core.specs.Fates.{claim_fate, is_fate, is_flag, marked_claims}
+use Rattle.own_core.specs.Found.{AreByFiles}
 use Rattle.own_core.specs.Going.{does_stay, is_left}
-use Rattle.own_core.specs.Sides.{change_of, claims_before}
+use Rattle.own_core.specs.Sides.{claims_before, file_change_of}
 use Rattle.own_core.specs.declared.change.Change.{Change}
 use Rattle.own_core.specs.declared.planning.Parts.{Parts}
 
@@ -28,22 +28,19 @@ kept_of_parts parts = map claim_seen parts.kept.items
 -- the claims of paths that are left over where these files are laid beside others
 abbrev pub left_claims_by : Change → List PathClaim → List PathClaim
 left_claims_by change asides =
-    filter (λ c. is_left (change_of change) asides c.path) (claims_before change)
+    filter (λ c. is_left (file_change_of change) asides c.path) (claims_before change)
 
--- The files that come are parted by their fates, and those that are left over by whether they stay;
--- both are those of the files of the tree, where it tells these.
+-- The files that come are parted by their fates, and those that are left over by whether they stay.
 pub record AreParts (change : Change) (history : List TreeState) (coming : List PathClaim)
     (parts : Parts) : Type 0 where
   pub fates : List Fates.Fate
   pub stays : List Bool
-  pub room : HaveRoomBeside (change_of change) coming fates
+  pub fates_found : AreByFiles (claim_fate (file_change_of change)) history coming fates
+  pub stays_found : AreByFiles (does_stay (file_change_of change)) history
+      (left_claims_by change (asides_of parts)) stays
   pub ins : ins_of parts ≡ marked_claims (is_fate goes_in) coming fates
   pub asides : asides_of parts ≡ marked_claims (is_fate goes_aside) coming fates
   pub removed : removed_of parts
       ≡ marked_claims (is_flag false) (left_claims_by change (asides_of parts)) stays
   pub kept : kept_of_parts parts
       ≡ marked_claims (is_flag true) (left_claims_by change (asides_of parts)) stays
-  pub told : IfObservable history (λ v.
-      (fates ≡ map (claim_fate (change_of change) (files_of v)) coming)
-      × (stays ≡ map (does_stay (change_of change) (files_of v))
-      (left_claims_by change (asides_of parts))))

@@ -1,8 +1,13 @@
 -- What a plan of a change says, and why there is none.
-use Rattle.std.specs.Prelude.{◌≡◌, ℕ, Bool, false, List, ◌++◌, map, Option, Some, None, All, option_map, slice_get}
+use Rattle.std.specs.Prelude.{◌≡◌, ℕ, Bool, true, false, List, map, Option, Some, None, All, Contains, option_map, slice_get}
+use Rattle.adb_rules.specs.Reserved.{is_reserved}
+use Rattle.adb_tables.specs.Values.{entry_in}
+use Rattle.base_core.specs.Calls.{IfObservable}
 use Rattle.base_core.specs.Files.{Files}
 use Rattle.base_core.specs.Listed.{IsRising}
-use Rattle.db_core.specs.Members.{Member, member_name}
+use Rattle.base_core.specs.Name.{IsName}
+use Rattle.base_core.specs.Tree.{TreeState, files_of}
+use Rattle.db_core.specs.Members.{Member, is_coming, member_name}
 use Rattle.db_core.specs.Seen.{members_of, packages_of}
 use Rattle.db_core.specs.declared.db.Db.{Db}
 use Rattle.db_core.specs.declared.members.Members.{Members}
@@ -11,7 +16,8 @@ use Rattle.path_clashes.specs.Clash.{HasNoClash, IsFirstClash}
 use Rattle.file_owners.specs.Owners.{contested_of, owned_of}
 use Rattle.change_files.specs.FileChange.{FileChange}
 use Rattle.change_files.specs.NamesAfter.{name_change}
-use Rattle.change_files.specs.PlanLists.{aside_of, first_reserved, kept_of, removals_of, writes_of}
+use Rattle.change_files.specs.PlanLists.{FileWrite, aside_of, file_writes_of, first_reserved, kept_of, removals_of}
+use Rattle.own_core.specs.ClaimEntries.{HasFileAt}
 use Rattle.own_core.specs.WritesSeen.{writes_in}
 use Rattle.own_core.specs.declared.fault.PlanFault.{PlanFault}
 use Rattle.own_core.specs.declared.fault.PlanFault.TheVariants.{Disk, Memory, Owned, PathClash, Reserved}
@@ -23,20 +29,52 @@ change_by old after purge =
 
 -- ---- a plan
 
--- over these files the lists are the change's, and no name is a folder of another
-pub record IsPlanOf (change : FileChange) (files : Files) (plan : FilePlan) : Type 0 where
+-- over these files the lists are the change's
+pub record ArePlanLists (change : FileChange) (files : Files) (plan : FilePlan) : Type 0 where
   pub removals : plan.removals ≡ removals_of change files
-  pub writes : writes_in plan.writes ≡ writes_of change files
+  pub writes : writes_in plan.writes ≡ file_writes_of change files
   pub aside : plan.aside ≡ aside_of change files
   pub kept : plan.kept ≡ kept_of change files
-  pub no_clash : HasNoClash (name_change change files) files
 
--- Over any tree: each file has its owner, no package that comes lists a reserved path, and no path
--- is contested.
+-- The lists are the change's over some files. Where the tree tells its files it is over these, and
+-- no name is a folder of another.
+pub record IsPlanOf (change : FileChange) (history : List TreeState) (plan : FilePlan) : Type 0 where
+  pub files : Files
+  pub told : IfObservable history (λ v. files ≡ files_of v)
+  pub lists : ArePlanLists change files plan
+  pub no_clash : IfObservable history (λ v. HasNoClash (name_change change files) files)
+
+-- each file has its owner, no package that comes lists a reserved path, and no path is contested
 pub record IsPlanFor (members : List Member) (plan : FilePlan) : Type 0 where
   pub owned : plan.owned ≡ owned_of members
   pub allowed : first_reserved members ≡ None
   pub owners : contested_of members ≡ None
+
+abbrev pub written_names : FilePlan → List (List ℕ)
+written_names plan = map (λ w. w.name) (writes_in plan.writes)
+
+-- a name that a package may list
+pub record IsOpenName (name : List ℕ) : Type 0 where
+  pub named : IsName name
+  pub unreserved : is_reserved name ≡ false
+
+-- what is removed and what is written are such names, in byte order, and none is both
+pub record HasOwnNames (plan : FilePlan) : Type 0 where
+  pub removals : All IsOpenName plan.removals
+  pub writes : All IsOpenName (written_names plan)
+  pub removals_rise : IsRising plan.removals
+  pub writes_rise : IsRising (written_names plan)
+  pub apart : (name : List ℕ) → Contains plan.removals name → Contains (written_names plan) name → ⊥
+
+-- the member of a write comes, and has the file
+pub record IsOfComingFile (members : List Member) (w : FileWrite) : Type 0 where
+  pub member : Member
+  pub at : slice_get members w.member ≡ Some member
+  pub comes : is_coming member ≡ true
+  pub place : HasFileAt (entry_in member.pkg 1) w.folder w.file
+
+abbrev pub HasSources : List Member → FilePlan → Type 0
+HasSources members plan = All (IsOfComingFile members) (writes_in plan.writes)
 
 -- ---- why there is none
 

@@ -3,17 +3,16 @@
 ghost use Rattle.std.specs.Prelude.{◌≡◌, ◌↔◌, ◌∷◌, ◌++◌, [], Option, true, false, map, IfOk, IsTrue, IsSomeAnd, OnOk};
 ghost use Rattle.adb_fields.specs.JoinedPath.{joined_path};
 ghost use Rattle.adb_view.specs.Plain.{Plain};
-ghost use Rattle.base_core.specs.Calls.{IfObservable};
 ghost use Rattle.base_core.specs.Read.{OnlyReads};
-ghost use Rattle.base_core.specs.Tree.{files_of};
 ghost use Rattle.change_files.specs.Fate.{agrees_with_old, fate_beside, is_guarded};
 ghost use Rattle.change_files.specs.FileChange.{old_entry};
 ghost use Rattle.db_core.specs.Seen.{members_of};
 ghost use Rattle.file_guard.specs.Listed.{IsOfEntry};
 ghost use Rattle.path_claims.specs.Seen.{claim_seen};
 ghost use Rattle.own_core.specs.ClaimEntries.{AreClaimsOf, IsClaimOf, claim_entry};
-ghost use Rattle.own_core.specs.Fates.{HasRoomBeside, HaveRoomBeside, IsOfEntryIfAny, claim_fate, fate_seen, is_free_beside};
-ghost use Rattle.own_core.specs.Sides.{HasClaims, change_of};
+ghost use Rattle.own_core.specs.Fates.{IsOfEntryIfAny, claim_fate, fate_seen, is_free_beside};
+ghost use Rattle.own_core.specs.Found.{AreByFiles, IsByFile};
+ghost use Rattle.own_core.specs.Sides.{HasClaims, file_change_of};
 
 use crate::change::Change;
 use crate::entries::{listed_after, listed_before};
@@ -40,7 +39,7 @@ pub(crate) enum Fate {
 /// What the packages before say of a path, if they list it.
 fn listed_so_far<'o>(change: &Change<'_, 'o, '_>, path: &FilePath<'_>) -> Option<ListedFile<'o>>
     requires { HasClaims change.now }
-    ensures { IsOfEntryIfAny result (old_entry (change_of change.now) (joined_path path.now)) }
+    ensures { IsOfEntryIfAny result (old_entry (file_change_of change.now) (joined_path path.now)) }
 {
     match find_claim(change.before, path) {
         Some(i) => Some(listed_before(change.db, &change.before[i], PhantomData)),
@@ -55,7 +54,7 @@ fn is_free_beside(
     name: &Name,
 ) -> Result<bool, AllocError>
     requires { HasClaims change.now }
-    ensures { IfOk result (λ free. free ≡ is_free_beside (change_of change.now) name.now) }
+    ensures { IfOk result (λ free. free ≡ is_free_beside (file_change_of change.now) name.now) }
 {
     let bytes = aside_bytes(alloc, name.as_bytes())?;
     if bytes.len() > 1024 {
@@ -88,11 +87,9 @@ fn fate_beside(
     old: &Option<ListedFile<'_>>,
 ) -> Result<Fate, AllocError>
     requires claims { HasClaims change.now }
-    requires old { IsOfEntryIfAny old.now (old_entry (change_of change.now) name.now) }
-    ensures fate { IfOk result (λ fate. (entry : Plain) → IsOfEntry new.now entry
-        → fate_seen fate ≡ fate_beside (change_of change.now) name.now entry) }
-    ensures room { IfOk result
-        (λ fate. HasRoomBeside (change_of change.now) name.now (fate_seen fate)) }
+    requires old { IsOfEntryIfAny old.now (old_entry (file_change_of change.now) name.now) }
+    ensures { IfOk result (λ fate. (entry : Plain) → IsOfEntry new.now entry
+        → fate_seen fate ≡ fate_beside (file_change_of change.now) name.now entry) }
 {
     if agrees_with_old(new, old) || !is_free_beside(alloc, change, name)? {
         return Ok(Fate::GivesWay);
@@ -120,10 +117,8 @@ fn guarded_fate<T: Tree>(
     requires claims { HasClaims change.now }
     requires file { IsClaimOf (members_of change.now.members.now) (claim_seen claim.now) }
     requires guarded { is_guarded (claim_seen claim.now).path ≡ true }
-    ensures fate { IfOk result (λ fate. IfObservable (T.history tree.old) (λ v. fate_seen fate
-        ≡ claim_fate (change_of change.now) (files_of v) (claim_seen claim.now))) }
-    ensures room { IfOk result (λ fate.
-        HasRoomBeside (change_of change.now) (claim_seen claim.now).path (fate_seen fate)) }
+    ensures fate { IfOk result (λ fate. IsByFile (claim_fate (file_change_of change.now))
+        (T.history tree.old) (claim_seen claim.now) (fate_seen fate)) }
     ensures tree { OnlyReads TreeFault.Disk (T.history tree.old) (T.history tree.new)
         (T.counts tree.old) (T.counts tree.new) result }
 {
@@ -147,10 +142,8 @@ fn fate_of<T: Tree>(
 ) -> Result<Fate, TreeFault>
     requires claims { HasClaims change.now }
     requires file { IsClaimOf (members_of change.now.members.now) (claim_seen claim.now) }
-    ensures fate { IfOk result (λ fate. IfObservable (T.history tree.old) (λ v. fate_seen fate
-        ≡ claim_fate (change_of change.now) (files_of v) (claim_seen claim.now))) }
-    ensures room { IfOk result (λ fate.
-        HasRoomBeside (change_of change.now) (claim_seen claim.now).path (fate_seen fate)) }
+    ensures fate { IfOk result (λ fate. IsByFile (claim_fate (file_change_of change.now))
+        (T.history tree.old) (claim_seen claim.now) (fate_seen fate)) }
     ensures tree { OnlyReads TreeFault.Disk (T.history tree.old) (T.history tree.new)
         (T.counts tree.old) (T.counts tree.new) result }
 {
@@ -176,11 +169,8 @@ pub(crate) fn fates_of<T: Tree>(
 ) -> Result<Vec<Fate>, TreeFault>
     requires claims { HasClaims change.now }
     requires files { AreClaimsOf (members_of change.now.members.now) (map claim_seen coming.now) }
-    ensures fates { IfOk result (λ fates. IfObservable (T.history tree.old) (λ v.
-        map fate_seen fates.items
-        ≡ map (claim_fate (change_of change.now) (files_of v)) (map claim_seen coming.now))) }
-    ensures room { IfOk result (λ fates. HaveRoomBeside (change_of change.now) (map claim_seen coming.now)
-        (map fate_seen fates.items)) }
+    ensures fates { IfOk result (λ fates. AreByFiles (claim_fate (file_change_of change.now))
+        (T.history tree.old) (map claim_seen coming.now) (map fate_seen fates.items)) }
     ensures tree { OnlyReads TreeFault.Disk (T.history tree.old) (T.history tree.new)
         (T.counts tree.old) (T.counts tree.new) result }
 {

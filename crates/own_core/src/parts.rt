@@ -4,16 +4,15 @@ ghost use Rattle.std.specs.Prelude.{◌≡◌, ◌&&◌, not, IfOk, OnOk, Some, 
 ghost use Rattle.std.specs.List.{filter};
 ghost use Rattle.std.specs.List.Sorted.{IsSorted};
 ghost use Rattle.adb_fields.specs.JoinedPath.{joined_path};
-ghost use Rattle.base_core.specs.Calls.{IfObservable};
 ghost use Rattle.base_core.specs.Read.{OnlyReads};
-ghost use Rattle.base_core.specs.Tree.{files_of};
 ghost use Rattle.change_files.specs.FileChange.{is_claimed};
 ghost use Rattle.path_claims.specs.Claims.{claim_cmp};
 ghost use Rattle.path_claims.specs.Seen.{claim_seen};
 ghost use Rattle.own_core.specs.ClaimEntries.{AreClaimsOf, IsClaimOf, members_before};
 ghost use Rattle.own_core.specs.Fates.{fate_seen, is_fate, is_flag, marked_claims};
+ghost use Rattle.own_core.specs.Found.{AreByFiles, IsByFile};
 ghost use Rattle.own_core.specs.Going.{does_stay, is_beside, is_left};
-ghost use Rattle.own_core.specs.Sides.{HasClaims, change_of, claims_before};
+ghost use Rattle.own_core.specs.Sides.{HasClaims, claims_before, file_change_of};
 
 use crate::change::Change;
 use crate::entries::listed_before;
@@ -74,7 +73,7 @@ fn is_beside(asides: &[Claim<'_>], path: &FilePath<'_>) -> bool
 fn is_left(change: &Change<'_, '_, '_>, asides: &[Claim<'_>], path: &FilePath<'_>) -> bool
     requires claims { HasClaims change.now }
     requires sorted { IsSorted claim_cmp (map claim_seen asides.now) }
-    ensures { result ≡ is_left (change_of change.now) (map claim_seen asides.now)
+    ensures { result ≡ is_left (file_change_of change.now) (map claim_seen asides.now)
         (joined_path path.now) }
 {
     if find_claim(change.after, path).is_some() {
@@ -93,7 +92,7 @@ pub(crate) fn left_claims<'o>(
     requires claims { HasClaims change.now }
     requires sorted { IsSorted claim_cmp (map claim_seen asides.now) }
     ensures { IfOk result (λ left. map claim_seen left.items
-        ≡ filter (λ c. is_left (change_of change.now) (map claim_seen asides.now) c.path)
+        ≡ filter (λ c. is_left (file_change_of change.now) (map claim_seen asides.now) c.path)
         (claims_before change.now)) }
 {
     let mut left = Vec::new(alloc);
@@ -113,8 +112,8 @@ fn does_stay<T: Tree>(
     claim: &Claim<'_>,
 ) -> Result<bool, TreeFault>
     requires { IsClaimOf (members_before change.now.db.now) (claim_seen claim.now) }
-    ensures stays { IfOk result (λ stays. IfObservable (T.history tree.old) (λ v. stays
-        ≡ does_stay (change_of change.now) (files_of v) (claim_seen claim.now))) }
+    ensures stays { IfOk result (IsByFile (does_stay (file_change_of change.now))
+        (T.history tree.old) (claim_seen claim.now)) }
     ensures tree { OnlyReads TreeFault.Disk (T.history tree.old) (T.history tree.new)
         (T.counts tree.old) (T.counts tree.new) result }
 {
@@ -142,9 +141,8 @@ pub(crate) fn stays_of<T: Tree>(
     left: &[Claim<'_>],
 ) -> Result<Vec<bool>, TreeFault>
     requires { AreClaimsOf (members_before change.now.db.now) (map claim_seen left.now) }
-    ensures len { IfOk result (λ stays. length stays.items ≡ length left.now) }
-    ensures stays { IfOk result (λ stays. IfObservable (T.history tree.old) (λ v. stays.items
-        ≡ map (does_stay (change_of change.now) (files_of v)) (map claim_seen left.now))) }
+    ensures stays { IfOk result (λ stays. AreByFiles (does_stay (file_change_of change.now))
+        (T.history tree.old) (map claim_seen left.now) stays.items) }
     ensures tree { OnlyReads TreeFault.Disk (T.history tree.old) (T.history tree.new)
         (T.counts tree.old) (T.counts tree.new) result }
 {

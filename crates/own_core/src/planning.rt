@@ -14,7 +14,7 @@ ghost use Rattle.claim_lists.specs.Named.{HaveNames};
 ghost use Rattle.claim_lists.specs.Once.{HasFirsts};
 ghost use Rattle.db_core.specs.Members.{member_listings};
 ghost use Rattle.db_core.specs.Seen.{members_of};
-ghost use Rattle.file_owners.specs.Owners.{claims_in, contested_of};
+ghost use Rattle.file_owners.specs.Owners.{claims_in, contested_of, owned_of};
 ghost use Rattle.list_order.specs.Sorted.{sorted_by};
 ghost use Rattle.path_claims.specs.Claims.{claim_cmp};
 ghost use Rattle.path_claims.specs.ContestedSeen.{contested_seen};
@@ -24,8 +24,8 @@ ghost use Rattle.path_clashes.specs.FirstClash.{IsClashOf};
 ghost use Rattle.own_core.specs.ClaimEntries.{AreClaimsOf, IsClaimOf, is_of_coming_owner, is_reserved_coming};
 ghost use Rattle.own_core.specs.ListsSeen.{AreListsOf};
 ghost use Rattle.own_core.specs.Parts.{AreParts, asides_of, ins_of, kept_of_parts, removed_of};
-ghost use Rattle.own_core.specs.Planned.{IsOwnedBy, IsPlanFor, IsPlanOf, IsRefusalFor, IsRefusalOf, change_by, member_name_at};
-ghost use Rattle.own_core.specs.Sides.{HasClaims, change_of, claims_after};
+ghost use Rattle.own_core.specs.Planned.{HasOwnNames, HasSources, IsOwnedBy, IsPlanFor, IsPlanOf, IsRefusalFor, IsRefusalOf, change_by, member_name_at};
+ghost use Rattle.own_core.specs.Sides.{HasClaims, claims_after, file_change_of};
 ghost use Rattle.own_core.specs.WritesSeen.{HaveNamesBeside};
 
 use crate::change::Change;
@@ -146,7 +146,7 @@ fn clash_of<T: Tree>(
     requires parts { AreParts change.now (T.history tree.old) (map claim_seen coming.now)
         parts.now }
     ensures clash { IfOk result (λ found. IfObservable (T.history tree.old) (λ v. IsClashOf
-        (name_change (change_of change.now) (files_of v)) (files_of v)
+        (name_change (file_change_of change.now) (files_of v)) (files_of v)
         (option_map clash_seen found))) }
     ensures tree { OnlyReads TreeFault.Disk (T.history tree.old) (T.history tree.new)
         (T.counts tree.old) (T.counts tree.new) result }
@@ -240,6 +240,48 @@ fn lists_of(alloc: Global, parts: &Parts<'_, '_>, owned: Vec<bool>) -> Result<Fi
     })
 }
 
+/// The plan of a change in which no package that comes lists a reserved path: there is none where
+/// names clash, and then where no package owns a path.
+fn plan_of_claims<T: Tree>(
+    alloc: Global,
+    tree: &mut T,
+    change: &Change<'_, '_, '_>,
+    coming: &[Claim<'_>],
+    contested: &Option<Contested<'_>>,
+    owned: Vec<bool>,
+) -> Result<FilePlan, PlanFault>
+    requires claims { HasClaims change.now }
+    requires firsts { HasFirsts
+        (filter (is_of_coming_owner (members_of change.now.members.now)) (claims_after change.now))
+        (map claim_seen coming.now) }
+    requires contested { option_map contested_seen contested.now
+        ≡ contested_of (members_of change.now.members.now) }
+    requires owned { owned.items ≡ owned_of (members_of change.now.members.now) }
+    requires unreserved { first_reserved (members_of change.now.members.now) ≡ None }
+    requires named { All (λ l. IsName l.path)
+        (member_listings (members_of change.now.members.now)) }
+    ensures plan { IfOk result (IsPlanOf (file_change_of change.now) (T.history tree.old)) }
+    ensures lists { IfOk result (IsPlanFor (members_of change.now.members.now)) }
+    ensures refusal { IfErr result (λ fault. IfObservable (T.history tree.old) (λ v.
+        IsRefusalOf (file_change_of change.now) (files_of v) fault)) }
+    ensures cause { IfErr result (IsRefusalFor (members_of change.now.members.now)) }
+    ensures tree { OnlyReads PlanFault.Disk (T.history tree.old) (T.history tree.new)
+        (T.counts tree.old) (T.counts tree.new) result }
+{
+    let parts = parts_of(alloc, tree, change, coming)?;
+    let clash = clash_of(alloc, tree, change, &parts, coming)?;
+    if let Some(clash) = clash {
+        let Clash { path, other } = clash;
+        return Err(PlanFault::PathClash { path, other });
+    }
+    if let Some(contested) = contested {
+        let fault = contest(alloc, change.members, contested)?;
+        return Err(fault);
+    }
+    let plan = lists_of(alloc, &parts, owned)?;
+    Ok(plan)
+}
+
 /// Plans the files of a change of packages: which names are removed, which get the contents of which
 /// files, and which configuration stays as the user made it. With `purge` configuration that the
 /// user changed goes with its package. The call only reads the tree: the files of configuration of
@@ -249,28 +291,30 @@ fn lists_of(alloc: Global, parts: &Parts<'_, '_>, owned: Vec<bool>) -> Result<Fi
 ///
 /// `Reserved` before any look at the tree; then `PathClash`; then `Owned`. `Disk` where the tree
 /// failed, `Memory` where there was no memory.
-pub fn plan<T: Tree>(
+pub fn plan<'c, T: Tree>(
     alloc: Global,
-    old: &Db<'_>,
-    after: &Members<'_>,
+    old: &'c Db<'_>,
+    after: &'c Members<'_>,
     tree: &mut T,
     purge: bool,
 ) -> Result<FilePlan, PlanFault>
-    // Over a tree that tells its files.
-    ensures plan { IfOk result (λ plan. IfObservable (T.history tree.old) (λ v.
-        IsPlanOf (change_by old.now after.now purge) (files_of v) plan)) }
+    ensures plan { IfOk result
+        (IsPlanOf (change_by old.now after.now purge) (T.history tree.old)) }
+    ensures names { IfOk result HasOwnNames }
+    ensures sources { IfOk result (HasSources (members_of after.now)) }
+    ensures lists { IfOk result (IsPlanFor (members_of after.now)) }
     ensures refusal { IfErr result (λ fault. IfObservable (T.history tree.old) (λ v.
         IsRefusalOf (change_by old.now after.now purge) (files_of v) fault)) }
-
-    // Over any tree.
-    ensures lists { IfOk result (IsPlanFor (members_of after.now)) }
     ensures cause { IfErr result (IsRefusalFor (members_of after.now)) }
     ensures tree { OnlyReads PlanFault.Disk (T.history tree.old) (T.history tree.new)
         (T.counts tree.old) (T.counts tree.new) result }
 {
     old.listed_paths_are_names();
+    old.no_listed_path_is_reserved();
     after.listed_paths_are_names();
     let found = owners_of_files(alloc, after)?;
+    let owned = found.owned;
+    let contested = found.contested;
     let reserved = first_reserved(alloc, after, &found.claims)?;
     if let Some(path) = reserved {
         return Err(PlanFault::Reserved { path });
@@ -285,16 +329,5 @@ pub fn plan<T: Tree>(
         purge,
     };
     let coming = coming_claims(alloc, after, &found.claims, &found.owners)?;
-    let parts = parts_of(alloc, tree, &change, &coming)?;
-    let clash = clash_of(alloc, tree, &change, &parts, &coming)?;
-    if let Some(clash) = clash {
-        let Clash { path, other } = clash;
-        return Err(PlanFault::PathClash { path, other });
-    }
-    if let Some(contested) = &found.contested {
-        let fault = contest(alloc, after, contested)?;
-        return Err(fault);
-    }
-    let plan = lists_of(alloc, &parts, found.owned)?;
-    Ok(plan)
+    plan_of_claims(alloc, tree, &change, &coming, &contested, owned)
 }

@@ -8,8 +8,8 @@ use Rattle.pool_core.specs.Candidates.{Candidate}
 use Rattle.pool_core.specs.Rank.{SealedPool, candidate_at, is_at}
 use Rattle.report_core.specs.Reports.{Change}
 use Rattle.package_changes.specs.Changes.{change_between, change_of_name, changes_of, is_selected_named, names_on_both_sides}
-use Rattle.package_changes.specs.Placed.{PlacedChange, PlacedReplacement, candidates_at, placed_change_of, placed_change_with, placed_changes_of, replacement_of, selected_place}
-use Rattle.package_changes.specs.SelectedNames.{change_at, place_beside}
+use Rattle.package_changes.specs.Placed.{PlacedChange, PlacedReplacement, candidates_at, change_in, new_candidate, old_package, placed_change_of, placed_changes_of, placed_name_of, placed_name_with, placed_names_of, replacement_of, selected_place}
+use Rattle.package_changes.specs.SelectedNames.{place_beside, placed_name_at}
 
 -- ---- the first by its place
 
@@ -82,13 +82,46 @@ pub changes_alone : (p : PlacedReplacement) → map (λ (c : PlacedChange). c.ch
 unfolding placed_changes_of changes_of
 changes_alone p = mapped (λ (c : PlacedChange). c.change) (placed_change_of p) (change_of_name (replacement_of p)) (one_change p) (names_on_both_sides (replacement_of p))
 
-same_options : {A X : Type 0} (g h : A → Option X) → ((a : A) → g a ≡ h a) → (xs : List A) → filter_map g xs ≡ filter_map h xs
-same_options g h same [] = refl
-same_options g h same (a ∷ xs) = ap (λ o. cons_option o (filter_map g xs)) (same a) ∙ ap (cons_option (h a)) (same_options g h same xs)
+-- ---- names with their places
 
 -- the table leads to the places of the selected candidates
-pub by_table : (p : PlacedReplacement) (table : List (List ℕ × ℕ)) → ((name : List ℕ) → place_beside name table ≡ selected_place p.pool p.trace name) → (names : List (List ℕ)) → filter_map (change_at p.before p.pool p.again table) names ≡ filter_map (placed_change_of p) names
-unfolding placed_change_of
-by_table p table leads names =
-    same_options (change_at p.before p.pool p.again table) (placed_change_of p)
-    (λ name. ap (placed_change_with p.before p.pool p.again name (position_from (is_package_named name) 0 p.before)) (leads name)) names
+pub by_table : (p : PlacedReplacement) (table : List (List ℕ × ℕ)) → ((name : List ℕ) → place_beside name table ≡ selected_place p.pool p.trace name) → (names : List (List ℕ)) → map (placed_name_at p.before p.pool p.again table) names ≡ map (placed_name_of p) names
+unfolding placed_name_of
+by_table p table leads [] = refl
+by_table p table leads (name ∷ names) =
+    ap (λ o. placed_name_with p.before p.pool p.again name (position_from (is_package_named name) 0 p.before) o ∷ map (placed_name_at p.before p.pool p.again table) names) (leads name)
+    ∙ ap (λ z. placed_name_of p name ∷ z) (by_table p table leads names)
+
+changes_of_map : {A X Y : Type 0} (f : X → Option Y) (g : A → X) (h : A → Option Y) → ((a : A) → f (g a) ≡ h a) → (xs : List A) → filter_map f (map g xs) ≡ filter_map h xs
+changes_of_map f g h same [] = refl
+changes_of_map f g h same (a ∷ xs) =
+    ap (λ o. cons_option o (filter_map f (map g xs))) (same a) ∙ ap (cons_option (h a)) (changes_of_map f g h same xs)
+
+change_in_name : (p : PlacedReplacement) (name : List ℕ) → change_in (placed_name_of p name) ≡ placed_change_of p name
+unfolding placed_name_of placed_change_of
+change_in_name p name = refl
+
+-- the changes among the names are the changes
+pub changes_among : (p : PlacedReplacement) → filter_map change_in (placed_names_of p) ≡ placed_changes_of p
+unfolding placed_names_of placed_changes_of
+changes_among p = changes_of_map change_in (placed_name_of p) (placed_change_of p) (change_in_name p) (names_on_both_sides (replacement_of p))
+
+-- ---- what the places of a name lead to
+
+pub own_name : (p : PlacedReplacement) (name : List ℕ) → (placed_name_of p name).name ≡ name
+unfolding placed_name_of
+own_name p name = refl
+
+pub own_change : (p : PlacedReplacement) (name : List ℕ) → (placed_name_of p name).change ≡ change_of_name (replacement_of p) name
+unfolding placed_name_of change_of_name
+own_change p name =
+    ap (λ o. change_between (list_any (bytes_eq name) p.again) name o (option_and_then (candidate_at p.pool) (selected_place p.pool p.trace name))) (found_at_position (is_package_named name) p.before)
+    ∙ ap (λ o. change_between (list_any (bytes_eq name) p.again) name (find (is_package_named name) p.before) o) (found_at_place p.pool (is_selected_named name) p.trace)
+
+pub own_package : (p : PlacedReplacement) (name : List ℕ) → old_package p.before (placed_name_of p name) ≡ find (is_package_named name) p.before
+unfolding placed_name_of
+own_package p name = found_at_position (is_package_named name) p.before
+
+pub own_candidate : (p : PlacedReplacement) (name : List ℕ) → new_candidate p.pool (placed_name_of p name) ≡ find (is_selected_named name) (candidates_at p.pool p.trace)
+unfolding placed_name_of
+own_candidate p name = found_at_place p.pool (is_selected_named name) p.trace

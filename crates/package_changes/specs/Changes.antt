@@ -20,8 +20,8 @@ pub record Replacement : Type 0 where
   pub selected : List Candidate
   pub again : List (List ℕ)
 
-abbrev pub package_id : Plain → List ℕ
-package_id pkg = text_in (entry_in (entry_in pkg 0) 2)
+abbrev pub installed_id : Plain → List ℕ
+installed_id pkg = text_in (entry_in (entry_in pkg 0) 2)
 
 abbrev pub selected_version : Candidate → List ℕ
 selected_version c = text_in (entry_in c.info 1)
@@ -36,7 +36,7 @@ is_installed_as version id c =
     not (is_some c.repository) || (bytes_eq version (selected_version c) && is_same_id id c.id)
 
 abbrev pub is_same_selected : Plain → Candidate → Bool
-is_same_selected pkg c = is_installed_as (version_text pkg) (package_id pkg) c
+is_same_selected pkg c = is_installed_as (version_text pkg) (installed_id pkg) c
 
 -- from one version to another, by their order
 abbrev pub version_change : List ℕ → List ℕ → List ℕ → Ordering → Change

@@ -1,5 +1,5 @@
 -- The changes that a selection leads to, with the places of the packages that they are of.
-use Rattle.std.specs.Prelude.{ℕ, List, Option, bytes_eq, option_map, option_and_then, slice_get}
+use Rattle.std.specs.Prelude.{ℕ, List, Option, bytes_eq, map, option_map, option_and_then, slice_get}
 use Rattle.std.specs.List.{filter_map, find, list_any, position_from}
 use Rattle.adb_view.specs.Plain.{Plain}
 use Rattle.db_core.specs.Packages.{is_package_named}
@@ -52,3 +52,44 @@ placed_change_of p name =
 -- in byte order of names
 unfoldable pub placed_changes_of : PlacedReplacement → List PlacedChange
 placed_changes_of p = filter_map (placed_change_of p) (names_on_both_sides (replacement_of p))
+
+-- ---- each name on both sides
+
+-- a name of a package before or of a selected candidate; what becomes of the package, if anything
+-- does; and its two places, as above
+pub record PlacedName : Type 0 where
+  pub name : List ℕ
+  pub change : Option Change
+  pub old : Option ℕ
+  pub new : Option ℕ
+
+-- what becomes of the package of this name, whose places are these
+abbrev pub placed_name_with :
+    List Plain → SealedPool → List (List ℕ) → List ℕ → Option ℕ → Option ℕ → PlacedName
+placed_name_with before pool again name old new = record {
+  name = name;
+  change = change_between (list_any (bytes_eq name) again) name
+      (option_and_then (slice_get before) old) (option_and_then (candidate_at pool) new);
+  old = old;
+  new = new;
+}
+
+unfoldable pub placed_name_of : PlacedReplacement → List ℕ → PlacedName
+placed_name_of p name =
+    placed_name_with p.before p.pool p.again name
+    (position_from (is_package_named name) 0 p.before) (selected_place p.pool p.trace name)
+
+-- in byte order
+unfoldable pub placed_names_of : PlacedReplacement → List PlacedName
+placed_names_of p = map (placed_name_of p) (names_on_both_sides (replacement_of p))
+
+-- the package before that its place leads to, and the candidate
+abbrev pub old_package : List Plain → PlacedName → Option Plain
+old_package before n = option_and_then (slice_get before) n.old
+
+abbrev pub new_candidate : SealedPool → PlacedName → Option Candidate
+new_candidate pool n = option_and_then (candidate_at pool) n.new
+
+-- the change of a name, if there is one
+abbrev pub change_in : PlacedName → Option PlacedChange
+change_in n = option_map (λ change. record { change = change; old = n.old; new = n.new }) n.change

@@ -11,8 +11,8 @@ use Rattle.report_core.specs.Reports.{change_lines, report_line, stays_text, sum
 use Rattle.package_changes.specs.Changes.{Replacement, changes_of, is_selected_named}
 
 -- the bytes that a candidate takes when it is installed
-abbrev pub installed_size : Candidate → ℕ
-installed_size c = int_in (entry_in c.info 11)
+abbrev pub candidate_size : Candidate → ℕ
+candidate_size c = int_in (entry_in c.info 11)
 
 -- ---- packages that were to go and stay
 
@@ -49,7 +49,7 @@ stay_lines before selected to_go =
 
 -- how many bytes and packages there are after the change, by what the candidates say
 abbrev pub selected_sum_line : List Candidate → List ℕ
-selected_sum_line selected = report_line (sum_text (sum_by installed_size selected) (length selected))
+selected_sum_line selected = report_line (sum_text (sum_by candidate_size selected) (length selected))
 
 -- the changes, what stays of the names that were to go, and the sum
 unfoldable pub simulated_report : Replacement → List (List ℕ) → List ℕ

@@ -1,14 +1,16 @@
 -- What the changes of the program stand for.
-use Rattle.std.specs.Prelude.{ℕ, List, map}
+use Rattle.std.specs.Prelude.{ℕ, List, map, option_map}
 use Rattle.db_core.specs.Seen.{packages_of}
 use Rattle.db_core.specs.declared.db.Db.{Db}
 use Rattle.pool_core.specs.Rank.{SealedPool}
 use Rattle.report_core.specs.Reports as Texts
-use Rattle.package_changes.specs.Placed.{PlacedChange, PlacedReplacement}
+use Rattle.package_changes.specs.Placed.{PlacedChange, PlacedName, PlacedReplacement}
 use Rattle.package_changes.specs.declared.change.Change.{Change}
 use Rattle.package_changes.specs.declared.change.Change.TheVariants.{Downgrade, Install, Purge, Reinstall, Replace, Upgrade}
 use Rattle.package_changes.specs.declared.change.PlacedChange.{PlacedChange as Placed}
 use Rattle.package_changes.specs.declared.changes.Changes.{Changes}
+use Rattle.package_changes.specs.declared.placed.PlacedName.{PlacedName as NameOfCode}
+use Rattle.package_changes.specs.declared.placed.PlacedNames.{PlacedNames}
 
 abbrev pub change_seen : Change → Texts.Change
 change_seen (Install name version) = Texts.Install name.now version.now
@@ -24,6 +26,18 @@ placed_change_seen p = record { change = change_seen p.change; old = p.old; new 
 -- the changes, in their order
 abbrev pub changes_seen : Changes → List PlacedChange
 changes_seen changes = map placed_change_seen changes.list.items
+
+abbrev pub placed_name_seen : NameOfCode → PlacedName
+placed_name_seen n = record {
+  name = n.name.now;
+  change = option_map change_seen n.change;
+  old = n.old;
+  new = n.new;
+}
+
+-- the names, in their order
+abbrev pub placed_names_seen : PlacedNames → List PlacedName
+placed_names_seen names = map placed_name_seen names.list.items
 
 -- what a database, a pool and a selection say of a replacement
 abbrev pub replacement_by : Db → SealedPool → List ℕ → List (List ℕ) → PlacedReplacement

@@ -5,7 +5,7 @@ use Rattle.std.specs.List.{position_from}
 use Rattle.adb_view.specs.Plain.{Plain}
 use Rattle.db_core.specs.Packages.{is_package_named}
 use Rattle.pool_core.specs.Rank.{SealedPool}
-use Rattle.package_changes.specs.Placed.{PlacedChange, placed_change_with}
+use Rattle.package_changes.specs.Placed.{PlacedName, placed_name_with}
 
 abbrev pub names_and_places : List (Bor (List ℕ) × ℕ) → List (List ℕ × ℕ)
 names_and_places entries = map (λ (e : Bor (List ℕ) × ℕ). (e.0.now, e.1)) entries
@@ -16,10 +16,10 @@ place_beside name [] = None
 place_beside name (e ∷ es) = if bytes_eq e.0 name then Some e.1 else place_beside name es
 
 -- what becomes of the package of a name, where the selected candidates have these names and places
-abbrev pub change_at :
-    List Plain → SealedPool → List (List ℕ) → List (List ℕ × ℕ) → List ℕ → Option PlacedChange
-change_at before pool again selected name =
-    placed_change_with before pool again name (position_from (is_package_named name) 0 before)
+abbrev pub placed_name_at :
+    List Plain → SealedPool → List (List ℕ) → List (List ℕ × ℕ) → List ℕ → PlacedName
+placed_name_at before pool again selected name =
+    placed_name_with before pool again name (position_from (is_package_named name) 0 before)
     (place_beside name selected)
 
 -- what was there, or else another one

@@ -2,7 +2,7 @@
 ghost use Rattle.adb_schema.specs.Views.{package_value};
 ghost use Rattle.db_core.specs.Seen.{packages_of};
 ghost use Rattle.file_owners.specs.Replaces.{version_text};
-ghost use Rattle.package_changes.specs.Changes.{change_between, is_installed_as, package_id, selected_version, version_change, version_text_cmp};
+ghost use Rattle.package_changes.specs.Changes.{change_between, is_installed_as, installed_id, selected_version, version_change, version_text_cmp};
 ghost use Rattle.package_changes.specs.Seen.{change_seen};
 ghost use Rattle.pool_core.specs.Candidates.{is_same_id, version_of_text};
 ghost use Rattle.pool_core.specs.Values.{candidate_value};
@@ -68,7 +68,7 @@ impl<'a> OldPackage<'a> {
     /// parts of a view that is made and lent here unless the signature names the view.
     pub(crate) fn of(pkg: &PackageView<'a>, _mark: PhantomData<PackageView<'a>>) -> OldPackage<'a>
         ensures version { result.version.now ≡ version_text (package_value pkg.now) }
-        ensures id { result.id.now ≡ package_id (package_value pkg.now) }
+        ensures id { result.id.now ≡ installed_id (package_value pkg.now) }
     {
         let info = pkg.info();
         OldPackage {

@@ -6,12 +6,17 @@
 
 mod change;
 mod changes;
+mod laws;
 mod names;
+mod placed;
 mod report;
 mod selected;
 mod stays;
 
 pub use change::{Change, PlacedChange};
 pub use changes::Changes;
+pub use laws::places_lead_to_packages_and_candidates;
+pub use names::names_in_order;
+pub use placed::{PlacedName, PlacedNames};
 pub use report::{push_change_lines, push_sum_line, simulated_report};
 pub use stays::push_stay_lines;

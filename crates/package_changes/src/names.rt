@@ -9,7 +9,7 @@ use std::alloc::{AllocError, Global};
 
 /// Names in byte order, each once.
 #[tactic(auto, unfolding(change_files::specs::PlanLists::names_in_order))]
-pub(crate) fn names_in_order<'a>(names: Vec<&'a [u8]>) -> Result<Vec<&'a [u8]>, AllocError>
+pub fn names_in_order<'a>(names: Vec<&'a [u8]>) -> Result<Vec<&'a [u8]>, AllocError>
     ensures { IfOk result (λ sorted. map (λ n. n.now) sorted.items
         ≡ names_in_order (map (λ n. n.now) names.entry.items)) }
 {

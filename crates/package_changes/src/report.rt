@@ -2,7 +2,7 @@
 ghost use Rattle.db_core.specs.Seen.{packages_of};
 ghost use Rattle.package_changes.specs.Changes.{changes_of};
 ghost use Rattle.package_changes.specs.Placed.{candidates_at, replacement_of};
-ghost use Rattle.package_changes.specs.Report.{installed_size, selected_sum_line, simulated_report};
+ghost use Rattle.package_changes.specs.Report.{candidate_size, selected_sum_line, simulated_report};
 ghost use Rattle.package_changes.specs.Seen.{change_seen, changes_seen, replacement_by};
 ghost use Rattle.pool_core.specs.Rank.{candidate_at};
 ghost use Rattle.report_core.specs.Reports.{change_lines, change_text, from_version_to, name_and_version, numbered_change, report_line, sum_text};
@@ -177,7 +177,7 @@ fn push_sum(report: &mut Report, bytes: u128, count: u128) -> Result<(), AllocEr
 
 /// The bytes that the selected candidates take when they are installed.
 fn selected_size(pool: &Sealed<'_>, trace: &Trace) -> u128
-    ensures { result ≡ sum_by installed_size (candidates_at pool.now trace.now) }
+    ensures { result ≡ sum_by candidate_size (candidates_at pool.now trace.now) }
 {
     let mut sum: u128 = 0;
     for i in 0..trace.len() {
@@ -188,7 +188,7 @@ fn selected_size(pool: &Sealed<'_>, trace: &Trace) -> u128
 
 /// The bytes that the candidate at a place takes when it is installed, if there is one.
 fn size_at(pool: &Sealed<'_>, id: CandId) -> u64
-    ensures { result ≡ option_map_or installed_size (candidate_at pool.now id) 0 }
+    ensures { result ≡ option_map_or candidate_size (candidate_at pool.now id) 0 }
 {
     match candidate_at(pool, id) {
         None => 0,

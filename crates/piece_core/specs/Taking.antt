@@ -5,33 +5,38 @@ use Rattle.pkg_core.specs.Contents.{contents_bytes, hash_fault}
 use Rattle.pkg_core.specs.Opened.{expected_of}
 use Rattle.piece_core.specs.Hashing.{HoldsFor}
 use Rattle.piece_core.specs.Pieces.{PiecesRead, piece, refusal, part_of, pieces_from, whole_pieces}
-use Rattle.piece_core.specs.declared.file.FilePieces.{FilePieces}
+use Rattle.piece_core.specs.declared.file.FileCheck.{FileCheck}
 use Rattle.piece_core.specs.declared.part.Part.{Part}
 use Rattle.piece_core.specs.declared.part.TheConstants.{PIECE_LEN}
 
 -- how many bytes are still to be handed in
-abbrev pub file_bytes_left : FilePieces → ℕ
+abbrev pub file_bytes_left : FileCheck → ℕ
 file_bytes_left f = f.wanted.size - f.done
 
 -- how many bytes the next piece has
-abbrev pub next_len : FilePieces → ℕ
+abbrev pub next_len : FileCheck → ℕ
 next_len f = min (file_bytes_left f) PIECE_LEN
 
 -- just these bytes were handed in
-pub record HasTaken (f : FilePieces) (so_far : List ℕ) : Type 0 where
+pub record HasTaken (f : FileCheck) (so_far : List ℕ) : Type 0 where
   pub hashed : HoldsFor f.hasher f.wanted.hash.now so_far
   pub long : length so_far ≡ f.done
 
+-- these bytes were taken, and unless more are left they have the file's digest
+abbrev pub IsTested : List ℕ → List ℕ → Option FileCheck → Type 0
+IsTested hash bytes None = hash_fault hash bytes ≡ None
+IsTested hash bytes (Some f) = HasTaken f bytes
+
 -- the pieces of the bytes that are left of the file, behind those so far, and then further ones
-abbrev pub pieces_in : FilePieces → List ℕ → List ℕ → PiecesRead → PiecesRead
+abbrev pub pieces_in : FileCheck → List ℕ → List ℕ → PiecesRead → PiecesRead
 pieces_in f so_far left further =
     pieces_from (whole_pieces (length left)) (expected_of f.wanted)
     (hash_fault f.wanted.hash.now (so_far ++ left)) left further
 
 -- these bytes are the next piece, and then comes what is left or, behind the last piece, what is
 -- further; or the digest differs
-abbrev pub IsTaken : FilePieces → List ℕ → List ℕ → List ℕ → PiecesRead
-    → Result (Part × Option FilePieces) Cause → Type 0
+abbrev pub IsTaken : FileCheck → List ℕ → List ℕ → List ℕ → PiecesRead
+    → Result (Part × Option FileCheck) Cause → Type 0
 IsTaken f so_far bytes left further (Ok (part, Some g)) =
     (pieces_in f so_far (bytes ++ left) further
     ≡ piece part bytes (pieces_in g (so_far ++ bytes) left further))
@@ -42,14 +47,14 @@ IsTaken f so_far bytes left further (Err c) =
     pieces_in f so_far (bytes ++ left) further ≡ refusal c
 
 -- a piece of this file, and unless it is the last, what is left of the file
-abbrev pub IsPartOf : FilePieces → Part × Option FilePieces → Type 0
+abbrev pub IsPartOf : FileCheck → Part × Option FileCheck → Type 0
 IsPartOf f (part, Some g) =
     (part ≡ part_of (expected_of f.wanted) false) × (g.wanted ≡ f.wanted)
 IsPartOf f (part, None) = part ≡ part_of (expected_of f.wanted) true
 
 -- the block's contents are those of a file, of which nothing was handed in yet; or the first failed
 -- test
-abbrev pub IsOpened : PiecesRead → List ℕ → PiecesRead → Result FilePieces Cause → Type 0
+abbrev pub IsOpened : PiecesRead → List ℕ → PiecesRead → Result FileCheck Cause → Type 0
 IsOpened before payload further (Ok f) =
     (before ≡ pieces_in f [] (contents_bytes payload) further) × HasTaken f []
     × (length (contents_bytes payload) ≡ f.wanted.size)

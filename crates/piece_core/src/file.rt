@@ -1,11 +1,11 @@
 //! A file of a package whose contents are handed in piece by piece.
 
-ghost use Rattle.std.specs.Prelude.{◌≡◌, ◌≤◌, ◌+◌, ◌-◌, ℕ, List, ◌∷◌, ◌++◌, length, take, None, IfOk, IfSome};
+ghost use Rattle.std.specs.Prelude.{◌≡◌, ◌<◌, ◌≤◌, ◌+◌, ◌-◌, ℕ, List, [], ◌∷◌, ◌++◌, length, take, None, IfNone, IfOk, IfSome};
 ghost use Rattle.adb_schema.specs.Soundness.{file_pair};
 ghost use Rattle.pkg_core.specs.Contents.{Expected, contents_bytes};
 ghost use Rattle.pkg_core.specs.Opened.{expected_of, left_in};
 ghost use Rattle.piece_core.specs.Pieces.{PiecesRead, part_of, pieces_of_payload, position_or_size_fault};
-ghost use Rattle.piece_core.specs.Taking.{HasTaken, IsOpened, IsPartOf, IsTaken, file_bytes_left, next_len};
+ghost use Rattle.piece_core.specs.Taking.{HasTaken, IsOpened, IsPartOf, IsTaken, IsTested, file_bytes_left, next_len};
 
 use crate::hasher::Hasher;
 use crate::part::{PIECE_LEN, Part};
@@ -16,16 +16,29 @@ use pkg_core::{Walk, Wanted};
 /// The bytes in front of a file's own in its contents: the positions of its folder and of itself.
 const POSITIONS_LEN: u64 = 8;
 
-/// A file whose contents are handed in: which one is due, and how many of its bytes were taken.
-/// Contracts see, by `Taking` of `specs/`, which bytes these were.
+/// The check of a file whose contents are handed in: which one is due, and how many of its bytes
+/// were taken. Contracts see, by `Taking` of `specs/`, which bytes these were.
 #[derive(Drop)]
-pub struct FilePieces<'a> {
+pub struct FileCheck<'a> {
     wanted: Wanted<'a>,
     done: u64,
     hasher: Hasher,
 }
 
-impl<'a> FilePieces<'a> {
+impl<'a> FileCheck<'a> {
+    /// The check of a file of which no byte was taken.
+    pub fn new(wanted: Wanted<'a>) -> FileCheck<'a>
+        ensures taken { HasTaken result [] }
+        ensures wanted { result.wanted ≡ wanted.entry }
+        ensures left { file_bytes_left result ≡ wanted.entry.size }
+    {
+        FileCheck {
+            wanted,
+            done: 0,
+            hasher: Hasher::new(wanted.hash),
+        }
+    }
+
     /// How many bytes the next piece has: 65,536, or what is left of the file.
     pub fn next_len(&self) -> usize
         ensures { result ≡ next_len self.now }
@@ -42,14 +55,22 @@ impl<'a> FilePieces<'a> {
     /// `HashDiffers`, behind the last piece, where all bytes together do not have the file's
     /// digest.
     #[tactic(auto, using(crate::proofs::Taken::more_left, crate::proofs::Taken::last_good, crate::proofs::Taken::last_bad))]
-    pub fn take(self, bytes: &[u8]) -> Result<(Part, Option<FilePieces<'a>>), Cause>
+    pub fn take(self, bytes: &[u8]) -> Result<(Part, Option<FileCheck<'a>>), Cause>
         requires { length bytes.now ≡ next_len self }
         ensures taken { (so_far left : List ℕ) (further : PiecesRead) → HasTaken self.entry so_far
             → length (so_far ++ (bytes.now ++ left)) ≡ self.entry.wanted.size
             → IsTaken self.entry so_far bytes.now left further result }
+        // Behind the last piece all bytes that were taken have the file's digest.
+        ensures digest { (so_far : List ℕ) → HasTaken self.entry so_far → IfOk result (λ taken.
+            IsTested self.entry.wanted.hash.now (so_far ++ bytes.now) taken.1) }
         ensures part { IfOk result (IsPartOf self.entry) }
         ensures left { IfOk result (λ taken. IfSome taken.1 (λ further.
             file_bytes_left further ≡ file_bytes_left self.entry - length bytes.now)) }
+        // Only the last piece ends the file.
+        ensures more { IfOk result (λ taken. IfSome taken.1 (λ further.
+            0 < file_bytes_left further)) }
+        ensures all { IfOk result (λ taken. IfNone taken.1
+            (length bytes.now ≡ file_bytes_left self.entry)) }
     {
         let wanted = self.wanted;
         let left = wanted.size.saturating_sub(self.done);
@@ -58,7 +79,7 @@ impl<'a> FilePieces<'a> {
         hasher.update(bytes);
         if len < left {
             let done = self.done + len;
-            let further = FilePieces {
+            let further = FileCheck {
                 wanted,
                 done,
                 hasher,
@@ -94,7 +115,7 @@ pub fn open_file<'a>(
     walk: &mut Walk<'a>,
     len: u64,
     positions: &[u8; 8],
-) -> Result<FilePieces<'a>, Cause>
+) -> Result<FileCheck<'a>, Cause>
     requires { 8 ≤ len }
     ensures opened { (payload : List ℕ) (further : List Expected → PiecesRead) → length payload ≡ len
         → take 8 payload ≡ positions.now
@@ -113,11 +134,7 @@ pub fn open_file<'a>(
     };
     match position_or_size_fault(found, len - POSITIONS_LEN, wanted) {
         Some(cause) => Err(cause),
-        None => Ok(FilePieces {
-            wanted,
-            done: 0,
-            hasher: Hasher::new(wanted.hash),
-        }),
+        None => Ok(FileCheck::new(wanted)),
     }
 }
 

@@ -7,7 +7,7 @@ ghost use Rattle.adb_block.specs.declared.block.BlockKind.TheVariants as Kinds;
 ghost use Rattle.piece_core.specs.Places.{HasAllLeft, HasPositions, IsOfContents, IsStepped, WalksOn, place_behind, step_at, whole_size};
 ghost use Rattle.piece_core.specs.declared.place.Step.TheVariants.{End as Ended};
 
-use crate::file::{FilePieces, open_file};
+use crate::file::{FileCheck, open_file};
 use adb_block::{BlockKind, Frame, padding_of};
 use base_core::Cause;
 use pkg_core::Walk;
@@ -35,7 +35,7 @@ pub enum Step<'a> {
     /// The block holds no contents.
     Passed,
     /// The contents of the next file begin.
-    Opened(FilePieces<'a>),
+    Opened(FileCheck<'a>),
 }
 
 impl<'a> BlockPlace<'a> {

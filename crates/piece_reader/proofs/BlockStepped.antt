@@ -19,7 +19,7 @@ use Rattle.pkg_core.specs.declared.walk.Walk.{Walk}
 use Rattle.piece_core.specs.Pieces.{no_piece, pieces_by_blocks}
 use Rattle.piece_core.specs.Places.{HasAllLeft, IsOfContents, IsStepped, WalksOn, payload_at, pieces_at, standing_at_place, step_at, whole_size}
 use Rattle.piece_core.specs.Taking.{HasTaken, file_bytes_left, pieces_in}
-use Rattle.piece_core.specs.declared.file.FilePieces.{FilePieces}
+use Rattle.piece_core.specs.declared.file.FileCheck.{FileCheck}
 use Rattle.piece_core.specs.declared.place.BlockPlace.{BlockPlace}
 use Rattle.piece_core.specs.declared.place.Step.TheVariants.{End as EndStep, Opened as OpenedStep, Passed as PassedStep}
 use Rattle.piece_reader.specs.Blocks.{IsInBlock, head_size, pieces_from_block}
@@ -34,7 +34,7 @@ contents_at place frame file n is =
     ∙ (ap (λ (xs : List ℕ). take n (drop 8 xs)) (drop-drop frame.head_len place.at file)
     ∙ ap (take n) (drop-drop 8 (place.at + frame.head_len) file)))
 
-pub opens : (before after : BlockPlace) (framing : Option Frame) (file : List ℕ) (o : OpenFile) (f : FilePieces) → o.file ≡ f → o.at ≡ before.at + head_size framing + 8 → IfSome framing (λ frame. HasAllLeft frame (OpenedStep f)) → IsStepped framing before file (Ok (OpenedStep f)) after → IsOpenFile o [] file (pieces_at after file) (pieces_at before file)
+pub opens : (before after : BlockPlace) (framing : Option Frame) (file : List ℕ) (o : OpenFile) (f : FileCheck) → o.file ≡ f → o.at ≡ before.at + head_size framing + 8 → IfSome framing (λ frame. HasAllLeft frame (OpenedStep f)) → IsStepped framing before file (Ok (OpenedStep f)) after → IsOpenFile o [] file (pieces_at after file) (pieces_at before file)
 opens before after None file o f is at left step = absurd step
 opens before after (Some frame) file o f is at left step = by_file o is at
   where
@@ -48,7 +48,7 @@ opens before after (Some frame) file o f is at left step = by_file o is at
         }
 
 -- an offset in a file fits in 64 bits, and so does that of the contents' own bytes
-pub opens_within : (framing : Option Frame) (at : ℕ) (f : FilePieces) → (framing ≡ None → OpenedStep f ≡ EndStep) → IfSome framing (λ frame. at + raw_size frame < 18446744073709551616) → IfSome framing (λ frame. HasAllLeft frame (OpenedStep f)) → at + head_size framing + 8 < 18446744073709551616
+pub opens_within : (framing : Option Frame) (at : ℕ) (f : FileCheck) → (framing ≡ None → OpenedStep f ≡ EndStep) → IfSome framing (λ frame. at + raw_size frame < 18446744073709551616) → IfSome framing (λ frame. HasAllLeft frame (OpenedStep f)) → at + head_size framing + 8 < 18446744073709551616
 opens_within None at f ended small left = absurd (let e : OpenedStep f ≡ EndStep = ended refl in (cc))
 opens_within (Some frame) at f ended small left = omega (arith, small, left)
 
@@ -58,61 +58,9 @@ pub passed_ends : (framing : Option Frame) (at to seen left : ℕ) → (framing 
 passed_ends None at to seen left ended within behind = absurd (let e : PassedStep ≡ EndStep = ended refl in (cc))
 passed_ends (Some frame) at to seen left ended within behind = omega (arith, within, behind)
 
-pub opened_ends : (framing : Option Frame) (f : FilePieces) (at to seen : ℕ) → (framing ≡ None → OpenedStep f ≡ EndStep) → IsInBlock framing seen → to ≡ at + head_size framing + 8 → at + seen ≤ to
+pub opened_ends : (framing : Option Frame) (f : FileCheck) (at to seen : ℕ) → (framing ≡ None → OpenedStep f ≡ EndStep) → IsInBlock framing seen → to ≡ at + head_size framing + 8 → at + seen ≤ to
 opened_ends None f at to seen ended within stands = absurd (let e : OpenedStep f ≡ EndStep = ended refl in (cc))
 opened_ends (Some frame) f at to seen ended within stands = omega (arith, within, stands)
-
--- ---- a block of contents may be read as if one stood in front of it
-
-size_kind : (a b : Bool) (c d : Cause) (p q : Piece) (n m : ℕ) → (if a then failed c else if b then failed d else block p n) ≡ block q m → p ≡ q
-size_kind true b c d p q n m e = (cc)
-size_kind false true c d p q n m e = (cc)
-size_kind false false c d p q n m e = (cc)
-
-signature_only : (at : ℕ) (bytes : List ℕ) (h : HeadFields) (b : Piece) (size : ℕ) → step_by_size at bytes h Kinds.Signature ≡ block b size → b.kind ≡ Kinds.Contents → ⊥
-signature_only at bytes h b size e is =
-    let same = size_kind (nat_lt h.raw h.len || nat_lt (length bytes) h.raw) (nat_lt (h.raw - h.len) (least_payload Kinds.Signature)) _ _ _ b (h.raw + padding_of h.raw) size e in
-    let kind : Kinds.Signature ≡ Kinds.Contents = ap (λ (p : Piece). p.kind) same ∙ is in
-    (cc)
-
-by_kind : (last k : BlockKind) (at : ℕ) (bytes : List ℕ) (h : HeadFields) (b : Piece) (size : ℕ) → (if comes_after (Some last) k then step_by_size at bytes h k else failed (BlockOrder at)) ≡ block b size → b.kind ≡ Kinds.Contents
-    → (if comes_after (Some Kinds.Contents) k then step_by_size at bytes h k else failed (BlockOrder at)) ≡ block b size
-by_kind Kinds.Adb Kinds.Adb at bytes h b size e is = (cc)
-by_kind Kinds.Adb Kinds.Signature at bytes h b size e is = absurd (signature_only at bytes h b size e is)
-by_kind Kinds.Adb Kinds.Contents at bytes h b size e is = e
-by_kind Kinds.Signature Kinds.Adb at bytes h b size e is = (cc)
-by_kind Kinds.Signature Kinds.Signature at bytes h b size e is = absurd (signature_only at bytes h b size e is)
-by_kind Kinds.Signature Kinds.Contents at bytes h b size e is = e
-by_kind Kinds.Contents k at bytes h b size e is = e
-
-by_number : (last : BlockKind) (at : ℕ) (bytes : List ℕ) (h : HeadFields) (k : Option BlockKind) (b : Piece) (size : ℕ) → step_by_order (Some last) at bytes h k ≡ block b size → b.kind ≡ Kinds.Contents → step_by_order (Some Kinds.Contents) at bytes h k ≡ block b size
-by_number last at bytes h None b size e is = (cc)
-by_number last at bytes h (Some k) b size e is = by_kind last k at bytes h b size e is
-
-by_head : (last : BlockKind) (at : ℕ) (bytes : List ℕ) (h : Option HeadFields) (b : Piece) (size : ℕ) → step_by_head (Some last) at bytes h ≡ block b size → b.kind ≡ Kinds.Contents → step_by_head (Some Kinds.Contents) at bytes h ≡ block b size
-by_head last at bytes None b size e is = (cc)
-by_head last at bytes (Some h) b size e is = by_number last at bytes h (kind_of_number h.kind) b size e is
-
-by_room : (empty : Bool) (last : BlockKind) (at : ℕ) (bytes : List ℕ) (b : Piece) (size : ℕ) → (if empty then step_at_end (Some last) at else step_by_head (Some last) at bytes (head_of bytes)) ≡ block b size → b.kind ≡ Kinds.Contents
-    → (if empty then step_at_end (Some Kinds.Contents) at else step_by_head (Some Kinds.Contents) at bytes (head_of bytes)) ≡ block b size
-by_room true last at bytes b size e is = (cc)
-by_room false last at bytes b size e is = by_head last at bytes (head_of bytes) b size e is
-
-after_contents : (last : BlockKind) (at : ℕ) (bytes : List ℕ) (b : Piece) (size : ℕ) → next_step (Some last) at bytes ≡ block b size → b.kind ≡ Kinds.Contents → next_step (Some Kinds.Contents) at bytes ≡ block b size
-unfolding next_step
-after_contents last at bytes b size e is = by_room (length bytes == 0) last at bytes b size e is
-
-at_block : (place : BlockPlace) (file : List ℕ) (b : Piece) (size : ℕ) → step_at place file ≡ block b size → b.kind ≡ Kinds.Contents → pieces_at place file ≡ pieces_from_block (left_in place.walk) place.at file
-at_block place file b size step is =
-    let left : List ℕ = drop place.at file in
-    ap (pieces_by_blocks (left_in place.walk))
-    (reading_more (standing_at_place place file) b size step
-    ∙ sym (reading_more (record { schema = 0; last = Some Kinds.Contents; at = place.at; left = left }) b size (after_contents place.last place.at left b size step is)))
-
-pub from_block : (place : BlockPlace) (framing : Option Frame) (f : FilePieces) (file : List ℕ) → (framing ≡ None → OpenedStep f ≡ EndStep) → IfSome framing (λ frame. IsOfContents frame (OpenedStep f)) → IsFramed (Ok framing) (drop place.at file) (step_at place file)
-    → pieces_at place file ≡ pieces_from_block (left_in place.walk) place.at file
-from_block place None f file ended kind step = absurd (let e : OpenedStep f ≡ EndStep = ended refl in (cc))
-from_block place (Some frame) f file ended kind step = at_block place file (framed_piece frame (drop place.at file)) (raw_size frame + padding_of (raw_size frame)) step kind
 
 -- ---- the other answers
 
@@ -124,5 +72,5 @@ pub ends : (framing : Option Frame) (before after : BlockPlace) (file : List ℕ
 ends None before after file step = step
 ends (Some frame) before after file step = step
 
-pub walks_on : (before after : Walk) (f : FilePieces) (o : OpenFile) → o.file ≡ f → WalksOn before (OpenedStep f) after → left_in before ≡ expected_of o.file.wanted ∷ left_in after
-walks_on before after f o is on = on ∙ ap (λ (g : FilePieces). expected_of g.wanted ∷ left_in after) (sym is)
+pub walks_on : (before after : Walk) (f : FileCheck) (o : OpenFile) → o.file ≡ f → WalksOn before (OpenedStep f) after → left_in before ≡ expected_of o.file.wanted ∷ left_in after
+walks_on before after f o is on = on ∙ ap (λ (g : FileCheck). expected_of g.wanted ∷ left_in after) (sym is)

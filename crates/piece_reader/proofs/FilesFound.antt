@@ -11,14 +11,13 @@ use Rattle.pkg_pieces.proofs.SeenBytes.{filled, has_front, has_rest, seen_then}
 use Rattle.piece_core.specs.Pieces.{PiecesRead, no_piece, refusal}
 use Rattle.piece_core.specs.Places.{pieces_at}
 use Rattle.piece_core.specs.declared.place.BlockPlace.{BlockPlace}
-use Rattle.piece_reader.specs.Blocks.{IsNextBlock, pieces_from_block}
+use Rattle.piece_reader.specs.Blocks.{IsNextBlock}
 use Rattle.piece_reader.specs.Opened.{IsOpenFile}
 use Rattle.piece_reader.specs.Readers.{IsFileFound}
 use Rattle.piece_reader.specs.declared.block.BlockStep.{BlockStep}
 use Rattle.piece_reader.specs.declared.block.BlockStep.TheVariants.{End, Opened, Passed}
 use Rattle.piece_reader.specs.declared.fault.PieceFault.{PieceFault}
 use Rattle.piece_reader.specs.declared.fault.PieceFault.TheVariants.{Bad, Disk}
-use Rattle.piece_reader.specs.declared.files.FoundFile.{FoundFile}
 use Rattle.piece_reader.specs.declared.open.OpenFile.{OpenFile}
 use Rattle.piece_reader.proofs.BlockSeen.{not_ok, nothing_seen}
 
@@ -76,10 +75,10 @@ one_passed h later name len before now after seen same long room passed is_seen 
 -- ---- what is answered
 
 -- what a call says of the bytes that it saw
-abbrev pub IsFoundBy : List TreeState → List ℕ → ℕ → BlockPlace → Result (Option FoundFile) PieceFault → BlockPlace → Type 0
+abbrev pub IsFoundBy : List TreeState → List ℕ → ℕ → BlockPlace → Result (Option OpenFile) PieceFault → BlockPlace → Type 0
 IsFoundBy h name len before result after = (seen : List ℕ)
     × IsSeenIn h name len before.at seen
-    × IfOk result (λ found. IfSome found (λ next. before.at + length seen ≡ next.file.at))
+    × IfOk result (λ found. IfSome found (λ next. before.at + length seen ≡ next.at))
     × ((pkg : List ℕ) → length pkg ≡ len → HasAt pkg before.at seen → IsFileFound before pkg result after)
 
 pub found_end : (h later : List TreeState) (name : List ℕ) (len : ℕ) (before now after : BlockPlace) (seen : List ℕ) → later ≡ h → now.len ≡ len → IsPassedTo h name len before now → IsSeenIn later name now.len now.at seen → ((pkg : List ℕ) → length pkg ≡ now.len → HasAt pkg now.at seen → pieces_at now pkg ≡ no_piece)
@@ -89,13 +88,13 @@ found_end h later name len before now after seen same long passed is_seen step =
     let to = seen_up_to h later name len before.at (now.at + length seen) now.at passed.seen seen same passed.ends (omega arith) here.within passed.is_seen here in
     (to.all, to.is_seen, tt, λ pkg is has. passed.same pkg is (to.has_first pkg has) ∙ step pkg (is ∙ sym long) (to.has_second pkg has))
 
-by_fault : (before now after : BlockPlace) (pkg : List ℕ) (fault : PieceFault) (r : Result (Option FoundFile) PieceFault) → IsErrAnd r (λ other. other ≡ fault) → pieces_at before pkg ≡ pieces_at now pkg → IsNextBlock now pkg (Err fault) after → IsFileFound before pkg r after
+by_fault : (before now after : BlockPlace) (pkg : List ℕ) (fault : PieceFault) (r : Result (Option OpenFile) PieceFault) → IsErrAnd r (λ other. other ≡ fault) → pieces_at before pkg ≡ pieces_at now pkg → IsNextBlock now pkg (Err fault) after → IsFileFound before pkg r after
 by_fault before now after pkg fault (Ok found) is same step = absurd is
 by_fault before now after pkg (Bad d) (Err (Bad c)) is same step = let e : Bad c ≡ Bad d = is in let cause : c ≡ d = (cc) in same ∙ (step ∙ ap refusal (sym cause))
 by_fault before now after pkg Disk (Err (Bad c)) is same step = absurd (let e : Bad c ≡ Disk = is in (cc))
 by_fault before now after pkg fault (Err Disk) is same step = tt
 
-pub found_err : (h later : List TreeState) (name : List ℕ) (len : ℕ) (before now after : BlockPlace) (seen : List ℕ) (fault : PieceFault) (r : Result (Option FoundFile) PieceFault) → later ≡ h → now.len ≡ len → IsErrAnd r (λ other. other ≡ fault) → IsPassedTo h name len before now → IsSeenIn later name now.len now.at seen → ((pkg : List ℕ) → length pkg ≡ now.len → HasAt pkg now.at seen → IsNextBlock now pkg (Err fault) after)
+pub found_err : (h later : List TreeState) (name : List ℕ) (len : ℕ) (before now after : BlockPlace) (seen : List ℕ) (fault : PieceFault) (r : Result (Option OpenFile) PieceFault) → later ≡ h → now.len ≡ len → IsErrAnd r (λ other. other ≡ fault) → IsPassedTo h name len before now → IsSeenIn later name now.len now.at seen → ((pkg : List ℕ) → length pkg ≡ now.len → HasAt pkg now.at seen → IsNextBlock now pkg (Err fault) after)
     → IsFoundBy h name len before r after
 found_err h later name len before now after seen fault r same long is passed is_seen step =
     let here = subst (λ (n : ℕ). IsSeenIn later name n now.at seen) long is_seen in
@@ -105,15 +104,13 @@ found_err h later name len before now after seen fault r same long is passed is_
 moved : (o : OpenFile) (so_far pkg : List ℕ) (further pieces others : PiecesRead) → others ≡ pieces → IsOpenFile o so_far pkg further pieces → IsOpenFile o so_far pkg further others
 moved o so_far pkg further pieces others same is = record { taken = is.taken; long = is.long; come = same ∙ is.come }
 
-pub found_file : (h later : List TreeState) (name : List ℕ) (len : ℕ) (before now after : BlockPlace) (seen : List ℕ) (o : OpenFile) → later ≡ h → now.len ≡ len → now.walk ≡ before.walk → o.at ≤ len → IsPassedTo h name len before now → IsSeenIn later name now.len now.at seen → now.at + length seen ≤ o.at → ((pkg : List ℕ) → length pkg ≡ now.len → HasAt pkg now.at seen → IsNextBlock now pkg (Ok (Opened o)) after)
-    → IsFoundBy h name len before (Ok (Some (record { block = now.at; file = o }))) after
-found_file h later name len before now after seen o same long walk room passed is_seen ends step =
+pub found_file : (h later : List TreeState) (name : List ℕ) (len : ℕ) (before now after : BlockPlace) (seen : List ℕ) (o : OpenFile) → later ≡ h → now.len ≡ len → o.at ≤ len → IsPassedTo h name len before now → IsSeenIn later name now.len now.at seen → now.at + length seen ≤ o.at → ((pkg : List ℕ) → length pkg ≡ now.len → HasAt pkg now.at seen → IsNextBlock now pkg (Ok (Opened o)) after)
+    → IsFoundBy h name len before (Ok (Some o)) after
+found_file h later name len before now after seen o same long room passed is_seen ends step =
     let to = seen_up_to h later name len before.at o.at now.at passed.seen seen same passed.ends ends room passed.is_seen (subst (λ (n : ℕ). IsSeenIn later name n now.at seen) long is_seen) in (
       to.all,
       to.is_seen,
       to.ends,
       λ pkg is has.
-          let as_before = passed.same pkg is (to.has_first pkg has) in
-          let next = step pkg (is ∙ sym long) (to.has_second pkg has) in
-          (moved o [] pkg (pieces_at after pkg) (pieces_at now pkg) (pieces_at before pkg) as_before next.0, as_before ∙ (next.1 ∙ ap (λ (w : Walk). pieces_from_block (left_in w) now.at pkg) walk)),
+          moved o [] pkg (pieces_at after pkg) (pieces_at now pkg) (pieces_at before pkg) (passed.same pkg is (to.has_first pkg has)) (step pkg (is ∙ sym long) (to.has_second pkg has)),
     )

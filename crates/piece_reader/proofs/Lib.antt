@@ -3,7 +3,4 @@ pub mod PieceRead
 pub mod BlockStepped
 pub mod FilesFound
 pub mod Readings
-pub mod FilesInOrder
-pub mod HandedOut
-pub mod ReadAgain
-pub mod PassSteps
+pub mod FileRead

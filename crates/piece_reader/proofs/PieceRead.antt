@@ -6,7 +6,7 @@ use Rattle.pkg_pieces.specs.Seen.{HasAt}
 use Rattle.pkg_pieces.proofs.SeenBytes.{drop_further, take_more}
 use Rattle.piece_core.specs.Pieces.{PiecesRead}
 use Rattle.piece_core.specs.Taking.{IsTaken, file_bytes_left, pieces_in}
-use Rattle.piece_core.specs.declared.file.FilePieces.{FilePieces}
+use Rattle.piece_core.specs.declared.file.FileCheck.{FileCheck}
 use Rattle.piece_core.specs.declared.part.Part.{Part}
 use Rattle.piece_reader.specs.Opened.{IsNextPiece, IsOpenFile, NotDisk, bytes_to_come}
 use Rattle.piece_reader.specs.declared.fault.PieceFault.{PieceFault}
@@ -57,7 +57,7 @@ append_assoc xs ys zs =
     omega (arith, a, b, c, d)
 
 -- a piece behind which more is left
-pub next_further : (o : OpenFile) (g : FilePieces) (at : ℕ) (so_far file bytes : List ℕ) (part : Part) (further before : PiecesRead) → length bytes ≤ file_bytes_left o.file → HasAt file o.at bytes → IsOpenFile o so_far file further before → IsTaken o.file so_far bytes (behind_piece o bytes file) further (Ok (part, Some g)) → at ≡ o.at + length bytes → file_bytes_left g ≡ file_bytes_left o.file - length bytes
+pub next_further : (o : OpenFile) (g : FileCheck) (at : ℕ) (so_far file bytes : List ℕ) (part : Part) (further before : PiecesRead) → length bytes ≤ file_bytes_left o.file → HasAt file o.at bytes → IsOpenFile o so_far file further before → IsTaken o.file so_far bytes (behind_piece o bytes file) further (Ok (part, Some g)) → at ≡ o.at + length bytes → file_bytes_left g ≡ file_bytes_left o.file - length bytes
     → IsNextPiece so_far file bytes further before (Ok (part, Some (record { file = g; at = at })))
 next_further o g at so_far file bytes part further before few has is taken stands left =
     let come : behind_piece o bytes file ≡ take (file_bytes_left g) (drop at file) = ap (λ (n : ℕ). take n (drop (o.at + length bytes) file)) (sym left) ∙ ap (λ (n : ℕ). take (file_bytes_left g) (drop n file)) (sym stands) in

@@ -1,13 +1,10 @@
 -- What was read of a block, and what it comes to.
 use Rattle.std.specs.Prelude.{◌≡◌, ◌≤◌, ◌<◌, ℕ, ◌+◌, min, List, [], ◌∷◌, length, drop, Option, Some, None, Result, Ok, Err}
 use Rattle.adb_block.specs.Frames.{IsFramed, raw_size}
-use Rattle.adb_block.specs.Reading.{reading_of}
-use Rattle.adb_block.specs.declared.block.BlockKind.TheVariants as Kinds
 use Rattle.adb_block.specs.declared.block.Frame.{Frame}
-use Rattle.pkg_core.specs.Contents.{Expected}
 use Rattle.pkg_core.specs.Opened.{expected_of, left_in}
 use Rattle.pkg_core.specs.declared.walk.Walk.{Walk}
-use Rattle.piece_core.specs.Pieces.{PiecesRead, no_piece, pieces_by_blocks, refusal}
+use Rattle.piece_core.specs.Pieces.{no_piece, refusal}
 use Rattle.piece_core.specs.Places.{HasPositions, pieces_at, step_at}
 use Rattle.piece_core.specs.declared.place.BlockPlace.{BlockPlace}
 use Rattle.piece_core.specs.Taking.{file_bytes_left}
@@ -42,11 +39,6 @@ IsBlockRead place file (Ok read) =
 IsBlockRead place file (Err (Bad c)) = pieces_at place file ≡ refusal c
 IsBlockRead place file (Err Disk) = Unit {0}
 
--- the pieces of these files, from a block of contents at an offset on
-abbrev pub pieces_from_block : List Expected → ℕ → List ℕ → PiecesRead
-pieces_from_block es at file = pieces_by_blocks es
-    (reading_of (record { schema = 0; last = Some Kinds.Contents; at = at; left = drop at file }))
-
 -- what was read of a block, in a package that has it: no block is left, a block was passed, or the
 -- contents of a file begin; or the first failed test
 abbrev pub IsNextBlock : BlockPlace → List ℕ → Result BlockStep PieceFault → BlockPlace → Type 0
@@ -54,7 +46,6 @@ IsNextBlock before file (Ok End) after = pieces_at before file ≡ no_piece
 IsNextBlock before file (Ok Passed) after = pieces_at before file ≡ pieces_at after file
 IsNextBlock before file (Ok (Opened o)) after =
     IsOpenFile o [] file (pieces_at after file) (pieces_at before file)
-    × (pieces_at before file ≡ pieces_from_block (left_in before.walk) before.at file)
 IsNextBlock before file (Err (Bad c)) after = pieces_at before file ≡ refusal c
 IsNextBlock before file (Err Disk) after = Unit {0}
 

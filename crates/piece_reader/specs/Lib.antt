@@ -3,5 +3,4 @@
 pub mod Blocks
 pub mod Opened
 pub mod Readers
-pub mod FilePlaces
-pub mod Passes
+pub mod FileReading

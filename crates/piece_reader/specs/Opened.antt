@@ -1,5 +1,6 @@
 -- A file of a package whose pieces are read one by one, of the package's bytes.
 use Rattle.std.specs.Prelude.{◌≡◌, ℕ, ◌+◌, true, false, List, ◌++◌, length, take, drop, Option, Some, None, Result, Ok, Err}
+use Rattle.pkg_core.specs.Contents.{hash_fault}
 use Rattle.pkg_core.specs.Opened.{expected_of}
 use Rattle.piece_core.specs.Pieces.{PiecesRead, part_of, piece, refusal}
 use Rattle.piece_core.specs.Taking.{HasTaken, file_bytes_left, pieces_in}
@@ -19,6 +20,12 @@ pub record IsOpenFile (o : OpenFile) (so_far pkg : List ℕ)
   pub taken : HasTaken o.file so_far
   pub long : length (so_far ++ bytes_to_come o pkg) ≡ o.file.wanted.size
   pub come : pieces ≡ pieces_in o.file so_far (bytes_to_come o pkg) further
+
+-- these bytes of the file were handed out, and unless more are to come they have its digest
+abbrev pub AreTestedSoFar : OpenFile → List ℕ → Option OpenFile → Type 0
+AreTestedSoFar o bytes None = hash_fault o.file.wanted.hash.now bytes ≡ None
+AreTestedSoFar o bytes (Some further) =
+    HasTaken further.file bytes × (further.file.wanted ≡ o.file.wanted)
 
 -- it was not answered that the tree failed
 abbrev pub NotDisk : {A : Type 0} → Result A PieceFault → Type 0

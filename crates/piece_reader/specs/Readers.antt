@@ -1,5 +1,5 @@
 -- Where a reader of the pieces of a package stands, and what a call of it answers.
-use Rattle.std.specs.Prelude.{◌≡◌, ◌≤◌, ℕ, if◌then◌else◌, List, [], ◌∷◌, is_none, length, Option, Some, None, Result, Ok, Err}
+use Rattle.std.specs.Prelude.{◌≡◌, ℕ, ◌+◌, ◌-◌, if◌then◌else◌, List, [], ◌∷◌, is_none, Option, Some, None, IfSome, Result, Ok, Err}
 use Rattle.base_core.specs.declared.cause.Cause.{Cause}
 use Rattle.pkg_core.specs.Contents.{Expected}
 use Rattle.pkg_core.specs.Opened.{expected_of, left_in}
@@ -8,11 +8,10 @@ use Rattle.piece_core.specs.Pieces.{PiecesRead, no_piece, part_of, piece, refusa
 use Rattle.piece_core.specs.Places.{pieces_at}
 use Rattle.piece_core.specs.declared.part.Part.{Part}
 use Rattle.piece_core.specs.declared.place.BlockPlace.{BlockPlace}
-use Rattle.piece_reader.specs.Blocks.{pieces_from_block}
+use Rattle.pkg_pieces.specs.Seen.{HasAt}
 use Rattle.piece_reader.specs.Opened.{IsOpenFile}
 use Rattle.piece_reader.specs.declared.fault.PieceFault.{PieceFault}
 use Rattle.piece_reader.specs.declared.fault.PieceFault.TheVariants.{Bad, Disk}
-use Rattle.piece_reader.specs.declared.files.FoundFile.{FoundFile}
 use Rattle.piece_reader.specs.declared.open.OpenFile.{OpenFile}
 use Rattle.piece_reader.specs.declared.reader.Due.{Due}
 use Rattle.piece_reader.specs.declared.reader.Due.TheVariants.{Files, Nothing, Refused}
@@ -110,38 +109,46 @@ abbrev pub HasRefused : PieceFault → PieceReader → Type 0
 HasRefused (Bad c) reader = reader.due ≡ Refused c
 HasRefused Disk reader = Unit {0}
 
--- ---- the block of a file that is open
+-- ---- where a file stands
 
--- from the block on at this offset, whose file is open, these pieces come; where none is open,
--- those that are still to come
-abbrev pub AreFromBlock : Option OpenFile → List Expected → ℕ → List ℕ → PiecesRead → PiecesRead
-    → Type 0
-AreFromBlock None due block pkg pieces from = pieces ≡ from
-AreFromBlock (Some o) due block pkg pieces from = pieces_from_block due block pkg ≡ from
+-- the offset at which the file begins whose piece came last
+abbrev pub start_of_file : PieceReader → ℕ
+start_of_file reader = reader.start
 
--- the offset of the block is kept whose file a piece is a part of
-abbrev pub KeepsBlock : PieceReader → List ℕ → PiecesRead → Option Part → PieceReader → Type 0
-KeepsBlock old pkg before None new = Unit {0}
-KeepsBlock old pkg before (Some part) new = (from : PiecesRead)
-    → AreFromBlock old.opened (due_in old.place old.opened) old.block pkg before from
-    → pieces_from_block (due_in old.place old.opened) new.block pkg ≡ from
+-- how many bytes of the file that is open were handed out
+abbrev pub handed_out_from : ℕ → Option OpenFile → ℕ
+handed_out_from start None = 0
+handed_out_from start (Some o) = o.at - start
+
+abbrev pub handed_out : PieceReader → ℕ
+handed_out reader = handed_out_from reader.start reader.opened
+
+-- the bytes of a piece stand in the package, behind those of its file that were handed out before
+abbrev pub StandsAt : PieceReader → List ℕ → List ℕ → Option Part → PieceReader → Type 0
+StandsAt old pkg bytes None new = Unit {0}
+StandsAt old pkg bytes (Some part) new = HasAt pkg (start_of_file new + handed_out old) bytes
+
+-- a piece of so many bytes more was handed out of the file that is open; a file that is open stays
+-- where it begins
+pub record KeepsStart (part : Part) (len : ℕ) (old new : PieceReader) : Type 0 where
+  pub same : IfSome old.opened (λ o. start_of_file new ≡ start_of_file old)
+  pub handed : handed_out new ≡ (if part.last then 0 else handed_out old + len)
 
 -- ---- inside
 
 -- the next file that was found, and the walk behind it; None where none is due
-abbrev pub FindsFile : Walk → Option FoundFile → Walk → Type 0
+abbrev pub FindsFile : Walk → Option OpenFile → Walk → Type 0
 FindsFile before None after = left_in before ≡ []
 FindsFile before (Some found) after =
-    left_in before ≡ expected_of found.file.file.wanted ∷ left_in after
+    left_in before ≡ expected_of found.file.wanted ∷ left_in after
 
 -- the next file was found: its contents begin, and the pieces behind them come from where the
 -- reader stands then; no piece is left; or the first failed test
-abbrev pub IsFileFound : BlockPlace → List ℕ → Result (Option FoundFile) PieceFault → BlockPlace
+abbrev pub IsFileFound : BlockPlace → List ℕ → Result (Option OpenFile) PieceFault → BlockPlace
     → Type 0
 IsFileFound before pkg (Ok None) after = pieces_at before pkg ≡ no_piece
-IsFileFound before pkg (Ok (Some found)) after =
-    IsOpenFile found.file [] pkg (pieces_at after pkg) (pieces_at before pkg)
-    × (pieces_at before pkg ≡ pieces_from_block (left_in before.walk) found.block pkg)
+IsFileFound before pkg (Ok (Some o)) after =
+    IsOpenFile o [] pkg (pieces_at after pkg) (pieces_at before pkg)
 IsFileFound before pkg (Err (Bad c)) after = pieces_at before pkg ≡ refusal c
 IsFileFound before pkg (Err Disk) after = Unit {0}
 
@@ -150,12 +157,14 @@ abbrev pub IsFileOpened : PieceReader → List ℕ → PiecesRead
     → Result (Option OpenFile) PieceFault → PieceReader → Type 0
 IsFileOpened old pkg before (Ok None) new = before ≡ no_piece
 IsFileOpened old pkg before (Ok (Some o)) new =
-    ((so_far : List ℕ) × IsOpenFile o so_far pkg (pieces_at new.place pkg) before)
-    × ((from : PiecesRead)
-    → AreFromBlock old.opened (due_in old.place old.opened) old.block pkg before from
-    → pieces_from_block (due_in old.place old.opened) new.block pkg ≡ from)
+    (so_far : List ℕ) × IsOpenFile o so_far pkg (pieces_at new.place pkg) before
 IsFileOpened old pkg before (Err (Bad c)) new = before ≡ refusal c
 IsFileOpened old pkg before (Err Disk) new = Unit {0}
+
+-- the file begins there, in front of as many bytes as were handed out
+pub record IsStartOf (old : PieceReader) (o : OpenFile) (start : ℕ) : Type 0 where
+  pub stands : o.at ≡ start + handed_out old
+  pub same : IfSome old.opened (λ open. start ≡ start_of_file old)
 
 -- as AnswersNext, but for what comes after a failed test
 abbrev pub IsPieceRead : PieceReader → List ℕ → PiecesRead → List ℕ

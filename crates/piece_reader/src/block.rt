@@ -10,7 +10,7 @@ use crate::fault::PieceFault;
 use crate::open::OpenFile;
 use adb_block::{Frame, frame_of};
 use base_core::{Name, Tree};
-use piece_core::{BlockPlace, FilePieces, Step};
+use piece_core::{BlockPlace, FileCheck, Step};
 use pkg_pieces::HeadBytes;
 
 /// The bytes in front of a file's own in its contents: the positions of its folder and of itself.
@@ -74,7 +74,7 @@ pub(crate) fn next_block<'a, T: Tree>(
 }
 
 /// The file that a block at an offset opens: its bytes stand behind the header and the positions.
-fn file_at<'a>(file: FilePieces<'a>, at: u64, framing: Option<Frame>) -> OpenFile<'a>
+fn file_at<'a>(file: FileCheck<'a>, at: u64, framing: Option<Frame>) -> OpenFile<'a>
     requires { at + head_size framing + 8 < 2 ^ 64 }
     ensures file { result.file ≡ file.entry }
     ensures at { result.at ≡ at + head_size framing + 8 }

@@ -12,41 +12,32 @@ use crate::open::OpenFile;
 use base_core::{Name, Tree};
 use piece_core::BlockPlace;
 
-/// A file whose contents a block holds, and the offset of that block.
-#[derive(Drop)]
-pub(crate) struct FoundFile<'a> {
-    pub block: u64,
-    pub file: OpenFile<'a>,
-}
-
 /// Goes on to the next file whose contents a block holds; None behind the last block.
 pub(crate) fn next_file<'a, T: Tree>(
     tree: &mut T,
     name: &Name,
     place: &mut BlockPlace<'a>,
-) -> Result<Option<FoundFile<'a>>, PieceFault>
+) -> Result<Option<OpenFile<'a>>, PieceFault>
     requires { place.old.at ≤ place.old.len }
     ensures file { (seen : List ℕ)
         × IsSeenIn (T.history tree.old) name.now place.old.len place.old.at seen
         × IfOk result (λ found. IfSome found (λ next.
-        place.old.at + length seen ≡ next.file.at))
+        place.old.at + length seen ≡ next.at))
         × ((pkg : List ℕ) → length pkg ≡ place.old.len → HasAt pkg place.old.at seen
         → IsFileFound place.old pkg result place.new) }
     ensures len { place.new.len ≡ place.old.len }
     ensures within { place.new.at ≤ place.new.len }
     ensures walk { IfOk result (λ found. FindsFile place.old.walk found place.new.walk) }
     ensures room { IfOk result (λ found. IfSome found (λ next.
-        (next.file.at + file_bytes_left next.file.file ≤ place.new.at)
-        × (next.block ≤ place.new.len))) }
+        next.at + file_bytes_left next.file ≤ place.new.at)) }
     ensures tree { ReadsFile name.now place.old.len DiskFault (T.history tree.old)
         (T.history tree.new) (T.counts tree.old) (T.counts tree.new) result }
 {
     'more: loop {
-        let block = place.at;
         match next_block(tree, name, place)? {
             BlockStep::End => return Ok(None),
             BlockStep::Passed => {}
-            BlockStep::Opened(file) => return Ok(Some(FoundFile { block, file })),
+            BlockStep::Opened(file) => return Ok(Some(file)),
         }
     }
 }

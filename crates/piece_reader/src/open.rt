@@ -1,22 +1,22 @@
 //! A file of a package whose pieces are read one by one.
 
-ghost use Rattle.std.specs.Prelude.{◌≡◌, ◌≤◌, ◌<◌, ◌+◌, ◌^◌, ℕ, List, length, IfOk, IfSome};
+ghost use Rattle.std.specs.Prelude.{◌≡◌, ◌≤◌, ◌<◌, ◌+◌, ◌++◌, ◌^◌, ℕ, List, length, IfNone, IfOk, IfSome};
 ghost use Rattle.piece_core.specs.Pieces.{PiecesRead};
-ghost use Rattle.piece_core.specs.Taking.{file_bytes_left, next_len};
+ghost use Rattle.piece_core.specs.Taking.{HasTaken, file_bytes_left, next_len};
 ghost use Rattle.pkg_pieces.specs.Seen.{HasAt, IsSeen, ReadsFile};
-ghost use Rattle.piece_reader.specs.Opened.{IsNextPiece, IsOpenFile, IsPieceOf, NotDisk};
+ghost use Rattle.piece_reader.specs.Opened.{AreTestedSoFar, IsNextPiece, IsOpenFile, IsPieceOf, NotDisk};
 ghost use Rattle.piece_reader.specs.declared.fault.PieceFault.TheVariants.{Disk as DiskFault};
 
 use crate::fault::PieceFault;
 use crate::piece::Piece;
 use base_core::{Name, Tree};
-use piece_core::{FilePieces, Part};
+use piece_core::{FileCheck, Part};
 
 /// A file of a package whose pieces are being read, and the offset of its next byte in the package.
 /// Contracts see, by `Opened` of `specs/`, which bytes of the package are still to come.
 #[derive(Drop)]
 pub(crate) struct OpenFile<'a> {
-    pub(crate) file: FilePieces<'a>,
+    pub(crate) file: FileCheck<'a>,
     pub(crate) at: u64,
 }
 
@@ -46,6 +46,13 @@ impl<'a> OpenFile<'a> {
             → IsNextPiece so_far file piece.new further before result }
         ensures len { NotDisk result → length piece.new ≡ next_len self.entry.file }
         ensures part { IfOk result (IsPieceOf self.entry (length piece.new)) }
+        // Only the last piece ends the file, and behind it all bytes together have its digest.
+        ensures more { IfOk result (λ read. IfSome read.1 (λ further.
+            0 < file_bytes_left further.file)) }
+        ensures all { IfOk result (λ read. IfNone read.1
+            (length piece.new ≡ file_bytes_left self.entry.file)) }
+        ensures digest { (so_far : List ℕ) → HasTaken self.entry.file so_far
+            → IfOk result (λ read. AreTestedSoFar self.entry (so_far ++ piece.new) read.1) }
         ensures room { IfOk result (λ read. IfSome read.1 (λ further.
             further.at + file_bytes_left further.file ≡ self.entry.at + file_bytes_left self.entry.file)) }
         ensures tree { (file_len : ℕ) → self.entry.at + file_bytes_left self.entry.file ≤ file_len

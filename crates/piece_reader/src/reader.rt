@@ -1,5 +1,6 @@
 //! A reader of the pieces of a package's files, one after the other.
 
+ghost use Rattle.std.specs.Option.{ForSome};
 ghost use Rattle.std.specs.Prelude.{◌≤◌};
 ghost use Rattle.piece_reader.specs.Opened.{open_end};
 
@@ -26,17 +27,18 @@ pub(crate) enum Due {
 
 /// A reader of the contents of a package's files in pieces, block by block in the order of the
 /// package. It takes no memory. Contracts see, by `Readers` of `specs/`, which pieces of a package
-/// are still to come, and the offset from which on it is read.
+/// are still to come, the offset from which on it is read, and the one at which the file begins
+/// whose piece came last.
 #[derive(Drop)]
 pub struct PieceReader<'a> {
     pub(crate) name: &'a Name,
     pub(crate) place: BlockPlace<'a>,
     pub(crate) opened: Option<OpenFile<'a>>,
-    pub(crate) block: u64,
+    pub(crate) start: u64,
     pub(crate) due: Due,
     ghost within: { place.at ≤ place.len },
     ghost behind: { open_end opened ≤ place.at },
-    ghost begun: { block ≤ place.len },
+    ghost begun: { ForSome opened (λ file. start ≤ file.at) },
 }
 
 impl<'a> PieceReader<'a> {
@@ -49,7 +51,7 @@ impl<'a> PieceReader<'a> {
     ghost use Rattle.pkg_pieces.specs.Front.{behind_front, front_end, front_file_len};
     ghost use Rattle.pkg_pieces.specs.Seen.{HasAt, IsSeenIn, ReadsFile};
     ghost use Rattle.pkg_pieces.specs.Values.{value_of_contents};
-    ghost use Rattle.piece_reader.specs.Readers.{AnswersNext, ArePiecesFrom, ComesInOrder, GoesOnBehind, HasRefused, IsFileOpened, IsGoingOn, IsPieceRead, IsReading, KeepsBlock, OpensDue, StandsBetween, due_files, due_in, name_in_tree, offset_of, package_len};
+    ghost use Rattle.piece_reader.specs.Readers.{AnswersNext, ArePiecesFrom, ComesInOrder, GoesOnBehind, HasRefused, IsFileOpened, IsGoingOn, IsPieceRead, IsReading, IsStartOf, KeepsStart, OpensDue, StandsAt, StandsBetween, due_files, due_in, name_in_tree, offset_of, package_len, start_of_file};
     ghost use Rattle.piece_reader.specs.declared.reader.Due.TheVariants.{Files};
     ghost use Rattle.piece_reader.specs.declared.fault.PieceFault.TheVariants.{Disk as DiskFault};
 
@@ -87,9 +89,16 @@ impl<'a> PieceReader<'a> {
             name,
             place,
             opened: None,
-            block: 0,
+            start: 0,
             due: Due::Files,
         }
+    }
+
+    /// The offset at which the file begins whose piece came last.
+    pub fn file_start(&self) -> u64
+        ensures { result ≡ start_of_file self.now }
+    {
+        self.start
     }
 
     /// Reads the next piece, and gives which part of which file it is; None comes exactly behind
@@ -117,13 +126,15 @@ impl<'a> PieceReader<'a> {
             → HasAt pkg (offset_of self.old) seen
             → (before : PiecesRead) → IsReading self.old pkg before
             → AnswersNext (IsReading self.new pkg) before piece.new result
-            × IfOk result (λ found. KeepsBlock self.old pkg before found self.new)) }
+            × IfOk result (λ found. StandsAt self.old pkg piece.new found self.new)) }
         ensures order { IfOk result (λ found.
             ComesInOrder (due_files self.old) found (due_files self.new)) }
         ensures goes_on { IfOk result (λ found. IfSome found (λ part.
             GoesOnBehind part self.old self.new)) }
         ensures bytes { IfOk result (λ found. IfSome found (λ part. part.last ≡ false
             → offset_of self.old + length piece.new ≤ offset_of self.new)) }
+        ensures start { IfOk result (λ found. IfSome found (λ part.
+            KeepsStart part (length piece.new) self.old self.new)) }
         ensures refused { IfErr result (λ fault. HasRefused fault self.new) }
         ensures name { name_in_tree self.new ≡ name_in_tree self.old }
         ensures len { package_len self.new ≡ package_len self.old }
@@ -154,13 +165,15 @@ impl<'a> PieceReader<'a> {
             → HasAt pkg (offset_of self.old) seen
             → (before : PiecesRead) → IsReading self.old pkg before
             → AnswersNext (IsReading self.new pkg) before piece.new result
-            × IfOk result (λ found. KeepsBlock self.old pkg before found self.new)) }
+            × IfOk result (λ found. StandsAt self.old pkg piece.new found self.new)) }
         ensures order { IfOk result (λ found.
             ComesInOrder (due_files self.old) found (due_files self.new)) }
         ensures goes_on { IfOk result (λ found. IfSome found (λ part.
             GoesOnBehind part self.old self.new)) }
         ensures bytes { IfOk result (λ found. IfSome found (λ part. part.last ≡ false
             → offset_of self.old + length piece.new ≤ offset_of self.new)) }
+        ensures start { IfOk result (λ found. IfSome found (λ part.
+            KeepsStart part (length piece.new) self.old self.new)) }
         ensures refused { IfErr result (λ fault. HasRefused fault self.new) }
         ensures name { name_in_tree self.new ≡ name_in_tree self.old }
         ensures len { package_len self.new ≡ package_len self.old }
@@ -197,11 +210,13 @@ impl<'a> PieceReader<'a> {
             → HasAt pkg (offset_of self.old) seen
             → (before : PiecesRead) → ArePiecesFrom self.old.place self.old.opened pkg before
             → IsPieceRead self.new pkg before piece.new result
-            × IfOk result (λ found. KeepsBlock self.old pkg before found self.new)) }
+            × IfOk result (λ found. StandsAt self.old pkg piece.new found self.new)) }
         ensures order { IfOk result (λ found. ComesInOrder
             (due_in self.old.place self.old.opened) found (due_in self.new.place self.new.opened)) }
         ensures bytes { IfOk result (λ found. IfSome found (λ part. part.last ≡ false
             → offset_of self.old + length piece.new ≤ offset_of self.new)) }
+        ensures start { IfOk result (λ found. IfSome found (λ part.
+            KeepsStart part (length piece.new) self.old self.new)) }
         ensures due { self.new.due ≡ self.old.due }
         ensures open { IfOk result (λ found. IfSome found (λ part.
             is_none self.new.opened ≡ part.last)) }
@@ -236,6 +251,8 @@ impl<'a> PieceReader<'a> {
             OpensDue (due_in self.old.place self.old.opened) found self.new.place) }
         ensures room { IfOk result (λ found. IfSome found (λ file.
             file.at + file_bytes_left file.file ≤ self.new.place.at)) }
+        ensures start { IfOk result (λ found. IfSome found (λ file.
+            IsStartOf self.old file self.new.start)) }
         ensures opened { self.new.opened ≡ None }
         ensures due { self.new.due ≡ self.old.due }
         ensures name { name_in_tree self.new ≡ name_in_tree self.old }
@@ -250,7 +267,7 @@ impl<'a> PieceReader<'a> {
         let Some(found) = next_file(tree, self.name, &mut self.place)? else {
             return Ok(None);
         };
-        self.block = found.block;
-        Ok(Some(found.file))
+        self.start = found.at;
+        Ok(Some(found))
     }
 }

@@ -20,7 +20,7 @@ use adb_schema::Checked;
 use adb_tables::{Which, shape};
 use adb_view::Adb;
 use base_core::{Cause, Words};
-use piece_core::{FilePieces, Part, open_file};
+use piece_core::{FileCheck, Part, open_file};
 use pkg_core::Walk;
 use row_lines::{Subject, add_number, add_word, number_of, run_lines, value_named, word_at};
 use sha1::Sha1;
@@ -122,12 +122,12 @@ fn positions(folder: u32, file: u32) -> [u8; 8] {
 }
 
 /// The values of a package with this payload; none where a test fails.
-fn values(payload: &[u8]) -> Option<Checked<'_>>
+fn values(alloc: Global, payload: &[u8]) -> Option<Checked<'_>>
     ensures { IfSome result (λ checked. which_of checked ≡ Tables.Package) }
 {
     let adb = Adb::new(payload).ok()?;
     let shaped = shape(adb, Which::Package).ok()?;
-    Checked::new(shaped).ok()
+    Checked::new(alloc, shaped).ok()
 }
 
 /// Adds the pieces of a file: `pieces LEN`, or `pieces LEN AT`, where the byte at an offset is
@@ -142,7 +142,7 @@ fn add_pieces(alloc: Global, words: &Words, answer: &mut Vec<u8>) -> Result<(), 
             bytes[at] = 255;
         }
     }
-    let Some(checked) = values(&payload) else {
+    let Some(checked) = values(alloc, &payload) else {
         return add_word(answer, b"no package");
     };
     let mut walk = Walk::new(checked.package().paths());
@@ -155,7 +155,7 @@ fn add_pieces(alloc: Global, words: &Words, answer: &mut Vec<u8>) -> Result<(), 
 /// Adds each piece of a file, and what is answered behind the last.
 fn add_each(
     alloc: Global,
-    file: FilePieces<'_>,
+    file: FileCheck<'_>,
     bytes: &[u8],
     answer: &mut Vec<u8>,
 ) -> Result<(), AllocError> {
@@ -214,7 +214,7 @@ pub(crate) fn add_cause(
 /// Adds what blocks of contents come to in a package whose one file has three bytes: `open FOLDER
 /// FILE LEN`, by the positions and the length of the payload, and the same once more.
 fn add_opened(alloc: Global, words: &Words, answer: &mut Vec<u8>) -> Result<(), AllocError> {
-    let Some(checked) = values(ONE) else {
+    let Some(checked) = values(alloc, ONE) else {
         return add_word(answer, b"no package");
     };
     let mut walk = Walk::new(checked.package().paths());

@@ -1,4 +1,5 @@
 pub mod Listed
+pub mod OneFile
 pub mod Steps
 pub mod Digests
 pub mod Given

@@ -1,5 +1,6 @@
 -- Which files of a package have contents, and what stands for them in the blocks behind its values.
 use Rattle.std.specs.Prelude.{ℕ, ◌+◌, ◌==◌, nat_lt, Bool, bytes_eq, not, ◌&&◌, if◌then◌else◌, List, [], ◌∷◌, ◌++◌, length, drop, Option, Some, None}
+use Rattle.std.specs.List.{find}
 use Rattle.sha1.specs.Sha1.{sha1}
 use Rattle.sha2.specs.Sha256.{sha256}
 use Rattle.sha2.specs.Sha512.{sha512}
@@ -147,3 +148,16 @@ contents_in (given contents files) = contents ∷ contents_in files
 -- the first failed test of the blocks behind a package's values, block by block
 abbrev pub contents_fault : List Expected → Reading → Option Cause
 contents_fault es r = fault_in (files_by_blocks es r)
+
+-- ---- the bytes of one file
+
+abbrev pub is_of_file : ℕ → ℕ → Contents → Bool
+is_of_file folder file contents = (contents.folder == folder) && (contents.file == file)
+
+abbrev pub bytes_or_none : Option Contents → List ℕ
+bytes_or_none None = []
+bytes_or_none (Some contents) = contents.bytes
+
+-- of the file with these positions among contents; a file without contents is empty
+abbrev pub bytes_of_file : ℕ → ℕ → List Contents → List ℕ
+bytes_of_file folder file contents = bytes_or_none (find (is_of_file folder file) contents)

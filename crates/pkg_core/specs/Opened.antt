@@ -1,5 +1,6 @@
 -- What a package that is read shows, and what a call for its next file answers.
-use Rattle.std.specs.Prelude.{◌≡◌, ℕ, ◌+◌, List, [], ◌∷◌, ◌++◌, drop, Option, Some, None, Result, Ok, Err}
+use Rattle.std.specs.Prelude.{◌≡◌, ℕ, ◌+◌, ◌==◌, ◌&&◌, Bool, List, [], ◌∷◌, ◌++◌, drop, Option, Some, None, Result, Ok, Err}
+use Rattle.std.specs.List.{find}
 use Rattle.base_core.specs.declared.cause.Cause.{Cause}
 use Rattle.adb_block.specs.Reading.{reading_of}
 use Rattle.adb_view.specs.Plain.{Plain}
@@ -44,6 +45,15 @@ left_in walk =
 abbrev pub TakesFirst : List Expected → Option Wanted → List Expected → Type 0
 TakesFirst before None after = (before ≡ []) × (after ≡ [])
 TakesFirst before (Some w) after = before ≡ expected_of w ∷ after
+
+-- ---- one file
+
+abbrev pub has_positions : ℕ → ℕ → Expected → Bool
+has_positions folder file e = (e.folder == folder) && (e.file == file)
+
+-- the one with these positions, of files that have contents
+abbrev pub expected_with_positions : ℕ → ℕ → List Expected → Option Expected
+expected_with_positions folder file es = find (has_positions folder file) es
 
 -- ---- the blocks with it
 

@@ -19,4 +19,4 @@ pub use laws::{
     good_blocks_give_the_contents_of_each_file, the_first_fault_of_contents_is_reported,
 };
 pub use pack::{Package, PackageFault};
-pub use walk::{FileContents, Walk, Wanted};
+pub use walk::{FileContents, Walk, Wanted, wanted_file};

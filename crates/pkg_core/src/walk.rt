@@ -1,15 +1,15 @@
 //! The files of a package that have contents: the walk over them, and the blocks that hold their
 //! bytes.
 
-ghost use Rattle.std.specs.Prelude.{◌≡◌, ◌&&◌, ◌+◌, ◌-◌, ◌<◌, ◌≤◌, ◌^◌, drop, length, ◌==◌, [], Some, IfOk};
+ghost use Rattle.std.specs.Prelude.{◌≡◌, ◌&&◌, ◌+◌, ◌-◌, ◌<◌, ◌≤◌, ◌^◌, drop, length, ◌==◌, [], Some, IfOk, option_map};
 ghost use Rattle.adb_tables.specs.Values.{entries_in, count_of};
 ghost use Rattle.adb_schema.specs.Views.{file_value};
 ghost use Rattle.adb_fields.specs.ListValue.{list_value};
 ghost use Rattle.adb_fields.specs.Repeated.{list_of};
 ghost use Rattle.adb_rules.specs.Texts.{is_with_contents};
-ghost use Rattle.pkg_core.specs.Contents.{expected_files, contents_bytes, expected_fault, missing_fault};
+ghost use Rattle.pkg_core.specs.Contents.{expected_files, expected_folders, contents_bytes, expected_fault, missing_fault};
 ghost use Rattle.adb_view.specs.Gives.{cause_of};
-ghost use Rattle.pkg_core.specs.Opened.{expected_of};
+ghost use Rattle.pkg_core.specs.Opened.{expected_of, expected_with_positions};
 
 use crate::checks::hash_fault;
 use adb_block::{BlockKind, Blocks};
@@ -38,7 +38,6 @@ pub struct Wanted<'a> {
 
 impl<'a> Walk<'a> {
     ghost use Rattle.adb_fields.specs.Repeated.{files_in};
-    ghost use Rattle.pkg_core.specs.Contents.{expected_folders};
     ghost use Rattle.pkg_core.specs.Opened.{left_in, TakesFirst};
 
     /// A walk before the first of these folders.
@@ -94,6 +93,50 @@ impl<'a> Walk<'a> {
         }
         None
     }
+}
+
+/// The file with these positions, where it has contents: at once, however many there are. None comes
+/// exactly where there is no such file, or it has no contents.
+pub fn wanted_file<'a>(
+    folders: List<'a, DirInfo<'a>>,
+    folder: u32,
+    file: u32,
+) -> Option<Wanted<'a>>
+    ensures { option_map expected_of result ≡ expected_with_positions folder file
+        (expected_folders 1 (list_of (entries_in (list_value folders.entry)))) }
+{
+    let i = folder as usize;
+    if i == 0 {
+        return None;
+    }
+    if i > folders.len() {
+        return None;
+    }
+    wanted_in(folders.get(i).files(), folder, file)
+}
+
+/// The file with this position in a folder, where it has contents.
+fn wanted_in<'a>(files: List<'a, FileInfo<'a>>, folder: u32, file: u32) -> Option<Wanted<'a>>
+    ensures { option_map expected_of result ≡ expected_with_positions folder file
+        (expected_files folder 1 (list_of (entries_in (list_value files.entry)))) }
+{
+    let i = file as usize;
+    if i == 0 {
+        return None;
+    }
+    if i > files.len() {
+        return None;
+    }
+    let found = files.get(i);
+    if !has_contents(&found) {
+        return None;
+    }
+    Some(Wanted {
+        folder,
+        file,
+        size: found.size(),
+        hash: found.hashes(),
+    })
 }
 
 /// Whether a file has contents: it has no target, and a size above 0.

@@ -1,13 +1,14 @@
 -- What a package shows whose values were tested.
 use Rattle.std.specs.Prelude.{ℕ, List}
 use Rattle.adb_view.specs.Plain.{Plain}
-use Rattle.adb_schema.specs.Checked.{checked_value}
+use Rattle.adb_schema.specs.Soundness.{root_value}
+use Rattle.adb_tables.specs.declared.tables.Which.TheVariants.{Package}
 use Rattle.pkg_pieces.specs.declared.contents.Contents.{Contents}
-
--- its plain value
-abbrev pub value_of_contents : Contents → Plain
-value_of_contents contents = checked_value contents.checked
 
 -- the bytes that hold it
 abbrev pub payload_of_contents : Contents → List ℕ
 payload_of_contents contents = contents.payload.now
+
+-- its plain value
+abbrev pub value_of_contents : Contents → Plain
+value_of_contents contents = root_value Package (payload_of_contents contents)

@@ -1,14 +1,18 @@
 //! The values of a package whose front was read.
 
-ghost use Rattle.std.specs.Prelude.{◌≡◌, None, IfOk, IfErr};
-ghost use Rattle.adb_schema.specs.Checked.{checked_value, which_of};
+ghost use Rattle.std.specs.Prelude.{◌≡◌, true, None, IfOk, IfErr, is_none};
 ghost use Rattle.adb_schema.specs.ReadFaults.{IsReadFault};
 ghost use Rattle.adb_schema.specs.Soundness.{payload_fault, root_value};
+ghost use Rattle.adb_schema.specs.Views.{package_value};
+ghost use Rattle.adb_tables.specs.Values.{is_sound};
+ghost use Rattle.adb_tables.specs.declared.tables.Kind.TheVariants as Kinds;
 ghost use Rattle.adb_tables.specs.declared.tables.Which.TheVariants as Tables;
+ghost use Rattle.adb_view.specs.Head.{head_fault, root_of};
 
 use crate::front::Front;
-use adb_schema::{Checked, PackageView, ReadFault, repeated};
-use adb_tables::{Which, shape};
+use adb_rules::no_text_is_bad_where_each_keeps_its_rule;
+use adb_schema::{Checked, PackageView, ReadFault, View, repeated};
+use adb_tables::{Which, shape, values_of_few_visits_have_no_fault};
 use adb_view::Adb;
 use pkg_core::PackageFault;
 use sha2::{Digest, Sha256};
@@ -19,13 +23,11 @@ use std::alloc::Global;
 #[derive(Clone, Copy)]
 pub struct Contents<'a> {
     payload: &'a [u8],
-    checked: Checked<'a>,
-    ghost table: { which_of checked ≡ Tables.Package },
+    ghost tested: { is_none (payload_fault Tables.Package payload.now) ≡ true },
 }
 
 impl<'a> Contents<'a> {
     ghost use Rattle.adb_rules.specs.SoundValues.{KeepsRules};
-    ghost use Rattle.adb_schema.specs.Views.{package_value};
     ghost use Rattle.pkg_core.specs.Refusals.{IsFaultOf};
     ghost use Rattle.pkg_pieces.specs.Front.{front_payload};
     ghost use Rattle.pkg_pieces.specs.Values.{payload_of_contents, value_of_contents};
@@ -48,8 +50,18 @@ impl<'a> Contents<'a> {
             ≡ front_payload front.entry.now) }
     {
         let payload = front.payload();
-        let checked = check_payload(alloc, payload)?;
-        Ok(Contents { payload, checked })
+        check_payload(alloc, payload)?;
+        Ok(Contents { payload })
+    }
+
+    /// The values of a package in a payload that passes all tests of one. They are not made again,
+    /// and no memory is taken.
+    pub fn open(payload: &'a [u8]) -> Contents<'a>
+        requires { payload_fault Tables.Package payload.now ≡ None }
+        ensures value { value_of_contents result ≡ root_value Tables.Package payload.entry.now }
+        ensures payload { payload_of_contents result ≡ payload.entry.now }
+    {
+        Contents { payload }
     }
 
     /// Each text and number of a package keeps the rule of its field: a folder's name is a path, and
@@ -57,14 +69,14 @@ impl<'a> Contents<'a> {
     pub fn values_keep_their_rules(&self)
         ensures { KeepsRules Tables.Package (value_of_contents self.now) }
     {
-        self.checked.values_keep_their_rules();
+        no_text_is_bad_where_each_keeps_its_rule();
     }
 
     /// The package's values.
     pub fn view(&self) -> PackageView<'a>
         ensures { package_value result ≡ value_of_contents self.now }
     {
-        self.checked.package()
+        open_package(self.payload)
     }
 
     /// The package's identity: the SHA-256 (FIPS 180-4) of the bytes that hold its values.
@@ -75,20 +87,38 @@ impl<'a> Contents<'a> {
     }
 }
 
+/// The package in a payload that passes all tests of one, which are not made again.
+fn open_package(payload: &[u8]) -> PackageView<'_>
+    requires { payload_fault Tables.Package payload.now ≡ None }
+    ensures { package_value result ≡ root_value Tables.Package payload.now }
+{
+    values_of_few_visits_have_no_fault();
+    open_root(payload)
+}
+
+/// The package in a payload whose head and root pass their tests.
+fn open_root(payload: &[u8]) -> PackageView<'_>
+    requires head { is_none (head_fault payload.now) ≡ true }
+    requires sound { is_sound payload.now (Kinds.Obj Tables.Package) (root_of payload.now) ≡ true }
+    ensures { package_value result ≡ root_value Tables.Package payload.now }
+{
+    let Ok(adb) = Adb::new(payload) else {
+        unreachable!()
+    };
+    PackageView::of(adb, adb.root())
+}
+
 /// Tests the payload of a package.
-fn check_payload<'a>(alloc: Global, payload: &'a [u8]) -> Result<Checked<'a>, ReadFault>
+fn check_payload(alloc: Global, payload: &[u8]) -> Result<(), ReadFault>
     ensures bad { IfErr result
-        (λ fault. IsReadFault fault (payload_fault Tables.Package payload.entry.now)) }
-    ensures sound { IfOk result (λ _. payload_fault Tables.Package payload.entry.now ≡ None) }
-    ensures table { IfOk result (λ checked. which_of checked ≡ Tables.Package) }
-    ensures value { IfOk result (λ checked. checked_value checked
-        ≡ root_value Tables.Package payload.entry.now) }
+        (λ fault. IsReadFault fault (payload_fault Tables.Package payload.now)) }
+    ensures sound { IfOk result (λ _. payload_fault Tables.Package payload.now ≡ None) }
 {
     let adb = Adb::new(payload)?;
     let shaped = shape(adb, Which::Package)?;
-    let checked = Checked::new(shaped)?;
+    let checked = Checked::new(alloc, shaped)?;
     match repeated(alloc, &checked)? {
         Some(cause) => Err(ReadFault::Bad(cause)),
-        None => Ok(checked),
+        None => Ok(()),
     }
 }

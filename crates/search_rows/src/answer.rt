@@ -181,9 +181,9 @@ impl<'a> Packages<'a> {
     fn pool(&self, alloc: Global) -> Result<Pool<'a>, RowFault> {
         let mut pool = Pool::new(alloc);
         for (repository, payload) in self.repositories.iter().zip(self.payloads) {
-            pool.add_index(view_of(payload)?, repository.number, repository.tag)?;
+            pool.add_index(view_of(alloc, payload)?, repository.number, repository.tag)?;
         }
-        let packages = view_of(self.installed)?.packages();
+        let packages = view_of(alloc, self.installed)?.packages();
         for i in 0..packages.len() {
             pool.add_installed(packages.get(i + 1))?;
         }
@@ -192,14 +192,14 @@ impl<'a> Packages<'a> {
 }
 
 // The view of a payload of an index.
-fn view_of<'a>(payload: &'a [u8]) -> Result<IndexView<'a>, RowFault> {
+fn view_of<'a>(alloc: Global, payload: &'a [u8]) -> Result<IndexView<'a>, RowFault> {
     let Ok(adb) = Adb::new(payload) else {
         return Err(RowFault::Text);
     };
     let Ok(shaped) = shape(adb, Which::Index) else {
         return Err(RowFault::Text);
     };
-    match Checked::new(shaped) {
+    match Checked::new(alloc, shaped) {
         Ok(checked) => Ok(checked.index()),
         Err(_) => Err(RowFault::Text),
     }

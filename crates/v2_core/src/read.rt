@@ -51,7 +51,7 @@ fn check_database(alloc: Global, payload: &[u8]) -> Result<(), ReadFault>
 {
     let adb = Adb::new(payload)?;
     let shaped = shape(adb, Which::Idb)?;
-    let checked = Checked::new(shaped)?;
+    let checked = Checked::new(alloc, shaped)?;
     match repeated(alloc, &checked)? {
         Some(cause) => Err(ReadFault::Bad(cause)),
         None => Ok(()),

@@ -5,7 +5,7 @@ ghost use Rattle.adb_schema.specs.Checked.{which_of};
 ghost use Rattle.adb_tables.specs.declared.tables.Which.TheVariants as Tables;
 
 use adb_dump::dump;
-use adb_schema::{Checked, Which, shape};
+use adb_schema::{Checked, ReadFault, Which, shape};
 use adb_view::Adb;
 use base_core::Cause;
 use row_lines::add_number;
@@ -69,15 +69,15 @@ pub fn add_package_count(
 }
 
 fn add_count(alloc: Global, payload: &[u8], answer: &mut Vec<u8>) -> Result<(), AllocError> {
-    let Ok(checked) = checked_database(payload) else {
+    let Ok(checked) = checked_database(alloc, payload) else {
         return answer.extend_from_slice(b"no database");
     };
     add_number(alloc, answer, checked.idb().packages().len() as u128)
 }
 
-fn checked_database(payload: &[u8]) -> Result<Checked<'_>, Cause>
+fn checked_database(alloc: Global, payload: &[u8]) -> Result<Checked<'_>, ReadFault>
     ensures { IfOk result (λ checked. which_of checked ≡ Tables.Idb) }
 {
     let shaped = shape(Adb::new(payload)?, Which::Idb)?;
-    Checked::new(shaped)
+    Checked::new(alloc, shaped)
 }

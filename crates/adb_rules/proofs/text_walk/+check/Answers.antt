@@ -1,39 +1,42 @@
-use Rattle.std.proofs.Common.{ℕ, ◌+◌, ◌*◌, length, Some, sym, ap, ◌∙◌, arith}
-use Rattle.std.proofs.lemmas.Result.{err_from_is_err_and}
+use Rattle.std.proofs.Common.{ℕ, ◌+◌, ◌*◌, length, refl, sym, ap, ◌∙◌, arith}
 use Rattle.adb_view.specs.Adb.{payload_of}
 use Rattle.adb_view.specs.Entries.{array_entries}
-use Rattle.adb_view.specs.Gives.{cause_of}
 use Rattle.adb_tables.specs.Schema.{shape_of, shapes_of, table}
 use Rattle.adb_rules.specs.Surroundings.{surroundings_of}
+use Rattle.adb_rules.specs.TextRules.{text_at}
 use Rattle.adb_rules.specs.Texts.{field_leaves, first_bad, leaves}
-use Rattle.adb_tables.specs.Values.{entries_in, value_at}
+use Rattle.adb_tables.specs.Values.{entries_in, text_in, value_at}
 use Rattle.adb_tables.specs.declared.tables.Kind.TheVariants.{Int, Obj}
 use Rattle.adb_tables.specs.declared.tables.FieldName.TheVariants.{Name}
-use Rattle.adb_rules.proofs.TextSteps.{entry_sound, others_sound, entry_good, entry_bad, entries_end, field_sound_of, field_good_of, field_bad_of, field_below, fields_end, behind, int_done, text_done, hash_done, texts_done, objects_done, object_done, behind-zero}
+use Rattle.adb_rules.proofs.TextSteps.{entry_sound, others_sound, entry_good, entry_bad, entries_end, field_sound_of, field_good_of, field_bad_of, field_below, fields_end, behind, int_done, text_done, hash_done, texts_done, objects_done, object_done, behind-zero, hash_is_text}
 use Rattle.adb_rules.proofs.text_walk.+check.Goals as goal
 
 pub check_entries-check_value-requires : goal.check_entries-check_value-requires
-check_entries-check_value-requires t c = (omega arith, entry_sound (payload_of c.args.adb) c.args.kind (array_entries c.args.entries) c.loop-i.i c.entry_word.result (omega arith) c.loop-i.invariant.sound c.entry_word.ensures)
+check_entries-check_value-requires t c = (
+  omega arith,
+  (entry_sound (payload_of c.args.adb) c.args.kind (array_entries c.args.entries) c.loop-i.i c.entry_word-word.result (omega arith) c.loop-i.invariant.sound c.entry_word-word.ensures, ap payload_of c.loop-i.invariant.payload ∙ c.requires.payload),
+)
 
-pub check_entries-returns-in_err-check_value : goal.check_entries-returns-in_err-check_value
-check_entries-returns-in_err-check_value t c =
-    let p = err_from_is_err_and c.from_residual.result c.from_residual.ensures.1 in
-    let bad = entry_bad (payload_of c.args.adb) c.args.kind (leaves (shape_of c.args.kind) c.args.field_number (surroundings_of c.args.around)) (array_entries c.args.entries) c.loop-i.i c.entry_word.result c.in_err-check_value.field-0.0 (omega arith) c.loop-i.invariant.sound c.entry_word.ensures c.in_err-check_value.ensures in
-    ap cause_of p.1 ∙ ap Some p.2 ∙ sym bad ∙ c.loop-i.invariant.so_far
+pub check_entries-returns-in-Some-clause-cause : goal.check_entries-returns-in-Some-clause-cause
+check_entries-returns-in-Some-clause-cause t c =
+    let bad = entry_bad (payload_of c.args.adb) c.args.kind (leaves (shape_of c.args.kind) c.args.field_number (surroundings_of c.args.around)) (array_entries c.args.entries) c.loop-i.i c.entry_word-word.result c.in-Some.cause (omega arith) c.loop-i.invariant.sound c.entry_word-word.ensures (rw c.in-Some.is at c.in_ok-cause.ensures.cause) in
+    sym bad ∙ c.loop-i.invariant.so_far
 
 pub check_entries-loop-i-preserved : goal.check_entries-loop-i-preserved
 check_entries-loop-i-preserved t c = record {
+  payload = c.check_value.ensures.payload ∙ c.loop-i.invariant.payload;
   sound = others_sound (payload_of c.args.adb) c.args.kind (array_entries c.args.entries) c.loop-i.i (omega arith) c.loop-i.invariant.sound;
   so_far =
-      sym (entry_good (payload_of c.args.adb) c.args.kind (leaves (shape_of c.args.kind) c.args.field_number (surroundings_of c.args.around)) (array_entries c.args.entries) c.loop-i.i c.entry_word.result (omega arith) c.loop-i.invariant.sound c.entry_word.ensures c.in_ok-check_value.ensures)
+      sym (entry_good (payload_of c.args.adb) c.args.kind (leaves (shape_of c.args.kind) c.args.field_number (surroundings_of c.args.around)) (array_entries c.args.entries) c.loop-i.i c.entry_word-word.result (omega arith) c.loop-i.invariant.sound c.entry_word-word.ensures (sym c.in_default.is ∙ c.in_ok-cause.ensures.cause))
       ∙ c.loop-i.invariant.so_far;
 }
 
-pub check_entries-returns : goal.check_entries-returns
-check_entries-returns t c = sym (entries_end (payload_of c.args.adb) c.args.kind (leaves (shape_of c.args.kind) c.args.field_number (surroundings_of c.args.around)) (array_entries c.args.entries) c.loop-i.i (omega arith)) ∙ c.loop-i.invariant.so_far
+pub check_entries-returns-clause-cause : goal.check_entries-returns-clause-cause
+check_entries-returns-clause-cause t c = sym (entries_end (payload_of c.args.adb) c.args.kind (leaves (shape_of c.args.kind) c.args.field_number (surroundings_of c.args.around)) (array_entries c.args.entries) c.loop-i.i (omega arith)) ∙ c.loop-i.invariant.so_far
 
 pub check_fields-loop-i-init : goal.check_fields-loop-i-init
 check_fields-loop-i-init t c = record {
+  payload = refl;
   field_number = omega arith;
   so_far =
       ap (λ vs. first_bad (field_leaves (shapes_of (table c.args.which)) (100 * c.number_of-field_number.result + 1) (surroundings_of c.args.around) vs)) (behind-zero (entries_in (value_at (payload_of c.args.adb) (Obj c.args.which) c.args.object)))
@@ -44,42 +47,45 @@ pub check_fields-check_value-requires : goal.check_fields-check_value-requires
 check_fields-check_value-requires t c =
     let below = field_below c.args.which c.loop-i.i (record { name = Name; kind = Int }) c.fields_of-field-items.result.now c.fields_of-field-items.ensures (omega arith) in (
       omega arith,
-      field_sound_of (payload_of c.args.adb) c.args.which c.args.object c.loop-i.i c.field_word-word.result (record { name = Name; kind = Int }) c.fields_of-field-items.result.now c.fields_of-field-items.ensures (omega arith) c.field_word-word.ensures,
+      (field_sound_of (payload_of c.args.adb) c.args.which c.args.object c.loop-i.i c.field_word-word.result (record { name = Name; kind = Int }) c.fields_of-field-items.result.now c.fields_of-field-items.ensures (omega arith) c.field_word-word.ensures, ap payload_of c.loop-i.invariant.payload ∙ c.requires.payload),
     )
 
-pub check_fields-returns-in_err-check_value : goal.check_fields-returns-in_err-check_value
-check_fields-returns-in_err-check_value t c =
-    let p = err_from_is_err_and c.from_residual.result c.from_residual.ensures.1 in
-    let bad = field_bad_of (payload_of c.args.adb) c.args.which c.args.object c.loop-i.i c.field_word-word.result (record { name = Name; kind = Int }) (c.loop-i.field_number + 1) (surroundings_of c.args.around) c.in_err-check_value.field-0.0 c.fields_of-field-items.result.now c.fields_of-field-items.ensures (omega arith) c.field_word-word.ensures c.in_err-check_value.ensures in
-    ap cause_of p.1 ∙ ap Some p.2 ∙ sym bad ∙ c.loop-i.invariant.so_far
+pub check_fields-returns-in-Some-clause-cause : goal.check_fields-returns-in-Some-clause-cause
+check_fields-returns-in-Some-clause-cause t c =
+    let bad = field_bad_of (payload_of c.args.adb) c.args.which c.args.object c.loop-i.i c.field_word-word.result (record { name = Name; kind = Int }) (c.loop-i.field_number + 1) (surroundings_of c.args.around) c.in-Some.cause c.fields_of-field-items.result.now c.fields_of-field-items.ensures (omega arith) c.field_word-word.ensures (rw c.in-Some.is at c.in_ok-cause.ensures.cause) in
+    sym bad ∙ c.loop-i.invariant.so_far
 
 pub check_fields-loop-i-preserved : goal.check_fields-loop-i-preserved
 check_fields-loop-i-preserved t c = record {
+  payload = c.check_value.ensures.payload ∙ c.loop-i.invariant.payload;
   field_number = omega arith;
   so_far =
-      sym (field_good_of (payload_of c.args.adb) c.args.which c.args.object c.loop-i.i c.field_word-word.result (record { name = Name; kind = Int }) (c.loop-i.field_number + 1) (surroundings_of c.args.around) c.fields_of-field-items.result.now c.fields_of-field-items.ensures (omega arith) c.field_word-word.ensures c.in_ok-check_value.ensures)
+      sym (field_good_of (payload_of c.args.adb) c.args.which c.args.object c.loop-i.i c.field_word-word.result (record { name = Name; kind = Int }) (c.loop-i.field_number + 1) (surroundings_of c.args.around) c.fields_of-field-items.result.now c.fields_of-field-items.ensures (omega arith) c.field_word-word.ensures (sym c.in_default.is ∙ c.in_ok-cause.ensures.cause))
       ∙ c.loop-i.invariant.so_far;
 }
 
-pub check_fields-returns : goal.check_fields-returns
-check_fields-returns t c =
+pub check_fields-returns-clause-cause : goal.check_fields-returns-clause-cause
+check_fields-returns-clause-cause t c =
     sym (fields_end (table c.args.which) (c.loop-i.field_number + 1) (surroundings_of c.args.around) (behind c.loop-i.i (entries_in (value_at (payload_of c.args.adb) (Obj c.args.which) c.args.object))) c.loop-i.i (omega (arith, ap length c.fields_of-field-items.ensures)))
     ∙ c.loop-i.invariant.so_far
 
-pub check_value-returns-in-Int : goal.check_value-returns-in-Int
-check_value-returns-in-Int t c = int_done (payload_of c.args.adb) c.args.kind c.args.field_number (surroundings_of c.args.around) c.args.word c.int_word.result _ c.in-Int.is c.int_word.ensures c.check_number.ensures
+pub check_value-returns-in-Int-clause-cause : goal.check_value-returns-in-Int-clause-cause
+check_value-returns-in-Int-clause-cause t c = int_done (payload_of c.args.adb) c.args.kind c.args.field_number (surroundings_of c.args.around) c.args.word c.int_word.result _ c.in-Int.is c.int_word.ensures c.check_number.ensures
 
-pub check_value-returns-in-Text : goal.check_value-returns-in-Text
-check_value-returns-in-Text t c = text_done (payload_of c.args.adb) c.args.kind c.args.field_number (surroundings_of c.args.around) c.args.word c.text_word.result.now _ c.in-Text.is c.text_word.ensures c.check_text.ensures
+pub check_value-returns-in-Text-clause-cause : goal.check_value-returns-in-Text-clause-cause
+check_value-returns-in-Text-clause-cause t c = text_done (payload_of c.args.adb) c.args.kind c.args.field_number (surroundings_of c.args.around) c.args.word c.text_word.result.now _ c.in-Text.is c.text_word.ensures c.check_text.ensures.cause
 
-pub check_value-returns-in-Hash : goal.check_value-returns-in-Hash
-check_value-returns-in-Hash t c = hash_done (payload_of c.args.adb) c.args.kind c.args.field_number (surroundings_of c.args.around) c.args.word c.hash_word.result.now _ c.in-Hash.is c.hash_word.ensures c.check_text-in-Hash.ensures
+pub check_value-returns-in-Hash-clause-cause : goal.check_value-returns-in-Hash-clause-cause
+check_value-returns-in-Hash-clause-cause t c = hash_done (payload_of c.args.adb) c.args.kind c.args.field_number (surroundings_of c.args.around) c.args.word c.hash_word.result.now _ c.in-Hash.is c.hash_word.ensures c.check_text-in-Hash.ensures.cause
 
-pub check_value-returns-in-TextArr : goal.check_value-returns-in-TextArr
-check_value-returns-in-TextArr t c = texts_done (payload_of c.args.adb) c.args.kind c.args.field_number (surroundings_of c.args.around) c.args.word (array_entries c.texts_word-texts.result) _ c.in-TextArr.is c.texts_word-texts.ensures.value c.check_entries.ensures
+pub check_value-returns-in-TextArr-clause-cause : goal.check_value-returns-in-TextArr-clause-cause
+check_value-returns-in-TextArr-clause-cause t c = texts_done (payload_of c.args.adb) c.args.kind c.args.field_number (surroundings_of c.args.around) c.args.word (array_entries c.texts_word-texts.result) _ c.in-TextArr.is c.texts_word-texts.ensures.value c.check_entries.ensures.cause
 
-pub check_value-returns-in-ObjArr : goal.check_value-returns-in-ObjArr
-check_value-returns-in-ObjArr t c = objects_done (payload_of c.args.adb) c.args.kind c.in-ObjArr.which c.args.field_number (surroundings_of c.args.around) c.args.word (array_entries c.objects_word-objects.result) _ c.in-ObjArr.is c.objects_word-objects.ensures.value c.check_entries-in-ObjArr.ensures
+pub check_value-returns-in-ObjArr-clause-cause : goal.check_value-returns-in-ObjArr-clause-cause
+check_value-returns-in-ObjArr-clause-cause t c = objects_done (payload_of c.args.adb) c.args.kind c.in-ObjArr.which c.args.field_number (surroundings_of c.args.around) c.args.word (array_entries c.objects_word-objects.result) _ c.in-ObjArr.is c.objects_word-objects.ensures.value c.check_entries-in-ObjArr.ensures.cause
 
-pub check_value-returns-in-Obj : goal.check_value-returns-in-Obj
-check_value-returns-in-Obj t c = object_done (payload_of c.args.adb) c.args.kind c.in-Obj.which c.args.field_number (surroundings_of c.args.around) (surroundings_of c.inside-inside.result) c.args.word _ c.in-Obj.is c.inside-inside.ensures c.check_fields.ensures
+pub check_value-returns-in-Obj-clause-cause : goal.check_value-returns-in-Obj-clause-cause
+check_value-returns-in-Obj-clause-cause t c = object_done (payload_of c.args.adb) c.args.kind c.in-Obj.which c.args.field_number (surroundings_of c.args.around) (surroundings_of c.inside-inside.result) c.args.word _ c.in-Obj.is c.inside-inside.ensures c.check_fields.ensures.cause
+
+pub check_value-check_text-requires-in-Hash : goal.check_value-check_text-requires-in-Hash
+check_value-check_text-requires-in-Hash t c = c.hash_word.ensures ∙ ap text_in (hash_is_text (payload_of c.args.adb) c.args.word) ∙ ap (λ p. text_at p c.args.word) (sym c.requires.payload)

@@ -22,12 +22,14 @@ decreases-check_fields l = rank_of_all (table l.which) + 1
 
 abbrev pub invariant-check_entries-loop-i : goal.invariant-check_entries-loop-i
 invariant-check_entries-loop-i l = record {
+  payload : l.judged.adb ≡ l.fn.judged.adb;
   sound : are_all_sound (payload_of l.adb) l.kind (drop l.i (array_entries l.entries)) ≡ true;
   so_far : first_bad (each_leaf (leaves (shape_of l.kind) l.field_number (surroundings_of l.around)) (values_at (payload_of l.adb) l.kind (drop l.i (array_entries l.entries)))) ≡ first_bad (each_leaf (leaves (shape_of l.kind) l.field_number (surroundings_of l.around)) (values_at (payload_of l.adb) l.kind (array_entries l.entries)));
 }
 
 abbrev pub invariant-check_fields-loop-i : goal.invariant-check_fields-loop-i
 invariant-check_fields-loop-i l = record {
+  payload : l.judged.adb ≡ l.fn.judged.adb;
   field_number : l.field_number ≡ 100 * schema_number l.which + l.i;
   so_far : first_bad (field_leaves (shapes_of (drop l.i (table l.which))) (l.field_number + 1) (surroundings_of l.around) (behind l.i (entries_in (value_at (payload_of l.adb) (Obj l.which) l.object)))) ≡ first_bad (field_leaves (shapes_of (table l.which)) (100 * schema_number l.which + 1) (surroundings_of l.around) (entries_in (value_at (payload_of l.adb) (Obj l.which) l.object)));
 }

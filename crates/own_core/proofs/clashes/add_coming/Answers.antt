@@ -1,4 +1,4 @@
-use Rattle.std.proofs.Common.{◌≡◌, ap, sym, ◌∙◌, arith, map}
+use Rattle.std.proofs.Common.{ap, ◌∙◌, arith, map}
 use Rattle.adb_fields.specs.JoinedPath.{joined_path}
 use Rattle.db_core.specs.Seen.{members_of}
 use Rattle.path_claims.specs.Seen.{claim_seen}

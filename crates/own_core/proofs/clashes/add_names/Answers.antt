@@ -1,4 +1,4 @@
-use Rattle.std.proofs.Common.{◌≡◌, ap, sym, ◌∙◌, arith, map}
+use Rattle.std.proofs.Common.{arith, map}
 use Rattle.adb_fields.specs.JoinedPath.{joined_path}
 use Rattle.own_core.proofs.Written.{name_more, names_whole}
 use Rattle.own_core.proofs.clashes.add_names.Goals as goal

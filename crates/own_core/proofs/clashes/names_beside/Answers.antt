@@ -1,4 +1,4 @@
-use Rattle.std.proofs.Common.{◌≤◌, ◌+◌, ◌∙◌, ℕ, List, ap, sym, subst, length}
+use Rattle.std.proofs.Common.{◌≤◌, ◌+◌, ℕ, List, sym, subst, length}
 use Rattle.path_claims.specs.Seen.{claim_seen}
 use Rattle.path_claims.proofs.Places.{seen_at}
 use Rattle.own_core.proofs.clashes.names_beside.Goals as goal

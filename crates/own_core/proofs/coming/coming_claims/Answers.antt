@@ -1,12 +1,10 @@
-use Rattle.std.proofs.Common.{◌≡◌, List, ap, map, subst, sym, ◌∙◌}
-use Rattle.std.specs.List.{filter}
+use Rattle.std.proofs.Common.{ap, map, subst, sym, ◌∙◌}
 use Rattle.std.specs.List.Sorted.{IsSorted}
 use Rattle.std.specs.Ordering.{is_lt}
 use Rattle.std.proofs.lemmas.List.Kept.{IsSortedBy-filter}
 use Rattle.list_order.proofs.Sorting.{ranks}
-use Rattle.claim_lists.specs.Once.{HasFirsts}
 use Rattle.db_core.specs.Seen.{members_of}
-use Rattle.path_claims.specs.Claims.{PathClaim, claim_cmp}
+use Rattle.path_claims.specs.Claims.{claim_cmp}
 use Rattle.path_claims.specs.Seen.{claim_seen}
 use Rattle.path_claims.proofs.ClaimOrder.{claims_total}
 use Rattle.own_core.specs.ClaimEntries.{is_of_coming_owner}

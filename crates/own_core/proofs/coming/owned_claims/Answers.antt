@@ -1,4 +1,4 @@
-use Rattle.std.proofs.Common.{◌∙◌, ap, sym, arith}
+use Rattle.std.proofs.Common.{◌∙◌, ap, arith}
 use Rattle.db_core.specs.Seen.{members_of}
 use Rattle.file_owners.specs.Owners.{owner_of_path}
 use Rattle.path_claims.specs.Seen.{claim_seen}

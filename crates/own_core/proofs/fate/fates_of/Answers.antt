@@ -1,11 +1,10 @@
 use Rattle.std.proofs.Common.{arith}
-use Rattle.base_core.specs.Tree.{files_of}
 use Rattle.base_core.specs.declared.tree.TreeFault.TheVariants.{Disk}
 use Rattle.path_claims.specs.Seen.{claim_seen}
 use Rattle.path_claims.proofs.Places.{seen_at}
 use Rattle.own_core.specs.Fates.{claim_fate, fate_seen}
-use Rattle.own_core.specs.Sides.{change_of}
-use Rattle.own_core.proofs.TreeLoops.{found_all, found_more, reads_on, room_all, room_more}
+use Rattle.own_core.specs.Sides.{file_change_of}
+use Rattle.own_core.proofs.TreeLoops.{found_all, found_more, reads_on}
 use Rattle.own_core.proofs.fate.fates_of.Goals as goal
 
 pub fate_of-requires-clause-file : goal.fate_of-requires-clause-file
@@ -15,8 +14,10 @@ fate_of-requires-clause-file g c =
 pub loop-claim-preserved : goal.loop-claim-preserved
 loop-claim-preserved g c = record {
   tree = reads_on Disk _ _ _ _ _ _ 0 c.in_ok-fate.fate c.loop-claim.invariant.tree c.in_ok-fate.ensures.tree;
-  fates = found_more fate_seen (λ v. claim_fate (change_of c.args.change.now) (files_of v)) _ _ c.args.coming.now c.loop-claim.claim-index _ c.loop-claim.fates.items c.add_fate.new.fates.items c.in_ok-fate.fate
+  fates = found_more fate_seen (claim_fate (file_change_of c.args.change.now)) _ _ c.args.coming.now c.loop-claim.claim-index _ c.loop-claim.fates.items c.add_fate.new.fates.items c.in_ok-fate.fate
       c.loop-claim.invariant.tree.same c.loop-claim-test.true c.in_ok-add_fate.ensures c.loop-claim.invariant.fates c.in_ok-fate.ensures.fate;
-  room = room_more fate_seen (change_of c.args.change.now) c.args.coming.now c.loop-claim.claim-index _ c.loop-claim.fates.items c.add_fate.new.fates.items c.in_ok-fate.fate
-      c.loop-claim-test.true c.in_ok-add_fate.ensures c.loop-claim.invariant.room c.in_ok-fate.ensures.room;
 }
+
+pub returns-clause-fates : goal.returns-clause-fates
+returns-clause-fates g c =
+    found_all (claim_fate (file_change_of c.args.change.now)) _ c.args.coming.now c.loop-claim.claim-index _ (omega (arith, c.loop-claim-test.false)) c.loop-claim.invariant.fates

@@ -1,4 +1,4 @@
-use Rattle.std.proofs.Common.{◌≡◌, ◌∙◌, ℕ, List, Bool, ap, sym, subst, map}
+use Rattle.std.proofs.Common.{◌∙◌, List, ap, sym, subst, map}
 use Rattle.std.specs.Prelude.{◌&&◌, ◌||◌, not, is_some, bytes_eq}
 use Rattle.std.specs.List.{find, list_any}
 use Rattle.std.specs.List.Sorted.{IsSorted}
@@ -6,7 +6,7 @@ use Rattle.adb_fields.specs.JoinedPath.{joined_path}
 use Rattle.change_files.specs.Fate.{aside_name}
 use Rattle.list_order.specs.ByteOrder.{bytes_cmp}
 use Rattle.list_order.specs.Sorted.{sorted_by}
-use Rattle.path_claims.specs.Claims.{PathClaim, claim_cmp, is_of_path}
+use Rattle.path_claims.specs.Claims.{claim_cmp, is_of_path}
 use Rattle.path_claims.specs.Seen.{claim_seen}
 use Rattle.path_claims.specs.declared.claim.Claim.{Claim}
 use Rattle.own_core.specs.Parts.{asides_of}

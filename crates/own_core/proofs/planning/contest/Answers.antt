@@ -1,4 +1,3 @@
-use Rattle.std.proofs.Common.{sym}
 use Rattle.db_core.specs.Seen.{members_of}
 use Rattle.path_claims.specs.ContestedSeen.{contested_seen}
 use Rattle.own_core.proofs.Refusals.{contestable}

@@ -1,4 +1,4 @@
-use Rattle.std.proofs.Common.{◌≡◌, ◌≤◌, ◌+◌, ℕ, List, ap, sym, subst, ◌∙◌, arith, length, map}
+use Rattle.std.proofs.Common.{◌≤◌, ◌+◌, ℕ, List, ap, sym, subst, ◌∙◌, arith, length, map}
 use Rattle.change_files.specs.Fate.{aside_name}
 use Rattle.path_claims.specs.Seen.{claim_seen}
 use Rattle.path_claims.proofs.Places.{seen_at}

@@ -3,10 +3,10 @@ use Rattle.std.proofs.Common.{◌≡◌, None, Ok, length, sym, ap, ◌∙◌, s
 use Rattle.std.specs.Prelude.{IfSome}
 use Rattle.pkg_core.specs.Contents.{Expected}
 use Rattle.pkg_core.specs.Opened.{expected_of, left_in}
-use Rattle.piece_core.specs.Places.{HasAllLeft, IsOfContents, IsStepped, WalksOn}
+use Rattle.piece_core.specs.Places.{HasAllLeft, IsStepped, WalksOn}
 use Rattle.piece_core.specs.declared.place.Step.{Step}
 use Rattle.piece_core.specs.declared.place.Step.TheVariants.{End as EndStep}
-use Rattle.piece_reader.proofs.BlockStepped.{ends, from_block, opened_ends, opens, opens_within, passed_ends, passes, walks_on}
+use Rattle.piece_reader.proofs.BlockStepped.{ends, opened_ends, opens, opens_within, passed_ends, passes, walks_on}
 use Rattle.piece_reader.proofs.block.next_block.Goals as goal
 
 pub file_at-requires : goal.file_at-requires
@@ -49,7 +49,6 @@ returns-in-Ok-Opened-clause-block g c =
     let framing = c.in_ok-read.read.framing in
     let ended = subst (λ (s : Step). framing ≡ None → s ≡ EndStep) c.in-Ok-Opened.field-0-is c.in-Ok-Opened.ensures.ended in
     let left = subst (λ (s : Step). IfSome framing (λ frame. HasAllLeft frame s)) c.in-Ok-Opened.field-0-is c.in-Ok-Opened.ensures.left in
-    let kind = subst (λ (s : Step). IfSome framing (λ frame. IsOfContents frame s)) c.in-Ok-Opened.field-0-is c.in-Ok-Opened.ensures.kind in
     let b = c.in_ok-read.ensures.block in (
       b.0,
       b.1,

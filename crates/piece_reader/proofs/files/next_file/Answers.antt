@@ -38,4 +38,4 @@ returns-in-Opened-clause-file g c =
     let b = rw c.in-Opened.is at c.in_ok-next_block.ensures.block in
     let further = rw c.in-Opened.is at c.in_ok-next_block.ensures.further in
     let len = c.next_block.ensures.len in
-    found_file _ _ _ _ c.args.place.now c.more.place c.next_block.new.place b.0 c.in-Opened.file inv.tree.same inv.len inv.walk (omega (arith, further, len, inv.len)) inv.passed b.1 b.2 b.3
+    found_file _ _ _ _ c.args.place.now c.more.place c.next_block.new.place b.0 c.in-Opened.file inv.tree.same inv.len (omega (arith, further, len, inv.len)) inv.passed b.1 b.2 b.3

@@ -1,7 +1,11 @@
-use Rattle.std.proofs.Common.{subst}
-use Rattle.adb_rules.specs.SoundValues.{KeepsRules}
-use Rattle.pkg_pieces.specs.Values.{value_of_contents}
+-- The payload passes its tests.
+use Rattle.adb_schema.specs.Soundness.{payload_fault}
+use Rattle.adb_tables.specs.declared.tables.Which.TheVariants.{Package}
+use Rattle.pkg_pieces.specs.Values.{payload_of_contents}
+use Rattle.pkg_pieces.proofs.Opened.{none_of, payload_rules}
 use Rattle.pkg_pieces.proofs.contents.Contents.values_keep_their_rules.Goals as goal
 
 pub returns : goal.returns
-returns c = subst (λ which. KeepsRules which (value_of_contents c.args.self.now)) c.args.self.now.table c.values_keep_their_rules.ensures
+returns c =
+    let p = payload_of_contents c.args.self.now in
+    payload_rules c.no_text_is_bad_where_each_keeps_its_rule.ensures Package p (none_of (payload_fault Package p) c.args.self.now.tested)

@@ -1,0 +1,100 @@
+//! The rules that look at each byte of a text, and the long texts of a payload that were found to
+//! keep one. Many places may share a text, so a long one is judged once.
+
+ghost use Rattle.std.specs.Prelude.{◌≡◌, All, IfOk};
+ghost use Rattle.std.specs.Bool.{OnTrue};
+ghost use Rattle.adb_view.specs.Adb.{payload_of};
+ghost use Rattle.adb_rules.specs.TextRules.{KeepsTextRule, keeps_text_rule, text_at};
+
+use crate::rules::{is_folder_name, is_one_part, is_target, is_version, is_version_or_empty};
+use adb_view::{Adb, Val};
+use base_core::is_name;
+use dep_core::{is_dep_name, is_package_name};
+use std::alloc::{AllocError, Global};
+use std::collections::BTreeSet;
+
+/// How many bytes a text has at most that is judged at each place where it stands.
+const SHORT: usize = 64;
+
+/// A rule that looks at each byte of a text, and at nothing around it.
+#[derive(Clone, Copy, Debug, PartialEq, Eq, PartialOrd, Ord)]
+pub(crate) enum TextRule {
+    DependencyName,
+    PackageName,
+    Version,
+    VersionOrEmpty,
+    Name,
+    FolderName,
+    OnePart,
+    Target,
+}
+
+impl TextRule {
+    /// Whether a text keeps it.
+    fn is_kept_by(self, text: &[u8]) -> bool
+        ensures { result ≡ keeps_text_rule self text.now }
+    {
+        match self {
+            TextRule::DependencyName => is_dep_name(text),
+            TextRule::PackageName => is_package_name(text),
+            TextRule::Version => is_version(text),
+            TextRule::VersionOrEmpty => is_version_or_empty(text),
+            TextRule::Name => is_name(text),
+            TextRule::FolderName => is_folder_name(text),
+            TextRule::OnePart => is_one_part(text),
+            TextRule::Target => is_target(text),
+        }
+    }
+}
+
+/// A payload, and the words of its long texts that were found to keep a rule, each with the rule.
+#[derive(Drop)]
+pub(crate) struct Judged<'a> {
+    adb: Adb<'a>,
+    good: BTreeSet<(TextRule, u32)>,
+    ghost kept: { All (KeepsTextRule (payload_of adb)) good.keys },
+}
+
+impl<'a> Judged<'a> {
+    /// Nothing is known of a payload's texts.
+    pub(crate) fn new(alloc: Global, adb: Adb<'a>) -> Judged<'a>
+        ensures { result.adb ≡ adb.entry }
+    {
+        Judged {
+            adb,
+            good: BTreeSet::new(alloc),
+        }
+    }
+
+    /// Whether the text of a word keeps a rule. Only a long text that is found to keep it takes
+    /// memory, and each once for each rule.
+    pub(crate) fn keeps(
+        &mut self,
+        rule: TextRule,
+        word: Val,
+        text: &[u8],
+    ) -> Result<bool, AllocError>
+        requires { text.now ≡ text_at (payload_of self.old.adb) word }
+        ensures value { IfOk result (λ kept. kept ≡ keeps_text_rule rule text.now) }
+        ensures payload { self.new.adb ≡ self.old.adb }
+    {
+        if text.len() <= SHORT {
+            return Ok(rule.is_kept_by(text));
+        }
+        if self.is_good(rule, word) {
+            return Ok(true);
+        }
+        if !rule.is_kept_by(text) {
+            return Ok(false);
+        }
+        self.good.insert((rule, word.word()))?;
+        Ok(true)
+    }
+
+    /// Whether the text of a word is known to keep a rule.
+    fn is_good(&self, rule: TextRule, word: Val) -> bool
+        ensures { OnTrue result (KeepsTextRule (payload_of self.now.adb) (rule, word)) }
+    {
+        self.good.contains(&(rule, word.word()))
+    }
+}

@@ -1,0 +1,12 @@
+-- What becomes of the names that are left is still to come.
+use Rattle.std.proofs.Common.{◌≡◌, ◌++◌, map, drop}
+use Rattle.db_core.specs.Seen.{packages_of}
+use Rattle.package_changes.specs.Seen.{placed_name_seen}
+use Rattle.package_changes.specs.SelectedNames.{placed_name_at}
+use Rattle.package_changes.proofs.placed.placed_names.Given as goal
+
+abbrev pub invariant-loop-name : goal.invariant-loop-name
+invariant-loop-name l =
+    map placed_name_seen l.list.items
+    ++ map (placed_name_at (packages_of l.db) l.pool l.again l.selected) (map (λ n. n.now) (drop l.name-index l.names))
+    ≡ map (placed_name_at (packages_of l.db) l.pool l.again l.selected) (map (λ n. n.now) l.names)

@@ -1,0 +1,269 @@
+//! What becomes of each package, name by name.
+ghost use Rattle.adb_fields.specs.Repeated.{package_name};
+ghost use Rattle.adb_schema.specs.Views.{package_value};
+ghost use Rattle.change_files.specs.PlanLists.{names_in_order};
+ghost use Rattle.db_core.specs.Packages.{is_package_named};
+ghost use Rattle.db_core.specs.Seen.{packages_of};
+ghost use Rattle.package_changes.specs.Changes.{change_between};
+ghost use Rattle.package_changes.specs.Placed.{candidates_at, placed_name_with, placed_names_of};
+ghost use Rattle.package_changes.specs.Seen.{change_seen, placed_name_seen, placed_names_seen, replacement_by};
+ghost use Rattle.package_changes.specs.SelectedNames.{placed_name_at};
+ghost use Rattle.pool_core.specs.Candidates.{Candidate as CandidateValue};
+ghost use Rattle.pool_core.specs.Rank.{candidate_at};
+ghost use Rattle.pool_core.specs.Values.{candidate_value};
+ghost use Rattle.std.specs.Option.{ForSome};
+ghost use Rattle.std.specs.List.{list_any, position_from};
+ghost use Rattle.std.specs.Prelude.{◌≡◌, ◌<◌, ◌==◌, ◌++◌, Some, length, map, bytes_eq, option_map, option_and_then, option_to_list, slice_get, IfOk, OnOk};
+
+use crate::change::{Change, install, purge, replace};
+use crate::names::names_in_order;
+use crate::selected::{SelectedNames, candidate_at};
+use adb_schema::PackageView;
+use base_core::Words;
+use db_core::Db;
+use pool_core::{CandId, Candidate, Sealed};
+use solve_core::Trace;
+use std::alloc::{AllocError, Global};
+use std::marker::PhantomData;
+
+/// A name of a package of the database or of a selected candidate, and what becomes of the package.
+#[derive(Clone, Copy)]
+pub struct PlacedName<'a> {
+    pub name: &'a [u8],
+    /// What becomes of the package, if anything does.
+    pub change: Option<Change<'a>>,
+    /// The place in the database of the package before, counted from 0, if it was there.
+    pub old: Option<usize>,
+    pub(crate) new: Option<u32>,
+}
+
+impl<'a> PlacedName<'a> {
+    /// The place of its candidate, if one is selected.
+    pub fn new_place(&self) -> Option<CandId>
+        ensures { result ≡ self.now.new }
+    {
+        match self.new {
+            Some(place) => Some(CandId { place }),
+            None => None,
+        }
+    }
+}
+
+/// The names of the packages of a database and of the selected candidates, in byte order, each once.
+#[derive(Drop)]
+pub struct PlacedNames<'a> {
+    pub(crate) list: Vec<PlacedName<'a>>,
+}
+
+impl<'a> PlacedNames<'a> {
+    /// What becomes of each package where the candidates of a selection take the place of the
+    /// packages of a database, and some names are to be installed again. It takes time in
+    /// proportion to n log n in the number of packages and candidates, and to the names that are to
+    /// be installed again for each package that stays.
+    pub fn of(
+        alloc: Global,
+        db: &Db<'a>,
+        pool: &Sealed<'a>,
+        trace: &Trace,
+        again: &Words,
+    ) -> Result<PlacedNames<'a>, AllocError>
+        ensures { IfOk result (λ names. placed_names_seen names
+            ≡ placed_names_of (replacement_by db.now pool.now trace.now again.now)) }
+    {
+        let selected = SelectedNames::of(alloc, pool, trace)?;
+        let names = names_on_both_sides(alloc, db, pool, trace)?;
+        let list = placed_names(alloc, db, pool, again, &selected, &names)?;
+        Ok(PlacedNames { list })
+    }
+
+    /// How many there are.
+    pub fn len(&self) -> usize
+        ensures { result ≡ length (placed_names_seen self.now) }
+    {
+        self.list.len()
+    }
+
+    /// Whether there is none.
+    pub fn is_empty(&self) -> bool
+        ensures { result ≡ (length (placed_names_seen self.now) == 0) }
+    {
+        self.list.is_empty()
+    }
+
+    /// The one at a place, counted from 0.
+    pub fn get(&self, i: usize) -> &PlacedName<'a>
+        requires { i < length (placed_names_seen self.now) }
+        ensures { slice_get (placed_names_seen self.now) i ≡ Some (placed_name_seen result.now) }
+    {
+        &self.list[i]
+    }
+}
+
+/// The names of the packages of a database and of the selected candidates, in byte order.
+fn names_on_both_sides<'a>(
+    alloc: Global,
+    db: &Db<'a>,
+    pool: &Sealed<'a>,
+    trace: &Trace,
+) -> Result<Vec<&'a [u8]>, AllocError>
+    ensures { IfOk result (λ names. map (λ n. n.now) names.items
+        ≡ names_in_order (map package_name (packages_of db.now)
+        ++ map (λ (c : CandidateValue). c.name) (candidates_at pool.now trace.now))) }
+{
+    let mut names = Vec::new(alloc);
+    push_old_names(&mut names, db)?;
+    push_selected_names(&mut names, pool, trace)?;
+    names_in_order(names)
+}
+
+/// Adds the names of the packages of a database.
+fn push_old_names<'a>(names: &mut Vec<&'a [u8]>, db: &Db<'a>) -> Result<(), AllocError>
+    ensures { OnOk result (map (λ n. n.now) names.new.items
+        ≡ map (λ n. n.now) names.old.items ++ map package_name (packages_of db.now)) }
+{
+    for i in 0..db.len() {
+        names.push(name_at(db, i, PhantomData))?;
+    }
+    Ok(())
+}
+
+/// The name of the package at a place. The mark serves the borrow checker alone, which does not
+/// know the parts of a view that is made and lent here unless the signature names the view.
+fn name_at<'a>(db: &Db<'a>, i: usize, _mark: PhantomData<PackageView<'a>>) -> &'a [u8]
+    requires { i < length (packages_of db.now) }
+    ensures { option_map package_name (slice_get (packages_of db.now) i) ≡ Some result.now }
+{
+    let pkg = db.package(i);
+    name_of(&pkg, PhantomData)
+}
+
+/// The name of a package.
+fn name_of<'a>(pkg: &PackageView<'a>, _mark: PhantomData<PackageView<'a>>) -> &'a [u8]
+    ensures { result.now ≡ package_name (package_value pkg.now) }
+{
+    let info = pkg.info();
+    info.name()
+}
+
+/// Adds the names of the selected candidates.
+fn push_selected_names<'a>(
+    names: &mut Vec<&'a [u8]>,
+    pool: &Sealed<'a>,
+    trace: &Trace,
+) -> Result<(), AllocError>
+    ensures { OnOk result (map (λ n. n.now) names.new.items
+        ≡ map (λ n. n.now) names.old.items
+        ++ map (λ (c : CandidateValue). c.name) (candidates_at pool.now trace.now)) }
+{
+    for i in 0..trace.len() {
+        push_selected_name(names, pool, trace.get(i))?;
+    }
+    Ok(())
+}
+
+/// Adds the name of the candidate at a place, if there is one.
+fn push_selected_name<'a>(
+    names: &mut Vec<&'a [u8]>,
+    pool: &Sealed<'a>,
+    id: CandId,
+) -> Result<(), AllocError>
+    ensures { OnOk result (map (λ n. n.now) names.new.items
+        ≡ map (λ n. n.now) names.old.items
+        ++ map (λ (c : CandidateValue). c.name) (option_to_list (candidate_at pool.now id))) }
+{
+    match pool.at(id) {
+        None => Ok(()),
+        Some(details) => {
+            names.push(details.name())?;
+            Ok(())
+        }
+    }
+}
+
+/// What becomes of the packages with these names.
+fn placed_names<'a>(
+    alloc: Global,
+    db: &Db<'a>,
+    pool: &Sealed<'a>,
+    again: &Words,
+    selected: &SelectedNames<'a>,
+    names: &[&'a [u8]],
+) -> Result<Vec<PlacedName<'a>>, AllocError>
+    ensures { IfOk result (λ list. map placed_name_seen list.items
+        ≡ map (placed_name_at (packages_of db.now) pool.now again.now selected.now)
+        (map (λ n. n.now) names.now)) }
+{
+    let mut list = Vec::new(alloc);
+    for name in names {
+        list.push(placed_name(db, pool, again, name, selected.place_of(name)))?;
+    }
+    Ok(list)
+}
+
+/// What becomes of the package with this name, whose candidate has this place.
+fn placed_name<'a>(
+    db: &Db<'a>,
+    pool: &Sealed<'a>,
+    again: &Words,
+    name: &'a [u8],
+    new: Option<u32>,
+) -> PlacedName<'a>
+    ensures { placed_name_seen result
+        ≡ placed_name_with (packages_of db.now) pool.now again.now name.entry.now
+        (position_from (is_package_named name.entry.now) 0 (packages_of db.now)) new }
+{
+    let old = db.find(name);
+    let change = change_between(db, pool, again, name, old, new);
+    PlacedName {
+        name,
+        change,
+        old,
+        new,
+    }
+}
+
+/// What becomes of the package with this name, which has these places.
+fn change_between<'a>(
+    db: &Db<'a>,
+    pool: &Sealed<'a>,
+    again: &Words,
+    name: &'a [u8],
+    old: Option<usize>,
+    new: Option<u32>,
+) -> Option<Change<'a>>
+    requires { ForSome old (λ i. i < length (packages_of db.now)) }
+    ensures { option_map change_seen result
+        ≡ change_between (list_any (bytes_eq name.entry.now) again.now) name.entry.now
+        (option_and_then (slice_get (packages_of db.now)) old)
+        (option_and_then (candidate_at pool.now) new) }
+{
+    match (old, candidate_of(pool, new)) {
+        (None, None) => None,
+        (None, Some(c)) => Some(install(name, &c)),
+        (Some(i), None) => Some(purge(name, db, i, PhantomData)),
+        (Some(i), Some(c)) => replace(name, db, i, &c, is_word(again, name), PhantomData),
+    }
+}
+
+/// The candidate at a place, if there is one.
+fn candidate_of<'a>(pool: &Sealed<'a>, place: Option<u32>) -> Option<Candidate<'a>>
+    ensures { option_map candidate_value result
+        ≡ option_and_then (candidate_at pool.now) place }
+{
+    match place {
+        None => None,
+        Some(place) => candidate_at(pool, CandId { place }),
+    }
+}
+
+/// Whether a text is one of the words.
+fn is_word(words: &Words, text: &[u8]) -> bool
+    ensures { result ≡ list_any (bytes_eq text.now) words.now }
+{
+    for i in 0..words.len() {
+        if text == words.word(i) {
+            return true;
+        }
+    }
+    false
+}

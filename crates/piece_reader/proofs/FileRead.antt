@@ -1,0 +1,1 @@
+-- The bytes of a single file, piece by piece.
