@@ -15,4 +15,3 @@ pool_world inputs pool is = by_size _ _ is
     by_size : (b : Bool) (refusal : Refusal) → (if b then Err refusal else Ok (sealed_pool_by (candidates_of inputs) inputs.root.new_world no_names)) ≡ Ok pool → pool.world ≡ inputs.root.new_world
     by_size true refusal is = cc
     by_size false refusal is = let same : sealed_pool_by (candidates_of inputs) inputs.root.new_world no_names ≡ pool = cc in ap (λ (p : SealedPool). p.world) (sym same)
-

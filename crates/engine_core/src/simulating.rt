@@ -24,7 +24,12 @@ pub(crate) fn simulate(
 {
     let none = Words::new(alloc);
     let to_go = names_to_go(alloc, command)?;
-    let Selection { db, pool, trace, .. } = *selection;
+    let Selection {
+        db,
+        pool,
+        trace,
+        ..
+    } = *selection;
     let changes = Changes::of(alloc, db, pool, trace, &none)?;
     simulated_report(alloc, db, pool, trace, &changes, &to_go)
 }

@@ -97,11 +97,7 @@ impl<'a> Walk<'a> {
 
 /// The file with these positions, where it has contents: at once, however many there are. None comes
 /// exactly where there is no such file, or it has no contents.
-pub fn wanted_file<'a>(
-    folders: List<'a, DirInfo<'a>>,
-    folder: u32,
-    file: u32,
-) -> Option<Wanted<'a>>
+pub fn wanted_file<'a>(folders: List<'a, DirInfo<'a>>, folder: u32, file: u32) -> Option<Wanted<'a>>
     ensures { option_map expected_of result ≡ expected_with_positions folder file
         (expected_folders 1 (list_of (entries_in (list_value folders.entry)))) }
 {

@@ -27,14 +27,14 @@ module _ (ignored : List ℕ → Bool) (G : Files) (v u : TreeState) (still : Is
   each_before [] first each so_far = so_far
   each_before (w ∷ added) first each so_far = (way_before ignored G v u w added first still each.0, each_before added first each.1 so_far)
 
-  way_from : (first mid new : History) → SinceBy (IsOnTheWay ignored G v) first mid → SinceBy (IsOnTheWay ignored G u) mid new → SinceBy (IsOnTheWay ignored G v) first new
+  pub way_from : (first mid new : History) → SinceBy (IsOnTheWay ignored G v) first mid → SinceBy (IsOnTheWay ignored G u) mid new → SinceBy (IsOnTheWay ignored G v) first new
   way_from first mid new before then = record {
     added = then.added ++ before.added;
     is = then.is ∙ ap (λ (l : History). then.added ++ l) before.is ∙ sym (append_assoc then.added before.added first);
     each = each_before then.added before.added then.each before.each;
   }
 
-still_way : (ignored : List ℕ → Bool) (G : Files) (v : TreeState) (old new : History) → Since (IsStill ignored v) old new → SinceBy (IsOnTheWay ignored G v) old new
+pub still_way : (ignored : List ℕ → Bool) (G : Files) (v : TreeState) (old new : History) → Since (IsStill ignored v) old new → SinceBy (IsOnTheWay ignored G v) old new
 still_way ignored G v old new since = since_by (IsOnTheWay ignored G v) old new (since_weaker (IsStill ignored v) (λ w. (earlier : History) → IsOnTheWay ignored G v earlier w) old new (still_on_the_way ignored G v) since)
 
 -- what only stages leads to any files
@@ -81,7 +81,7 @@ read_entering G empty u w unread keeps reads = by (w.names intent_name) refl
         let has = subst IsSome (sym some) refl in
         inr (inl (has, emptied_at G empty w (reads has)))
 
-read_from : (G old : Files) (u w : TreeState) → IsReadButWaiting old u → IsReadInChange G (files_of u) w → IsReadInChange G old w
+pub read_from : (G old : Files) (u w : TreeState) → IsReadButWaiting old u → IsReadInChange G (files_of u) w → IsReadInChange G old w
 read_from G old u w before (inl reads) = inl (λ q shown. reads q shown ∙ before q shown)
 read_from G old u w before (inr reads) = inr reads
 
