@@ -21,7 +21,7 @@ use Rattle.change_files.proofs.Untouched.{changed_so}
 use Rattle.db_core.specs.Members.{Listing}
 use Rattle.journal_core.specs.Staged.{HasRoomBeside, HasRoomToStage, IsEmptyStage, MayBePresent}
 use Rattle.journal_intent.specs.FreeNames.{IsTakenName}
-use Rattle.journal_intent.specs.Intent.{is_staged, stage_name}
+use Rattle.journal_intent.specs.Intent.{intent_name, is_staged, stage_name}
 use Rattle.list_order.specs.ByteOrder.{precedes, smaller, smallest}
 use Rattle.path_clashes.specs.Clash.{HasNoClash, is_name_after}
 use Rattle.path_clashes.proofs.FolderLike.{folder_like}
