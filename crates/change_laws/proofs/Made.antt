@@ -14,6 +14,7 @@ use Rattle.db_core.specs.Members.{Member}
 use Rattle.db_write.specs.NewDatabase.{database_of}
 use Rattle.file_owners.specs.Owners.{contested_of, owned_of}
 use Rattle.journal_core.specs.Staged.{HasRoomToStage}
+use Rattle.journal_intent.specs.Intent.{intent_name}
 use Rattle.journal_intent.specs.IntentValue.{intent_of_lists, value_of_intent}
 use Rattle.make_info.specs.Reads.{Reads}
 use Rattle.package_changes.specs.Changes.{Replacement}
@@ -26,7 +27,7 @@ use Rattle.change_laws.specs.Made.{IsChangeMade}
 use Rattle.change_laws.specs.Premises.{IsRootOfFiles}
 use Rattle.change_laws.proofs.ChangeLeads.{does_nothing}
 use Rattle.change_laws.proofs.ClashExists.{clash_exists}
-use Rattle.change_laws.proofs.Room.{room}
+use Rattle.change_laws.proofs.Room.{no_intent, room}
 
 -- ---- values that are not refused
 
@@ -102,6 +103,11 @@ module _ (inputs : Inputs) (r : Replacement) (wishes : ChangeWishes) (read : Rea
   keeps_room m clashes stage =
       subst (λ (d : ChangeDone). HasRoomToStage d.files) (sym m.is)
       (room (file_change inputs wishes m.found) _ (new_records inputs m.database) files m.unreserved stage (no_clash_found m clashes))
+
+  pub brings_no_intent : IsChangeMade inputs r wishes read clash files done → files intent_name ≡ None → done.files intent_name ≡ None
+  brings_no_intent m absent =
+      ap (λ (d : ChangeDone). d.files intent_name) m.is
+      ∙ no_intent (file_change inputs wishes m.found) _ (new_records inputs m.database) files m.unreserved absent
 
 -- ---- the first clash
 

@@ -6,7 +6,7 @@ use Rattle.base_core.specs.Files.{Files}
 use Rattle.base_core.specs.declared.cause.Cause.{Cause}
 use Rattle.change_inputs.specs.Chains.{and_then, unless_cause}
 use Rattle.change_inputs.specs.Database.{Database, payload_database, root_database}
-use Rattle.change_inputs.specs.Inputs.{Inputs, Root, database_read, indexes_of, inputs_by, inputs_of, repositories_read, root_by, root_found, root_of, text_database_read, world_read}
+use Rattle.change_inputs.specs.Inputs.{Inputs, Root, database_read, indexes_of, inputs_by, inputs_of, repositories_read, root_by, root_found, root_for, text_database_read, world_read}
 use Rattle.change_inputs.specs.Repositories.{root_repositories}
 use Rattle.change_inputs.specs.World.{root_world, text_found}
 use Rattle.command_core.specs.Command.{CommandLine}
@@ -66,7 +66,7 @@ module _ (command : CommandLine) (file text world_file repositories_file : Optio
 pub root_read : (command : CommandLine) (read : Reads) (inputs : Inputs) (files : Files) → ((n : ℕ) (name : List ℕ) → read n name ≡ files name) → inputs_of command read ≡ Ok inputs → IsRootOfFiles files inputs.root
 unfolding inputs_of
 root_read command read inputs files reads e =
-    let root = and_then_ok (root_of command read) (λ root. and_then (indexes_of read root.repositories) (λ indexes. Ok (inputs_by root indexes))) inputs e in
+    let root = and_then_ok (root_for command read) (λ root. and_then (indexes_of read root.repositories) (λ indexes. Ok (inputs_by root indexes))) inputs e in
     let indexes = and_then_ok (indexes_of read root.0.repositories) (λ indexes. Ok (inputs_by root.0 indexes)) inputs root.2 in
     let same : inputs_by root.0 indexes.0 ≡ inputs = (let last = indexes.2 in cc) in
     let records = root_records command (read database_read database_name) (read text_database_read text_database_name) (read world_read world_name) (read repositories_read repositories_name) root.0 root.1 in

@@ -21,7 +21,7 @@ use Rattle.change_files.proofs.Untouched.{changed_so}
 use Rattle.db_core.specs.Members.{Listing}
 use Rattle.journal_core.specs.Staged.{HasRoomBeside, HasRoomToStage, IsEmptyStage, MayBePresent}
 use Rattle.journal_intent.specs.FreeNames.{IsTakenName}
-use Rattle.journal_intent.specs.Intent.{is_staged, stage_name}
+use Rattle.journal_intent.specs.Intent.{intent_name, is_staged, stage_name}
 use Rattle.list_order.specs.ByteOrder.{precedes, smaller, smallest}
 use Rattle.path_clashes.specs.Clash.{HasNoClash, is_name_after}
 use Rattle.path_clashes.proofs.FolderLike.{folder_like}
@@ -145,6 +145,58 @@ no_folder_of_world : (p : List ℕ) → IsTakenName p → IsFolderOf p world_nam
 no_folder_of_world p (inl is) (rest, e) = let same : 101 ≡ 108 = ap (λ (x : List ℕ). get_or x 0 0) (e ∙ ap (λ (x : List ℕ). x ++ 47 ∷ rest) is) in omega (arith, same)
 no_folder_of_world p (inr (k, is)) (rest, e) = let same : 101 ≡ 108 = ap (λ (x : List ℕ). get_or x 0 0) (e ∙ ap (λ (x : List ℕ). x ++ 47 ∷ rest) is) in omega (arith, same)
 
+-- ---- reserved names
+
+staged_reserved : (q : List ℕ) → is_staged q ≡ true → is_reserved q ≡ true
+staged_reserved q staged = third (is_at_or_below (codes "etc/apk/world") q) (is_at_or_below (codes "lib/apk/intent") q) (bytes_eq q (codes "lib/apk/stage")) (is_staged q) (is_at_or_below (codes "lib/apk/db") q) staged
+  where
+    third : (a b c d e : Bool) → d ≡ true → (a || (b || ((c || d) || (e || false)))) ≡ true
+    third true b c d e t = refl
+    third false true c d e t = refl
+    third false false true d e t = refl
+    third false false false true e t = refl
+    third false false false false e t = absurd (true≢false (sym t))
+
+-- a name of which a test is true that is false of the three is none of them
+unlike_records : (test : List ℕ → Bool) (records : Records) (q : List ℕ) → test database_name ≡ false → test world_name ≡ false → test text_database_name ≡ false → test q ≡ true → is_record_name records q ≡ false
+unlike_records test records q database world text passes = false_from_ne_true (is_record_name records q) (λ is. by_name (or_cases (bytes_eq q database_name) (bytes_eq q world_name || (records.takes_text_over && bytes_eq q text_database_name)) is))
+  where
+    never : (name : List ℕ) → test name ≡ false → bytes_eq q name ≡ true → ⊥
+    never name fails same = true≢false (sym passes ∙ (ap test ((bytes_eq-Decides q name).0 same) ∙ fails))
+
+    by_name : (bytes_eq q database_name ≡ true) ⊎ ((bytes_eq q world_name || (records.takes_text_over && bytes_eq q text_database_name)) ≡ true) → ⊥
+    by_name (inl same) = never database_name database same
+    by_name (inr other) =
+        elim (or_cases (bytes_eq q world_name) (records.takes_text_over && bytes_eq q text_database_name) other) [
+          | inl same ↦ never world_name world same
+          | inr both ↦ never text_database_name text (and_parts records.takes_text_over (bytes_eq q text_database_name) both).1
+        ]
+
+no_record : (records : Records) (q : List ℕ) → is_staged q ≡ true → is_record_name records q ≡ false
+no_record records q staged = unlike_records is_staged records q refl refl refl staged
+
+intent_no_record : (records : Records) → is_record_name records intent_name ≡ false
+intent_no_record records = unlike_records (λ q. bytes_eq q intent_name) records intent_name refl refl refl refl
+
+-- a reserved name that is absent stays so
+module _ (change : FileChange) (bytes_of : Listing → List ℕ) (records : Records) (files : Files) (none : first_reserved change.members ≡ None) where
+  unwritten : (q : List ℕ) → is_reserved q ≡ true → (o : Option Listing) → written_as change files q ≡ o → o ≡ None
+  unwritten q reserved None is = refl
+  unwritten q reserved (Some l) is = absurd (true≢false (sym reserved ∙ written_unreserved change files q l none is))
+
+  stays_absent : (b : Bool) (o : Option (List ℕ)) → o ≡ None → bytes_after bytes_of None b o ≡ None
+  stays_absent true o absent = refl
+  stays_absent false o absent = absent
+
+  reserved_absent : (q : List ℕ) → is_reserved q ≡ true → is_record_name records q ≡ false → files q ≡ None → changed_files change bytes_of records files q ≡ None
+  reserved_absent q reserved other absent =
+      changed_so change bytes_of records files q other
+      ∙ (ap (λ (o : Option Listing). bytes_after bytes_of o (is_removed change files q) (files q)) (unwritten q reserved (written_as change files q) refl)
+      ∙ stays_absent (is_removed change files q) (files q) absent)
+
+  pub no_intent : files intent_name ≡ None → changed_files change bytes_of records files intent_name ≡ None
+  no_intent absent = reserved_absent intent_name refl (intent_no_record records) absent
+
 module _ (change : FileChange) (bytes_of : Listing → List ℕ) (records : Records) (files : Files) (none : first_reserved change.members ≡ None) (stage : HasRoomToStage files) (apart : HasNoClash (name_change change files) files) where
   abbrev after : Files
   after = changed_files change bytes_of records files
@@ -203,45 +255,8 @@ module _ (change : FileChange) (bytes_of : Listing → List ℕ) (records : Reco
       apart_names p q above (inr taken) (inl there) = nothing_below p q above taken there
       apart_names p q above (inr taken_p) (inr taken_q) = stage.beside.folders p q above (inr taken_p) (inr taken_q)
 
-  -- ---- nothing waits
-
-  staged_reserved : (q : List ℕ) → is_staged q ≡ true → is_reserved q ≡ true
-  staged_reserved q staged = third (is_at_or_below (codes "etc/apk/world") q) (is_at_or_below (codes "lib/apk/intent") q) (bytes_eq q (codes "lib/apk/stage")) (is_staged q) (is_at_or_below (codes "lib/apk/db") q) staged
-    where
-      third : (a b c d e : Bool) → d ≡ true → (a || (b || ((c || d) || (e || false)))) ≡ true
-      third true b c d e t = refl
-      third false true c d e t = refl
-      third false false true d e t = refl
-      third false false false true e t = refl
-      third false false false false e t = absurd (true≢false (sym t))
-
-  no_record : (q : List ℕ) → is_staged q ≡ true → is_record_name records q ≡ false
-  no_record q staged = false_from_ne_true (is_record_name records q) (λ is. by_name (or_cases (bytes_eq q database_name) (bytes_eq q world_name || (records.takes_text_over && bytes_eq q text_database_name)) is))
-    where
-      never : (name : List ℕ) → is_staged name ≡ false → bytes_eq q name ≡ true → ⊥
-      never name shown same = true≢false (sym staged ∙ (ap is_staged ((bytes_eq-Decides q name).0 same) ∙ shown))
-
-      by_name : (bytes_eq q database_name ≡ true) ⊎ ((bytes_eq q world_name || (records.takes_text_over && bytes_eq q text_database_name)) ≡ true) → ⊥
-      by_name (inl same) = never database_name refl same
-      by_name (inr other) =
-          elim (or_cases (bytes_eq q world_name) (records.takes_text_over && bytes_eq q text_database_name) other) [
-            | inl same ↦ never world_name refl same
-            | inr both ↦ never text_database_name refl (and_parts records.takes_text_over (bytes_eq q text_database_name) both).1
-          ]
-
-  unwritten : (q : List ℕ) → is_staged q ≡ true → (o : Option Listing) → written_as change files q ≡ o → o ≡ None
-  unwritten q staged None is = refl
-  unwritten q staged (Some l) is = absurd (true≢false (sym (staged_reserved q staged) ∙ written_unreserved change files q l none is))
-
-  stays_absent : (b : Bool) (o : Option (List ℕ)) → o ≡ None → bytes_after bytes_of None b o ≡ None
-  stays_absent true o absent = refl
-  stays_absent false o absent = absent
-
-  pub empty : IsEmptyStage after
-  empty q staged =
-      changed_so change bytes_of records files q (no_record q staged)
-      ∙ (ap (λ (o : Option Listing). bytes_after bytes_of o (is_removed change files q) (files q)) (unwritten q staged (written_as change files q) refl)
-      ∙ stays_absent (is_removed change files q) (files q) (stage.empty q staged))
+  empty : IsEmptyStage after
+  empty q staged = reserved_absent change bytes_of records files none q (staged_reserved q staged) (no_record records q staged) (stage.empty q staged)
 
   pub room : HasRoomToStage after
   room = record { empty = empty; beside = beside }

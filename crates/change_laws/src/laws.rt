@@ -1,6 +1,6 @@
 //! What follows from the definitions of a change.
 
-ghost use Rattle.std.specs.Prelude.{◌≡◌, ◌<◌, ◌^◌, ◌++◌, ℕ, false, List, All, Ok, Option, length, map};
+ghost use Rattle.std.specs.Prelude.{◌≡◌, ◌<◌, ◌^◌, ◌++◌, ℕ, false, List, All, None, Ok, Option, length, map};
 ghost use Rattle.base_core.specs.Files.{Files, IsWithin};
 ghost use Rattle.base_core.specs.Name.{IsName};
 ghost use Rattle.change_files.specs.FileChange.{FileChange};
@@ -11,7 +11,7 @@ ghost use Rattle.command_core.specs.Command.{CommandLine};
 ghost use Rattle.db_core.specs.Members.{Listing};
 ghost use Rattle.journal_core.specs.Recovery.{after_actions};
 ghost use Rattle.journal_core.specs.Staged.{HasRoomToStage, IsEmptyStage, with_staged};
-ghost use Rattle.journal_intent.specs.Intent.{AreChangeNames};
+ghost use Rattle.journal_intent.specs.Intent.{AreChangeNames, intent_name};
 ghost use Rattle.journal_intent.specs.IntentValue.{intent_of_lists};
 ghost use Rattle.make_info.specs.Reads.{Reads};
 ghost use Rattle.package_changes.specs.Changes.{Replacement};
@@ -72,8 +72,8 @@ pub fn a_change_that_writes_nothing_leaves_the_files()
         → changed_files change bytes_of (new_records inputs database) files ≡ files }
     ensures done { (inputs : Inputs) (r : Replacement) (wishes : ChangeWishes) (read : Reads)
         (clash : Option NamePair) (files : Files) (done : ChangeDone)
-        → change_or_refusal inputs r wishes read clash files ≡ Ok done → IsRootOfFiles files inputs.root
-        → done.commits ≡ false → done.files ≡ files }
+        → change_or_refusal inputs r wishes read clash files ≡ Ok done
+        → IsRootOfFiles files inputs.root → done.commits ≡ false → done.files ≡ files }
 {}
 
 // ---- tests
@@ -88,13 +88,17 @@ pub fn a_change_that_is_made_passes_each_test()
 {}
 
 /// Where files leave room for a stage, those after a change leave it too: so each later change has
-/// room.
+/// room. And a change brings no intent.
 pub fn a_change_keeps_room()
-    ensures { (inputs : Inputs) (r : Replacement) (wishes : ChangeWishes) (read : Reads)
+    ensures room { (inputs : Inputs) (r : Replacement) (wishes : ChangeWishes) (read : Reads)
         (clash : Option NamePair) (files : Files) (done : ChangeDone)
         → change_or_refusal inputs r wishes read clash files ≡ Ok done
         → IsClashOfChange inputs r wishes read files clash
         → HasRoomToStage files → HasRoomToStage done.files }
+    ensures intent { (inputs : Inputs) (r : Replacement) (wishes : ChangeWishes) (read : Reads)
+        (clash : Option NamePair) (files : Files) (done : ChangeDone)
+        → change_or_refusal inputs r wishes read clash files ≡ Ok done
+        → files intent_name ≡ None → done.files intent_name ≡ None }
 {}
 
 /// A change has one first clash of names, or none, over files under finitely many names.
