@@ -1,11 +1,13 @@
 //! Who owns the files of packages, as text.
 
-use adb_schema::FilePath;
+use adb_schema::{FilePath, PACKAGE_WORD};
+use base_core::Name;
 use db_core::Members;
 use file_owners::{Contested, Owners, owners_of_files};
-use pkg_core::Package;
+use pkg_pieces::{Contents, Front, FrontFault, read_front};
 use row_lines::{add_number, add_word};
 use std::alloc::{AllocError, Global};
+use tree_memory::MemoryTree;
 
 /// How many packages there may be.
 const MOST_MEMBERS: usize = 65536;
@@ -18,16 +20,44 @@ pub fn add_owners(
     containers: &[Vec<u8>],
     answer: &mut Vec<u8>,
 ) -> Result<(), AllocError> {
-    let mut members = Members::new(alloc);
+    let mut fronts = Vec::new(alloc);
     for container in containers {
-        let Ok(package) = Package::new(alloc, container) else {
+        let Some(front) = front_of(alloc, container)? else {
             return answer.extend_from_slice(b"a package is bad");
         };
-        let name = package.view().info().name();
+        fronts.push(front)?;
+    }
+    add_owners_of(alloc, &fronts, answer)
+}
+
+/// The front of the package in a file, unless it is bad.
+fn front_of(alloc: Global, file: &[u8]) -> Result<Option<Front>, AllocError> {
+    let Some(name) = Name::read(alloc, b"p")? else {
+        return Ok(None);
+    };
+    let mut tree = MemoryTree::new(alloc);
+    if tree.can_put(&name) {
+        tree.put(&name, file)?;
+    }
+    match read_front(alloc, &mut tree, &name, PACKAGE_WORD) {
+        Ok(front) => Ok(front),
+        Err(FrontFault::Bad(_) | FrontFault::Disk) => Ok(None),
+        Err(FrontFault::Memory) => Err(AllocError),
+    }
+}
+
+/// Adds who owns the files of the packages with these fronts.
+fn add_owners_of(alloc: Global, fronts: &[Front], answer: &mut Vec<u8>) -> Result<(), AllocError> {
+    let mut members = Members::new(alloc);
+    for front in fronts {
+        let Ok(contents) = Contents::new(alloc, front) else {
+            return answer.extend_from_slice(b"a package is bad");
+        };
+        let name = contents.view().info().name();
         if !members.comes_behind(name) || members.len() >= MOST_MEMBERS {
             return answer.extend_from_slice(b"packages are not in order");
         }
-        members.comes(&package)?;
+        members.comes_in_pieces(&contents)?;
     }
     if members.len() > MOST_MEMBERS {
         return Ok(());
