@@ -1,8 +1,12 @@
 -- Rows worked by hand: where a package's file lies, and which folders a pattern matches.
-use Rattle.std.proofs.Common.{◌≡◌, refl, true, false, [], codes}
+use Rattle.std.proofs.Common.{◌≡◌, refl, true, false, ℕ, List, [], ◌∷◌, codes}
+use Rattle.adb_view.specs.Plain.{Plains, arr, blob, blob_value, more, none, null, obj}
+use Rattle.change_files.specs.PlanLists.{names_in_order}
+use Rattle.db_core.specs.Members.{Member, staying_member}
+use Rattle.change_outcome.specs.ConfigurationLines.{configuration_lines}
 use Rattle.change_outcome.specs.PackageFiles.{package_path}
 use Rattle.make_package.specs.Folders.{folder_of}
-use Rattle.change_outcome.specs.Triggers.{is_folder_matched}
+use Rattle.change_outcome.specs.Triggers.{is_folder_matched, trigger_lines}
 
 beside_the_index : package_path (codes "repo/index.adb") (codes "hello") (codes "1.0-r0") ≡ codes "repo/hello-1.0-r0.apk"
 beside_the_index = refl
@@ -51,3 +55,79 @@ slash_and_a_folder = refl
 two_slashes : is_folder_matched [] (codes "//") ≡ false
 unfolding is_folder_matched
 two_slashes = refl
+
+no_slash_in_front : is_folder_matched (codes "usr/bin") (codes "usr/bin") ≡ true
+unfolding is_folder_matched
+no_slash_in_front = refl
+
+slash_at_the_end : is_folder_matched (codes "usr/bin") (codes "/usr/bin/") ≡ false
+unfolding is_folder_matched
+slash_at_the_end = refl
+
+star_is_nothing : is_folder_matched (codes "usr/lib") (codes "/usr/lib*") ≡ true
+unfolding is_folder_matched
+star_is_nothing = refl
+
+star_in_front : is_folder_matched (codes "usr/bin") (codes "*/bin") ≡ true
+unfolding is_folder_matched
+star_in_front = refl
+
+later_place : is_folder_matched (codes "usr/aab") (codes "/usr/*ab") ≡ true
+unfolding is_folder_matched
+later_place = refl
+
+two_stars : is_folder_matched (codes "usr/a1b2") (codes "/usr/a*b*") ≡ true
+unfolding is_folder_matched
+two_stars = refl
+
+pieces_in_order : is_folder_matched (codes "usr/b1a2") (codes "/usr/a*b*") ≡ false
+unfolding is_folder_matched
+pieces_in_order = refl
+
+not_to_the_end : is_folder_matched (codes "usr/aba") (codes "/usr/*ab") ≡ false
+unfolding is_folder_matched
+not_to_the_end = refl
+
+one_star_is_no_root : is_folder_matched [] (codes "/*") ≡ false
+unfolding is_folder_matched
+one_star_is_no_root = refl
+
+one_star_is_one_folder : is_folder_matched (codes "usr") (codes "/*") ≡ true
+unfolding is_folder_matched
+one_star_is_one_folder = refl
+
+folder_below : is_folder_matched (codes "usr/share/man/man1") (codes "/usr/share/man") ≡ false
+unfolding is_folder_matched
+folder_below = refl
+
+-- ---- the lines of configuration that the user changed
+
+by_path : configuration_lines (codes "etc/a" ∷ (codes "etc/c" ∷ [])) (codes "etc/b" ∷ [])
+    ≡ codes "etc/a.apk-new installed; etc/a was changed\netc/b kept; it was changed\netc/c.apk-new installed; etc/c was changed\n"
+unfolding configuration_lines
+by_path = refl
+
+-- ---- the lines of due triggers
+
+-- a package with this name, trigger script and patterns
+watcher : List ℕ → List ℕ → Plains → Member
+watcher name script patterns = staying_member
+    (obj (more (obj (more (blob name) none)) (more null (more (obj (more (blob_value script) none)) (more (arr patterns) none)))))
+
+man : Member
+man = watcher (codes "man") (codes "s") (more (blob (codes "/usr/share/man/*")) (more (blob (codes "/usr/*/man/man1")) none))
+
+-- two patterns match the folder of two files
+one_line : trigger_lines (codes "usr/share/man/man1/e" ∷ (codes "usr/share/man/man1/d" ∷ [])) (man ∷ []) ≡ codes "man: trigger due for usr/share/man/man1\n"
+unfolding trigger_lines is_folder_matched names_in_order watcher man
+one_line = refl
+
+-- packages in their order, and of each the folders in byte order
+lines_in_order : trigger_lines (codes "usr/share/man/man5/x" ∷ (codes "d" ∷ (codes "usr/share/man/man1/e" ∷ []))) (man ∷ (watcher (codes "top") (codes "s") (more (blob (codes "/")) none) ∷ []))
+    ≡ codes "man: trigger due for usr/share/man/man1\nman: trigger due for usr/share/man/man5\ntop: trigger due for /\n"
+unfolding trigger_lines is_folder_matched names_in_order watcher man
+lines_in_order = refl
+
+no_script : trigger_lines (codes "d" ∷ []) (watcher (codes "top") [] (more (blob (codes "/")) none) ∷ []) ≡ []
+unfolding trigger_lines is_folder_matched names_in_order watcher
+no_script = refl

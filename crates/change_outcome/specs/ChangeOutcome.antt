@@ -1,13 +1,11 @@
 -- What a command that changes the installed packages comes to.
-use Rattle.std.specs.Prelude.{◌≡◌, ℕ, ◌==◌, Bool, true, false, not, ◌||◌, List, [], ◌∷◌, ◌++◌, length, map, sum_by, codes, Option, Some, None, Result, Ok, Err, bytes_eq, slice_get, unwrap_or}
+use Rattle.std.specs.Prelude.{◌≡◌, ℕ, ◌==◌, Bool, true, false, not, ◌||◌, List, [], ◌∷◌, ◌++◌, length, map, sum_by, Option, Some, None, Result, Ok, Err, bytes_eq, slice_get, unwrap_or}
 use Rattle.std.specs.Option.{option_map_or}
-use Rattle.std.specs.List.{flat_map}
 use Rattle.adb_tables.specs.Values.{entry_in, int_in}
 use Rattle.adb_write.specs.Canonical.{PayloadCounts, overflow_of}
 use Rattle.base_core.specs.Files.{Files}
 use Rattle.change_files.specs.FileChange.{FileChange}
 use Rattle.change_files.specs.FilesAfter.{Records, changed_files, listing_bytes}
-use Rattle.change_files.specs.Fate.{aside_name}
 use Rattle.change_files.specs.NamesAfter.{name_change}
 use Rattle.change_files.specs.PlanLists.{aside_of, file_writes_of, first_reserved, kept_of, names_in_order, removals_of}
 use Rattle.change_inputs.specs.Chains.{and_then}
@@ -27,6 +25,7 @@ use Rattle.report_core.specs.Reports.{change_lines, report_line, sum_text}
 use Rattle.report_core.specs.declared.refusal.Refusal.{Refusal}
 use Rattle.report_core.specs.declared.refusal.Refusal.TheVariants.{Owned, PathClash, Reserved, ResultTooLarge}
 use Rattle.root_names.specs.RootNames.{database_name, text_database_name, world_name}
+use Rattle.change_outcome.specs.ConfigurationLines.{configuration_lines}
 use Rattle.change_outcome.specs.MembersAfter.{MemberFound, contents_found, members_after, members_found}
 use Rattle.change_outcome.specs.Triggers.{trigger_lines, unless_trigger}
 
@@ -107,9 +106,9 @@ pub record Actions : Type 0 where
 abbrev pub actions_of : Inputs → FileChange → Files → Records → Actions
 actions_of inputs change files records = record {
   removals = names_in_order (removals_of change files
-    ++ name_if_needed records.takes_text_over text_database_name);
+      ++ name_if_needed records.takes_text_over text_database_name);
   writes = names_in_order (map (λ w. w.name) (file_writes_of change files)
-    ++ written_records inputs records);
+      ++ written_records inputs records);
 }
 
 -- the bytes of a file, or none. What is staged for each write are those that the files afterwards
@@ -121,13 +120,6 @@ abbrev pub does_something : Actions → Bool
 does_something actions = not (length actions.removals == 0) || not (length actions.writes == 0)
 
 -- ---- the report
-
-abbrev pub aside_line : List ℕ → List ℕ
-aside_line path =
-    report_line (aside_name path ++ codes " installed; " ++ path ++ codes " was changed")
-
-abbrev pub kept_line : List ℕ → List ℕ
-kept_line path = report_line (path ++ codes " kept; it was changed")
 
 abbrev pub member_size : Member → ℕ
 member_size m = int_in (entry_in (entry_in m.pkg 0) 11)
@@ -142,7 +134,7 @@ touched_paths change files = map (λ w. w.name) (file_writes_of change files) ++
 abbrev pub change_report : Replacement → ChangeWishes → FileChange → Files → List ℕ
 change_report r wishes change files =
     change_lines (changes_of r) ++ stay_lines r.before r.selected wishes.to_go
-    ++ flat_map aside_line (aside_of change files) ++ flat_map kept_line (kept_of change files)
+    ++ configuration_lines (aside_of change files) (kept_of change files)
     ++ trigger_lines (touched_paths change files) change.members ++ member_sum_line change.members
 
 -- ---- the change

@@ -84,7 +84,7 @@ unless_different c pkg =
     then Err (PackageDiffers c.name (selected_version c) name_field c.name (package_name pkg.value))
     else if not (bytes_eq (selected_version c) (version_text pkg.value))
     then Err (PackageDiffers c.name (selected_version c) version_field (selected_version c)
-        (version_text pkg.value))
+    (version_text pkg.value))
     else Ok pkg
 
 abbrev pub unless_package_bad : Candidate → Option Cause → ComingPackage → Result ComingPackage Refusal

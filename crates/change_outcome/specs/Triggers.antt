@@ -1,8 +1,8 @@
 -- The triggers that a change makes due.
-use Rattle.std.specs.Prelude.{ℕ, ◌==◌, Bool, true, false, not, ◌&&◌, if◌then◌else◌, List, [], ◌∷◌, length, map, codes, Result, Ok, Err, bytes_eq}
+use Rattle.std.specs.Prelude.{ℕ, ◌==◌, Bool, true, false, ◌&&◌, if◌then◌else◌, List, [], ◌∷◌, length, map, codes, Result, Ok, Err, bytes_eq}
 use Rattle.std.specs.List.{filter, flat_map, list_any}
 use Rattle.base_core.specs.Name.{parts_of}
-use Rattle.adb_fields.specs.Repeated.{entries_at}
+use Rattle.adb_fields.specs.Repeated.{entries_at, package_name}
 use Rattle.adb_tables.specs.Values.{text_in}
 use Rattle.adb_view.specs.Plain.{Plain}
 use Rattle.change_files.specs.PlanLists.{names_in_order}
@@ -52,35 +52,36 @@ patterns_of pkg = map text_in (entries_at 3 pkg)
 
 -- ---- what is due
 
--- the package has a trigger script, and one of its patterns matches the folder
-abbrev pub is_due : Member → List ℕ → Bool
-is_due m folder =
-    has_script_of m.pkg trigger_script
-    && list_any (is_folder_matched folder) (patterns_of m.pkg)
+-- one of the package's patterns matches the folder
+abbrev pub is_watched : Plain → List ℕ → Bool
+is_watched pkg folder = list_any (is_folder_matched folder) (patterns_of pkg)
+
+-- a package that watches the folder has a trigger script
+abbrev pub is_due : Plain → List ℕ → Bool
+is_due pkg folder = has_script_of pkg trigger_script && is_watched pkg folder
 
 -- the folders of files, in byte order, each once; folders further up do not count
 abbrev pub folders_of_paths : List (List ℕ) → List (List ℕ)
 folders_of_paths paths = names_in_order (map folder_of paths)
 
--- of the folders of files that are written or removed
-abbrev pub due_folders : List (List ℕ) → Member → List (List ℕ)
-due_folders paths m = filter (is_due m) (folders_of_paths paths)
+abbrev pub due_line : Plain → List ℕ → List ℕ
+due_line pkg folder = report_line (trigger_text (package_name pkg) folder)
 
-abbrev pub trigger_lines_of : List (List ℕ) → Member → List ℕ
-trigger_lines_of paths m =
-    flat_map (λ folder. report_line (trigger_text (member_name m) folder)) (due_folders paths m)
+-- a line for each of the folders for which the package's trigger is due
+abbrev pub due_lines : List (List ℕ) → Plain → List ℕ
+due_lines folders pkg = flat_map (due_line pkg) (filter (is_due pkg) folders)
 
--- of the packages after the change, in their order
+-- of the packages after a change that writes and removes files with these paths, in their order
 unfoldable pub trigger_lines : List (List ℕ) → List Member → List ℕ
-trigger_lines paths members = flat_map (trigger_lines_of paths) members
+trigger_lines paths members = flat_map (λ m. due_lines (folders_of_paths paths) m.pkg) members
 
-abbrev pub has_due_trigger : List (List ℕ) → Member → Bool
-has_due_trigger paths m = not (length (due_folders paths m) == 0)
+abbrev pub has_due_trigger : List (List ℕ) → Plain → Bool
+has_due_trigger folders pkg = list_any (is_due pkg) folders
 
 -- no trigger is due, or there is leave not to run it
 abbrev pub unless_trigger : Bool → List (List ℕ) → List Member → Result Bool Refusal
 unless_trigger true paths members = Ok true
 unless_trigger false paths [] = Ok true
 unless_trigger false paths (m ∷ members) =
-    if has_due_trigger paths m then Err (TriggerNeeded (member_name m))
+    if has_due_trigger (folders_of_paths paths) m.pkg then Err (TriggerNeeded (member_name m))
     else unless_trigger false paths members

@@ -1,1 +1,4 @@
+mod LastSlash
+mod Loops
 mod Stars
+mod Watching

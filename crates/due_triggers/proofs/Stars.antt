@@ -1,10 +1,8 @@
 -- A `*` is tried at the first place of what follows it, and nowhere else.
 use Rattle.std.proofs.Common.{◌≡◌, ◌≢◌, ℕ, suc, ◌+◌, Bool, true, false, List, [], ◌∷◌, ◌++◌, length, take, drop, Option, Some, None, cond, ◌<◌, ◌≤◌, refl, sym, ◌∙◌, ap, subst, true≢false, arith, add_comm, ◌-◌}
 use Rattle.std.specs.Prelude.{◌==◌, ◌&&◌, ◌||◌, if◌then◌else◌, MatchOption}
-use Rattle.std.specs.Option.{option_map_or}
 use Rattle.std.specs.Prelude.{nat_lt, not, position}
 use Rattle.std.specs.List.{list_all, list_any, prefix_len, zip}
-use Rattle.std.specs.Bool.{Decides}
 use Rattle.std.specs.Str.{bytes_eq}
 use Rattle.std.proofs.Math.Seq.{drop-append-add, drop-append_seam}
 use Rattle.std.proofs.lemmas.Bool.{ltb-true, ltb-false}
@@ -139,8 +137,8 @@ tail_of l x front z e =
     let n = length front in
     let left : drop (length l + n) (l ++ x) ≡ drop n x = drop-append-add l x n in
     let right : drop (length l + n) (front ++ (l ++ z)) ≡ z =
-        ap (λ k. drop k (front ++ (l ++ z))) (add_comm (length l) n)
-        ∙ (drop-append-add front (l ++ z) (length l) ∙ drop-append_seam l z) in
+    ap (λ k. drop k (front ++ (l ++ z))) (add_comm (length l) n)
+    ∙ (drop-append-add front (l ++ z) (length l) ∙ drop-append_seam l z) in
     let same : drop n x ≡ z = sym left ∙ (ap (drop (length l + n)) e ∙ right) in
     sym (take-append-drop n x) ∙ ap (λ w. take n x ++ w) same
 
@@ -154,6 +152,7 @@ piece_here l r b x none is = both_ways (is_end_matched (l ++ 42 ∷ r) b) (is_en
         let shape : l ++ x ≡ e.front ++ (l ++ f.rest) = sym is ∙ (e.is ∙ ap (λ z. e.front ++ z) f.is) in
         ap (is_end_matched r) (tail_of l x e.front f.rest shape)
         ∙ end_matched r (take (length e.front) x) f.rest f.matched
+
     in_front_of : is_end_matched r x ≡ true → is_end_matched (l ++ 42 ∷ r) b ≡ true
     in_front_of m =
         whole_end (l ++ 42 ∷ r) b (ap (is_part_matched (l ++ 42 ∷ r)) is ∙ (behind_piece l (42 ∷ r) x none ∙ m))
@@ -219,6 +218,7 @@ first_star pattern o is = subst (λ z. MatchOption z (has_star pattern ≡ false
   where
     n : ℕ
     n = prefix_len (λ b. not (b == 42)) pattern
+
     go : (t : Bool) → nat_lt n (length pattern) ≡ t → MatchOption (cond t (Some n) None) (has_star pattern ≡ false) (StandsAt pattern)
     go true e = stands pattern n refl (ltb-true n (length pattern) e)
     go false e = no_star pattern (ltb-false n (length pattern) e)

@@ -1,4 +1,4 @@
 -- what the contract of `apk` says
--- pub mod Due
+pub mod Due
 -- what only inner contracts and proofs use
 pub mod Stars

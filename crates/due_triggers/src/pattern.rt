@@ -10,7 +10,7 @@ use dep_core::without_slash;
 /// Whether a pattern matches a folder, whose name is empty for the root. It takes time in proportion
 /// to the pattern's length, and at worst to the square of the folder's.
 #[tactic(auto, unfolding(change_outcome::specs::Triggers::is_folder_matched))]
-pub fn is_folder_matched(folder: &[u8], pattern: &[u8]) -> bool
+pub(crate) fn is_folder_matched(folder: &[u8], pattern: &[u8]) -> bool
     ensures { result ≡ is_folder_matched folder.now pattern.now }
 {
     if folder.is_empty() {

@@ -1,2 +1,4 @@
 pub mod Choices
-pub mod DecidedBy
+pub mod Early
+pub mod Known
+pub mod Pools

@@ -14,7 +14,7 @@ use Rattle.pool_core.specs.Rank.{SealedPool}
 use Rattle.report_core.specs.declared.refusal.Refusal.{Refusal}
 use Rattle.report_core.specs.declared.refusal.Refusal.TheVariants.{Unsatisfied}
 use Rattle.engine_core.specs.Selecting.{pool_by, replacement_of_choice}
-use Rattle.engine_core.specs.Wishes.{unless_unknown, wishes_of}
+use Rattle.engine_core.specs.Wishes.{unknown_place, unless_place, wishes_of}
 
 -- ---- the selection
 
@@ -33,7 +33,8 @@ abbrev pub selected_of_inputs :
     CommandLine → Option (List ℕ) → Inputs → Result Selected Refusal
 selected_of_inputs command chosen inputs =
     and_then (pool_by inputs) (λ pool.
-    unless_unknown command.applet inputs command.operands (selected_by inputs pool chosen))
+    unless_place (unknown_place command.applet inputs command.operands)
+    (selected_by inputs pool chosen))
 
 -- by what reads find, and by the candidates that are chosen
 abbrev pub selected_for : CommandLine → Reads → Option (List ℕ) → Result Selected Refusal

@@ -3,7 +3,8 @@ pub mod Choice
 pub mod Selecting
 pub mod Wishes
 pub mod Changed
--- what a change is only simulated to come to
-pub mod Simulated
+pub mod ChangeRun
 -- what only inner contracts and proofs use
-pub mod Decided
+pub mod Chosen
+pub mod Runs
+pub mod SelectionSeen

@@ -1,8 +1,8 @@
 -- The calls that make and fill a waiting file, clause by clause.
-use Rattle.std.proofs.Common.{◌≡◌, ◌≢◌, ℕ, ◌+◌, ◌<◌, ◌^◌, Bool, true, false, List, [], ◌∷◌, ◌++◌, length, None, Some, Result, Ok, Err, OnOk, refl, subst, ◌∙◌, arith}
+use Rattle.std.proofs.Common.{◌≡◌, ℕ, ◌+◌, ◌<◌, ◌^◌, Bool, true, false, List, [], ◌∷◌, ◌++◌, length, None, Some, Result, Ok, Err, OnOk, refl, subst, arith}
 use Rattle.std.specs.List.{All}
 use Rattle.base_core.specs.Files.{Files}
-use Rattle.base_core.specs.Tree.{files_of, after_create, after_append, after_failed_append, after_sync, same_state, CanCreate, HasName, IsWhole}
+use Rattle.base_core.specs.Tree.{after_create, after_append, after_failed_append, after_sync, same_state, CanCreate, HasName, IsWhole}
 use Rattle.base_core.specs.Calls.{IfObservable, HasNow, Moves, IsCounted}
 use Rattle.base_core.specs.Faults.{Counts}
 use Rattle.base_core.specs.Crash.{IsOrderly, Since}
@@ -11,7 +11,7 @@ use Rattle.journal_core.specs.Quiet.{IsStill}
 use Rattle.journal_core.specs.Staged.{Staging, IsStaged, HasRoomToStage}
 use Rattle.journal_core.specs.Acting.{IsNextName}
 use Rattle.journal_core.proofs.History.{History, on_observable}
-use Rattle.journal_core.proofs.OneCall.{whole_now, one_called, now_called, now_done, one_proper}
+use Rattle.journal_core.proofs.OneCall.{whole_now, one_called, now_done, one_proper}
 use Rattle.journal_core.proofs.Waiting.{still_self}
 use Rattle.journal_core.proofs.Between.{name_of_next, still_begun, staged_begun, still_grown, staged_grown, staged_ended, has_name}
 use Rattle.journal_core.proofs.Beside.{can_begin}

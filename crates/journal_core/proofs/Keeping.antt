@@ -1,20 +1,20 @@
 -- What each call leaves of the files as read.
-use Rattle.std.proofs.Common.{◌≡◌, ◌⊎◌, ◌≢◌, inl, inr, ⊎_elim, ℕ, ◌+◌, eqb, Bool, true, false, cond, List, ◌∷◌, [], ◌++◌, length, slice_get, Option, None, Some, Result, Ok, Err, OnOk, refl, sym, ap, subst, ◌∙◌}
+use Rattle.std.proofs.Common.{◌≡◌, ◌⊎◌, ◌≢◌, inl, inr, ⊎_elim, ℕ, ◌+◌, eqb, Bool, true, false, cond, List, ◌∷◌, [], ◌++◌, length, slice_get, Option, None, Some, Result, Ok, Err, refl, sym, ap, subst, ◌∙◌}
 use Rattle.std.specs.List.{All}
 use Rattle.std.proofs.lemmas.Bool.{eqb-true}
 use Rattle.base_core.specs.Calls.{IfObservable, HasNow, Moves}
 use Rattle.base_core.specs.Crash.{Since}
 use Rattle.base_core.specs.Files.{drop_name}
-use Rattle.base_core.specs.Tree.{TreeState, File, IsWhole, after_append, after_create, after_failed_append, after_remove, after_rename, after_sync, after_sync_names, bytes_at, change_at, files_of, move_at, same_state, set_file, Anywhere, CanCreate, CanRename, HasName}
+use Rattle.base_core.specs.Tree.{TreeState, File, IsWhole, after_append, after_create, after_failed_append, after_remove, after_rename, after_sync, after_sync_names, bytes_at, change_at, files_of, move_at, same_state, set_file, Anywhere, CanCreate, HasName}
 use Rattle.journal_core.specs.Acting.{MovesIfThere}
 use Rattle.journal_core.specs.Kept.{IsOfAction, KeepsFilesBut}
-use Rattle.journal_core.specs.Recovery.{Intent, intent_name, stage_name}
+use Rattle.journal_core.specs.Recovery.{Intent, stage_name}
 use Rattle.journal_core.specs.Staged.{IsAlone}
 use Rattle.journal_core.proofs.Chain.{Runs, run_called, run_done, run_failed}
-use Rattle.journal_core.proofs.History.{History, now_map, observable_at, observable_map, on_observable}
+use Rattle.journal_core.proofs.History.{History, observable_at, on_observable}
 use Rattle.journal_core.proofs.OneCall.{now_done, now_is, one_called, one_done, whole_now}
 use Rattle.journal_core.proofs.Steps.{bytes_at-set_file, create_alone, create_others, remove_others, set_file-at}
-use Rattle.journal_intent.proofs.AtName.{name_cases, off_name, put_name-at, put_name-off, drop_name-off}
+use Rattle.journal_intent.proofs.AtName.{put_name-at, put_name-off, drop_name-off}
 
 -- ---- the newest state behind a call, whatever it answers
 

@@ -1,19 +1,19 @@
 -- Which changes of names a crash may undo at each moment.
-use Rattle.std.proofs.Common.{◌≡◌, ◌⊎◌, ◌≢◌, ◌||◌, ◌++◌, inl, inr, ⊎_elim, ℕ, Bool, true, false, cond, List, ◌∷◌, [], Option, None, Some, IsSome, Result, Ok, Err, OnOk, refl, sym, ap, subst, ◌∙◌}
+use Rattle.std.proofs.Common.{◌≡◌, ◌≢◌, ◌||◌, ◌++◌, inl, inr, ℕ, Bool, true, false, cond, List, ◌∷◌, [], Option, None, Some, IsSome, Result, Ok, Err, OnOk, refl, sym, ap, subst, ◌∙◌}
 use Rattle.std.specs.List.{list_any}
 use Rattle.std.specs.Str.{bytes_eq}
 use Rattle.base_core.specs.Calls.{IfObservable, HasNow, Moves}
 use Rattle.base_core.specs.Crash.{Since}
-use Rattle.base_core.specs.Files.{NameMap, drop_name, move_name, put_name}
-use Rattle.base_core.specs.Tree.{TreeState, File, IsAmong, IsMapOf, bytes_at, after_append, after_create, after_failed_append, after_remove, after_rename, after_sync, after_sync_names, change_at, files_of, move_at, remove_at, same_state, Anywhere, CanCreate, CanRename, HasName}
+use Rattle.base_core.specs.Files.{NameMap, drop_name}
+use Rattle.base_core.specs.Tree.{TreeState, File, IsAmong, bytes_at, after_append, after_create, after_failed_append, after_remove, after_rename, after_sync, after_sync_names, change_at, files_of, move_at, remove_at, same_state, Anywhere, CanCreate, CanRename, HasName}
 use Rattle.journal_core.specs.Kept.{IsInNoMap, NamesLastBut}
 use Rattle.journal_core.specs.Recovering.{IsReplayed}
 use Rattle.journal_core.specs.Recovery.{intent_name, stage_name}
 use Rattle.journal_core.proofs.Chain.{IsAny, Runs, by_now, run_begun, run_called, run_done, run_failed}
-use Rattle.journal_core.proofs.History.{History, done_now, now_map, now_since, observable_at, observable_map, on_observable, since_on, since_weaker}
+use Rattle.journal_core.proofs.History.{History, done_now, now_since, observable_at, observable_map, on_observable, since_on, since_weaker}
 use Rattle.journal_core.proofs.Keeping.{keep_called}
 use Rattle.journal_core.proofs.OneCall.{now_is}
-use Rattle.journal_intent.proofs.AtName.{name_cases, off_name, put_name-off, drop_name-at, drop_name-off}
+use Rattle.journal_intent.proofs.AtName.{off_name, put_name-off, drop_name-at, drop_name-off}
 use Rattle.journal_intent.proofs.StageNames.{stage_name_no_intent}
 use Rattle.journal_intent.specs.FreeNames.{IsNoneOf}
 

@@ -1,19 +1,16 @@
 -- Each map of names that a crash may leave is one from before, but for some names.
-use Rattle.std.proofs.Common.{◌≡◌, ◌||◌, inl, inr, ℕ, Bool, true, false, List, ◌∷◌, [], ◌++◌, Option, None, Some, Result, Ok, Err, refl, sym, ap, subst, ◌∙◌}
-use Rattle.std.specs.List.{list_any}
-use Rattle.std.specs.Str.{bytes_eq}
+use Rattle.std.proofs.Common.{◌≡◌, inl, inr, ℕ, true, false, List, ◌∷◌, [], ◌++◌, Option, None, Some, Result, refl, ap, subst, ◌∙◌}
 use Rattle.base_core.specs.Calls.{IfObservable, HasNow, Moves}
 use Rattle.base_core.specs.Crash.{Since}
 use Rattle.base_core.specs.Files.{NameMap, drop_name}
-use Rattle.base_core.specs.Tree.{TreeState, File, IsMapOf, after_append, after_create, after_failed_append, after_remove, after_rename, after_sync, after_sync_names, change_at, move_at, remove_at, same_state, Anywhere, CanCreate, CanRename, HasName}
+use Rattle.base_core.specs.Tree.{TreeState, File, after_append, after_create, after_failed_append, after_remove, after_rename, after_sync, after_sync_names, change_at, move_at, remove_at, same_state, Anywhere, CanCreate, CanRename, HasName}
 use Rattle.journal_core.specs.Filling.{IsLasting}
 use Rattle.journal_core.specs.Kept.{IsSyncedAt, KeepsMapsBut}
 use Rattle.journal_core.specs.Replacing.{scratch_of}
-use Rattle.journal_core.proofs.History.{History, no_more, none_since, now_map, observable_at, observable_map, on_observable, since_weaker}
+use Rattle.journal_core.proofs.History.{History, no_more, none_since, now_map, observable_map, on_observable, since_weaker}
 use Rattle.journal_core.proofs.Lasting.{off_first, off_rest}
 use Rattle.journal_core.proofs.Leaving.{told_called, told_on}
 use Rattle.journal_intent.proofs.AtName.{put_name-off, drop_name-off}
-use Rattle.journal_intent.specs.FreeNames.{IsNoneOf}
 
 abbrev pub Keeps : List (List ℕ) → History → History → Type 0
 Keeps these old new = IfObservable old (λ v. Since (KeepsMapsBut these v) old new)

@@ -3,7 +3,7 @@ use Rattle.std.proofs.Common.{◌≡◌, ◌⊎◌, inl, inr, ⊎_elim, ℕ, Lis
 use Rattle.base_core.specs.Calls.{IfObservable, HasNow, Moves}
 use Rattle.base_core.specs.Crash.{Since}
 use Rattle.base_core.specs.Tree.{TreeState, after_rename, after_sync_names, bytes_at, files_of, same_state, Anywhere, CanRename}
-use Rattle.journal_core.specs.Kept.{KeepsFilesBut, KeepsMapsBut}
+use Rattle.journal_core.specs.Kept.{KeepsFilesBut}
 use Rattle.journal_core.specs.Recovery.{intent_name, stage_name}
 use Rattle.journal_core.proofs.History.{History, now_since, observable_at, observable_map, on_observable, since_weaker}
 use Rattle.journal_core.proofs.Keeping.{moved_others}

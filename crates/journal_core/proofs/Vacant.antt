@@ -1,12 +1,11 @@
 -- Premises of the contracts are met by some files and moments.
-use Rattle.std.proofs.Common.{◌≡◌, ◌≢◌, ◌⊎◌, inl, inr, ⊎_elim, ℕ, ◌+◌, ◌≤◌, Bool, true, false, cond, List, [], ◌∷◌, ◌++◌, codes, drop, get_or, length, Option, None, Some, IsSome, refl, sym, ap, subst, ◌∙◌, arith}
-use Rattle.std.specs.Str.{bytes_eq}
+use Rattle.std.proofs.Common.{◌≡◌, ◌⊎◌, inl, inr, ⊎_elim, ℕ, ◌≤◌, Bool, List, [], ◌∷◌, ◌++◌, codes, drop, get_or, length, Option, None, Some, IsSome, refl, sym, ap, ◌∙◌, arith}
 use Rattle.std.proofs.lemmas.List.{length-append}
 use Rattle.base_core.specs.Files.{Files, IsFolderOf, no_names, put_name}
 use Rattle.base_core.specs.Tree.{TreeState, files_of}
-use Rattle.journal_core.specs.Recovery.{intent_name, stage_name, state_of}
+use Rattle.journal_core.specs.Recovery.{intent_name, state_of}
 use Rattle.journal_core.specs.Replacing.{HasRoom, scratch_of}
-use Rattle.journal_core.specs.Staged.{HasPublished, HasRoomBeside, HasRoomToStage, MayBePresent}
+use Rattle.journal_core.specs.Staged.{HasPublished, HasRoomToStage, MayBePresent}
 use Rattle.journal_intent.proofs.AtName.{name_cases, off_name, put_name-off}
 use Rattle.journal_intent.specs.FreeNames.{IsTakenName}
 

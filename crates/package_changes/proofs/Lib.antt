@@ -1,4 +1,4 @@
-mod Lists
+pub mod Lists
 mod NamesInOrder
 mod NameTable
 mod PlacedLaws

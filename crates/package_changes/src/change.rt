@@ -142,7 +142,7 @@ fn is_same_selected(old: &OldPackage<'_>, new: &Candidate<'_>) -> bool
 }
 
 /// Whether two ids are there, and the shorter is a front of the longer.
-fn is_same_id(one: &[u8], other: &[u8]) -> bool
+pub fn is_same_id(one: &[u8], other: &[u8]) -> bool
     ensures { result ≡ is_same_id one.now other.now }
 {
     if one.is_empty() || other.is_empty() {

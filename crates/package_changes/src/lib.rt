@@ -13,7 +13,7 @@ mod report;
 mod selected;
 mod stays;
 
-pub use change::{Change, PlacedChange};
+pub use change::{Change, PlacedChange, is_same_id};
 pub use changes::Changes;
 pub use laws::places_lead_to_packages_and_candidates;
 pub use names::names_in_order;

@@ -5,7 +5,7 @@ ghost use Rattle.change_files.specs.PlanLists.{names_in_order};
 ghost use Rattle.db_core.specs.Packages.{is_package_named};
 ghost use Rattle.db_core.specs.Seen.{packages_of};
 ghost use Rattle.package_changes.specs.Changes.{change_between};
-ghost use Rattle.package_changes.specs.Placed.{candidates_at, placed_name_with, placed_names_of};
+ghost use Rattle.package_changes.specs.Placed.{candidates_at, new_candidate, placed_name_with, placed_names_of};
 ghost use Rattle.package_changes.specs.Seen.{change_seen, placed_name_seen, placed_names_seen, replacement_by};
 ghost use Rattle.package_changes.specs.SelectedNames.{placed_name_at};
 ghost use Rattle.pool_core.specs.Candidates.{Candidate as CandidateValue};
@@ -38,14 +38,12 @@ pub struct PlacedName<'a> {
 }
 
 impl<'a> PlacedName<'a> {
-    /// The place of its candidate, if one is selected.
-    pub fn new_place(&self) -> Option<CandId>
-        ensures { result ≡ self.now.new }
+    /// Its candidate, if one is selected.
+    pub fn candidate(&self, pool: &Sealed<'a>) -> Option<Candidate<'a>>
+        ensures { option_map candidate_value result
+            ≡ new_candidate pool.now (placed_name_seen self.now) }
     {
-        match self.new {
-            Some(place) => Some(CandId { place }),
-            None => None,
-        }
+        candidate_of(pool, self.new)
     }
 }
 

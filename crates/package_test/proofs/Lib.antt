@@ -1,3 +1,5 @@
 pub mod FullPieces
 pub mod PiecesPassed
+pub mod FileOrder
+pub mod BytesFound
 pub mod WholeTested

@@ -1,19 +1,25 @@
 -- Pieces that were read one after the other.
-use Rattle.std.proofs.Common.{◌≡◌, ℕ, zero, suc, ◌+◌, ◌-◌, ◌*◌, ◌<◌, ◌≤◌, Bool, true, false, if◌then◌else◌, List, [], ◌∷◌, ◌++◌, length, replicate, Option, Some, None, Result, Ok, Err, refl, ap, sym, subst, ◌∙◌, arith, suc-mul}
+use Rattle.std.proofs.Common.{◌≡◌, ℕ, zero, suc, ◌+◌, ◌-◌, ◌*◌, ◌<◌, ◌≤◌, Bool, true, false, if◌then◌else◌, List, [], ◌∷◌, ◌++◌, length, take, drop, replicate, Option, Some, None, Result, Ok, Err, refl, ap, sym, subst, ◌∙◌, arith, suc-mul}
 use Rattle.std.specs.Prelude.{IfOk, IfSome, IsErrOf}
-use Rattle.std.proofs.lemmas.List.{length-append, length-replicate}
+use Rattle.std.proofs.lemmas.List.{drop-drop, length-append, length-replicate}
 use Rattle.base_core.specs.declared.cause.Cause.{Cause}
+use Rattle.base_core.specs.Calls.{IfObservable}
 use Rattle.base_core.specs.Faults.{Counts}
 use Rattle.base_core.specs.Tree.{TreeState}
-use Rattle.pkg_core.specs.Contents.{Expected}
-use Rattle.pkg_pieces.specs.Seen.{HasAt, IsSeenIn, ReadsFile}
+use Rattle.base_core.specs.declared.tree.TreeFault.{TreeFault}
+use Rattle.base_core.specs.declared.tree.TreeFault.TheVariants.{Disk as DiskFault}
+use Rattle.pkg_core.specs.Contents.{Contents, Expected, FilesRead, contents_in, fault_in, given, no_more}
+use Rattle.pkg_pieces.specs.Seen.{HasAt, IsSeenIn, IsSoLong, ReadsFile}
 use Rattle.pkg_pieces.proofs.SeenBytes.{file_with, has_rest}
-use Rattle.piece_core.specs.Pieces.{PiecesRead, piece, refusal_in}
+use Rattle.piece_core.specs.Pieces.{PiecesRead, file_given, files_joined, no_piece, piece, refusal, refusal_in}
 use Rattle.piece_core.specs.declared.part.Part.{Part}
-use Rattle.piece_reader.specs.Readers.{AnswersNext, IsOfFirstDue, IsReading, KeepsBlock, due_files, name_in_tree, offset_of, package_len}
+use Rattle.piece_reader.specs.Readers.{AnswersNext, HasPieceAt, IsOfFirstDue, IsReading, KeepsStart, due_files, handed_out, handed_out_from, name_in_tree, offset_of, package_len, start_of_file}
 use Rattle.piece_reader.specs.declared.fault.PieceFault.{PieceFault}
 use Rattle.piece_reader.specs.declared.fault.PieceFault.TheVariants.{Bad}
+use Rattle.piece_reader.specs.declared.open.OpenFile.{OpenFile}
 use Rattle.piece_reader.specs.declared.reader.PieceReader.{PieceReader}
+use Rattle.package_test.specs.Places.{AreAtPlaces, IsAtPlace, place_of_part}
+use Rattle.package_test.specs.declared.places.FilePlace.{FilePlace}
 use Rattle.piece_reader.proofs.BlockSeen.{nothing_seen}
 use Rattle.piece_reader.proofs.FilesFound.{IsSeenUpTo, seen_up_to}
 use Rattle.package_test.proofs.FullPieces.{AreFull}
@@ -34,27 +40,72 @@ reads_as name len d e h0 h1 a b value other first = record {
   proper = first.proper;
 }
 
--- of all pieces these are left, and the same test fails first
-pub record IsLeft (now : PieceReader) (pkg : List ℕ) (all : PiecesRead) : Type 0 where
+-- where nothing is read
+proper_still : (h : List TreeState) (name : List ℕ) (len n : ℕ) → IfObservable h (λ v. IsSoLong name len v → n ≡ n)
+proper_still [] name len n = tt
+proper_still (v ∷ earlier) name len n = λ long. refl
+
+pub reads_nothing : (name : List ℕ) (len : ℕ) (h : List TreeState) (a : Counts) → ReadsFile {A = Unit {0}} {E = TreeFault} name len DiskFault h h a a (Ok tt)
+reads_nothing name len h a = record {
+  same = refl;
+  goes_on = record { faults = omega arith; misuses = omega arith; wants = omega arith; fallible = λ may. may };
+  disk = λ failed. absurd (no_fault tt DiskFault failed);
+  kept = record { faults = refl; wants = refl };
+  others = tt;
+  proper = proper_still h name len a.misuses;
+}
+
+-- the contents of files, and then further ones
+abbrev pub with_files : List Contents → FilesRead → FilesRead
+with_files [] files = files
+with_files (c ∷ cs) files = given c (with_files cs files)
+
+-- of all pieces these are left, and the same test fails first; of the files that came whole the
+-- contents stand at these places, and of the one that is open the bytes that came
+pub record IsLeft (now : PieceReader) (places : List FilePlace) (pkg : List ℕ) (all : PiecesRead) : Type 0 where
   pub rest : PiecesRead
   pub reading : IsReading now pkg rest
   pub same : refusal_in all ≡ refusal_in rest
   pub full : AreFull all → AreFull rest
+  pub files : List Contents
+  pub so_far : List ℕ
+  pub at_places : AreAtPlaces pkg places files
+  pub stands : HasAt pkg (start_of_file now) so_far
+  pub long : length so_far ≡ handed_out now
+  pub joined : files_joined all [] ≡ with_files files (files_joined rest so_far)
 
 -- from where a reader began to where it stands now these bytes were seen
-pub record IsPassedTo (h : List TreeState) (name : List ℕ) (len : ℕ) (begun now : PieceReader) : Type 0 where
+pub record IsPassedTo (h : List TreeState) (name : List ℕ) (len : ℕ) (begun now : PieceReader) (places : List FilePlace) : Type 0 where
   pub seen : List ℕ
   pub is_seen : IsSeenIn h name len (offset_of begun) seen
   pub ends : offset_of begun + length seen ≡ offset_of now
-  pub left : (pkg : List ℕ) → length pkg ≡ len → HasAt pkg (offset_of begun) seen → (all : PiecesRead) → IsReading begun pkg all → IsLeft now pkg all
+  pub left : (pkg : List ℕ) → length pkg ≡ len → HasAt pkg (offset_of begun) seen → (all : PiecesRead) → IsReading begun pkg all → IsLeft now places pkg all
 
-pub none_passed : (h : List TreeState) (name : List ℕ) (len : ℕ) (begun : PieceReader) → offset_of begun ≤ len → IsPassedTo h name len begun begun
-none_passed h name len begun within = record {
+pub none_passed : (h : List TreeState) (name : List ℕ) (len : ℕ) (begun : PieceReader) (places : List FilePlace) → offset_of begun ≤ len → handed_out begun ≡ 0 → places ≡ [] → IsPassedTo h name len begun begun places
+none_passed h name len begun places within none_handed empty = record {
   seen = [];
   is_seen = nothing_seen h name len (offset_of begun) within;
   ends = omega arith;
-  left = λ pkg long has all reading. record { rest = all; reading = reading; same = refl; full = λ full. full };
+  left = λ pkg long has all reading. record {
+    rest = all;
+    reading = reading;
+    same = refl;
+    full = λ full. full;
+    files = [];
+    so_far = [];
+    at_places = subst (λ (ps : List FilePlace). AreAtPlaces pkg ps []) (sym empty) tt;
+    stands = refl;
+    long = sym none_handed;
+    joined = refl;
+  };
 }
+
+abbrev no_bytes : List ℕ
+no_bytes = []
+
+take_none : (n : ℕ) → take n no_bytes ≡ no_bytes
+take_none zero = refl
+take_none (suc n) = refl
 
 -- what a call says of the bytes that it saw
 abbrev pub IsReadBy : List TreeState → PieceReader → List ℕ → Result (Option Part) PieceFault → PieceReader → Type 0
@@ -64,66 +115,158 @@ IsReadBy h old bytes result new = (seen : List ℕ)
     × ((pkg : List ℕ) → length pkg ≡ package_len old → HasAt pkg (offset_of old) seen
     → (before : PiecesRead) → IsReading old pkg before
     → AnswersNext (IsReading new pkg) before bytes result
-    × IfOk result (λ found. KeepsBlock old pkg before found new))
+    × IfOk result (λ found. HasPieceAt old pkg bytes found new))
 
 -- the bytes up to the end of the call
-both_seen : (h later : List TreeState) (name : List ℕ) (len : ℕ) (begun now : PieceReader) (seen : List ℕ) → later ≡ h → name_in_tree now ≡ name → package_len now ≡ len → (passed : IsPassedTo h name len begun now) → IsSeenIn later (name_in_tree now) (package_len now) (offset_of now) seen
+both_seen : (h later : List TreeState) (name : List ℕ) (len : ℕ) (begun now : PieceReader) (places : List FilePlace) (seen : List ℕ) → later ≡ h → name_in_tree now ≡ name → package_len now ≡ len → (passed : IsPassedTo h name len begun now places) → IsSeenIn later (name_in_tree now) (package_len now) (offset_of now) seen
     → IsSeenUpTo h name len (offset_of begun) (offset_of now + length seen) (offset_of now) passed.seen seen
-both_seen h later name len begun now seen same named long passed is_seen =
+both_seen h later name len begun now places seen same named long passed is_seen =
     let here : IsSeenIn later name len (offset_of now) seen = subst (λ (n : List ℕ). IsSeenIn later n len (offset_of now) seen) named (subst (λ (k : ℕ). IsSeenIn later (name_in_tree now) k (offset_of now) seen) long is_seen) in
     seen_up_to h later name len (offset_of begun) (offset_of now + length seen) (offset_of now) passed.seen seen same passed.ends (omega arith) here.within passed.is_seen here
 
-pub one_passed : (h later : List TreeState) (name : List ℕ) (len : ℕ) (begun now new : PieceReader) (bytes : List ℕ) (part : Part) → later ≡ h → name_in_tree now ≡ name → package_len now ≡ len → IsPassedTo h name len begun now → IsReadBy later now bytes (Ok (Some part)) new
-    → IsPassedTo h name len begun new
-one_passed h later name len begun now new bytes part same named long passed (seen, is_seen, ends, each) =
-    let to = both_seen h later name len begun now seen same named long passed is_seen in
+-- ---- one piece more
+
+-- bytes that came before stand where their file begins, also behind the next piece
+still_stand : (opened : Option OpenFile) (pkg so_far : List ℕ) (before after : ℕ) → IfSome opened (λ o. after ≡ before) → length so_far ≡ handed_out_from before opened → HasAt pkg before so_far → HasAt pkg after so_far
+still_stand (Some o) pkg so_far before after same long has = subst (λ (n : ℕ). HasAt pkg n so_far) (sym same) has
+still_stand None pkg [] before after same long has = refl
+still_stand None pkg (b ∷ bytes) before after same long has = absurd (omega (arith, long))
+
+take_both : (m n : ℕ) (xs : List ℕ) → take (m + n) xs ≡ take m xs ++ take n (drop m xs)
+take_both zero n xs = ap (λ (k : ℕ). take k xs) (let e : 0 + n ≡ n = omega arith in e)
+take_both (suc m) n [] = ap (λ (k : ℕ). take k no_bytes) (let e : suc m + n ≡ suc (m + n) = omega arith in e) ∙ sym (take_none n)
+take_both (suc m) n (x ∷ xs) =
+    let e : suc m + n ≡ suc (m + n) = omega arith in
+    ap (λ (k : ℕ). take k (x ∷ xs)) e ∙ ap (λ (ys : List ℕ). x ∷ ys) (take_both m n xs)
+
+has_both : (pkg : List ℕ) (at : ℕ) (xs ys : List ℕ) → HasAt pkg at xs → HasAt pkg (at + length xs) ys → HasAt pkg at (xs ++ ys)
+has_both pkg at xs ys first second =
+    ap (λ (n : ℕ). take n (drop at pkg)) (length-append xs ys)
+    ∙ (take_both (length xs) (length ys) (drop at pkg)
+    ∙ (λ k. first k ++ (ap (take (length ys)) (drop-drop (length xs) at pkg) ∙ second) k))
+
+with_one_more : (cs : List Contents) (c : Contents) (files : FilesRead) → with_files cs (given c files) ≡ with_files (cs ++ c ∷ []) files
+with_one_more [] c files = refl
+with_one_more (d ∷ cs) c files = ap (given d) (with_one_more cs c files)
+
+at_one_more : (pkg : List ℕ) (ps : List FilePlace) (cs : List Contents) (p : FilePlace) (c : Contents) → AreAtPlaces pkg ps cs → IsAtPlace pkg p c → AreAtPlaces pkg (ps ++ p ∷ []) (cs ++ c ∷ [])
+at_one_more pkg [] [] p c are is = (is, tt)
+at_one_more pkg [] (d ∷ cs) p c are is = absurd are
+at_one_more pkg (q ∷ ps) [] p c are is = absurd are
+at_one_more pkg (q ∷ ps) (d ∷ cs) p c are is = (are.0, at_one_more pkg ps cs p c are.1 is)
+
+abbrev pub kept_places : Part → ℕ → List FilePlace → List FilePlace
+kept_places part at places = if part.last then places ++ place_of_part part at ∷ [] else places
+
+left_then : (now new : PieceReader) (places : List FilePlace) (pkg : List ℕ) (all after : PiecesRead) (part : Part) (bytes : List ℕ) (l : IsLeft now places pkg all) → l.rest ≡ piece part bytes after → IsReading new pkg after → HasAt pkg (start_of_file new + handed_out now) bytes → KeepsStart part (length bytes) now new
+    → IsLeft new (kept_places part (start_of_file new) places) pkg all
+left_then now new places pkg all after part bytes l next reading has start = by_last part.last refl
+  where
+    so_far : List ℕ
+    so_far = l.so_far ++ bytes
+
+    long : length so_far ≡ handed_out now + length bytes
+    long = length-append l.so_far bytes ∙ ap (λ (n : ℕ). n + length bytes) l.long
+
+    stands : HasAt pkg (start_of_file new) so_far
+    stands =
+        has_both pkg (start_of_file new) l.so_far bytes (still_stand now.opened pkg l.so_far (start_of_file now) (start_of_file new) start.same l.long l.stands)
+        (subst (λ (n : ℕ). HasAt pkg (start_of_file new + n) bytes) (sym l.long) has)
+
+    joined : files_joined all [] ≡ with_files l.files (file_given part so_far (files_joined after))
+    joined = l.joined ∙ ap (λ (p : PiecesRead). with_files l.files (files_joined p l.so_far)) next
+
+    by_last : (last : Bool) → part.last ≡ last → IsLeft new (kept_places part (start_of_file new) places) pkg all
+    by_last true is =
+        let c : Contents = record { folder = part.path; file = part.file; bytes = so_far } in record {
+          rest = after;
+          reading = reading;
+          same = l.same ∙ ap refusal_in next;
+          full = λ full. (subst AreFull next (l.full full)).1;
+          files = l.files ++ c ∷ [];
+          so_far = [];
+          at_places = subst (λ (b : Bool). AreAtPlaces pkg (if b then places ++ place_of_part part (start_of_file new) ∷ [] else places) (l.files ++ c ∷ [])) (sym is) (at_one_more pkg places l.files (place_of_part part (start_of_file new)) c l.at_places (record { folder = refl; file = refl; stands = stands }));
+          stands = refl;
+          long = sym (start.handed ∙ ap (λ (b : Bool). if b then 0 else handed_out now + length bytes) is);
+          joined = joined ∙ (ap (λ (b : Bool). with_files l.files (if b then given c (files_joined after []) else files_joined after so_far)) is ∙ with_one_more l.files c (files_joined after []));
+        }
+    by_last false is = record {
+      rest = after;
+      reading = reading;
+      same = l.same ∙ ap refusal_in next;
+      full = λ full. (subst AreFull next (l.full full)).1;
+      files = l.files;
+      so_far = so_far;
+      at_places = subst (λ (b : Bool). AreAtPlaces pkg (if b then places ++ place_of_part part (start_of_file new) ∷ [] else places) l.files) (sym is) l.at_places;
+      stands = stands;
+      long = long ∙ sym (start.handed ∙ ap (λ (b : Bool). if b then 0 else handed_out now + length bytes) is);
+      joined = joined ∙ ap (λ (b : Bool). with_files l.files (if b then given (record { folder = part.path; file = part.file; bytes = so_far }) (files_joined after []) else files_joined after so_far)) is;
+    }
+
+pub one_passed : (h later : List TreeState) (name : List ℕ) (len : ℕ) (begun now new : PieceReader) (places : List FilePlace) (bytes : List ℕ) (part : Part) → later ≡ h → name_in_tree now ≡ name → package_len now ≡ len → IsPassedTo h name len begun now places → IsReadBy later now bytes (Ok (Some part)) new → KeepsStart part (length bytes) now new
+    → IsPassedTo h name len begun new (kept_places part (start_of_file new) places)
+one_passed h later name len begun now new places bytes part same named long passed (seen, is_seen, ends, each) start =
+    let to = both_seen h later name len begun now places seen same named long passed is_seen in
     record {
       seen = to.all;
       is_seen = to.is_seen;
       ends = to.ends ∙ ends;
       left = λ pkg is has all reading.
           let l = passed.left pkg is (to.has_first pkg has) all reading in
-          let (answer, kept) = each pkg (is ∙ sym long) (to.has_second pkg has) l.rest l.reading in
+          let (answer, stands) = each pkg (is ∙ sym long) (to.has_second pkg has) l.rest l.reading in
           let (after, next, later_reading) = answer in
-          record { rest = after; reading = later_reading; same = l.same ∙ ap refusal_in next; full = λ full. (subst AreFull next (l.full full)).1 };
+          left_then now new places pkg all after part bytes l next later_reading stands start;
     }
 
--- the first failed test of each package that is so long and has the bytes that were seen
-abbrev pub IsFaultTold : List TreeState → List ℕ → ℕ → ℕ → (List ℕ → Option Cause) → Option Cause → Type 0
-IsFaultTold h name len at FaultIn fault = (seen : List ℕ) × IsSeenIn h name len at seen
-    × ((pkg : List ℕ) → length pkg ≡ len → HasAt pkg at seen → FaultIn pkg ≡ fault)
+-- ---- what is told at the end
 
--- the first failed test is that of all pieces
-told : (h later : List TreeState) (name : List ℕ) (len : ℕ) (begun now new : PieceReader) (bytes : List ℕ) (result : Result (Option Part) PieceFault) (fault : Option Cause) (FaultIn : List ℕ → Option Cause) → later ≡ h → name_in_tree now ≡ name → package_len now ≡ len → IsPassedTo h name len begun now → IsReadBy later now bytes result new
-    → ((pkg : List ℕ) (before : PiecesRead) → AnswersNext (IsReading new pkg) before bytes result → refusal_in before ≡ fault)
-    → ((pkg : List ℕ) → (all : PiecesRead) × IsReading begun pkg all × (refusal_in all ≡ FaultIn pkg))
-    → IsFaultTold h name len (offset_of begun) FaultIn fault
-told h later name len begun now new bytes result fault FaultIn same named long passed (seen, is_seen, ends, each) says starts =
-    let to = both_seen h later name len begun now seen same named long passed is_seen in (
+-- of each package that is so long and has the bytes that were seen
+abbrev pub IsTold : List TreeState → List ℕ → ℕ → ℕ → (List ℕ → Type 0) → Type 0
+IsTold h name len at Tells = (seen : List ℕ) × IsSeenIn h name len at seen
+    × ((pkg : List ℕ) → length pkg ≡ len → HasAt pkg at seen → Tells pkg)
+
+told : (h later : List TreeState) (name : List ℕ) (len : ℕ) (begun now new : PieceReader) (places : List FilePlace) (bytes : List ℕ) (result : Result (Option Part) PieceFault) (All : List ℕ → PiecesRead) (Tells : List ℕ → Type 0) → later ≡ h → name_in_tree now ≡ name → package_len now ≡ len
+    → IsPassedTo h name len begun now places → IsReadBy later now bytes result new
+    → ((pkg : List ℕ) (l : IsLeft now places pkg (All pkg)) → AnswersNext (IsReading new pkg) l.rest bytes result → Tells pkg)
+    → ((pkg : List ℕ) → IsReading begun pkg (All pkg))
+    → IsTold h name len (offset_of begun) Tells
+told h later name len begun now new places bytes result All Tells same named long passed (seen, is_seen, ends, each) says starts =
+    let to = both_seen h later name len begun now places seen same named long passed is_seen in (
       to.all,
       to.is_seen,
       λ pkg is has.
-          let (all, reading, first) = starts pkg in
-          let l = passed.left pkg is (to.has_first pkg has) all reading in
-          sym first ∙ (l.same ∙ says pkg l.rest (each pkg (is ∙ sym long) (to.has_second pkg has) l.rest l.reading).0),
+          let l = passed.left pkg is (to.has_first pkg has) (All pkg) (starts pkg) in
+          says pkg l (each pkg (is ∙ sym long) (to.has_second pkg has) l.rest l.reading).0,
     )
 
-pub told_from : (h later : List TreeState) (name : List ℕ) (len at : ℕ) (begun now new : PieceReader) (bytes : List ℕ) (result : Result (Option Part) PieceFault) (fault : Option Cause) (FaultIn : List ℕ → Option Cause) → later ≡ h → name_in_tree begun ≡ name → package_len begun ≡ len → offset_of begun ≡ at → name_in_tree now ≡ name_in_tree begun → package_len now ≡ package_len begun
-    → IsPassedTo h (name_in_tree begun) (package_len begun) begun now → IsReadBy later now bytes result new
-    → ((pkg : List ℕ) (before : PiecesRead) → AnswersNext (IsReading new pkg) before bytes result → refusal_in before ≡ fault)
-    → ((pkg : List ℕ) → (all : PiecesRead) × IsReading begun pkg all × (refusal_in all ≡ FaultIn pkg))
-    → IsFaultTold h name len at FaultIn fault
-told_from h later name len at begun now new bytes result fault FaultIn same names lens ats named long passed read says starts =
-    subst (λ (a : ℕ). IsFaultTold h name len a FaultIn fault) ats
-    (subst (λ (n : ℕ). IsFaultTold h name n (offset_of begun) FaultIn fault) lens
-    (subst (λ (n : List ℕ). IsFaultTold h n (package_len begun) (offset_of begun) FaultIn fault) names
-    (told h later (name_in_tree begun) (package_len begun) begun now new bytes result fault FaultIn same named long passed read says starts)))
+pub told_from : (h later : List TreeState) (name : List ℕ) (len at : ℕ) (begun now new : PieceReader) (places : List FilePlace) (bytes : List ℕ) (result : Result (Option Part) PieceFault) (All : List ℕ → PiecesRead) (Tells : List ℕ → Type 0) → later ≡ h → name_in_tree begun ≡ name → package_len begun ≡ len → offset_of begun ≡ at
+    → name_in_tree now ≡ name_in_tree begun → package_len now ≡ package_len begun
+    → IsPassedTo h (name_in_tree begun) (package_len begun) begun now places → IsReadBy later now bytes result new
+    → ((pkg : List ℕ) (l : IsLeft now places pkg (All pkg)) → AnswersNext (IsReading new pkg) l.rest bytes result → Tells pkg)
+    → ((pkg : List ℕ) → IsReading begun pkg (All pkg))
+    → IsTold h name len at Tells
+told_from h later name len at begun now new places bytes result All Tells same names lens ats named long passed read says starts =
+    subst (λ (a : ℕ). IsTold h name len a Tells) ats
+    (subst (λ (n : ℕ). IsTold h name n (offset_of begun) Tells) lens
+    (subst (λ (n : List ℕ). IsTold h n (package_len begun) (offset_of begun) Tells) names
+    (told h later (name_in_tree begun) (package_len begun) begun now new places bytes result All Tells same named long passed read says starts)))
 
-pub none_fails : (new : PieceReader) (bytes pkg : List ℕ) (before : PiecesRead) → AnswersNext (IsReading new pkg) before bytes (Ok None) → refusal_in before ≡ None
-none_fails new bytes pkg before answer = ap refusal_in answer.0
+no_fault_in : (cs : List Contents) → fault_in (with_files cs no_more) ≡ None
+no_fault_in [] = refl
+no_fault_in (c ∷ cs) = no_fault_in cs
 
-pub one_fails : (new : PieceReader) (bytes : List ℕ) (c : Cause) (pkg : List ℕ) (before : PiecesRead) → AnswersNext (IsReading new pkg) before bytes (Err (Bad c)) → refusal_in before ≡ Some c
-one_fails new bytes c pkg before answer = ap refusal_in answer.0
+all_contents : (cs : List Contents) → contents_in (with_files cs no_more) ≡ cs
+all_contents [] = refl
+all_contents (c ∷ cs) = ap (λ (ds : List Contents). c ∷ ds) (all_contents cs)
+
+-- behind the last piece all files stand at their places
+pub all_stand : (now : PieceReader) (places : List FilePlace) (pkg : List ℕ) (all : PiecesRead) (files : FilesRead) (l : IsLeft now places pkg all) → files_joined all [] ≡ files → l.rest ≡ no_piece → (fault_in files ≡ None) × AreAtPlaces pkg places (contents_in files)
+all_stand now places pkg all files l whole end =
+    let same : files ≡ with_files l.files no_more = sym whole ∙ (l.joined ∙ ap (λ (p : PiecesRead). with_files l.files (files_joined p l.so_far)) end) in
+    (ap fault_in same ∙ no_fault_in l.files, subst (AreAtPlaces pkg places) (sym (ap contents_in same ∙ all_contents l.files)) l.at_places)
+
+pub one_fails : (now : PieceReader) (places : List FilePlace) (pkg : List ℕ) (all : PiecesRead) (c : Cause) (fault : Option Cause) (l : IsLeft now places pkg all) → refusal_in all ≡ fault → l.rest ≡ refusal c → fault ≡ Some c
+one_fails now places pkg all c fault l whole end = sym whole ∙ (l.same ∙ ap refusal_in end)
 
 -- ---- how many steps are left
 
@@ -141,10 +284,10 @@ some_package len at seen within =
     (f.file, f.long, subst (λ (n : ℕ). HasAt f.file n seen) (let e : 0 + length zeros ≡ at = omega (arith, many) in e) (has_rest f.file 0 zeros seen f.has))
 
 -- a piece that is not the last one of its file has bytes
-some_bytes : (h later : List TreeState) (name : List ℕ) (len : ℕ) (begun now new : PieceReader) (bytes : List ℕ) (part : Part) → later ≡ h → name_in_tree now ≡ name → package_len now ≡ len → IsPassedTo h name len begun now → IsReadBy later now bytes (Ok (Some part)) new
+some_bytes : (h later : List TreeState) (name : List ℕ) (len : ℕ) (begun now new : PieceReader) (places : List FilePlace) (bytes : List ℕ) (part : Part) → later ≡ h → name_in_tree now ≡ name → package_len now ≡ len → IsPassedTo h name len begun now places → IsReadBy later now bytes (Ok (Some part)) new
     → ((pkg : List ℕ) → (all : PiecesRead) × IsReading begun pkg all × AreFull all) → part.last ≡ false → 0 < length bytes
-some_bytes h later name len begun now new bytes part same named long passed (seen, is_seen, ends, each) starts more =
-    let to = both_seen h later name len begun now seen same named long passed is_seen in
+some_bytes h later name len begun now new places bytes part same named long passed (seen, is_seen, ends, each) starts more =
+    let to = both_seen h later name len begun now places seen same named long passed is_seen in
     let (pkg, is, has) = some_package len (offset_of begun) to.all to.is_seen.within in
     let (all, reading, full) = starts pkg in
     let l = passed.left pkg is (to.has_first pkg has) all reading in
@@ -168,11 +311,11 @@ nearer_by false len x y before after first others due left less within =
     subst (λ (es : List Expected). length after * (len + 1) + (len - x) < length es * (len + 1) + (len - y)) (left ∙ sym due)
     (fewer_bytes (length after * (len + 1)) len x y (less refl) within)
 
-pub nearer : (h later : List TreeState) (name : List ℕ) (len : ℕ) (begun now new : PieceReader) (bytes : List ℕ) (part : Part) → later ≡ h → name_in_tree now ≡ name → package_len now ≡ len → package_len new ≡ package_len now → IsPassedTo h name len begun now → IsReadBy later now bytes (Ok (Some part)) new
+pub nearer : (h later : List TreeState) (name : List ℕ) (len : ℕ) (begun now new : PieceReader) (places : List FilePlace) (bytes : List ℕ) (part : Part) → later ≡ h → name_in_tree now ≡ name → package_len now ≡ len → package_len new ≡ package_len now → IsPassedTo h name len begun now places → IsReadBy later now bytes (Ok (Some part)) new
     → ((pkg : List ℕ) → (all : PiecesRead) × IsReading begun pkg all × AreFull all) → IsOfFirstDue (due_files now) part (due_files new) → (part.last ≡ false → offset_of now + length bytes ≤ offset_of new)
     → steps_left new < steps_left now
-nearer h later name len begun now new bytes part same named long kept passed read starts due further =
-    let some = some_bytes h later name len begun now new bytes part same named long passed read starts in
+nearer h later name len begun now new places bytes part same named long kept passed read starts due further =
+    let some = some_bytes h later name len begun now new places bytes part same named long passed read starts in
     let within = read.1.within in
     let ends = read.2 in
     subst (λ (k : ℕ). length (due_files new) * (k + 1) + (k - offset_of new) < steps_left now) (sym kept)

@@ -1,3 +1,5 @@
 -- what the contract of `apk` says: nothing
 -- what only inner contracts and proofs use
+pub mod Tested
 pub mod Tests
+pub mod Places

@@ -1,15 +1,13 @@
 -- What the tests of a package say of a file, or of where there is none.
 use Rattle.std.specs.Prelude.{◌≡◌, ℕ, List, Option, Some, None}
-use Rattle.adb_schema.specs.declared.read.TheConstants.{PACKAGE_WORD}
 use Rattle.base_core.specs.declared.cause.Cause.TheVariants.{WrongSchema}
-use Rattle.pkg_core.specs.Whole.{container_fault}
-use Rattle.pkg_pieces.specs.Front.{front_fault}
+use Rattle.pkg_core.specs.Whole.{container_fault, package_fault}
 use Rattle.package_test.specs.declared.test.PackageTest.{PackageTest}
 use Rattle.package_test.specs.declared.test.PackageTest.TheVariants.{Absent, Bad, OtherSchema, Sound}
 
 -- it passes the tests in front of that of its schema, and is no package
 abbrev pub HasOtherSchema : List ℕ → Type 0
-HasOtherSchema file = (found : ℕ) × (front_fault PACKAGE_WORD file ≡ Some (WrongSchema found))
+HasOtherSchema file = (found : ℕ) × (package_fault file ≡ Some (WrongSchema found))
 
 -- what is answered of a file: the first failed test is that of the file as a container
 abbrev pub IsTestOf : Option (List ℕ) → PackageTest → Type 0

@@ -1,10 +1,19 @@
-//! Packages (apk-package(5)) in a tree of files are tested, and none is held whole: of a package
-//! its values are held, and of its files' contents one piece of up to 65,536 bytes.
+//! Packages (apk-package(5)) in a tree of files are read and tested, and none is held whole: of a
+//! package its values are held, of its files' contents one piece of up to 65,536 bytes, and where
+//! the contents of each file begin.
 //!
-//! `test_package` gives what the file under a name is by its tests, a `PackageTest`. The contract
-//! cites `Tests` of `specs/`.
+//! `read_package` gives what stands under a name, a `PackageRead`. A `TestedPackage` lends its
+//! values and, in pieces, the contents of single files. `test_package` tells only what the tests
+//! say, a `PackageTest`. The contracts cite `Tested` (what a tested package shows, and of which
+//! files it is), `Places` (where files begin) and `Tests` of `specs/`.
 #![tactic(auto)]
 
+mod files;
+mod package;
+mod places;
+mod read;
 mod test;
 
+pub use package::TestedPackage;
+pub use read::{PackageRead, read_package};
 pub use test::{PackageTest, test_package};

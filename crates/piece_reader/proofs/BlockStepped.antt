@@ -22,7 +22,7 @@ use Rattle.piece_core.specs.Taking.{HasTaken, file_bytes_left, pieces_in}
 use Rattle.piece_core.specs.declared.file.FileCheck.{FileCheck}
 use Rattle.piece_core.specs.declared.place.BlockPlace.{BlockPlace}
 use Rattle.piece_core.specs.declared.place.Step.TheVariants.{End as EndStep, Opened as OpenedStep, Passed as PassedStep}
-use Rattle.piece_reader.specs.Blocks.{IsInBlock, head_size, pieces_from_block}
+use Rattle.piece_reader.specs.Blocks.{IsInBlock, head_size}
 use Rattle.piece_reader.specs.Opened.{IsOpenFile, bytes_to_come}
 use Rattle.piece_reader.specs.declared.open.OpenFile.{OpenFile}
 

@@ -78,14 +78,14 @@ read_err old mid new o pkg bytes before fault (Ok found) is opened next = absurd
 read_err old mid new o pkg bytes before (Bad d) (Err (Bad c)) is opened next =
     let e : Bad c ≡ Bad d = is in
     let cause : c ≡ d = (cc) in
-    next d refl opened.0.0 _ before opened.0.1 ∙ ap refusal (sym cause)
+    next d refl opened.0 _ before opened.1 ∙ ap refusal (sym cause)
 read_err old mid new o pkg bytes before Disk (Err (Bad c)) is opened next = absurd (let e : Bad c ≡ Disk = is in (cc))
 read_err old mid new o pkg bytes before fault (Err Disk) is opened next = tt
 
 pub read_some : (old mid : PieceReader) (o : OpenFile) (rest : Option OpenFile) (pkg bytes : List ℕ) (before : PiecesRead) (part : Part) → IsFileOpened old pkg before (Ok (Some o)) mid → ((so_far : List ℕ) (further before : PiecesRead) → IsOpenFile o so_far pkg further before → IsNextPiece so_far pkg bytes further before (Ok (part, rest)))
     → (after : PiecesRead) × (before ≡ piece part bytes after) × ArePiecesFrom mid.place rest pkg after
 read_some old mid o None pkg bytes before part opened next =
-    (pieces_at mid.place pkg, next opened.0.0 (pieces_at mid.place pkg) before opened.0.1, refl)
+    (pieces_at mid.place pkg, next opened.0 (pieces_at mid.place pkg) before opened.1, refl)
 read_some old mid o (Some further) pkg bytes before part opened next =
-    let p = next opened.0.0 (pieces_at mid.place pkg) before opened.0.1 in
-    (p.0, p.1, (opened.0.0 ++ bytes, p.2))
+    let p = next opened.0 (pieces_at mid.place pkg) before opened.1 in
+    (p.0, p.1, (opened.0 ++ bytes, p.2))

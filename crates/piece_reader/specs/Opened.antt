@@ -1,5 +1,5 @@
 -- A file of a package whose pieces are read one by one, of the package's bytes.
-use Rattle.std.specs.Prelude.{◌≡◌, ℕ, ◌+◌, true, false, List, ◌++◌, length, take, drop, Option, Some, None, Result, Ok, Err}
+use Rattle.std.specs.Prelude.{◌≡◌, ℕ, ◌+◌, true, false, List, [], ◌++◌, length, take, drop, Option, Some, None, Result, Ok, Err}
 use Rattle.pkg_core.specs.Contents.{hash_fault}
 use Rattle.pkg_core.specs.Opened.{expected_of}
 use Rattle.piece_core.specs.Pieces.{PiecesRead, part_of, piece, refusal}
@@ -20,6 +20,18 @@ pub record IsOpenFile (o : OpenFile) (so_far pkg : List ℕ)
   pub taken : HasTaken o.file so_far
   pub long : length (so_far ++ bytes_to_come o pkg) ≡ o.file.wanted.size
   pub come : pieces ≡ pieces_in o.file so_far (bytes_to_come o pkg) further
+
+-- those from the offset on; and with the ones that were handed out they have the file's digest
+pub record AreLeftOf (o : OpenFile) (pkg left : List ℕ) : Type 0 where
+  pub so_far : List ℕ
+  pub taken : HasTaken o.file so_far
+  pub long : length (so_far ++ left) ≡ o.file.wanted.size
+  pub come : left ≡ bytes_to_come o pkg
+  pub good : hash_fault o.file.wanted.hash.now (so_far ++ left) ≡ None
+
+abbrev pub AreToCome : Option OpenFile → List ℕ → List ℕ → Type 0
+AreToCome None pkg left = left ≡ []
+AreToCome (Some o) pkg left = AreLeftOf o pkg left
 
 -- these bytes of the file were handed out, and unless more are to come they have its digest
 abbrev pub AreTestedSoFar : OpenFile → List ℕ → Option OpenFile → Type 0

@@ -124,9 +124,9 @@ abbrev pub handed_out : PieceReader → ℕ
 handed_out reader = handed_out_from reader.start reader.opened
 
 -- the bytes of a piece stand in the package, behind those of its file that were handed out before
-abbrev pub StandsAt : PieceReader → List ℕ → List ℕ → Option Part → PieceReader → Type 0
-StandsAt old pkg bytes None new = Unit {0}
-StandsAt old pkg bytes (Some part) new = HasAt pkg (start_of_file new + handed_out old) bytes
+abbrev pub HasPieceAt : PieceReader → List ℕ → List ℕ → Option Part → PieceReader → Type 0
+HasPieceAt old pkg bytes None new = Unit {0}
+HasPieceAt old pkg bytes (Some part) new = HasAt pkg (start_of_file new + handed_out old) bytes
 
 -- a piece of so many bytes more was handed out of the file that is open; a file that is open stays
 -- where it begins
@@ -164,7 +164,7 @@ IsFileOpened old pkg before (Err Disk) new = Unit {0}
 -- the file begins there, in front of as many bytes as were handed out
 pub record IsStartOf (old : PieceReader) (o : OpenFile) (start : ℕ) : Type 0 where
   pub stands : o.at ≡ start + handed_out old
-  pub same : IfSome old.opened (λ open. start ≡ start_of_file old)
+  pub same : IfSome old.opened (λ o. start ≡ start_of_file old)
 
 -- as AnswersNext, but for what comes after a failed test
 abbrev pub IsPieceRead : PieceReader → List ℕ → PiecesRead → List ℕ

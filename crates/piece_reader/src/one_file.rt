@@ -1,16 +1,16 @@
 //! The pieces of a single file of a package.
 
 ghost use Rattle.std.specs.Option.{ForSome};
-ghost use Rattle.std.specs.Prelude.{◌≡◌, ◌<◌, ◌≤◌};
+ghost use Rattle.std.specs.Prelude.{◌<◌, ◌≤◌};
 ghost use Rattle.piece_reader.specs.Opened.{open_end};
 ghost use Rattle.piece_core.specs.Taking.{file_bytes_left};
 
 use crate::fault::PieceFault;
-use crate::open::OpenFile;
+use crate::open::{OpenFile, open_at};
 use crate::piece::Piece;
-use base_core::{Name, Tree};
-use piece_core::FileCheck;
-use pkg_core::Wanted;
+use base_core::{Cause, Name, Tree};
+use pkg_core::wanted_file;
+use pkg_pieces::Contents;
 
 /// The bytes of a single file of a package in pieces, read from the package at the offset at which
 /// the file begins. All is tested anew. It takes no memory. Contracts see, by `FileReading` of
@@ -19,23 +19,28 @@ use pkg_core::Wanted;
 pub struct FilePieces<'a> {
     pub(crate) name: &'a Name,
     pub(crate) len: u64,
+    // They tell the file's size and digest.
+    pub(crate) contents: Contents<'a>,
     pub(crate) opened: Option<OpenFile<'a>>,
-    pub(crate) failed: Option<PieceFault>,
+    pub(crate) refused: Option<Cause>,
     ghost within: { open_end opened ≤ len },
     ghost more: { ForSome opened (λ o. 0 < file_bytes_left o.file) },
 }
 
 impl<'a> FilePieces<'a> {
-    ghost use Rattle.std.specs.Prelude.{◌≡◌, ◌<◌, ◌++◌, [], ℕ, List, None, Some, length, IfErr, IfOk, IfSome, Err};
+    ghost use Rattle.std.specs.Prelude.{◌≡◌, ◌++◌, [], ℕ, List, None, Some, length, IfErr, IfOk, IfSome, Err};
     ghost use Rattle.base_core.specs.Calls.{IfObservable};
     ghost use Rattle.base_core.specs.Tree.{files_of};
-    ghost use Rattle.pkg_core.specs.Contents.{hash_fault};
+    ghost use Rattle.pkg_core.specs.Contents.{Expected, expected_contents, hash_fault};
+    ghost use Rattle.pkg_core.specs.Opened.{expected_with_positions};
     ghost use Rattle.pkg_pieces.specs.Seen.{HasAt, ReadsFile};
-    ghost use Rattle.piece_reader.specs.FileReading.{AreTestedFrom, GivesBytes, HasFewerLeft, HaveCome, IsFileReading, bytes_left_of, len_around_file, package_of_file};
-    ghost use Rattle.piece_reader.specs.declared.fault.PieceFault.TheVariants.{Disk as DiskFault};
+    ghost use Rattle.pkg_pieces.specs.Values.{value_of_contents};
+    ghost use Rattle.piece_reader.specs.FileReading.{AreTestedFrom, GivesBytes, HasFewerLeft, HasRefusedFile, HaveCome, IsFileReading, bytes_left_of, len_around_file, package_of_file};
+    ghost use Rattle.piece_reader.specs.declared.fault.PieceFault.TheVariants.{Bad, Disk as DiskFault};
 
-    /// A file that has no contents, of a package of this name and with so many bytes: no piece comes.
-    pub fn none(name: &'a Name, len: u64) -> FilePieces<'a>
+    /// A file that has no contents, of a package of this name and with so many bytes and these
+    /// values: no piece comes.
+    pub fn none(name: &'a Name, len: u64, contents: Contents<'a>) -> FilePieces<'a>
         ensures name { package_of_file result ≡ name.entry.now }
         ensures len { len_around_file result ≡ len }
         ensures reading { (pkg : List ℕ) → IsFileReading result pkg [] }
@@ -43,29 +48,42 @@ impl<'a> FilePieces<'a> {
         FilePieces {
             name,
             len,
+            contents,
             opened: None,
-            failed: None,
+            refused: None,
         }
     }
 
-    /// The file whose contents are due, which begins at this offset in the package of this name and
-    /// with so many bytes. Where the package is too short for it, no piece comes.
-    pub fn new(name: &'a Name, len: u64, at: u64, wanted: Wanted<'a>) -> FilePieces<'a>
+    /// The file with these positions, which begins at this offset in the package of this name and
+    /// with so many bytes and these values. No piece comes where it has no contents, or the package is
+    /// too short for them.
+    pub fn new(
+        name: &'a Name,
+        len: u64,
+        contents: Contents<'a>,
+        folder: u32,
+        file: u32,
+        at: u64,
+    ) -> FilePieces<'a>
         ensures name { package_of_file result ≡ name.entry.now }
         ensures len { len_around_file result ≡ len }
-        ensures reading { (pkg bytes : List ℕ) → length pkg ≡ len → HasAt pkg at bytes
-            → 0 < length bytes → length bytes ≡ wanted.entry.size
-            → hash_fault wanted.entry.hash.now bytes ≡ None → IsFileReading result pkg bytes }
+        ensures reading { (pkg bytes : List ℕ) (e : Expected) → length pkg ≡ len
+            → expected_with_positions folder file
+            (expected_contents (value_of_contents contents.entry)) ≡ Some e
+            → HasAt pkg at bytes → length bytes ≡ e.size → hash_fault e.hash bytes ≡ None
+            → IsFileReading result pkg bytes }
     {
-        if wanted.size == 0 || at > len || wanted.size > len - at {
-            return FilePieces::none(name, len);
-        }
-        let file = FileCheck::new(wanted);
+        let view = contents.view();
+        let opened = match wanted_file(&view, folder, file) {
+            Some(wanted) => open_at(wanted, at, len),
+            None => None,
+        };
         FilePieces {
             name,
             len,
-            opened: Some(OpenFile { file, at }),
-            failed: None,
+            contents,
+            opened,
+            refused: None,
         }
     }
 
@@ -75,7 +93,8 @@ impl<'a> FilePieces<'a> {
     /// # Errors
     ///
     /// `Bad` with `HashDiffers`, before the last piece is handed out, where all bytes together do not
-    /// have the file's digest, or `Disk` where the tree failed; and the same again from then on.
+    /// have the file's digest, and again from then on; or `Disk` where the tree failed: then the
+    /// reader may only be dropped.
     pub fn next_piece<T: Tree>(
         &mut self,
         tree: &mut T,
@@ -84,37 +103,37 @@ impl<'a> FilePieces<'a> {
         // Where the tree shows the package.
         ensures piece { IfObservable (T.history tree.old) (λ v. (pkg left : List ℕ)
             → files_of v (package_of_file self.old) ≡ Some pkg → IsFileReading self.old pkg left
-            → GivesBytes self.new pkg left piece.new result) }
+            → GivesBytes (IsFileReading self.new pkg) left piece.new result) }
         // Of each package, also of one that was changed since.
         ensures tested { (so_far : List ℕ) → HaveCome self.old so_far → IfOk result (λ _.
             AreTestedFrom self.old.opened (so_far ++ piece.new) self.new.opened) }
         ensures left { IfOk result (HasFewerLeft self.old (length piece.new) self.new) }
-        ensures failed { IfErr result (λ fault. self.new.failed ≡ Some fault) }
-        ensures again { IfSome self.old.failed (λ fault. result ≡ Err fault) }
+        ensures refused { IfErr result (λ fault. HasRefusedFile fault self.new) }
+        ensures again { IfSome self.old.refused (λ cause. result ≡ Err (Bad cause)) }
         ensures name { package_of_file self.new ≡ package_of_file self.old }
         ensures len { len_around_file self.new ≡ len_around_file self.old }
         ensures tree { ReadsFile (package_of_file self.old) (len_around_file self.old) DiskFault
             (T.history tree.old) (T.history tree.new) (T.counts tree.old) (T.counts tree.new)
             result }
     {
-        if let Some(fault) = self.failed {
-            return Err(fault);
+        if let Some(cause) = self.refused {
+            return Err(PieceFault::Bad(cause));
         }
         match self.read_next(tree, piece) {
-            Ok(came) => Ok(came),
-            Err(fault) => {
-                self.failed = Some(fault);
-                Err(fault)
+            Err(PieceFault::Bad(cause)) => {
+                self.refused = Some(cause);
+                Err(PieceFault::Bad(cause))
             }
+            other => other,
         }
     }
 
-    /// Reads the next piece, where no call failed.
+    /// Reads the next piece, where no test failed.
     fn read_next<T: Tree>(&mut self, tree: &mut T, piece: &mut Piece) -> Result<bool, PieceFault>
-        requires { self.old.failed ≡ None }
+        requires { self.old.refused ≡ None }
         ensures piece { IfObservable (T.history tree.old) (λ v. (pkg left : List ℕ)
             → files_of v (package_of_file self.old) ≡ Some pkg → IsFileReading self.old pkg left
-            → GivesBytes self.new pkg left piece.new result) }
+            → GivesBytes (IsFileReading self.new pkg) left piece.new result) }
         ensures tested { (so_far : List ℕ) → HaveCome self.old so_far → IfOk result (λ _.
             AreTestedFrom self.old.opened (so_far ++ piece.new) self.new.opened) }
         ensures left { IfOk result (HasFewerLeft self.old (length piece.new) self.new) }
@@ -124,6 +143,8 @@ impl<'a> FilePieces<'a> {
             (T.history tree.old) (T.history tree.new) (T.counts tree.old) (T.counts tree.new)
             result }
     {
+        // The file ends within the package.
+        let _len = self.len;
         let Some(file) = self.opened.take() else {
             return Ok(false);
         };

@@ -1,16 +1,18 @@
 //! A file of a package whose pieces are read one by one.
 
-ghost use Rattle.std.specs.Prelude.{◌≡◌, ◌≤◌, ◌<◌, ◌+◌, ◌++◌, ◌^◌, ℕ, List, length, IfNone, IfOk, IfSome};
+ghost use Rattle.std.specs.Prelude.{◌≡◌, ◌≤◌, ◌<◌, ◌+◌, ◌++◌, ◌^◌, ℕ, List, None, length, IfNone, IfOk, IfSome};
 ghost use Rattle.piece_core.specs.Pieces.{PiecesRead};
 ghost use Rattle.piece_core.specs.Taking.{HasTaken, file_bytes_left, next_len};
+ghost use Rattle.pkg_core.specs.Contents.{hash_fault};
 ghost use Rattle.pkg_pieces.specs.Seen.{HasAt, IsSeen, ReadsFile};
-ghost use Rattle.piece_reader.specs.Opened.{AreTestedSoFar, IsNextPiece, IsOpenFile, IsPieceOf, NotDisk};
+ghost use Rattle.piece_reader.specs.Opened.{AreTestedSoFar, AreToCome, IsNextPiece, IsOpenFile, IsPieceOf, NotDisk, open_end};
 ghost use Rattle.piece_reader.specs.declared.fault.PieceFault.TheVariants.{Disk as DiskFault};
 
 use crate::fault::PieceFault;
 use crate::piece::Piece;
 use base_core::{Name, Tree};
 use piece_core::{FileCheck, Part};
+use pkg_core::Wanted;
 
 /// A file of a package whose pieces are being read, and the offset of its next byte in the package.
 /// Contracts see, by `Opened` of `specs/`, which bytes of the package are still to come.
@@ -68,4 +70,26 @@ impl<'a> OpenFile<'a> {
             Err(cause) => Err(PieceFault::Bad(cause)),
         }
     }
+}
+
+/// Opens a file with contents at an offset, of a package with so many bytes. None comes where it does
+/// not end within the package.
+pub(crate) fn open_at<'a>(wanted: Wanted<'a>, at: u64, len: u64) -> Option<OpenFile<'a>>
+    ensures within { open_end result ≤ len }
+    ensures more { IfSome result (λ o. 0 < file_bytes_left o.file) }
+    ensures left { (pkg bytes : List ℕ) → length pkg ≡ len → HasAt pkg at bytes
+        → length bytes ≡ wanted.entry.size → hash_fault wanted.entry.hash.now bytes ≡ None
+        → AreToCome result pkg bytes }
+{
+    if wanted.size == 0 {
+        return None;
+    }
+    if at > len {
+        return None;
+    }
+    if wanted.size > len - at {
+        return None;
+    }
+    let file = FileCheck::new(wanted);
+    Some(OpenFile { file, at })
 }

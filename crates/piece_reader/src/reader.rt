@@ -51,7 +51,7 @@ impl<'a> PieceReader<'a> {
     ghost use Rattle.pkg_pieces.specs.Front.{behind_front, front_end, front_file_len};
     ghost use Rattle.pkg_pieces.specs.Seen.{HasAt, IsSeenIn, ReadsFile};
     ghost use Rattle.pkg_pieces.specs.Values.{value_of_contents};
-    ghost use Rattle.piece_reader.specs.Readers.{AnswersNext, ArePiecesFrom, ComesInOrder, GoesOnBehind, HasRefused, IsFileOpened, IsGoingOn, IsPieceRead, IsReading, IsStartOf, KeepsStart, OpensDue, StandsAt, StandsBetween, due_files, due_in, name_in_tree, offset_of, package_len, start_of_file};
+    ghost use Rattle.piece_reader.specs.Readers.{AnswersNext, ArePiecesFrom, ComesInOrder, GoesOnBehind, HasRefused, IsFileOpened, IsGoingOn, IsPieceRead, IsReading, IsStartOf, KeepsStart, OpensDue, HasPieceAt, StandsBetween, due_files, due_in, name_in_tree, offset_of, package_len, start_of_file};
     ghost use Rattle.piece_reader.specs.declared.reader.Due.TheVariants.{Files};
     ghost use Rattle.piece_reader.specs.declared.fault.PieceFault.TheVariants.{Disk as DiskFault};
 
@@ -126,7 +126,7 @@ impl<'a> PieceReader<'a> {
             → HasAt pkg (offset_of self.old) seen
             → (before : PiecesRead) → IsReading self.old pkg before
             → AnswersNext (IsReading self.new pkg) before piece.new result
-            × IfOk result (λ found. StandsAt self.old pkg piece.new found self.new)) }
+            × IfOk result (λ found. HasPieceAt self.old pkg piece.new found self.new)) }
         ensures order { IfOk result (λ found.
             ComesInOrder (due_files self.old) found (due_files self.new)) }
         ensures goes_on { IfOk result (λ found. IfSome found (λ part.
@@ -165,7 +165,7 @@ impl<'a> PieceReader<'a> {
             → HasAt pkg (offset_of self.old) seen
             → (before : PiecesRead) → IsReading self.old pkg before
             → AnswersNext (IsReading self.new pkg) before piece.new result
-            × IfOk result (λ found. StandsAt self.old pkg piece.new found self.new)) }
+            × IfOk result (λ found. HasPieceAt self.old pkg piece.new found self.new)) }
         ensures order { IfOk result (λ found.
             ComesInOrder (due_files self.old) found (due_files self.new)) }
         ensures goes_on { IfOk result (λ found. IfSome found (λ part.
@@ -210,7 +210,7 @@ impl<'a> PieceReader<'a> {
             → HasAt pkg (offset_of self.old) seen
             → (before : PiecesRead) → ArePiecesFrom self.old.place self.old.opened pkg before
             → IsPieceRead self.new pkg before piece.new result
-            × IfOk result (λ found. StandsAt self.old pkg piece.new found self.new)) }
+            × IfOk result (λ found. HasPieceAt self.old pkg piece.new found self.new)) }
         ensures order { IfOk result (λ found. ComesInOrder
             (due_in self.old.place self.old.opened) found (due_in self.new.place self.new.opened)) }
         ensures bytes { IfOk result (λ found. IfSome found (λ part. part.last ≡ false

@@ -3,17 +3,17 @@
 
 ghost use Rattle.std.specs.Prelude.{◌≡◌, ◌&&◌, ◌+◌, ◌-◌, ◌<◌, ◌≤◌, ◌^◌, drop, length, ◌==◌, [], Some, IfOk, option_map};
 ghost use Rattle.adb_tables.specs.Values.{entries_in, count_of};
-ghost use Rattle.adb_schema.specs.Views.{file_value};
+ghost use Rattle.adb_schema.specs.Views.{file_value, package_value};
 ghost use Rattle.adb_fields.specs.ListValue.{list_value};
 ghost use Rattle.adb_fields.specs.Repeated.{list_of};
 ghost use Rattle.adb_rules.specs.Texts.{is_with_contents};
-ghost use Rattle.pkg_core.specs.Contents.{expected_files, expected_folders, contents_bytes, expected_fault, missing_fault};
+ghost use Rattle.pkg_core.specs.Contents.{expected_contents, expected_files, expected_folders, contents_bytes, expected_fault, missing_fault};
 ghost use Rattle.adb_view.specs.Gives.{cause_of};
 ghost use Rattle.pkg_core.specs.Opened.{expected_of, expected_with_positions};
 
 use crate::checks::hash_fault;
 use adb_block::{BlockKind, Blocks};
-use adb_schema::{DirInfo, FileInfo, List, file_pair};
+use adb_schema::{DirInfo, FileInfo, List, PackageView, file_pair};
 use base_core::Cause;
 
 /// Where a walk over the files of a package that have contents stands: behind so many folders, and
@@ -95,9 +95,17 @@ impl<'a> Walk<'a> {
     }
 }
 
-/// The file with these positions, where it has contents: at once, however many there are. None comes
-/// exactly where there is no such file, or it has no contents.
-pub fn wanted_file<'a>(
+/// The file of a package with these positions, where it has contents: at once, however many there
+/// are. None comes exactly where there is no such file, or it has no contents.
+pub fn wanted_file<'a>(view: &PackageView<'a>, folder: u32, file: u32) -> Option<Wanted<'a>>
+    ensures { option_map expected_of result ≡ expected_with_positions folder file
+        (expected_contents (package_value view.now)) }
+{
+    wanted_in_folder(view.paths(), folder, file)
+}
+
+/// The file with this position in the folder with another, where it has contents.
+fn wanted_in_folder<'a>(
     folders: List<'a, DirInfo<'a>>,
     folder: u32,
     file: u32,

@@ -1,5 +1,6 @@
 -- What a package shows whose values were tested.
 use Rattle.std.specs.Prelude.{ℕ, List}
+use Rattle.adb_view.specs.Adb.{payload_of}
 use Rattle.adb_view.specs.Plain.{Plain}
 use Rattle.adb_schema.specs.Soundness.{root_value}
 use Rattle.adb_tables.specs.declared.tables.Which.TheVariants.{Package}
@@ -7,7 +8,7 @@ use Rattle.pkg_pieces.specs.declared.contents.Contents.{Contents}
 
 -- the bytes that hold it
 abbrev pub payload_of_contents : Contents → List ℕ
-payload_of_contents contents = contents.payload.now
+payload_of_contents contents = payload_of contents.adb
 
 -- its plain value
 abbrev pub value_of_contents : Contents → Plain

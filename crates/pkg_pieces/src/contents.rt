@@ -3,11 +3,8 @@
 ghost use Rattle.std.specs.Prelude.{◌≡◌, true, None, IfOk, IfErr, is_none};
 ghost use Rattle.adb_schema.specs.ReadFaults.{IsReadFault};
 ghost use Rattle.adb_schema.specs.Soundness.{payload_fault, root_value};
-ghost use Rattle.adb_schema.specs.Views.{package_value};
-ghost use Rattle.adb_tables.specs.Values.{is_sound};
-ghost use Rattle.adb_tables.specs.declared.tables.Kind.TheVariants as Kinds;
 ghost use Rattle.adb_tables.specs.declared.tables.Which.TheVariants as Tables;
-ghost use Rattle.adb_view.specs.Head.{head_fault, root_of};
+ghost use Rattle.adb_view.specs.Adb.{payload_of};
 
 use crate::front::Front;
 use crate::laws::{bytes_are_small, tested_payloads_hold_sound_values};
@@ -23,12 +20,13 @@ use std::alloc::Global;
 /// `Values` of `specs/`, the plain value and the bytes that hold it.
 #[derive(Clone, Copy)]
 pub struct Contents<'a> {
-    payload: &'a [u8],
-    ghost tested: { is_none (payload_fault Tables.Package payload.now) ≡ true },
+    adb: Adb<'a>,
+    ghost tested: { is_none (payload_fault Tables.Package (payload_of adb)) ≡ true },
 }
 
 impl<'a> Contents<'a> {
     ghost use Rattle.adb_rules.specs.SoundValues.{KeepsRules};
+    ghost use Rattle.adb_schema.specs.Views.{package_value};
     ghost use Rattle.adb_schema.specs.SoundContainers.{IsSoundValue};
     ghost use Rattle.adb_view.specs.Plain.{IsNormal};
     ghost use Rattle.pkg_core.specs.Refusals.{IsFaultOf};
@@ -52,9 +50,8 @@ impl<'a> Contents<'a> {
         ensures payload { IfOk result (λ contents. payload_of_contents contents
             ≡ front_payload front.entry.now) }
     {
-        let payload = front.payload();
-        check_payload(alloc, payload)?;
-        Ok(Contents { payload })
+        let adb = check_payload(alloc, front.payload())?;
+        Ok(Contents { adb })
     }
 
     /// The values of a package in a payload that passes all tests of one. They are not made again,
@@ -64,7 +61,10 @@ impl<'a> Contents<'a> {
         ensures value { value_of_contents result ≡ root_value Tables.Package payload.entry.now }
         ensures payload { payload_of_contents result ≡ payload.entry.now }
     {
-        Contents { payload }
+        let Ok(adb) = Adb::new(payload) else {
+            unreachable!()
+        };
+        Contents { adb }
     }
 
     /// Each text and number of a package keeps the rule of its field: a folder's name is a path, and
@@ -80,7 +80,7 @@ impl<'a> Contents<'a> {
         ensures sound { IsSoundValue Tables.Package (value_of_contents self.now) }
         ensures normal { IsNormal (value_of_contents self.now) }
     {
-        bytes_are_small(self.payload);
+        bytes_are_small(self.adb.payload());
         tested_payloads_hold_sound_values();
     }
 
@@ -88,49 +88,30 @@ impl<'a> Contents<'a> {
     pub fn view(&self) -> PackageView<'a>
         ensures { package_value result ≡ value_of_contents self.now }
     {
-        open_package(self.payload)
+        values_of_few_visits_have_no_fault();
+        PackageView::of(self.adb, self.adb.root())
     }
 
     /// The package's identity: the SHA-256 (FIPS 180-4) of the bytes that hold its values.
     pub fn id(&self) -> [u8; 32]
         ensures { result ≡ sha256 (payload_of_contents self.now) }
     {
-        Sha256::digest(self.payload)
+        Sha256::digest(self.adb.payload())
     }
 }
 
-/// The package in a payload that passes all tests of one, which are not made again.
-fn open_package(payload: &[u8]) -> PackageView<'_>
-    requires { payload_fault Tables.Package payload.now ≡ None }
-    ensures { package_value result ≡ root_value Tables.Package payload.now }
-{
-    values_of_few_visits_have_no_fault();
-    open_root(payload)
-}
-
-/// The package in a payload whose head and root pass their tests.
-fn open_root(payload: &[u8]) -> PackageView<'_>
-    requires head { is_none (head_fault payload.now) ≡ true }
-    requires sound { is_sound payload.now (Kinds.Obj Tables.Package) (root_of payload.now) ≡ true }
-    ensures { package_value result ≡ root_value Tables.Package payload.now }
-{
-    let Ok(adb) = Adb::new(payload) else {
-        unreachable!()
-    };
-    PackageView::of(adb, adb.root())
-}
-
-/// Tests the payload of a package.
-fn check_payload(alloc: Global, payload: &[u8]) -> Result<(), ReadFault>
+/// Tests the payload of a package, and gives it opened.
+fn check_payload<'a>(alloc: Global, payload: &'a [u8]) -> Result<Adb<'a>, ReadFault>
     ensures bad { IfErr result
-        (λ fault. IsReadFault fault (payload_fault Tables.Package payload.now)) }
-    ensures sound { IfOk result (λ _. payload_fault Tables.Package payload.now ≡ None) }
+        (λ fault. IsReadFault fault (payload_fault Tables.Package payload.entry.now)) }
+    ensures sound { IfOk result (λ _. payload_fault Tables.Package payload.entry.now ≡ None) }
+    ensures payload { IfOk result (λ adb. payload_of adb ≡ payload.entry.now) }
 {
     let adb = Adb::new(payload)?;
     let shaped = shape(adb, Which::Package)?;
     let checked = Checked::new(alloc, shaped)?;
     match repeated(alloc, &checked)? {
         Some(cause) => Err(ReadFault::Bad(cause)),
-        None => Ok(()),
+        None => Ok(adb),
     }
 }

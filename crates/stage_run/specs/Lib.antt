@@ -1,2 +1,2 @@
--- what only inner contracts and proofs use
+-- what the contract of `apk` says, and what the calls of a change say
 pub mod StageRun

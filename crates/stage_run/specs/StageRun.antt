@@ -1,14 +1,17 @@
 -- What a change makes of a tree in which no intent is read: its files wait, the intent is published,
 -- and all its actions are done.
-use Rattle.std.specs.Prelude.{◌≡◌, ◌⊎◌, ℕ, Bool, false, List, None, IsSome}
+use Rattle.std.specs.Prelude.{◌≡◌, ◌⊎◌, ℕ, Bool, false, List, Option, None, IsSome}
 use Rattle.base_core.specs.Calls.{HasNow}
 use Rattle.base_core.specs.Crash.{IsOrderly, Since}
 use Rattle.base_core.specs.Files.{Files}
 use Rattle.base_core.specs.Restart.{SinceBy}
 use Rattle.base_core.specs.Tree.{TreeState, files_of}
-use Rattle.journal_core.specs.Kept.{ShownNamesLast}
+use Rattle.journal_core.specs.Kept.{IsInNoMap, ShownNamesLast}
+use Rattle.journal_core.specs.Quiet.{IsStill}
 use Rattle.journal_core.specs.Recovery.{IsSettled, RestsOn, intent_name, is_staged}
-use Rattle.journal_core.specs.Staged.{IsOnTheWay, unstaged_files}
+use Rattle.journal_core.specs.Staged.{IsEmptyStage, IsOnTheWay, IsStaged, Staging, unstaged_files}
+
+-- ---- what is read
 
 -- the files as read are these, but for what waits
 abbrev pub IsReadButWaiting : Files → TreeState → Type 0
@@ -27,6 +30,8 @@ IsReadInChange new old w = IsReadButWaiting old w ⊎ (LeadsByIntent new w ⊎ (
 abbrev pub LastsUnread : TreeState → Type 0
 LastsUnread w = w.names intent_name ≡ None → ShownNamesLast w
 
+-- ---- a change
+
 -- A change that leads to these files, from a state v on. At each moment the tree is orderly, a crash
 -- leaves a state from before or that of the files, and one from before as long as no intent is
 -- published.
@@ -36,8 +41,30 @@ pub record IsStageRun (files : Files) (v : TreeState) (old now : List TreeState)
   pub reads : Since (IsReadInChange files (files_of v)) old now
   pub last : ShownNamesLast v → Since LastsUnread old now
 
--- and it has come to its end
+-- and it has come to its end: no intent is read, and no crash brings one back, or undoes a change of
+-- a name
 pub record IsStageRunDone (files : Files) (v : TreeState) (now : List TreeState) : Type 0 where
   pub reads : HasNow now (λ w. (files_of w ≡ files) × (w.names intent_name ≡ None))
   pub settled : (ignored : List ℕ → Bool) → IsOrderly (RestsOn ignored) v
       → HasNow now (IsSettled ignored files)
+  pub last : HasNow now ShownNamesLast
+  pub gone : HasNow now (IsInNoMap intent_name)
+
+-- ---- its first part
+
+-- Files come to wait, from a state v on. At each moment the tree is orderly and nothing has happened
+-- to the state, and only what waits has changed.
+pub record IsStagingRun (v : TreeState) (old now : List TreeState) : Type 0 where
+  pub moments : (ignored : List ℕ → Bool) → IsOrderly (RestsOn ignored) v
+      → Since (IsStill ignored v) old now
+  pub reads : Since (IsReadButWaiting (files_of v)) old now
+  pub last : ShownNamesLast v → Since ShownNamesLast old now
+
+-- and nothing waited before, and now files with these bytes, and one with those of the file that is
+-- begun
+pub record IsStaging (stage : Staging) (contents : List (List ℕ)) (begun : Option (List ℕ))
+    (v : TreeState) (old now : List TreeState) : Type 0 where
+  pub start : HasNow old (λ w. w ≡ v)
+  pub empty : IsEmptyStage (files_of v)
+  pub run : IsStagingRun v old now
+  pub waiting : HasNow now (IsStaged stage contents begun (files_of v))

@@ -1,5 +1,15 @@
-//! A change is carried through by the calls of a stage: a file is staged whole, and then all actions
-//! are published, done and finished.
+//! A change is carried through by the calls of a stage: its files are staged one after another, and
+//! then all actions are published, done and finished.
 //!
 //! The contracts cite `StageRun` of `specs/`: what such a run makes of a tree, moment by moment.
 #![tactic(auto)]
+
+mod carrying;
+mod laws;
+mod staging;
+
+pub use carrying::carry_through;
+pub use laws::{
+    a_change_leaves_nothing_waiting, a_new_stage_is_staging, a_staging_run_is_a_stage_run,
+};
+pub use staging::{append_piece, begin_file, end_file, stage_bytes};

@@ -55,10 +55,8 @@ returns-in-Ok-Opened-clause-block g c =
       opened_ends framing c.in-Ok-Opened.file place.at _ (length b.0) ended b.2 c.file_at.ensures.at,
       λ file long has.
           let read = b.3 file long has in
-          let step = subst (λ (s : Step). IsStepped framing place file (Ok s) c.step.new.self) c.in-Ok-Opened.field-0-is (c.in-Ok-Opened.ensures.step file long read.0 read.1) in (
-            opens place c.step.new.self framing file c.file_at.result c.in-Ok-Opened.file c.file_at.ensures.file c.file_at.ensures.at left step,
-            from_block place framing c.in-Ok-Opened.file file ended kind read.0,
-          ),
+          let step = subst (λ (s : Step). IsStepped framing place file (Ok s) c.step.new.self) c.in-Ok-Opened.field-0-is (c.in-Ok-Opened.ensures.step file long read.0 read.1) in
+          opens place c.step.new.self framing file c.file_at.result c.in-Ok-Opened.file c.file_at.ensures.file c.file_at.ensures.at left step,
     )
 
 pub returns-in-Ok-Opened-clause-walk : goal.returns-in-Ok-Opened-clause-walk

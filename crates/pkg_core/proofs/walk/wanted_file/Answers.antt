@@ -1,19 +1,13 @@
--- The file in the folder at its position.
-use Rattle.std.proofs.Common.{◌≡◌, ℕ, ◌+◌, ◌-◌, ap, sym, subst, ◌∙◌, arith}
-use Rattle.adb_schema.specs.Views.{dir_value}
-use Rattle.adb_fields.specs.ListValue.{list_value}
+-- Among the folders of the package's value.
+use Rattle.std.proofs.Common.{◌∙◌, ap}
 use Rattle.adb_fields.specs.Repeated.{list_of}
 use Rattle.adb_tables.specs.Values.{entries_in}
-use Rattle.pkg_core.proofs.OneFile.{folder_before, folder_past, folder_there}
+use Rattle.adb_view.specs.Plain.{Plain}
+use Rattle.pkg_core.specs.Contents.{expected_folders}
+use Rattle.pkg_core.specs.Opened.{expected_with_positions}
 use Rattle.pkg_core.proofs.walk.wanted_file.Goals as goal
-
-pub returns-then-i-eq0 : goal.returns-then-i-eq0
-returns-then-i-eq0 c = sym (folder_before c.args.folder c.args.file 1 (list_of (entries_in (list_value c.args.folders))) (grind arith))
-
-pub returns-then-i-len : goal.returns-then-i-len
-returns-then-i-len c = sym (folder_past c.args.folder c.args.file 1 (entries_in (list_value c.args.folders)) (grind arith))
 
 pub returns : goal.returns
 returns c =
-    c.wanted_in.ensures
-    ∙ sym (folder_there c.args.folder c.args.file (list_value c.args.folders) (dir_value c.get.result) (list_value c.files.result) (grind arith) (grind arith) c.get.ensures c.files.ensures)
+    c.wanted_in_folder.ensures
+    ∙ ap (λ (v : Plain). expected_with_positions c.args.folder c.args.file (expected_folders 1 (list_of (entries_in v)))) c.paths.ensures

@@ -1,6 +1,7 @@
 -- What was seen of the file's block, and then of the piece.
 use Rattle.std.proofs.Common.{◌≡◌, ◌≤◌, ◌+◌, ℕ, List, ◌∙◌, sym, ap, subst, length, arith}
 use Rattle.piece_core.specs.Taking.{file_bytes_left}
+use Rattle.pkg_pieces.specs.Seen.{HasAt}
 use Rattle.piece_reader.specs.Readers.{offset_of, package_len}
 use Rattle.piece_reader.specs.declared.fault.PieceFault.TheVariants.{Disk as DiskFault}
 use Rattle.pkg_pieces.proofs.SeenBytes.{reads_err, reads_in_a_row, reads_ok}
@@ -59,6 +60,7 @@ returns-clause-piece g c =
     let few : length bytes ≤ file_bytes_left o.file = omega (arith, c.in_ok-part.ensures.len tt) in
     let b = rw c.in-Some.is at c.in_ok-file.ensures.file in
     let is_part = c.in_ok-part.ensures.part in
+    let start = rw c.in-Some.is at c.in_ok-file.ensures.start in
     let within = behind_within mid.place o rest part (length bytes) room mid.within few is_part in
     let seen = seen_up_to _ _ _ (package_len old) (offset_of old) _ o.at b.0 bytes c.open_next.ensures.tree.same b.2 (behind mid.place o rest part (length bytes) room few is_part) (omega (arith, within, len)) b.1 (record { seen = rw c.open_next.ensures.name at (c.in_ok-part.ensures.seen tt (package_len old)); within = omega (arith, room, len, mid.within, few) }) in (
       seen.all,
@@ -67,7 +69,7 @@ returns-clause-piece g c =
       λ pkg long has before are.
           let opened = b.3 pkg long (seen.has_first pkg has) before are in (
             read_some old mid o rest pkg bytes before part opened (λ so_far further pieces file. c.in_ok-part.ensures.piece pkg so_far further pieces (seen.has_second pkg has) (omega (arith, room, len, mid.within, long)) file),
-            opened.1,
+            subst (λ (n : ℕ). HasAt pkg n bytes) start.stands (seen.has_second pkg has),
           ),
     )
 

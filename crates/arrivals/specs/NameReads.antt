@@ -1,0 +1,78 @@
+-- What a call answers of one name, by the file that a read finds.
+use Rattle.std.specs.Prelude.{◌≡◌, ℕ, Bool, List, [], ◌∷◌, Option, Some, None, Result, Ok, Err, option_map}
+use Rattle.adb_view.specs.Plain.{Plain}
+use Rattle.base_core.specs.Tree.{TreeState, files_of}
+use Rattle.change_inputs.specs.Chains.{and_then}
+use Rattle.change_inputs.specs.declared.refused.Refused.{Refused}
+use Rattle.change_inputs.specs.declared.refused.Refused.TheVariants.{Disk, Memory, Refusal}
+use Rattle.change_outcome.specs.MembersAfter.{MemberFound, coming_by_path, name_by_change, staying_found}
+use Rattle.change_outcome.specs.PackageFiles.{ComingPackage, package_file_of, package_found, scripts_of_change, unless_script}
+use Rattle.dep_core.specs.Repositories.{Repository}
+use Rattle.make_info.specs.Reads.{Reads}
+use Rattle.package_changes.specs.Placed.{PlacedName, new_candidate, old_package}
+use Rattle.pool_core.specs.Candidates.{Candidate}
+use Rattle.pool_core.specs.Rank.{SealedPool}
+use Rattle.report_core.specs.Reports.{Change}
+use Rattle.report_core.specs.declared.refusal.Refusal as Refusals
+use Rattle.arrivals.specs.Arrivals.{IsMemberRead}
+use Rattle.arrivals.specs.declared.arrivals.MemberRead.{MemberRead}
+
+-- the read with this number finds under each name what stands there, where the tree shows its files,
+-- and else this
+abbrev pub FindsAt : List TreeState → Reads → ℕ → Option (List ℕ) → Type 0
+FindsAt [] read n found = (name : List ℕ) → read n name ≡ found
+FindsAt (v ∷ earlier) read n found = (name : List ℕ) → read n name ≡ files_of v name
+
+-- a definition gives this by a read that finds some contents
+pub record IsByRead {B : Type 0} (history : List TreeState) (by : Reads → ℕ → B) (wanted : B) :
+    Type 0 where
+  pub found : Option (List ℕ)
+  pub is : (read : Reads) (n : ℕ) → FindsAt history read n found → by read n ≡ wanted
+
+-- an answer stands for what a definition gives by a read, or is the refusal that it gives
+abbrev pub IsAnswerByRead :
+    {A B : Type 0} → (A → B → Type 0) → List TreeState
+    → (Reads → ℕ → Result B Refusals.Refusal) → Result A Refused → Type 0
+IsAnswerByRead {A} {B} StandsFor history by (Ok a) =
+    (b : B) × IsByRead history by (Ok b) × StandsFor a b
+IsAnswerByRead StandsFor history by (Err (Refusal refusal)) = IsByRead history by (Err refusal)
+IsAnswerByRead StandsFor history by (Err Disk) = Unit {0}
+IsAnswerByRead StandsFor history by (Err Memory) = Unit {0}
+
+-- the package of a candidate, by the read of its file under this name
+abbrev pub file_read :
+    Candidate → List ℕ → Reads → ℕ → Result ComingPackage Refusals.Refusal
+file_read c path read n = package_found c (read n path)
+
+-- the package of a candidate, by the read of its file
+abbrev pub candidate_read :
+    List Repository → Candidate → Reads → ℕ → Result ComingPackage Refusals.Refusal
+candidate_read repositories c read n = coming_by_path read n c (package_file_of repositories c)
+
+-- the same, unless it has a script that its change would run
+abbrev pub coming_read :
+    List Repository → Bool → List ℕ → Change → Candidate → Reads → ℕ
+    → Result ComingPackage Refusals.Refusal
+coming_read repositories no_scripts name change c read n =
+    and_then (candidate_read repositories c read n) (λ pkg.
+    unless_script no_scripts name pkg.value (scripts_of_change change) pkg)
+
+-- what a name comes to, by the read of its package's file
+abbrev pub name_read :
+    List Plain → SealedPool → List Repository → Bool → PlacedName → Reads → ℕ
+    → Result (Option MemberFound) Refusals.Refusal
+name_read before pool repositories no_scripts name read n =
+    name_by_change read repositories no_scripts n name.name name.change
+    (old_package before name) (new_candidate pool name)
+
+-- a package after the change or none, as a name comes to it
+abbrev pub IsNameRead :
+    List TreeState → List Plain → Option MemberRead → Option MemberFound → Type 0
+IsNameRead history before None None = Unit {0}
+IsNameRead history before None (Some m) = ⊥
+IsNameRead history before (Some r) None = ⊥
+IsNameRead history before (Some r) (Some m) = IsMemberRead history before r m
+
+-- a package that stays, or none where there is none before
+abbrev pub IsStaying : List Plain → Option Plain → Option MemberRead → Type 0
+IsStaying before old r = (history : List TreeState) → IsNameRead history before r (option_map staying_found old)

@@ -1,0 +1,202 @@
+//! The packages after a change, as they are read.
+ghost use Rattle.arrivals.specs.Answered.{StandsUnlessDisk};
+ghost use Rattle.arrivals.specs.Arrivals.{AreMembersRead, CanBeMembers, reads_in};
+ghost use Rattle.arrivals.specs.NameReads.{IsAnswerByRead, IsNameRead, IsStaying, name_read};
+ghost use Rattle.base_core.specs.Read.{OnlyReads};
+ghost use Rattle.change_inputs.specs.Answers.{Agrees};
+ghost use Rattle.change_outcome.specs.MembersAfter.{members_after, name_that_goes};
+ghost use Rattle.db_core.specs.Seen.{packages_of};
+ghost use Rattle.db_core.specs.declared.members.TheConstants.{MOST_MEMBERS};
+ghost use Rattle.make_package.specs.Runs.{Explains};
+ghost use Rattle.package_changes.specs.Placed.{old_package, placed_names_of, replacement_of};
+ghost use Rattle.package_changes.specs.Seen.{change_seen, placed_name_seen, placed_names_seen, replacement_by};
+ghost use Rattle.std.specs.Prelude.{◌≡◌, ◌≤◌, ◌==◌, ◌++◌, ℕ, List, None, length, IfOk, OnOk, option_copied, option_and_then, option_to_list, slice_get};
+
+use crate::package::read_coming;
+use crate::scripts::test_scripts;
+use crate::standin::TestedPackage;
+use adb_schema::PackageView;
+use base_core::{Tree, readings_in_a_row_join};
+use change_inputs::Refused;
+use db_core::Db;
+use dep_core::Repos;
+use package_changes::{Change, PlacedName, PlacedNames, places_lead_to_packages_and_candidates};
+use pool_core::Sealed;
+use std::alloc::{AllocError, Global};
+use std::marker::PhantomData;
+
+/// A package after the change.
+#[derive(Drop)]
+pub(crate) enum MemberRead {
+    /// It stays: its place in the database, counted from 0.
+    Stays(usize),
+    /// It comes.
+    Comes(TestedPackage),
+}
+
+/// The packages after a change as they were read, in byte order of names. Contracts see, by
+/// `Arrivals` of `specs/`, the place in the database of each that stays, and each that comes.
+#[derive(Drop)]
+pub struct Arrivals {
+    pub(crate) members: Vec<MemberRead>,
+}
+
+impl Arrivals {
+    ghost use Rattle.arrivals.specs.Arrivals.{package_in};
+
+    /// How many packages there are after the change.
+    pub fn len(&self) -> usize
+        ensures { result ≡ length (reads_in self.now) }
+    {
+        self.members.len()
+    }
+
+    /// Whether there is none.
+    pub fn is_empty(&self) -> bool
+        ensures { result ≡ (length (reads_in self.now) == 0) }
+    {
+        self.members.is_empty()
+    }
+
+    /// The package of the member at a place, counted from 0, if it comes.
+    pub fn package(&self, place: usize) -> Option<&TestedPackage>
+        ensures { option_copied result
+            ≡ option_and_then package_in (slice_get (reads_in self.now) place) }
+    {
+        if place >= self.members.len() {
+            return None;
+        }
+        match &self.members[place] {
+            MemberRead::Stays(_) => None,
+            MemberRead::Comes(pkg) => Some(pkg),
+        }
+    }
+}
+
+/// Reads the packages that come where the candidates of a selection take the place of the packages
+/// of a database, as `names` says. Each file is read and tested once, in byte order of names. The
+/// tree stays as it is, whatever the answer.
+///
+/// # Errors
+///
+/// For the first package that is refused: `PackageMissing`, `PackageBad`, `PackageDiffers` or
+/// `ScriptNeeded`. `Disk` where the tree failed, or `Memory`.
+pub fn read_arrivals<T: Tree>(
+    alloc: Global,
+    tree: &mut T,
+    db: &Db<'_>,
+    pool: &Sealed<'_>,
+    names: &PlacedNames<'_>,
+    repositories: &Repos,
+    no_scripts: bool,
+) -> Result<Arrivals, Refused>
+    // Of each selection, and names to be installed again, that these names are of.
+    ensures found { (trace : List ℕ) (again : List (List ℕ))
+        → placed_names_seen names.now
+        ≡ placed_names_of (replacement_by db.now pool.now trace again)
+        → Explains (T.history tree.old) (λ read. StandsUnlessDisk (λ arrivals found.
+        AreMembersRead (T.history tree.old) (packages_of db.now) (reads_in arrivals) found) result
+        (members_after (replacement_of (replacement_by db.now pool.now trace again)) read
+        repositories.now no_scripts)) }
+    ensures members { (trace : List ℕ) (again : List (List ℕ))
+        → placed_names_seen names.now
+        ≡ placed_names_of (replacement_by db.now pool.now trace again)
+        → length pool.now.candidates ≤ MOST_MEMBERS
+        → IfOk result (λ arrivals. CanBeMembers (packages_of db.now) (reads_in arrivals)) }
+    ensures tree { OnlyReads Refused.Disk (T.history tree.old) (T.history tree.new)
+        (T.counts tree.old) (T.counts tree.new) result }
+{
+    places_lead_to_packages_and_candidates();
+    readings_in_a_row_join::<u8, Option<MemberRead>, Refused>();
+    readings_in_a_row_join::<u8, Arrivals, Refused>();
+    let mut members = Vec::new(alloc);
+    for i in 0..names.len() {
+        let name = names.get(i);
+        let member = read_name(alloc, tree, db, pool, name, repositories, no_scripts)?;
+        push_member(&mut members, member)?;
+    }
+    Ok(Arrivals { members })
+}
+
+/// Adds a package, if there is one.
+fn push_member(members: &mut Vec<MemberRead>, member: Option<MemberRead>) -> Result<(), AllocError>
+    ensures { OnOk result (members.new.items ≡ members.old.items ++ option_to_list member) }
+{
+    match member {
+        None => Ok(()),
+        Some(member) => {
+            members.push(member)?;
+            Ok(())
+        }
+    }
+}
+
+/// Reads what a name comes to: a package after the change, or none.
+fn read_name<T: Tree>(
+    alloc: Global,
+    tree: &mut T,
+    db: &Db<'_>,
+    pool: &Sealed<'_>,
+    name: &PlacedName<'_>,
+    repositories: &Repos,
+    no_scripts: bool,
+) -> Result<Option<MemberRead>, Refused>
+    ensures found { IsAnswerByRead (IsNameRead (T.history tree.old) (packages_of db.now))
+        (T.history tree.old) (name_read (packages_of db.now) pool.now repositories.now no_scripts
+        (placed_name_seen name.now)) result }
+    ensures tree { OnlyReads Refused.Disk (T.history tree.old) (T.history tree.new)
+        (T.counts tree.old) (T.counts tree.new) result }
+{
+    readings_in_a_row_join::<TestedPackage, Option<MemberRead>, Refused>();
+    let Some(change) = name.change else {
+        return Ok(staying(db, name.old));
+    };
+    match name.candidate(pool) {
+        None => {
+            test_leaving(alloc, no_scripts, db, name, &change)?;
+            Ok(None)
+        }
+        Some(c) => {
+            let pkg = read_coming(
+                alloc,
+                tree,
+                repositories,
+                no_scripts,
+                name.name,
+                &change,
+                &c,
+            )?;
+            Ok(Some(MemberRead::Comes(pkg)))
+        }
+    }
+}
+
+/// The package at a place of the database, which stays, if there is one.
+fn staying(db: &Db<'_>, place: Option<usize>) -> Option<MemberRead>
+    ensures { IsStaying (packages_of db.now) (option_and_then (slice_get (packages_of db.now)) place) result }
+{
+    match place {
+        Some(i) if i < db.len() => Some(MemberRead::Stays(i)),
+        _ => None,
+    }
+}
+
+/// Refuses a package of the database that goes, and has a script which would run.
+fn test_leaving(
+    alloc: Global,
+    no_scripts: bool,
+    db: &Db<'_>,
+    name: &PlacedName<'_>,
+    change: &Change<'_>,
+) -> Result<(), Refused>
+    ensures { Agrees (λ _. None) result (name_that_goes no_scripts (placed_name_seen name.now).name
+        (change_seen change.now) (old_package (packages_of db.now) (placed_name_seen name.now))) }
+{
+    match name.old {
+        Some(i) if i < db.len() => {
+            let pkg = db.package(i);
+            test_scripts(alloc, no_scripts, name.name, change, &pkg, PhantomData)
+        }
+        _ => Ok(()),
+    }
+}

@@ -1,0 +1,157 @@
+//! The package of a candidate: its file is read and tested once.
+ghost use Rattle.arrivals.specs.Arrivals.{IsPackageRead};
+ghost use Rattle.arrivals.specs.NameReads.{IsAnswerByRead, candidate_read, coming_read, file_read};
+ghost use Rattle.arrivals.specs.StandIn.{tested_id, tested_value};
+ghost use Rattle.arrivals.specs.Told.{IsToldAs};
+ghost use Rattle.base_core.specs.Read.{OnlyReads};
+ghost use Rattle.change_inputs.specs.Answers.{Agrees};
+ghost use Rattle.change_outcome.specs.PackageFiles.{ComingPackage, scripts_of_change, unless_different, unless_script};
+ghost use Rattle.package_changes.specs.Changes.{selected_version};
+ghost use Rattle.package_changes.specs.Seen.{change_seen};
+ghost use Rattle.pool_core.specs.Values.{candidate_value};
+ghost use Rattle.report_core.specs.declared.refusal.Refusal.TheVariants.{PackageBad, PackageMissing};
+ghost use Rattle.std.specs.Prelude.{◌≡◌, true, IfOk};
+
+use crate::path::package_file_of;
+use crate::same::test_same;
+use crate::scripts::test_scripts;
+use crate::standin::{PackageRead, TestedPackage, read_package};
+use crate::told::told;
+use adb_schema::PackageView;
+use base_core::{Cause, Name, Text, Tree};
+use change_inputs::Refused;
+use dep_core::Repos;
+use package_changes::Change;
+use pool_core::Candidate;
+use report_core::Refusal;
+use std::alloc::{AllocError, Global};
+use std::marker::PhantomData;
+
+/// Reads the package of a candidate whose name this is, and tests it: its file, whether it is as
+/// its index says, and that it has no script that would run, unless scripts are left out.
+///
+/// # Errors
+///
+/// `PackageMissing`, `PackageBad`, `PackageDiffers` or `ScriptNeeded`, in this order; `Disk` where
+/// the tree failed, or `Memory`.
+pub(crate) fn read_coming<T: Tree>(
+    alloc: Global,
+    tree: &mut T,
+    repositories: &Repos,
+    no_scripts: bool,
+    name: &[u8],
+    change: &Change<'_>,
+    c: &Candidate<'_>,
+) -> Result<TestedPackage, Refused>
+    ensures found { IsAnswerByRead (IsPackageRead (T.history tree.old))
+        (T.history tree.old) (coming_read repositories.now no_scripts name.now
+        (change_seen change.now) (candidate_value c.now)) result }
+    ensures tree { OnlyReads Refused.Disk (T.history tree.old) (T.history tree.new)
+        (T.counts tree.old) (T.counts tree.new) result }
+{
+    let pkg = read_candidate(alloc, tree, repositories, c)?;
+    test_own_scripts(alloc, no_scripts, name, change, &pkg)?;
+    Ok(pkg)
+}
+
+/// Refuses a tested package that has a script which its change would run.
+fn test_own_scripts(
+    alloc: Global,
+    no_scripts: bool,
+    name: &[u8],
+    change: &Change<'_>,
+    pkg: &TestedPackage,
+) -> Result<(), Refused>
+    ensures { Agrees (λ _. true) result (unless_script no_scripts name.now (tested_value pkg.now)
+        (scripts_of_change (change_seen change.now)) true) }
+{
+    Err(Refused::Memory)
+}
+
+/// Reads the package of a candidate, and tests its file and whether it is as its index says.
+fn read_candidate<T: Tree>(
+    alloc: Global,
+    tree: &mut T,
+    repositories: &Repos,
+    c: &Candidate<'_>,
+) -> Result<TestedPackage, Refused>
+    ensures found { IsAnswerByRead (IsPackageRead (T.history tree.old))
+        (T.history tree.old) (candidate_read repositories.now (candidate_value c.now)) result }
+    ensures tree { OnlyReads Refused.Disk (T.history tree.old) (T.history tree.new)
+        (T.counts tree.old) (T.counts tree.new) result }
+{
+    match package_file_of(alloc, repositories, c)? {
+        None => Err(missing(alloc, c)),
+        Some(path) => read_beside(alloc, tree, c, &path),
+    }
+}
+
+/// Reads the package of a candidate, whose file has this name.
+fn read_beside<T: Tree>(
+    alloc: Global,
+    tree: &mut T,
+    c: &Candidate<'_>,
+    path: &Name,
+) -> Result<TestedPackage, Refused>
+    ensures found { IsAnswerByRead (IsPackageRead (T.history tree.old))
+        (T.history tree.old) (file_read (candidate_value c.now) path.now) result }
+    ensures tree { OnlyReads Refused.Disk (T.history tree.old) (T.history tree.new)
+        (T.counts tree.old) (T.counts tree.new) result }
+{
+    match read_package(alloc, tree, path)? {
+        PackageRead::Absent => Err(missing(alloc, c)),
+        PackageRead::Bad(cause) => Err(bad(alloc, c, cause)),
+        PackageRead::Sound(pkg) => {
+            test_as_indexed(alloc, c, &pkg)?;
+            Ok(pkg)
+        }
+    }
+}
+
+/// Tests that a tested package is as its index says.
+fn test_as_indexed(alloc: Global, c: &Candidate<'_>, pkg: &TestedPackage) -> Result<(), Refused>
+    ensures { (coming : ComingPackage) → coming.value ≡ tested_value pkg.now
+        → coming.id ≡ tested_id pkg.now
+        → Agrees (λ _. coming) result (unless_different (candidate_value c.now) coming) }
+{
+    Err(Refused::Memory)
+}
+
+/// That the file of a package is absent.
+fn missing(alloc: Global, c: &Candidate<'_>) -> Refused
+    ensures { IsToldAs (PackageMissing (candidate_value c.now).name
+        (selected_version (candidate_value c.now))) result }
+{
+    told(package_missing(alloc, c))
+}
+
+/// The same with its texts.
+fn package_missing(alloc: Global, c: &Candidate<'_>) -> Result<Refusal, AllocError>
+    ensures { IfOk result (λ refusal. refusal ≡ PackageMissing (candidate_value c.now).name
+        (selected_version (candidate_value c.now))) }
+{
+    Ok(Refusal::PackageMissing {
+        name: Text::of(alloc, c.info.name())?,
+        version: Text::of(alloc, c.info.version())?,
+    })
+}
+
+/// That the file of a package fails a test.
+fn bad(alloc: Global, c: &Candidate<'_>, cause: Cause) -> Refused
+    ensures { IsToldAs (PackageBad (candidate_value c.now).name
+        (selected_version (candidate_value c.now)) cause) result }
+{
+    told(package_bad(alloc, c, cause))
+}
+
+/// The same with its texts.
+fn package_bad(alloc: Global, c: &Candidate<'_>, cause: Cause) -> Result<Refusal, AllocError>
+    ensures { IfOk result (λ refusal. refusal ≡ PackageBad (candidate_value c.now).name
+        (selected_version (candidate_value c.now)) cause) }
+{
+    Ok(Refusal::PackageBad {
+        name: Text::of(alloc, c.info.name())?,
+        version: Text::of(alloc, c.info.version())?,
+        cause,
+    })
+}

@@ -1,0 +1,103 @@
+//! The scripts that a change would run.
+ghost use Rattle.adb_schema.specs.Views.{package_value, scripts_value};
+ghost use Rattle.adb_tables.specs.Values.{entry_in};
+ghost use Rattle.adb_view.specs.Plain.{Plain};
+ghost use Rattle.arrivals.specs.Told.{IsToldAs};
+ghost use Rattle.change_inputs.specs.Answers.{Agrees};
+ghost use Rattle.change_outcome.specs.PackageFiles.{first_script_of, scripts_of_change, unless_script};
+ghost use Rattle.package_changes.specs.Seen.{change_seen};
+ghost use Rattle.report_core.specs.declared.refusal.Refusal.TheVariants.{ScriptNeeded};
+ghost use Rattle.std.specs.Prelude.{◌≡◌, ◌<◌, ◌+◌, ◌^◌, ◌==◌, ℕ, true, not, if◌then◌else◌, Some, None, length, IfOk};
+
+use crate::told::told;
+use adb_schema::{PackageView, ScriptsView};
+use base_core::Text;
+use change_inputs::Refused;
+use package_changes::Change;
+use report_core::Refusal;
+use std::alloc::{AllocError, Global};
+use std::marker::PhantomData;
+
+// The numbers of the scripts of a package; each is followed by the one that runs behind it.
+const PRE_INSTALL: u16 = 2;
+
+const PRE_DEINSTALL: u16 = 4;
+
+const PRE_UPGRADE: u16 = 6;
+
+/// Refuses a package that has a script which its change would run, unless scripts are left out. The
+/// mark serves the borrow checker alone, which does not know the parts of a view that is made and
+/// lent here unless the signature names the view.
+///
+/// # Errors
+///
+/// `ScriptNeeded` with the first of them, or `Memory`.
+pub(crate) fn test_scripts<'a>(
+    alloc: Global,
+    no_scripts: bool,
+    name: &[u8],
+    change: &Change<'_>,
+    pkg: &PackageView<'a>,
+    _mark: PhantomData<PackageView<'a>>,
+) -> Result<(), Refused>
+    ensures { Agrees (λ _. true) result (unless_script no_scripts name.now (package_value pkg.now)
+        (scripts_of_change (change_seen change.now)) true) }
+{
+    if no_scripts {
+        return Ok(());
+    }
+    match first_script(change, &pkg.scripts()) {
+        None => Ok(()),
+        Some(number) => Err(told(script_needed(alloc, name, number))),
+    }
+}
+
+/// That a package has a script that would run.
+fn script_needed(alloc: Global, name: &[u8], number: u16) -> Result<Refusal, AllocError>
+    ensures { IfOk result (λ refusal. refusal ≡ ScriptNeeded name.now number) }
+{
+    Ok(Refusal::ScriptNeeded {
+        name: Text::of(alloc, name)?,
+        script: number,
+    })
+}
+
+/// The number of the first script that a change would run, if there is one.
+fn first_script(change: &Change<'_>, scripts: &ScriptsView<'_>) -> Option<u16>
+    ensures { (pkg : Plain) → scripts_value scripts.now ≡ entry_in pkg 2
+        → result ≡ first_script_of pkg (scripts_of_change (change_seen change.now)) }
+{
+    match change {
+        Change::Install(_, _) => {
+            first_of_two(PRE_INSTALL, scripts.pre_install(), scripts.post_install())
+        }
+        Change::Purge(_, _) => {
+            first_of_two(
+                PRE_DEINSTALL,
+                scripts.pre_deinstall(),
+                scripts.post_deinstall(),
+            )
+        }
+        Change::Reinstall(_, _)
+        | Change::Upgrade(_, _, _)
+        | Change::Downgrade(_, _, _)
+        | Change::Replace(_, _, _) => {
+            first_of_two(PRE_UPGRADE, scripts.pre_upgrade(), scripts.post_upgrade())
+        }
+    }
+}
+
+/// The number of the first of two scripts that is not empty, if there is one.
+fn first_of_two(number: u16, first: &[u8], second: &[u8]) -> Option<u16>
+    requires { number + 1 < 2 ^ 16 }
+    ensures { result ≡ (if not (length first.now == 0) then Some number
+        else if not (length second.now == 0) then Some (number + 1) else None) }
+{
+    if !first.is_empty() {
+        return Some(number);
+    }
+    if !second.is_empty() {
+        return Some(number + 1);
+    }
+    None
+}

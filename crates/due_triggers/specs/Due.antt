@@ -1,0 +1,17 @@
+-- Which triggers are due after a change, by the plan of its files.
+use Rattle.std.specs.Prelude.{ℕ, Bool, true, List, ◌++◌, map, Option, Some, None, Result, Ok, Err}
+use Rattle.change_outcome.specs.ChangeOutcome.{name_at_place}
+use Rattle.db_core.specs.Members.{Member}
+use Rattle.own_core.specs.WritesSeen.{writes_in}
+use Rattle.own_core.specs.declared.planning.FilePlan.{FilePlan}
+use Rattle.report_core.specs.declared.refusal.Refusal.{Refusal}
+use Rattle.report_core.specs.declared.refusal.Refusal.TheVariants.{TriggerNeeded}
+
+-- the files that a plan writes and removes
+abbrev pub planned_paths : FilePlan → List (List ℕ)
+planned_paths plan = map (λ w. w.name) (writes_in plan.writes) ++ plan.removals
+
+-- the refusal where the trigger of the package at a place is due
+abbrev pub trigger_needed : List Member → Option ℕ → Result Bool Refusal
+trigger_needed members None = Ok true
+trigger_needed members (Some place) = Err (TriggerNeeded (name_at_place members place))

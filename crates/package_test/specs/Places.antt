@@ -1,0 +1,82 @@
+-- Where the contents of a package's files begin, and what the tests of it say.
+use Rattle.std.specs.Prelude.{◌≡◌, ℕ, ◌<◌, ◌==◌, ◌&&◌, ◌||◌, ◌⊎◌, nat_lt, Bool, List, [], ◌∷◌, Option, Some, None, option_map}
+use Rattle.std.specs.List.{find}
+use Rattle.adb_schema.specs.Soundness.{payload_fault}
+use Rattle.adb_tables.specs.declared.tables.Which.TheVariants.{Package}
+use Rattle.piece_core.specs.declared.part.Part.{Part}
+use Rattle.pkg_core.specs.Contents.{Contents, FilesRead, contents_in, fault_in}
+use Rattle.pkg_core.specs.Whole.{files_in_file, package_fault}
+use Rattle.pkg_pieces.specs.Front.{front_payload}
+use Rattle.pkg_pieces.specs.Seen.{HasAt}
+use Rattle.pkg_pieces.specs.declared.front.Front.{Front}
+use Rattle.package_test.specs.declared.files.FilesTest.{FilesTest}
+use Rattle.package_test.specs.declared.files.FilesTest.TheVariants.{Bad, Sound}
+use Rattle.package_test.specs.declared.places.FilePlace.{FilePlace}
+
+-- ---- of the bytes of a package
+
+-- the contents are those of the file that begins there
+pub record IsAtPlace (pkg : List ℕ) (place : FilePlace) (contents : Contents) : Type 0 where
+  pub folder : place.folder ≡ contents.folder
+  pub file : place.file ≡ contents.file
+  pub stands : HasAt pkg place.at contents.bytes
+
+-- one for each file, in order
+abbrev pub AreAtPlaces : List ℕ → List FilePlace → List Contents → Type 0
+AreAtPlaces pkg [] [] = Unit {0}
+AreAtPlaces pkg [] (contents ∷ others) = ⊥
+AreAtPlaces pkg (place ∷ places) [] = ⊥
+AreAtPlaces pkg (place ∷ places) (contents ∷ others) =
+    IsAtPlace pkg place contents × AreAtPlaces pkg places others
+
+-- ---- what the tests say
+
+-- of the files of a package
+abbrev pub AreFilesTested : FilesRead → List ℕ → FilesTest → Type 0
+AreFilesTested files pkg (Sound places) =
+    (fault_in files ≡ None) × AreAtPlaces pkg places.items (contents_in files)
+AreFilesTested files pkg (Bad c) = fault_in files ≡ Some c
+
+-- of a whole package
+abbrev pub IsWholeTested : List ℕ → FilesTest → Type 0
+IsWholeTested pkg (Sound places) =
+    (package_fault pkg ≡ None) × AreAtPlaces pkg places.items (contents_in (files_in_file pkg))
+IsWholeTested pkg (Bad c) = package_fault pkg ≡ Some c
+
+-- where no test fails, none of the values does
+abbrev pub HasSoundPayload : Front → FilesTest → Type 0
+HasSoundPayload front (Sound places) = payload_fault Package (front_payload front) ≡ None
+HasSoundPayload front (Bad c) = Unit {0}
+
+-- ---- in the order of the files
+
+-- a file comes before another by its folder, and then by itself
+abbrev pub IsBeforeFile : ℕ → ℕ → ℕ → ℕ → Type 0
+IsBeforeFile folder file other_folder other_file =
+    (folder < other_folder) ⊎ ((folder ≡ other_folder) × (file < other_file))
+
+abbrev pub is_before_file : ℕ → ℕ → ℕ → ℕ → Bool
+is_before_file folder file other_folder other_file =
+    nat_lt folder other_folder || ((folder == other_folder) && nat_lt file other_file)
+
+abbrev pub ArePlacedBehind : ℕ → ℕ → List FilePlace → Type 0
+ArePlacedBehind folder file [] = Unit {0}
+ArePlacedBehind folder file (place ∷ places) =
+    IsBeforeFile folder file place.folder place.file × ArePlacedBehind folder file places
+
+abbrev pub AreInFileOrder : List FilePlace → Type 0
+AreInFileOrder [] = Unit {0}
+AreInFileOrder (place ∷ places) =
+    ArePlacedBehind place.folder place.file places × AreInFileOrder places
+
+abbrev pub is_place_of : ℕ → ℕ → FilePlace → Bool
+is_place_of folder file place = (place.folder == folder) && (place.file == file)
+
+-- the offset at which the file with these positions begins
+abbrev pub offset_of_file : ℕ → ℕ → List FilePlace → Option ℕ
+offset_of_file folder file places =
+    option_map (λ place. place.at) (find (is_place_of folder file) places)
+
+-- a file that begins there, by its last piece
+abbrev pub place_of_part : Part → ℕ → FilePlace
+place_of_part part at = record { folder = part.path; file = part.file; at = at }

@@ -1,0 +1,55 @@
+-- A package in a tree that was read and tested once.
+use Rattle.std.specs.Prelude.{◌≡◌, ℕ, List, length, Option, Some, None}
+use Rattle.sha2.specs.Sha256.{sha256}
+use Rattle.adb_view.specs.Plain.{Plain}
+use Rattle.adb_schema.specs.Soundness.{payload_in, root_value}
+use Rattle.adb_tables.specs.declared.tables.Which.TheVariants.{Package}
+use Rattle.pkg_core.specs.Contents.{contents_in}
+use Rattle.pkg_core.specs.Whole.{files_in_file, package_fault, package_id}
+use Rattle.pkg_pieces.specs.Front.{front_file_len, front_payload}
+use Rattle.package_test.specs.Places.{AreAtPlaces}
+use Rattle.package_test.specs.declared.package.TestedPackage.{TestedPackage}
+use Rattle.package_test.specs.declared.read.PackageRead.{PackageRead}
+use Rattle.package_test.specs.declared.read.PackageRead.TheVariants.{Absent, Bad, Sound}
+
+-- ---- what it shows
+
+abbrev pub tested_name : TestedPackage → List ℕ
+tested_name pkg = pkg.name
+
+-- how many bytes its file has
+abbrev pub tested_len : TestedPackage → ℕ
+tested_len pkg = front_file_len pkg.front
+
+-- the bytes that hold its value
+abbrev pub tested_payload : TestedPackage → List ℕ
+tested_payload pkg = front_payload pkg.front
+
+abbrev pub tested_value : TestedPackage → Plain
+tested_value pkg = root_value Package (tested_payload pkg)
+
+-- the identity of a package is the SHA-256 of the bytes that hold its value
+abbrev pub tested_id : TestedPackage → List ℕ
+tested_id pkg = sha256 (tested_payload pkg)
+
+-- ---- of which files it is
+
+-- under this name it is of this file, in which no test of a package fails
+pub record IsTestedOf (name file : List ℕ) (pkg : TestedPackage) : Type 0 where
+  pub named : tested_name pkg ≡ name
+  pub sound : package_fault file ≡ None
+  pub value : tested_value pkg ≡ root_value Package (payload_in file)
+  pub id : tested_id pkg ≡ package_id file
+  -- what is read again of its files
+  pub long : tested_len pkg ≡ length file
+  pub payload : tested_payload pkg ≡ payload_in file
+  pub places : AreAtPlaces file pkg.places.items (contents_in (files_in_file file))
+
+-- what is answered of a file under this name, or of where there is none
+abbrev pub IsReadOf : List ℕ → Option (List ℕ) → PackageRead → Type 0
+IsReadOf name None Absent = Unit {0}
+IsReadOf name None (Bad c) = ⊥
+IsReadOf name None (Sound pkg) = ⊥
+IsReadOf name (Some file) Absent = ⊥
+IsReadOf name (Some file) (Bad c) = package_fault file ≡ Some c
+IsReadOf name (Some file) (Sound pkg) = IsTestedOf name file pkg

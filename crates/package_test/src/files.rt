@@ -1,0 +1,61 @@
+//! The contents of a package's files are read once and tested, piece by piece.
+
+ghost use Rattle.std.specs.Prelude.{◌≡◌, ℕ, List, Some, length, IfOk};
+ghost use Rattle.adb_block.specs.Reading.{reading_of};
+ghost use Rattle.base_core.specs.declared.tree.TreeFault.TheVariants.{Disk as DiskFault};
+ghost use Rattle.package_test.specs.Places.{AreFilesTested};
+ghost use Rattle.pkg_core.specs.Contents.{expected_contents, files_by_blocks};
+ghost use Rattle.pkg_pieces.specs.Front.{behind_front, front_end, front_file_len};
+ghost use Rattle.pkg_pieces.specs.Seen.{HasAt, IsSeenIn, ReadsFile};
+ghost use Rattle.pkg_pieces.specs.Values.{value_of_contents};
+
+use crate::places::{FilePlace, keep_place};
+use base_core::{Cause, Name, Tree, TreeFault};
+use piece_core::the_pieces_of_each_file_joined_are_its_contents;
+use piece_reader::{
+    Piece, PieceFault, PieceReader, the_pieces_are_refused_for_the_first_fault_of_the_blocks,
+};
+use pkg_pieces::{Contents, Front};
+use std::alloc::Global;
+
+/// What the tests of a package say of its files.
+#[derive(Drop)]
+pub(crate) enum FilesTest {
+    /// No test failed, and so the contents of each file begin there, in the order of the files.
+    Sound(Vec<FilePlace>),
+    /// The first test that failed.
+    Bad(Cause),
+}
+
+/// Reads and tests the blocks behind the values of a package.
+pub(crate) fn read_files<T: Tree>(
+    alloc: Global,
+    tree: &mut T,
+    name: &Name,
+    front: &Front,
+    contents: &Contents<'_>,
+) -> Result<FilesTest, TreeFault>
+    // Of each package that is so long and has the bytes that were seen.
+    ensures files { IfOk result (λ test. (seen : List ℕ)
+        × IsSeenIn (T.history tree.old) name.now (front_file_len front.now) (front_end front.now) seen
+        × ((pkg : List ℕ) → length pkg ≡ front_file_len front.now
+        → HasAt pkg (front_end front.now) seen → AreFilesTested (files_by_blocks
+        (expected_contents (value_of_contents contents.now))
+        (reading_of (behind_front front.now pkg))) pkg test)) }
+    ensures tree { ReadsFile name.now (front_file_len front.now) DiskFault (T.history tree.old)
+        (T.history tree.new) (T.counts tree.old) (T.counts tree.new) result }
+{
+    the_pieces_are_refused_for_the_first_fault_of_the_blocks();
+    the_pieces_of_each_file_joined_are_its_contents();
+    let mut reader = PieceReader::new(front, contents, name);
+    let mut piece = Piece::new();
+    let mut places = Vec::new(alloc);
+    'pieces: loop {
+        match reader.next_piece(tree, &mut piece) {
+            Ok(Some(part)) => keep_place(&mut places, part, reader.file_start())?,
+            Ok(None) => return Ok(FilesTest::Sound(places)),
+            Err(PieceFault::Bad(cause)) => return Ok(FilesTest::Bad(cause)),
+            Err(PieceFault::Disk) => return Err(TreeFault::Disk),
+        }
+    }
+}

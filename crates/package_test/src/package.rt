@@ -1,0 +1,63 @@
+//! A package in a tree that was read and tested once.
+
+ghost use Rattle.std.specs.Prelude.{◌≡◌, true, is_none};
+ghost use Rattle.adb_schema.specs.Soundness.{payload_fault};
+ghost use Rattle.adb_tables.specs.declared.tables.Which.TheVariants as Tables;
+ghost use Rattle.pkg_pieces.specs.Front.{front_payload};
+
+use crate::places::{FilePlace, offset_of};
+use base_core::Name;
+use piece_reader::FilePieces;
+use pkg_pieces::{Contents, Front};
+
+/// A package in a tree that passed all tests: its name, its values, and where the contents of each
+/// file begin. Contracts see, by `Tested` of `specs/`, what it shows and of which files it is.
+#[derive(Drop)]
+pub struct TestedPackage {
+    pub(crate) name: Name,
+    pub(crate) front: Front,
+    pub(crate) places: Vec<FilePlace>,
+    ghost tested: { is_none (payload_fault Tables.Package (front_payload front)) ≡ true },
+}
+
+impl TestedPackage {
+    ghost use Rattle.std.specs.Prelude.{◌≡◌, ℕ, List};
+    ghost use Rattle.package_test.specs.Tested.{IsTestedOf, tested_id, tested_len, tested_name, tested_payload, tested_value};
+    ghost use Rattle.piece_reader.specs.FileReading.{IsFileReading, len_around_file, package_of_file};
+    ghost use Rattle.pkg_core.specs.Contents.{bytes_of_file, contents_in};
+    ghost use Rattle.pkg_core.specs.Whole.{files_in_file};
+    ghost use Rattle.pkg_pieces.specs.Values.{payload_of_contents, value_of_contents};
+    ghost use Rattle.sha2.specs.Sha256.{sha256};
+
+    /// The name under which it stands in the tree.
+    pub fn name(&self) -> &Name
+        ensures { result.now ≡ tested_name self.now }
+    {
+        &self.name
+    }
+
+    /// Its values. They are not tested again, and no memory is taken.
+    pub fn contents(&self) -> Contents<'_>
+        ensures value { value_of_contents result ≡ tested_value self.now }
+        ensures payload { payload_of_contents result ≡ tested_payload self.now }
+        ensures id { sha256 (payload_of_contents result) ≡ tested_id self.now }
+    {
+        Contents::open(self.front.payload())
+    }
+
+    /// The contents of the file with these positions in pieces, from the first on. No piece comes
+    /// where it has no contents.
+    pub fn file(&self, folder: u32, file: u32) -> FilePieces<'_>
+        ensures name { package_of_file result ≡ tested_name self.now }
+        ensures len { len_around_file result ≡ tested_len self.now }
+        ensures reading { (name pkg : List ℕ) → IsTestedOf name pkg self.now → IsFileReading
+            result pkg (bytes_of_file folder file (contents_in (files_in_file pkg))) }
+    {
+        let len = self.front.file_len();
+        let contents = self.contents();
+        match offset_of(&self.places, folder, file) {
+            Some(at) => FilePieces::new(&self.name, len, contents, folder, file, at),
+            None => FilePieces::none(&self.name, len, contents),
+        }
+    }
+}

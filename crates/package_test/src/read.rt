@@ -1,0 +1,120 @@
+//! How a package in a tree is read and tested: its front, its values, and then piece by piece what
+//! stands behind them.
+
+ghost use Rattle.std.specs.Prelude.{◌≡◌, ℕ, List, Option, Some, IfOk};
+ghost use Rattle.adb_schema.specs.declared.read.TheConstants.{PACKAGE_WORD};
+ghost use Rattle.base_core.specs.Calls.{IfObservable};
+ghost use Rattle.base_core.specs.Read.{OnlyReads};
+ghost use Rattle.base_core.specs.Tree.{files_of};
+ghost use Rattle.base_core.specs.declared.tree.TreeFault.TheVariants.{Disk as DiskFault};
+ghost use Rattle.package_test.specs.Places.{HasSoundPayload, IsWholeTested};
+ghost use Rattle.package_test.specs.Tested.{IsReadOf};
+ghost use Rattle.pkg_pieces.specs.Front.{IsFrontOf, front_end, front_file_len, front_payload};
+ghost use Rattle.pkg_pieces.specs.Seen.{HasAt, IsSeenIn, ReadsFile};
+
+use crate::files::{FilesTest, read_files};
+use crate::package::TestedPackage;
+use adb_schema::PACKAGE_WORD;
+use base_core::{Cause, Name, Tree, TreeFault};
+use pkg_core::PackageFault;
+use pkg_pieces::{Contents, Front, FrontFault, read_front};
+use std::alloc::Global;
+
+/// What stands under a name, by the tests of a package.
+#[derive(Drop)]
+pub enum PackageRead {
+    /// There is no file.
+    Absent,
+    /// The first test that failed.
+    Bad(Cause),
+    /// The file is a package, and no test fails.
+    Sound(TestedPackage),
+}
+
+/// Reads the package under a name, and tests it: its front, its values, and then the blocks behind
+/// them, piece by piece. The tests and their order are those of a package that is read whole. The
+/// tree stays as it is, whatever the answer.
+///
+/// # Errors
+///
+/// `Disk` where the tree failed, or `Memory`.
+pub fn read_package<T: Tree>(
+    alloc: Global,
+    tree: &mut T,
+    name: &Name,
+) -> Result<PackageRead, TreeFault>
+    // What is answered of some file, which is the one under the name where the tree tells it.
+    ensures read { IfOk result (λ read. (found : Option (List ℕ))
+        × IfObservable (T.history tree.old) (λ v. found ≡ files_of v name.now)
+        × IsReadOf name.now found read) }
+    ensures tree { OnlyReads DiskFault (T.history tree.old) (T.history tree.new)
+        (T.counts tree.old) (T.counts tree.new) result }
+{
+    let own_name = name.copy(alloc)?;
+    read_named(alloc, tree, name, own_name)
+}
+
+/// The same, with a copy of the name.
+fn read_named<T: Tree>(
+    alloc: Global,
+    tree: &mut T,
+    name: &Name,
+    own_name: Name,
+) -> Result<PackageRead, TreeFault>
+    requires { own_name ≡ name.now }
+    ensures read { IfOk result (λ read. (found : Option (List ℕ))
+        × IfObservable (T.history tree.old) (λ v. found ≡ files_of v name.now)
+        × IsReadOf name.now found read) }
+    ensures tree { OnlyReads DiskFault (T.history tree.old) (T.history tree.new)
+        (T.counts tree.old) (T.counts tree.new) result }
+{
+    match read_front(alloc, tree, name, PACKAGE_WORD) {
+        Ok(Some(front)) => {
+            let test = read_behind(alloc, tree, name, &front)?;
+            Ok(read_by(own_name, front, test))
+        }
+        Ok(None) => Ok(PackageRead::Absent),
+        Err(FrontFault::Bad(cause)) => Ok(PackageRead::Bad(cause)),
+        Err(FrontFault::Disk) => Err(TreeFault::Disk),
+        Err(FrontFault::Memory) => Err(TreeFault::Memory),
+    }
+}
+
+/// What is read of a package of this name with this front, by its tests.
+fn read_by(name: Name, front: Front, test: FilesTest) -> PackageRead
+    requires { HasSoundPayload front test }
+    ensures { (pkg : List ℕ) → IsFrontOf PACKAGE_WORD pkg front → IsWholeTested pkg test
+        → IsReadOf name (Some pkg) result }
+{
+    match test {
+        FilesTest::Sound(places) => PackageRead::Sound(TestedPackage {
+            name,
+            front,
+            places,
+        }),
+        FilesTest::Bad(cause) => PackageRead::Bad(cause),
+    }
+}
+
+/// Tests the values behind a front and, where they are good, the blocks behind them.
+fn read_behind<T: Tree>(
+    alloc: Global,
+    tree: &mut T,
+    name: &Name,
+    front: &Front,
+) -> Result<FilesTest, TreeFault>
+    // Of each package with this front that has the bytes that were seen behind it.
+    ensures whole { IfOk result (λ test. (seen : List ℕ)
+        × IsSeenIn (T.history tree.old) name.now (front_file_len front.now) (front_end front.now) seen
+        × ((pkg : List ℕ) → IsFrontOf PACKAGE_WORD pkg front.now
+        → HasAt pkg (front_end front.now) seen → IsWholeTested pkg test)) }
+    ensures payload { IfOk result (HasSoundPayload front.now) }
+    ensures tree { ReadsFile name.now (front_file_len front.now) DiskFault (T.history tree.old)
+        (T.history tree.new) (T.counts tree.old) (T.counts tree.new) result }
+{
+    match Contents::new(alloc, front) {
+        Ok(contents) => read_files(alloc, tree, name, front, &contents),
+        Err(PackageFault::Bad(cause)) => Ok(FilesTest::Bad(cause)),
+        Err(PackageFault::Memory) => Err(TreeFault::Memory),
+    }
+}

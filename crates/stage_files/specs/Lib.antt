@@ -1,0 +1,2 @@
+-- what only inner contracts and proofs use
+pub mod Sources

@@ -1,0 +1,133 @@
+-- Where files came to wait, the moments behind them lead to the new files.
+use Rattle.std.proofs.Common.{◌≡◌, ◌⊎◌, inl, inr, ⊎_elim, ℕ, Bool, List, ◌∷◌, [], ◌++◌, None, refl, sym, ap, subst, ◌∙◌, append_assoc}
+use Rattle.std.proofs.Common.{IsSome, Option, Some, true, false, cond}
+use Rattle.base_core.specs.Calls.{HasNow, IfObservable}
+use Rattle.base_core.specs.Crash.{IsOrderly, Since}
+use Rattle.base_core.specs.Files.{Files}
+use Rattle.base_core.specs.Restart.{EachMoment, SinceBy}
+use Rattle.base_core.specs.Tree.{TreeState, bytes_at, files_of}
+use Rattle.journal_core.specs.Kept.{KeepsFilesBut, RecoversTo, ShownNamesLast}
+use Rattle.journal_core.specs.Quiet.{IsStill}
+use Rattle.journal_core.specs.Recovery.{RestsOn, after_actions, intent_at, intent_name, is_staged, recovered_files, recovered_files_by, stage_name}
+use Rattle.journal_core.specs.Staged.{IsEmptyStage, IsOnTheWay, IsStaged, Staging, unstaged_files, with_staged}
+use Rattle.journal_core.proofs.Chain.{by_now, now_both}
+use Rattle.journal_core.proofs.History.{History, observable_map, since_on, since_weaker}
+use Rattle.journal_core.proofs.OnTheWay.{way_before}
+use Rattle.journal_core.proofs.Published.{since_by, still_on_the_way}
+use Rattle.journal_core.proofs.Waiting.{still_self}
+use Rattle.journal_intent.proofs.AtName.{name_cases, off_name}
+use Rattle.stage_run.specs.StageRun.{IsReadButWaiting, IsReadInChange, IsStageRun, IsStaging, IsStagingRun, LastsUnread}
+use Rattle.stage_run.proofs.Joins.{so_far_now}
+use Rattle.stage_run.proofs.Waits.{shown_off}
+
+-- ---- moments with those before them
+
+module _ (ignored : List ℕ → Bool) (G : Files) (v u : TreeState) (still : IsStill ignored v u) where
+  each_before : (added first : History) → EachMoment (IsOnTheWay ignored G u) added → EachMoment (IsOnTheWay ignored G v) first → EachMoment (IsOnTheWay ignored G v) (added ++ first)
+  each_before [] first each so_far = so_far
+  each_before (w ∷ added) first each so_far = (way_before ignored G v u w added first still each.0, each_before added first each.1 so_far)
+
+  pub way_from : (first mid new : History) → SinceBy (IsOnTheWay ignored G v) first mid → SinceBy (IsOnTheWay ignored G u) mid new → SinceBy (IsOnTheWay ignored G v) first new
+  way_from first mid new before then = record {
+    added = then.added ++ before.added;
+    is = then.is ∙ ap (λ (l : History). then.added ++ l) before.is ∙ sym (append_assoc then.added before.added first);
+    each = each_before then.added before.added then.each before.each;
+  }
+
+pub still_way : (ignored : List ℕ → Bool) (G : Files) (v : TreeState) (old new : History) → Since (IsStill ignored v) old new → SinceBy (IsOnTheWay ignored G v) old new
+still_way ignored G v old new since = since_by (IsOnTheWay ignored G v) old new (since_weaker (IsStill ignored v) (λ w. (earlier : History) → IsOnTheWay ignored G v earlier w) old new (still_on_the_way ignored G v) since)
+
+-- what only stages leads to any files
+pub staging_leads : (G : Files) (v : TreeState) (first now : History) → IsStagingRun v first now → IsStageRun G v first now
+staging_leads G v first now run = record {
+  moments = λ ignored orderly. still_way ignored G v first now (run.moments ignored orderly);
+  reads = since_weaker (IsReadButWaiting (files_of v)) (IsReadInChange G (files_of v)) first now (λ w reads. inl reads) run.reads;
+  last = λ last. since_weaker ShownNamesLast LastsUnread first now (λ w lasts none. lasts) (run.last last);
+}
+
+-- ---- what is read
+
+emptied_at : (G : Files) → IsEmptyStage G → (w : TreeState) → RecoversTo G w → unstaged_files (files_of w) ≡ G
+emptied_at G empty w recovers i q = by (is_staged q) refl i
+  where
+    by : (b : Bool) → is_staged q ≡ b → unstaged_files (files_of w) q ≡ G q
+    by true is = ap (λ b. cond b None (recovered_files (files_of w) q)) is ∙ sym (empty q is)
+    by false is = ap (λ b. cond b None (recovered_files (files_of w) q)) is ∙ ap (λ (F : Files). F q) recovers
+
+recovered_unread : (w : TreeState) → w.names intent_name ≡ None → recovered_files (files_of w) ≡ files_of w
+recovered_unread w none = ap (λ o. recovered_files_by o (files_of w)) (ap intent_at (ap (bytes_at w.files) none))
+
+-- the intent is read and leads to the files, or they are read
+pub read_behind : (G old : Files) → IsEmptyStage G → (w : TreeState) → RecoversTo G w → IsReadInChange G old w
+read_behind G old empty w recovers = by (w.names intent_name) refl
+  where
+    by : (o : Option ℕ) → w.names intent_name ≡ o → IsReadInChange G old w
+    by None none = inr (inr (sym (recovered_unread w none) ∙ recovers))
+    by (Some n) some = inr (inl (subst IsSome (sym some) refl, emptied_at G empty w recovers))
+
+Entering : List ℕ → Type 0
+Entering q = (q ≡ intent_name) ⊎ (q ≡ stage_name 0)
+
+-- at a moment at which the intent moves to its name
+pub read_entering : (G : Files) → IsEmptyStage G → (u w : TreeState) → files_of u intent_name ≡ None → KeepsFilesBut (λ q. (q ≡ intent_name) ⊎ (q ≡ stage_name 0)) u w → (IsSome (w.names intent_name) → RecoversTo G w) → IsReadInChange G (files_of u) w
+read_entering G empty u w unread keeps reads = by (w.names intent_name) refl
+  where
+    by : (o : Option ℕ) → w.names intent_name ≡ o → IsReadInChange G (files_of u) w
+    by None none = inl (λ q shown. ⊎_elim
+        (λ is. ap (files_of w) is ∙ ap (bytes_at w.files) none ∙ sym (ap (files_of u) is ∙ unread))
+        (λ off. keeps q (λ either. ⊎_elim (off_name q intent_name off) (shown_off (stage_name 0) q refl shown) either))
+        (name_cases q intent_name))
+    by (Some n) some =
+        let has = subst IsSome (sym some) refl in
+        inr (inl (has, emptied_at G empty w (reads has)))
+
+pub read_from : (G old : Files) (u w : TreeState) → IsReadButWaiting old u → IsReadInChange G (files_of u) w → IsReadInChange G old w
+read_from G old u w before (inl reads) = inl (λ q shown. reads q shown ∙ before q shown)
+read_from G old u w before (inr reads) = inr reads
+
+-- ---- a run
+
+module _ (stage : Staging) (contents : List (List ℕ)) (v : TreeState) (first mid : History) (s : IsStaging stage contents None v first mid) where
+  abbrev pub G : Files
+  G = after_actions stage.intent (with_staged 1 contents (files_of v))
+
+  abbrev pub Waits : TreeState → Type 0
+  Waits = IsStaged stage contents None (files_of v)
+
+  pub same_files : (u : TreeState) → Waits u → after_actions stage.intent (files_of u) ≡ G
+  same_files u waits = ap (after_actions stage.intent) waits.reads
+
+  module _ (new : History) where
+    -- what calls behind the staging say of the state u before them
+    abbrev pub Way : Type 0
+    Way = IfObservable mid (λ u. (ignored : List ℕ → Bool) → IsOrderly (RestsOn ignored) u → Waits u → SinceBy (IsOnTheWay ignored G u) mid new)
+
+    abbrev pub Reads : Type 0
+    Reads = IfObservable mid (λ u. Waits u → Since (IsReadInChange G (files_of u)) mid new)
+
+    abbrev pub Lasts : Type 0
+    Lasts = IfObservable mid (λ u. Waits u → ShownNamesLast u → Since LastsUnread mid new)
+
+    pub still_now : (ignored : List ℕ → Bool) → IsOrderly (RestsOn ignored) v → HasNow mid (IsStill ignored v)
+    still_now ignored orderly = so_far_now (IsStill ignored v) Waits v first mid mid s.start (still_self ignored v orderly) (s.run.moments ignored orderly)
+
+    pub run_led : Way → Reads → Lasts → IsStageRun G v first new
+    run_led way reads lasts = record {
+      moments = λ ignored orderly.
+          by_now mid (λ u. IsStill ignored v u × Waits u) (SinceBy (IsOnTheWay ignored G v) first new) (now_both mid (IsStill ignored v) Waits (still_now ignored orderly) s.waiting)
+          (observable_map mid _ (λ u. IsStill ignored v u × Waits u → SinceBy (IsOnTheWay ignored G v) first new) way (λ u t q.
+          way_from ignored G v u q.0 first mid new (still_way ignored G v first mid (s.run.moments ignored orderly)) (t ignored q.0.orderly q.1)));
+      reads =
+          since_on (IsReadInChange G (files_of v)) first mid new
+          (since_weaker (IsReadButWaiting (files_of v)) (IsReadInChange G (files_of v)) first mid (λ w reads. inl reads) s.run.reads)
+          (by_now mid (λ u. IsReadButWaiting (files_of v) u × Waits u) (Since (IsReadInChange G (files_of v)) mid new)
+          (now_both mid (IsReadButWaiting (files_of v)) Waits (so_far_now (IsReadButWaiting (files_of v)) Waits v first mid mid s.start (λ q shown. refl) s.run.reads) s.waiting)
+          (observable_map mid _ (λ u. IsReadButWaiting (files_of v) u × Waits u → Since (IsReadInChange G (files_of v)) mid new) reads (λ u t q.
+          since_weaker (IsReadInChange G (files_of u)) (IsReadInChange G (files_of v)) mid new (λ w. read_from G (files_of v) u w q.0) (t q.1))));
+      last = λ last.
+          since_on LastsUnread first mid new
+          (since_weaker ShownNamesLast LastsUnread first mid (λ w lasts none. lasts) (s.run.last last))
+          (by_now mid (λ u. ShownNamesLast u × Waits u) (Since LastsUnread mid new)
+          (now_both mid ShownNamesLast Waits (so_far_now ShownNamesLast Waits v first mid mid s.start last (s.run.last last)) s.waiting)
+          (observable_map mid _ (λ u. ShownNamesLast u × Waits u → Since LastsUnread mid new) lasts (λ u t q. t q.1 q.0)));
+    }

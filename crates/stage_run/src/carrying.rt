@@ -1,0 +1,78 @@
+//! From the publishing on.
+ghost use Rattle.std.specs.Prelude.{◌≡◌, ◌≤◌, ℕ, Bool, true, false, List, None, length, IsSome, OnOk, OnErr};
+ghost use Rattle.base_core.specs.Calls.{HasNow, IfObservable};
+ghost use Rattle.base_core.specs.Crash.{IsOrderly, Since};
+ghost use Rattle.base_core.specs.Faults.{GoesOn, HasCause, IsNoFault};
+ghost use Rattle.base_core.specs.Files.{Files};
+ghost use Rattle.base_core.specs.Tree.{TreeState, files_of};
+ghost use Rattle.journal_core.specs.Kept.{IsInNoMap, RecoversTo, ShownNamesLast};
+ghost use Rattle.journal_core.specs.Quiet.{IsStill};
+ghost use Rattle.journal_core.specs.Recovery.{IsSettled, RestsOn, after_actions, intent_name};
+ghost use Rattle.journal_core.specs.Staged.{HasRoomBeside, IsActing, action_count, with_staged};
+ghost use Rattle.stage_run.specs.StageRun.{IsStageRun, IsStageRunDone, IsStaging, LastsUnread};
+
+use base_core::{Disk, Tree};
+use journal_core::{Stage, apply_all};
+
+/// Publishes the intent of a stage all of whose files wait, does all its actions, and finishes.
+pub fn carry_through<T: Tree>(stage: &mut Stage, tree: &mut T) -> Result<(), Disk>
+    requires closed { stage.old.is_open ≡ false }
+    requires all { stage.old.staged ≡ length stage.old.intent.writes }
+
+    // Whatever it answers, the files come to wait and are then moved to their names in one change;
+    // and once it has answered Ok, this has come to its end.
+    ensures run { (contents : List (List ℕ)) (v : TreeState) (first : List TreeState)
+        → IsStaging stage.old contents None v first (T.history tree.old)
+        → IsStageRun (after_actions stage.old.intent (with_staged 1 contents (files_of v)))
+        v first (T.history tree.new) }
+    ensures done { (contents : List (List ℕ)) (v : TreeState) (first : List TreeState)
+        → IsStaging stage.old contents None v first (T.history tree.old)
+        → OnOk result (IsStageRunDone
+        (after_actions stage.old.intent (with_staged 1 contents (files_of v)))
+        v (T.history tree.new)) }
+    ensures goes_on { GoesOn (T.counts tree.old) (T.counts tree.new) }
+    ensures cause { OnErr result (HasCause (T.counts tree.old) (T.counts tree.new)) }
+    ensures kept { OnOk result (IsNoFault (T.counts tree.old) (T.counts tree.new)) }
+
+    // Where there is room for the stage, and beside the files that it leads to, no call is a
+    // misuse.
+    ensures proper { (contents : List (List ℕ)) (v : TreeState) (first : List TreeState)
+        → IsStaging stage.old contents None v first (T.history tree.old)
+        → HasRoomBeside (files_of v)
+        → HasRoomBeside (after_actions stage.old.intent (with_staged 1 contents (files_of v)))
+        → (T.counts tree.new).misuses ≡ (T.counts tree.old).misuses }
+{
+    stage.names_are_free();
+    stage.publish(tree)?;
+    enact(stage, tree)
+}
+
+/// Does all actions of an intent that is published, and finishes.
+fn enact<T: Tree>(stage: &mut Stage, tree: &mut T) -> Result<(), Disk>
+    requires published { stage.old.published ≡ true }
+    requires within { stage.old.acted ≤ action_count stage.old.intent }
+    ensures moments { IfObservable (T.history tree.old) (λ v. (ignored : List ℕ → Bool)
+        (files : Files) → IsOrderly (RestsOn ignored) v → IsActing stage.old files v
+        → Since (IsStill ignored v) (T.history tree.old) (T.history tree.new)) }
+    ensures reads { IfObservable (T.history tree.old) (λ v. (files : Files)
+        → IsActing stage.old files v
+        → Since (RecoversTo files) (T.history tree.old) (T.history tree.new)) }
+    ensures last { IfObservable (T.history tree.old) (λ v. IsSome (v.names intent_name)
+        → Since LastsUnread (T.history tree.old) (T.history tree.new)) }
+    ensures settled { IfObservable (T.history tree.old) (λ v. (ignored : List ℕ → Bool)
+        (files : Files) → IsOrderly (RestsOn ignored) v → IsActing stage.old files v
+        → OnOk result (HasNow (T.history tree.new) (IsSettled ignored files))) }
+    ensures files { IfObservable (T.history tree.old) (λ v. (files : Files)
+        → IsActing stage.old files v → OnOk result (HasNow (T.history tree.new)
+        (λ w. (files_of w ≡ files) × (w.names intent_name ≡ None)))) }
+    ensures gone { OnOk result (IfObservable (T.history tree.new) (IsInNoMap intent_name)) }
+    ensures goes_on { GoesOn (T.counts tree.old) (T.counts tree.new) }
+    ensures cause { OnErr result (HasCause (T.counts tree.old) (T.counts tree.new)) }
+    ensures kept { OnOk result (IsNoFault (T.counts tree.old) (T.counts tree.new)) }
+    ensures proper { IfObservable (T.history tree.old) (λ v. (files : Files)
+        → IsActing stage.old files v → HasRoomBeside files
+        → (T.counts tree.new).misuses ≡ (T.counts tree.old).misuses) }
+{
+    apply_all(stage, tree)?;
+    stage.finish(tree)
+}

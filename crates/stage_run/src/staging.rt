@@ -1,0 +1,109 @@
+//! Files come to wait, one after another.
+ghost use Rattle.std.specs.Prelude.{◌≡◌, ◌<◌, ◌+◌, ◌++◌, ◌∷◌, [], ℕ, true, false, List, Some, None, length, OnOk, OnErr};
+ghost use Rattle.base_core.specs.Faults.{GoesOn, HasCause, IsNoFault};
+ghost use Rattle.base_core.specs.Tree.{TreeState, files_of};
+ghost use Rattle.journal_core.specs.Staged.{HasRoomBeside};
+ghost use Rattle.stage_run.specs.StageRun.{IsStaging, IsStagingRun};
+
+use base_core::{Disk, Tree};
+use journal_core::Stage;
+
+/// Makes an empty file for the next write.
+pub fn begin_file<T: Tree>(stage: &mut Stage, tree: &mut T) -> Result<(), Disk>
+    requires closed { stage.old.is_open ≡ false }
+    requires more { stage.old.staged < length stage.old.intent.writes }
+
+    // Whatever it answers, only what waits has changed at each moment.
+    ensures run { (contents : List (List ℕ)) (v : TreeState) (first : List TreeState)
+        → IsStaging stage.old contents None v first (T.history tree.old)
+        → IsStagingRun v first (T.history tree.new) }
+    ensures staging { (contents : List (List ℕ)) (v : TreeState) (first : List TreeState)
+        → IsStaging stage.old contents None v first (T.history tree.old)
+        → OnOk result (IsStaging stage.new contents (Some []) v first (T.history tree.new)) }
+    ensures view { OnOk result (stage.new ≡ record stage.old { is_open = true }) }
+    ensures err { OnErr result (stage.new ≡ stage.old) }
+    ensures goes_on { GoesOn (T.counts tree.old) (T.counts tree.new) }
+    ensures cause { OnErr result (HasCause (T.counts tree.old) (T.counts tree.new)) }
+    ensures kept { OnOk result (IsNoFault (T.counts tree.old) (T.counts tree.new)) }
+    ensures proper { (contents : List (List ℕ)) (v : TreeState) (first : List TreeState)
+        → IsStaging stage.old contents None v first (T.history tree.old)
+        → HasRoomBeside (files_of v)
+        → (T.counts tree.new).misuses ≡ (T.counts tree.old).misuses }
+{
+    stage.file_begin(tree)
+}
+
+/// Adds bytes to the file that is begun.
+pub fn append_piece<T: Tree>(stage: &mut Stage, tree: &mut T, piece: &[u8]) -> Result<(), Disk>
+    requires { stage.old.is_open ≡ true }
+    ensures run { (contents : List (List ℕ)) (so_far : List ℕ) (v : TreeState)
+        (first : List TreeState)
+        → IsStaging stage.old contents (Some so_far) v first (T.history tree.old)
+        → IsStagingRun v first (T.history tree.new) }
+    ensures staging { (contents : List (List ℕ)) (so_far : List ℕ) (v : TreeState)
+        (first : List TreeState)
+        → IsStaging stage.old contents (Some so_far) v first (T.history tree.old)
+        → OnOk result (IsStaging stage.new contents (Some (so_far ++ piece.now)) v first
+        (T.history tree.new)) }
+    ensures view { stage.new ≡ stage.old }
+    ensures goes_on { GoesOn (T.counts tree.old) (T.counts tree.new) }
+    ensures cause { OnErr result (HasCause (T.counts tree.old) (T.counts tree.new)) }
+    ensures kept { OnOk result (IsNoFault (T.counts tree.old) (T.counts tree.new)) }
+    ensures proper { (contents : List (List ℕ)) (so_far : List ℕ) (v : TreeState)
+        (first : List TreeState)
+        → IsStaging stage.old contents (Some so_far) v first (T.history tree.old)
+        → (T.counts tree.new).misuses ≡ (T.counts tree.old).misuses }
+{
+    stage.file_append(tree, piece)
+}
+
+/// The file that is begun is whole: its bytes are made to last.
+pub fn end_file<T: Tree>(stage: &mut Stage, tree: &mut T) -> Result<(), Disk>
+    requires { stage.old.is_open ≡ true }
+    ensures run { (contents : List (List ℕ)) (so_far : List ℕ) (v : TreeState)
+        (first : List TreeState)
+        → IsStaging stage.old contents (Some so_far) v first (T.history tree.old)
+        → IsStagingRun v first (T.history tree.new) }
+    ensures staging { (contents : List (List ℕ)) (so_far : List ℕ) (v : TreeState)
+        (first : List TreeState)
+        → IsStaging stage.old contents (Some so_far) v first (T.history tree.old)
+        → OnOk result (IsStaging stage.new (contents ++ so_far ∷ []) None v first
+        (T.history tree.new)) }
+    ensures view { OnOk result
+        (stage.new ≡ record stage.old { staged = stage.old.staged + 1; is_open = false }) }
+    ensures err { OnErr result (stage.new ≡ stage.old) }
+    ensures goes_on { GoesOn (T.counts tree.old) (T.counts tree.new) }
+    ensures cause { OnErr result (HasCause (T.counts tree.old) (T.counts tree.new)) }
+    ensures kept { OnOk result (IsNoFault (T.counts tree.old) (T.counts tree.new)) }
+    ensures proper { (contents : List (List ℕ)) (so_far : List ℕ) (v : TreeState)
+        (first : List TreeState)
+        → IsStaging stage.old contents (Some so_far) v first (T.history tree.old)
+        → (T.counts tree.new).misuses ≡ (T.counts tree.old).misuses }
+{
+    stage.file_end(tree)
+}
+
+/// Stages one whole file with these bytes.
+pub fn stage_bytes<T: Tree>(stage: &mut Stage, tree: &mut T, bytes: &[u8]) -> Result<(), Disk>
+    requires closed { stage.old.is_open ≡ false }
+    requires more { stage.old.staged < length stage.old.intent.writes }
+    ensures run { (contents : List (List ℕ)) (v : TreeState) (first : List TreeState)
+        → IsStaging stage.old contents None v first (T.history tree.old)
+        → IsStagingRun v first (T.history tree.new) }
+    ensures staging { (contents : List (List ℕ)) (v : TreeState) (first : List TreeState)
+        → IsStaging stage.old contents None v first (T.history tree.old)
+        → OnOk result (IsStaging stage.new (contents ++ bytes.now ∷ []) None v first
+        (T.history tree.new)) }
+    ensures view { OnOk result (stage.new ≡ record stage.old { staged = stage.old.staged + 1 }) }
+    ensures goes_on { GoesOn (T.counts tree.old) (T.counts tree.new) }
+    ensures cause { OnErr result (HasCause (T.counts tree.old) (T.counts tree.new)) }
+    ensures kept { OnOk result (IsNoFault (T.counts tree.old) (T.counts tree.new)) }
+    ensures proper { (contents : List (List ℕ)) (v : TreeState) (first : List TreeState)
+        → IsStaging stage.old contents None v first (T.history tree.old)
+        → HasRoomBeside (files_of v)
+        → (T.counts tree.new).misuses ≡ (T.counts tree.old).misuses }
+{
+    begin_file(stage, tree)?;
+    append_piece(stage, tree, bytes)?;
+    end_file(stage, tree)
+}
