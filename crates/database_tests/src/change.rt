@@ -2,26 +2,61 @@
 ghost use Rattle.adb_fields.specs.Repeated.{package_name};
 ghost use Rattle.adb_view.specs.Plain.{Plain};
 ghost use Rattle.db_core.specs.Seen.{packages_of};
-ghost use Rattle.pkg_core.specs.Opened.{opened_value};
+ghost use Rattle.pkg_pieces.specs.Values.{value_of_contents};
 ghost use Rattle.std.specs.Prelude.{◌≡◌, ◌<◌, Some, length, slice_get};
 
-use adb_schema::{PackageView, ReadFault};
+use adb_schema::{PACKAGE_WORD, PackageView, ReadFault};
 use adb_write::WriteFault;
-use base_core::Words;
+use base_core::{Name, Words};
 use db_core::{Db, MOST_MEMBERS, Members, Owned};
 use db_write::write_db;
-use pkg_core::{Package, PackageFault};
+use pkg_core::PackageFault;
+use pkg_pieces::{Contents, Front, FrontFault, read_front};
 use row_lines::word_at;
 use std::alloc::{AllocError, Global};
 use std::marker::PhantomData;
+use tree_memory::MemoryTree;
 
 /// The database after `change FLAGS NAME ..`: the packages of the database without those of these
 /// names, and behind them those that come, with the files whose flag is 1. A file that is none has
 /// no packages. None: they are not in order, one that comes is bad, or the database is too large.
-pub fn changed_database<'a>(
+pub fn changed_database(
+    alloc: Global,
+    file: &[u8],
+    coming: &[Vec<u8>],
+    words: &Words,
+) -> Result<Option<Vec<u8>>, AllocError> {
+    let mut fronts = Vec::new(alloc);
+    for package in coming {
+        match front_of(alloc, package)? {
+            Some(front) => fronts.push(front)?,
+            None => return Ok(None),
+        }
+    }
+    changed_over(alloc, file, &fronts, words)
+}
+
+/// The front of the package in a file, unless it is bad.
+fn front_of(alloc: Global, file: &[u8]) -> Result<Option<Front>, AllocError> {
+    let Some(name) = Name::read(alloc, b"p")? else {
+        return Ok(None);
+    };
+    let mut tree = MemoryTree::new(alloc);
+    if tree.can_put(&name) {
+        tree.put(&name, file)?;
+    }
+    match read_front(alloc, &mut tree, &name, PACKAGE_WORD) {
+        Ok(front) => Ok(front),
+        Err(FrontFault::Bad(_) | FrontFault::Disk) => Ok(None),
+        Err(FrontFault::Memory) => Err(AllocError),
+    }
+}
+
+/// The same over the fronts of the packages that come.
+fn changed_over<'a>(
     alloc: Global,
     file: &'a [u8],
-    coming: &'a [Vec<u8>],
+    coming: &'a [Front],
     words: &Words,
 ) -> Result<Option<Vec<u8>>, AllocError> {
     match Db::read(alloc, file) {
@@ -34,7 +69,7 @@ pub fn changed_database<'a>(
 fn change_of<'a>(
     alloc: Global,
     db: &Db<'a>,
-    coming: &'a [Vec<u8>],
+    coming: &'a [Front],
     words: &Words,
 ) -> Result<Option<Vec<u8>>, AllocError> {
     let mut members = Members::new(alloc);
@@ -44,8 +79,8 @@ fn change_of<'a>(
             return Ok(None);
         }
     }
-    for file in coming {
-        if !add_coming(alloc, &mut members, file)? {
+    for front in coming {
+        if !add_coming(alloc, &mut members, front)? {
             return Ok(None);
         }
     }
@@ -108,35 +143,38 @@ fn add_installed<'a>(members: &mut Members<'a>, db: &Db<'a>, i: usize) -> Result
     Ok(true)
 }
 
-/// Adds the package in a file, unless it is bad or not in order.
+/// Adds the package with this front, unless it is bad or not in order.
 fn add_coming<'a>(
     alloc: Global,
     members: &mut Members<'a>,
-    file: &'a [u8],
+    front: &'a Front,
 ) -> Result<bool, AllocError> {
-    match Package::new(alloc, file) {
-        Ok(pkg) => add_package(members, &pkg),
+    match Contents::new(alloc, front) {
+        Ok(contents) => add_contents(members, &contents),
         Err(PackageFault::Bad(_)) => Ok(false),
         Err(PackageFault::Memory) => Err(AllocError),
     }
 }
 
-fn add_package<'a>(members: &mut Members<'a>, pkg: &Package<'a>) -> Result<bool, AllocError> {
+fn add_contents<'a>(
+    members: &mut Members<'a>,
+    contents: &Contents<'a>,
+) -> Result<bool, AllocError> {
     if members.len() >= MOST_MEMBERS {
         return Ok(false);
     }
-    if !members.comes_behind(name_of(pkg, PhantomData)) {
+    if !members.comes_behind(name_of(contents, PhantomData)) {
         return Ok(false);
     }
-    members.comes(pkg)?;
+    members.comes_in_pieces(contents)?;
     Ok(true)
 }
 
 /// The name of a package.
-fn name_of<'a>(pkg: &Package<'a>, _mark: PhantomData<PackageView<'a>>) -> &'a [u8]
-    ensures { result.now ≡ package_name (opened_value pkg.now) }
+fn name_of<'a>(contents: &Contents<'a>, _mark: PhantomData<PackageView<'a>>) -> &'a [u8]
+    ensures { result.now ≡ package_name (value_of_contents contents.now) }
 {
-    let info = pkg.view().info();
+    let info = contents.view().info();
     info.name()
 }
 
