@@ -16,8 +16,9 @@ class Payload:
         self.bytes += bytes(-len(self.bytes) % align)
 
     def blob(self, data):
-        word = 0x80000000 | len(self.bytes)
-        self.bytes += bytes([len(data)]) + data
+        kind, form = (8, "<B") if len(data) < 1 << 8 else (9, "<H") if len(data) < 1 << 16 else (10, "<I")
+        word = kind << 28 | len(self.bytes)
+        self.bytes += struct.pack(form, len(data)) + data
         return word
 
     def int(self, number):
@@ -86,6 +87,41 @@ def index(packages):
     payload = Payload()
     infos = [index_entry(payload, i, packages) for i in range(packages)]
     return b"ADB.indx" + block(0, payload.done(payload.object([0, payload.array(infos)])))
+
+
+def index_of_one(payload, packages, provides):
+    """An index in which one package, which provides all this, stands at so many places."""
+    info = [payload.blob(b"a"), payload.blob(b"1"), payload.blob(bytes(32))] + [0] * 12 + [payload.array(provides)]
+    packages = payload.array([payload.object(info)] * packages)
+    return b"ADB.indx" + block(0, payload.done(payload.object([0, packages])))
+
+
+def shared_versions(versions, packages, provides):
+    """An index of packages times provides places, which share so many versions in turn."""
+    payload = Payload()
+    name = payload.blob(b"a")
+    words = [payload.object([name, payload.blob(version)]) for version in versions]
+    return index_of_one(payload, packages, [words[i % len(words)] for i in range(provides)])
+
+
+def overlapping_versions(text, starts):
+    """An index with a version behind each of these offsets of one text; the two bytes at the offset are its length."""
+    payload = Payload()
+    name = payload.blob(b"a")
+    at = len(payload.bytes)
+    payload.bytes += text
+    return index_of_one(payload, 1, [payload.object([name, 0x90000000 | at + start]) for start in starts])
+
+
+def overlapping_names(text, starts):
+    """A package whose one folder has a file with a name behind each of these offsets of one text, as with versions."""
+    payload = Payload()
+    at = len(payload.bytes)
+    payload.bytes += text
+    info = payload.object([payload.blob(b"a"), payload.blob(b"1")])
+    entries = [payload.object([0x90000000 | at + start]) for start in starts]
+    folder = payload.object([0, 0, payload.array(entries)])
+    return b"ADB.pckg" + block(0, payload.done(payload.object([info, payload.array([folder])])))
 
 
 def best_of(times, command, folder):
