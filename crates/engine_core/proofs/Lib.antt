@@ -1,4 +1,2 @@
 pub mod Choices
-pub mod Early
-pub mod Known
-pub mod Pools
+pub mod DecidedBy

@@ -1,10 +1,7 @@
 -- what the contract of `apk` says
 pub mod Choice
 pub mod Selecting
-pub mod Wishes
-pub mod Changed
-pub mod ChangeRun
+-- what a change is only simulated to come to
+pub mod Simulated
 -- what only inner contracts and proofs use
-pub mod Chosen
-pub mod Runs
-pub mod SelectionSeen
+pub mod Decided

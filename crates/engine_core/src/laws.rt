@@ -1,10 +1,5 @@
 //! Laws of choices, each as the contract of a function that does nothing.
-ghost use Rattle.base_core.specs.Files.{Files, IsWithin};
-ghost use Rattle.change_files.specs.FileChange.{FileChange};
-ghost use Rattle.change_files.specs.NamesAfter.{name_change};
 ghost use Rattle.engine_core.specs.Choice.{IsChoiceFrom};
-ghost use Rattle.path_clashes.specs.Clash.{NamePair};
-ghost use Rattle.path_clashes.specs.FirstClash.{IsClashOf};
 ghost use Rattle.pool_core.specs.Rank.{SealedPool};
 ghost use Rattle.report_core.specs.declared.refusal.Refusal.{Refusal};
 ghost use Rattle.std.specs.Prelude.{◌≡◌, ℕ, List, Option, Result};
@@ -27,9 +22,3 @@ pub fn a_choice_is_unique()
 {
     the_first_selection_is_unique();
 }
-
-/// TODO
-pub(crate) fn a_first_clash_exists()
-    ensures { (change : FileChange) (files : Files) (names : List (List ℕ)) → IsWithin names files
-        → (clash : Option NamePair) × IsClashOf (name_change change files) files clash }
-{}

@@ -8,6 +8,5 @@ pub mod Verify
 pub mod Dump
 pub mod Make
 pub mod Changing
-pub mod Given
 -- what only inner contracts and proofs use
 pub mod Sound

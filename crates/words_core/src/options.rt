@@ -35,9 +35,8 @@ pub(crate) enum Meaning {
 }
 
 // The applets that exist.
-const APPLETS: [Applet; 7] = [
+const APPLETS: [Applet; 6] = [
     Applet::Add,
-    Applet::Del,
     Applet::Verify,
     Applet::Version,
     Applet::Adbdump,

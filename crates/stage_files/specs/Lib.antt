@@ -1,2 +1,0 @@
--- what only inner contracts and proofs use
-pub mod Sources
