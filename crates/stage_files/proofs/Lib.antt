@@ -1,0 +1,4 @@
+pub mod OneFile
+pub mod Each
+pub mod Files
+pub mod Carried

@@ -1,0 +1,197 @@
+-- A file is staged piece by piece.
+use Rattle.std.proofs.Common.{◌≡◌, ℕ, Bool, true, false, List, [], ◌∷◌, ◌++◌, Option, Some, None, Result, Ok, Err, refl, sym, ap, subst, ◌∙◌, append_assoc, arith}
+use Rattle.std.proofs.lemmas.List.{append-nil}
+use Rattle.std.specs.Prelude.{OnOk, IfErr}
+use Rattle.std.specs.Result.{IsErrAnd}
+use Rattle.base_core.specs.Calls.{HasNow, IfObservable}
+use Rattle.base_core.specs.Faults.{Counts, GoesOn, IsNoFault}
+use Rattle.base_core.specs.Files.{Files}
+use Rattle.base_core.specs.Tree.{TreeState, files_of}
+use Rattle.journal_core.specs.Recovery.{is_staged}
+use Rattle.journal_core.specs.Staged.{HasRoomBeside, IsEmptyStage, Staging}
+use Rattle.journal_core.proofs.Chain.{by_now}
+use Rattle.journal_core.proofs.History.{History, now_map, now_since}
+use Rattle.piece_reader.specs.FileReading.{GivesBytes, IsFileReading, len_around_file, package_of_file}
+use Rattle.piece_reader.specs.declared.fault.PieceFault.{PieceFault}
+use Rattle.piece_reader.specs.declared.fault.PieceFault.TheVariants.{Bad, Disk}
+use Rattle.piece_reader.specs.declared.one_file.FilePieces.{FilePieces}
+use Rattle.pkg_pieces.specs.Seen.{IsSoLong}
+use Rattle.stage_run.specs.StageRun.{IsReadButWaiting, IsStaging, IsStagingRun}
+use Rattle.stage_run.proofs.Joins.{start_is}
+use Rattle.stage_files.specs.Reading.{IsReadingIn}
+
+-- ---- what is read while files come to wait
+
+pub shown_now : (stage : Staging) (contents : List (List ℕ)) (begun : Option (List ℕ)) (v : TreeState) (first now : History) → IsStaging stage contents begun v first now → HasNow now (IsReadButWaiting (files_of v))
+shown_now stage contents begun v first now staging =
+    let (rest, is) = start_is first v staging.start in
+    now_since (IsReadButWaiting (files_of v)) first now v rest is (λ q off. refl) staging.run.reads
+
+-- a file that stood there before is none that waits
+pub no_waiting : (files : Files) (name pkg : List ℕ) → IsEmptyStage files → files name ≡ Some pkg → is_staged name ≡ false
+no_waiting files name pkg empty there = by (is_staged name) refl
+  where
+    by : (b : Bool) → is_staged name ≡ b → b ≡ false
+    by true is = cc (empty name is)
+    by false is = refl
+
+pub package_now : (stage : Staging) (contents : List (List ℕ)) (begun : Option (List ℕ)) (v : TreeState) (first now : History) (name pkg : List ℕ) → IsStaging stage contents begun v first now → files_of v name ≡ Some pkg
+    → HasNow now (λ w. files_of w name ≡ Some pkg)
+package_now stage contents begun v first now name pkg staging there =
+    now_map now (IsReadButWaiting (files_of v)) (λ w. files_of w name ≡ Some pkg) (shown_now stage contents begun v first now staging)
+    (λ w shown. shown name (no_waiting (files_of v) name pkg staging.empty there) ∙ there)
+
+-- ---- the file that is begun
+
+-- some of its bytes wait, and these are left
+pub record IsHalfway (stage : Staging) (file : FilePieces) (contents : List (List ℕ)) (bytes : List ℕ) (v : TreeState) (first now : History) : Type 0 where
+  pub so_far : List ℕ
+  pub left : List ℕ
+  pub parts : bytes ≡ so_far ++ left
+  pub reading : IsReadingIn (files_of v) file left
+  pub staging : IsStaging stage contents (Some so_far) v first now
+
+abbrev pub IsReadOn : Staging → Staging → FilePieces → FilePieces → History → History → Type 0
+IsReadOn start stage whole file old now =
+    (contents : List (List ℕ)) (v : TreeState) (first : List TreeState) (bytes : List ℕ) → IsStaging start contents None v first old
+    → IsReadingIn (files_of v) whole bytes → IsHalfway stage file contents bytes v first now
+
+-- where there is room, no call is a misuse
+abbrev pub IsProperOn : Staging → FilePieces → History → ℕ → ℕ → Type 0
+IsProperOn start whole old before now =
+    (contents : List (List ℕ)) (v : TreeState) (first : List TreeState) (bytes : List ℕ) → IsStaging start contents None v first old
+    → IsReadingIn (files_of v) whole bytes → HasRoomBeside (files_of v) → now ≡ before
+
+-- ---- a piece is read
+
+only_disk : (A : List ℕ → Type 0) (left piece : List ℕ) (fault : PieceFault) → GivesBytes A left piece (Err fault) → fault ≡ Disk
+only_disk A left piece (Bad cause) g = absurd g
+only_disk A left piece Disk g = refl
+
+abbrev Gives : FilePieces → FilePieces → List ℕ → History → Result Bool PieceFault → Type 0
+Gives file next piece now result =
+    IfObservable now (λ w. (pkg left : List ℕ) → files_of w (package_of_file file) ≡ Some pkg → IsFileReading file pkg left → GivesBytes (IsFileReading next pkg) left piece result)
+
+module _ (start stage : Staging) (whole file next : FilePieces) (piece : List ℕ) (old now later : History) (result : Result Bool PieceFault)
+    (read : IsReadOn start stage whole file old now) (gives : Gives file next piece now result) where
+  given : (contents : List (List ℕ)) (v : TreeState) (first : List TreeState) (bytes : List ℕ) (half : IsHalfway stage file contents bytes v first now)
+      → GivesBytes (IsFileReading next half.reading.pkg) half.left piece result
+  given contents v first bytes half =
+      by_now now (λ w. files_of w (package_of_file file) ≡ Some half.reading.pkg) (GivesBytes (IsFileReading next half.reading.pkg) half.left piece result)
+      (package_now stage contents (Some half.so_far) v first now (package_of_file file) half.reading.pkg half.staging half.reading.there)
+      (observed now gives)
+    where
+      observed : (h : History) → Gives file next piece h result → IfObservable h (λ w. files_of w (package_of_file file) ≡ Some half.reading.pkg → GivesBytes (IsFileReading next half.reading.pkg) half.left piece result)
+      observed [] g = tt
+      observed (w ∷ earlier) g = λ there. g half.reading.pkg half.left there half.reading.reading
+
+  -- where the package stands, only the tree fails
+  pub read_fails : (contents : List (List ℕ)) (v : TreeState) (first : List TreeState) (bytes : List ℕ) → IsStaging start contents None v first old → IsReadingIn (files_of v) whole bytes
+      → (fault : PieceFault) → result ≡ Err fault → fault ≡ Disk
+  read_fails contents v first bytes staging reading fault is =
+      let half = read contents v first bytes staging reading in
+      only_disk (IsFileReading next half.reading.pkg) half.left piece fault (subst (GivesBytes (IsFileReading next half.reading.pkg) half.left piece) is (given contents v first bytes half))
+
+  module _ (name : package_of_file next ≡ package_of_file file) (len : len_around_file next ≡ len_around_file file) where
+    next_reading : (v : TreeState) (left rest : List ℕ) (reading : IsReadingIn (files_of v) file left) → IsFileReading next reading.pkg rest → IsReadingIn (files_of v) next rest
+    next_reading v left rest reading is = record {
+      pkg = reading.pkg;
+      there = ap (files_of v) name ∙ reading.there;
+      long = reading.long ∙ sym len;
+      reading = is;
+    }
+
+    -- a piece came, and was appended
+    pub read_more : (grown : Staging) → result ≡ Ok true
+        → ((contents : List (List ℕ)) (so_far : List ℕ) (v : TreeState) (first : List TreeState) → IsStaging stage contents (Some so_far) v first now → IsStaging grown contents (Some (so_far ++ piece)) v first later)
+        → IsReadOn start grown whole next old later
+    read_more grown is appended contents v first bytes staging reading =
+        let half = read contents v first bytes staging reading in
+        let came = subst (GivesBytes (IsFileReading next half.reading.pkg) half.left piece) is (given contents v first bytes half) in
+        record {
+          so_far = half.so_far ++ piece;
+          left = came.0;
+          parts = half.parts ∙ ap (λ l. half.so_far ++ l) came.1 ∙ sym (append_assoc half.so_far piece came.0);
+          reading = next_reading v half.left came.0 half.reading came.2;
+          staging = appended contents half.so_far v first half.staging;
+        }
+
+    -- the file has ended
+    pub read_whole : result ≡ Ok false → (contents : List (List ℕ)) (v : TreeState) (first : List TreeState) (bytes : List ℕ) → IsStaging start contents None v first old → IsReadingIn (files_of v) whole bytes
+        → IsStaging stage contents (Some bytes) v first now
+    read_whole is contents v first bytes staging reading =
+        let half = read contents v first bytes staging reading in
+        let ended = subst (GivesBytes (IsFileReading next half.reading.pkg) half.left piece) is (given contents v first bytes half) in
+        let all : bytes ≡ half.so_far = half.parts ∙ ap (λ l. half.so_far ++ l) ended.0 ∙ append-nil half.so_far in
+        subst (λ (b : List ℕ). IsStaging stage contents (Some b) v first now) (sym all) half.staging
+
+-- ---- the first and the last call
+
+pub begun_read : (start stage : Staging) (whole : FilePieces) (old now : History)
+    → ((contents : List (List ℕ)) (v : TreeState) (first : List TreeState) → IsStaging start contents None v first old → IsStaging stage contents (Some []) v first now)
+    → IsReadOn start stage whole whole old now
+begun_read start stage whole old now begun contents v first bytes staging reading = record {
+  so_far = [];
+  left = bytes;
+  parts = refl;
+  reading = reading;
+  staging = begun contents v first staging;
+}
+
+-- what a call makes of the file that is begun
+module _ (start stage : Staging) (whole file : FilePieces) (old now later : History) (read : IsReadOn start stage whole file old now) where
+  pub half_run : ((contents : List (List ℕ)) (so_far : List ℕ) (v : TreeState) (first : List TreeState) → IsStaging stage contents (Some so_far) v first now → IsStagingRun v first later)
+      → (contents : List (List ℕ)) (v : TreeState) (first : List TreeState) (bytes : List ℕ) → IsStaging start contents None v first old → IsReadingIn (files_of v) whole bytes → IsStagingRun v first later
+  half_run run contents v first bytes staging reading =
+      let half = read contents v first bytes staging reading in
+      run contents half.so_far v first half.staging
+
+  pub half_proper : (before between after : ℕ) → IsProperOn start whole old before between
+      → ((contents : List (List ℕ)) (so_far : List ℕ) (v : TreeState) (first : List TreeState) → IsStaging stage contents (Some so_far) v first now → after ≡ between)
+      → IsProperOn start whole old before after
+  half_proper before between after proper one contents v first bytes staging reading room =
+      let half = read contents v first bytes staging reading in
+      one contents half.so_far v first half.staging ∙ proper contents v first bytes staging reading room
+
+  pub read_proper : (before between after : ℕ) → IsProperOn start whole old before between
+      → IfObservable now (λ w. IsSoLong (package_of_file file) (len_around_file file) w → after ≡ between) → IsProperOn start whole old before after
+  read_proper before between after proper one contents v first bytes staging reading room =
+      let half = read contents v first bytes staging reading in
+      by_now now (λ w. files_of w (package_of_file file) ≡ Some half.reading.pkg) (after ≡ between)
+      (package_now stage contents (Some half.so_far) v first now (package_of_file file) half.reading.pkg half.staging half.reading.there)
+      (long now one half)
+      ∙ proper contents v first bytes staging reading room
+    where
+      long : {contents : List (List ℕ)} {bytes : List ℕ} {v : TreeState} {first : List TreeState} (h : History) → IfObservable h (λ w. IsSoLong (package_of_file file) (len_around_file file) w → after ≡ between)
+          → (half : IsHalfway stage file contents bytes v first now) → IfObservable h (λ w. files_of w (package_of_file file) ≡ Some half.reading.pkg → after ≡ between)
+      long [] p half = tt
+      long (w ∷ earlier) p half = λ there. p (record { file = half.reading.pkg; present = there; long = half.reading.long })
+
+pub same_history : (stage : Staging) (contents : List (List ℕ)) (begun : Option (List ℕ)) (v : TreeState) (first now later : History) → later ≡ now → IsStaging stage contents begun v first now → IsStaging stage contents begun v first later
+same_history stage contents begun v first now later same staging = subst (λ (h : History). IsStaging stage contents begun v first h) (sym same) staging
+
+pub same_bytes : (stage : Staging) (contents : List (List ℕ)) (so_far one other : List ℕ) (v : TreeState) (first now : History) → other ≡ one → IsStaging stage contents (Some (so_far ++ one)) v first now
+    → IsStaging stage contents (Some (so_far ++ other)) v first now
+same_bytes stage contents so_far one other v first now same staging = subst (λ (b : List ℕ). IsStaging stage contents (Some (so_far ++ b)) v first now) (sym same) staging
+
+pub if_disk : {A E : Type 0} {disk : E} (r : Result A E) (fault : E) → IsErrAnd r (λ e. e ≡ fault) → fault ≡ disk → IfErr r (λ e. e ≡ disk)
+if_disk (Ok a) fault is disk = tt
+if_disk (Err e) fault is disk = is ∙ disk
+
+pub same_fault : {A E : Type 0} (r : Result A E) (fault other : E) → IsErrAnd r (λ e. e ≡ fault) → r ≡ Err other → fault ≡ other
+same_fault {A} {E} r fault other and is = sym (subst (λ (x : Result A E). IsErrAnd x (λ e. e ≡ fault)) is and)
+
+pub not_ok : {A E : Type 0} (P : E → Type 0) (r : Result A E) (Q : Type 0) → IsErrAnd r P → OnOk r Q
+not_ok P (Ok a) Q is = absurd is
+not_ok P (Err e) Q is = tt
+
+pub goes_through : (a b c : Counts) → GoesOn a b → GoesOn b c → GoesOn a c
+goes_through a b c one two = record {
+  faults = (let p = one.faults in let q = two.faults in omega (arith, p, q));
+  misuses = (let p = one.misuses in let q = two.misuses in omega (arith, p, q));
+  wants = (let p = one.wants in let q = two.wants in omega (arith, p, q));
+  fallible = λ t. one.fallible (two.fallible t);
+}
+
+pub kept_through : (a b c : Counts) → IsNoFault a b → IsNoFault b c → IsNoFault a c
+kept_through a b c one two = record { faults = two.faults ∙ one.faults; wants = two.wants ∙ one.wants }

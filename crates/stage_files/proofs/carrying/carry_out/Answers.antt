@@ -1,0 +1,72 @@
+use Rattle.std.proofs.Common.{◌≡◌, Ok, Err, ap, refl, sym, subst, ◌∙◌}
+use Rattle.base_core.specs.Tree.{files_of}
+use Rattle.journal_core.specs.Recovery.{after_actions}
+use Rattle.journal_core.specs.Staged.{HasRoomBeside, Staging, with_staged}
+use Rattle.stage_files.specs.Carried.{IsCarriedTo}
+use Rattle.stage_files.specs.declared.fault.StageFault.TheVariants.{Disk}
+use Rattle.stage_files.proofs.Carried.{carried, where_seen}
+use Rattle.stage_files.proofs.OneFile.{same_fault, if_disk, not_ok}
+use Rattle.stage_run.specs.StageRun.{IsStageRun, IsStageRunDone}
+use Rattle.stage_files.proofs.carrying.carry_out.Goals as goal
+
+pub returns-in_err-stage_each-clause-run : goal.returns-in_err-stage_each-clause-run
+returns-in_err-stage_each-clause-run g c =
+    carried c.a_new_stage_is_staging.ensures (g.T.Tree.history c.args.tree.now) (g.T.Tree.history c.look_at_each.new.tree) c.args.stage.now _ _ c.args.writes.now c.requires.new c.look_at_each.ensures.same
+    (λ v contents. IsCarriedTo {A = Unit {0}} (after_actions c.args.stage.now.intent (with_staged 1 contents (files_of v))) v (g.T.Tree.history c.args.tree.now) (g.T.Tree.history c.stage_each.new.tree) c.from_residual-in_err-stage_each.result)
+    (λ v contents staging stand. record {
+      run = c.a_staging_run_is_a_stage_run.ensures _ v _ _ (c.in_err-stage_each.ensures.run contents v (g.T.Tree.history c.args.tree.now) staging stand);
+      ok = not_ok (λ e. e ≡ c.in_err-stage_each.field-0.0) c.from_residual-in_err-stage_each.result _ c.from_residual-in_err-stage_each.ensures.1;
+      err = if_disk c.from_residual-in_err-stage_each.result c.in_err-stage_each.field-0.0 c.from_residual-in_err-stage_each.ensures.1 (c.in_err-stage_each.ensures.good contents v (g.T.Tree.history c.args.tree.now) staging stand);
+    })
+
+pub returns-in_err-stage_each-clause-bad : goal.returns-in_err-stage_each-clause-bad
+returns-in_err-stage_each-clause-bad g c = λ member cause is.
+    c.in_err-stage_each.ensures.bad member cause (ap Err (same_fault c.from_residual-in_err-stage_each.result c.in_err-stage_each.field-0.0 _ c.from_residual-in_err-stage_each.ensures.1 is))
+
+pub returns-in_err-stage_each-clause-proper : goal.returns-in_err-stage_each-clause-proper
+returns-in_err-stage_each-clause-proper g c =
+    carried c.a_new_stage_is_staging.ensures (g.T.Tree.history c.args.tree.now) (g.T.Tree.history c.look_at_each.new.tree) c.args.stage.now _ _ c.args.writes.now c.requires.new c.look_at_each.ensures.same
+    (λ v contents. HasRoomBeside (files_of v) → HasRoomBeside (after_actions c.args.stage.now.intent (with_staged 1 contents (files_of v))) → (g.T.Tree.counts c.stage_each.new.tree).misuses ≡ (g.T.Tree.counts c.args.tree.now).misuses)
+    (λ v contents staging stand room more.
+    c.in_err-stage_each.ensures.proper contents v (g.T.Tree.history c.args.tree.now) staging stand room ∙ where_seen (g.T.Tree.history c.args.tree.now) v _ staging.start c.look_at_each.ensures.proper)
+
+pub returns-in_err-carry_through-clause-run : goal.returns-in_err-carry_through-clause-run
+returns-in_err-carry_through-clause-run g c =
+    carried c.a_new_stage_is_staging.ensures (g.T.Tree.history c.args.tree.now) (g.T.Tree.history c.look_at_each.new.tree) c.args.stage.now _ _ c.args.writes.now c.requires.new c.look_at_each.ensures.same
+    (λ v contents. IsCarriedTo {A = Unit {0}} (after_actions c.args.stage.now.intent (with_staged 1 contents (files_of v))) v (g.T.Tree.history c.args.tree.now) (g.T.Tree.history c.carry_through.new.tree) c.from_residual-in_err-carry_through.result)
+    (λ v contents staging stand. record {
+      run = subst (λ (s : Staging). IsStageRun (after_actions s.intent (with_staged 1 contents (files_of v))) v (g.T.Tree.history c.args.tree.now) (g.T.Tree.history c.carry_through.new.tree)) c.in_ok-stage_each.ensures.view
+          (c.in_err-carry_through.ensures.run contents v (g.T.Tree.history c.args.tree.now) (c.in_ok-stage_each.ensures.staging contents v (g.T.Tree.history c.args.tree.now) staging stand));
+      ok = not_ok (λ e. e ≡ Disk) c.from_residual-in_err-carry_through.result _ c.from_residual-in_err-carry_through.ensures.1;
+      err = if_disk c.from_residual-in_err-carry_through.result Disk c.from_residual-in_err-carry_through.ensures.1 refl;
+    })
+
+pub returns-in_err-carry_through-clause-proper : goal.returns-in_err-carry_through-clause-proper
+returns-in_err-carry_through-clause-proper g c =
+    carried c.a_new_stage_is_staging.ensures (g.T.Tree.history c.args.tree.now) (g.T.Tree.history c.look_at_each.new.tree) c.args.stage.now _ _ c.args.writes.now c.requires.new c.look_at_each.ensures.same
+    (λ v contents. HasRoomBeside (files_of v) → HasRoomBeside (after_actions c.args.stage.now.intent (with_staged 1 contents (files_of v))) → (g.T.Tree.counts c.carry_through.new.tree).misuses ≡ (g.T.Tree.counts c.args.tree.now).misuses)
+    (λ v contents staging stand room more.
+    c.in_err-carry_through.ensures.proper contents v (g.T.Tree.history c.args.tree.now) (c.in_ok-stage_each.ensures.staging contents v (g.T.Tree.history c.args.tree.now) staging stand) room
+    (subst (λ (s : Staging). HasRoomBeside (after_actions s.intent (with_staged 1 contents (files_of v)))) (sym c.in_ok-stage_each.ensures.view) more)
+    ∙ (c.in_ok-stage_each.ensures.proper contents v (g.T.Tree.history c.args.tree.now) staging stand room ∙ where_seen (g.T.Tree.history c.args.tree.now) v _ staging.start c.look_at_each.ensures.proper))
+
+pub returns-clause-run : goal.returns-clause-run
+returns-clause-run g c =
+    carried c.a_new_stage_is_staging.ensures (g.T.Tree.history c.args.tree.now) (g.T.Tree.history c.look_at_each.new.tree) c.args.stage.now _ _ c.args.writes.now c.requires.new c.look_at_each.ensures.same
+    (λ v contents. IsCarriedTo {A = Unit {0}} (after_actions c.args.stage.now.intent (with_staged 1 contents (files_of v))) v (g.T.Tree.history c.args.tree.now) (g.T.Tree.history c.carry_through.new.tree) (Ok tt))
+    (λ v contents staging stand. record {
+      run = subst (λ (s : Staging). IsStageRun (after_actions s.intent (with_staged 1 contents (files_of v))) v (g.T.Tree.history c.args.tree.now) (g.T.Tree.history c.carry_through.new.tree)) c.in_ok-stage_each.ensures.view
+          (c.in_ok-carry_through.ensures.run contents v (g.T.Tree.history c.args.tree.now) (c.in_ok-stage_each.ensures.staging contents v (g.T.Tree.history c.args.tree.now) staging stand));
+      ok = subst (λ (s : Staging). IsStageRunDone (after_actions s.intent (with_staged 1 contents (files_of v))) v (g.T.Tree.history c.carry_through.new.tree)) c.in_ok-stage_each.ensures.view
+          (c.in_ok-carry_through.ensures.done contents v (g.T.Tree.history c.args.tree.now) (c.in_ok-stage_each.ensures.staging contents v (g.T.Tree.history c.args.tree.now) staging stand));
+      err = tt;
+    })
+
+pub returns-clause-proper : goal.returns-clause-proper
+returns-clause-proper g c =
+    carried c.a_new_stage_is_staging.ensures (g.T.Tree.history c.args.tree.now) (g.T.Tree.history c.look_at_each.new.tree) c.args.stage.now _ _ c.args.writes.now c.requires.new c.look_at_each.ensures.same
+    (λ v contents. HasRoomBeside (files_of v) → HasRoomBeside (after_actions c.args.stage.now.intent (with_staged 1 contents (files_of v))) → (g.T.Tree.counts c.carry_through.new.tree).misuses ≡ (g.T.Tree.counts c.args.tree.now).misuses)
+    (λ v contents staging stand room more.
+    c.in_ok-carry_through.ensures.proper contents v (g.T.Tree.history c.args.tree.now) (c.in_ok-stage_each.ensures.staging contents v (g.T.Tree.history c.args.tree.now) staging stand) room
+    (subst (λ (s : Staging). HasRoomBeside (after_actions s.intent (with_staged 1 contents (files_of v)))) (sym c.in_ok-stage_each.ensures.view) more)
+    ∙ (c.in_ok-stage_each.ensures.proper contents v (g.T.Tree.history c.args.tree.now) staging stand room ∙ where_seen (g.T.Tree.history c.args.tree.now) v _ staging.start c.look_at_each.ensures.proper))

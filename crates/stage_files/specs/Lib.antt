@@ -1,0 +1,4 @@
+-- what only inner contracts and proofs use
+pub mod Reading
+pub mod Sources
+pub mod Carried

@@ -1,0 +1,49 @@
+-- Which bytes stand behind what is to be staged.
+use Rattle.std.specs.Prelude.{◌≡◌, ℕ, List, Some, length, slice_get}
+use Rattle.base_core.specs.Files.{Files}
+use Rattle.file_guard.specs.AsListed.{link_to}
+use Rattle.package_test.specs.Tested.{IsTestedOf}
+use Rattle.pkg_core.specs.Contents.{bytes_of_file, contents_in}
+use Rattle.pkg_core.specs.Whole.{files_in_file}
+use Rattle.stage_files.specs.declared.source.PackagedFile.{PackagedFile}
+use Rattle.stage_files.specs.declared.source.Source.{Source}
+use Rattle.stage_files.specs.declared.source.Source.TheVariants.{Bytes, File, Link}
+use Rattle.stage_files.specs.declared.source.StagedWrite.{StagedWrite}
+
+-- ---- one source
+
+-- these files have the package, and its file has these bytes
+pub record IsFileSource (files : Files) (f : PackagedFile) (bytes : List ℕ) : Type 0 where
+  pub name : List ℕ
+  pub pkg : List ℕ
+  pub there : files name ≡ Some pkg
+  pub tested : IsTestedOf name pkg f.package.now
+  pub is : bytes ≡ bytes_of_file f.folder f.file (contents_in (files_in_file pkg))
+
+-- over these files it stands for these bytes
+abbrev pub StandsFor : Files → Source → List ℕ → Type 0
+StandsFor files (Bytes own) bytes = bytes ≡ own.now
+StandsFor files (Link target) bytes = bytes ≡ link_to target.now
+StandsFor files (File f) bytes = IsFileSource files f bytes
+
+-- it is a file of the package at this place
+abbrev pub IsFileAt : ℕ → Source → Type 0
+IsFileAt member (Bytes own) = ⊥
+IsFileAt member (Link target) = ⊥
+IsFileAt member (File f) = f.member ≡ member
+
+-- ---- those of several writes
+
+-- the source of each stands for the bytes at its place
+pub record StandForEach (files : Files) (writes : List StagedWrite) (contents : List (List ℕ)) :
+    Type 0 where
+  pub same : length contents ≡ length writes
+  pub each : (i : ℕ) (w : StagedWrite) (bytes : List ℕ) → slice_get writes i ≡ Some w
+      → slice_get contents i ≡ Some bytes → StandsFor files w.source bytes
+
+-- one of them is a file of the package at this place
+pub record HasFileOf (member : ℕ) (writes : List StagedWrite) : Type 0 where
+  pub number : ℕ
+  pub write : StagedWrite
+  pub at : slice_get writes number ≡ Some write
+  pub is : IsFileAt member write.source

@@ -1,0 +1,60 @@
+//! A file of a package is staged, piece by piece.
+ghost use Rattle.std.specs.Prelude.{◌≡◌, ◌<◌, ◌+◌, ◌++◌, ◌∷◌, [], ℕ, false, List, None, length, IfErr, IsErrOf, OnOk};
+ghost use Rattle.base_core.specs.Faults.{GoesOn, HasCause, IsNoFault};
+ghost use Rattle.base_core.specs.Tree.{TreeState, files_of};
+ghost use Rattle.journal_core.specs.Staged.{HasRoomBeside};
+ghost use Rattle.piece_reader.specs.declared.fault.PieceFault.TheVariants.{Disk as DiskFault};
+ghost use Rattle.stage_files.specs.Reading.{IsReadingIn};
+ghost use Rattle.stage_run.specs.StageRun.{IsStaging, IsStagingRun};
+
+use base_core::Tree;
+use journal_core::Stage;
+use piece_reader::{FilePieces, Piece, PieceFault};
+use stage_run::{append_piece, begin_file, end_file};
+
+/// Stages a file of a package, which is read piece by piece into a buffer.
+///
+/// # Errors
+///
+/// `Bad` where the file does not have its digest any more, or `Disk` where the tree failed.
+pub(crate) fn stage_file<T: Tree>(
+    stage: &mut Stage,
+    tree: &mut T,
+    mut file: FilePieces<'_>,
+    piece: &mut Piece,
+) -> Result<(), PieceFault>
+    requires closed { stage.old.is_open ≡ false }
+    requires more { stage.old.staged < length stage.old.intent.writes }
+
+    // Where the tree shows the package only what waits has changed at each moment, and the file's
+    // bytes wait; and only the tree may fail.
+    ensures run { (contents : List (List ℕ)) (v : TreeState) (first : List TreeState)
+        (bytes : List ℕ) → IsStaging stage.old contents None v first (T.history tree.old)
+        → IsReadingIn (files_of v) file.entry bytes → IsStagingRun v first (T.history tree.new) }
+    ensures staging { (contents : List (List ℕ)) (v : TreeState) (first : List TreeState)
+        (bytes : List ℕ) → IsStaging stage.old contents None v first (T.history tree.old)
+        → IsReadingIn (files_of v) file.entry bytes
+        → OnOk result (IsStaging stage.new (contents ++ bytes ∷ []) None v first
+        (T.history tree.new)) }
+    ensures good { (contents : List (List ℕ)) (v : TreeState) (first : List TreeState)
+        (bytes : List ℕ) → IsStaging stage.old contents None v first (T.history tree.old)
+        → IsReadingIn (files_of v) file.entry bytes
+        → IfErr result (λ fault. fault ≡ DiskFault) }
+    ensures view { OnOk result (stage.new ≡ record stage.old { staged = stage.old.staged + 1 }) }
+    ensures goes_on { GoesOn (T.counts tree.old) (T.counts tree.new) }
+    ensures disk { IsErrOf result DiskFault → HasCause (T.counts tree.old) (T.counts tree.new) }
+    ensures kept { OnOk result (IsNoFault (T.counts tree.old) (T.counts tree.new)) }
+    ensures others { IfErr result (λ fault. (fault ≡ DiskFault → ⊥)
+        → IsNoFault (T.counts tree.old) (T.counts tree.new)) }
+    ensures proper { (contents : List (List ℕ)) (v : TreeState) (first : List TreeState)
+        (bytes : List ℕ) → IsStaging stage.old contents None v first (T.history tree.old)
+        → IsReadingIn (files_of v) file.entry bytes → HasRoomBeside (files_of v)
+        → (T.counts tree.new).misuses ≡ (T.counts tree.old).misuses }
+{
+    begin_file(stage, tree)?;
+    'pieces: while file.next_piece(tree, piece)? {
+        append_piece(stage, tree, piece.bytes())?;
+    }
+    end_file(stage, tree)?;
+    Ok(())
+}

@@ -1,0 +1,146 @@
+//! The writes of a change are staged, one after another.
+ghost use Rattle.std.specs.Prelude.{◌≡◌, ◌<◌, ◌+◌, ◌++◌, ◌∷◌, [], ℕ, false, List, None, drop, length, IfErr, IsErrOf, OnOk, OnErr};
+ghost use Rattle.base_core.specs.Faults.{GoesOn, HasCause, IsNoFault};
+ghost use Rattle.base_core.specs.Files.{Files};
+ghost use Rattle.base_core.specs.Tree.{TreeState, files_of};
+ghost use Rattle.base_core.specs.declared.cause.Cause.{Cause};
+ghost use Rattle.file_guard.specs.AsListed.{link_to};
+ghost use Rattle.journal_core.specs.Staged.{HasRoomBeside};
+ghost use Rattle.stage_files.specs.Sources.{HasFileOf, IsFileAt, IsFileSource, StandForEach, StandsFor};
+ghost use Rattle.stage_files.specs.declared.fault.StageFault.TheVariants.{Bad, Disk as DiskFault};
+ghost use Rattle.stage_run.specs.StageRun.{IsStaging, IsStagingRun};
+
+use crate::fault::StageFault;
+use crate::file::stage_file;
+use crate::source::{PackagedFile, Source, StagedWrite};
+use base_core::{Disk, Tree};
+use journal_core::Stage;
+use piece_reader::{Piece, PieceFault};
+use stage_run::{append_piece, begin_file, end_file, stage_bytes};
+
+/// What stands in front of a link's text.
+const LINK_MARK: &[u8] = b"!<symlink>";
+
+/// The text of a link, behind a number of two bytes.
+fn link_text(target: &[u8]) -> &[u8]
+    ensures { result.now ≡ drop 2 target.now }
+{
+    if target.len() < 2 {
+        return &[];
+    }
+    &target[2..]
+}
+
+/// Stages the bytes that stand for a link.
+fn stage_link<T: Tree>(stage: &mut Stage, tree: &mut T, target: &[u8]) -> Result<(), Disk>
+    requires closed { stage.old.is_open ≡ false }
+    requires more { stage.old.staged < length stage.old.intent.writes }
+    ensures run { (contents : List (List ℕ)) (v : TreeState) (first : List TreeState)
+        → IsStaging stage.old contents None v first (T.history tree.old)
+        → IsStagingRun v first (T.history tree.new) }
+    ensures staging { (contents : List (List ℕ)) (v : TreeState) (first : List TreeState)
+        → IsStaging stage.old contents None v first (T.history tree.old)
+        → OnOk result (IsStaging stage.new (contents ++ link_to target.now ∷ []) None v first
+        (T.history tree.new)) }
+    ensures view { OnOk result (stage.new ≡ record stage.old { staged = stage.old.staged + 1 }) }
+    ensures goes_on { GoesOn (T.counts tree.old) (T.counts tree.new) }
+    ensures cause { OnErr result (HasCause (T.counts tree.old) (T.counts tree.new)) }
+    ensures kept { OnOk result (IsNoFault (T.counts tree.old) (T.counts tree.new)) }
+    ensures proper { (contents : List (List ℕ)) (v : TreeState) (first : List TreeState)
+        → IsStaging stage.old contents None v first (T.history tree.old)
+        → HasRoomBeside (files_of v)
+        → (T.counts tree.new).misuses ≡ (T.counts tree.old).misuses }
+{
+    begin_file(stage, tree)?;
+    append_piece(stage, tree, LINK_MARK)?;
+    append_piece(stage, tree, link_text(target))?;
+    end_file(stage, tree)
+}
+
+/// Stages a file of a package.
+///
+/// # Errors
+///
+/// `Bad` where the file does not have its digest any more, or `Disk` where the tree failed.
+fn stage_packaged<T: Tree>(
+    stage: &mut Stage,
+    tree: &mut T,
+    f: &PackagedFile<'_>,
+    piece: &mut Piece,
+) -> Result<(), StageFault>
+    requires closed { stage.old.is_open ≡ false }
+    requires more { stage.old.staged < length stage.old.intent.writes }
+    ensures run { (contents : List (List ℕ)) (v : TreeState) (first : List TreeState)
+        (bytes : List ℕ) → IsStaging stage.old contents None v first (T.history tree.old)
+        → IsFileSource (files_of v) f.now bytes → IsStagingRun v first (T.history tree.new) }
+    ensures staging { (contents : List (List ℕ)) (v : TreeState) (first : List TreeState)
+        (bytes : List ℕ) → IsStaging stage.old contents None v first (T.history tree.old)
+        → IsFileSource (files_of v) f.now bytes
+        → OnOk result (IsStaging stage.new (contents ++ bytes ∷ []) None v first
+        (T.history tree.new)) }
+    ensures good { (contents : List (List ℕ)) (v : TreeState) (first : List TreeState)
+        (bytes : List ℕ) → IsStaging stage.old contents None v first (T.history tree.old)
+        → IsFileSource (files_of v) f.now bytes → IfErr result (λ fault. fault ≡ DiskFault) }
+    ensures bad { (member : ℕ) (cause : Cause) → IsErrOf result (Bad member cause)
+        → f.now.member ≡ member }
+    ensures view { OnOk result (stage.new ≡ record stage.old { staged = stage.old.staged + 1 }) }
+    ensures goes_on { GoesOn (T.counts tree.old) (T.counts tree.new) }
+    ensures disk { IsErrOf result DiskFault → HasCause (T.counts tree.old) (T.counts tree.new) }
+    ensures kept { OnOk result (IsNoFault (T.counts tree.old) (T.counts tree.new)) }
+    ensures others { IfErr result (λ fault. (fault ≡ DiskFault → ⊥)
+        → IsNoFault (T.counts tree.old) (T.counts tree.new)) }
+    ensures proper { (contents : List (List ℕ)) (v : TreeState) (first : List TreeState)
+        (bytes : List ℕ) → IsStaging stage.old contents None v first (T.history tree.old)
+        → IsFileSource (files_of v) f.now bytes → HasRoomBeside (files_of v)
+        → (T.counts tree.new).misuses ≡ (T.counts tree.old).misuses }
+{
+    let file = f.package.file(f.folder, f.file);
+    match stage_file(stage, tree, file, piece) {
+        Ok(()) => Ok(()),
+        Err(PieceFault::Bad(cause)) => Err(StageFault::Bad {
+            member: f.member,
+            cause,
+        }),
+        Err(PieceFault::Disk) => Err(StageFault::Disk),
+    }
+}
+
+/// Stages the file of one write.
+pub(crate) fn stage_write<T: Tree>(
+    stage: &mut Stage,
+    tree: &mut T,
+    source: &Source<'_>,
+    piece: &mut Piece,
+) -> Result<(), StageFault>
+    requires closed { stage.old.is_open ≡ false }
+    requires more { stage.old.staged < length stage.old.intent.writes }
+    ensures run { (contents : List (List ℕ)) (v : TreeState) (first : List TreeState)
+        (bytes : List ℕ) → IsStaging stage.old contents None v first (T.history tree.old)
+        → StandsFor (files_of v) source.now bytes → IsStagingRun v first (T.history tree.new) }
+    ensures staging { (contents : List (List ℕ)) (v : TreeState) (first : List TreeState)
+        (bytes : List ℕ) → IsStaging stage.old contents None v first (T.history tree.old)
+        → StandsFor (files_of v) source.now bytes
+        → OnOk result (IsStaging stage.new (contents ++ bytes ∷ []) None v first
+        (T.history tree.new)) }
+    ensures good { (contents : List (List ℕ)) (v : TreeState) (first : List TreeState)
+        (bytes : List ℕ) → IsStaging stage.old contents None v first (T.history tree.old)
+        → StandsFor (files_of v) source.now bytes → IfErr result (λ fault. fault ≡ DiskFault) }
+    ensures bad { (member : ℕ) (cause : Cause) → IsErrOf result (Bad member cause)
+        → IsFileAt member source.now }
+    ensures view { OnOk result (stage.new ≡ record stage.old { staged = stage.old.staged + 1 }) }
+    ensures goes_on { GoesOn (T.counts tree.old) (T.counts tree.new) }
+    ensures disk { IsErrOf result DiskFault → HasCause (T.counts tree.old) (T.counts tree.new) }
+    ensures kept { OnOk result (IsNoFault (T.counts tree.old) (T.counts tree.new)) }
+    ensures others { IfErr result (λ fault. (fault ≡ DiskFault → ⊥)
+        → IsNoFault (T.counts tree.old) (T.counts tree.new)) }
+    ensures proper { (contents : List (List ℕ)) (v : TreeState) (first : List TreeState)
+        (bytes : List ℕ) → IsStaging stage.old contents None v first (T.history tree.old)
+        → StandsFor (files_of v) source.now bytes → HasRoomBeside (files_of v)
+        → (T.counts tree.new).misuses ≡ (T.counts tree.old).misuses }
+{
+    match source {
+        Source::Bytes(bytes) => Ok(stage_bytes(stage, tree, bytes)?),
+        Source::Link(target) => Ok(stage_link(stage, tree, target)?),
+        Source::File(f) => stage_packaged(stage, tree, f, piece),
+    }
+}
