@@ -1,5 +1,5 @@
 -- A run behind a recovery.
-use Rattle.std.proofs.Common.{◌≡◌, inl, inr, ℕ, Bool, true, false, List, [], ◌∷◌, ◌++◌, append_assoc, Option, None, Some, IsSome, Err, refl, sym, ap, subst, ◌∙◌, arith}
+use Rattle.std.proofs.Common.{◌≡◌, inl, inr, ℕ, Bool, true, false, List, [], ◌∷◌, ◌++◌, append_assoc, Option, None, IsSome, Err, sym, ap, subst, ◌∙◌, arith}
 use Rattle.std.specs.Prelude.{is_some, All, IsErrOf, OnOk}
 use Rattle.std.proofs.lemmas.Bool.{false≢true}
 use Rattle.std.proofs.lemmas.List.{append_cancel_right}
@@ -12,17 +12,17 @@ use Rattle.base_core.specs.Tree.{TreeState, files_of}
 use Rattle.base_core.specs.declared.cause.Cause.{Cause}
 use Rattle.base_core.specs.declared.tree.TreeFault.{TreeFault}
 use Rattle.base_core.specs.declared.tree.TreeFault.TheVariants.{Memory as NoMemory}
-use Rattle.journal_core.specs.Kept.{IsLessWaiting, KeepsMapsBut, ShownNamesLast}
+use Rattle.journal_core.specs.Kept.{IsLessWaiting, ShownNamesLast}
 use Rattle.journal_core.specs.Quiet.{IsQuiet, IsStill}
 use Rattle.journal_core.specs.Recovery.{IsOldOrNew, IsSettled, RestsOn, intent_name, intent_of, state_of}
 use Rattle.journal_core.specs.Replacing.{IsReplacing}
 use Rattle.journal_core.specs.Staged.{IsEmptyStage, IsOnTheWay, unstaged_files}
-use Rattle.outcome.specs.Effect.{Effect, Makes, does_recover}
+use Rattle.outcome.specs.Effect.{Effect, does_recover}
 use Rattle.outcome.specs.Outcome.{Outcome}
 use Rattle.outcome.specs.Work.{recovery_fault, work_files}
-use Rattle.apk_front.specs.Moments.{AreOnTheWay, AreReadOnTheWay, AreSafe, CanRecover, HasNothingToRecover, IsAtRest, IsBehindRecovery, IsReadAtWork, IsRecovering, Settles, SettlesUnrecovered, UnreadNamesLast, ignored_but, output_names}
-use Rattle.apk_front.specs.Runs.{AreReadApart, IsReadApart, IsRun, IsWholeRun, IsWithoutCommit}
-use Rattle.apk_front.proofs.Runs.{History, Judged, Leaves, err_ok, off_scratch, on_ok, settled_before}
+use Rattle.apk_front.specs.Moments.{AreOnTheWay, AreReadOnTheWay, AreSafe, CanRecover, HasNothingToRecover, IsAtRest, IsBehindRecovery, IsReadAtWork, IsRecovering, Settles, SettlesUnrecovered, UnreadNamesLast, ignored_but}
+use Rattle.apk_front.specs.Runs.{AreReadAtWork, IsRun, IsWholeRun, IsWithoutCommit}
+use Rattle.apk_front.proofs.Runs.{History, Judged, Leaves, err_ok, on_ok, settled_before, since_weaker}
 
 -- ---- laws
 
@@ -72,9 +72,6 @@ since_both P Q R old mid now p q first then = record {
   each = All-append R then.added first.added (All-weaker Q R q then.added then.each) (All-weaker P R p first.added first.each);
 }
 
-since_weaker : (P Q : TreeState → Type 0) (old now : History) → ((w : TreeState) → P w → Q w) → Since P old now → Since Q old now
-since_weaker P Q old now f since = record { added = since.added; is = since.is; each = All-weaker P Q f since.added since.each }
-
 still_replaces : AreLaws → (ignored : Ignored) (files : Files) (v w : TreeState) → IsStill ignored v w → IsReplacing ignored files v w
 still_replaces laws ignored files v w still = record { orderly = still.orderly; old_or_new = laws.quiet ignored v w files still.quiet; made = still.made }
 
@@ -118,9 +115,9 @@ settles_behind laws effect ignored v u o still found (inr (recovers, some)) = in
 abbrev pub StaysWithout : History → History → Judged → Type 0
 StaysWithout old now judged = IsErrOf judged NoMemory → now ≡ old
 
-unwritten : (A B : Outcome → Type 0) (output : Option (List ℕ)) (judged : Judged) (u : TreeState) (mid now : History) → ((o : Outcome) → B o → A o) → IsRun A output judged u mid now → StaysWithout mid now judged → IsWithoutCommit B judged → now ≡ mid
-unwritten A B output judged u mid now from run memory (inl none) = memory none
-unwritten A B output judged u mid now from run memory (inr (o, one, commits)) = run.idle o (from o one) commits
+unwritten : (A B : Outcome → Type 0) (effect : Effect) (output : Option (List ℕ)) (judged : Judged) (u : TreeState) (mid now : History) → ((o : Outcome) → B o → A o) → IsRun A effect output judged u mid now → StaysWithout mid now judged → IsWithoutCommit B judged → now ≡ mid
+unwritten A B effect output judged u mid now from run memory (inl none) = memory none
+unwritten A B effect output judged u mid now from run memory (inr (o, one, commits)) = run.idle o (from o one) commits
 
 none_since : (P : TreeState → Type 0) (old now : History) → now ≡ old → Since P old now
 none_since P old now same = record { added = []; is = same; each = All-nil P }
@@ -168,35 +165,21 @@ recovering v old mid recovery =
     since_weaker (λ w. RecoversAs v w × IsLessWaiting v w) (IsRecovering v) old mid (λ w both. record { reads = both.0; waiting = both.1 })
     (since_and (RecoversAs v) (IsLessWaiting v) old mid recovery.reads recovery.waiting)
 
--- only a command that makes a file has an output
-abbrev pub MakesOutput : Effect → Option (List ℕ) → Type 0
-MakesOutput effect output = (name : List ℕ) → output ≡ Some name → effect ≡ Makes
-
-at_work : (effect : Effect) (output : Option (List ℕ)) (new old : Files) (w : TreeState) → MakesOutput effect output → IsReadApart output new old w → IsReadAtWork effect output new old w
-at_work effect None new old w makes same = inl (λ q off. ap (λ (f : Files). f q) same)
-at_work effect (Some name) new old w makes (inl others) = inl (λ q off. others q (off_scratch effect name q (makes name refl) off))
-at_work effect (Some name) new old w makes (inr is) = inr (inr is)
-
-reads_behind : (A B : Outcome → Type 0) (effect : Effect) (output : Option (List ℕ)) (v u : TreeState) (old mid now : History) → does_recover effect ≡ true → MakesOutput effect output → files_of u ≡ work_files effect (files_of v) → ((o : Outcome) → A o → B o)
-    → Since (IsRecovering v) old mid → AreReadApart A output u mid now → AreReadOnTheWay B effect output v old now
-reads_behind A B effect output v u old mid now recovers makes work into first (inl same) =
+reads_behind : (A B : Outcome → Type 0) (effect : Effect) (output : Option (List ℕ)) (v u : TreeState) (old mid now : History) → does_recover effect ≡ true → files_of u ≡ work_files effect (files_of v) → ((o : Outcome) → A o → B o)
+    → Since (IsRecovering v) old mid → AreReadAtWork A effect output u mid now → AreReadOnTheWay B effect output v old now
+reads_behind A B effect output v u old mid now recovers work into first (inl same) =
     inl (since_both (IsRecovering v) (λ w. files_of w ≡ files_of u) (IsBehindRecovery effect (λ w. files_of w ≡ work_files effect (files_of v)) v) old mid now (λ w r. inl (recovers, r)) (λ w is. inr (is ∙ work)) first same)
-reads_behind A B effect output v u old mid now recovers makes work into first (inr (o, one, commits, apart)) =
+reads_behind A B effect output v u old mid now recovers work into first (inr (o, one, commits, at_work)) =
     inr (
       o,
       into o one,
       commits,
-      since_both (IsRecovering v) (IsReadApart output o.files (files_of u)) (IsBehindRecovery effect (IsReadAtWork effect output o.files (work_files effect (files_of v))) v) old mid now (λ w r. inl (recovers, r))
-          (λ w is. inr (at_work effect output o.files (work_files effect (files_of v)) w makes (subst (λ (f : Files). IsReadApart output o.files f w) work is))) first apart,
+      since_both (IsRecovering v) (IsReadAtWork effect output o.files (files_of u)) (IsBehindRecovery effect (IsReadAtWork effect output o.files (work_files effect (files_of v))) v) old mid now
+          (λ w r. inl (recovers, r))
+          (λ w is. inr (subst (λ (f : Files). IsReadAtWork effect output o.files f w) work is)) first at_work,
     )
 
 -- ---- the names
-
-names_kept : (output : Option (List ℕ)) (u w : TreeState) → ShownNamesLast u → KeepsMapsBut (output_names output) u w → UnreadNamesLast output w
-names_kept output u w last keeps none map among q off no_intent unstaged =
-    let (was, is_was, same) = keeps map among in
-    let (own, is_own, own_same) = keeps w.names (inl refl) in
-    same q off ∙ last was is_was q no_intent unstaged ∙ sym (own_same q off ∙ last own is_own q no_intent unstaged)
 
 unread_last : (output : Option (List ℕ)) (w : TreeState) → LastsUnread w → UnreadNamesLast output w
 unread_last output w last none map among q off no_intent unstaged = last none map among q no_intent unstaged
@@ -210,12 +193,12 @@ newest_last v u rest more (m ∷ added) some is each none =
     let same : u ≡ m = ap (first_or v) is in
     subst ShownNamesLast (sym same) (All-head LastsUnread m added each (subst (λ (w : TreeState). w.names intent_name ≡ None) same none))
 
-last_behind : (output : Option (List ℕ)) (v u : TreeState) (rest more now : History) → IsRecovery v (v ∷ rest) (u ∷ more) → u.names intent_name ≡ None → Since (KeepsMapsBut (output_names output) u) (u ∷ more) now
+last_behind : (output : Option (List ℕ)) (v u : TreeState) (rest more now : History) → IsRecovery v (v ∷ rest) (u ∷ more) → u.names intent_name ≡ None → (ShownNamesLast u → Since (UnreadNamesLast output) (u ∷ more) now)
     → IsSome (v.names intent_name) → Since (UnreadNamesLast output) (v ∷ rest) now
-last_behind output v u rest more now recovery none others some =
+last_behind output v u rest more now recovery none then some =
     let first = recovery.last some in
     let here = newest_last v u rest more first.added some first.is first.each none in
-    since_both LastsUnread (KeepsMapsBut (output_names output) u) (UnreadNamesLast output) (v ∷ rest) (u ∷ more) now (unread_last output) (λ w keeps. names_kept output u w here keeps) first others
+    since_both LastsUnread (UnreadNamesLast output) (UnreadNamesLast output) (v ∷ rest) (u ∷ more) now (unread_last output) (λ w last. last) first (then here)
 
 -- ---- the recovery ended well
 
@@ -223,9 +206,9 @@ no_fault_to_recover : (effect : Effect) (files : Files) (P : Type 0) → recover
 no_fault_to_recover effect files P none some = absurd (false≢true (sym (ap (λ (o : Option Cause). is_some o) none) ∙ some))
 
 pub whole_behind : AreLaws → (A B : Outcome → Type 0) (effect : Effect) (output : Option (List ℕ)) (judged : Judged) (v u : TreeState) (rest more now : History)
-    → does_recover effect ≡ true → MakesOutput effect output → recovery_fault effect (files_of v) ≡ None → files_of u ≡ work_files effect (files_of v) → u.names intent_name ≡ None → ((o : Outcome) → A o → B o) → ((o : Outcome) → B o → A o)
-    → IsRecovered v (v ∷ rest) (u ∷ more) → IsRun A output judged u (u ∷ more) now → StaysWithout (u ∷ more) now judged → IsWholeRun B effect output judged v (v ∷ rest) now
-whole_behind laws A B effect output judged v u rest more now recovers makes good work none into from recovered run memory =
+    → does_recover effect ≡ true → recovery_fault effect (files_of v) ≡ None → files_of u ≡ work_files effect (files_of v) → u.names intent_name ≡ None → ((o : Outcome) → A o → B o) → ((o : Outcome) → B o → A o)
+    → IsRecovered v (v ∷ rest) (u ∷ more) → IsRun A effect output judged u (u ∷ more) now → StaysWithout (u ∷ more) now judged → IsWholeRun B effect output judged v (v ∷ rest) now
+whole_behind laws A B effect output judged v u rest more now recovers good work none into from recovered run memory =
     let calm = recovered.recovery.calm in
     let still : (ignored : Ignored) → IsOrderly (RestsOn ignored) v → IsStill ignored v u = λ ignored orderly. newest laws ignored v u rest more orderly (calm ignored orderly) in
     let same : HasNothingToRecover effect v → u ∷ more ≡ v ∷ rest = λ nothing. nothing_done effect v (u ∷ more ≡ v ∷ rest) recovers recovered.recovery.idle nothing in
@@ -238,11 +221,11 @@ whole_behind laws A B effect output judged v u rest more now recovers makes good
           (settles_behind laws effect ignored v u o (still ignored orderly) (recovered.settled ignored orderly) lasts);
       at_rest = λ ignored o orderly hides one commits. run.at_rest ignored o (still ignored orderly).orderly hides (from o one) commits;
       left = λ without ignored orderly.
-          subst (λ (h : History). Since (IsStill ignored v) (v ∷ rest) h) (sym (unwritten A B output judged u (u ∷ more) now from run memory without)) (calm ignored orderly);
-      idle = λ without nothing. unwritten A B output judged u (u ∷ more) now from run memory without ∙ same nothing;
+          subst (λ (h : History). Since (IsStill ignored v) (v ∷ rest) h) (sym (unwritten A B effect output judged u (u ∷ more) now from run memory without)) (calm ignored orderly);
+      idle = λ without nothing. unwritten A B effect output judged u (u ∷ more) now from run memory without ∙ same nothing;
       bad = λ some. no_fault_to_recover effect (files_of v) (now ≡ v ∷ rest) good some;
-      reads = reads_behind A B effect output v u (v ∷ rest) (u ∷ more) now recovers makes work into (recovering v (v ∷ rest) (u ∷ more) recovered.recovery) run.reads;
-      last = last_behind output v u rest more now recovered.recovery none run.others;
+      reads = reads_behind A B effect output v u (v ∷ rest) (u ∷ more) now recovers work into (recovering v (v ∷ rest) (u ∷ more) recovered.recovery) run.reads;
+      last = last_behind output v u rest more now recovered.recovery none run.last;
       leaves = λ o one. run.leaves o (from o one);
     }
 

@@ -1,6 +1,6 @@
 -- A command behind a recovery: its outcomes.
-use Rattle.std.proofs.Common.{◌≡◌, inl, inr, ℕ, Bool, true, false, List, [], ◌∷◌, Option, Some, None, IsSome, Ok, Err, refl, sym, ap, subst, ◌∙◌}
-use Rattle.std.specs.Prelude.{IfOk, OnOk}
+use Rattle.std.proofs.Common.{◌≡◌, inl, inr, ℕ, Bool, true, List, [], ◌∷◌, Option, Some, None, IsSome, Ok, Err, refl, sym, ap, subst, ◌∙◌}
+use Rattle.std.specs.Prelude.{if◌then◌else◌, IfOk, OnOk}
 use Rattle.std.proofs.lemmas.Bool.{false≢true}
 use Rattle.adb_schema.specs.Soundness.{first_fault, payload_in, root_value}
 use Rattle.adb_tables.specs.declared.tables.Which.TheVariants.{Intent as IntentTable}
@@ -11,32 +11,24 @@ use Rattle.base_core.specs.Tree.{TreeState, files_of}
 use Rattle.base_core.specs.declared.cause.Cause.{Cause}
 use Rattle.command_core.specs.Command.{CommandLine}
 use Rattle.journal_core.specs.Kept.{IsLessWaiting}
-use Rattle.journal_core.specs.Recovery.{IsSettled, RestsOn, intent_at, intent_name, intent_of, intent_unless, read_intent}
+use Rattle.journal_core.specs.Recovery.{IsSettled, RestsOn, intent_at, intent_name, intent_of, intent_unless, read_intent, recovered_files}
 use Rattle.journal_core.specs.Staged.{HasRoomToReplay, IsEmptyStage, IsIntentFault, unstaged_files}
 use Rattle.journal_core.specs.declared.recovering.RecoverFault.{RecoverFault}
 use Rattle.journal_core.specs.declared.recovering.RecoverFault.TheVariants.{IntentBad as BadIntent}
 use Rattle.outcome.specs.Commands.{IsFoundOutcomeOf, IsFoundOver, IsOutcomeOf, IsOutcomeOver, IsOutcomeUnless}
-use Rattle.outcome.specs.Effect.{Effect, Computes, Reads, Tells, Makes, Changes, does_recover, effect_of, output_if}
+use Rattle.outcome.specs.Effect.{Effect, Computes, Reads, Tells, Makes, Changes, does_recover, effect_of}
 use Rattle.outcome.specs.Outcome.{Outcome, just_refusal}
 use Rattle.outcome.specs.Work.{fault_of_intent, recovery_fault, work_files}
 use Rattle.report_core.specs.declared.refusal.Refusal.TheVariants.{IntentBad}
-use Rattle.apk_front.specs.Moments.{HasRoomFor, HasRoomToWrite, LeavesRoomFor}
-use Rattle.apk_front.specs.Runs.{IsRun, IsWholeRun}
+use Rattle.apk_front.specs.Moments.{HasRoomToWrite, LeavesRoomFor}
+use Rattle.apk_front.specs.Runs.{HasNothingWaiting, IfNothingWaits, IsRun, IsWholeRun}
 use Rattle.apk_front.specs.Verdicts.{ReportsOne, as_outcome}
 use Rattle.apk_front.specs.declared.answer.Verdict.{Verdict}
 use Rattle.apk_front.proofs.Carried.{Ones, RoomFor, Wholes}
-use Rattle.apk_front.proofs.AfterRecovery.{AreLaws, IsCalm, IsRecovery, LastsUnread, LeavesAll, MakesOutput, RecoversAs, StaysWithout, whole_behind, whole_failed, whole_idle}
+use Rattle.apk_front.proofs.AfterRecovery.{AreLaws, IsCalm, IsRecovery, LastsUnread, LeavesAll, RecoversAs, StaysWithout, whole_behind, whole_failed, whole_idle}
 use Rattle.apk_front.proofs.Runs.{History, Judged, Leaves, none_is_some}
 
 -- ---- a command that recovers
-
--- only a command that makes a file has an output
-pub outputs_make : (effect : Effect) (command : CommandLine) → MakesOutput effect (output_if effect command)
-outputs_make Computes command name is = cc
-outputs_make Reads command name is = cc
-outputs_make Tells command name is = cc
-outputs_make Makes command name is = refl
-outputs_make Changes command name is = cc
 
 work_is : (effect : Effect) (files : Files) → does_recover effect ≡ true → work_files effect files ≡ unstaged_files files
 work_is Computes files recovering = cc
@@ -107,12 +99,18 @@ from command v u o recovering good left one =
     subst (λ (f : Files). IsOutcomeOver command f o) (sym (left.0 ∙ sym (work_is (effect_of command.applet) (files_of v) recovering)))
     (subst (λ (fault : Option Cause). IsOutcomeUnless fault command (files_of v) o) (good_is (effect_of command.applet) (files_of v) recovering good) one)
 
+-- nothing waits then
+nothing_waits : (v u : TreeState) → LeavesUnstaged v u → HasNothingWaiting u
+nothing_waits v u left = (left.1, λ q staged. ap (λ (f : Files). f q) left.0 ∙ ap (λ b. if b then None else recovered_files (files_of v) q) staged)
+
 pub behind_found : (command : CommandLine) (old mid : History) (judged : Judged) → does_recover (effect_of command.applet) ≡ true → IfObservable old IsGood → IfObservable old (λ v. HasNow mid (LeavesUnstaged v))
-    → IfOk judged (λ verdict. IfObservable mid (λ u. ReportsOne (Ones command u) verdict)) → IfOk judged (λ verdict. IfObservable old (λ v. ReportsOne (Wholes command v) verdict))
+    → IfOk judged (λ verdict. IfNothingWaits mid (λ u. ReportsOne (Ones command u) verdict)) → IfOk judged (λ verdict. IfObservable old (λ v. ReportsOne (Wholes command v) verdict))
 behind_found command old mid (Err e) recovering good left found = tt
 behind_found command [] mid (Ok verdict) recovering good left found = tt
 behind_found command (v ∷ rest) [] (Ok verdict) recovering good left found = absurd left
-behind_found command (v ∷ rest) (u ∷ more) (Ok verdict) recovering good left (o, one, reports) = (o, into command v u o recovering good left one, reports)
+behind_found command (v ∷ rest) (u ∷ more) (Ok verdict) recovering good left found =
+    let (o, one, reports) = found (nothing_waits v u left) in
+    (o, into command v u o recovering good left one, reports)
 
 pub behind_read : (command : CommandLine) (judged : Judged) → IfOk judged (ReportsOne (IsFoundOver command)) → IfOk judged (ReportsOne (IsFoundOutcomeOf (Ok command)))
 behind_read command (Err e) found = tt
@@ -124,31 +122,28 @@ Settled mid v = (ignored : List ℕ → Bool) → IsOrderly (RestsOn ignored) v 
 abbrev pub Idle : History → History → TreeState → Type 0
 Idle old mid v = v.names intent_name ≡ None → IsEmptyStage v.names → mid ≡ old
 
-pub behind_run : AreLaws → (command : CommandLine) (output : Option (List ℕ)) (judged : Judged) (old mid now : History) → does_recover (effect_of command.applet) ≡ true → MakesOutput (effect_of command.applet) output
+pub behind_run : AreLaws → (command : CommandLine) (output : Option (List ℕ)) (judged : Judged) (old mid now : History) → does_recover (effect_of command.applet) ≡ true
     → IfObservable old (λ v. IsRecovery v old mid) → IfObservable old IsGood → IfObservable old (λ v. HasNow mid (LeavesUnstaged v)) → IfObservable old (Settled mid)
-    → IfObservable mid (λ u. IsRun (Ones command u) output judged u mid now) → StaysWithout mid now judged
+    → IfNothingWaits mid (λ u. IsRun (Ones command u) (effect_of command.applet) output judged u mid now) → IfNothingWaits mid (λ u. StaysWithout mid now judged)
     → IfObservable old (λ v. IsWholeRun (Wholes command v) (effect_of command.applet) output judged v old now)
-behind_run laws command output judged [] mid now recovering makes recovery good left settled run memory = tt
-behind_run laws command output judged (v ∷ rest) [] now recovering makes recovery good left settled run memory = absurd left
-behind_run laws command output judged (v ∷ rest) (u ∷ more) now recovering makes recovery good left settled run memory =
-    whole_behind laws (Ones command u) (Wholes command v) (effect_of command.applet) output judged v u rest more now recovering makes
+behind_run laws command output judged [] mid now recovering recovery good left settled run memory = tt
+behind_run laws command output judged (v ∷ rest) [] now recovering recovery good left settled run memory = absurd left
+behind_run laws command output judged (v ∷ rest) (u ∷ more) now recovering recovery good left settled run memory =
+    whole_behind laws (Ones command u) (Wholes command v) (effect_of command.applet) output judged v u rest more now recovering
     (good_is (effect_of command.applet) (files_of v) recovering good) (left.0 ∙ sym (work_is (effect_of command.applet) (files_of v) recovering)) left.1
-    (λ o one. into command v u o recovering good left one) (λ o one. from command v u o recovering good left one) (record { recovery = recovery; files = left; settled = settled }) run memory
+    (λ o one. into command v u o recovering good left one) (λ o one. from command v u o recovering good left one) (record { recovery = recovery; files = left; settled = settled })
+    (run (nothing_waits v u left)) (memory (nothing_waits v u left))
 
-room_is : (effect : Effect) (output : Option (List ℕ)) (files : Files) → MakesOutput effect output → HasRoomToWrite effect output files → HasRoomFor output files
-room_is effect None files makes room = tt
-room_is effect (Some name) files makes room = subst (λ (e : Effect). HasRoomToWrite e (Some name) files) (makes name refl) room
-
-pub behind_proper : (command : CommandLine) (output : Option (List ℕ)) (old mid : History) (first second last : ℕ) → does_recover (effect_of command.applet) ≡ true → MakesOutput (effect_of command.applet) output → IfObservable old IsGood → IfObservable old (λ v. HasNow mid (LeavesUnstaged v))
-    → IfObservable old (λ v. HasRoomToReplay (files_of v) → second ≡ first) → IfObservable mid (λ u. RoomFor (Ones command u) output (files_of u) → last ≡ second)
+pub behind_proper : (command : CommandLine) (output : Option (List ℕ)) (old mid : History) (first second last : ℕ) → does_recover (effect_of command.applet) ≡ true → IfObservable old IsGood → IfObservable old (λ v. HasNow mid (LeavesUnstaged v))
+    → IfObservable old (λ v. HasRoomToReplay (files_of v) → second ≡ first) → IfNothingWaits mid (λ u. RoomFor (Ones command u) (effect_of command.applet) output (files_of u) → last ≡ second)
     → IfObservable old (λ v. LeavesRoomFor (effect_of command.applet) output (Wholes command v) (files_of v) → last ≡ first)
-behind_proper command output [] mid first second last recovering makes good left before after = tt
-behind_proper command output (v ∷ rest) [] first second last recovering makes good left before after = absurd left
-behind_proper command output (v ∷ rest) (u ∷ more) first second last recovering makes good left before after = λ room.
-    after
+behind_proper command output [] mid first second last recovering good left before after = tt
+behind_proper command output (v ∷ rest) [] first second last recovering good left before after = absurd left
+behind_proper command output (v ∷ rest) (u ∷ more) first second last recovering good left before after = λ room.
+    after (nothing_waits v u left)
     (λ o one commits.
-    subst (HasRoomFor output) (sym (left.0 ∙ sym (work_is (effect_of command.applet) (files_of v) recovering)))
-    (room_is (effect_of command.applet) output (work_files (effect_of command.applet) (files_of v)) makes (room.1 o (into command v u o recovering good left one) commits)))
+    subst (HasRoomToWrite (effect_of command.applet) output) (sym (left.0 ∙ sym (work_is (effect_of command.applet) (files_of v) recovering)))
+    (room.1 o (into command v u o recovering good left one) commits))
     ∙ before (room.0 recovering)
 
 -- ---- it did not

@@ -21,8 +21,9 @@ use Rattle.make_index.specs.Files.{AreFiles}
 use Rattle.make_info.specs.Reads.{Reads}
 use Rattle.outcome.specs.Dump.{adbdump, dump_outcome, text_outcome, dump_of}
 use Rattle.outcome.specs.Make.{mkndx, mkpkg}
-use Rattle.outcome.specs.Commands.{IsChosenFor, IsFoundOutcomeOf, IsFoundOver, MayBeListedFor, IsListingFor, IsOutcome, IsOutcomeOf, IsOutcomeOver, reads_in, applet_outcome, command_outcome}
-use Rattle.outcome.specs.Effect.{Effect, does_only_read, does_recover, effect_by, effect_of, output, output_by, output_if, reads_only}
+use Rattle.outcome.specs.Commands.{IsFoundOutcomeOf, IsFoundOver, IsOutcome, IsOutcomeOf, IsOutcomeOver, reads_in, applet_outcome, command_outcome}
+use Rattle.outcome.specs.Given.{Given, IsChosenFor, IsClashOfApplet, IsGiven, IsListingFor, MayBeGiven, MayBeListedFor, MayClash, nothing_given}
+use Rattle.outcome.specs.Effect.{Effect, Makes, does_only_read, does_recover, effect_by, effect_of, output, output_by, output_if, reads_only}
 use Rattle.outcome.specs.Work.{recovery_fault}
 use Rattle.outcome.specs.Outcome.{Outcome, just_refusal, just_report, outcome_of, report_unless}
 use Rattle.outcome.specs.Verify.{verify_refusal, sound_lines}
@@ -36,17 +37,17 @@ use Rattle.words_core.specs.Grammar.{command_of}
 use Rattle.words_core.specs.declared.read.WordsFault.{WordsFault}
 use Rattle.words_core.specs.declared.read.WordsFault.TheVariants.{Usage as WrongWord}
 use Rattle.command_core.specs.declared.command.Applet.{Applet}
-use Rattle.command_core.specs.declared.command.Applet.TheVariants.{Adbdump, Add, Mkndx, Mkpkg, Verify, Version}
+use Rattle.command_core.specs.declared.command.Applet.TheVariants.{Adbdump, Add, Del, Mkndx, Mkpkg, Verify, Version}
 use Rattle.command_core.specs.declared.operands.Operand.{Operand}
 use Rattle.apk_front.specs.Answers.{answer_by}
-use Rattle.apk_front.specs.Moments.{AnswersOutcome, AreReadOnTheWay, AreSafe, CommitsNothing, HasNothingToRecover, HasRoomFor, HidesScratchOf, IsAtRest, IsLeftUndone, LeavesAtRest, LeavesLasting, LeavesRoom, LeavesRoomFor, LeavesSettled, Settles, StagesNothing, UnreadNamesLast, ignored_but}
-use Rattle.apk_front.specs.Runs.{IsRun, IsWholeRun, IsWithoutCommit}
+use Rattle.apk_front.specs.Moments.{AnswersOutcome, AreReadOnTheWay, AreSafe, CommitsNothing, HasNothingToRecover, HasRoomToWrite, HidesScratchOf, IsAtRest, IsLeftUndone, LeavesAtRest, LeavesLasting, LeavesRoom, LeavesRoomFor, LeavesSettled, Settles, UnreadNamesLast, ignored_but}
+use Rattle.apk_front.specs.Runs.{IfNothingWaits, IsRun, IsWholeRun, IsWithoutCommit}
 use Rattle.apk_front.specs.Containers.{IsIndexOutcome, IsPackageOutcome}
 use Rattle.apk_front.specs.Verdicts.{IsPrinted, IsShown, Reports, ReportsOne, as_outcome}
 use Rattle.apk_front.specs.declared.answer.Answer.{Answer}
 use Rattle.apk_front.specs.declared.answer.Answer.TheVariants.{Ok as Done, Refused, TreeFault as TreeFailed, OutFault, Memory}
 use Rattle.apk_front.specs.declared.answer.Verdict.{Verdict}
-use Rattle.apk_front.proofs.Judged.{Runs, found_at, no_choice, no_listing, no_listing_by_some, of_over, over_of, reads_without}
+use Rattle.apk_front.proofs.Judged.{Runs, found_at, none_by_some, none_given, of_over, over_of, reads_without}
 use Rattle.apk_front.proofs.AfterRecovery.{LeavesAll, whole_idle}
 use Rattle.apk_front.proofs.Runs.{History, Judged, Leaves, ok_always, run_among}
 
@@ -68,18 +69,19 @@ dump_leaves : (files : Files) (os : List Operand) → Leaves files (adbdump (rea
 dump_leaves files [] = (refl, refl)
 dump_leaves files (o ∷ os) = found_leaves files o.place (files (without_dot o.text))
 
-look_leaves : (applet : Applet) (command : CommandLine) (names : List (List ℕ)) (chosen : Option (List ℕ)) (files : Files) → does_only_read (effect_of applet) ≡ true → Leaves files (applet_outcome applet command names chosen (reads_in files) files)
-look_leaves Verify command names chosen files reads = unless_leaves files (verify_refusal (reads_in files) 0 command.operands) (sound_lines command.operands)
-look_leaves Version command names chosen files reads =
+look_leaves : (applet : Applet) (command : CommandLine) (given : Given) (files : Files) → does_only_read (effect_of applet) ≡ true → Leaves files (applet_outcome applet command given (reads_in files) files)
+look_leaves Verify command given files reads = unless_leaves files (verify_refusal (reads_in files) 0 command.operands) (sound_lines command.operands)
+look_leaves Version command given files reads =
     elim command.flags.test as (λ b. Leaves files (if b then report_unless files (version_refusal command.operands) (order_report command.operands) else outcome_of (version_refusal command.operands) (invalid_lines command.operands) files)) [
       | true ↦ unless_leaves files (version_refusal command.operands) (order_report command.operands)
       | false ↦ (refl, refl)
     ]
-look_leaves Adbdump command names chosen files reads = dump_leaves files command.operands
-look_leaves Mkpkg command names chosen files reads = cc
-look_leaves Mkndx command names chosen files reads = cc
-look_leaves Add command names chosen files reads = cc
-look_leaves other command names chosen files reads = (refl, refl)
+look_leaves Adbdump command given files reads = dump_leaves files command.operands
+look_leaves Mkpkg command given files reads = cc
+look_leaves Mkndx command given files reads = cc
+look_leaves Add command given files reads = cc
+look_leaves Del command given files reads = cc
+look_leaves other command given files reads = (refl, refl)
 
 abbrev pub Ones : CommandLine → TreeState → Outcome → Type 0
 Ones command v = IsOutcomeOver command (files_of v)
@@ -88,16 +90,16 @@ Ones command v = IsOutcomeOver command (files_of v)
 abbrev pub Wholes : CommandLine → TreeState → Outcome → Type 0
 Wholes command v = IsOutcomeOf (Ok command) (files_of v)
 
-pub look_found : (command : CommandLine) (old : History) (judged : Judged) → does_only_read (effect_of command.applet) ≡ true → IfOk judged (λ verdict. IfObservable old (λ v. as_outcome (files_of v) verdict ≡ command_outcome command [] None (reads_in (files_of v)) (files_of v)))
+pub look_found : (command : CommandLine) (old : History) (judged : Judged) → does_only_read (effect_of command.applet) ≡ true → IfOk judged (λ verdict. IfObservable old (λ v. as_outcome (files_of v) verdict ≡ command_outcome command nothing_given (reads_in (files_of v)) (files_of v)))
     → IfOk judged (λ verdict. IfObservable old (λ v. ReportsOne (Wholes command v) verdict))
 look_found command old (Err e) reads found = tt
 look_found command [] (Ok verdict) reads found = tt
 look_found command (v ∷ rest) (Ok verdict) reads found =
-    (as_outcome (files_of v) verdict, of_over command (files_of v) (as_outcome (files_of v) verdict) (reads_without (effect_of command.applet) reads) ([], no_listing command.applet command (files_of v) reads, None, no_choice command.applet command (reads_in (files_of v)) reads, found), refl)
+    (as_outcome (files_of v) verdict, of_over command (files_of v) (as_outcome (files_of v) verdict) (reads_without (effect_of command.applet) reads) (nothing_given, none_given command (reads_in (files_of v)) (files_of v) reads, found), refl)
 
-pub look_read : (command : CommandLine) (judged : Judged) → does_only_read (effect_of command.applet) ≡ true → IfOk judged (λ verdict. (read : Reads) × (as_outcome no_names verdict ≡ command_outcome command [] None read no_names)) → IfOk judged (ReportsOne (IsFoundOutcomeOf (Ok command)))
+pub look_read : (command : CommandLine) (judged : Judged) → does_only_read (effect_of command.applet) ≡ true → IfOk judged (λ verdict. (read : Reads) × (as_outcome no_names verdict ≡ command_outcome command nothing_given read no_names)) → IfOk judged (ReportsOne (IsFoundOutcomeOf (Ok command)))
 look_read command (Err e) reads found = tt
-look_read command (Ok verdict) reads (read, is) = (as_outcome no_names verdict, inl ([], no_listing_by_some command.applet command reads, read, None, no_choice command.applet command read reads, is), refl)
+look_read command (Ok verdict) reads (read, is) = (as_outcome no_names verdict, inl (nothing_given, read, no_names, none_by_some command read reads, inl is), refl)
 
 pub look_run : (command : CommandLine) (old now : History) (judged : Judged) → does_only_read (effect_of command.applet) ≡ true → now ≡ old
     → IfObservable old (λ v. IsWholeRun (Wholes command v) (effect_of command.applet) (output_if (effect_of command.applet) command) judged v old now)
@@ -108,86 +110,118 @@ look_run command (v ∷ rest) now judged reads same =
     (λ o one.
     let is = over_of command (files_of v) o none one in
     ok_always (LeavesAll (effect_of command.applet) v o) judged
-    (subst (Leaves (files_of v)) (sym is.4) (look_leaves command.applet command is.0 is.2 (files_of v) reads), λ can. false≢true (sym none ∙ can.0)))
+    (subst (Leaves (files_of v)) (sym is.2) (look_leaves command.applet command is.0 (files_of v) reads), λ can. false≢true (sym none ∙ can.0)))
 
 -- ---- an applet that makes
 
+abbrev listed : List (List ℕ) → Given
+listed names = record { names = names; chosen = None; clash = None }
+
+made_given : (applet : Applet) (command : CommandLine) (files : Files) (names : List (List ℕ)) → effect_of applet ≡ Makes → IsListingFor applet command files names
+    → IsListingFor applet command files names × IsChosenFor applet command (reads_in files) None × IsClashOfApplet applet command (reads_in files) files None None
+made_given Mkpkg command files names makes are = (are, refl, refl)
+made_given Mkndx command files names makes are = (are, refl, refl)
+made_given other command files names makes are = cc
+
+given_of_names : (command : CommandLine) (files : Files) (names : List (List ℕ)) → effect_of command.applet ≡ Makes → IsListingFor command.applet command files names → IsGiven command (reads_in files) files (listed names)
+given_of_names command files names makes are = let (list, choice, clash) = made_given command.applet command files names makes are in record { names = list; chosen = choice; clash = clash }
+
+made_by_some : (applet : Applet) (command : CommandLine) (read : Reads) (names : List (List ℕ)) → effect_of applet ≡ Makes → MayBeListedFor applet command names
+    → MayBeListedFor applet command names × IsChosenFor applet command read None × MayClash applet None
+made_by_some Mkpkg command read names makes are = (are, refl, refl)
+made_by_some Mkndx command read names makes are = (are, refl, refl)
+made_by_some other command read names makes are = cc
+
+given_by_some : (command : CommandLine) (read : Reads) (names : List (List ℕ)) → effect_of command.applet ≡ Makes → MayBeListedFor command.applet command names → MayBeGiven command read (listed names)
+given_by_some command read names makes are = let (list, choice, clash) = made_by_some command.applet command read names makes are in record { names = list; chosen = choice; clash = clash }
+
+makes_package : (command : CommandLine) → Mkpkg ≡ command.applet → effect_of command.applet ≡ Makes
+makes_package command same = sym (ap effect_of same)
+
+makes_index : (command : CommandLine) → Mkndx ≡ command.applet → effect_of command.applet ≡ Makes
+makes_index command same = sym (ap effect_of same)
+
 package_one : (command : CommandLine) (files : Files) (o : Outcome) → Mkpkg ≡ command.applet → IsPackageOutcome command files o → IsOutcomeOver command files o
-package_one command files o same (names, listed, is) =
-    (names, subst (λ (a : Applet). IsListingFor a command files names) same listed, None, subst (λ (a : Applet). IsChosenFor a command (reads_in files) None) same refl, is ∙ ap (λ (a : Applet). applet_outcome a command names None (reads_in files) files) same)
+package_one command files o same (names, are, is) =
+    (listed names, given_of_names command files names (makes_package command same) (subst (λ (a : Applet). IsListingFor a command files names) same are), is ∙ ap (λ (a : Applet). applet_outcome a command (listed names) (reads_in files) files) same)
 
 one_package : (command : CommandLine) (files : Files) (o : Outcome) → Mkpkg ≡ command.applet → IsOutcomeOver command files o → IsPackageOutcome command files o
-one_package command files o same (names, listed, chosen, choice, is) =
-    (names, subst (λ (a : Applet). IsListingFor a command files names) (sym same) listed, is ∙ ap (λ (a : Applet). applet_outcome a command names chosen (reads_in files) files) (sym same))
+one_package command files o same (given, are, is) =
+    (given.names, subst (λ (a : Applet). IsListingFor a command files given.names) (sym same) are.names, is ∙ ap (λ (a : Applet). applet_outcome a command given (reads_in files) files) (sym same))
 
 index_one : (command : CommandLine) (files : Files) (o : Outcome) → Mkndx ≡ command.applet → IsIndexOutcome command files o → IsOutcomeOver command files o
 index_one command files o same is =
-    ([], subst (λ (a : Applet). IsListingFor a command files []) same refl, None, subst (λ (a : Applet). IsChosenFor a command (reads_in files) None) same refl, is ∙ ap (λ (a : Applet). applet_outcome a command [] None (reads_in files) files) same)
+    (listed [], given_of_names command files [] (makes_index command same) (subst (λ (a : Applet). IsListingFor a command files []) same refl), is ∙ ap (λ (a : Applet). applet_outcome a command (listed []) (reads_in files) files) same)
 
 one_index : (command : CommandLine) (files : Files) (o : Outcome) → Mkndx ≡ command.applet → IsOutcomeOver command files o → IsIndexOutcome command files o
-one_index command files o same (names, listed, chosen, choice, is) = is ∙ ap (λ (a : Applet). applet_outcome a command names chosen (reads_in files) files) (sym same)
+one_index command files o same (given, are, is) = is ∙ ap (λ (a : Applet). applet_outcome a command given (reads_in files) files) (sym same)
 
 reports_among : (A B : TreeState → Outcome → Type 0) (old : History) (judged : Judged) → ((v : TreeState) (o : Outcome) → A v o → B v o) → IfOk judged (λ verdict. IfObservable old (λ v. ReportsOne (A v) verdict))
-    → IfOk judged (λ verdict. IfObservable old (λ v. ReportsOne (B v) verdict))
+    → IfOk judged (λ verdict. IfNothingWaits old (λ v. ReportsOne (B v) verdict))
 reports_among A B old (Err e) f found = tt
 reports_among A B [] (Ok verdict) f found = tt
-reports_among A B (v ∷ rest) (Ok verdict) f (o, one, reports) = (o, f v o one, reports)
+reports_among A B (v ∷ rest) (Ok verdict) f (o, one, reports) = λ nothing. (o, f v o one, reports)
 
 pub package_found_one : (command : CommandLine) (old : History) (judged : Judged) → Mkpkg ≡ command.applet → IfOk judged (λ verdict. IfObservable old (λ v. ReportsOne (IsPackageOutcome command (files_of v)) verdict))
-    → IfOk judged (λ verdict. IfObservable old (λ v. ReportsOne (Ones command v) verdict))
+    → IfOk judged (λ verdict. IfNothingWaits old (λ v. ReportsOne (Ones command v) verdict))
 package_found_one command old judged same found = reports_among (λ v. IsPackageOutcome command (files_of v)) (Ones command) old judged (λ v o one. package_one command (files_of v) o same one) found
 
 pub index_found_one : (command : CommandLine) (old : History) (judged : Judged) → Mkndx ≡ command.applet → IfOk judged (λ verdict. IfObservable old (λ v. ReportsOne (IsIndexOutcome command (files_of v)) verdict))
-    → IfOk judged (λ verdict. IfObservable old (λ v. ReportsOne (Ones command v) verdict))
+    → IfOk judged (λ verdict. IfNothingWaits old (λ v. ReportsOne (Ones command v) verdict))
 index_found_one command old judged same found = reports_among (λ v. IsIndexOutcome command (files_of v)) (Ones command) old judged (λ v o one. index_one command (files_of v) o same one) found
 
 pub package_read_one : (command : CommandLine) (judged : Judged) → Mkpkg ≡ command.applet → IfOk judged (λ verdict. (names : List (List ℕ)) × AreNamesFor (values_with FILES command.values) names × (read : Reads) × Reports verdict (mkpkg read no_names command names))
     → IfOk judged (ReportsOne (IsFoundOver command))
 package_read_one command (Err e) same found = tt
 package_read_one command (Ok verdict) same (names, named, read, reports) =
-    (mkpkg read no_names command names, (names, subst (λ (a : Applet). MayBeListedFor a command names) same named, read, None, subst (λ (a : Applet). IsChosenFor a command read None) same refl, ap (λ (a : Applet). applet_outcome a command names None read no_names) same), reports)
+    (mkpkg read no_names command names, (listed names, read, no_names, given_by_some command read names (makes_package command same) (subst (λ (a : Applet). MayBeListedFor a command names) same named), inl (ap (λ (a : Applet). applet_outcome a command (listed names) read no_names) same)), reports)
 
 pub index_read_one : (command : CommandLine) (judged : Judged) → Mkndx ≡ command.applet → IfOk judged (λ verdict. (read : Reads) × AreFiles read 0 command.operands × Reports verdict (mkndx read no_names command))
     → IfOk judged (ReportsOne (IsFoundOver command))
 index_read_one command (Err e) same found = tt
 index_read_one command (Ok verdict) same (read, files, reports) =
-    (mkndx read no_names command, ([], subst (λ (a : Applet). MayBeListedFor a command []) same refl, read, None, subst (λ (a : Applet). IsChosenFor a command read None) same refl, ap (λ (a : Applet). applet_outcome a command [] None read no_names) same), reports)
+    (mkndx read no_names command, (listed [], read, no_names, given_by_some command read [] (makes_index command same) (subst (λ (a : Applet). MayBeListedFor a command []) same refl), inl (ap (λ (a : Applet). applet_outcome a command (listed []) read no_names) same)), reports)
 
 runs_among : (A B : TreeState → Outcome → Type 0) (out : Option (List ℕ)) (judged : Judged) (old now : History) → ((v : TreeState) (o : Outcome) → A v o → B v o) → ((v : TreeState) (o : Outcome) → B v o → A v o)
-    → IfObservable old (λ v. IsRun (A v) out judged v old now) → IfObservable old (λ v. IsRun (B v) out judged v old now)
+    → IfObservable old (λ v. IsRun (A v) Makes out judged v old now) → IfNothingWaits old (λ v. IsRun (B v) Makes out judged v old now)
 runs_among A B out judged [] now into from run = tt
-runs_among A B out judged (v ∷ rest) now into from run = run_among (A v) (B v) out judged v (v ∷ rest) now (into v) (from v) run
+runs_among A B out judged (v ∷ rest) now into from run = λ nothing. run_among (A v) (B v) Makes out judged v (v ∷ rest) now (into v) (from v) run
 
-pub package_run : (command : CommandLine) (judged : Judged) (old now : History) → Mkpkg ≡ command.applet → IfObservable old (λ v. IsRun (IsPackageOutcome command (files_of v)) (output_name command) judged v old now)
-    → IfObservable old (λ v. IsRun (Ones command v) (output_if (effect_of command.applet) command) judged v old now)
+pub package_run : (command : CommandLine) (judged : Judged) (old now : History) → Mkpkg ≡ command.applet → IfObservable old (λ v. IsRun (IsPackageOutcome command (files_of v)) Makes (output_name command) judged v old now)
+    → IfNothingWaits old (λ v. IsRun (Ones command v) (effect_of command.applet) (output_if (effect_of command.applet) command) judged v old now)
 package_run command judged old now same run =
-    subst (λ (a : Applet). IfObservable old (λ v. IsRun (Ones command v) (output_if (effect_of a) command) judged v old now)) same
+    subst (λ (a : Applet). IfNothingWaits old (λ v. IsRun (Ones command v) (effect_of a) (output_if (effect_of a) command) judged v old now)) same
     (runs_among (λ v. IsPackageOutcome command (files_of v)) (Ones command) (output_name command) judged old now (λ v o one. package_one command (files_of v) o same one) (λ v o one. one_package command (files_of v) o same one) run)
 
-pub index_run : (command : CommandLine) (judged : Judged) (old now : History) → Mkndx ≡ command.applet → IfObservable old (λ v. IsRun (IsIndexOutcome command (files_of v)) (output_name command) judged v old now)
-    → IfObservable old (λ v. IsRun (Ones command v) (output_if (effect_of command.applet) command) judged v old now)
+pub index_run : (command : CommandLine) (judged : Judged) (old now : History) → Mkndx ≡ command.applet → IfObservable old (λ v. IsRun (IsIndexOutcome command (files_of v)) Makes (output_name command) judged v old now)
+    → IfNothingWaits old (λ v. IsRun (Ones command v) (effect_of command.applet) (output_if (effect_of command.applet) command) judged v old now)
 index_run command judged old now same run =
-    subst (λ (a : Applet). IfObservable old (λ v. IsRun (Ones command v) (output_if (effect_of a) command) judged v old now)) same
+    subst (λ (a : Applet). IfNothingWaits old (λ v. IsRun (Ones command v) (effect_of a) (output_if (effect_of a) command) judged v old now)) same
     (runs_among (λ v. IsIndexOutcome command (files_of v)) (Ones command) (output_name command) judged old now (λ v o one. index_one command (files_of v) o same one) (λ v o one. one_index command (files_of v) o same one) run)
 
+-- where memory ran out nothing was written
+pub undone_anyway : (old : History) (P : Type 0) → P → IfNothingWaits old (λ v. P)
+undone_anyway [] P p = tt
+undone_anyway (v ∷ rest) P p = λ nothing. p
+
 -- room for each of some outcomes
-abbrev pub RoomFor : (Outcome → Type 0) → Option (List ℕ) → Files → Type 0
-RoomFor IsOne out files = (o : Outcome) → IsOne o → o.commits ≡ true → HasRoomFor out files
+abbrev pub RoomFor : (Outcome → Type 0) → Effect → Option (List ℕ) → Files → Type 0
+RoomFor IsOne effect out files = (o : Outcome) → IsOne o → o.commits ≡ true → HasRoomToWrite effect out files
 
-rooms_among : (A B : TreeState → Outcome → Type 0) (out : Option (List ℕ)) (old : History) (P : Type 0) → ((v : TreeState) (o : Outcome) → A v o → B v o) → IfObservable old (λ v. RoomFor (A v) out (files_of v) → P) → IfObservable old (λ v. RoomFor (B v) out (files_of v) → P)
+rooms_among : (A B : TreeState → Outcome → Type 0) (out : Option (List ℕ)) (old : History) (P : Type 0) → ((v : TreeState) (o : Outcome) → A v o → B v o) → IfObservable old (λ v. RoomFor (A v) Makes out (files_of v) → P) → IfNothingWaits old (λ v. RoomFor (B v) Makes out (files_of v) → P)
 rooms_among A B out [] P f proper = tt
-rooms_among A B out (v ∷ rest) P f proper = λ room. proper (λ o one commits. room o (f v o one) commits)
+rooms_among A B out (v ∷ rest) P f proper = λ nothing room. proper (λ o one commits. room o (f v o one) commits)
 
-pub package_proper : (command : CommandLine) (old : History) (P : Type 0) → Mkpkg ≡ command.applet → IfObservable old (λ v. RoomFor (IsPackageOutcome command (files_of v)) (output_name command) (files_of v) → P)
-    → IfObservable old (λ v. RoomFor (Ones command v) (output_if (effect_of command.applet) command) (files_of v) → P)
+pub package_proper : (command : CommandLine) (old : History) (P : Type 0) → Mkpkg ≡ command.applet → IfObservable old (λ v. RoomFor (IsPackageOutcome command (files_of v)) Makes (output_name command) (files_of v) → P)
+    → IfNothingWaits old (λ v. RoomFor (Ones command v) (effect_of command.applet) (output_if (effect_of command.applet) command) (files_of v) → P)
 package_proper command old P same proper =
-    subst (λ (a : Applet). IfObservable old (λ v. RoomFor (Ones command v) (output_if (effect_of a) command) (files_of v) → P)) same
+    subst (λ (a : Applet). IfNothingWaits old (λ v. RoomFor (Ones command v) (effect_of a) (output_if (effect_of a) command) (files_of v) → P)) same
     (rooms_among (λ v. IsPackageOutcome command (files_of v)) (Ones command) (output_name command) old P (λ v o one. package_one command (files_of v) o same one) proper)
 
-pub index_proper : (command : CommandLine) (old : History) (P : Type 0) → Mkndx ≡ command.applet → IfObservable old (λ v. RoomFor (IsIndexOutcome command (files_of v)) (output_name command) (files_of v) → P)
-    → IfObservable old (λ v. RoomFor (Ones command v) (output_if (effect_of command.applet) command) (files_of v) → P)
+pub index_proper : (command : CommandLine) (old : History) (P : Type 0) → Mkndx ≡ command.applet → IfObservable old (λ v. RoomFor (IsIndexOutcome command (files_of v)) Makes (output_name command) (files_of v) → P)
+    → IfNothingWaits old (λ v. RoomFor (Ones command v) (effect_of command.applet) (output_if (effect_of command.applet) command) (files_of v) → P)
 index_proper command old P same proper =
-    subst (λ (a : Applet). IfObservable old (λ v. RoomFor (Ones command v) (output_if (effect_of a) command) (files_of v) → P)) same
+    subst (λ (a : Applet). IfNothingWaits old (λ v. RoomFor (Ones command v) (effect_of a) (output_if (effect_of a) command) (files_of v) → P)) same
     (rooms_among (λ v. IsIndexOutcome command (files_of v)) (Ones command) (output_name command) old P (λ v o one. index_one command (files_of v) o same one) proper)
 
 -- ---- the words
@@ -308,18 +342,10 @@ FindsOne words judged old = IfOk judged (λ verdict. IfObservable old (λ v. Rep
 found_first : (words : List (List ℕ)) (judged : Judged) (v : TreeState) (rest : History) → FindsOne words judged (v ∷ rest) → IfOk judged (ReportsOne (IsOutcome words (files_of v)))
 found_first words judged v rest found = found_at v rest judged (λ verdict w. ReportsOne (IsOutcome words (files_of w)) verdict) found
 
-staged_none : RefusesAll → (words : List (List ℕ)) (v : TreeState) (judged : Judged) (answer : Answer) (out err : SinkChange) → IsShown judged answer out err → IfOk judged (ReportsOne (IsOutcome words (files_of v)))
-    → StagesNothing (effect_by (command_of words)) (IsOutcome words (files_of v)) answer → IsWithoutCommit (IsOutcome words (files_of v)) judged
-staged_none law words v judged Done out err is_shown found one = without law words v judged Done out err is_shown found (inr one)
-staged_none law words v judged (Refused r) out err is_shown found one = without law words v judged (Refused r) out err is_shown found (inl tt)
-staged_none law words v judged TreeFailed out err is_shown found one = without law words v judged TreeFailed out err is_shown found (inr one)
-staged_none law words v judged OutFault out err is_shown found one = without law words v judged OutFault out err is_shown found (inr one)
-staged_none law words v judged Memory out err is_shown found one = without law words v judged Memory out err is_shown found (inl tt)
-
 pub idle_by : RefusesAll → (words : List (List ℕ)) (judged : Judged) (answer : Answer) (out err : SinkChange) (old now : History) → IsShown judged answer out err → FindsOne words judged old → Runs words judged old now
-    → IfObservable old (λ v. StagesNothing (effect_by (command_of words)) (IsOutcome words (files_of v)) answer → HasNothingToRecover (effect_by (command_of words)) v → now ≡ old)
+    → IfObservable old (λ v. CommitsNothing (IsOutcome words (files_of v)) answer → HasNothingToRecover (effect_by (command_of words)) v → now ≡ old)
 idle_by law words judged answer out err [] now is_shown found run = tt
-idle_by law words judged answer out err (v ∷ rest) now is_shown found run = λ nothing. run.idle (staged_none law words v judged answer out err is_shown (found_first words judged v rest found) nothing)
+idle_by law words judged answer out err (v ∷ rest) now is_shown found run = λ nothing. run.idle (without law words v judged answer out err is_shown (found_first words judged v rest found) nothing)
 
 pub left_by : RefusesAll → (words : List (List ℕ)) (judged : Judged) (answer : Answer) (out err : SinkChange) (old now : History) → IsShown judged answer out err → FindsOne words judged old → Runs words judged old now
     → IfObservable old (λ v. CommitsNothing (IsOutcome words (files_of v)) answer → (ignored : List ℕ → Bool) → IsOrderly (RestsOn ignored) v → Since (IsStill ignored v) old now)
@@ -350,44 +376,46 @@ usage_reported words [] verdict is = tt
 usage_reported words (v ∷ rest) verdict is = (as_outcome (files_of v) verdict, is v, refl)
 
 -- an applet that does not write only reads
-pub only_reads_unless : (applet : Applet) → (applet ≡ Mkpkg → ⊥) → (applet ≡ Mkndx → ⊥) → (applet ≡ Add → ⊥) → does_only_read (effect_of applet) ≡ true
-only_reads_unless Mkpkg p i a = absurd (p refl)
-only_reads_unless Mkndx p i a = absurd (i refl)
-only_reads_unless Add p i a = absurd (a refl)
-only_reads_unless other p i a = refl
+pub only_reads_unless : (applet : Applet) → (applet ≡ Mkpkg → ⊥) → (applet ≡ Mkndx → ⊥) → (applet ≡ Add → ⊥) → (applet ≡ Del → ⊥) → does_only_read (effect_of applet) ≡ true
+only_reads_unless Mkpkg p i a d = absurd (p refl)
+only_reads_unless Mkndx p i a d = absurd (i refl)
+only_reads_unless Add p i a d = absurd (a refl)
+only_reads_unless Del p i a d = absurd (d refl)
+only_reads_unless other p i a d = refl
 
-pub reads_one : (command : CommandLine) (applet : Applet) → applet ≡ command.applet → (applet ≡ Mkpkg → ⊥) → (applet ≡ Mkndx → ⊥) → (applet ≡ Add → ⊥) → does_only_read (effect_of command.applet) ≡ true
-reads_one command applet same p i n = subst (λ (a : Applet). does_only_read (effect_of a) ≡ true) same (only_reads_unless applet p i n)
+pub reads_one : (command : CommandLine) (applet : Applet) → applet ≡ command.applet → (applet ≡ Mkpkg → ⊥) → (applet ≡ Mkndx → ⊥) → (applet ≡ Add → ⊥) → (applet ≡ Del → ⊥) → does_only_read (effect_of command.applet) ≡ true
+reads_one command applet same p i a d = subst (λ (x : Applet). does_only_read (effect_of x) ≡ true) same (only_reads_unless applet p i a d)
 
 -- ---- an applet that no word names yet
 
 nothing_of : (applet : Applet) (command : CommandLine) → (applet ≡ Verify → ⊥) → (applet ≡ Version → ⊥) → (applet ≡ Adbdump → ⊥) → does_only_read (effect_of applet) ≡ true
-    → (read : Reads) (files : Files) → applet_outcome applet command [] None read files ≡ just_report files []
+    → (read : Reads) (files : Files) → applet_outcome applet command nothing_given read files ≡ just_report files []
 nothing_of Verify command v n d reads read files = absurd (v refl)
 nothing_of Version command v n d reads read files = absurd (n refl)
 nothing_of Adbdump command v n d reads read files = absurd (d refl)
 nothing_of Mkpkg command v n d reads read files = cc
 nothing_of Mkndx command v n d reads read files = cc
 nothing_of Add command v n d reads read files = cc
+nothing_of Del command v n d reads read files = cc
 nothing_of other command v n d reads read files = refl
 
 -- the outcome of a command is empty
 abbrev pub IsNothing : CommandLine → Type 0
-IsNothing command = (read : Reads) (files : Files) → command_outcome command [] None read files ≡ just_report files []
+IsNothing command = (read : Reads) (files : Files) → command_outcome command nothing_given read files ≡ just_report files []
 
 pub is_nothing : (command : CommandLine) (applet : Applet) → applet ≡ command.applet → (applet ≡ Verify → ⊥) → (applet ≡ Version → ⊥) → (applet ≡ Adbdump → ⊥) → does_only_read (effect_of command.applet) ≡ true → IsNothing command
 is_nothing command applet same v n d reads =
     nothing_of command.applet command (λ is. v (same ∙ is)) (λ is. n (same ∙ is)) (λ is. d (same ∙ is)) reads
 
 pub nothing_found : (old : History) (command : CommandLine) (verdict : Verdict) → IsNothing command → ((files : Files) → as_outcome files verdict ≡ just_report files [])
-    → IfObservable old (λ v. as_outcome (files_of v) verdict ≡ command_outcome command [] None (reads_in (files_of v)) (files_of v))
+    → IfObservable old (λ v. as_outcome (files_of v) verdict ≡ command_outcome command nothing_given (reads_in (files_of v)) (files_of v))
 nothing_found [] command verdict nothing is = tt
 nothing_found (v ∷ old) command verdict nothing is = is (files_of v) ∙ sym (nothing (reads_in (files_of v)) (files_of v))
 
-pub nothing_read : (command : CommandLine) (verdict : Verdict) → IsNothing command → ((files : Files) → as_outcome files verdict ≡ just_report files []) → (read : Reads) × (as_outcome no_names verdict ≡ command_outcome command [] None read no_names)
+pub nothing_read : (command : CommandLine) (verdict : Verdict) → IsNothing command → ((files : Files) → as_outcome files verdict ≡ just_report files []) → (read : Reads) × (as_outcome no_names verdict ≡ command_outcome command nothing_given read no_names)
 nothing_read command verdict nothing is = (λ k name. None, is no_names ∙ sym (nothing (λ k name. None) no_names))
 
-pub nothing_by_words : (command : CommandLine) (verdict : Verdict) → IsNothing command → ((files : Files) → as_outcome files verdict ≡ just_report files []) → (files : Files) → as_outcome files verdict ≡ command_outcome command [] None (reads_in files) files
+pub nothing_by_words : (command : CommandLine) (verdict : Verdict) → IsNothing command → ((files : Files) → as_outcome files verdict ≡ just_report files []) → (files : Files) → as_outcome files verdict ≡ command_outcome command nothing_given (reads_in files) files
 nothing_by_words command verdict nothing is files = is files ∙ sym (nothing (reads_in files) files)
 
 -- ---- what is said of every run

@@ -20,6 +20,7 @@ use Rattle.make_package.specs.Sources.{AreNamesFor, values_with}
 use Rattle.make_info.specs.declared.fault.MakeFault.{MakeFault}
 use Rattle.command_core.specs.declared.values.TheConstants.{FILES}
 use Rattle.outcome.specs.Commands.{reads_in}
+use Rattle.outcome.specs.Effect.{Makes}
 use Rattle.outcome.specs.Make.{IsListing, files_below, index_line, make_outcome, mkndx, mkpkg, unless_reserved}
 use Rattle.outcome.specs.Outcome.{Outcome, just_refusal}
 use Rattle.report_core.specs.declared.refusal.Refusal.{Refusal}
@@ -151,17 +152,17 @@ fault_leaves output report files Faults.Memory = (refl, refl)
 
 -- what is made is refused
 pub refused_run : (output : Option (List ℕ)) (report : List ℕ) (container : Container) (why : MakeFault) (judged : Judged) (old now : History) → container ≡ Err why → now ≡ old
-    → IfObservable old (λ v. IsRun (λ o. o ≡ make_outcome (files_of v) output report (made_in container)) output judged v old now)
+    → IfObservable old (λ v. IsRun (λ o. o ≡ make_outcome (files_of v) output report (made_in container)) Makes output judged v old now)
 refused_run output report container why judged old now is same =
-    left_at (λ v o. o ≡ make_outcome (files_of v) output report (made_in container)) output judged old now same
+    left_at (λ v o. o ≡ make_outcome (files_of v) output report (made_in container)) Makes output judged old now same
     (λ v o one. subst (Leaves (files_of v)) (sym (one ∙ ap (λ (c : Container). make_outcome (files_of v) output report (made_in c)) is)) (fault_leaves output report (files_of v) why))
 
 -- what is made is written
 pub written_made : (output : Option (List ℕ)) (report : List ℕ) (container : Container) (file : Vec ℕ Global) (bytes : List ℕ) (judged : Judged) (old now : History) → container ≡ Ok file → bytes ≡ file.items
-    → IfObservable old (λ v. IsRun (λ o. o ≡ make_outcome (files_of v) output report (Ok bytes)) output judged v old now)
-    → IfObservable old (λ v. IsRun (λ o. o ≡ make_outcome (files_of v) output report (made_in container)) output judged v old now)
+    → IfObservable old (λ v. IsRun (λ o. o ≡ make_outcome (files_of v) output report (Ok bytes)) Makes output judged v old now)
+    → IfObservable old (λ v. IsRun (λ o. o ≡ make_outcome (files_of v) output report (made_in container)) Makes output judged v old now)
 written_made output report container file bytes judged old now is same run =
-    subst (λ (r : Result (List ℕ) MakeFault). IfObservable old (λ v. IsRun (λ o. o ≡ make_outcome (files_of v) output report r) output judged v old now)) (ap Ok same ∙ sym (ap made_in is)) run
+    subst (λ (r : Result (List ℕ) MakeFault). IfObservable old (λ v. IsRun (λ o. o ≡ make_outcome (files_of v) output report r) Makes output judged v old now)) (ap Ok same ∙ sym (ap made_in is)) run
 
 -- outcomes that what is made determines
 pub record AreOutcomes (Means : TreeState → Result (List ℕ) MakeFault → Type 0) (IsOne : Outcomes) (output : Option (List ℕ)) (report : List ℕ) : Type 0 where
@@ -181,19 +182,19 @@ module _ (Means : TreeState → Result (List ℕ) MakeFault → Type 0) (IsOne :
       (make_outcome (files_of v) output report (made_in container), are.one v (made_in container) (meant container (Means v) whole found), reports (files_of v))
 
   runs_by : (judged : Judged) (v : TreeState) (rest now : History) (b : Bool) → is_cut_off container ≡ b → OnMade container (Means v) → IfOk judged (λ verdict. is_cut_off container ≡ false) → (is_cut_off container ≡ true → now ≡ v ∷ rest)
-      → IsRun (λ o. o ≡ make_outcome (files_of v) output report (made_in container)) output judged v (v ∷ rest) now → IsRun (IsOne v) output judged v (v ∷ rest) now
+      → IsRun (λ o. o ≡ make_outcome (files_of v) output report (made_in container)) Makes output judged v (v ∷ rest) now → IsRun (IsOne v) Makes output judged v (v ∷ rest) now
   runs_by judged v rest now false is found whole cut run =
-      run_among (λ o. o ≡ make_outcome (files_of v) output report (made_in container)) (IsOne v) output judged v (v ∷ rest) now
+      run_among (λ o. o ≡ make_outcome (files_of v) output report (made_in container)) (IsOne v) Makes output judged v (v ∷ rest) now
       (λ o same. subst (IsOne v) (sym same) (are.one v (made_in container) (meant container (Means v) is found))) (are.only v (made_in container) (meant container (Means v) is found)) run
   runs_by (Ok verdict) v rest now true is found whole cut run = absurd (false≢true (sym whole ∙ is))
-  runs_by (Err e) v rest now true is found whole cut run = run_idle (IsOne v) output (Err e) v rest now (cut is) (λ o one. tt)
+  runs_by (Err e) v rest now true is found whole cut run = run_idle (IsOne v) Makes output (Err e) v rest now (cut is) (λ o one. tt)
 
   pub runs : (judged : Judged) (old mid now : History) → mid ≡ old → IfObservable old (λ v. OnMade container (Means v)) → IfOk judged (λ verdict. is_cut_off container ≡ false) → (is_cut_off container ≡ true → now ≡ mid)
-      → IfObservable mid (λ v. IsRun (λ o. o ≡ make_outcome (files_of v) output report (made_in container)) output judged v mid now) → IfObservable old (λ v. IsRun (IsOne v) output judged v old now)
+      → IfObservable mid (λ v. IsRun (λ o. o ≡ make_outcome (files_of v) output report (made_in container)) Makes output judged v mid now) → IfObservable old (λ v. IsRun (IsOne v) Makes output judged v old now)
   runs judged [] mid now same found whole cut run = tt
   runs judged (v ∷ rest) mid now same found whole cut run =
       runs_by judged v rest now (is_cut_off container) refl found whole (λ is. cut is ∙ same)
-      (subst (λ (h : History). IfObservable h (λ v. IsRun (λ o. o ≡ make_outcome (files_of v) output report (made_in container)) output judged v h now)) same run)
+      (subst (λ (h : History). IfObservable h (λ v. IsRun (λ o. o ≡ make_outcome (files_of v) output report (made_in container)) Makes output judged v h now)) same run)
 
   room_by : (c : Container) (v : TreeState) → OnMade c (Means v) → ((o : Outcome) → IsOne v o → o.commits ≡ true → HasRoomFor output (files_of v))
       → IfOk c (λ file. (make_outcome (files_of v) output report (Ok file.items)).commits ≡ true → HasRoomFor output (files_of v))

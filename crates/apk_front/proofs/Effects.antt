@@ -2,7 +2,7 @@
 use Rattle.std.proofs.Common.{◌≡◌, ◌⊎◌, inl, inr, ℕ, List, Result, Ok, Err, sym, ap, subst, ◌∙◌}
 use Rattle.command_core.specs.Command.{CommandLine}
 use Rattle.command_core.specs.declared.command.Applet.{Applet}
-use Rattle.command_core.specs.declared.command.Applet.TheVariants.{Add, Mkndx, Mkpkg}
+use Rattle.command_core.specs.declared.command.Applet.TheVariants.{Add, Del, Mkndx, Mkpkg}
 use Rattle.outcome.specs.Effect.{does_only_read, effect_of, reads_only}
 use Rattle.words_core.specs.Faults.{IsWordsFault}
 use Rattle.words_core.specs.Grammar.{command_of}
@@ -13,13 +13,14 @@ use Rattle.apk_front.specs.declared.effect.Access.{Access}
 use Rattle.apk_front.specs.declared.effect.Access.TheVariants.{Read, Write}
 use Rattle.apk_front.proofs.Carried.{only_reads_unless}
 
-pub writes_one : (applet : Applet) → (applet ≡ Mkpkg) ⊎ ((applet ≡ Mkndx) ⊎ (applet ≡ Add)) → Write ≡ access_of (does_only_read (effect_of applet))
+pub writes_one : (applet : Applet) → (applet ≡ Mkpkg) ⊎ ((applet ≡ Mkndx) ⊎ ((applet ≡ Add) ⊎ (applet ≡ Del))) → Write ≡ access_of (does_only_read (effect_of applet))
 writes_one applet (inl is) = ap (λ (a : Applet). access_of (does_only_read (effect_of a))) (sym is)
 writes_one applet (inr (inl is)) = ap (λ (a : Applet). access_of (does_only_read (effect_of a))) (sym is)
-writes_one applet (inr (inr is)) = ap (λ (a : Applet). access_of (does_only_read (effect_of a))) (sym is)
+writes_one applet (inr (inr (inl is))) = ap (λ (a : Applet). access_of (does_only_read (effect_of a))) (sym is)
+writes_one applet (inr (inr (inr is))) = ap (λ (a : Applet). access_of (does_only_read (effect_of a))) (sym is)
 
-pub reads_else : (applet : Applet) → (applet ≡ Mkpkg → ⊥) → (applet ≡ Mkndx → ⊥) → (applet ≡ Add → ⊥) → Read ≡ access_of (does_only_read (effect_of applet))
-reads_else applet p i a = ap access_of (sym (only_reads_unless applet p i a))
+pub reads_else : (applet : Applet) → (applet ≡ Mkpkg → ⊥) → (applet ≡ Mkndx → ⊥) → (applet ≡ Add → ⊥) → (applet ≡ Del → ⊥) → Read ≡ access_of (does_only_read (effect_of applet))
+reads_else applet p i a d = ap access_of (sym (only_reads_unless applet p i a d))
 
 pub access_by : (words : List (List ℕ)) (command : CommandLine) (applet : Applet) (access : Access) → command_of words ≡ Ok command → applet ≡ command.applet → access ≡ access_of (does_only_read (effect_of applet))
     → access ≡ access_of (reads_only (command_of words))

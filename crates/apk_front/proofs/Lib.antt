@@ -14,4 +14,4 @@ pub mod Effects
 pub mod AfterRecovery
 pub mod Behind
 pub mod EachOutcome
-pub mod Added
+pub mod Changing

@@ -2,7 +2,7 @@
 use Rattle.std.proofs.Common.{◌≡◌, ◌≢◌, ◌||◌, inl, inr, ℕ, Bool, true, false, List, [], ◌∷◌, Option, Some, None, IsSome, Result, Ok, Err, refl, sym, ap, subst, ◌∙◌}
 use Rattle.std.specs.Prelude.{if◌then◌else◌, is_some, OnOk}
 use Rattle.std.specs.Str.{bytes_eq}
-use Rattle.std.proofs.lemmas.List.Elements.{All-nil}
+use Rattle.std.proofs.lemmas.List.Elements.{All-nil, All-weaker}
 use Rattle.std.proofs.lemmas.Bool.{false≢true}
 use Rattle.std.proofs.lemmas.Slice.Eq.{bytes_eq-Decides}
 use Rattle.base_core.specs.Calls.{HasNow, IfObservable}
@@ -11,7 +11,7 @@ use Rattle.base_core.specs.Files.{Files, NameMap, drop_name}
 use Rattle.base_core.specs.Tree.{File, IsAmong, IsMapOf, TreeState, bytes_at, files_by, files_of}
 use Rattle.base_core.specs.declared.tree.TreeFault.{TreeFault}
 use Rattle.adb_rules.specs.Reserved.{is_reserved}
-use Rattle.journal_core.specs.Kept.{IsSyncedAt, KeepsMapsBut}
+use Rattle.journal_core.specs.Kept.{IsSyncedAt, KeepsMapsBut, ShownNamesLast}
 use Rattle.journal_core.specs.Quiet.{IsStill}
 use Rattle.journal_core.specs.Recovery.{IsSettled, RestsOn, intent_name, is_staged, state_of}
 use Rattle.journal_core.specs.Replacing.{HasRoom, HidesScratch, IsReplacing, replaced_files, scratch_of}
@@ -20,8 +20,8 @@ use Rattle.outcome.specs.Effect.{Effect, Makes}
 use Rattle.outcome.specs.Make.{make_outcome}
 use Rattle.outcome.specs.Outcome.{Outcome, commit_report, just_refusal, just_report}
 use Rattle.report_core.specs.declared.refusal.Refusal.TheVariants.{Reserved}
-use Rattle.apk_front.specs.Moments.{AreSafe, HasRoomFor, HidesScratchOf, IsAtRest, SettlesUnrecovered, ignored_but, is_draft_name, output_names}
-use Rattle.apk_front.specs.Runs.{AreReadApart, IsReadApart, IsRun}
+use Rattle.apk_front.specs.Moments.{AreSafe, HasRoomFor, HidesScratchOf, IsAtRest, IsReadAtWork, SettlesUnrecovered, UnreadNamesLast, ignored_but, is_draft_name, output_names}
+use Rattle.apk_front.specs.Runs.{AreReadAtWork, IsRun}
 use Rattle.apk_front.specs.Verdicts.{Reports, as_outcome}
 use Rattle.apk_front.specs.declared.answer.Verdict.{Verdict}
 
@@ -60,30 +60,30 @@ pub settled_before : (ignored : List ℕ → Bool) (v : TreeState) (o : Outcome)
 settled_before ignored v o none (inl commits) = absurd (false≢true (sym none ∙ commits))
 settled_before ignored v o none (inr before) = before
 
-pub run_idle : (IsOne : Outcome → Type 0) (output : Option (List ℕ)) (judged : Judged) (v : TreeState) (rest now : History) → now ≡ v ∷ rest → IsIdle IsOne judged v → IsRun IsOne output judged v (v ∷ rest) now
-run_idle IsOne output judged v rest now same idle = record {
+pub run_idle : (IsOne : Outcome → Type 0) (effect : Effect) (output : Option (List ℕ)) (judged : Judged) (v : TreeState) (rest now : History) → now ≡ v ∷ rest → IsIdle IsOne judged v → IsRun IsOne effect output judged v (v ∷ rest) now
+run_idle IsOne effect output judged v rest now same idle = record {
   moments = λ ignored orderly hides. inl (record { added = []; is = same; each = All-nil (IsStill ignored v) });
   orderly = λ ignored orderly hides. subst (λ (h : History). HasNow h (IsOrderly (RestsOn ignored))) (sym same) orderly;
   settled = λ ignored o orderly hides one lasts.
       on_ok judged (λ is. subst (λ (h : History). HasNow h (IsSettled ignored o.files)) (sym same) (subst (λ (f : Files). IsSettled ignored f v) (sym is.0) (settled_before ignored v o is.1 lasts))) (idle o one);
   at_rest = λ ignored o orderly hides one commits. on_ok judged (λ is. absurd (false≢true (sym is.1 ∙ commits))) (idle o one);
   reads = inl (record { added = []; is = same; each = All-nil (λ w. files_of w ≡ files_of v) });
-  others = record { added = []; is = same; each = All-nil (KeepsMapsBut (output_names output) v) };
+  last = λ last. record { added = []; is = same; each = All-nil (UnreadNamesLast output) };
   leaves = λ o one. on_ok judged (λ is. subst (λ (h : History). HasNow h (λ w. files_of w ≡ o.files)) (sym same) (sym is.0)) (idle o one);
   idle = λ o one no. same;
 }
 
-pub idle_at : (IsOne : TreeState → Outcome → Type 0) (output : Option (List ℕ)) (judged : Judged) (old now : History) → now ≡ old → ((v : TreeState) → IsIdle (IsOne v) judged v) → IfObservable old (λ v. IsRun (IsOne v) output judged v old now)
-idle_at IsOne output judged [] now same idle = tt
-idle_at IsOne output judged (v ∷ rest) now same idle = run_idle (IsOne v) output judged v rest now same (idle v)
+pub idle_at : (IsOne : TreeState → Outcome → Type 0) (effect : Effect) (output : Option (List ℕ)) (judged : Judged) (old now : History) → now ≡ old → ((v : TreeState) → IsIdle (IsOne v) judged v) → IfObservable old (λ v. IsRun (IsOne v) effect output judged v old now)
+idle_at IsOne effect output judged [] now same idle = tt
+idle_at IsOne effect output judged (v ∷ rest) now same idle = run_idle (IsOne v) effect output judged v rest now same (idle v)
 
 -- it failed
-pub failed_at : (IsOne : TreeState → Outcome → Type 0) (output : Option (List ℕ)) (judged : Judged) (e : TreeFault) (old now : History) → judged ≡ Err e → now ≡ old → IfObservable old (λ v. IsRun (IsOne v) output judged v old now)
-failed_at IsOne output judged e old now is same = idle_at IsOne output judged old now same (λ v o one. err_ok _ judged e is)
+pub failed_at : (IsOne : TreeState → Outcome → Type 0) (effect : Effect) (output : Option (List ℕ)) (judged : Judged) (e : TreeFault) (old now : History) → judged ≡ Err e → now ≡ old → IfObservable old (λ v. IsRun (IsOne v) effect output judged v old now)
+failed_at IsOne effect output judged e old now is same = idle_at IsOne effect output judged old now same (λ v o one. err_ok _ judged e is)
 
 -- each outcome leaves the files
-pub left_at : (IsOne : TreeState → Outcome → Type 0) (output : Option (List ℕ)) (judged : Judged) (old now : History) → now ≡ old → ((v : TreeState) (o : Outcome) → IsOne v o → Leaves (files_of v) o) → IfObservable old (λ v. IsRun (IsOne v) output judged v old now)
-left_at IsOne output judged old now same all = idle_at IsOne output judged old now same (λ v o one. ok_always (Leaves (files_of v) o) judged (all v o one))
+pub left_at : (IsOne : TreeState → Outcome → Type 0) (effect : Effect) (output : Option (List ℕ)) (judged : Judged) (old now : History) → now ≡ old → ((v : TreeState) (o : Outcome) → IsOne v o → Leaves (files_of v) o) → IfObservable old (λ v. IsRun (IsOne v) effect output judged v old now)
+left_at IsOne effect output judged old now same all = idle_at IsOne effect output judged old now same (λ v o one. ok_always (Leaves (files_of v) o) judged (all v o one))
 
 -- ---- a file was written
 
@@ -102,9 +102,9 @@ free_is output report file name files is free =
     ∙ ap (λ b. if b then just_refusal files (Reserved name) else commit_report (replaced_files name file files) report) free
 
 pub reserved_run : (output : Option (List ℕ)) (report file name : List ℕ) (judged : Judged) (old now : History) → output ≡ Some name → is_reserved name ≡ true → now ≡ old
-    → IfObservable old (λ v. IsRun (IsMade output report file v) output judged v old now)
+    → IfObservable old (λ v. IsRun (IsMade output report file v) Makes output judged v old now)
 reserved_run output report file name judged old now is reserved same =
-    left_at (IsMade output report file) output judged old now same
+    left_at (IsMade output report file) Makes output judged old now same
     (λ v o one. subst (Leaves (files_of v)) (sym (one ∙ reserved_is output report file name (files_of v) is reserved)) (refl, refl))
 
 pub reserved_reports : (output : Option (List ℕ)) (report file name : List ℕ) (verdict : Verdict) → output ≡ Some name → is_reserved name ≡ true → ((files : Files) → as_outcome files verdict ≡ just_refusal files (Reserved name))
@@ -166,10 +166,22 @@ rest_now law ignored name file files (Err e) now orderly synced reads = tt
 rest_now law ignored name file files (Ok verdict) [] orderly synced reads = absurd orderly
 rest_now law ignored name file files (Ok verdict) (w ∷ now) orderly synced reads = rest_at ignored name file files w orderly synced reads law
 
+pub since_weaker : (P Q : TreeState → Type 0) (old now : History) → ((w : TreeState) → P w → Q w) → Since P old now → Since Q old now
+since_weaker P Q old now f since = record { added = since.added; is = since.is; each = All-weaker P Q f since.added since.each }
+
 -- a name that is no draft name is not the scratch name
-pub off_scratch : (effect : Effect) (name q : List ℕ) → effect ≡ Makes → is_draft_name effect (Some name) q ≡ false → q ≢ scratch_of name
-off_scratch effect name q makes off is =
-    false≢true (sym (subst (λ (e : Effect). is_draft_name e (Some name) q ≡ false) makes off) ∙ (bytes_eq-Decides q (scratch_of name)).1 is)
+off_scratch : (name q : List ℕ) → is_draft_name Makes (Some name) q ≡ false → q ≢ scratch_of name
+off_scratch name q off is = false≢true (sym off ∙ (bytes_eq-Decides q (scratch_of name)).1 is)
+
+drafting : (name file : List ℕ) (files : Files) (w : TreeState) → IsReadAs name file files w → IsReadAtWork Makes (Some name) (replaced_files name file files) files w
+drafting name file files w (inl others) = inl (λ q off. others q (off_scratch name q off))
+drafting name file files w (inr is) = inr (inr is)
+
+names_kept : (output : Option (List ℕ)) (u w : TreeState) → ShownNamesLast u → KeepsMapsBut (output_names output) u w → UnreadNamesLast output w
+names_kept output u w last keeps none map among q off no_intent unstaged =
+    let (was, is_was, same) = keeps map among in
+    let (own, is_own, own_same) = keeps w.names (inl refl) in
+    same q off ∙ last was is_was q no_intent unstaged ∙ sym (own_same q off ∙ last own is_own q no_intent unstaged)
 
 -- what `replace` says of the tree
 pub record IsReplaced (name file : List ℕ) (judged : Judged) (v : TreeState) (old now : History) : Type 0 where
@@ -182,7 +194,7 @@ pub record IsReplaced (name file : List ℕ) (judged : Judged) (v : TreeState) (
   pub others : Since (KeepsMapsBut (name ∷ scratch_of name ∷ []) v) old now
 
 free_run : ImageHasState → (output : Option (List ℕ)) (report file name : List ℕ) (judged : Judged) (v : TreeState) (old now : History) → output ≡ Some name → is_reserved name ≡ false
-    → IsReplaced name file judged v old now → IsRun (IsMade output report file v) output judged v old now
+    → IsReplaced name file judged v old now → IsRun (IsMade output report file v) Makes output judged v old now
 free_run law output report file name judged v old now is free done =
     let same = free_is output report file name (files_of v) is free in
     let hidden : (ignored : List ℕ → Bool) → HidesScratchOf output ignored → HidesScratch ignored name = λ ignored hides. subst (λ (out : Option (List ℕ)). HidesScratchOf out ignored) is hides in
@@ -196,9 +208,10 @@ free_run law output report file name judged v old now is free done =
           subst (λ (f : Files). OnOk judged (HasNow now (IsAtRest (ignored_but output ignored) f))) (left o one)
           (subst (λ (out : Option (List ℕ)). OnOk judged (HasNow now (IsAtRest (ignored_but out ignored) (replaced_files name file (files_of v))))) (sym is)
           (rest_now law ignored name file (files_of v) judged now (done.orderly ignored orderly (hidden ignored hides)) done.synced done.leaves));
-      reads = subst (λ (out : Option (List ℕ)). AreReadApart (IsMade output report file v) out v old now) (sym is)
-          (inr (commit_report (replaced_files name file (files_of v)) report, sym same, refl, done.reads));
-      others = subst (λ (out : Option (List ℕ)). Since (KeepsMapsBut (output_names out) v) old now) (sym is) done.others;
+      reads = subst (λ (out : Option (List ℕ)). AreReadAtWork (IsMade output report file v) Makes out v old now) (sym is)
+          (inr (commit_report (replaced_files name file (files_of v)) report, sym same, refl, since_weaker (IsReadAs name file (files_of v)) (IsReadAtWork Makes (Some name) (replaced_files name file (files_of v)) (files_of v)) old now (drafting name file (files_of v)) done.reads));
+      last = subst (λ (out : Option (List ℕ)). ShownNamesLast v → Since (UnreadNamesLast out) old now) (sym is)
+          (λ last. since_weaker (KeepsMapsBut (name ∷ scratch_of name ∷ []) v) (UnreadNamesLast (Some name)) old now (λ w. names_kept (Some name) v w last) done.others);
       leaves = λ o one. subst (λ (f : Files). OnOk judged (HasNow now (λ w. files_of w ≡ f))) (left o one) done.leaves;
       idle = λ o one no. absurd (false≢true (sym no ∙ ap (λ (x : Outcome). x.commits) (one ∙ same)));
     }
@@ -219,14 +232,14 @@ pub written_run : ImageHasState → (output : Option (List ℕ)) (report file na
     → Moves name file old now → StaysOrderly name old now → IsReadOnTheWay name file old now
     → IfObservable old (λ v. (ignored : List ℕ → Bool) → IsOrderly (RestsOn ignored) v → HidesScratch ignored name → HasNow now (IsSettled ignored (replaced_files name file (files_of v))))
     → IfObservable old (λ v. HasNow now (λ w. files_of w ≡ replaced_files name file (files_of v))) → IfObservable old (λ v. HasNow now (IsSyncedAt name)) → StaysElsewhere name old now
-    → IfObservable old (λ v. IsRun (IsMade output report file v) output (Ok verdict) v old now)
+    → IfObservable old (λ v. IsRun (IsMade output report file v) Makes output (Ok verdict) v old now)
 written_run law output report file name verdict [] now is free moves orderly reads settled leaves synced others = tt
 written_run law output report file name verdict (v ∷ rest) now is free moves orderly reads settled leaves synced others =
     free_run law output report file name (Ok verdict) v (v ∷ rest) now is free (record { moments = moves; orderly = orderly; settled = settled; reads = reads; leaves = leaves; synced = synced; others = others })
 
 pub cut_run : ImageHasState → (output : Option (List ℕ)) (report file name : List ℕ) (judged : Judged) (e : TreeFault) (old now : History) → judged ≡ Err e → output ≡ Some name → is_reserved name ≡ false
     → Moves name file old now → StaysOrderly name old now → IsReadOnTheWay name file old now → StaysElsewhere name old now
-    → IfObservable old (λ v. IsRun (IsMade output report file v) output judged v old now)
+    → IfObservable old (λ v. IsRun (IsMade output report file v) Makes output judged v old now)
 cut_run law output report file name judged e [] now failed is free moves orderly reads others = tt
 cut_run law output report file name judged e (v ∷ rest) now failed is free moves orderly reads others =
     free_run law output report file name judged v (v ∷ rest) now is free
@@ -273,18 +286,18 @@ safe_among : (A B : Outcome → Type 0) (makes : Bool) (ignored : List ℕ → B
 safe_among A B makes ignored v old now f (inl still) = inl still
 safe_among A B makes ignored v old now f (inr (o, one, commits, moments)) = inr (o, f o one, commits, moments)
 
-reads_among : (A B : Outcome → Type 0) (output : Option (List ℕ)) (v : TreeState) (old now : History) → ((o : Outcome) → A o → B o) → AreReadApart A output v old now → AreReadApart B output v old now
-reads_among A B output v old now f (inl same) = inl same
-reads_among A B output v old now f (inr (o, one, commits, apart)) = inr (o, f o one, commits, apart)
+reads_among : (A B : Outcome → Type 0) (effect : Effect) (output : Option (List ℕ)) (v : TreeState) (old now : History) → ((o : Outcome) → A o → B o) → AreReadAtWork A effect output v old now → AreReadAtWork B effect output v old now
+reads_among A B effect output v old now f (inl same) = inl same
+reads_among A B effect output v old now f (inr (o, one, commits, work)) = inr (o, f o one, commits, work)
 
-pub run_among : (A B : Outcome → Type 0) (output : Option (List ℕ)) (judged : Judged) (v : TreeState) (old now : History) → ((o : Outcome) → A o → B o) → ((o : Outcome) → B o → A o) → IsRun A output judged v old now → IsRun B output judged v old now
-run_among A B output judged v old now into from run = record {
+pub run_among : (A B : Outcome → Type 0) (effect : Effect) (output : Option (List ℕ)) (judged : Judged) (v : TreeState) (old now : History) → ((o : Outcome) → A o → B o) → ((o : Outcome) → B o → A o) → IsRun A effect output judged v old now → IsRun B effect output judged v old now
+run_among A B effect output judged v old now into from run = record {
   moments = λ ignored orderly hides. safe_among A B (is_some output) ignored v old now into (run.moments ignored orderly hides);
   orderly = run.orderly;
   settled = λ ignored o orderly hides one lasts. run.settled ignored o orderly hides (from o one) lasts;
   at_rest = λ ignored o orderly hides one commits. run.at_rest ignored o orderly hides (from o one) commits;
-  reads = reads_among A B output v old now into run.reads;
-  others = run.others;
+  reads = reads_among A B effect output v old now into run.reads;
+  last = run.last;
   leaves = λ o one. run.leaves o (from o one);
-  idle = λ o one no. run.idle o (from o one) no;
+  idle = λ o one nothing. run.idle o (from o one) nothing;
 }

@@ -6,5 +6,5 @@ pub mod Status
 pub mod Verdicts
 pub mod Runs
 pub mod Containers
-pub mod Added
+pub mod Told
 pub mod Effects

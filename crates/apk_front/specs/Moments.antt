@@ -1,5 +1,5 @@
 -- What a run of the top call does to the tree, moment by moment.
-use Rattle.std.specs.Prelude.{◌≡◌, ◌≢◌, ◌⊎◌, ◌||◌, ℕ, Bool, true, false, if◌then◌else◌, List, [], ◌∷◌, Option, Some, None, IsSome}
+use Rattle.std.specs.Prelude.{◌≡◌, ◌⊎◌, ◌||◌, ℕ, Bool, true, false, if◌then◌else◌, List, [], ◌∷◌, Option, Some, None, IsSome}
 use Rattle.std.specs.Str.{bytes_eq}
 use Rattle.base_core.specs.Calls.{HasNow}
 use Rattle.base_core.specs.Crash.{IsOrderly, Since}
@@ -17,7 +17,7 @@ use Rattle.outcome.specs.Outcome.{Outcome}
 use Rattle.outcome.specs.Work.{work_files}
 use Rattle.words_core.specs.Grammar.{command_of}
 use Rattle.apk_front.specs.declared.answer.Answer.{Answer}
-use Rattle.apk_front.specs.declared.answer.Answer.TheVariants.{Ok, Refused, TreeFault, OutFault, Memory}
+use Rattle.apk_front.specs.declared.answer.Answer.TheVariants.{Ok, Refused, OutFault, Memory}
 
 -- ---- the output
 
@@ -195,14 +195,6 @@ HasIdleOutcome IsOne = (outcome : Outcome) × IsOne outcome × (outcome.commits 
 -- it was left undone, or the outcome commits nothing, whatever was answered in its place
 abbrev pub CommitsNothing : (Outcome → Type 0) → Answer → Type 0
 CommitsNothing IsOne answer = IsLeftUndone answer ⊎ HasIdleOutcome IsOne
-
--- besides, nothing was staged: a change that finds no memory may have staged files
-abbrev pub StagesNothing : Effect → (Outcome → Type 0) → Answer → Type 0
-StagesNothing effect IsOne Memory = (effect ≢ Changes) ⊎ HasIdleOutcome IsOne
-StagesNothing effect IsOne Ok = HasIdleOutcome IsOne
-StagesNothing effect IsOne (Refused refusal) = Unit {0}
-StagesNothing effect IsOne TreeFault = HasIdleOutcome IsOne
-StagesNothing effect IsOne OutFault = HasIdleOutcome IsOne
 
 -- where something makes them last, each crash leaves the outcome's files
 abbrev pub LeavesSettled :

@@ -1,39 +1,47 @@
 -- What a run leaves of a tree.
-use Rattle.std.specs.Prelude.{◌≡◌, ◌≢◌, ◌⊎◌, ℕ, Bool, true, false, is_some, IsSome, IsErrOf, List, Option, Some, None, Result, OnOk}
-use Rattle.base_core.specs.Calls.{HasNow}
+use Rattle.std.specs.Prelude.{◌≡◌, ◌⊎◌, ℕ, Bool, true, false, is_some, IsSome, IsErrOf, List, Option, None, Result, OnOk}
+use Rattle.base_core.specs.Calls.{HasNow, IfObservable}
 use Rattle.base_core.specs.Crash.{IsOrderly, Since}
-use Rattle.base_core.specs.Files.{Files}
 use Rattle.base_core.specs.Tree.{TreeState, files_of}
 use Rattle.base_core.specs.declared.tree.TreeFault.{TreeFault}
 use Rattle.base_core.specs.declared.tree.TreeFault.TheVariants.{Memory}
-use Rattle.journal_core.specs.Kept.{KeepsMapsBut}
+use Rattle.journal_core.specs.Kept.{ShownNamesLast}
 use Rattle.journal_core.specs.Quiet.{IsStill}
 use Rattle.journal_core.specs.Recovery.{RestsOn, IsSettled, intent_name}
-use Rattle.journal_core.specs.Replacing.{scratch_of}
+use Rattle.journal_core.specs.Staged.{IsEmptyStage}
 use Rattle.outcome.specs.Effect.{Effect}
 use Rattle.outcome.specs.Outcome.{Outcome}
 use Rattle.outcome.specs.Work.{recovery_fault}
-use Rattle.apk_front.specs.Moments.{AreReadOnTheWay, AreSafe, HasIdleOutcome, HasNothingToRecover, HidesScratchOf, IsAtRest, Settles, SettlesUnrecovered, UnreadNamesLast, ignored_but, output_names}
+use Rattle.apk_front.specs.Moments.{AreReadOnTheWay, AreSafe, HasIdleOutcome, HasNothingToRecover, HidesScratchOf, IsAtRest, IsReadAtWork, Settles, SettlesUnrecovered, UnreadNamesLast, ignored_but}
 use Rattle.apk_front.specs.declared.answer.Verdict.{Verdict}
 
--- the files as read are the old ones, apart from the scratch name of an output; or the new ones
-abbrev pub IsReadApart : Option (List ℕ) → Files → Files → TreeState → Type 0
-IsReadApart None new old w = files_of w ≡ old
-IsReadApart (Some name) new old w =
-    ((q : List ℕ) → q ≢ scratch_of name → files_of w q ≡ old q) ⊎ (files_of w ≡ new)
+-- ---- behind a recovery
 
-abbrev pub AreReadApart :
-    (Outcome → Type 0) → Option (List ℕ) → TreeState → List TreeState → List TreeState → Type 0
-AreReadApart IsOne output v old now =
+-- neither an intent is read nor anything waits
+abbrev pub HasNothingWaiting : TreeState → Type 0
+HasNothingWaiting v = (v.names intent_name ≡ None) × IsEmptyStage (files_of v)
+
+-- P holds of the newest state, where the history is observable and nothing waits then
+abbrev pub IfNothingWaits : List TreeState → (TreeState → Type 0) → Type 0
+IfNothingWaits history P = IfObservable history (λ v. HasNothingWaiting v → P v)
+
+-- ---- a run
+
+-- at each moment the files as read are the old ones; or the run has an outcome that commits, and
+-- works on them
+abbrev pub AreReadAtWork :
+    (Outcome → Type 0) → Effect → Option (List ℕ) → TreeState → List TreeState → List TreeState
+    → Type 0
+AreReadAtWork IsOne effect output v old now =
     Since (λ w. files_of w ≡ files_of v) old now
     ⊎ ((outcome : Outcome)
     × IsOne outcome
     × (outcome.commits ≡ true)
-    × Since (IsReadApart output outcome.files (files_of v)) old now)
+    × Since (IsReadAtWork effect output outcome.files (files_of v)) old now)
 
 -- What a run leaves of a tree that is in a state v, from which on it recovers nothing, where its
 -- outcome is one of these.
-pub record IsRun (IsOne : Outcome → Type 0) (output : Option (List ℕ))
+pub record IsRun (IsOne : Outcome → Type 0) (effect : Effect) (output : Option (List ℕ))
     (judged : Result Verdict TreeFault) (v : TreeState) (old now : List TreeState) : Type 0 where
   -- at each moment the tree is orderly, and a crash leaves a state from before or that of the files
   -- of an outcome that commits
@@ -54,12 +62,12 @@ pub record IsRun (IsOne : Outcome → Type 0) (output : Option (List ℕ))
       → IsOrderly (RestsOn ignored) v → HidesScratchOf output ignored
       → IsOne outcome → outcome.commits ≡ true
       → OnOk judged (HasNow now (IsAtRest (ignored_but output ignored) outcome.files))
-  -- at each moment the files as read are the old ones; or the outcome commits, and they are the old
-  -- ones, apart from the scratch name, or the outcome's
-  pub reads : AreReadApart IsOne output v old now
-  -- a crash leaves each other name where it might have left it before
-  pub others : Since (KeepsMapsBut (output_names output) v) old now
-  -- and the outcome's once it was judged
+  -- no other file is touched
+  pub reads : AreReadAtWork IsOne effect output v old now
+  -- where no crash undoes a change of a name at the start, none does as long as no intent is read;
+  -- but for the output, and what waits
+  pub last : ShownNamesLast v → Since (UnreadNamesLast output) old now
+  -- they are the outcome's once it was judged
   pub leaves : (outcome : Outcome) → IsOne outcome
       → OnOk judged (HasNow now (λ w. files_of w ≡ outcome.files))
   -- a run that commits nothing writes nothing

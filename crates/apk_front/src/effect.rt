@@ -31,7 +31,7 @@ fn applet_access(applet: Applet) -> Access
     ensures { result ≡ access_of (does_only_read (effect_of applet)) }
 {
     match applet {
-        Applet::Mkpkg | Applet::Mkndx | Applet::Add => Access::Write,
+        Applet::Mkpkg | Applet::Mkndx | Applet::Add | Applet::Del => Access::Write,
         _ => Access::Read,
     }
 }

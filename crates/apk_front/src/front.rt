@@ -1,7 +1,7 @@
 //! The top call. Its contract is what this repository proves of a run of `apk`.
 ghost use Rattle.std.specs.Prelude.{◌≡◌, ℕ, Bool, List, IsSome, IsTrue, is_some};
 ghost use Rattle.apk_front.specs.Answers.{name_an_applet, IsAnswerOf, IsAnswerTo, LeavesFiles, LeavesAny, HasCauses, IsFaultless, IsComplete, IsUnplanned, IsOutcomeUnlessMemory};
-ghost use Rattle.apk_front.specs.Moments.{AnswersOutcome, AreReadOnTheWay, AreSafe, CommitsNothing, HasNothingToRecover, HidesScratchOf, LeavesAtRest, LeavesLasting, LeavesRoom, StagesNothing, UnreadNamesLast};
+ghost use Rattle.apk_front.specs.Moments.{AnswersOutcome, AreReadOnTheWay, AreSafe, CommitsNothing, HasNothingToRecover, HidesScratchOf, LeavesAtRest, LeavesLasting, LeavesRoom, UnreadNamesLast};
 ghost use Rattle.base_core.specs.Calls.{HasNow, IfObservable};
 ghost use Rattle.base_core.specs.Crash.{IsOrderly, Since};
 ghost use Rattle.base_core.specs.Faults.{GoesOn, HasCause};
@@ -111,11 +111,10 @@ pub fn apk<T: Tree, O: Sink, E: Sink>(
     ensures same { IsTrue (reads_only (command_of words.now))
         → T.history tree.new ≡ T.history tree.old }
 
-    // Where there is nothing to recover, nothing is written by a run that is refused, or whose
-    // outcome commits nothing, whatever is answered in its place; nor, unless the command changes
-    // several files, by one for which there is no memory.
+    // Where there is nothing to recover, nothing is written by a run that is refused, that finds no
+    // memory, or whose outcome commits nothing, whatever is answered in its place.
     ensures idle { IfObservable (T.history tree.old) (λ v.
-        StagesNothing (effect_by (command_of words.now)) (IsOutcome words.now (files_of v)) result
+        CommitsNothing (IsOutcome words.now (files_of v)) result
         → HasNothingToRecover (effect_by (command_of words.now)) v
         → T.history tree.new ≡ T.history tree.old) }
 

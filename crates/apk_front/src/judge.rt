@@ -11,6 +11,7 @@ ghost use Rattle.base_core.specs.Read.{OnlyReads};
 ghost use Rattle.base_core.specs.Tree.{files_of};
 ghost use Rattle.make_info.specs.Reads.{Reads};
 ghost use Rattle.outcome.specs.Commands.{IsFoundOutcome, IsFoundOutcomeOf, IsOutcome, IsOutcomeOf, reads_in, command_outcome};
+ghost use Rattle.outcome.specs.Given.{nothing_given};
 ghost use Rattle.outcome.specs.Effect.{does_only_read, does_rest_on_words, effect_by, effect_of, output, output_if, reads_only, rests_on_words};
 ghost use Rattle.words_core.specs.Grammar.{command_of};
 
@@ -72,7 +73,7 @@ fn run<T: Tree>(alloc: Global, command: &Command, tree: &mut T) -> Result<Verdic
     ensures by_words { IsTrue (does_rest_on_words (effect_of command.now.applet))
         → MatchResult result
         (λ verdict. (files : Files)
-        → as_outcome files verdict ≡ command_outcome command.now [] None (reads_in files) files)
+        → as_outcome files verdict ≡ command_outcome command.now nothing_given (reads_in files) files)
         (λ fault. fault ≡ TreeFault.Memory) }
     ensures untouched { IsTrue (does_rest_on_words (effect_of command.now.applet))
         → tree.new ≡ tree.old }
@@ -95,7 +96,9 @@ fn run<T: Tree>(alloc: Global, command: &Command, tree: &mut T) -> Result<Verdic
         → (T.counts tree.new).misuses ≡ (T.counts tree.old).misuses) }
 {
     match command.applet() {
-        Applet::Mkpkg | Applet::Mkndx | Applet::Add => recover_and_run(alloc, command, tree),
+        Applet::Mkpkg | Applet::Mkndx | Applet::Add | Applet::Del => {
+            recover_and_run(alloc, command, tree)
+        }
         _ => look(alloc, command, tree),
     }
 }
@@ -106,13 +109,13 @@ fn look<T: Tree>(alloc: Global, command: &Command, tree: &mut T) -> Result<Verdi
     requires { IsTrue (does_only_read (effect_of command.now.applet)) }
     ensures found { IfOk result (λ verdict. IfObservable (T.history tree.old) (λ v.
         as_outcome (files_of v) verdict
-        ≡ command_outcome command.now [] None (reads_in (files_of v)) (files_of v))) }
+        ≡ command_outcome command.now nothing_given (reads_in (files_of v)) (files_of v))) }
     ensures by_reads { IfOk result (λ verdict. (read : Reads)
-        × (as_outcome no_names verdict ≡ command_outcome command.now [] None read no_names)) }
+        × (as_outcome no_names verdict ≡ command_outcome command.now nothing_given read no_names)) }
     ensures by_words { IsTrue (does_rest_on_words (effect_of command.now.applet))
         → MatchResult result
         (λ verdict. (files : Files)
-        → as_outcome files verdict ≡ command_outcome command.now [] None (reads_in files) files)
+        → as_outcome files verdict ≡ command_outcome command.now nothing_given (reads_in files) files)
         (λ fault. fault ≡ TreeFault.Memory) }
     ensures untouched { IsTrue (does_rest_on_words (effect_of command.now.applet))
         → tree.new ≡ tree.old }

@@ -8,8 +8,8 @@
 //! (what a run does to the tree).
 #![tactic(auto)]
 
-mod add;
 mod answer;
+mod change;
 mod dump;
 mod effect;
 mod front;

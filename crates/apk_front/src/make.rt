@@ -16,6 +16,7 @@ ghost use Rattle.make_index.specs.Files.{AreFiles};
 ghost use Rattle.make_info.specs.Output.{output_name};
 ghost use Rattle.make_info.specs.Reads.{Reads};
 ghost use Rattle.make_package.specs.Sources.{AreNamesFor, values_with};
+ghost use Rattle.outcome.specs.Effect.{Makes};
 ghost use Rattle.outcome.specs.Make.{index_line, make_outcome, mkndx, mkpkg, unless_reserved};
 ghost use Rattle.outcome.specs.Outcome.{Outcome, just_refusal};
 ghost use Rattle.report_core.specs.declared.refusal.Refusal.TheVariants.{ResultTooLarge};
@@ -49,7 +50,7 @@ pub(crate) fn mkpkg<T: Tree>(
         × AreNamesFor (values_with FILES command.now.values) names
         × (read : Reads) × Reports verdict (mkpkg read no_names command.now names)) }
     ensures run { IfObservable (T.history tree.old) (λ v. IsRun
-        (IsPackageOutcome command.now (files_of v)) (output_name command.now)
+        (IsPackageOutcome command.now (files_of v)) Makes (output_name command.now)
         result v (T.history tree.old) (T.history tree.new)) }
     ensures refused { IfOk result (λ verdict. IsSome verdict.refusal
         → T.history tree.new ≡ T.history tree.old) }
@@ -87,7 +88,7 @@ pub(crate) fn mkndx<T: Tree>(
         × AreFiles read 0 command.now.operands
         × Reports verdict (mkndx read no_names command.now)) }
     ensures run { IfObservable (T.history tree.old) (λ v. IsRun
-        (IsIndexOutcome command.now (files_of v)) (output_name command.now)
+        (IsIndexOutcome command.now (files_of v)) Makes (output_name command.now)
         result v (T.history tree.old) (T.history tree.new)) }
     ensures refused { IfOk result (λ verdict. IsSome verdict.refusal
         → T.history tree.new ≡ T.history tree.old) }
@@ -158,7 +159,7 @@ fn finish<T: Tree>(
     ensures run { IfObservable (T.history tree.old) (λ v. IsRun
         (λ outcome. outcome
         ≡ make_outcome (files_of v) (output_name command.now) report (made_in container))
-        (output_name command.now) result v (T.history tree.old) (T.history tree.new)) }
+        Makes (output_name command.now) result v (T.history tree.old) (T.history tree.new)) }
     ensures done { IfOk result (λ verdict. is_cut_off container ≡ false) }
     ensures cut { is_cut_off container ≡ true → T.history tree.new ≡ T.history tree.old }
     ensures refused { IfOk result (λ verdict. IsSome verdict.refusal
@@ -198,7 +199,7 @@ fn write<T: Tree>(
     ensures run { IfObservable (T.history tree.old) (λ v. IsRun
         (λ outcome. outcome
         ≡ make_outcome (files_of v) (output_name command.now) report (Ok file.now))
-        (output_name command.now) result v (T.history tree.old) (T.history tree.new)) }
+        Makes (output_name command.now) result v (T.history tree.old) (T.history tree.new)) }
     ensures refused { IfOk result (λ verdict. IsSome verdict.refusal
         → T.history tree.new ≡ T.history tree.old) }
     ensures undone { IsErrOf result TreeFault.Memory → T.history tree.new ≡ T.history tree.old }

@@ -1,7 +1,7 @@
 //! A command that recovers: what an intent has still to do is done first.
 ghost use Rattle.std.specs.Prelude.{◌≡◌, true, None, Ok, IfOk, IsErrOf, IsSome, OnOk};
-ghost use Rattle.apk_front.specs.Moments.{HasRoomFor, LeavesRoomFor};
-ghost use Rattle.apk_front.specs.Runs.{IsRun, IsWholeRun};
+ghost use Rattle.apk_front.specs.Moments.{HasRoomToWrite, LeavesRoomFor};
+ghost use Rattle.apk_front.specs.Runs.{IfNothingWaits, IsRun, IsWholeRun};
 ghost use Rattle.apk_front.specs.Verdicts.{ReportsOne, as_outcome};
 ghost use Rattle.base_core.specs.Calls.{IfObservable};
 ghost use Rattle.base_core.specs.Faults.{GoesOn, HasCause, IsNoFault};
@@ -13,8 +13,8 @@ ghost use Rattle.outcome.specs.Effect.{does_recover, effect_of, output_if};
 ghost use Rattle.outcome.specs.Outcome.{Outcome, just_refusal};
 ghost use Rattle.report_core.specs.declared.refusal.Refusal.TheVariants.{IntentBad};
 
-use crate::add::add;
 use crate::answer::Verdict;
+use crate::change::change;
 use crate::make::{mkndx, mkpkg};
 use base_core::{Tree, TreeFault, counts_of_calls_in_a_row_join};
 use command_core::{Applet, Command};
@@ -70,30 +70,31 @@ fn run_recovered<T: Tree>(
     tree: &mut T,
 ) -> Result<Verdict, TreeFault>
     requires { does_recover (effect_of command.now.applet) ≡ true }
-    ensures found { IfOk result (λ verdict. IfObservable (T.history tree.old) (λ v.
+    ensures found { IfOk result (λ verdict. IfNothingWaits (T.history tree.old) (λ v.
         ReportsOne (IsOutcomeOver command.now (files_of v)) verdict)) }
     ensures by_reads { IfOk result (λ verdict. ReportsOne (IsFoundOver command.now) verdict) }
-    ensures run { IfObservable (T.history tree.old) (λ v. IsRun
-        (IsOutcomeOver command.now (files_of v))
+    ensures run { IfNothingWaits (T.history tree.old) (λ v. IsRun
+        (IsOutcomeOver command.now (files_of v)) (effect_of command.now.applet)
         (output_if (effect_of command.now.applet) command.now)
         result v (T.history tree.old) (T.history tree.new)) }
-    ensures undone { IsErrOf result TreeFault.Memory → T.history tree.new ≡ T.history tree.old }
+    ensures undone { IfNothingWaits (T.history tree.old) (λ v.
+        IsErrOf result TreeFault.Memory → T.history tree.new ≡ T.history tree.old) }
     ensures goes_on { GoesOn (T.counts tree.old) (T.counts tree.new) }
     ensures disk { IsErrOf result TreeFault.Disk
         → HasCause (T.counts tree.old) (T.counts tree.new) }
     ensures kept { OnOk result (IsNoFault (T.counts tree.old) (T.counts tree.new)) }
     ensures memory { IsErrOf result TreeFault.Memory
         → IsNoFault (T.counts tree.old) (T.counts tree.new) }
-    ensures proper { IfObservable (T.history tree.old) (λ v.
+    ensures proper { IfNothingWaits (T.history tree.old) (λ v.
         ((outcome : Outcome) → IsOutcomeOver command.now (files_of v) outcome
-        → outcome.commits ≡ true
-        → HasRoomFor (output_if (effect_of command.now.applet) command.now) (files_of v))
+        → outcome.commits ≡ true → HasRoomToWrite (effect_of command.now.applet)
+        (output_if (effect_of command.now.applet) command.now) (files_of v))
         → (T.counts tree.new).misuses ≡ (T.counts tree.old).misuses) }
 {
     match command.applet() {
         Applet::Mkpkg => mkpkg(alloc, command, tree),
         Applet::Mkndx => mkndx(alloc, command, tree),
-        Applet::Add => add(alloc, command, tree),
+        Applet::Add | Applet::Del => change(alloc, command, tree),
         _ => unreachable!(),
     }
 }

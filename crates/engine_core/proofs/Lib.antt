@@ -1,2 +1,10 @@
 pub mod Choices
-pub mod DecidedBy
+pub mod Early
+pub mod Known
+pub mod Lists
+pub mod Once
+pub mod Pools
+pub mod SelectedRuns
+pub mod WholeRuns
+pub mod Members
+pub mod Reporting

@@ -1,7 +1,15 @@
 -- what the contract of `apk` says
 pub mod Choice
 pub mod Selecting
--- what a change is only simulated to come to
-pub mod Simulated
+pub mod Wishes
+pub mod Changed
+pub mod ChangeRun
 -- what only inner contracts and proofs use
-pub mod Decided
+pub mod Chosen
+pub mod Runs
+pub mod SelectionSeen
+pub mod Plans
+pub mod Writing
+pub mod Finishing
+pub mod Carrying
+pub mod Making

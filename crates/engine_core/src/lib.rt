@@ -1,12 +1,26 @@
-//! A change of what is installed: what it comes to is decided by what the root has.
+//! A change of what is installed: `add` and `del`, from their words to their end.
 //!
-//! The contracts cite `Simulated` of `specs/` (what a change that is only simulated reports, or why
-//! it is refused) and `Choice` (which candidates are chosen). `laws` says that there is one choice.
+//! The contract of `change` cites `ChangeRun` of `specs/` (what a run answers, and what it makes of
+//! the tree), `Changed` (what a command comes to, by what is read and by what is chosen) and `Choice`
+//! (which candidates are chosen). `laws` says that there is one choice.
 #![tactic(auto)]
 
-mod deciding;
+mod arrived;
+mod carrying;
+mod changing;
+mod choosing;
+mod finishing;
 mod laws;
+mod making;
+mod records;
+mod planning;
+mod removals;
+mod selection;
+mod simulating;
+mod targets;
+mod wishes;
+mod writes;
 
 pub use change_inputs::Refused;
-pub use deciding::decide;
+pub use changing::change;
 pub use laws::{a_choice_exists, a_choice_is_unique};

@@ -1,23 +1,25 @@
--- A command that makes a file commits where it is not refused; a change is only simulated.
-use Rattle.std.proofs.Common.{◌≡◌, ◌⊎◌, inl, inr, ⊎_elim, ℕ, Bool, true, false, List, [], length, Option, Some, None, IsSome, Result, Ok, Err, refl, sym, ap, subst, ◌∙◌}
+-- A command that makes a file commits where it is not refused; and a refusal commits nothing.
+use Rattle.std.proofs.Common.{◌≡◌, ◌⊎◌, inl, inr, ⊎_elim, ℕ, Bool, true, false, List, [], length, Option, Some, None, IsSome, Result, Ok, Err, refl, sym, ap, subst, ◌∙◌, true≢false}
 use Rattle.std.specs.Prelude.{if◌then◌else◌, is_some, not, IsTrue}
 use Rattle.adb_rules.specs.Reserved.{is_reserved}
 use Rattle.base_core.specs.Files.{Files}
 use Rattle.base_core.specs.declared.cause.Cause.{Cause}
 use Rattle.command_core.specs.Command.{CommandLine}
 use Rattle.command_core.specs.declared.command.Applet.{Applet}
-use Rattle.command_core.specs.declared.command.Applet.TheVariants.{Add, Mkndx, Mkpkg}
+use Rattle.command_core.specs.declared.command.Applet.TheVariants.{Add, Del, Mkndx, Mkpkg}
 use Rattle.make_index.specs.Index.{made_index}
 use Rattle.make_info.specs.Output.{output_name}
 use Rattle.make_info.specs.declared.fault.MakeFault.{MakeFault}
 use Rattle.make_info.specs.declared.fault.MakeFault.TheVariants.{FileMissing, FileBad, InfoBad, TooLarge, Disk, Memory}
 use Rattle.make_package.specs.Making.{made_package}
-use Rattle.engine_core.specs.Simulated.{simulated}
+use Rattle.change_outcome.specs.ChangeOutcome.{ChangeDone}
+use Rattle.engine_core.specs.Changed.{changed}
 use Rattle.report_core.specs.declared.refusal.Refusal.{Refusal}
-use Rattle.report_core.specs.declared.refusal.Refusal.TheVariants.{Reserved, ResultTooLarge, Usage}
+use Rattle.report_core.specs.declared.refusal.Refusal.TheVariants.{Reserved, ResultTooLarge}
 use Rattle.words_core.specs.Grammar.{command_of}
 use Rattle.outcome.proofs.MadeSound.{IsRefusalOrMade, index_fine, package_fine}
-use Rattle.outcome.specs.Changing.{report_or_refusal}
+use Rattle.outcome.specs.Changing.{change_outcome}
+use Rattle.outcome.specs.Given.{Given}
 use Rattle.outcome.specs.Commands.{IsOutcome, IsOutcomeOf, IsOutcomeUnless, applet_outcome, reads_in}
 use Rattle.outcome.specs.Effect.{Effect, Makes, Changes, does_only_read, effect_by, effect_of, reads_only}
 use Rattle.outcome.specs.Make.{files_with, index_line, make_outcome, unless_reserved}
@@ -45,14 +47,14 @@ made_commits files output report (Err (TooLarge bytes values)) fine = unless_out
 made_commits files output report (Err Disk) fine = absurd fine
 made_commits files output report (Err Memory) fine = absurd fine
 
-applet_commits : (applet : Applet) (command : CommandLine) (names : List (List ℕ)) (chosen : Option (List ℕ)) (files : Files) → effect_of applet ≡ Makes → CommitsUnlessRefused (applet_outcome applet command names chosen (reads_in files) files)
-applet_commits Mkpkg command names chosen files makes = made_commits files (output_name command) [] (made_package command names (reads_in files)) (package_fine command names (reads_in files))
-applet_commits Mkndx command names chosen files makes = made_commits files (output_name command) (index_line (length command.operands)) (made_index command (reads_in files)) (index_fine command (reads_in files))
-applet_commits other command names chosen files makes = cc
+applet_commits : (applet : Applet) (command : CommandLine) (given : Given) (files : Files) → effect_of applet ≡ Makes → CommitsUnlessRefused (applet_outcome applet command given (reads_in files) files)
+applet_commits Mkpkg command given files makes = made_commits files (output_name command) [] (made_package command given.names (reads_in files)) (package_fine command given.names (reads_in files))
+applet_commits Mkndx command given files makes = made_commits files (output_name command) (index_line (length command.operands)) (made_index command (reads_in files)) (index_fine command (reads_in files))
+applet_commits other command given files makes = cc
 
 commits_unless : (fault : Option Cause) (command : CommandLine) (files : Files) (o : Outcome) → effect_of command.applet ≡ Makes → IsOutcomeUnless fault command files o → CommitsUnlessRefused o
 commits_unless (Some cause) command files o makes is = subst CommitsUnlessRefused (sym is) refl
-commits_unless None command files o makes (names, listed, chosen, choice, is) = subst CommitsUnlessRefused (sym is) (applet_commits command.applet command names chosen (work_files (effect_of command.applet) files) makes)
+commits_unless None command files o makes (given, are, is) = subst CommitsUnlessRefused (sym is) (applet_commits command.applet command given (work_files (effect_of command.applet) files) makes)
 
 commits_by : (read : Result CommandLine ℕ) (files : Files) (o : Outcome) → effect_by read ≡ Makes → IsOutcomeOf read files o → CommitsUnlessRefused o
 commits_by (Err place) files o makes is = cc
@@ -63,25 +65,26 @@ maker_commits words files o makes is = commits_by (command_of words) files o mak
 
 -- ---- a change
 
-result_idle : (files : Files) (result : Result (List ℕ) Refusal) → (report_or_refusal files result).commits ≡ false
-result_idle files (Ok report) = refl
-result_idle files (Err refusal) = refl
+-- where it is refused it commits nothing
+abbrev CommitsNoRefusal : Outcome → Type 0
+CommitsNoRefusal o = IsSome o.refusal → o.commits ≡ false
 
-add_idle : (simulate : Bool) (files : Files) (result : Result (List ℕ) Refusal) (refusal : Refusal) → (if simulate then report_or_refusal files result else just_refusal files refusal).commits ≡ false
-add_idle true files result refusal = result_idle files result
-add_idle false files result refusal = refl
+change_commits : (files : Files) (result : Result ChangeDone Refusal) → CommitsNoRefusal (change_outcome files result)
+change_commits files (Ok done) some = absurd (true≢false (sym some))
+change_commits files (Err refusal) some = refl
 
-applet_idle : (applet : Applet) (command : CommandLine) (names : List (List ℕ)) (chosen : Option (List ℕ)) (files : Files) → effect_of applet ≡ Changes → (applet_outcome applet command names chosen (reads_in files) files).commits ≡ false
-applet_idle Add command names chosen files changes = add_idle command.flags.simulate files (simulated command (reads_in files) chosen) (Usage command.behind)
-applet_idle other command names chosen files changes = cc
+applet_changes : (applet : Applet) (command : CommandLine) (given : Given) (files : Files) → effect_of applet ≡ Changes → CommitsNoRefusal (applet_outcome applet command given (reads_in files) files)
+applet_changes Add command given files changes = change_commits files (changed command (reads_in files) files given.chosen given.clash)
+applet_changes Del command given files changes = change_commits files (changed command (reads_in files) files given.chosen given.clash)
+applet_changes other command given files changes = cc
 
-idle_unless : (fault : Option Cause) (command : CommandLine) (files : Files) (o : Outcome) → effect_of command.applet ≡ Changes → IsOutcomeUnless fault command files o → o.commits ≡ false
-idle_unless (Some cause) command files o changes is = ap (λ (p : Outcome). p.commits) is
-idle_unless None command files o changes (names, listed, chosen, choice, is) = ap (λ (p : Outcome). p.commits) is ∙ applet_idle command.applet command names chosen (work_files (effect_of command.applet) files) changes
+changes_unless : (fault : Option Cause) (command : CommandLine) (files : Files) (o : Outcome) → effect_of command.applet ≡ Changes → IsOutcomeUnless fault command files o → CommitsNoRefusal o
+changes_unless (Some cause) command files o changes is = λ some. ap (λ (p : Outcome). p.commits) is
+changes_unless None command files o changes (given, are, is) = subst CommitsNoRefusal (sym is) (applet_changes command.applet command given (work_files (effect_of command.applet) files) changes)
 
-idle_by : (read : Result CommandLine ℕ) (files : Files) (o : Outcome) → effect_by read ≡ Changes → IsOutcomeOf read files o → o.commits ≡ false
-idle_by (Err place) files o changes is = cc
-idle_by (Ok command) files o changes is = idle_unless (recovery_fault (effect_of command.applet) files) command files o changes is
+changes_by : (read : Result CommandLine ℕ) (files : Files) (o : Outcome) → effect_by read ≡ Changes → IsOutcomeOf read files o → CommitsNoRefusal o
+changes_by (Err place) files o changes is = cc
+changes_by (Ok command) files o changes is = changes_unless (recovery_fault (effect_of command.applet) files) command files o changes is
 
 -- ---- a refusal
 
@@ -96,6 +99,7 @@ reads_or_writes : (applet : Applet) → ReadsOrWrites (effect_of applet)
 reads_or_writes Mkpkg = inr (inl refl)
 reads_or_writes Mkndx = inr (inl refl)
 reads_or_writes Add = inr (inr refl)
+reads_or_writes Del = inr (inr refl)
 reads_or_writes other = inl refl
 
 reads_or_writes_by : (read : Result CommandLine ℕ) → IsTrue (reads_only read) ⊎ ((effect_by read ≡ Makes) ⊎ (effect_by read ≡ Changes))
@@ -104,4 +108,4 @@ reads_or_writes_by (Ok command) = reads_or_writes command.applet
 
 pub refusal_commits : (words : List (List ℕ)) (files : Files) (o : Outcome) → IsOutcome words files o → (IsTrue (reads_only (command_of words)) → o.commits ≡ false) → (effect_by (command_of words) ≡ Makes → CommitsUnlessRefused o) → IsSome o.refusal → o.commits ≡ false
 refusal_commits words files o is reads makes some =
-    ⊎_elim reads (λ writes. ⊎_elim (λ h. refused_maker o (makes h) some) (λ h. idle_by (command_of words) files o h is) writes) (reads_or_writes_by (command_of words))
+    ⊎_elim reads (λ writes. ⊎_elim (λ h. refused_maker o (makes h) some) (λ h. changes_by (command_of words) files o h is some) writes) (reads_or_writes_by (command_of words))

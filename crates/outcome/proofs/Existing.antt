@@ -1,5 +1,5 @@
 -- A command line has one outcome.
-use Rattle.std.proofs.Common.{◌≡◌, ℕ, true, false, List, [], ◌∷◌, ◌++◌, codes, Option, Some, None, IsSome, Result, Ok, Err, refl, sym, ap, ◌∙◌}
+use Rattle.std.proofs.Common.{◌≡◌, ℕ, true, false, List, [], ◌∷◌, ◌++◌, codes, Option, Some, None, IsSome, Result, Ok, Err, refl, sym, ap, subst, ◌∙◌}
 use Rattle.std.specs.Prelude.{if◌then◌else◌, nat_eq}
 use Rattle.std.specs.List.{list_any, starts_with}
 use Rattle.std.specs.Str.{bytes_eq}
@@ -19,11 +19,13 @@ use Rattle.command_core.specs.declared.values.TheConstants.{FILES}
 use Rattle.command_core.specs.Files.{without_dot}
 use Rattle.words_core.specs.Grammar.{command_of}
 use Rattle.command_core.specs.declared.command.Applet.{Applet}
-use Rattle.command_core.specs.declared.command.Applet.TheVariants.{Add, Mkpkg}
+use Rattle.command_core.specs.declared.command.Applet.TheVariants.{Add, Del, Mkpkg}
 use Rattle.command_core.specs.declared.values.OptionValue.{OptionValue}
 use Rattle.make_package.specs.Sources.{values_with}
+use Rattle.outcome.proofs.Clashes.{HaveClash, HaveOneClash, clash_exists, clash_one}
 use Rattle.outcome.proofs.Recovered.{unstaged_within}
-use Rattle.outcome.specs.Commands.{IsChosenFor, IsListingFor, IsOutcome, IsOutcomeOf, IsOutcomeOver, IsOutcomeUnless, reads_in, command_outcome}
+use Rattle.outcome.specs.Given.{Given, IsChosenFor, IsClashOfApplet, IsGiven, IsListingFor}
+use Rattle.outcome.specs.Commands.{IsOutcome, IsOutcomeOf, IsOutcomeOver, IsOutcomeUnless, reads_in, command_outcome}
 use Rattle.outcome.specs.Effect.{Effect, Computes, Reads as OnlyReads, Tells, Makes, Changes, effect_of}
 use Rattle.outcome.specs.Make.{IsListing, files_below}
 use Rattle.outcome.specs.Outcome.{Outcome, just_refusal}
@@ -68,27 +70,35 @@ HaveOneChoice = (pool : Result SealedPool Refusal) (a b : Option (List ℕ)) →
 
 chosen_exists : HaveChoice → (applet : Applet) (command : CommandLine) (read : Reads) → (chosen : Option (List ℕ)) × IsChosenFor applet command read chosen
 chosen_exists choose Add command read = choose (pool_for command read)
+chosen_exists choose Del command read = choose (pool_for command read)
 chosen_exists choose other command read = (None, refl)
 
 chosen_one : HaveOneChoice → (applet : Applet) (command : CommandLine) (read : Reads) (a b : Option (List ℕ)) → IsChosenFor applet command read a → IsChosenFor applet command read b → a ≡ b
 chosen_one one Add command read a b x y = one (pool_for command read) a b x y
+chosen_one one Del command read a b x y = one (pool_for command read) a b x y
 chosen_one one other command read a b x y = x ∙ sym y
 
-outcome_unless : HaveList → HaveChoice → (fault : Option Cause) (command : CommandLine) (files : Files) (within : List (List ℕ)) → IsWithin within files → (o : Outcome) × IsOutcomeUnless fault command files o
-outcome_unless have choose (Some cause) command files within h = (just_refusal files (IntentBad cause), refl)
-outcome_unless have choose None command files within h =
+given_exists : HaveList → HaveChoice → HaveClash → (command : CommandLine) (read : Reads) (files : Files) (within : List (List ℕ)) → IsWithin within files → (given : Given) × IsGiven command read files given
+given_exists have choose clashes command read files within finite =
+    let (names, listed) = names_exist have command.applet command files within finite in
+    let (chosen, choice) = chosen_exists choose command.applet command read in
+    let (clash, first) = clash_exists clashes command.applet command read files within chosen finite in
+    (record { names = names; chosen = chosen; clash = clash }, record { names = listed; chosen = choice; clash = first })
+
+outcome_unless : HaveList → HaveChoice → HaveClash → (fault : Option Cause) (command : CommandLine) (files : Files) (within : List (List ℕ)) → IsWithin within files → (o : Outcome) × IsOutcomeUnless fault command files o
+outcome_unless have choose clashes (Some cause) command files within h = (just_refusal files (IntentBad cause), refl)
+outcome_unless have choose clashes None command files within h =
     let work = work_files (effect_of command.applet) files in
     let (within_work, is) = work_within (effect_of command.applet) files within h in
-    let (names, listed) = names_exist have command.applet command work within_work is in
-    let (chosen, choice) = chosen_exists choose command.applet command (reads_in work) in
-    (command_outcome command names chosen (reads_in work) work, (names, listed, chosen, choice, refl))
+    let (given, are) = given_exists have choose clashes command (reads_in work) work within_work is in
+    (command_outcome command given (reads_in work) work, (given, are, refl))
 
-outcome_by : HaveList → HaveChoice → (read : Result CommandLine ℕ) (files : Files) (within : List (List ℕ)) → IsWithin within files → (o : Outcome) × IsOutcomeOf read files o
-outcome_by have choose (Err place) files within h = (just_refusal files (Usage place), refl)
-outcome_by have choose (Ok command) files within h = outcome_unless have choose (recovery_fault (effect_of command.applet) files) command files within h
+outcome_by : HaveList → HaveChoice → HaveClash → (read : Result CommandLine ℕ) (files : Files) (within : List (List ℕ)) → IsWithin within files → (o : Outcome) × IsOutcomeOf read files o
+outcome_by have choose clashes (Err place) files within h = (just_refusal files (Usage place), refl)
+outcome_by have choose clashes (Ok command) files within h = outcome_unless have choose clashes (recovery_fault (effect_of command.applet) files) command files within h
 
-pub outcome_exists : HaveList → HaveChoice → (words within : List (List ℕ)) (files : Files) → IsWithin within files → (o : Outcome) × IsOutcome words files o
-outcome_exists have choose words within files h = outcome_by have choose (command_of words) files within h
+pub outcome_exists : HaveList → HaveChoice → HaveClash → (words within : List (List ℕ)) (files : Files) → IsWithin within files → (o : Outcome) × IsOutcome words files o
+outcome_exists have choose clashes words within files h = outcome_by have choose clashes (command_of words) files within h
 
 listing_one : HaveOneList → (values : List OptionValue) (files : Files) (a b : List (List ℕ)) → IsListing values files a → IsListing values files b → a ≡ b
 listing_one one [] files a b x y = x ∙ sym y
@@ -98,20 +108,27 @@ names_one : HaveOneList → (applet : Applet) (command : CommandLine) (files : F
 names_one one Mkpkg command files a b x y = listing_one one (values_with FILES command.values) files a b x y
 names_one one other command files a b x y = x ∙ sym y
 
-over_one : HaveOneList → HaveOneChoice → (command : CommandLine) (files : Files) (a b : Outcome) → IsOutcomeOver command files a → IsOutcomeOver command files b → a ≡ b
-over_one one choice command files a b (n, g, c, h, x) (m, k, d, l, y) =
+given_one : HaveOneList → HaveOneChoice → HaveOneClash → (command : CommandLine) (read : Reads) (files : Files) (a b : Given) → IsGiven command read files a → IsGiven command read files b → a ≡ b
+given_one one choice clashes command read files a b x y =
+    let names : a.names ≡ b.names = names_one one command.applet command files a.names b.names x.names y.names in
+    let chosen : a.chosen ≡ b.chosen = chosen_one choice command.applet command read a.chosen b.chosen x.chosen y.chosen in
+    let clash : a.clash ≡ b.clash = clash_one clashes command.applet command read files a.chosen a.clash b.clash x.clash
+    (subst (λ (c : Option (List ℕ)). IsClashOfApplet command.applet command read files c b.clash) (sym chosen) y.clash) in
+    λ i. record { names = names i; chosen = chosen i; clash = clash i }
+
+pub over_one : HaveOneList → HaveOneChoice → HaveOneClash → (command : CommandLine) (files : Files) (a b : Outcome) → IsOutcomeOver command files a → IsOutcomeOver command files b → a ≡ b
+over_one one choice clashes command files a b (g, is_g, x) (h, is_h, y) =
     x
-    ∙ ap (λ names. command_outcome command names c (reads_in files) files) (names_one one command.applet command files n m g k)
-    ∙ ap (λ chosen. command_outcome command m chosen (reads_in files) files) (chosen_one choice command.applet command (reads_in files) c d h l)
+    ∙ ap (λ given. command_outcome command given (reads_in files) files) (given_one one choice clashes command (reads_in files) files g h is_g is_h)
     ∙ sym y
 
-unless_one : HaveOneList → HaveOneChoice → (fault : Option Cause) (command : CommandLine) (files : Files) (a b : Outcome) → IsOutcomeUnless fault command files a → IsOutcomeUnless fault command files b → a ≡ b
-unless_one one choice (Some cause) command files a b x y = x ∙ sym y
-unless_one one choice None command files a b x y = over_one one choice command (work_files (effect_of command.applet) files) a b x y
+unless_one : HaveOneList → HaveOneChoice → HaveOneClash → (fault : Option Cause) (command : CommandLine) (files : Files) (a b : Outcome) → IsOutcomeUnless fault command files a → IsOutcomeUnless fault command files b → a ≡ b
+unless_one one choice clashes (Some cause) command files a b x y = x ∙ sym y
+unless_one one choice clashes None command files a b x y = over_one one choice clashes command (work_files (effect_of command.applet) files) a b x y
 
-outcome_one : HaveOneList → HaveOneChoice → (read : Result CommandLine ℕ) (files : Files) (a b : Outcome) → IsOutcomeOf read files a → IsOutcomeOf read files b → a ≡ b
-outcome_one one choice (Err place) files a b x y = x ∙ sym y
-outcome_one one choice (Ok command) files a b x y = unless_one one choice (recovery_fault (effect_of command.applet) files) command files a b x y
+outcome_one : HaveOneList → HaveOneChoice → HaveOneClash → (read : Result CommandLine ℕ) (files : Files) (a b : Outcome) → IsOutcomeOf read files a → IsOutcomeOf read files b → a ≡ b
+outcome_one one choice clashes (Err place) files a b x y = x ∙ sym y
+outcome_one one choice clashes (Ok command) files a b x y = unless_one one choice clashes (recovery_fault (effect_of command.applet) files) command files a b x y
 
-pub outcome_unique : HaveOneList → HaveOneChoice → (words : List (List ℕ)) (files : Files) (a b : Outcome) → IsOutcome words files a → IsOutcome words files b → a ≡ b
-outcome_unique one choice words files a b x y = outcome_one one choice (command_of words) files a b x y
+pub outcome_unique : HaveOneList → HaveOneChoice → HaveOneClash → (words : List (List ℕ)) (files : Files) (a b : Outcome) → IsOutcome words files a → IsOutcome words files b → a ≡ b
+outcome_unique one choice clashes words files a b x y = outcome_one one choice clashes (command_of words) files a b x y

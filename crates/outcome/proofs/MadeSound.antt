@@ -41,7 +41,8 @@ use Rattle.command_core.specs.declared.operands.Operand.{Operand}
 use Rattle.command_core.specs.declared.values.OptionValue.{OptionValue}
 use Rattle.journal_core.proofs.Below.{is_below}
 use Rattle.outcome.proofs.Listings.{if_some}
-use Rattle.outcome.specs.Commands.{IsListingFor, IsOutcome, IsOutcomeOf, IsOutcomeUnless, reads_in, applet_outcome}
+use Rattle.outcome.specs.Given.{Given, IsListingFor}
+use Rattle.outcome.specs.Commands.{IsOutcome, IsOutcomeOf, IsOutcomeUnless, reads_in, applet_outcome}
 use Rattle.outcome.specs.Effect.{Effect, Computes, Reads as OnlyReads, Tells, Makes, Changes, effect_of, output, output_by, output_if}
 use Rattle.outcome.specs.Make.{IsListing, files_below, index_line, make_outcome, mkndx, mkpkg}
 use Rattle.outcome.specs.Outcome.{Outcome, commit_report, just_refusal}
@@ -246,11 +247,11 @@ index_sound law command files name good is none =
     let (bytes, ok, here) = stands_at files (output_name command) name (index_line (length command.operands)) (made_index command read) (index_fine command read) is none in
     (bytes, here, λ few. law command read bytes (files_found files good 0 command.operands) ok)
 
-applet_sound : SoundPackage → SoundIndex → (applet : Applet) (command : CommandLine) (names : List (List ℕ)) (chosen : Option (List ℕ)) (files : Files) (name : List ℕ) → AreNamedFiles files → IsListingFor applet command files names
-    → output_if (effect_of applet) command ≡ Some name → (applet_outcome applet command names chosen (reads_in files) files).refusal ≡ None → IsSoundAt name (applet_outcome applet command names chosen (reads_in files) files).files
-applet_sound packages indexes Mkpkg command names chosen files name good are is none = package_sound packages command names files name good are is none
-applet_sound packages indexes Mkndx command names chosen files name good are is none = index_sound indexes command files name good is none
-applet_sound packages indexes other command names chosen files name good are is none = absurd (cc (is))
+applet_sound : SoundPackage → SoundIndex → (applet : Applet) (command : CommandLine) (given : Given) (files : Files) (name : List ℕ) → AreNamedFiles files → IsListingFor applet command files given.names
+    → output_if (effect_of applet) command ≡ Some name → (applet_outcome applet command given (reads_in files) files).refusal ≡ None → IsSoundAt name (applet_outcome applet command given (reads_in files) files).files
+applet_sound packages indexes Mkpkg command given files name good are is none = package_sound packages command given.names files name good are is none
+applet_sound packages indexes Mkndx command given files name good are is none = index_sound indexes command files name good is none
+applet_sound packages indexes other command given files name good are is none = absurd (cc (is))
 
 -- named files stay so where they are recovered
 abbrev pub StayNamed : Type 0
@@ -266,10 +267,10 @@ work_named stay Changes files good = stay files good
 sound_unless : StayNamed → SoundPackage → SoundIndex → (fault : Option Cause) (command : CommandLine) (files : Files) (o : Outcome) (name : List ℕ) → AreNamedFiles files → IsOutcomeUnless fault command files o → o.refusal ≡ None
     → output_if (effect_of command.applet) command ≡ Some name → IsSoundAt name o.files
 sound_unless stay packages indexes (Some cause) command files o name good is none named = absurd (let e : Some (IntentBad cause) ≡ None = ap (λ (p : Outcome). p.refusal) (sym is) ∙ none in cc)
-sound_unless stay packages indexes None command files o name good (names, are, chosen, choice, is) none named =
+sound_unless stay packages indexes None command files o name good (given, are, is) none named =
     let work = work_files (effect_of command.applet) files in
     subst (λ (p : Outcome). IsSoundAt name p.files) (sym is)
-    (applet_sound packages indexes command.applet command names chosen work name (work_named stay (effect_of command.applet) files good) are named (ap (λ (p : Outcome). p.refusal) (sym is) ∙ none))
+    (applet_sound packages indexes command.applet command given work name (work_named stay (effect_of command.applet) files good) are.names named (ap (λ (p : Outcome). p.refusal) (sym is) ∙ none))
 
 sound_by : StayNamed → SoundPackage → SoundIndex → (read : Result CommandLine ℕ) (files : Files) (o : Outcome) (name : List ℕ) → AreNamedFiles files → IsOutcomeOf read files o → o.refusal ≡ None → output_by read ≡ Some name
     → IsSoundAt name o.files

@@ -1,20 +1,22 @@
--- `add`: what is installed changes. Until changes are written, it is only simulated.
-use Rattle.std.specs.Prelude.{ℕ, if◌then◌else◌, List, Option, Result, Ok, Err}
+-- `add` and `del`: what is installed changes.
+use Rattle.std.specs.Prelude.{ℕ, List, Option, Result, Ok, Err}
 use Rattle.base_core.specs.Files.{Files}
+use Rattle.change_outcome.specs.ChangeOutcome.{ChangeDone}
 use Rattle.command_core.specs.Command.{CommandLine}
-use Rattle.engine_core.specs.Simulated.{simulated}
+use Rattle.engine_core.specs.Changed.{changed}
 use Rattle.make_info.specs.Reads.{Reads}
+use Rattle.path_clashes.specs.Clash.{NamePair}
 use Rattle.report_core.specs.declared.refusal.Refusal.{Refusal}
-use Rattle.report_core.specs.declared.refusal.Refusal.TheVariants.{Usage}
 use Rattle.outcome.specs.Outcome.{Outcome, just_refusal, just_report}
 
--- a report, or the refusal in its place; nothing is written
-abbrev pub report_or_refusal : Files → Result (List ℕ) Refusal → Outcome
-report_or_refusal files (Ok report) = just_report files report
-report_or_refusal files (Err refusal) = just_refusal files refusal
+-- the report and the files after, or the refusal in their place
+abbrev pub change_outcome : Files → Result ChangeDone Refusal → Outcome
+change_outcome files (Ok done) =
+    record (just_report done.files done.report) { commits = done.commits }
+change_outcome files (Err refusal) = just_refusal files refusal
 
--- by what reads find and by the candidates that are chosen; without `--simulate` a word is missing
-abbrev pub add : Reads → Files → CommandLine → Option (List ℕ) → Outcome
-add read files command chosen =
-    if command.flags.simulate then report_or_refusal files (simulated command read chosen) else
-    just_refusal files (Usage command.behind)
+-- by what reads find, by the files, by the candidates that are chosen, and by the first clash of
+-- names, if there is one
+abbrev pub change : Reads → Files → CommandLine → Option (List ℕ) → Option NamePair → Outcome
+change read files command chosen clash =
+    change_outcome files (changed command read files chosen clash)

@@ -1,23 +1,24 @@
 -- The outcome of a command line.
-use Rattle.std.specs.Prelude.{◌≡◌, ◌⊎◌, ℕ, true, List, [], Option, Some, None, Result, Ok, Err}
+use Rattle.std.specs.Prelude.{◌≡◌, ◌⊎◌, ℕ, true, List, [], Option, Some, None, Result, Ok, Err, Contains}
 use Rattle.adb_schema.specs.Soundness.{first_fault}
 use Rattle.adb_tables.specs.declared.tables.Which.TheVariants.{Intent as IntentTable}
 use Rattle.base_core.specs.Files.{Files, no_names}
 use Rattle.base_core.specs.declared.cause.Cause.{Cause}
-use Rattle.command_core.specs.declared.values.TheConstants.{FILES}
 use Rattle.make_info.specs.Reads.{Reads}
-use Rattle.make_package.specs.Sources.{AreNamesFor, values_with}
-use Rattle.report_core.specs.declared.refusal.Refusal.TheVariants.{IntentBad, Usage}
+use Rattle.package_changes.specs.Changes.{selected_version}
+use Rattle.pool_core.specs.Candidates.{Candidate}
+use Rattle.report_core.specs.declared.refusal.Refusal.TheVariants.{IntentBad, PackageBad, Usage}
 use Rattle.command_core.specs.Command.{CommandLine}
 use Rattle.words_core.specs.Grammar.{command_of}
 use Rattle.command_core.specs.declared.command.Applet.{Applet}
-use Rattle.command_core.specs.declared.command.Applet.TheVariants.{Adbdump, Add, Mkndx, Mkpkg, Verify, Version}
-use Rattle.engine_core.specs.Choice.{IsChoiceFrom}
-use Rattle.engine_core.specs.Selecting.{pool_for}
-use Rattle.outcome.specs.Changing.{add}
+use Rattle.command_core.specs.declared.command.Applet.TheVariants.{Adbdump, Add, Del, Mkndx, Mkpkg, Verify, Version}
+use Rattle.engine_core.specs.ChangeRun.{selected_in}
+use Rattle.engine_core.specs.Changed.{selected_for}
+use Rattle.outcome.specs.Changing.{change}
 use Rattle.outcome.specs.Dump.{adbdump}
-use Rattle.outcome.specs.Effect.{does_recover, effect_of}
-use Rattle.outcome.specs.Make.{IsListing, mkndx, mkpkg}
+use Rattle.outcome.specs.Effect.{Changes, does_recover, effect_of}
+use Rattle.outcome.specs.Given.{Given, IsGiven, MayBeGiven}
+use Rattle.outcome.specs.Make.{mkndx, mkpkg}
 use Rattle.outcome.specs.Outcome.{Outcome, just_refusal, just_report}
 use Rattle.outcome.specs.Verify.{verify}
 use Rattle.outcome.specs.Version.{version}
@@ -25,37 +26,23 @@ use Rattle.outcome.specs.Work.{recovery_fault, work_files}
 
 -- ---- the outcome of an applet
 
--- by the names that it lists, by the candidates that are chosen, by what its reads find, and by the
--- files, which it may change
-abbrev pub applet_outcome :
-    Applet → CommandLine → List (List ℕ) → Option (List ℕ) → Reads → Files → Outcome
-applet_outcome Verify command names chosen read files = verify read files command.operands
-applet_outcome Version command names chosen read files =
-    version files command.flags command.operands
-applet_outcome Adbdump command names chosen read files = adbdump read files command.operands
-applet_outcome Mkpkg command names chosen read files = mkpkg read files command names
-applet_outcome Mkndx command names chosen read files = mkndx read files command
-applet_outcome Add command names chosen read files = add read files command chosen
+-- by what no function computes, by what its reads find, and by the files, which it may change
+abbrev pub applet_outcome : Applet → CommandLine → Given → Reads → Files → Outcome
+applet_outcome Verify command given read files = verify read files command.operands
+applet_outcome Version command given read files = version files command.flags command.operands
+applet_outcome Adbdump command given read files = adbdump read files command.operands
+applet_outcome Mkpkg command given read files = mkpkg read files command given.names
+applet_outcome Mkndx command given read files = mkndx read files command
+applet_outcome Add command given read files = change read files command given.chosen given.clash
+applet_outcome Del command given read files = change read files command given.chosen given.clash
 -- no word names another applet yet
-applet_outcome other command names chosen read files = just_report files []
+applet_outcome other command given read files = just_report files []
 
-abbrev pub command_outcome :
-    CommandLine → List (List ℕ) → Option (List ℕ) → Reads → Files → Outcome
-command_outcome command names chosen read files =
-    applet_outcome command.applet command names chosen read files
-
--- what an applet chooses, by what its reads find: the places of candidates, in the order in which
--- they are chosen; None where none satisfy the world, and of an applet that chooses nothing
-abbrev pub IsChosenFor : Applet → CommandLine → Reads → Option (List ℕ) → Type 0
-IsChosenFor Add command read chosen = IsChoiceFrom (pool_for command read) chosen
-IsChosenFor other command read chosen = chosen ≡ None
+abbrev pub command_outcome : CommandLine → Given → Reads → Files → Outcome
+command_outcome command given read files =
+    applet_outcome command.applet command given read files
 
 -- ---- over the files of a tree
-
--- the names that an applet lists: `mkpkg` those below its folder, the others none
-abbrev pub IsListingFor : Applet → CommandLine → Files → List (List ℕ) → Type 0
-IsListingFor Mkpkg command files names = IsListing (values_with FILES command.values) files names
-IsListingFor other command files names = names ≡ []
 
 -- each read finds the file under its name
 abbrev pub reads_in : Files → Reads
@@ -64,11 +51,9 @@ reads_in files n name = files name
 -- the outcome of a command that works on these files
 abbrev pub IsOutcomeOver : CommandLine → Files → Outcome → Type 0
 IsOutcomeOver command files outcome =
-    (names : List (List ℕ))
-    × IsListingFor command.applet command files names
-    × (chosen : Option (List ℕ))
-    × IsChosenFor command.applet command (reads_in files) chosen
-    × (outcome ≡ command_outcome command names chosen (reads_in files) files)
+    (given : Given)
+    × IsGiven command (reads_in files) files given
+    × (outcome ≡ command_outcome command given (reads_in files) files)
 
 -- a bad intent is refused before all else but a usage error, and nothing changes
 abbrev pub IsOutcomeUnless : Option Cause → CommandLine → Files → Outcome → Type 0
@@ -88,20 +73,27 @@ IsOutcome words files outcome = IsOutcomeOf (command_of words) files outcome
 
 -- ---- over a tree whose files no contract knows, as a folder of the host
 
--- names that an applet may list: `mkpkg` some below its folder, in byte order and each once, the
--- others none
-abbrev pub MayBeListedFor : Applet → CommandLine → List (List ℕ) → Type 0
-MayBeListedFor Mkpkg command names = AreNamesFor (values_with FILES command.values) names
-MayBeListedFor other command names = names ≡ []
+-- The file of a package that comes is read once more when a change is carried out. Where it is not
+-- what it was when it was tested, the change is refused.
+pub record IsSpoiled (command : CommandLine) (read : Reads) (given : Given) (files : Files)
+    (outcome : Outcome) : Type 0 where
+  pub changes : effect_of command.applet ≡ Changes
+  pub commits : (command_outcome command given read files).commits ≡ true
+  pub candidate : Candidate
+  pub selects : Contains (selected_in (selected_for command read given.chosen)) candidate
+  pub cause : Cause
+  pub refusal : outcome
+      ≡ just_refusal files (PackageBad candidate.name (selected_version candidate) cause)
 
+-- the outcome for some listing, some contents at each read, and some files
 abbrev pub IsFoundOver : CommandLine → Outcome → Type 0
 IsFoundOver command outcome =
-    (names : List (List ℕ))
-    × MayBeListedFor command.applet command names
+    (given : Given)
     × (read : Reads)
-    × (chosen : Option (List ℕ))
-    × IsChosenFor command.applet command read chosen
-    × (outcome ≡ command_outcome command names chosen read no_names)
+    × (files : Files)
+    × MayBeGiven command read given
+    × ((outcome ≡ command_outcome command given read files)
+    ⊎ IsSpoiled command read given files outcome)
 
 -- some file is no intent container, and that is refused
 abbrev pub IsFoundUnrecovered : Outcome → Type 0
@@ -117,7 +109,7 @@ IsFoundOutcomeOf (Ok command) outcome =
     IsFoundOver command outcome
     ⊎ ((does_recover (effect_of command.applet) ≡ true) × IsFoundUnrecovered outcome)
 
--- the outcome of a command line for some listing, and for some contents, or none, at each read and
--- of the intent; nothing is said of the files afterwards
+-- the outcome of a command line for some listing, for some contents, or none, at each read and of the
+-- intent, and for some files; nothing is said of the files afterwards
 abbrev pub IsFoundOutcome : List (List ℕ) → Outcome → Type 0
 IsFoundOutcome words outcome = IsFoundOutcomeOf (command_of words) outcome

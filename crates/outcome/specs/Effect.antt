@@ -4,7 +4,7 @@ use Rattle.make_info.specs.Output.{output_name}
 use Rattle.command_core.specs.Command.{CommandLine}
 use Rattle.words_core.specs.Grammar.{command_of}
 use Rattle.command_core.specs.declared.command.Applet.{Applet}
-use Rattle.command_core.specs.declared.command.Applet.TheVariants.{Adbdump, Add, Mkndx, Mkpkg, Verify}
+use Rattle.command_core.specs.declared.command.Applet.TheVariants.{Adbdump, Add, Del, Mkndx, Mkpkg, Verify}
 
 pub data Effect : Type 0 where
   -- it looks at the words alone
@@ -25,6 +25,7 @@ effect_of Adbdump = Reads
 effect_of Mkpkg = Makes
 effect_of Mkndx = Makes
 effect_of Add = Changes
+effect_of Del = Changes
 effect_of other = Computes
 
 abbrev pub does_rest_on_words : Effect → Bool

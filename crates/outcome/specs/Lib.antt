@@ -8,5 +8,6 @@ pub mod Verify
 pub mod Dump
 pub mod Make
 pub mod Changing
+pub mod Given
 -- what only inner contracts and proofs use
 pub mod Sound

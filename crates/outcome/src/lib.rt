@@ -3,24 +3,31 @@
 //!
 //! It is a crate of definitions. `Outcome` of `specs/` says what a command comes to, `Commands`
 //! what a command line comes to, `Effect` what it looks at and changes, and `Version`, `Verify`,
-//! `Dump`, `Make` and `Changing` what each command comes to; `Sound` says when a file is a sound container. The
-//! functions are laws: they do nothing, and their contracts say what follows from the definitions,
-//! for all words and files.
+//! `Dump`, `Make` and `Changing` what each command comes to; `Given` says what no function computes
+//! of it, and `Sound` when a file is a sound container. The functions are laws: they do nothing, and
+//! their contracts say what follows from the definitions, for all words and files.
 #![tactic(auto)]
 
-ghost use Rattle.std.specs.Prelude.{◌≡◌, ℕ, false, List, None, Some, IsSome, IsTrue, is_some, not};
+ghost use Rattle.std.specs.Prelude.{◌≡◌, ◌⊎◌, ℕ, false, List, None, Some, IsSome, IsTrue, is_some, not};
 ghost use Rattle.base_core.specs.Files.{Files, IsWithin};
 ghost use Rattle.base_core.specs.Listed.{IsListOf, IsNamesOf};
 ghost use Rattle.base_core.specs.Tree.{IsWhole, TreeState, files_of};
-ghost use Rattle.outcome.specs.Commands.{IsOutcome};
-ghost use Rattle.outcome.specs.Effect.{Makes, effect_by, output, reads_only, rests_on_words};
+ghost use Rattle.command_core.specs.Command.{CommandLine};
+ghost use Rattle.journal_core.specs.Staged.{HasRoomToReplay, HasRoomToStage};
+ghost use Rattle.outcome.specs.Commands.{IsOutcome, IsOutcomeOver};
+ghost use Rattle.outcome.specs.Effect.{Changes, Makes, effect_by, output, reads_only, rests_on_words};
 ghost use Rattle.outcome.specs.Make.{files_below};
 ghost use Rattle.outcome.specs.Outcome.{Outcome, outcome_of};
 ghost use Rattle.outcome.specs.Sound.{IsSoundAt};
+ghost use Rattle.outcome.specs.Work.{work_files};
 ghost use Rattle.words_core.specs.Grammar.{command_of};
 
 use adb_schema::sound_containers_hold_sound_values;
 use base_core::{files_have_one_list_of_names, the_files_of_a_whole_state_are_named_files};
+use change_laws::{
+    a_change_has_a_first_clash_or_none, a_change_keeps_room,
+    a_change_that_writes_nothing_leaves_the_files, what_is_read_of_a_root_stands_there,
+};
 use engine_core::{a_choice_exists, a_choice_is_unique};
 use journal_intent::an_intent_is_read_from_a_sound_container;
 use make_core::{a_made_index_is_sound, a_made_package_is_sound};
@@ -32,6 +39,7 @@ pub fn an_outcome_exists()
 {
     files_have_one_list_of_names();
     a_choice_exists();
+    a_change_has_a_first_clash_or_none();
 }
 
 /// A command line has one outcome over some files, and no second one.
@@ -41,6 +49,17 @@ pub fn an_outcome_is_unique()
 {
     files_have_one_list_of_names();
     a_choice_is_unique();
+    a_change_has_a_first_clash_or_none();
+}
+
+/// So it is with a command over the files on which it works.
+pub fn an_outcome_over_files_is_unique()
+    ensures { (command : CommandLine) (files : Files) (a b : Outcome)
+        → IsOutcomeOver command files a → IsOutcomeOver command files b → a ≡ b }
+{
+    files_have_one_list_of_names();
+    a_choice_is_unique();
+    a_change_has_a_first_clash_or_none();
 }
 
 /// A command that only reads leaves the files as they are, and commits nothing.
@@ -66,6 +85,29 @@ pub fn a_refusal_commits_nothing()
 {
     a_command_that_reads_leaves_the_files();
     a_command_that_makes_commits_unless_refused();
+}
+
+/// A command that commits nothing leaves the files as they are, or as a recovery leaves them.
+pub fn a_command_that_commits_nothing_leaves_the_files()
+    ensures over { (command : CommandLine) (files : Files) (o : Outcome)
+        → IsOutcomeOver command files o → o.commits ≡ false → o.files ≡ files }
+    ensures words { (words : List (List ℕ)) (files : Files) (o : Outcome)
+        → IsOutcome words files o → o.commits ≡ false → (o.files ≡ files)
+        ⊎ (o.files ≡ work_files (effect_by (command_of words)) files) }
+{
+    what_is_read_of_a_root_stands_there();
+    a_change_that_writes_nothing_leaves_the_files();
+}
+
+/// A change leaves room for the next one: a recovery finds no intent, and nothing waits.
+pub fn a_change_leaves_room_for_the_next()
+    ensures { (words : List (List ℕ)) (files : Files) (o : Outcome)
+        → effect_by (command_of words) ≡ Changes → IsOutcome words files o → o.refusal ≡ None
+        → HasRoomToStage (work_files Changes files)
+        → HasRoomToReplay o.files × HasRoomToStage (work_files Changes o.files) }
+{
+    a_change_keeps_room();
+    an_intent_is_read_from_a_sound_container();
 }
 
 /// An outcome that rests on the words alone is the same over all other files, which it leaves.

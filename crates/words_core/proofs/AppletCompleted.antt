@@ -1,15 +1,16 @@
 -- Words that lack a word can be completed, unless they are stuck.
-use Rattle.std.proofs.Common.{Bool, Err, List, None, Ok, Option, Result, Some, [], ap, append-nil, arith, codes, drop, false, inl, inr, is_ok, length, not, option_and_then, refl, subst, suc, sym, take, true, ℕ, ◌++◌, ◌+◌, ◌-◌, ◌∙◌, ◌∷◌, ◌≡◌, ◌≤◌, if◌then◌else◌}
+use Rattle.std.proofs.Common.{Bool, Err, List, None, Ok, Option, Result, Some, [], ap, append-nil, arith, codes, drop, false, inl, inr, is_ok, length, not, option_and_then, refl, subst, suc, sym, take, true, ℕ, ◌++◌, ◌+◌, ◌-◌, ◌∙◌, ◌∷◌, ◌≡◌, ◌⊎◌, ◌≤◌, if◌then◌else◌}
 use Rattle.std.specs.List.{list_all, list_any}
 use Rattle.std.specs.Prelude.{◌||◌}
 use Rattle.std.proofs.lemmas.Bool.{and_parts, cases_lt, false≢true}
 use Rattle.std.proofs.lemmas.List.{length-take-le, take-append-drop}
 use Rattle.std.proofs.lemmas.Option.{none-some}
 use Rattle.command_core.specs.declared.command.Applet.{Applet}
-use Rattle.command_core.specs.declared.command.Applet.TheVariants.{Add}
+use Rattle.command_core.specs.declared.command.Applet.TheVariants.{Add, Del}
 use Rattle.command_core.specs.declared.command.Flag.TheVariants.{AllowUntrusted, Initdb, NoScripts, Simulate}
 use Rattle.command_core.specs.declared.command.Flags.{Flags}
 use Rattle.command_core.specs.Flags.{no_flags}
+use Rattle.command_core.specs.Operands.{operand_at}
 use Rattle.words_core.specs.declared.options.Meaning.{Meaning}
 use Rattle.words_core.specs.declared.options.Meaning.TheVariants.{Flag as Plain}
 use Rattle.words_core.specs.declared.reading.AppletSite.{AppletSite}
@@ -23,7 +24,7 @@ use Rattle.words_core.proofs.LinesRead.{by_early}
 use Rattle.words_core.proofs.MoreWords.{usage_stays}
 use Rattle.words_core.proofs.OffendingWords.{usage_between}
 use Rattle.words_core.proofs.Sites.{err_here, flags_end, flags_step, foreign_between, no_start, seek_early, seek_end, seek_here, seek_late, take_stays}
-use Rattle.words_core.proofs.WordsCompleted.{CanBeCompleted, IsJudgedGood, completed_from, judged_good}
+use Rattle.words_core.proofs.WordsCompleted.{AreTexts, CanBeCompleted, IsJudgedGood, a_text, completed_from, judged_good, no_texts}
 
 -- what is behind the applet where it is named behind words
 pub named_behind : (words : List (List ℕ)) (word : List ℕ) (more : List (List ℕ)) → drop (1 + length words) (words ++ (word ∷ more)) ≡ more
@@ -49,7 +50,11 @@ says_same (Some o) (Some v) = is_same_meaning o.meaning v.meaning
 abbrev is_as_add : Applet → List ℕ → Bool
 is_as_add applet word = says_same (option_spelled (options_of applet) word) (option_spelled (options_of Add) word)
 
-today : list_all (λ applet. list_all (is_as_add applet) early_words) applets ≡ true
+-- the applets that exist, without `add` and `del`
+abbrev other_applets : List Applet
+other_applets = drop 2 applets
+
+today : list_all (λ applet. list_all (is_as_add applet) early_words) other_applets ≡ true
 unfolding common_options options_of early_words
 today = refl
 
@@ -99,71 +104,110 @@ any_suits words (x ∷ xs) each s h =
       | Err at ↦ λ f h. any_suits words xs parts.1 s h
     ] refl h
 
--- ---- the applet behind words that lack it
-
--- the words before the applet, whether or not the options have ended
-abbrev pub IsSought : ℕ → List (List ℕ) → Type 0
-IsSought place words = (ended : Bool) × (applet_site place (words ++ (codes "add" ∷ [])) ≡ Ok (site_by ended (place + length words) Add))
-
-pub end_sought : (place : ℕ) (word : List ℕ) (words : List (List ℕ)) → is_end word ≡ true → site_behind_end (place + 1) words ≡ Err (place + length (word ∷ words)) → IsSought place (word ∷ words)
-unfolding site_behind_end site_at
-end_sought place word [] e h = (true, seek_end place word (codes "add" ∷ []) e)
-end_sought place word (next ∷ words) e h = absurd (let same : place + length (word ∷ (next ∷ words)) ≡ place + 1 = err_here (place + 1) (place + length (word ∷ (next ∷ words))) true next h in omega arith)
-
-pub sought : (place : ℕ) (words : List (List ℕ)) → applet_site place words ≡ Err (place + length words) → IsSought place words
-unfolding site_at
-sought place [] h = (false, let same : place ≡ place + 0 = omega arith in ap (λ k. Ok (site_by false k Add)) same)
-sought place (word ∷ words) h =
-    let next : place + length (word ∷ words) ≡ place + 1 + length words = omega arith in
-    let more : List (List ℕ) = codes "add" ∷ [] in
-    elim (is_end word) as (λ b. is_end word ≡ b → IsSought place (word ∷ words)) [
-      | true ↦ λ e. end_sought place word words e (sym (seek_end place word words e) ∙ h)
-      | false ↦ λ e. elim (is_option word) as (λ b. is_option word ≡ b → IsSought place (word ∷ words)) [
-        | true ↦ λ o. elim (is_early word) as (λ b. is_early word ≡ b → IsSought place (word ∷ words)) [
-          | false ↦ λ y. absurd (let same : Err place ≡ Err (place + length (word ∷ words)) = sym (seek_late place word words e o y) ∙ h in let is : place ≡ place + length (word ∷ words) = cc in omega arith)
-          | true ↦ λ y. (let rest = sought (place + 1) words (sym (seek_early place word words e o y) ∙ (h ∙ ap Err next)) in
-              (rest.0, seek_early place word (words ++ more) e o y ∙ (rest.1 ∙ ap (λ k. Ok (site_by rest.0 k Add)) (sym next))))
-        ] refl
-        | false ↦ λ o. absurd (let same : place + length (word ∷ words) ≡ place = err_here place (place + length (word ∷ words)) false word (sym (seek_here place word words e o) ∙ h) in omega arith)
-      ] refl
-    ] refl
-
--- the applet behind words that lack it
-pub from_named : (start : Start) (words : List (List ℕ)) → start.applet ≡ Add → start.read ≡ 1 + length words → reading_behind start (words ++ (codes "add" ∷ [])) ≡ reading_by (first_state start.flags) [] None
-unfolding reading_behind
-from_named start words v r =
-    subst (λ left. (if start.ended then reading_by (first_state start.flags) (operands_of (start.read + 1) left) None else option_reading (options_of start.applet) (first_state start.flags) (start.read + 1) left) ≡ reading_by (first_state start.flags) [] None)
-    (sym (ap (λ k. drop k (words ++ (codes "add" ∷ []))) r ∙ named_behind words (codes "add") []))
-    (elim start.ended as (λ b. (if b then reading_by (first_state start.flags) (operands_of (start.read + 1) []) None else option_reading (options_of start.applet) (first_state start.flags) (start.read + 1) []) ≡ reading_by (first_state start.flags) [] None) [
-      | true ↦ refl
-      | false ↦ refl
-    ])
+-- they are those of `add`, or of `del`
+one_suits : (words : List (List ℕ)) → applet_site 1 words ≡ Err (1 + length words) → list_any (suit words) applets ≡ true → IsSuited Add no_flags 1 words ⊎ IsSuited Del no_flags 1 words
+one_suits words s h =
+    elim (early_flags (options_of Add) no_flags 1 words) as (λ r. early_flags (options_of Add) no_flags 1 words ≡ r → (is_ok r || (suit words Del || list_any (suit words) other_applets)) ≡ true → IsSuited Add no_flags 1 words ⊎ IsSuited Del no_flags 1 words) [
+      | Ok more ↦ λ f h. inl (more, f)
+      | Err at ↦ λ f h. elim (early_flags (options_of Del) no_flags 1 words) as (λ r. early_flags (options_of Del) no_flags 1 words ≡ r → (is_ok r || list_any (suit words) other_applets) ≡ true → IsSuited Add no_flags 1 words ⊎ IsSuited Del no_flags 1 words) [
+        | Ok more ↦ λ g h. inr (more, g)
+        | Err at ↦ λ g h. inl (any_suits words other_applets today s h)
+      ] refl h
+    ] refl h
 
 none_good : (state : OptionState) → IsJudgedGood Add (reading_by state [] None)
 none_good state end = judged_good Add (reading_by state [] None) end refl refl refl
 
+one_good : (state : OptionState) (place : ℕ) → IsJudgedGood Del (reading_by state (operand_at place (codes "a") ∷ []) None)
+one_good state place end = judged_good Del (reading_by state (operand_at place (codes "a") ∷ []) None) end refl refl refl
+
+-- ---- an applet behind words that lack it: its word, and operands behind it
+
+module _ (applet : Applet) (named : List ℕ) (operands : List (List ℕ))
+    (here : (place : ℕ) → applet_site place (named ∷ operands) ≡ Ok (site_by false place applet))
+    (behind_end : (place : ℕ) → site_behind_end place (named ∷ operands) ≡ Ok (site_by true place applet))
+    (texts : AreTexts operands) (good : (state : OptionState) (place : ℕ) → IsJudgedGood applet (reading_by state (operands_of place operands) None)) where
+  abbrev more : List (List ℕ)
+  more = named ∷ operands
+
+  -- the words before the applet, whether or not the options have ended
+  abbrev IsSought : ℕ → List (List ℕ) → Type 0
+  IsSought place words = (ended : Bool) × (applet_site place (words ++ more) ≡ Ok (site_by ended (place + length words) applet))
+
+  end_sought : (place : ℕ) (word : List ℕ) (words : List (List ℕ)) → is_end word ≡ true → site_behind_end (place + 1) words ≡ Err (place + length (word ∷ words)) → IsSought place (word ∷ words)
+  unfolding site_behind_end site_at
+  end_sought place word [] e h = (true, seek_end place word more e ∙ behind_end (place + 1))
+  end_sought place word (next ∷ words) e h = absurd (let same : place + length (word ∷ (next ∷ words)) ≡ place + 1 = err_here (place + 1) (place + length (word ∷ (next ∷ words))) true next h in omega arith)
+
+  sought : (place : ℕ) (words : List (List ℕ)) → applet_site place words ≡ Err (place + length words) → IsSought place words
+  sought place [] h = (false, here place ∙ (let same : place ≡ place + 0 = omega arith in ap (λ k. Ok (site_by false k applet)) same))
+  sought place (word ∷ words) h =
+      let next : place + length (word ∷ words) ≡ place + 1 + length words = omega arith in
+      elim (is_end word) as (λ b. is_end word ≡ b → IsSought place (word ∷ words)) [
+        | true ↦ λ e. end_sought place word words e (sym (seek_end place word words e) ∙ h)
+        | false ↦ λ e. elim (is_option word) as (λ b. is_option word ≡ b → IsSought place (word ∷ words)) [
+          | true ↦ λ o. elim (is_early word) as (λ b. is_early word ≡ b → IsSought place (word ∷ words)) [
+            | false ↦ λ y. absurd (let same : Err place ≡ Err (place + length (word ∷ words)) = sym (seek_late place word words e o y) ∙ h in let is : place ≡ place + length (word ∷ words) = cc in omega arith)
+            | true ↦ λ y. (let rest = sought (place + 1) words (sym (seek_early place word words e o y) ∙ (h ∙ ap Err next)) in
+                (rest.0, seek_early place word (words ++ more) e o y ∙ (rest.1 ∙ ap (λ k. Ok (site_by rest.0 k applet)) (sym next))))
+          ] refl
+          | false ↦ λ o. absurd (let same : place + length (word ∷ words) ≡ place = err_here place (place + length (word ∷ words)) false word (sym (seek_here place word words e o) ∙ h) in omega arith)
+        ] refl
+      ] refl
+
+  from_named : (start : Start) (words : List (List ℕ)) → start.applet ≡ applet → start.read ≡ 1 + length words → reading_behind start (words ++ more) ≡ reading_by (first_state start.flags) (operands_of (start.read + 1) operands) None
+  unfolding reading_behind
+  from_named start words v r =
+      subst (λ left. (if start.ended then reading_by (first_state start.flags) (operands_of (start.read + 1) left) None else option_reading (options_of start.applet) (first_state start.flags) (start.read + 1) left) ≡ reading_by (first_state start.flags) (operands_of (start.read + 1) operands) None)
+      (sym (ap (λ k. drop k (words ++ more)) r ∙ named_behind words named operands))
+      (elim start.ended as (λ b. (if b then reading_by (first_state start.flags) (operands_of (start.read + 1) operands) None else option_reading (options_of start.applet) (first_state start.flags) (start.read + 1) operands) ≡ reading_by (first_state start.flags) (operands_of (start.read + 1) operands) None) [
+        | true ↦ refl
+        | false ↦ texts (options_of start.applet) (first_state start.flags) (start.read + 1) refl
+      ])
+
+  take_all : (ws : List (List ℕ)) → take (length ws) ws ≡ ws
+  take_all [] = refl
+  take_all (w ∷ ws) = ap (λ xs. w ∷ xs) (take_all ws)
+
+  completed_by : (words : List (List ℕ)) → applet_site 1 words ≡ Err (1 + length words) → IsSuited applet no_flags 1 words → CanBeCompleted words
+  unfolding command_of
+  completed_by words h flags =
+      let found = sought 1 words h in
+      let site : AppletSite = site_by found.0 (1 + length words) applet in
+      let start : Start = start_by site flags.0 in
+      let reading = reading_by (first_state flags.0) (operands_of (1 + length words + 1) operands) None in
+      let before : 1 + length words - 1 ≡ length words = omega arith in
+      let early : early_flags (options_of applet) no_flags 1 (take (1 + length words - 1) (words ++ more)) ≡ Ok flags.0 =
+      ap (λ n. early_flags (options_of applet) no_flags 1 (take n (words ++ more))) before
+      ∙ (ap (early_flags (options_of applet) no_flags 1) (take_stays (length words) words more (omega arith) ∙ take_all words) ∙ flags.1) in
+      let is : line_start (words ++ more) ≡ Ok start = ap (start_from (words ++ more)) found.1 ∙ ap (start_with site) early in (
+        more,
+        command_read (length (words ++ more) + 1) applet reading,
+        ap (command_from (words ++ more)) is ∙ (ap (verdict (length (words ++ more) + 1) applet) (from_named start words refl refl) ∙ good (first_state flags.0) (1 + length words + 1) (length (words ++ more) + 1)),
+      )
+
+add_here : (place : ℕ) → applet_site place (codes "add" ∷ []) ≡ Ok (site_by false place Add)
+unfolding site_at
+add_here place = refl
+
+add_behind : (place : ℕ) → site_behind_end place (codes "add" ∷ []) ≡ Ok (site_by true place Add)
+unfolding site_at site_behind_end
+add_behind place = refl
+
+del_here : (place : ℕ) → applet_site place (codes "del" ∷ (codes "a" ∷ [])) ≡ Ok (site_by false place Del)
+unfolding site_at
+del_here place = refl
+
+del_behind : (place : ℕ) → site_behind_end place (codes "del" ∷ (codes "a" ∷ [])) ≡ Ok (site_by true place Del)
+unfolding site_at site_behind_end
+del_behind place = refl
+
 pub applet_completed : (words : List (List ℕ)) → applet_site 1 words ≡ Err (1 + length words) → list_any (suit words) applets ≡ true → CanBeCompleted words
-unfolding command_of
 applet_completed words h k =
-    let more : List (List ℕ) = codes "add" ∷ [] in
-    let found = sought 1 words h in
-    let flags = any_suits words applets today h k in
-    let site : AppletSite = site_by found.0 (1 + length words) Add in
-    let start : Start = start_by site flags.0 in
-    let reading = reading_by (first_state flags.0) [] None in
-    let before : 1 + length words - 1 ≡ length words = omega arith in
-    let early : early_flags (options_of Add) no_flags 1 (take (1 + length words - 1) (words ++ more)) ≡ Ok flags.0 =
-    ap (λ n. early_flags (options_of Add) no_flags 1 (take n (words ++ more))) before
-    ∙ (ap (early_flags (options_of Add) no_flags 1) (take_stays (length words) words more (omega arith) ∙ take_all words) ∙ flags.1) in
-    let is : line_start (words ++ more) ≡ Ok start = ap (start_from (words ++ more)) found.1 ∙ ap (start_with site) early in (
-      more,
-      command_read (length (words ++ more) + 1) Add reading,
-      ap (command_from (words ++ more)) is ∙ (ap (verdict (length (words ++ more) + 1) Add) (from_named start words refl refl) ∙ none_good (first_state flags.0) (length (words ++ more) + 1)),
-    )
-  where
-    take_all : (ws : List (List ℕ)) → take (length ws) ws ≡ ws
-    take_all [] = refl
-    take_all (w ∷ ws) = ap (λ xs. w ∷ xs) (take_all ws)
+    elim (one_suits words h k) [
+      | inl flags ↦ completed_by Add (codes "add") [] add_here add_behind no_texts (λ state place. none_good state) words h flags
+      | inr flags ↦ completed_by Del (codes "del") (codes "a" ∷ []) del_here del_behind a_text one_good words h flags
+    ]
 
 pub completed_unless : (words : List (List ℕ)) → are_stuck words ≡ false → command_of words ≡ Err (length words + 1) → CanBeCompleted words
 unfolding command_of are_stuck

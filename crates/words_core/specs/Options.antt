@@ -117,7 +117,7 @@ applet_word Demo = codes "demo"
 
 -- the applets that exist
 abbrev pub applets : List Applet
-applets = Add ∷ (Verify ∷ (Version ∷ (Adbdump ∷ (Mkpkg ∷ (Mkndx ∷ [])))))
+applets = Add ∷ (Del ∷ (Verify ∷ (Version ∷ (Adbdump ∷ (Mkpkg ∷ (Mkndx ∷ []))))))
 
 -- the applet that a word names, among those that exist
 abbrev pub applet_of : List ℕ → Option Applet

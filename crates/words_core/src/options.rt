@@ -35,8 +35,9 @@ pub(crate) enum Meaning {
 }
 
 // The applets that exist.
-const APPLETS: [Applet; 6] = [
+const APPLETS: [Applet; 7] = [
     Applet::Add,
+    Applet::Del,
     Applet::Verify,
     Applet::Version,
     Applet::Adbdump,

@@ -2,4 +2,4 @@ use Rattle.outcome.proofs.Existing.{outcome_exists}
 use Rattle.outcome.proofs.an_outcome_exists.Goals as goal
 
 pub returns : goal.returns
-returns c = outcome_exists c.files_have_one_list_of_names.ensures.exists c.a_choice_exists.ensures
+returns c = outcome_exists c.files_have_one_list_of_names.ensures.exists c.a_choice_exists.ensures c.a_change_has_a_first_clash_or_none.ensures.exists

@@ -3,11 +3,11 @@ use Rattle.apk_front.proofs.Runs.{proper_anyway}
 use Rattle.apk_front.proofs.judge.run.Goals as goal
 
 pub look-requires : goal.look-requires
-look-requires g c = reads_one c.args.command.now c.applet.result c.applet.ensures.value c.in_default.not-Mkpkg c.in_default.not-Mkndx c.in_default.not-Add
+look-requires g c = reads_one c.args.command.now c.applet.result c.applet.ensures.value c.in_default.not-Mkpkg c.in_default.not-Mkndx c.in_default.not-Add c.in_default.not-Del
 
 pub returns-in_default : goal.returns-in_default
 returns-in_default g c =
-    let reads = reads_one c.args.command.now c.applet.result c.applet.ensures.value c.in_default.not-Mkpkg c.in_default.not-Mkndx c.in_default.not-Add in
+    let reads = reads_one c.args.command.now c.applet.result c.applet.ensures.value c.in_default.not-Mkpkg c.in_default.not-Mkndx c.in_default.not-Add c.in_default.not-Del in
     record {
       found = look_found c.args.command.now _ c.look.result reads c.look.ensures.found;
       by_reads = look_read c.args.command.now c.look.result reads c.look.ensures.by_reads;

@@ -1,6 +1,6 @@
 use Rattle.std.proofs.Common.{Err, ap}
 use Rattle.outcome.specs.Effect.{effect_of, output_if}
-use Rattle.apk_front.proofs.Behind.{behind_found, behind_proper, behind_run, is_recovery, outputs_make, refused_found, refused_read, refused_run}
+use Rattle.apk_front.proofs.Behind.{behind_found, behind_proper, behind_run, is_recovery, refused_found, refused_read, refused_run}
 use Rattle.apk_front.proofs.recovered.recover_and_run.Goals as goal
 
 pub returns-in-Ok-clause-found : goal.returns-in-Ok-clause-found
@@ -17,12 +17,12 @@ returns-in-Ok-clause-run g c =
       behind = c.quiet_then_old_or_new_is_old_or_new.ensures.both;
       still = c.moments_on_the_way_join.ensures.still;
       before = c.moments_on_the_way_join.ensures.before;
-    }) c.args.command.now (output_if (effect_of c.args.command.now.applet) c.args.command.now) c.run_recovered.result _ _ _ c.requires (outputs_make (effect_of c.args.command.now.applet) c.args.command.now) (is_recovery _ _ c.in-Ok.ensures.moments c.in-Ok.ensures.reads c.in-Ok.ensures.waiting c.in-Ok.ensures.last c.in-Ok.ensures.idle) c.in-Ok.ensures.good c.in-Ok.ensures.files c.in-Ok.ensures.settled c.run_recovered.ensures.run
+    }) c.args.command.now (output_if (effect_of c.args.command.now.applet) c.args.command.now) c.run_recovered.result _ _ _ c.requires (is_recovery _ _ c.in-Ok.ensures.moments c.in-Ok.ensures.reads c.in-Ok.ensures.waiting c.in-Ok.ensures.last c.in-Ok.ensures.idle) c.in-Ok.ensures.good c.in-Ok.ensures.files c.in-Ok.ensures.settled c.run_recovered.ensures.run
     c.run_recovered.ensures.undone
 
 pub returns-in-Ok-clause-proper : goal.returns-in-Ok-clause-proper
 returns-in-Ok-clause-proper g c =
-    behind_proper c.args.command.now (output_if (effect_of c.args.command.now.applet) c.args.command.now) _ _ _ _ _ c.requires (outputs_make (effect_of c.args.command.now.applet) c.args.command.now) c.in-Ok.ensures.good c.in-Ok.ensures.files c.in-Ok.ensures.proper c.run_recovered.ensures.proper
+    behind_proper c.args.command.now (output_if (effect_of c.args.command.now.applet) c.args.command.now) _ _ _ _ _ c.requires c.in-Ok.ensures.good c.in-Ok.ensures.files c.in-Ok.ensures.proper c.run_recovered.ensures.proper
 
 pub returns-in-Err-clause-found : goal.returns-in-Err-clause-found
 returns-in-Err-clause-found g c = refused_found c.args.command.now _ _ _ c.refuse_to_recover.result c.requires (λ cause is. c.in-Err.ensures.bad cause (ap Err is)) c.refuse_to_recover.ensures.refused

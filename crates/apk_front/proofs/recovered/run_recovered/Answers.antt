@@ -1,6 +1,6 @@
 use Rattle.std.proofs.Common.{◌∙◌, sym}
-use Rattle.apk_front.proofs.Added.{add_found, add_read, add_run}
-use Rattle.apk_front.proofs.Carried.{index_found_one, index_proper, index_read_one, index_run, package_found_one, package_proper, package_read_one, package_run}
+use Rattle.apk_front.proofs.Changing.{change_applet}
+use Rattle.apk_front.proofs.Carried.{index_found_one, index_proper, index_read_one, index_run, package_found_one, package_proper, package_read_one, package_run, undone_anyway}
 use Rattle.apk_front.proofs.recovered.run_recovered.Goals as goal
 
 pub returns-in-Mkpkg-clause-found : goal.returns-in-Mkpkg-clause-found
@@ -27,11 +27,11 @@ returns-in-Mkpkg-clause-run g c = package_run c.args.command.now c.mkpkg.result 
 pub returns-in-Mkndx-clause-run : goal.returns-in-Mkndx-clause-run
 returns-in-Mkndx-clause-run g c = index_run c.args.command.now c.mkndx.result _ _ (sym c.in-Mkndx.is ∙ c.applet.ensures.value) c.mkndx.ensures.run
 
-pub returns-in-Add-clause-found : goal.returns-in-Add-clause-found
-returns-in-Add-clause-found g c = add_found c.args.command.now _ c.add.result (sym c.in-Add.is ∙ c.applet.ensures.value) c.add.ensures.found
+pub change-requires : goal.change-requires
+change-requires g c = change_applet c.args.command.now c.applet.result c.applet.ensures.value c.in-Add.is
 
-pub returns-in-Add-clause-by_reads : goal.returns-in-Add-clause-by_reads
-returns-in-Add-clause-by_reads g c = add_read c.args.command.now _ c.add.result (sym c.in-Add.is ∙ c.applet.ensures.value) c.add.ensures.found
+pub returns-in-Mkpkg-clause-undone : goal.returns-in-Mkpkg-clause-undone
+returns-in-Mkpkg-clause-undone g c = undone_anyway _ _ c.mkpkg.ensures.undone
 
-pub returns-in-Add-clause-run : goal.returns-in-Add-clause-run
-returns-in-Add-clause-run g c = add_run c.args.command.now c.add.result _ _ (sym c.in-Add.is ∙ c.applet.ensures.value) c.add.ensures.tree.same
+pub returns-in-Mkndx-clause-undone : goal.returns-in-Mkndx-clause-undone
+returns-in-Mkndx-clause-undone g c = undone_anyway _ _ c.mkndx.ensures.undone

@@ -1,0 +1,101 @@
+-- Runs by what is chosen and selected, joined to those by what is read.
+use Rattle.std.proofs.Common.{◌≡◌, ℕ, ◌+◌, ◌<◌, ◌≤◌, Bool, true, false, List, [], ◌∷◌, Option, Some, None, Result, Ok, Err, length, refl, sym, ap, subst, ◌∙◌, arith}
+use Rattle.std.specs.Prelude.{All, if◌then◌else◌, nat_lt}
+use Rattle.std.specs.Result.{IsErrAnd}
+use Rattle.base_core.specs.Calls.{IfObservable}
+use Rattle.base_core.specs.Faults.{Counts}
+use Rattle.base_core.specs.Tree.{IsWhole, TreeState, files_of}
+use Rattle.change_inputs.specs.Answers.{AgreesUnlessDisk, Agrees, IsFailure}
+use Rattle.change_inputs.specs.Chains.{and_then}
+use Rattle.change_inputs.specs.Inputs.{Inputs}
+use Rattle.change_inputs.specs.declared.refused.Refused.{Refused}
+use Rattle.change_inputs.specs.declared.refused.Refused.TheVariants.{Disk, Memory, Refusal as IsRefused}
+use Rattle.change_outcome.specs.ChangeOutcome.{ChangeDone, change_or_refusal}
+use Rattle.command_core.specs.Command.{CommandLine}
+use Rattle.package_changes.specs.Report.{simulated_report}
+use Rattle.pool_core.specs.Rank.{SealedPool}
+use Rattle.report_core.specs.declared.refusal.Refusal.{Refusal}
+use Rattle.report_core.specs.declared.refusal.Refusal.TheVariants.{NotInstalled, Unsatisfied}
+use Rattle.engine_core.specs.Changed.{IsClashOfSelected, Selected, change_of_selected, selected_by, selected_of_inputs, simulated_change}
+use Rattle.engine_core.specs.Choice.{IsChoice, IsChoiceFrom}
+use Rattle.engine_core.specs.Chosen.{IsChosen}
+use Rattle.engine_core.specs.Runs.{IsRunBy, IsSelectedRun}
+use Rattle.engine_core.specs.Selecting.{pool_by, replacement_of_choice}
+use Rattle.engine_core.specs.Wishes.{names_to_go, unknown_place, unless_place, wishes_of}
+use Rattle.engine_core.proofs.Early.{HaveClash, IsOnlyRead, Seen, comes_to_idle, of_seen, seen_any, selected_failure, selected_refusal}
+
+abbrev pub HaveChoice : Type 0
+HaveChoice = (pool : Result SealedPool Refusal) → (chosen : Option (List ℕ)) × IsChoiceFrom pool chosen
+
+pub with_error : {A : Type 0} (P : Result A Refused → Type 0) (r : Result A Refused) (fault : Refused) → IsErrAnd r (λ e. e ≡ fault) → P (Err fault) → P r
+with_error P (Ok a) fault is p = absurd is
+with_error P (Err e) fault is p = let Q : Refused → Type 0 = λ f. P (Err f) in subst Q (sym is) p
+
+module _ (command : CommandLine) (inputs : Inputs) (old now : List TreeState) (before after : Counts) where
+  pub run_failure : HaveChoice → HaveClash → All IsWhole old → IsOnlyRead old now before after → (fault : Refused) → IsFailure fault → IsRunBy command inputs old now before after (Err fault)
+  run_failure choose have whole quiet fault is =
+      let (chosen, choice) = choose (pool_by inputs) in
+      (chosen, choice, selected_failure command (selected_of_inputs command chosen inputs) old now before after have whole quiet fault is)
+
+  by_refusal : HaveClash → All IsWhole old → IsOnlyRead old now before after → (chosen : Option (List ℕ)) → IsChoiceFrom (pool_by inputs) chosen → (refusal : Refusal) → selected_of_inputs command chosen inputs ≡ Err refusal
+      → IsRunBy command inputs old now before after (Err (IsRefused refusal))
+  by_refusal have whole quiet chosen choice refusal is =
+      (chosen, choice, selected_refusal command (selected_of_inputs command chosen inputs) old now before after have whole quiet refusal is)
+
+  -- there are too many candidates
+  pub without_pool : HaveChoice → HaveClash → All IsWhole old → IsOnlyRead old now before after → (fault : Refused) → Agrees (λ (pool : SealedPool). pool) (Err fault) (pool_by inputs) → IsRunBy command inputs old now before after (Err fault)
+  without_pool choose have whole quiet (IsRefused refusal) is =
+      by_refusal have whole quiet None (subst (λ (p : Result SealedPool Refusal). IsChoiceFrom p None) (sym is) refl) refusal
+      (ap (λ (p : Result SealedPool Refusal). and_then p (λ pool. unless_place (unknown_place command.applet inputs command.operands) (selected_by inputs pool None))) is)
+  without_pool choose have whole quiet Disk is = absurd is
+  without_pool choose have whole quiet Memory is = run_failure choose have whole quiet Memory tt
+
+  module _ (pool : SealedPool) (pool_is : pool_by inputs ≡ Ok pool) where
+    selected_is : (chosen : Option (List ℕ)) (unknown : Option ℕ) → unknown_place command.applet inputs command.operands ≡ unknown
+        → selected_of_inputs command chosen inputs ≡ unless_place unknown (selected_by inputs pool chosen)
+    selected_is chosen unknown known_is =
+        ap (λ (p : Result SealedPool Refusal). and_then p (λ pool. unless_place (unknown_place command.applet inputs command.operands) (selected_by inputs pool chosen))) pool_is
+        ∙ ap (λ (o : Option ℕ). unless_place o (selected_by inputs pool chosen)) known_is
+
+    choice_is : (chosen : Option (List ℕ)) → IsChoice pool chosen → IsChoiceFrom (pool_by inputs) chosen
+    choice_is chosen choice = subst (λ (p : Result SealedPool Refusal). IsChoiceFrom p chosen) (sym pool_is) choice
+
+    -- an operand of `del` is not known
+    pub unknown_run : HaveChoice → HaveClash → All IsWhole old → IsOnlyRead old now before after → (place : ℕ) → unknown_place command.applet inputs command.operands ≡ Some place
+        → IsRunBy command inputs old now before after (Err (IsRefused (NotInstalled place)))
+    unknown_run choose have whole quiet place is =
+        let (chosen, choice) = choose (pool_by inputs) in
+        by_refusal have whole quiet chosen choice (NotInstalled place) (selected_is chosen (Some place) is)
+
+    module _ (known : unknown_place command.applet inputs command.operands ≡ None) (chosen : Option (List ℕ)) (choice : IsChoice pool chosen) where
+      -- no selection satisfies the world
+      pub unchosen_run : HaveClash → All IsWhole old → IsOnlyRead old now before after → (fault : Refused) → IsChosen chosen (Err fault) → IsRunBy command inputs old now before after (Err fault)
+      unchosen_run have whole quiet (IsRefused refusal) is =
+          by_refusal have whole quiet chosen (choice_is chosen choice) refusal
+          (selected_is chosen None known ∙ ap (selected_by inputs pool) is.0 ∙ ap Err (sym is.1))
+      unchosen_run have whole quiet Disk is = absurd is
+      unchosen_run have whole quiet Memory is =
+          (chosen, choice_is chosen choice, selected_failure command (selected_of_inputs command chosen inputs) old now before after have whole quiet Memory tt)
+
+      -- a selection does
+      pub chosen_run : (trace : List ℕ) (result : Result (List ℕ) Refused) → chosen ≡ Some trace
+          → IsSelectedRun command (Ok (record { inputs = inputs; replacement = replacement_of_choice inputs pool trace })) old now before after result
+          → IsRunBy command inputs old now before after result
+      chosen_run trace result is run =
+          (chosen, choice_is chosen choice,
+          subst (λ (s : Result Selected Refusal). IsSelectedRun command s old now before after result) (sym (selected_is chosen None known ∙ ap (selected_by inputs pool) is)) run)
+
+-- ---- a change that is only simulated
+
+pub simulated_run : HaveClash → (command : CommandLine) (s : Selected) (old now : List TreeState) (before after : Counts) (report : List ℕ) → All IsWhole old → IsOnlyRead old now before after → command.flags.simulate ≡ true
+    → report ≡ simulated_report s.replacement (names_to_go command.applet command.operands) → IsSelectedRun command (Ok s) old now before after (Ok report)
+simulated_run have command s old now before after report whole quiet simulate told =
+    let seen = seen_any have command (Ok s) old whole in
+    let done : ChangeDone = simulated_change s.replacement (wishes_of command) seen.files in
+    of_seen command (Ok s) old now before after seen (Ok report)
+    (comes_to_idle _ _ old now before after quiet done report (by_flag seen command.flags.simulate simulate) refl told)
+  where
+    by_flag : (seen : Seen command (Ok s) old) (b : Bool) → b ≡ true
+        → (if b then Ok (simulated_change s.replacement (wishes_of command) seen.files) else change_or_refusal s.inputs s.replacement (wishes_of command) seen.read seen.clash seen.files)
+        ≡ Ok (simulated_change s.replacement (wishes_of command) seen.files)
+    by_flag seen b is = ap (λ (t : Bool). if t then Ok (simulated_change s.replacement (wishes_of command) seen.files) else change_or_refusal s.inputs s.replacement (wishes_of command) seen.read seen.clash seen.files) is

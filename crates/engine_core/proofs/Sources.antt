@@ -1,0 +1,145 @@
+-- Which bytes a change leaves under the names that it writes, and that the sources stand for them.
+use Rattle.std.proofs.Common.{◌≡◌, ◌⊎◌, inl, inr, ◌∙◌, ◌<◌, ℕ, zero, suc, arith, Bool, true, false, List, [], ◌∷◌, ◌++◌, length, get_or, map, All, Contains, Option, Some, None, Bor, refl, sym, ap, subst, true≢false}
+use Rattle.std.specs.Prelude.{IsSome, not, if◌then◌else◌, is_some, option_and_then, slice_get, unwrap_or}
+use Rattle.std.specs.Option.{option_copied}
+use Rattle.base_core.specs.Files.{Files}
+use Rattle.base_core.specs.Tree.{TreeState, files_of}
+use Rattle.adb_rules.specs.Reserved.{is_reserved}
+use Rattle.adb_tables.specs.Values.{entry_in}
+use Rattle.adb_view.specs.Plain.{Plain}
+use Rattle.arrivals.specs.Arrivals.{AreMembersRead, IsFileOfMember, arrivals_seen, package_in}
+use Rattle.arrivals.specs.declared.arrivals.Arrivals.{Arrivals}
+use Rattle.change_files.specs.FileChange.{FileChange, coming_owner}
+use Rattle.change_files.specs.FilesAfter.{Records, changed_files, database_name, is_written, listing_bytes, world_bytes_after, world_name, written_as}
+use Rattle.change_files.specs.PlanLists.{FileWrite, file_writes_of, write_to}
+use Rattle.change_files.specs.Touched.{IsWriteOf, is_record_name}
+use Rattle.change_files.proofs.Lists.{IsOneOf}
+use Rattle.change_files.proofs.Owned.{coming_is, written_is}
+use Rattle.change_files.proofs.PlanNames.{writes_are}
+use Rattle.change_files.proofs.RecordNames.{database_after}
+use Rattle.change_files.proofs.Untouched.{takes_its_path}
+use Rattle.change_inputs.specs.Inputs.{Inputs}
+use Rattle.change_laws.specs.Premises.{HasNoReservedPath, IsRootOfFiles}
+use Rattle.change_laws.proofs.ActionNames.{written_free}
+use Rattle.change_laws.proofs.ChangeLeads.{unreserved_no_record}
+use Rattle.change_outcome.specs.ChangeOutcome.{bytes_under, is_other_file, new_records}
+use Rattle.change_outcome.specs.MembersAfter.{MemberFound, contents_found}
+use Rattle.db_core.specs.Members.{Listing, Member, member_listings}
+use Rattle.file_guard.specs.AsListed.{file_target, has_target, link_bytes, link_to}
+use Rattle.list_order.proofs.Sorting.{Each}
+use Rattle.own_core.specs.ClaimEntries.{folders_if_any, listed_file_at}
+use Rattle.own_core.proofs.Listings.{IsPlaced, each_placed}
+use Rattle.package_test.specs.Tested.{tested_name}
+use Rattle.package_test.specs.declared.package.TestedPackage.{TestedPackage}
+use Rattle.pkg_core.specs.Contents.{Contents, bytes_of_file}
+use Rattle.stage_files.specs.Sources.{IsFileSource, StandForEach, StandsFor}
+use Rattle.stage_files.specs.declared.source.PackagedFile.{PackagedFile}
+use Rattle.stage_files.specs.declared.source.Source.{Source}
+use Rattle.stage_files.specs.declared.source.Source.TheVariants.{Bytes, File, Link}
+use Rattle.stage_files.specs.declared.source.StagedWrite.{StagedWrite}
+use Rattle.engine_core.specs.Finishing.{bytes_if}
+use Rattle.engine_core.specs.Writing.{HasBytes, IsFileOfWrite, IsFileWrite, IsRecordOf, IsSourceOfWrite, IsWriteBy, entry_of_write, package_at, write_name}
+use Rattle.engine_core.specs.declared.writes.RecordWrites.{RecordWrites}
+
+-- ---- a file of a package
+
+each_one : {X : Type 0} (P : X → Type 0) (xs : List X) (x : X) → Each P xs → IsOneOf x xs → P x
+each_one P [] x each here = absurd here
+each_one P (y ∷ ys) x each (inl is) = subst P (sym is) each.0
+each_one P (y ∷ ys) x each (inr more) = each_one P ys x each.1 more
+
+-- the bytes that a planned write gets, where members have these contents
+abbrev write_bytes : List Member → (ℕ → List Contents) → FileWrite → List ℕ
+write_bytes members contents w =
+    if has_target (entry_of_write members w) then link_bytes (entry_of_write members w) else bytes_of_file w.folder w.file (contents w.member)
+
+listing_bytes_are : (contents : ℕ → List Contents) (members : List Member) (name : List ℕ) (l : Listing) → l.entry ≡ entry_of_write members (write_to name l) → listing_bytes contents l ≡ write_bytes members contents (write_to name l)
+unfolding listing_bytes
+listing_bytes_are contents members name l entry =
+    ap (λ (e : Plain). if has_target e then link_bytes e else bytes_of_file l.folder l.file (contents l.place)) entry
+
+module _ (inputs : Inputs) (change : FileChange) (contents : ℕ → List Contents) (database : List ℕ) (files : Files) (root : IsRootOfFiles files inputs.root) (free : HasNoReservedPath change) where
+  abbrev records : Records
+  records = new_records inputs database
+
+  abbrev after : Files
+  after = changed_files change (listing_bytes contents) records files
+
+  placed : (l : Listing) (name : List ℕ) → written_as change files name ≡ Some l → IsPlaced change.members l
+  placed l name written =
+      each_one (IsPlaced change.members) (member_listings change.members) l (each_placed change.members)
+      ((coming_is change l.path l (written_is change files name l written).comes).0).listed
+
+  entry_is : (l : Listing) (name : List ℕ) → IsPlaced change.members l → l.entry ≡ entry_of_write change.members (write_to name l)
+  entry_is l name p = p.entry ∙ sym (ap (λ (o : Option Member). listed_file_at (folders_if_any o) l.folder l.file) p.at)
+
+  some_written : (l : Listing) (name : List ℕ) → written_as change files name ≡ Some l → is_written change files name ≡ true
+  some_written l name written = ap is_some written
+
+  bytes_by : (l : Listing) (name : List ℕ) → written_as change files name ≡ Some l → bytes_under after name ≡ write_bytes change.members contents (write_to name l)
+  bytes_by l name written =
+      ap (λ (o : Option (List ℕ)). unwrap_or o []) (takes_its_path change (listing_bytes contents) records files name l written
+      (unreserved_no_record inputs change (listing_bytes contents) database files root free name (written_free inputs change files records free name (some_written l name written))))
+      ∙ listing_bytes_are contents change.members name l (entry_is l name (placed l name written))
+
+  pub file_bytes : (w : FileWrite) → Contains (file_writes_of change files) w → bytes_under after w.name ≡ write_bytes change.members contents w
+  file_bytes w here =
+      let is = (writes_are change files w).0 here in
+      bytes_by is.listing w.name is.written ∙ sym (ap (write_bytes change.members contents) is.shown)
+
+  -- ---- the database and world
+
+  pub database_bytes : bytes_under after database_name ≡ database
+  database_bytes = ap (λ (o : Option (List ℕ)). unwrap_or o []) (database_after change (listing_bytes contents) records files)
+
+  world_by : after world_name ≡ world_bytes_after records.world (files world_name)
+  unfolding changed_files
+  world_by = refl
+
+  said_world : (world : List ℕ) (old : Option (List ℕ)) → unwrap_or (world_bytes_after world old) [] ≡ world
+  said_world [] None = refl
+  said_world [] (Some old) = refl
+  said_world (b ∷ world) old = refl
+
+  pub world_bytes : bytes_under after world_name ≡ records.world
+  world_bytes = ap (λ (o : Option (List ℕ)). unwrap_or o []) world_by ∙ said_world records.world (files world_name)
+
+-- ---- sources
+
+given_bytes : (own : List ℕ) (opt : Option (Bor (List ℕ))) (b : Bool) (bytes : Bor (List ℕ)) → opt ≡ Some bytes → option_copied opt ≡ bytes_if b own → bytes.now ≡ own
+given_bytes own None b bytes is copied = absurd (cc)
+given_bytes own (Some x) true bytes is copied = let same : x ≡ bytes = cc in sym (ap (λ (y : Bor (List ℕ)). y.now) same) ∙ cc
+given_bytes own (Some x) false bytes is copied = absurd (cc)
+
+record_stands : (files : Files) (name own wanted : List ℕ) (b : Bool) (opt : Option (Bor (List ℕ))) (write : StagedWrite) → option_copied opt ≡ bytes_if b own → own ≡ wanted → IsRecordOf name opt write
+    → (write_name write ≡ name) × StandsFor files write.source wanted
+record_stands files name own wanted b None write copied same is = absurd is
+record_stands files name own wanted b (Some bytes) write copied same is = (is.named, by write.source is.source)
+  where
+    by : (s : Source) → HasBytes bytes.now s → StandsFor files s wanted
+    by (Bytes x) has = sym same ∙ (sym (given_bytes own (Some bytes) b bytes refl copied) ∙ sym has)
+    by (Link target) has = absurd has
+    by (File f) has = absurd has
+
+-- what `a_package_that_was_read_is_that_of_its_file` says
+abbrev pub FilesAreRead : List TreeState → List MemberFound → (ℕ → Option TestedPackage) → Type 0
+FilesAreRead history found packages = (place : ℕ) (pkg : TestedPackage) → packages place ≡ Some pkg → IsFileOfMember history found place pkg
+
+module _ (v : TreeState) (earlier : List TreeState) (found : List MemberFound) (members : List Member) (packages : ℕ → Option TestedPackage) (read : FilesAreRead (v ∷ earlier) found packages) where
+  file_stands : (w : FileWrite) (bytes : List ℕ) (s : Source) → bytes ≡ write_bytes members (contents_found found) w → IsSourceOfWrite members packages w s → StandsFor (files_of v) s bytes
+  file_stands w bytes (Bytes own) is source = absurd source
+  file_stands w bytes (Link target) is source =
+      is ∙ (ap (λ (b : Bool). if b then link_bytes (entry_of_write members w) else bytes_of_file w.folder w.file (contents_found found w.member)) source.0
+      ∙ ap link_to (sym source.1))
+  file_stands w bytes (File f) is source =
+      let of = source.1 in
+      let file = read w.member f.package.now of.read in
+      record {
+        name = tested_name f.package.now;
+        pkg = file.file;
+        there = sym file.stands;
+        tested = file.tested;
+        is = is ∙ (ap (λ (b : Bool). if b then link_bytes (entry_of_write members w) else bytes_of_file w.folder w.file (contents_found found w.member)) source.0
+            ∙ ((λ i. bytes_of_file (sym of.folder i) (sym of.file i) (contents_found found w.member))
+            ∙ ap (bytes_of_file f.folder f.file) file.contents));
+      }

@@ -1,0 +1,250 @@
+-- A run from its first read on: what was read of the root, and the run by these inputs.
+use Rattle.std.proofs.Common.{◌≡◌, inl, inr, ℕ, ◌+◌, ◌<◌, ◌≤◌, Bool, true, false, List, [], ◌∷◌, Option, Some, None, Result, Ok, Err, length, refl, sym, ap, subst, ◌∙◌, arith}
+use Rattle.std.specs.Prelude.{All, IsSome, if◌then◌else◌, nat_lt}
+use Rattle.std.proofs.lemmas.Bool.Decides.{nat_tests}
+use Rattle.base_core.specs.Calls.{IfObservable}
+use Rattle.base_core.specs.Faults.{Counts}
+use Rattle.base_core.specs.Files.{Files}
+use Rattle.base_core.specs.Tree.{IsWhole, TreeState, files_of}
+use Rattle.change_inputs.specs.Answers.{AgreesUnlessDisk, IsFailure}
+use Rattle.change_inputs.specs.Chains.{and_then}
+use Rattle.change_inputs.specs.Inputs.{Inputs, first_index_read, inputs_of}
+use Rattle.change_inputs.specs.Seen.{inputs_seen}
+use Rattle.change_inputs.specs.declared.loaded.Loaded.{Loaded}
+use Rattle.change_inputs.specs.declared.refused.Refused.{Refused}
+use Rattle.change_inputs.specs.declared.refused.Refused.TheVariants.{Disk, Memory, Refusal as IsRefused}
+use Rattle.change_outcome.specs.ChangeOutcome.{ChangeDone, ChangeWishes, IsClashFound, change_members, change_or_refusal, change_with_members}
+use Rattle.change_outcome.specs.MembersAfter.{MemberFound, members_after}
+use Rattle.command_core.specs.Command.{CommandLine}
+use Rattle.dep_core.specs.Repositories.{Repository}
+use Rattle.make_info.specs.Reads.{Reads}
+use Rattle.make_package.specs.Runs.{AreObserved, Explains}
+use Rattle.package_changes.specs.Changes.{Replacement}
+use Rattle.path_clashes.specs.Clash.{NamePair}
+use Rattle.pool_core.specs.Candidates.{Candidate}
+use Rattle.pool_core.specs.Rank.{SealedPool}
+use Rattle.report_core.specs.declared.refusal.Refusal.{Refusal}
+use Rattle.engine_core.specs.ChangeRun.{ComesTo, IsChangeRun, selected_in}
+use Rattle.engine_core.specs.Changed.{IsClashOfSelected, IsClashUnlessSimulated, Selected, change_of_selected, changed, selected_by, selected_for, selected_of_inputs, simulated_change}
+use Rattle.engine_core.specs.Choice.{IsChoiceFrom}
+use Rattle.engine_core.specs.Runs.{IsRunBy, IsSelectedRun}
+use Rattle.engine_core.specs.Selecting.{pool_by, pool_for}
+use Rattle.engine_core.specs.Wishes.{unknown_place, unless_place, wishes_of}
+use Rattle.engine_core.proofs.Early.{HaveClash, IsOnlyRead, comes_to_failure, comes_to_refusal, files_seen, if_told}
+use Rattle.engine_core.proofs.SelectedRuns.{HaveChoice}
+
+-- what is read of the root, and what is read behind it, rest on reads of their own
+pub record HaveOwnReads : Type 0 where
+  pub inputs : (command : CommandLine) (read other : Reads) (inputs : Inputs) → inputs_of command read ≡ Ok inputs
+      → ((n : ℕ) (name : List ℕ) → n < first_index_read + length inputs.root.repositories → read n name ≡ other n name) → inputs_of command other ≡ Ok inputs
+  pub members : (r : Replacement) (read other : Reads) (repositories : List Repository) (no_scripts : Bool)
+      → ((n : ℕ) (name : List ℕ) → first_index_read + length repositories ≤ n → read n name ≡ other n name)
+      → members_after r read repositories no_scripts ≡ members_after r other repositories no_scripts
+
+-- ---- two rows of reads as one
+
+splice : ℕ → Reads → Reads → Reads
+splice count first behind n name = if nat_lt n count then first n name else behind n name
+
+splice_first : (count : ℕ) (first behind : Reads) (n : ℕ) (name : List ℕ) → n < count → first n name ≡ splice count first behind n name
+unfolding splice
+splice_first count first behind n name less =
+    let is : nat_lt n count ≡ true = grind (arith, nat_tests) in
+    sym (ap (λ (b : Bool). if b then first n name else behind n name) is)
+
+splice_behind : (count : ℕ) (first behind : Reads) (n : ℕ) (name : List ℕ) → count ≤ n → splice count first behind n name ≡ behind n name
+unfolding splice
+splice_behind count first behind n name less =
+    let is : nat_lt n count ≡ false = grind (arith, nat_tests) in
+    ap (λ (b : Bool). if b then first n name else behind n name) is
+
+splice_observed : (count : ℕ) (first behind : Reads) (old : List TreeState) → AreObserved old first → AreObserved old behind → AreObserved old (splice count first behind)
+unfolding splice
+splice_observed count first behind [] f b = tt
+splice_observed count first behind (v ∷ earlier) f b = λ n name. by (nat_lt n count) n name
+  where
+    by : (t : Bool) (n : ℕ) (name : List ℕ) → (if t then first n name else behind n name) ≡ files_of v name
+    by true n name = f n name
+    by false n name = b n name
+
+-- ---- a run behind calls that only read
+
+comes_behind_reads : (selected : List Candidate) (wanted : Result ChangeDone Refusal) (old mid now : List TreeState) (before between after : Counts) (result : Result (List ℕ) Refused)
+    → IsOnlyRead old mid before between → ComesTo selected wanted mid now between after result → ComesTo selected wanted old now before after result
+comes_behind_reads selected wanted old mid now before between after result quiet comes = record {
+  told = same.told;
+  run = same.run;
+  proper = both _ _ _ old quiet.proper same.proper;
+}
+  where
+    same : ComesTo selected wanted old now between after result
+    same = subst (λ (h : List TreeState). ComesTo selected wanted h now between after result) quiet.same comes
+
+    both : (A B C : TreeState → Type 0) (h : List TreeState) → IfObservable h (λ v. between.misuses ≡ before.misuses)
+        → IfObservable h (λ v. A v → B v → C v → after.misuses ≡ between.misuses) → IfObservable h (λ v. A v → B v → C v → after.misuses ≡ before.misuses)
+    both A B C [] q r = tt
+    both A B C (v ∷ earlier) q r = λ a b c. r a b c ∙ q
+
+pub run_behind_reads : (command : CommandLine) (selected : Result Selected Refusal) (old mid now : List TreeState) (before between after : Counts) (result : Result (List ℕ) Refused)
+    → IsOnlyRead old mid before between → IsSelectedRun command selected mid now between after result → IsSelectedRun command selected old now before after result
+run_behind_reads command selected old mid now before between after result quiet run = record {
+  read = run.read;
+  observed = subst (λ (h : List TreeState). AreObserved h run.read) quiet.same run.observed;
+  files = run.files;
+  there = subst (λ (h : List TreeState). IfObservable h (λ v. run.files ≡ files_of v)) quiet.same run.there;
+  clash = run.clash;
+  is_clash = subst (λ (h : List TreeState). IfObservable h (λ v. IsClashOfSelected command run.read run.files selected run.clash)) quiet.same run.is_clash;
+  comes = comes_behind_reads _ _ old mid now before between after result quiet run.comes;
+}
+
+-- ---- the same by other reads behind those of the root
+
+module _ (have : HaveOwnReads) (command : CommandLine) (inputs : Inputs) (read other : Reads) (same : (n : ℕ) (name : List ℕ) → first_index_read + length inputs.root.repositories ≤ n → read n name ≡ other n name) where
+  members_same : (r : Replacement) (wishes : ChangeWishes) → change_members inputs r wishes read ≡ change_members inputs r wishes other
+  members_same r wishes = have.members r read other inputs.root.repositories wishes.no_scripts same
+
+  change_same : (r : Replacement) (wishes : ChangeWishes) (clash : Option NamePair) (files : Files) → change_or_refusal inputs r wishes read clash files ≡ change_or_refusal inputs r wishes other clash files
+  unfolding change_or_refusal
+  change_same r wishes clash files = ap (λ (found : Result (List MemberFound) Refusal). and_then found (change_with_members inputs r wishes clash files)) (members_same r wishes)
+
+  selected_same : (s : Selected) (files : Files) (clash : Option NamePair) → s.inputs ≡ inputs → change_of_selected command read files clash s ≡ change_of_selected command other files clash s
+  selected_same s files clash is = by command.flags.simulate
+    where
+      same_of_inputs : (i : Inputs) → i ≡ inputs → change_or_refusal i s.replacement (wishes_of command) read clash files ≡ change_or_refusal i s.replacement (wishes_of command) other clash files
+      same_of_inputs i e = subst (λ (j : Inputs). change_or_refusal j s.replacement (wishes_of command) read clash files ≡ change_or_refusal j s.replacement (wishes_of command) other clash files) (sym e) (change_same s.replacement (wishes_of command) clash files)
+
+      by : (b : Bool) → (if b then Ok (simulated_change s.replacement (wishes_of command) files) else change_or_refusal s.inputs s.replacement (wishes_of command) read clash files)
+          ≡ (if b then Ok (simulated_change s.replacement (wishes_of command) files) else change_or_refusal s.inputs s.replacement (wishes_of command) other clash files)
+      by true = refl
+      by false = same_of_inputs s.inputs is
+
+  clash_same : (s : Selected) (files : Files) (clash : Option NamePair) → s.inputs ≡ inputs → IsClashUnlessSimulated command.flags.simulate (wishes_of command) other files s clash → IsClashUnlessSimulated command.flags.simulate (wishes_of command) read files s clash
+  clash_same s files clash is = by command.flags.simulate
+    where
+      of_inputs : (i : Inputs) → i ≡ inputs → change_members i s.replacement (wishes_of command) other ≡ change_members i s.replacement (wishes_of command) read
+      of_inputs i e = subst (λ (j : Inputs). change_members j s.replacement (wishes_of command) other ≡ change_members j s.replacement (wishes_of command) read) (sym e) (sym (members_same s.replacement (wishes_of command)))
+
+      by : (b : Bool) → IsClashUnlessSimulated b (wishes_of command) other files s clash → IsClashUnlessSimulated b (wishes_of command) read files s clash
+      by true clash_is = clash_is
+      by false clash_is = subst (λ (found : Result (List MemberFound) Refusal). IsClashFound s.inputs (wishes_of command) files found clash) (of_inputs s.inputs is) clash_is
+
+-- what is selected has these inputs
+abbrev HasInputs : Inputs → Result Selected Refusal → Type 0
+HasInputs inputs (Ok s) = s.inputs ≡ inputs
+HasInputs inputs (Err refusal) = Unit {0}
+
+selected_has : (command : CommandLine) (chosen : Option (List ℕ)) (inputs : Inputs) → HasInputs inputs (selected_of_inputs command chosen inputs)
+selected_has command chosen inputs = by_pool (pool_by inputs)
+  where
+    by_choice : (pool : SealedPool) (c : Option (List ℕ)) → HasInputs inputs (selected_by inputs pool c)
+    by_choice pool None = tt
+    by_choice pool (Some trace) = refl
+
+    by_place : (pool : SealedPool) (place : Option ℕ) → HasInputs inputs (unless_place place (selected_by inputs pool chosen))
+    by_place pool None = by_choice pool chosen
+    by_place pool (Some place) = tt
+
+    by_pool : (p : Result SealedPool Refusal) → HasInputs inputs (and_then p (λ pool. unless_place (unknown_place command.applet inputs command.operands) (selected_by inputs pool chosen)))
+    by_pool (Ok pool) = by_place pool (unknown_place command.applet inputs command.operands)
+    by_pool (Err refusal) = tt
+
+module _ (have : HaveOwnReads) (command : CommandLine) (inputs : Inputs) (old now : List TreeState) (before after : Counts) (result : Result (List ℕ) Refused)
+    (first : Reads) (observed : AreObserved old first) (is : inputs_of command first ≡ Ok inputs)
+    (chosen : Option (List ℕ)) (choice : IsChoiceFrom (pool_by inputs) chosen)
+    (run : IsSelectedRun command (selected_of_inputs command chosen inputs) old now before after result) where
+  count : ℕ
+  count = first_index_read + length inputs.root.repositories
+
+  selected : Result Selected Refusal
+  selected = selected_of_inputs command chosen inputs
+
+  read : Reads
+  read = splice count first run.read
+
+  same : (n : ℕ) (name : List ℕ) → first_index_read + length inputs.root.repositories ≤ n → read n name ≡ run.read n name
+  unfolding read count
+  same n name more = splice_behind count first run.read n name more
+
+  inputs_is : inputs_of command read ≡ Ok inputs
+  unfolding read count
+  inputs_is = have.inputs command first read inputs is (λ n name less. splice_first count first run.read n name less)
+
+  selected_is : selected_for command read chosen ≡ selected
+  unfolding selected
+  selected_is = ap (λ (r : Result Inputs Refusal). and_then r (selected_of_inputs command chosen)) inputs_is
+
+  by_selected : (s : Result Selected Refusal) → HasInputs inputs s → and_then s (change_of_selected command read run.files run.clash) ≡ and_then s (change_of_selected command run.read run.files run.clash)
+  by_selected (Ok s) has = selected_same have command inputs read run.read same s run.files run.clash has
+  by_selected (Err refusal) has = refl
+
+  changed_is : and_then selected (change_of_selected command run.read run.files run.clash) ≡ changed command read run.files chosen run.clash
+  unfolding changed selected
+  changed_is = sym (ap (λ (s : Result Selected Refusal). and_then s (change_of_selected command read run.files run.clash)) selected_is ∙ by_selected selected (selected_has command chosen inputs))
+
+  clash_by : (s : Result Selected Refusal) → HasInputs inputs s → IsClashOfSelected command run.read run.files s run.clash → IsClashOfSelected command read run.files s run.clash
+  clash_by (Ok s) has clash = clash_same have command inputs read run.read same s run.files run.clash has clash
+  clash_by (Err refusal) has clash = clash
+
+  pub whole_run : IsChangeRun command old now before after result
+  unfolding selected read
+  whole_run = record {
+    read = read;
+    observed = splice_observed count first run.read old observed run.observed;
+    chosen = chosen;
+    choice = subst (λ (r : Result Inputs Refusal). IsChoiceFrom (and_then r pool_by) chosen) (sym inputs_is) choice;
+    files = run.files;
+    there = run.there;
+    clash = run.clash;
+    is_clash = if_told old _ _ run.is_clash (λ v clash.
+        subst (λ (s : Result Selected Refusal). IsClashOfSelected command read run.files s run.clash) (sym selected_is)
+        (clash_by selected (selected_has command chosen inputs) clash));
+    comes = subst (λ (s : Result Selected Refusal). ComesTo (selected_in s) (changed command read run.files chosen run.clash) old now before after result) (sym selected_is)
+        (subst (λ (w : Result ChangeDone Refusal). ComesTo (selected_in selected) w old now before after result) changed_is run.comes);
+  }
+
+pub joined : HaveOwnReads → (command : CommandLine) (loaded : Loaded) (old mid now : List TreeState) (before between after : Counts) (result : Result (List ℕ) Refused) → IsOnlyRead old mid before between
+    → Explains old (λ read. inputs_of command read ≡ Ok (inputs_seen loaded)) → IsRunBy command (inputs_seen loaded) mid now between after result → IsChangeRun command old now before after result
+joined have command loaded old mid now before between after result quiet explained run =
+    whole_run have command (inputs_seen loaded) old now before after result explained.read explained.observed explained.is run.0 run.1
+    (run_behind_reads command _ old mid now before between after result quiet run.2)
+
+-- ---- a root that is not read
+
+module _ (choose : HaveChoice) (have : HaveClash) (command : CommandLine) (old now : List TreeState) (before after : Counts) (whole : All IsWhole old) (quiet : IsOnlyRead old now before after) where
+  unread_failure : (fault : Refused) → IsFailure fault → (read : Reads) → AreObserved old read → IsChangeRun command old now before after (Err fault)
+  unread_failure fault is read observed =
+      let (chosen, choice) = choose (pool_for command read) in
+      let seen = files_seen have command (selected_for command read chosen) old read whole in
+      record {
+        read = read;
+        observed = observed;
+        chosen = chosen;
+        choice = choice;
+        files = seen.files;
+        there = seen.there;
+        clash = seen.clash;
+        is_clash = seen.is_clash;
+        comes = comes_to_failure _ _ old now before after quiet fault is;
+      }
+
+  unread_refusal : (refusal : Refusal) (read : Reads) → AreObserved old read → inputs_of command read ≡ Err refusal → IsChangeRun command old now before after (Err (IsRefused refusal))
+  unfolding changed
+  unread_refusal refusal read observed is =
+      let seen = files_seen have command (Err refusal) old read whole in
+      let selected : selected_for command read None ≡ Err refusal = ap (λ (r : Result Inputs Refusal). and_then r (selected_of_inputs command None)) is in
+      record {
+        read = read;
+        observed = observed;
+        chosen = None;
+        choice = subst (λ (r : Result Inputs Refusal). IsChoiceFrom (and_then r pool_by) None) (sym is) refl;
+        files = seen.files;
+        there = seen.there;
+        clash = seen.clash;
+        is_clash = if_told old _ _ seen.is_clash (λ v clash. subst (λ (s : Result Selected Refusal). IsClashOfSelected command read seen.files s seen.clash) (sym selected) clash);
+        comes = comes_to_refusal _ _ old now before after quiet refusal (ap (λ (s : Result Selected Refusal). and_then s (change_of_selected command read seen.files seen.clash)) selected);
+      }
+
+  pub unread : (fault : Refused) → Explains old (λ read. AgreesUnlessDisk inputs_seen (Err fault) (inputs_of command read)) → IsChangeRun command old now before after (Err fault)
+  unread (IsRefused refusal) explained = unread_refusal refusal explained.read explained.observed explained.is
+  unread Disk explained = unread_failure Disk tt explained.read explained.observed
+  unread Memory explained = unread_failure Memory tt explained.read explained.observed

@@ -1,0 +1,108 @@
+-- What a run of a change answers, and what it makes of the tree.
+use Rattle.std.specs.Prelude.{◌≡◌, ◌⊎◌, ℕ, true, List, [], Option, None, Result, Ok, Err, OnOk, IfErr, Contains}
+use Rattle.base_core.specs.Calls.{IfObservable}
+use Rattle.base_core.specs.Faults.{Counts}
+use Rattle.base_core.specs.Files.{Files}
+use Rattle.base_core.specs.Tree.{TreeState, files_of}
+use Rattle.base_core.specs.declared.cause.Cause.{Cause}
+use Rattle.change_inputs.specs.Answers.{AgreesUnlessDisk}
+use Rattle.change_inputs.specs.Chains.{and_then}
+use Rattle.change_inputs.specs.declared.refused.Refused.{Refused}
+use Rattle.change_inputs.specs.declared.refused.Refused.TheVariants.{Disk, Refusal as IsRefused}
+use Rattle.change_outcome.specs.ChangeOutcome.{ChangeDone}
+use Rattle.command_core.specs.Command.{CommandLine}
+use Rattle.journal_core.specs.Recovery.{intent_name}
+use Rattle.journal_core.specs.Staged.{HasRoomToStage, IsEmptyStage}
+use Rattle.make_info.specs.Reads.{Reads}
+use Rattle.make_package.specs.Runs.{AreObserved}
+use Rattle.package_changes.specs.Changes.{selected_version}
+use Rattle.path_clashes.specs.Clash.{NamePair}
+use Rattle.pool_core.specs.Candidates.{Candidate}
+use Rattle.report_core.specs.declared.refusal.Refusal.{Refusal}
+use Rattle.report_core.specs.declared.refusal.Refusal.TheVariants.{PackageBad}
+use Rattle.stage_run.specs.StageRun.{IsStageRun, IsStageRunDone}
+use Rattle.engine_core.specs.Changed.{IsClashFor, Selected, changed, selected_for}
+use Rattle.engine_core.specs.Choice.{IsChoiceFrom}
+use Rattle.engine_core.specs.Selecting.{pool_for}
+
+-- ---- what it answers
+
+abbrev pub report_as_is : List ℕ → List ℕ
+report_as_is report = report
+
+-- the report alone of what a change comes to
+abbrev pub report_in : Result ChangeDone Refusal → Result (List ℕ) Refusal
+report_in wanted = and_then wanted (λ done. Ok done.report)
+
+-- it is a change that writes or removes something
+abbrev pub DoesCommit : Result ChangeDone Refusal → Type 0
+DoesCommit (Ok done) = done.commits ≡ true
+DoesCommit (Err refusal) = ⊥
+
+-- The file of a package is not what it was when it was tested, as its contents are read once more.
+-- Where a tree shows its files, and neither an intent is read nor anything waits, this does not
+-- happen.
+pub record IsFoundChanged (selected : List Candidate) (wanted : Result ChangeDone Refusal)
+    (history : List TreeState) (result : Result (List ℕ) Refused) : Type 0 where
+  pub unseen : IfObservable history (λ v. v.names intent_name ≡ None → IsEmptyStage (files_of v)
+      → ⊥)
+  pub commits : DoesCommit wanted
+  pub candidate : Candidate
+  pub selects : Contains selected candidate
+  pub cause : Cause
+  pub refusal : result
+      ≡ Err (IsRefused (PackageBad candidate.name (selected_version candidate) cause))
+
+-- ---- what it makes of the tree
+
+-- the change is staged and carried through, or the tree failed on the way
+pub record IsCommit (wanted : Result ChangeDone Refusal) (v : TreeState)
+    (old now : List TreeState) (result : Result (List ℕ) Refused) : Type 0 where
+  pub done : ChangeDone
+  pub is : wanted ≡ Ok done
+  pub commits : done.commits ≡ true
+  pub run : IsStageRun done.files v old now
+  pub ok : OnOk result (IsStageRunDone done.files v now)
+  pub err : IfErr result (λ refused. refused ≡ Disk)
+
+-- nothing happens to the tree, and then only a change that commits nothing comes to its end; or the
+-- change is carried through
+abbrev pub IsNoneOrCommit :
+    Result ChangeDone Refusal → TreeState → List TreeState → List TreeState
+    → Result (List ℕ) Refused → Type 0
+IsNoneOrCommit wanted v old now result =
+    ((now ≡ old) × OnOk result (DoesCommit wanted → ⊥)) ⊎ IsCommit wanted v old now result
+
+-- ---- both
+
+-- What comes of a change is wanted, and these candidates are selected: it is reported, or refused;
+-- and where neither an intent is read nor anything waits, the change is carried through, by calls of
+-- which none is a misuse where a change that commits has room.
+pub record ComesTo (selected : List Candidate) (wanted : Result ChangeDone Refusal)
+    (old now : List TreeState) (before after : Counts)
+    (result : Result (List ℕ) Refused) : Type 0 where
+  pub told : AgreesUnlessDisk report_as_is result (report_in wanted)
+      ⊎ IsFoundChanged selected wanted old result
+  pub run : IfObservable old (λ v. v.names intent_name ≡ None → IsEmptyStage (files_of v)
+      → IsNoneOrCommit wanted v old now result)
+  pub proper : IfObservable old (λ v. v.names intent_name ≡ None → IsEmptyStage (files_of v)
+      → (DoesCommit wanted → HasRoomToStage (files_of v)) → after.misuses ≡ before.misuses)
+
+abbrev pub selected_in : Result Selected Refusal → List Candidate
+selected_in (Ok s) = s.replacement.selected
+selected_in (Err refusal) = []
+
+-- A run of a command's change: by what reads find, by some files, by what is chosen, and by the
+-- first clash of names. Where the tree shows its files these are the files that it has at the start.
+pub record IsChangeRun (command : CommandLine) (old now : List TreeState) (before after : Counts)
+    (result : Result (List ℕ) Refused) : Type 0 where
+  pub read : Reads
+  pub observed : AreObserved old read
+  pub chosen : Option (List ℕ)
+  pub choice : IsChoiceFrom (pool_for command read) chosen
+  pub files : Files
+  pub there : IfObservable old (λ v. files ≡ files_of v)
+  pub clash : Option NamePair
+  pub is_clash : IfObservable old (λ v. IsClashFor command read files chosen clash)
+  pub comes : ComesTo (selected_in (selected_for command read chosen))
+      (changed command read files chosen clash) old now before after result

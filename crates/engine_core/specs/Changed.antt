@@ -1,0 +1,83 @@
+-- What a command that changes the installed packages comes to: it is refused, or it reports, and
+-- leaves files.
+use Rattle.std.specs.Prelude.{◌≡◌, ℕ, Bool, true, false, if◌then◌else◌, List, Option, Some, None, Result, Ok, Err}
+use Rattle.base_core.specs.Files.{Files}
+use Rattle.change_inputs.specs.Chains.{and_then}
+use Rattle.change_inputs.specs.Inputs.{Inputs, inputs_of}
+use Rattle.change_outcome.specs.ChangeOutcome.{ChangeDone, ChangeWishes, IsClashOfChange, change_or_refusal}
+use Rattle.command_core.specs.Command.{CommandLine}
+use Rattle.make_info.specs.Reads.{Reads}
+use Rattle.package_changes.specs.Changes.{Replacement}
+use Rattle.package_changes.specs.Report.{simulated_report}
+use Rattle.path_clashes.specs.Clash.{NamePair}
+use Rattle.pool_core.specs.Rank.{SealedPool}
+use Rattle.report_core.specs.declared.refusal.Refusal.{Refusal}
+use Rattle.report_core.specs.declared.refusal.Refusal.TheVariants.{Unsatisfied}
+use Rattle.engine_core.specs.Selecting.{pool_by, replacement_of_choice}
+use Rattle.engine_core.specs.Wishes.{unknown_place, unless_place, wishes_of}
+
+-- ---- the selection
+
+-- what is read, and the packages before with the candidates that are to take their place
+pub record Selected : Type 0 where
+  pub inputs : Inputs
+  pub replacement : Replacement
+
+-- where no selection satisfies the new world, none is chosen
+abbrev pub selected_by : Inputs → SealedPool → Option (List ℕ) → Result Selected Refusal
+selected_by inputs pool None = Err Unsatisfied
+selected_by inputs pool (Some trace) =
+    Ok (record { inputs = inputs; replacement = replacement_of_choice inputs pool trace })
+
+abbrev pub selected_of_inputs :
+    CommandLine → Option (List ℕ) → Inputs → Result Selected Refusal
+selected_of_inputs command chosen inputs =
+    and_then (pool_by inputs) (λ pool.
+    unless_place (unknown_place command.applet inputs command.operands)
+    (selected_by inputs pool chosen))
+
+-- by what reads find, and by the candidates that are chosen
+abbrev pub selected_for : CommandLine → Reads → Option (List ℕ) → Result Selected Refusal
+selected_for command read chosen =
+    and_then (inputs_of command read) (selected_of_inputs command chosen)
+
+-- ---- what comes of it
+
+-- the report alone; nothing is written
+abbrev pub simulated_change : Replacement → ChangeWishes → Files → ChangeDone
+simulated_change r wishes files =
+    record { report = simulated_report r wishes.to_go; files = files; commits = false }
+
+-- by the first clash of names, if there is one
+abbrev pub change_of_selected :
+    CommandLine → Reads → Files → Option NamePair → Selected → Result ChangeDone Refusal
+change_of_selected command read files clash s =
+    if command.flags.simulate then Ok (simulated_change s.replacement (wishes_of command) files) else
+    change_or_refusal s.inputs s.replacement (wishes_of command) read clash files
+
+-- what the command comes to, or its first refusal
+unfoldable pub changed :
+    CommandLine → Reads → Files → Option (List ℕ) → Option NamePair → Result ChangeDone Refusal
+changed command read files chosen clash =
+    and_then (selected_for command read chosen) (change_of_selected command read files clash)
+
+-- ---- the first clash
+
+-- a change that is only simulated does not ask for it
+abbrev pub IsClashUnlessSimulated :
+    Bool → ChangeWishes → Reads → Files → Selected → Option NamePair → Type 0
+IsClashUnlessSimulated true wishes read files s clash = clash ≡ None
+IsClashUnlessSimulated false wishes read files s clash =
+    IsClashOfChange s.inputs s.replacement wishes read files clash
+
+abbrev pub IsClashOfSelected :
+    CommandLine → Reads → Files → Result Selected Refusal → Option NamePair → Type 0
+IsClashOfSelected command read files (Ok s) clash =
+    IsClashUnlessSimulated command.flags.simulate (wishes_of command) read files s clash
+IsClashOfSelected command read files (Err refusal) clash = clash ≡ None
+
+-- it is the first clash of the names after the change; where the command comes not so far, none
+abbrev pub IsClashFor :
+    CommandLine → Reads → Files → Option (List ℕ) → Option NamePair → Type 0
+IsClashFor command read files chosen clash =
+    IsClashOfSelected command read files (selected_for command read chosen) clash

@@ -1,0 +1,32 @@
+-- A run by the packages that are found.
+use Rattle.std.specs.Prelude.{◌≡◌, ℕ, List, Option, Result, Ok}
+use Rattle.base_core.specs.Calls.{IfObservable}
+use Rattle.base_core.specs.Faults.{Counts}
+use Rattle.base_core.specs.Files.{Files}
+use Rattle.base_core.specs.Tree.{TreeState, files_of}
+use Rattle.change_inputs.specs.Inputs.{Inputs}
+use Rattle.change_inputs.specs.declared.refused.Refused.{Refused}
+use Rattle.change_outcome.specs.ChangeOutcome.{ChangeWishes, IsClashFound, change_members, change_with_members}
+use Rattle.change_outcome.specs.MembersAfter.{MemberFound}
+use Rattle.make_info.specs.Reads.{Reads}
+use Rattle.package_changes.specs.Changes.{Replacement}
+use Rattle.path_clashes.specs.Clash.{NamePair}
+use Rattle.engine_core.specs.ChangeRun.{ComesTo}
+
+-- where reads find these packages
+pub record IsFoundRun (inputs : Inputs) (r : Replacement) (wishes : ChangeWishes)
+    (found : List MemberFound) (old now : List TreeState) (before after : Counts)
+    (result : Result (List ℕ) Refused) : Type 0 where
+  pub files : Files
+  pub there : IfObservable old (λ v. files ≡ files_of v)
+  pub clash : Option NamePair
+  pub is_clash : IfObservable old (λ v. IsClashFound inputs wishes files (Ok found) clash)
+  pub comes : ComesTo r.selected (change_with_members inputs r wishes clash files found)
+      old now before after result
+
+abbrev pub IsMembersRun :
+    Inputs → Replacement → ChangeWishes → Reads → List MemberFound → List TreeState
+    → List TreeState → Counts → Counts → Result (List ℕ) Refused → Type 0
+IsMembersRun inputs r wishes read found old now before after result =
+    change_members inputs r wishes read ≡ Ok found
+    → IsFoundRun inputs r wishes found old now before after result

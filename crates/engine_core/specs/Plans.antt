@@ -1,0 +1,16 @@
+-- How it is told why there is no plan.
+use Rattle.std.specs.Prelude.{◌≡◌}
+use Rattle.change_inputs.specs.declared.refused.Refused.{Refused}
+use Rattle.change_inputs.specs.declared.refused.Refused.TheVariants as Commands
+use Rattle.own_core.specs.declared.fault.PlanFault.{PlanFault}
+use Rattle.own_core.specs.declared.fault.PlanFault.TheVariants as Plans
+use Rattle.report_core.specs.declared.refusal.Refusal.TheVariants.{Owned, PathClash, Reserved}
+
+abbrev pub IsRefusedFor : PlanFault → Refused → Type 0
+IsRefusedFor (Plans.Reserved path) refused = refused ≡ Commands.Refusal (Reserved path)
+IsRefusedFor (Plans.PathClash path other) refused =
+    refused ≡ Commands.Refusal (PathClash path other)
+IsRefusedFor (Plans.Owned path first second) refused =
+    refused ≡ Commands.Refusal (Owned path first second)
+IsRefusedFor Plans.Disk refused = refused ≡ Commands.Disk
+IsRefusedFor Plans.Memory refused = refused ≡ Commands.Memory

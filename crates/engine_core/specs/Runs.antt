@@ -1,0 +1,53 @@
+-- What the parts of a run say.
+use Rattle.std.specs.Prelude.{◌≡◌, ℕ, List, Option, Result, OnOk, IfErr, IsErrOf}
+use Rattle.base_core.specs.Calls.{IfObservable}
+use Rattle.base_core.specs.Faults.{Counts, GoesOn, HasCause, IsNoFault}
+use Rattle.base_core.specs.Files.{Files}
+use Rattle.base_core.specs.Tree.{TreeState, files_of}
+use Rattle.change_inputs.specs.Chains.{and_then}
+use Rattle.change_inputs.specs.Inputs.{Inputs}
+use Rattle.change_inputs.specs.declared.refused.Refused.{Refused}
+use Rattle.change_inputs.specs.declared.refused.Refused.TheVariants.{Disk}
+use Rattle.command_core.specs.Command.{CommandLine}
+use Rattle.make_info.specs.Reads.{Reads}
+use Rattle.make_package.specs.Runs.{AreObserved}
+use Rattle.path_clashes.specs.Clash.{NamePair}
+use Rattle.report_core.specs.declared.refusal.Refusal.{Refusal}
+use Rattle.engine_core.specs.ChangeRun.{ComesTo, selected_in}
+use Rattle.engine_core.specs.Changed.{IsClashOfSelected, Selected, change_of_selected, selected_of_inputs}
+use Rattle.engine_core.specs.Choice.{IsChoiceFrom}
+use Rattle.engine_core.specs.Selecting.{pool_by}
+
+-- a run by what is selected, or refused in its place
+pub record IsSelectedRun (command : CommandLine) (selected : Result Selected Refusal)
+    (old now : List TreeState) (before after : Counts)
+    (result : Result (List ℕ) Refused) : Type 0 where
+  pub read : Reads
+  pub observed : AreObserved old read
+  pub files : Files
+  pub there : IfObservable old (λ v. files ≡ files_of v)
+  pub clash : Option NamePair
+  pub is_clash : IfObservable old (λ v. IsClashOfSelected command read files selected clash)
+  pub comes : ComesTo (selected_in selected)
+      (and_then selected (change_of_selected command read files clash))
+      old now before after result
+
+-- a run by these inputs, and by what is chosen
+abbrev pub IsRunBy :
+    CommandLine → Inputs → List TreeState → List TreeState → Counts → Counts
+    → Result (List ℕ) Refused → Type 0
+IsRunBy command inputs old now before after result =
+    (chosen : Option (List ℕ))
+    × IsChoiceFrom (pool_by inputs) chosen
+    × IsSelectedRun command (selected_of_inputs command chosen inputs)
+    old now before after result
+
+-- what a call does to the counts of a tree that it may write
+pub record IsRunCounted {A : Type 0} (before after : Counts) (result : Result A Refused) : Type 0 where
+  -- no count falls
+  pub goes_on : GoesOn before after
+  -- the tree failed only where that has its cause
+  pub disk : IsErrOf result Disk → HasCause before after
+  -- an answer that is no fault of the tree raised neither faults nor wants
+  pub kept : OnOk result (IsNoFault before after)
+  pub others : IfErr result (λ refused. (refused ≡ Disk → ⊥) → IsNoFault before after)

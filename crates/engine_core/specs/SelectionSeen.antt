@@ -1,0 +1,23 @@
+-- What a selection of the program stands for.
+use Rattle.std.specs.Prelude.{◌≡◌}
+use Rattle.change_inputs.specs.Inputs.{Inputs}
+use Rattle.change_inputs.specs.Seen.{inputs_seen}
+use Rattle.db_core.specs.Seen.{packages_of}
+use Rattle.package_changes.specs.Changes.{Replacement}
+use Rattle.engine_core.specs.Changed.{Selected}
+use Rattle.engine_core.specs.Selecting.{replacement_of_choice}
+use Rattle.engine_core.specs.declared.selection.Selection.{Selection}
+
+abbrev pub inputs_of_selection : Selection → Inputs
+inputs_of_selection s = inputs_seen s.loaded.now
+
+abbrev pub replacement_seen : Selection → Replacement
+replacement_seen s = replacement_of_choice (inputs_of_selection s) s.pool.now s.trace.now
+
+abbrev pub selection_seen : Selection → Selected
+selection_seen s =
+    record { inputs = inputs_of_selection s; replacement = replacement_seen s }
+
+-- its database is that of the inputs
+abbrev pub HasItsDatabase : Selection → Type 0
+HasItsDatabase s = packages_of s.db.now ≡ (inputs_of_selection s).root.database.packages

@@ -1,0 +1,108 @@
+//! A change that is made ready is carried through.
+ghost use Rattle.base_core.specs.Files.{Files};
+ghost use Rattle.change_inputs.specs.Chains.{and_then};
+ghost use Rattle.change_outcome.specs.ChangeOutcome.{file_change, touched_paths, unless_too_large};
+ghost use Rattle.change_outcome.specs.MembersAfter.{MemberFound, members_found};
+ghost use Rattle.change_outcome.specs.Triggers.{unless_trigger};
+ghost use Rattle.engine_core.specs.Carrying.{HasPlan, ready_change};
+ghost use Rattle.engine_core.specs.ChangeRun.{ComesTo};
+ghost use Rattle.engine_core.specs.Finishing.{AreRecordsOf, IsPlanned, inputs_arrived, replacement_arrived};
+ghost use Rattle.engine_core.specs.Runs.{IsRunCounted};
+ghost use Rattle.engine_core.specs.Wishes.{wishes_of};
+ghost use Rattle.std.specs.Prelude.{◌≡◌, List};
+
+use crate::arrived::Planned;
+use crate::finishing::{
+    NewRecords, is_idle, new_records, record_writes_of, refused_package, report_of,
+};
+use crate::planning::test_triggers;
+use crate::records::begin_stage;
+use crate::removals::removals_of;
+use piece_reader::Piece;
+use stage_files::{StageFault, carry_out};
+use crate::writes::{names_of, writes_of};
+use base_core::{Text, Tree};
+use change_inputs::Refused;
+use change_laws::{
+    a_change_keeps_room, the_actions_of_a_change_lead_to_its_files,
+    the_names_of_a_change_may_be_changed,
+};
+use command_core::Command;
+use std::alloc::Global;
+
+/// Carries a change through, the triggers of which are tested. All memory is asked for first, and
+/// where nothing is to be done, no call is made on the tree.
+fn carry_change<T: Tree>(
+    alloc: Global,
+    command: &Command,
+    planned: &Planned<'_, '_, '_, '_>,
+    records: &NewRecords,
+    tree: &mut T,
+) -> Result<Text, Refused>
+    requires plan { HasPlan (T.history tree.old) (wishes_of command.now) planned.now }
+    requires records { AreRecordsOf (inputs_arrived planned.now.arrived.now) records.now }
+    ensures comes { (found : List MemberFound) (files : Files)
+        → IsPlanned (T.history tree.old) (wishes_of command.now) planned.now found files
+        → ComesTo (replacement_arrived planned.now.arrived.now).selected
+        (ready_change (inputs_arrived planned.now.arrived.now)
+        (replacement_arrived planned.now.arrived.now) (wishes_of command.now) found files
+        records.now.database.items) (T.history tree.old) (T.history tree.new) (T.counts tree.old)
+        (T.counts tree.new) result }
+    ensures counts { IsRunCounted (T.counts tree.old) (T.counts tree.new) result }
+{
+    a_change_keeps_room();
+    the_actions_of_a_change_lead_to_its_files();
+    the_names_of_a_change_may_be_changed();
+    let Planned { arrived, plan } = *planned;
+    let loaded = arrived.selection.loaded;
+    let record_writes = record_writes_of(loaded, records);
+    let writes = writes_of(alloc, arrived.members, arrived.arrivals, plan, &record_writes)?;
+    let removals = removals_of(alloc, plan.removals(), loaded.is_from_text())?;
+    let names = names_of(alloc, &writes)?;
+    removals.are_names();
+    names.are_names();
+    let report = report_of(alloc, command, planned)?;
+    let mut stage = begin_stage(alloc, &removals, &names)?;
+    if is_idle(&removals, &names) {
+        return Ok(report);
+    }
+    stage.names_are_free();
+    let mut piece = Piece::new();
+    match carry_out(&mut stage, tree, &writes, &mut piece) {
+        Ok(()) => Ok(report),
+        Err(StageFault::Bad { member, cause }) => {
+            Err(refused_package(alloc, arrived.members, member as usize, cause))
+        }
+        Err(StageFault::Disk) => Err(Refused::Disk),
+    }
+}
+
+/// Carries a change through whose files are planned.
+///
+/// # Errors
+///
+/// `TriggerNeeded`, and `ResultTooLarge` of the database and then of the intent; `PackageBad` where
+/// a package is not any more what it was when it was tested; `Disk`, or `Memory`.
+pub(crate) fn finish_change<T: Tree>(
+    alloc: Global,
+    command: &Command,
+    planned: &Planned<'_, '_, '_, '_>,
+    tree: &mut T,
+) -> Result<Text, Refused>
+    requires { HasPlan (T.history tree.old) (wishes_of command.now) planned.now }
+    ensures comes { (found : List MemberFound) (files : Files)
+        → IsPlanned (T.history tree.old) (wishes_of command.now) planned.now found files
+        → ComesTo (replacement_arrived planned.now.arrived.now).selected
+        (and_then (unless_trigger (wishes_of command.now).no_scripts
+        (touched_paths (file_change (inputs_arrived planned.now.arrived.now)
+        (wishes_of command.now) found) files) (members_found found))
+        (λ allowed. unless_too_large (inputs_arrived planned.now.arrived.now)
+        (replacement_arrived planned.now.arrived.now) (wishes_of command.now) found files))
+        (T.history tree.old) (T.history tree.new) (T.counts tree.old) (T.counts tree.new) result }
+    ensures counts { IsRunCounted (T.counts tree.old) (T.counts tree.new) result }
+{
+    let no_scripts = command.flags().no_scripts;
+    test_triggers(alloc, no_scripts, planned.arrived.members, planned.plan)?;
+    let records = new_records(alloc, planned)?;
+    carry_change(alloc, command, planned, &records, tree)
+}

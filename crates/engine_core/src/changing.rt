@@ -1,0 +1,120 @@
+//! A change of what is installed, from the words to its end.
+ghost use Rattle.change_inputs.specs.Seen.{inputs_seen};
+ghost use Rattle.engine_core.specs.ChangeRun.{IsChangeRun};
+ghost use Rattle.engine_core.specs.Finishing.{IsRootRead};
+ghost use Rattle.engine_core.specs.Runs.{IsRunBy, IsRunCounted, IsSelectedRun};
+ghost use Rattle.engine_core.specs.Selecting.{pool_by};
+ghost use Rattle.engine_core.specs.SelectionSeen.{HasItsDatabase, inputs_of_selection, selection_seen};
+ghost use Rattle.std.specs.Prelude.{◌≡◌, Ok};
+
+use crate::choosing::choose;
+use crate::laws::a_choice_exists;
+use crate::making::make_change;
+use crate::selection::Selection;
+use crate::simulating::simulate;
+use crate::wishes::unknown_operand;
+use arrivals::packages_after_a_change_rest_on_later_reads;
+use base_core::{Text, Tree};
+use change_inputs::{Loaded, Refused, inputs_rest_on_their_own_reads};
+use change_laws::{a_change_has_a_first_clash_or_none, what_is_read_of_a_root_stands_there};
+use command_core::Command;
+use pool_core::{Sealed, Upgrade};
+use report_core::Refusal;
+use std::alloc::Global;
+
+/// Changes what is installed, as `add` or `del` asks for it, and reports it; with `--simulate` it
+/// only reports what would change. All is read, tested and made ready first, then the new files are
+/// staged, and one step lets all of them count. All memory is asked for before the first file is
+/// staged.
+///
+/// # Errors
+///
+/// The refusals of what is read, `TooMany`, `NotInstalled` of `del`, and `Unsatisfied`; then, unless
+/// the change is only simulated, those of the packages that come, `Reserved`, `PathClash`, `Owned`,
+/// `TriggerNeeded`, and `ResultTooLarge` of the database and then of the intent. `Disk` where the
+/// tree failed, and `Memory`.
+pub fn change<T: Tree>(alloc: Global, command: &Command, tree: &mut T) -> Result<Text, Refused>
+    ensures run { IsChangeRun command.now (T.history tree.old) (T.history tree.new)
+        (T.counts tree.old) (T.counts tree.new) result }
+    ensures counts { IsRunCounted (T.counts tree.old) (T.counts tree.new) result }
+{
+    a_choice_exists();
+    a_change_has_a_first_clash_or_none();
+    inputs_rest_on_their_own_reads();
+    packages_after_a_change_rest_on_later_reads();
+    what_is_read_of_a_root_stands_there();
+    let loaded = Loaded::read(alloc, command, tree)?;
+    change_loaded(alloc, command, &loaded, tree)
+}
+
+// By what was read of the root.
+fn change_loaded<T: Tree>(
+    alloc: Global,
+    command: &Command,
+    loaded: &Loaded,
+    tree: &mut T,
+) -> Result<Text, Refused>
+    requires { IsRootRead (T.history tree.old) (inputs_seen loaded.now) }
+    ensures run { IsRunBy command.now (inputs_seen loaded.now) (T.history tree.old)
+        (T.history tree.new) (T.counts tree.old) (T.counts tree.new) result }
+    ensures counts { IsRunCounted (T.counts tree.old) (T.counts tree.new) result }
+{
+    a_choice_exists();
+    a_change_has_a_first_clash_or_none();
+    match loaded.pool(alloc, Upgrade::Nothing) {
+        Ok(pool) => change_in_pool(alloc, command, loaded, &pool, tree),
+        Err(refused) => Err(refused),
+    }
+}
+
+// By the candidates.
+fn change_in_pool<'a, T: Tree>(
+    alloc: Global,
+    command: &Command,
+    loaded: &'a Loaded,
+    pool: &Sealed<'a>,
+    tree: &mut T,
+) -> Result<Text, Refused>
+    requires pool { pool_by (inputs_seen loaded.now) ≡ Ok pool.now }
+    requires root { IsRootRead (T.history tree.old) (inputs_seen loaded.now) }
+    ensures run { IsRunBy command.now (inputs_seen loaded.now) (T.history tree.old)
+        (T.history tree.new) (T.counts tree.old) (T.counts tree.new) result }
+    ensures counts { IsRunCounted (T.counts tree.old) (T.counts tree.new) result }
+{
+    a_choice_exists();
+    a_change_has_a_first_clash_or_none();
+    let db = loaded.db(alloc)?;
+    if let Some(place) = unknown_operand(command, loaded, &db) {
+        return Err(Refused::Refusal(Refusal::NotInstalled { place }));
+    }
+    let trace = choose(alloc, loaded, pool)?;
+    let selection = Selection {
+        loaded,
+        db: &db,
+        pool,
+        trace: &trace,
+    };
+    change_selected(alloc, command, &selection, tree)
+}
+
+// By the candidates that are selected.
+fn change_selected<T: Tree>(
+    alloc: Global,
+    command: &Command,
+    selection: &Selection<'_, '_>,
+    tree: &mut T,
+) -> Result<Text, Refused>
+    requires database { HasItsDatabase selection.now }
+    requires pool { pool_by (inputs_of_selection selection.now) ≡ Ok selection.now.pool.now }
+    requires root { IsRootRead (T.history tree.old) (inputs_of_selection selection.now) }
+    ensures run { IsSelectedRun command.now (Ok (selection_seen selection.now))
+        (T.history tree.old) (T.history tree.new) (T.counts tree.old) (T.counts tree.new) result }
+    ensures counts { IsRunCounted (T.counts tree.old) (T.counts tree.new) result }
+{
+    a_change_has_a_first_clash_or_none();
+    if command.flags().simulate {
+        let report = simulate(alloc, command, selection)?;
+        return Ok(report);
+    }
+    make_change(alloc, command, selection, tree)
+}

@@ -1,0 +1,124 @@
+//! A change is made: its packages are read, its files are planned, and it is carried through.
+ghost use Rattle.base_core.specs.Tree.{TreeState};
+ghost use Rattle.change_inputs.specs.Inputs.{Inputs};
+ghost use Rattle.change_outcome.specs.MembersAfter.{MemberFound};
+ghost use Rattle.arrivals.specs.Arrivals.{CanBeMembers, arrivals_seen};
+ghost use Rattle.db_core.specs.Seen.{packages_of};
+ghost use Rattle.engine_core.specs.Finishing.{AreArrivals, IsArrived, IsRootRead, inputs_arrived, replacement_arrived};
+ghost use Rattle.engine_core.specs.Making.{IsMembersRun};
+ghost use Rattle.engine_core.specs.Runs.{IsRunCounted, IsSelectedRun};
+ghost use Rattle.engine_core.specs.Selecting.{pool_by};
+ghost use Rattle.engine_core.specs.SelectionSeen.{HasItsDatabase, inputs_of_selection, replacement_seen, selection_seen};
+ghost use Rattle.engine_core.specs.Wishes.{wishes_of};
+ghost use Rattle.make_info.specs.Reads.{Reads};
+ghost use Rattle.std.specs.Prelude.{◌≡◌, List, false, Ok};
+
+use crate::arrived::{Arrived, Planned};
+use crate::carrying::finish_change;
+use crate::planning::refused_plan;
+use crate::selection::Selection;
+use arrivals::{Arrivals, members_of_change, packages_that_were_read_are_those_found, read_arrivals};
+use base_core::{Text, Tree, Words};
+use change_inputs::Refused;
+use change_laws::a_change_has_a_first_clash_or_none;
+use command_core::Command;
+use own_core::plan;
+use package_changes::PlacedNames;
+use std::alloc::Global;
+
+/// Makes the change of a selection.
+///
+/// # Errors
+///
+/// `PackageMissing`, `PackageBad`, `PackageDiffers` and `ScriptNeeded` of the first package that has
+/// one; `Reserved`, `PathClash`, `Owned`; then those of `finish_change`.
+pub(crate) fn make_change<T: Tree>(
+    alloc: Global,
+    command: &Command,
+    selection: &Selection<'_, '_>,
+    tree: &mut T,
+) -> Result<Text, Refused>
+    requires database { HasItsDatabase selection.now }
+    requires pool { pool_by (inputs_of_selection selection.now) ≡ Ok selection.now.pool.now }
+    requires root { IsRootRead (T.history tree.old) (inputs_of_selection selection.now) }
+    requires real { command.now.flags.simulate ≡ false }
+    ensures run { IsSelectedRun command.now (Ok (selection_seen selection.now))
+        (T.history tree.old) (T.history tree.new) (T.counts tree.old) (T.counts tree.new) result }
+    ensures counts { IsRunCounted (T.counts tree.old) (T.counts tree.new) result }
+{
+    a_change_has_a_first_clash_or_none();
+    let none = Words::new(alloc);
+    let names = PlacedNames::of(alloc, selection.db, selection.pool, selection.trace, &none)?;
+    let arrivals = read_arrivals(
+        alloc,
+        tree,
+        selection.db,
+        selection.pool,
+        &names,
+        selection.loaded.repositories(),
+        command.flags().no_scripts,
+    )?;
+    change_members(alloc, command, selection, &names, &arrivals, tree)
+}
+
+/// Makes the change the packages of which were read.
+fn change_members<'a, 'm, T: Tree>(
+    alloc: Global,
+    command: &Command,
+    selection: &Selection<'_, 'a>,
+    names: &PlacedNames<'a>,
+    arrivals: &'m Arrivals,
+    tree: &mut T,
+) -> Result<Text, Refused>
+    requires members { CanBeMembers (packages_of selection.now.db.now) (arrivals_seen arrivals.now) }
+    requires read { (found : List MemberFound)
+        × AreArrivals (T.history tree.old) selection.now names.now arrivals.now found }
+    ensures run { (found : List MemberFound) (read : Reads)
+        → AreArrivals (T.history tree.old) selection.entry.now names.entry.now arrivals.entry.now found
+        → IsMembersRun (inputs_of_selection selection.entry.now)
+        (replacement_seen selection.entry.now) (wishes_of command.now) read found
+        (T.history tree.old) (T.history tree.new) (T.counts tree.old) (T.counts tree.new) result }
+    ensures counts { IsRunCounted (T.counts tree.old) (T.counts tree.new) result }
+{
+    a_change_has_a_first_clash_or_none();
+    packages_that_were_read_are_those_found();
+    let members = members_of_change(alloc, selection.db, arrivals)?;
+    let arrived = Arrived {
+        selection,
+        names,
+        arrivals,
+        members: &members,
+    };
+    plan_change(alloc, command, &arrived, tree)
+}
+
+/// Makes the change whose packages were read.
+fn plan_change<T: Tree>(
+    alloc: Global,
+    command: &Command,
+    arrived: &Arrived<'_, '_, '_, '_>,
+    tree: &mut T,
+) -> Result<Text, Refused>
+    requires { (found : List MemberFound) × IsArrived (T.history tree.old) arrived.now found }
+    ensures run { (found : List MemberFound) (read : Reads)
+        → IsArrived (T.history tree.old) arrived.now found
+        → IsMembersRun (inputs_arrived arrived.now) (replacement_arrived arrived.now)
+        (wishes_of command.now) read found (T.history tree.old) (T.history tree.new)
+        (T.counts tree.old) (T.counts tree.new) result }
+    ensures counts { IsRunCounted (T.counts tree.old) (T.counts tree.new) result }
+{
+    a_change_has_a_first_clash_or_none();
+    let purge = command.flags().purge;
+    let selection = arrived.selection;
+    selection.db.no_listed_path_is_reserved();
+    match plan(alloc, selection.db, arrived.members, tree, purge) {
+        Ok(plan) => {
+            let planned = Planned {
+                arrived,
+                plan: &plan,
+            };
+            finish_change(alloc, command, &planned, tree)
+        }
+        Err(fault) => Err(refused_plan(fault)),
+    }
+}

@@ -1,0 +1,102 @@
+//! What a command says of a change beside world.
+ghost use Rattle.change_inputs.specs.Seen.{inputs_seen};
+ghost use Rattle.db_core.specs.Seen.{packages_of};
+ghost use Rattle.dep_core.specs.World.{has_name};
+ghost use Rattle.engine_core.specs.Wishes.{first_unknown, is_known_name, names_to_go, unknown_place};
+ghost use Rattle.package_changes.specs.Report.{was_installed};
+ghost use Rattle.std.specs.Prelude.{◌≡◌, ◌||◌, map, IfOk, OnOk};
+
+use base_core::Words;
+use change_inputs::Loaded;
+use command_core::{Applet, Command, Operands};
+use db_core::Db;
+use dep_core::World;
+use std::alloc::{AllocError, Global};
+
+/// The most names that a list of words holds.
+const MOST_NAMES: usize = 4294967294;
+
+/// The names that were to go: those that `del` takes out of world.
+///
+/// # Errors
+///
+/// Want of memory, also where they are more than a list of words holds.
+pub(crate) fn names_to_go(alloc: Global, command: &Command) -> Result<Words, AllocError>
+    ensures { IfOk result
+        (λ names. names ≡ names_to_go command.now.applet command.now.operands) }
+{
+    match command.applet() {
+        Applet::Del => texts_of(alloc, command.operands()),
+        _ => Ok(Words::new(alloc)),
+    }
+}
+
+// The texts of operands.
+fn texts_of(alloc: Global, operands: &Operands) -> Result<Words, AllocError>
+    ensures { IfOk result (λ texts. texts ≡ map (λ o. o.text) operands.now) }
+{
+    let mut texts = Words::new(alloc);
+    for i in 0..operands.len() {
+        if i >= MOST_NAMES {
+            return Err(AllocError);
+        }
+        texts.push(operands.get(i).text.as_bytes())?;
+    }
+    Ok(texts)
+}
+
+/// The place of the first operand of `del` that is neither in world nor installed.
+pub(crate) fn unknown_operand(command: &Command, loaded: &Loaded, db: &Db<'_>) -> Option<u32>
+    requires { packages_of db.now ≡ (inputs_seen loaded.now).root.database.packages }
+    ensures { result
+        ≡ unknown_place command.now.applet (inputs_seen loaded.now) command.now.operands }
+{
+    match command.applet() {
+        Applet::Del => first_unknown(command.operands(), loaded, db),
+        _ => None,
+    }
+}
+
+// The place of the first operand that is neither in world nor installed.
+fn first_unknown(operands: &Operands, loaded: &Loaded, db: &Db<'_>) -> Option<u32>
+    requires { packages_of db.now ≡ (inputs_seen loaded.now).root.database.packages }
+    ensures { result ≡ first_unknown (inputs_seen loaded.now) operands.now }
+{
+    for i in 0..operands.len() {
+        let operand = operands.get(i);
+        if !is_known(operand.text.as_bytes(), loaded, db) {
+            return Some(operand.place);
+        }
+    }
+    None
+}
+
+// Whether world has an entry of a name, or a package of it is installed.
+fn is_known(name: &[u8], loaded: &Loaded, db: &Db<'_>) -> bool
+    requires { packages_of db.now ≡ (inputs_seen loaded.now).root.database.packages }
+    ensures { result ≡ is_known_name (inputs_seen loaded.now) name.now }
+{
+    if is_in_world(name, loaded.world()) {
+        return true;
+    }
+    is_installed(name, db)
+}
+
+// Whether world has an entry of a name.
+fn is_in_world(name: &[u8], world: &World) -> bool
+    ensures { result ≡ has_name name.now world.now }
+{
+    for i in 0..world.len() {
+        if world.entry(i).name == name {
+            return true;
+        }
+    }
+    false
+}
+
+// Whether a package of a name is installed.
+fn is_installed(name: &[u8], db: &Db<'_>) -> bool
+    ensures { result ≡ was_installed (packages_of db.now) name.now }
+{
+    db.find(name).is_some()
+}

@@ -1,0 +1,175 @@
+-- A command that commits nothing leaves the files.
+use Rattle.std.proofs.Common.{◌≡◌, ◌⊎◌, inl, inr, ◌∙◌, ℕ, Bool, true, false, List, [], ◌∷◌, length, Option, Some, None, Result, Ok, Err, refl, sym, ap, subst, true≢false}
+use Rattle.std.specs.Prelude.{if◌then◌else◌}
+use Rattle.adb_rules.specs.Reserved.{is_reserved}
+use Rattle.base_core.specs.Files.{Files}
+use Rattle.base_core.specs.declared.cause.Cause.{Cause}
+use Rattle.change_inputs.specs.Chains.{and_then}
+use Rattle.change_inputs.specs.Inputs.{Inputs, inputs_of}
+use Rattle.change_laws.specs.Premises.{IsRootOfFiles}
+use Rattle.change_outcome.specs.ChangeOutcome.{ChangeDone, ChangeWishes, change_or_refusal}
+use Rattle.command_core.specs.Command.{CommandLine}
+use Rattle.command_core.specs.Files.{without_dot}
+use Rattle.command_core.specs.declared.command.Applet.{Applet}
+use Rattle.command_core.specs.declared.command.Applet.TheVariants.{Adbdump, Add, Del, Mkndx, Mkpkg, Verify, Version}
+use Rattle.command_core.specs.declared.command.Flags.{Flags}
+use Rattle.command_core.specs.declared.operands.Operand.{Operand}
+use Rattle.engine_core.specs.Changed.{Selected, change_of_selected, changed, selected_by, selected_for, selected_of_inputs, simulated_change}
+use Rattle.engine_core.specs.Selecting.{pool_by}
+use Rattle.engine_core.specs.Wishes.{unknown_place, unless_place, wishes_of}
+use Rattle.make_index.specs.Index.{made_index}
+use Rattle.make_info.specs.Output.{output_name}
+use Rattle.make_info.specs.Reads.{Reads}
+use Rattle.make_info.specs.declared.fault.MakeFault.{MakeFault}
+use Rattle.make_info.specs.declared.fault.MakeFault.TheVariants.{FileMissing, FileBad, InfoBad, TooLarge, Disk, Memory}
+use Rattle.make_package.specs.Making.{made_package}
+use Rattle.package_changes.specs.Changes.{Replacement}
+use Rattle.path_clashes.specs.Clash.{NamePair}
+use Rattle.pool_core.specs.Rank.{SealedPool}
+use Rattle.report_core.specs.declared.refusal.Refusal.{Refusal}
+use Rattle.report_core.specs.declared.refusal.Refusal.TheVariants.{Reserved, ResultTooLarge}
+use Rattle.words_core.specs.Grammar.{command_of}
+use Rattle.outcome.specs.Changing.{change_outcome}
+use Rattle.outcome.specs.Commands.{IsOutcome, IsOutcomeOf, IsOutcomeOver, IsOutcomeUnless, applet_outcome, reads_in}
+use Rattle.outcome.specs.Dump.{adbdump, dump_of, dump_outcome, text_outcome}
+use Rattle.outcome.specs.Effect.{effect_by, effect_of}
+use Rattle.outcome.specs.Given.{Given}
+use Rattle.outcome.specs.Make.{files_with, index_line, make_outcome, unless_reserved}
+use Rattle.outcome.specs.Outcome.{Outcome, commit_report, just_refusal, outcome_of, report_unless}
+use Rattle.outcome.specs.Verify.{sound_lines, verify_refusal}
+use Rattle.outcome.specs.Version.{invalid_lines, order_report, version, version_refusal}
+use Rattle.outcome.specs.Work.{recovery_fault, work_files}
+
+abbrev LeavesIdle : Files → Outcome → Type 0
+LeavesIdle files o = o.commits ≡ false → o.files ≡ files
+
+-- ---- commands that read
+
+unless_idle : (files : Files) (refusal : Option Refusal) (report : List ℕ) → LeavesIdle files (report_unless files refusal report)
+unless_idle files None report idle = refl
+unless_idle files (Some refusal) report idle = refl
+
+version_idle : (files : Files) (flags : Flags) (operands : List Operand) → LeavesIdle files (version files flags operands)
+version_idle files flags operands = by_test flags.test
+  where
+    by_test : (b : Bool) → LeavesIdle files (if b then report_unless files (version_refusal operands) (order_report operands) else outcome_of (version_refusal operands) (invalid_lines operands) files)
+    by_test true = unless_idle files (version_refusal operands) (order_report operands)
+    by_test false = λ idle. refl
+
+text_idle : (files : Files) (place : ℕ) (text : Result (List ℕ) Cause) → LeavesIdle files (text_outcome files place text)
+text_idle files place (Ok text) idle = refl
+text_idle files place (Err cause) idle = refl
+
+dump_idle : (files : Files) (place : ℕ) (found : Option (List ℕ)) → LeavesIdle files (dump_outcome files place found)
+dump_idle files place None idle = refl
+dump_idle files place (Some bytes) idle = text_idle files place (dump_of bytes) idle
+
+adbdump_idle : (read : Reads) (files : Files) (operands : List Operand) → LeavesIdle files (adbdump read files operands)
+adbdump_idle read files [] idle = refl
+adbdump_idle read files (o ∷ operands) idle = dump_idle files o.place (read 0 (without_dot o.text)) idle
+
+-- ---- commands that make a file
+
+reserved_idle : (reserved : Bool) (files : Files) (name : List ℕ) (o : Outcome) → LeavesIdle files o → LeavesIdle files (if reserved then just_refusal files (Reserved name) else o)
+reserved_idle true files name o h = λ idle. refl
+reserved_idle false files name o h = h
+
+output_idle : (files : Files) (output : Option (List ℕ)) (o : Outcome) → LeavesIdle files o → LeavesIdle files (unless_reserved files output o)
+output_idle files None o h = h
+output_idle files (Some name) o h = reserved_idle (is_reserved name) files name o h
+
+made_idle : (files : Files) (output : Option (List ℕ)) (report : List ℕ) (result : Result (List ℕ) MakeFault) → LeavesIdle files (make_outcome files output report result)
+made_idle files output report (Ok bytes) = output_idle files output (commit_report (files_with output bytes files) report) (λ idle. absurd (true≢false idle))
+made_idle files output report (Err (FileMissing place)) = λ idle. refl
+made_idle files output report (Err (FileBad place cause)) = λ idle. refl
+made_idle files output report (Err (InfoBad place)) = λ idle. refl
+made_idle files output report (Err (TooLarge bytes values)) = output_idle files output (just_refusal files (ResultTooLarge bytes values)) (λ idle. refl)
+made_idle files output report (Err Disk) = λ idle. refl
+made_idle files output report (Err Memory) = λ idle. refl
+
+-- ---- a change
+
+-- what a change reads of a root stands there
+abbrev pub HaveRoot : Type 0
+HaveRoot = (command : CommandLine) (read : Reads) (inputs : Inputs) (files : Files) → ((n : ℕ) (name : List ℕ) → read n name ≡ files name) → inputs_of command read ≡ Ok inputs → IsRootOfFiles files inputs.root
+
+-- one that writes nothing leaves the files
+abbrev pub HaveIdle : Type 0
+HaveIdle = (inputs : Inputs) (r : Replacement) (wishes : ChangeWishes) (read : Reads) (clash : Option NamePair) (files : Files) (done : ChangeDone)
+    → change_or_refusal inputs r wishes read clash files ≡ Ok done → IsRootOfFiles files inputs.root → done.commits ≡ false → done.files ≡ files
+
+pub chain_ok : {A B : Type 0} (a : Result A Refusal) (next : A → Result B Refusal) (b : B) → and_then a next ≡ Ok b → (x : A) × (a ≡ Ok x) × (next x ≡ Ok b)
+chain_ok (Ok x) next b e = (x, refl, e)
+chain_ok (Err refusal) next b e = absurd (cc (e))
+
+place_ok : {A : Type 0} (place : Option ℕ) (next : Result A Refusal) (a : A) → unless_place place next ≡ Ok a → next ≡ Ok a
+place_ok None next a e = e
+place_ok (Some place) next a e = absurd (cc (e))
+
+chosen_inputs : (inputs : Inputs) (pool : SealedPool) (chosen : Option (List ℕ)) (s : Selected) → selected_by inputs pool chosen ≡ Ok s → s.inputs ≡ inputs
+chosen_inputs inputs pool None s e = absurd (cc (e))
+chosen_inputs inputs pool (Some trace) s e = ap (λ (r : Result Selected Refusal). inputs_or r) (sym e)
+  where
+    inputs_or : Result Selected Refusal → Inputs
+    inputs_or (Ok t) = t.inputs
+    inputs_or (Err refusal) = inputs
+
+pub selected_inputs : (command : CommandLine) (read : Reads) (chosen : Option (List ℕ)) (s : Selected) → selected_for command read chosen ≡ Ok s → inputs_of command read ≡ Ok s.inputs
+selected_inputs command read chosen s e =
+    let (inputs, are, rest) = chain_ok (inputs_of command read) (selected_of_inputs command chosen) s e in
+    let (pool, is, left) = chain_ok (pool_by inputs) (λ pool. unless_place (unknown_place command.applet inputs command.operands) (selected_by inputs pool chosen)) s rest in
+    are ∙ ap (λ (x : Inputs). Ok x) (sym (chosen_inputs inputs pool chosen s (place_ok (unknown_place command.applet inputs command.operands) (selected_by inputs pool chosen) s left)))
+
+selected_idle : HaveIdle → (command : CommandLine) (read : Reads) (files : Files) (clash : Option NamePair) (s : Selected) (done : ChangeDone) → IsRootOfFiles files s.inputs.root
+    → (simulate : Bool) → (if simulate then Ok (simulated_change s.replacement (wishes_of command) files) else change_or_refusal s.inputs s.replacement (wishes_of command) read clash files) ≡ Ok done
+    → done.commits ≡ false → done.files ≡ files
+selected_idle idle command read files clash s done root true is nothing = ap (λ (r : Result ChangeDone Refusal). files_or r) (sym is)
+  where
+    files_or : Result ChangeDone Refusal → Files
+    files_or (Ok d) = d.files
+    files_or (Err refusal) = files
+selected_idle idle command read files clash s done root false is nothing = idle s.inputs s.replacement (wishes_of command) read clash files done is root nothing
+
+changed_idle : HaveRoot → HaveIdle → (command : CommandLine) (read : Reads) (files : Files) (chosen : Option (List ℕ)) (clash : Option NamePair) (done : ChangeDone)
+    → ((n : ℕ) (name : List ℕ) → read n name ≡ files name) → changed command read files chosen clash ≡ Ok done → done.commits ≡ false → done.files ≡ files
+unfolding changed
+changed_idle rooted idle command read files chosen clash done reads is nothing =
+    let (s, selected, rest) = chain_ok (selected_for command read chosen) (change_of_selected command read files clash) done is in
+    selected_idle idle command read files clash s done (rooted command read s.inputs files reads (selected_inputs command read chosen s selected)) command.flags.simulate rest nothing
+
+pub change_idle : HaveRoot → HaveIdle → (command : CommandLine) (files : Files) (chosen : Option (List ℕ)) (clash : Option NamePair) (result : Result ChangeDone Refusal)
+    → changed command (reads_in files) files chosen clash ≡ result → LeavesIdle files (change_outcome files result)
+change_idle rooted idle command files chosen clash (Ok done) is nothing = changed_idle rooted idle command (reads_in files) files chosen clash done (λ n name. refl) is nothing
+change_idle rooted idle command files chosen clash (Err refusal) is nothing = refl
+
+-- ---- each command
+
+applet_idle : HaveRoot → HaveIdle → (applet : Applet) (command : CommandLine) (given : Given) (files : Files) → LeavesIdle files (applet_outcome applet command given (reads_in files) files)
+applet_idle rooted idle Verify command given files = unless_idle files (verify_refusal (reads_in files) 0 command.operands) (sound_lines command.operands)
+applet_idle rooted idle Version command given files = version_idle files command.flags command.operands
+applet_idle rooted idle Adbdump command given files = adbdump_idle (reads_in files) files command.operands
+applet_idle rooted idle Mkpkg command given files = made_idle files (output_name command) [] (made_package command given.names (reads_in files))
+applet_idle rooted idle Mkndx command given files = made_idle files (output_name command) (index_line (length command.operands)) (made_index command (reads_in files))
+applet_idle rooted idle Add command given files = change_idle rooted idle command files given.chosen given.clash (changed command (reads_in files) files given.chosen given.clash) refl
+applet_idle rooted idle Del command given files = change_idle rooted idle command files given.chosen given.clash (changed command (reads_in files) files given.chosen given.clash) refl
+applet_idle rooted idle other command given files = λ nothing. refl
+
+pub over_idle : HaveRoot → HaveIdle → (command : CommandLine) (files : Files) (o : Outcome) → IsOutcomeOver command files o → o.commits ≡ false → o.files ≡ files
+over_idle rooted idle command files o (given, are, is) nothing =
+    subst (LeavesIdle files) (sym is) (applet_idle rooted idle command.applet command given files) nothing
+
+-- ---- by the words
+
+unless_leaves : HaveRoot → HaveIdle → (fault : Option Cause) (command : CommandLine) (files : Files) (o : Outcome) → IsOutcomeUnless fault command files o → o.commits ≡ false
+    → (o.files ≡ files) ⊎ (o.files ≡ work_files (effect_of command.applet) files)
+unless_leaves rooted idle (Some cause) command files o is nothing = inl (ap (λ (p : Outcome). p.files) is)
+unless_leaves rooted idle None command files o is nothing = inr (over_idle rooted idle command (work_files (effect_of command.applet) files) o is nothing)
+
+leaves_by : HaveRoot → HaveIdle → (read : Result CommandLine ℕ) (files : Files) (o : Outcome) → IsOutcomeOf read files o → o.commits ≡ false
+    → (o.files ≡ files) ⊎ (o.files ≡ work_files (effect_by read) files)
+leaves_by rooted idle (Err place) files o is nothing = inl (ap (λ (p : Outcome). p.files) is)
+leaves_by rooted idle (Ok command) files o is nothing = unless_leaves rooted idle (recovery_fault (effect_of command.applet) files) command files o is nothing
+
+pub leaves_idle : HaveRoot → HaveIdle → (words : List (List ℕ)) (files : Files) (o : Outcome) → IsOutcome words files o → o.commits ≡ false
+    → (o.files ≡ files) ⊎ (o.files ≡ work_files (effect_by (command_of words)) files)
+leaves_idle rooted idle words files o is nothing = leaves_by rooted idle (command_of words) files o is nothing

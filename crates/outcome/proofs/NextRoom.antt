@@ -1,0 +1,123 @@
+-- A change leaves room for the next command.
+use Rattle.std.proofs.Common.{◌≡◌, ◌∙◌, ℕ, Bool, true, false, List, Option, Some, None, IsSome, Result, Ok, Err, refl, sym, ap, subst}
+use Rattle.std.specs.Prelude.{if◌then◌else◌}
+use Rattle.base_core.specs.Files.{Files}
+use Rattle.base_core.specs.declared.cause.Cause.{Cause}
+use Rattle.change_inputs.specs.Inputs.{Inputs}
+use Rattle.change_outcome.specs.ChangeOutcome.{ChangeDone, ChangeWishes, IsClashOfChange, change_or_refusal}
+use Rattle.command_core.specs.Command.{CommandLine}
+use Rattle.command_core.specs.declared.command.Applet.{Applet}
+use Rattle.command_core.specs.declared.command.Applet.TheVariants.{Add, Del}
+use Rattle.engine_core.specs.Changed.{IsClashFor, IsClashOfSelected, IsClashUnlessSimulated, Selected, change_of_selected, changed, selected_for, simulated_change}
+use Rattle.engine_core.specs.Wishes.{wishes_of}
+use Rattle.journal_core.specs.Recovery.{Intent, intent_at, intent_name, is_staged, recovered_files, recovered_files_by}
+use Rattle.journal_core.specs.Staged.{HasRoomToReplay, HasRoomToStage, unstaged_files}
+use Rattle.make_info.specs.Reads.{Reads}
+use Rattle.package_changes.specs.Changes.{Replacement}
+use Rattle.path_clashes.specs.Clash.{NamePair}
+use Rattle.report_core.specs.declared.refusal.Refusal.{Refusal}
+use Rattle.words_core.specs.Grammar.{command_of}
+use Rattle.outcome.proofs.Idle.{chain_ok}
+use Rattle.outcome.proofs.Recovered.{ReadSound}
+use Rattle.outcome.specs.Changing.{change_outcome}
+use Rattle.outcome.specs.Commands.{IsOutcome, IsOutcomeOf, IsOutcomeOver, IsOutcomeUnless, applet_outcome, reads_in}
+use Rattle.outcome.specs.Effect.{Changes, Effect, effect_by, effect_of}
+use Rattle.outcome.specs.Given.{Given, IsClashOfApplet}
+use Rattle.outcome.specs.Outcome.{Outcome}
+use Rattle.outcome.specs.Work.{fault_of_intent, recovery_fault, work_files}
+
+-- a change leaves room to stage, and brings no intent
+abbrev pub KeepsRoom : Type 0
+KeepsRoom = (inputs : Inputs) (r : Replacement) (wishes : ChangeWishes) (read : Reads) (clash : Option NamePair) (files : Files) (done : ChangeDone)
+    → change_or_refusal inputs r wishes read clash files ≡ Ok done → IsClashOfChange inputs r wishes read files clash → HasRoomToStage files → HasRoomToStage done.files
+
+abbrev pub BringsNoIntent : Type 0
+BringsNoIntent = (inputs : Inputs) (r : Replacement) (wishes : ChangeWishes) (read : Reads) (clash : Option NamePair) (files : Files) (done : ChangeDone)
+    → change_or_refusal inputs r wishes read clash files ≡ Ok done → files intent_name ≡ None → done.files intent_name ≡ None
+
+-- no intent stands there, and a stage has room
+abbrev HasRoomNow : Files → Type 0
+HasRoomNow files = (files intent_name ≡ None) × HasRoomToStage files
+
+-- ---- a change
+
+module _ (room : KeepsRoom) (gone : BringsNoIntent) where
+  selected_room : (command : CommandLine) (read : Reads) (files : Files) (clash : Option NamePair) (s : Selected) (done : ChangeDone)
+      → (simulate : Bool) → (if simulate then Ok (simulated_change s.replacement (wishes_of command) files) else change_or_refusal s.inputs s.replacement (wishes_of command) read clash files) ≡ Ok done
+      → IsClashUnlessSimulated simulate (wishes_of command) read files s clash → HasRoomNow files → HasRoomNow done.files
+  selected_room command read files clash s done true is is_clash now = subst HasRoomNow (ap (λ (r : Result ChangeDone Refusal). files_or r) is) now
+    where
+      files_or : Result ChangeDone Refusal → Files
+      files_or (Ok d) = d.files
+      files_or (Err refusal) = files
+  selected_room command read files clash s done false is is_clash (absent, stage) =
+      (gone s.inputs s.replacement (wishes_of command) read clash files done is absent, room s.inputs s.replacement (wishes_of command) read clash files done is is_clash stage)
+
+  changed_room : (command : CommandLine) (read : Reads) (files : Files) (chosen : Option (List ℕ)) (clash : Option NamePair) (done : ChangeDone)
+      → IsClashFor command read files chosen clash → changed command read files chosen clash ≡ Ok done → HasRoomNow files → HasRoomNow done.files
+  unfolding changed
+  changed_room command read files chosen clash done is_clash is now =
+      let (s, selected, rest) = chain_ok (selected_for command read chosen) (change_of_selected command read files clash) done is in
+      selected_room command read files clash s done command.flags.simulate rest (subst (λ (r : Result Selected Refusal). IsClashOfSelected command read files r clash) selected is_clash) now
+
+  change_room : (command : CommandLine) (files : Files) (chosen : Option (List ℕ)) (clash : Option NamePair) (result : Result ChangeDone Refusal)
+      → changed command (reads_in files) files chosen clash ≡ result → IsClashFor command (reads_in files) files chosen clash
+      → (change_outcome files result).refusal ≡ None → HasRoomNow files → HasRoomNow (change_outcome files result).files
+  change_room command files chosen clash (Ok done) is is_clash unrefused now = changed_room command (reads_in files) files chosen clash done is_clash is now
+  change_room command files chosen clash (Err refusal) is is_clash unrefused now = absurd (cc (unrefused))
+
+  applet_room : (applet : Applet) (command : CommandLine) (given : Given) (files : Files) → effect_of applet ≡ Changes
+      → IsClashOfApplet applet command (reads_in files) files given.chosen given.clash
+      → (applet_outcome applet command given (reads_in files) files).refusal ≡ None → HasRoomNow files
+      → HasRoomNow (applet_outcome applet command given (reads_in files) files).files
+  applet_room Add command given files changes is_clash unrefused now =
+      change_room command files given.chosen given.clash (changed command (reads_in files) files given.chosen given.clash) refl is_clash unrefused now
+  applet_room Del command given files changes is_clash unrefused now =
+      change_room command files given.chosen given.clash (changed command (reads_in files) files given.chosen given.clash) refl is_clash unrefused now
+  applet_room other command given files changes is_clash unrefused now = absurd (cc (changes))
+
+  over_room : (command : CommandLine) (files : Files) (o : Outcome) → effect_of command.applet ≡ Changes → IsOutcomeOver command files o → o.refusal ≡ None → HasRoomNow files → HasRoomNow o.files
+  over_room command files o changes (given, are, is) =
+      subst (λ (p : Outcome). p.refusal ≡ None → HasRoomNow files → HasRoomNow p.files) (sym is) (applet_room command.applet command given files changes are.clash)
+
+-- ---- a recovery
+
+-- it leaves no intent
+intent_gone : ReadSound → (files : Files) (found : Option (List ℕ)) → files intent_name ≡ found → fault_of_intent found ≡ None → unstaged_files files intent_name ≡ None
+intent_gone sound files None is good = ap (λ (o : Option (List ℕ)). recovered_files_by (intent_at o) files intent_name) is ∙ is
+intent_gone sound files (Some file) is good =
+    ap (λ (o : Option (List ℕ)). recovered_files_by (intent_at o) files intent_name) is
+    ∙ ap (λ (o : Option Intent). recovered_files_by o files intent_name) (sound file good)
+
+-- and where there is none, and nothing waits, it has nothing to do
+nothing_at : (files : Files) (q : List ℕ) → HasRoomNow files → (b : Bool) → is_staged q ≡ b → (if b then None else recovered_files files q) ≡ files q
+nothing_at files q (absent, stage) true staged = sym (stage.empty q staged)
+nothing_at files q (absent, stage) false shown = ap (λ (o : Option (List ℕ)). recovered_files_by (intent_at o) files q) absent
+
+nothing_left : (files : Files) → HasRoomNow files → unstaged_files files ≡ files
+nothing_left files now i q = nothing_at files q now (is_staged q) refl i
+
+room_now : (files : Files) → HasRoomNow files → HasRoomToReplay files × HasRoomToStage (unstaged_files files)
+room_now files now =
+    (λ some. absurd (let e = subst (λ (o : Option (List ℕ)). IsSome (intent_at o)) now.0 some in cc (e)), subst HasRoomToStage (sym (nothing_left files now)) now.1)
+
+-- ---- by the words
+
+abbrev LeavesNext : Outcome → Type 0
+LeavesNext o = HasRoomToReplay o.files × HasRoomToStage (unstaged_files o.files)
+
+module _ (room : KeepsRoom) (gone : BringsNoIntent) (sound : ReadSound) where
+  unless_room : (fault : Option Cause) (command : CommandLine) (files : Files) (o : Outcome) → effect_of command.applet ≡ Changes → recovery_fault (effect_of command.applet) files ≡ fault
+      → IsOutcomeUnless fault command files o → o.refusal ≡ None → HasRoomToStage (unstaged_files files) → LeavesNext o
+  unless_room (Some cause) command files o changes at is unrefused stage = absurd (let e = sym (ap (λ (p : Outcome). p.refusal) is) ∙ unrefused in cc (e))
+  unless_room None command files o changes at is unrefused stage =
+      let good = subst (λ (e : Effect). recovery_fault e files ≡ None) changes at in
+      let over = subst (λ (e : Effect). IsOutcomeOver command (work_files e files) o) changes is in
+      room_now o.files (over_room room gone command (unstaged_files files) o changes over unrefused (intent_gone sound files (files intent_name) refl good, stage))
+
+  by_line : (read : Result CommandLine ℕ) (files : Files) (o : Outcome) → effect_by read ≡ Changes → IsOutcomeOf read files o → o.refusal ≡ None → HasRoomToStage (unstaged_files files) → LeavesNext o
+  by_line (Err place) files o changes is unrefused stage = absurd (cc (changes))
+  by_line (Ok command) files o changes is unrefused stage = unless_room (recovery_fault (effect_of command.applet) files) command files o changes refl is unrefused stage
+
+  pub next_room : (words : List (List ℕ)) (files : Files) (o : Outcome) → effect_by (command_of words) ≡ Changes → IsOutcome words files o → o.refusal ≡ None → HasRoomToStage (unstaged_files files) → LeavesNext o
+  next_room words files o = by_line (command_of words) files o

@@ -1,0 +1,5 @@
+use Rattle.outcome.proofs.Existing.{over_one}
+use Rattle.outcome.proofs.an_outcome_over_files_is_unique.Goals as goal
+
+pub returns : goal.returns
+returns c = over_one c.files_have_one_list_of_names.ensures.one c.a_choice_is_unique.ensures c.a_change_has_a_first_clash_or_none.ensures.one
